@@ -1,0 +1,4 @@
+pub mod Short
+pub mod Random
+pub mod HexError
+pub mod Hex
