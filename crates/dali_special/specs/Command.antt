@@ -1,0 +1,95 @@
+use Rattle.std.specs.Prelude.{◌≡◌, ℕ, ◌%◌, ◌<◌, List, [], ◌∷◌, Bool, true, false, Option, Some, None, ◌==◌, if◌then◌else◌, option_map, unwrap_or}
+use Rattle.dali_frame.specs.declared.frames.Forward.{Forward}
+use Rattle.dali_frame.specs.Short.{code_of, short_of}
+use Rattle.dali_special.specs.declared.command.Target.{Target}
+use Rattle.dali_special.specs.declared.command.Target.TheVariants.{All, Addressed, Unaddressed}
+use Rattle.dali_special.specs.declared.command.Command.{Command}
+use Rattle.dali_special.specs.declared.command.Command.TheVariants.{Terminate, Initialise, Randomise, Compare, Withdraw, SearchHigh, SearchMiddle, SearchLow, Program, Verify, QueryShort, Arc, Other}
+
+-- the data byte that stands for no short address
+abbrev pub MASK : ℕ
+MASK = 0xFF
+
+-- INITIALISE: the gear that a data byte speaks of, and the other way round
+abbrev pub target_of : ℕ → Option Target
+target_of byte = if byte == 0 then Some All else if byte == MASK then Some Unaddressed else option_map (λ a. Addressed a) (short_of byte)
+
+abbrev pub target_data : Target → ℕ
+target_data All = 0
+target_data (Addressed a) = code_of a
+target_data Unaddressed = MASK
+
+-- PROGRAM SHORT ADDRESS: the address that a data byte stores, and the other way round
+abbrev pub program_of : ℕ → Option Command
+program_of byte = if byte == MASK then Some (Program None) else option_map (λ a. Program (Some a)) (short_of byte)
+
+abbrev pub program_data : Option ℕ → ℕ
+program_data None = MASK
+program_data (Some a) = code_of a
+
+-- a command whose data byte is 00
+abbrev pub without_data_of : Command → ℕ → Option Command
+without_data_of command byte = if byte == 0 then Some command else None
+
+-- The table of special commands: the address byte, and the command of each data byte that has one.
+abbrev pub Row : Type 0
+Row = ℕ × (ℕ → Option Command)
+
+abbrev pub rows : List Row
+rows =
+    (0xA1, without_data_of Terminate) ∷
+    (0xA5, λ byte. option_map (λ target. Initialise target) (target_of byte)) ∷
+    (0xA7, without_data_of Randomise) ∷
+    (0xA9, without_data_of Compare) ∷
+    (0xAB, without_data_of Withdraw) ∷
+    (0xB1, λ byte. Some (SearchHigh byte)) ∷
+    (0xB3, λ byte. Some (SearchMiddle byte)) ∷
+    (0xB5, λ byte. Some (SearchLow byte)) ∷
+    (0xB7, program_of) ∷
+    (0xB9, λ byte. option_map (λ a. Verify a) (short_of byte)) ∷
+    (0xBB, without_data_of QueryShort) ∷
+    []
+
+-- the command of two bytes by the first row with this address byte
+abbrev pub row_of : ℕ → ℕ → List Row → Option Command
+row_of address byte [] = None
+row_of address byte (row ∷ more) = if address == row.0 then row.1 byte else row_of address byte more
+
+-- The command of a frame: direct arc power where the address byte has last bit 0, else by the table, else none of it.
+unfoldable pub command_of : Forward → Command
+command_of f = if f.address_byte % 2 == 0 then Arc f else unwrap_or (row_of f.address_byte f.opcode_byte rows) (Other f)
+
+-- the frame of two bytes
+abbrev pub frame : ℕ → ℕ → Forward
+frame address byte = record { address_byte = address; opcode_byte = byte }
+
+-- The same table, from a command to its frame.
+abbrev pub frame_of : Command → Forward
+frame_of Terminate = frame 0xA1 0
+frame_of (Initialise target) = frame 0xA5 (target_data target)
+frame_of Randomise = frame 0xA7 0
+frame_of Compare = frame 0xA9 0
+frame_of Withdraw = frame 0xAB 0
+frame_of (SearchHigh byte) = frame 0xB1 byte
+frame_of (SearchMiddle byte) = frame 0xB3 byte
+frame_of (SearchLow byte) = frame 0xB5 byte
+frame_of (Program short) = frame 0xB7 (program_data short)
+frame_of (Verify a) = frame 0xB9 (code_of a)
+frame_of QueryShort = frame 0xBB 0
+frame_of (Arc f) = f
+frame_of (Other f) = f
+
+-- gear execute INITIALISE and RANDOMISE only at the second of two equal frames
+abbrev pub is_send_twice : Command → Bool
+is_send_twice (Initialise target) = true
+is_send_twice Randomise = true
+is_send_twice _ = false
+
+-- a command that its frame is read as: its address is one, and the frame of an `Arc` or `Other` has no other command
+abbrev pub IsSpelled : Command → Type 0
+IsSpelled (Initialise (Addressed a)) = a < 64
+IsSpelled (Program (Some a)) = a < 64
+IsSpelled (Verify a) = a < 64
+IsSpelled (Arc f) = (f.address_byte % 2 == 0) ≡ true
+IsSpelled (Other f) = command_of f ≡ Other f
+IsSpelled _ = Unit {0}
