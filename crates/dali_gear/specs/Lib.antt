@@ -1,0 +1,2 @@
+pub mod ControlGear
+pub mod Row

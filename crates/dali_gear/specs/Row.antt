@@ -1,0 +1,66 @@
+use Rattle.std.specs.Prelude.{ℕ, ◌+◌, ◌/◌, ◌%◌, ◌^◌, List, [], ◌∷◌, drop, Bool, true, false, Option, Some, None, ◌==◌, ◌&&◌, if◌then◌else◌}
+use Rattle.dali_frame.specs.declared.frames.Answer.{Answer}
+use Rattle.dali_frame.specs.declared.frames.Answer.TheVariants.{Silence, Byte, Damaged}
+use Rattle.dali_special.specs.declared.command.Command.{Command}
+use Rattle.dali_gear.specs.declared.row.Reach.{Reach}
+use Rattle.dali_gear.specs.declared.row.Reach.TheVariants.{Everyone, Only}
+use Rattle.dali_gear.specs.ControlGear.{ControlGear, would_draw, taken, answer}
+
+-- whether a frame reaches the gear of this number: in a set, gear k is the bit of value 2^k
+abbrev pub reaches : Reach → ℕ → Bool
+reaches Everyone k = true
+reaches (Only set) k = set.0 / 2 ^ k % 2 == 1
+
+-- whether gear k takes the frame: it has power, and the frame reaches it
+abbrev pub takes : Reach → ℕ → ControlGear → Bool
+takes reach k g = g.powered && reaches reach k
+
+-- the number that a gear would draw: the first that is left, or none
+abbrev pub next_draw : ControlGear → List ℕ → ℕ
+next_draw g [] = g.random
+next_draw g (draw ∷ left) = draw
+
+-- one gear, where it takes the command and where it doesn't
+abbrev pub one_after : Bool → Command → List ℕ → ControlGear → ControlGear
+one_after false c left g = g
+one_after true c left g = taken c (next_draw g left) g
+
+abbrev pub left_after : Bool → List ℕ → List ℕ
+left_after drew left = if drew then drop 1 left else left
+
+-- The gear from number k on take the command in order of their number; those that draw take the numbers in order.
+abbrev pub row_after : Reach → Command → ℕ → List ControlGear → List ℕ → List ControlGear
+row_after reach c k [] left = []
+row_after reach c k (g ∷ gs) left =
+    one_after (takes reach k g) c left g ∷ row_after reach c (k + 1) gs (left_after (takes reach k g && would_draw c g) left)
+
+-- how many numbers they draw
+abbrev pub draws_needed : Reach → Command → ℕ → List ControlGear → ℕ
+draws_needed reach c k [] = 0
+draws_needed reach c k (g ∷ gs) = (if takes reach k g && would_draw c g then 1 else 0) + draws_needed reach c (k + 1) gs
+
+-- the backward frames that they answer
+abbrev pub option_cons : Option ℕ → List ℕ → List ℕ
+option_cons None bytes = bytes
+option_cons (Some byte) bytes = byte ∷ bytes
+
+abbrev pub answers_of : Reach → Command → ℕ → List ControlGear → List ℕ
+answers_of reach c k [] = []
+answers_of reach c k (g ∷ gs) = option_cons (if takes reach k g then answer c g else None) (answers_of reach c (k + 1) gs)
+
+-- The plain hearing of the backward frames to one forward frame: several together are heard as a damaged one.
+abbrev pub heard_of : List ℕ → Answer
+heard_of [] = Silence
+heard_of (byte ∷ []) = Byte byte
+heard_of (byte ∷ more ∷ rest) = Damaged
+
+-- what is heard when one more gear answers, or does not
+abbrev pub joined_answer : Answer → Option ℕ → Answer
+joined_answer heard None = heard
+joined_answer Silence (Some byte) = Byte byte
+joined_answer (Byte first) (Some byte) = Damaged
+joined_answer Damaged (Some byte) = Damaged
+
+abbrev pub joined_all : Answer → List ℕ → Answer
+joined_all heard [] = heard
+joined_all heard (byte ∷ bytes) = joined_all (joined_answer heard (Some byte)) bytes

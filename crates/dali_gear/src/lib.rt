@@ -1,0 +1,16 @@
+//! Control gear: the addressing variables of one gear, and how frames, power and time change them
+//! (IEC 62386-102:2014, short address assignment); and a row of gear that hear one frame.
+//!
+//! A gear is a pure state machine. No call takes memory or fails.
+#![tactic(auto)]
+
+mod gear;
+pub mod row;
+mod state;
+
+pub use gear::{Effect, Gear};
+pub use row::{GearSet, Heard, Reach};
+pub use state::InitialisationState;
+
+#[cfg(test)]
+mod tests;

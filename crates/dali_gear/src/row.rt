@@ -1,0 +1,109 @@
+//! A row of gear on one bus: all that a frame reaches take it, in order of their number.
+
+ghost use Rattle.std.specs.Prelude.{◌≡◌, ◌<◌, ◌≤◌, ◌&&◌, length, All, IsTrue, None, if◌then◌else◌};
+ghost use Rattle.dali_special.specs.Command.{command_of};
+ghost use Rattle.dali_gear.specs.ControlGear.{MASK, would_draw, answer};
+ghost use Rattle.dali_gear.specs.Row.{reaches, row_after, answers_of, heard_of, draws_needed, one_after, joined_answer};
+
+use crate::gear::{Effect, Gear};
+use dali_frame::{Answer, Forward, Random24};
+
+/// Some of the gear of a row: gear g is the bit of value 2^g. A bit past the last gear has no effect.
+#[derive(Clone, Copy, Debug, PartialEq, Eq, Hash)]
+pub struct GearSet(pub u128);
+
+/// Which gear a frame reaches.
+#[derive(Clone, Copy, Debug, PartialEq, Eq, Hash)]
+pub enum Reach {
+    /// All of them, as an undestroyed frame does.
+    Everyone,
+    /// Some of them, as a destroyed frame may.
+    Only(GearSet),
+}
+
+impl Reach {
+    /// Whether it reaches the gear of this number, 0 to 127.
+    pub fn includes(self, number: usize) -> bool
+        requires { number < 128 }
+        ensures { result ≡ reaches self number }
+    {
+        match self {
+            Reach::Everyone => true,
+            Reach::Only(GearSet(bits)) => (bits >> number) % 2 == 1,
+        }
+    }
+}
+
+/// What came of a frame.
+#[derive(Clone, Copy, Debug, PartialEq, Eq, Hash)]
+pub struct Heard {
+    /// What is heard, where nothing disturbs the backward frames: two or more together are heard as `Damaged`
+    /// (this project's profile).
+    pub answer: Answer,
+    /// How many numbers were drawn.
+    pub drawn: usize,
+}
+
+/// How many numbers the gear would draw if this frame reached them now.
+pub fn draws_needed(gear: &[Gear], frame: Forward, reach: Reach) -> usize
+    requires { length gear.now ≤ 128 }
+    ensures { result ≡ draws_needed reach (command_of frame) 0 gear.now }
+{
+    let mut needed = 0;
+    for (number, one) in gear.iter().enumerate() {
+        let draws = one.would_draw(&frame) && reach.includes(number);
+        needed += usize::from(draws);
+    }
+    needed
+}
+
+/// The gear that the frame reaches take it, in order of their number. Those that draw take the numbers in order.
+pub fn take(gear: &mut [Gear], frame: Forward, reach: Reach, draws: &[Random24]) -> Heard
+    requires few { length gear.old ≤ 128 }
+    requires enough { draws_needed reach (command_of frame) 0 gear.old ≤ length draws.now }
+    requires below_mask { All (λ r. r < MASK) draws.now }
+    ensures gear { gear.new ≡ row_after reach (command_of frame) 0 gear.old draws.now }
+    ensures drawn { result.drawn ≡ draws_needed reach (command_of frame) 0 gear.old }
+    ensures answer { result.answer ≡ heard_of (answers_of reach (command_of frame) 0 gear.old) }
+{
+    let mut answer = Answer::Silence;
+    let mut drawn = 0;
+    for (number, one) in gear.iter_mut().enumerate() {
+        let effect = take_one(one, frame, reach.includes(number), &draws[drawn..]);
+        answer = joined(answer, effect.answer);
+        drawn += usize::from(effect.drew);
+    }
+    Heard { answer, drawn }
+}
+
+/// One gear of the row, which a frame reaches or not.
+fn take_one(gear: &mut Gear, frame: Forward, reached: bool, draws: &[Random24]) -> Effect
+    requires enough { IsTrue ((gear.old.powered && reached) && would_draw (command_of frame) gear.old) → 0 < length draws.now }
+    requires below_mask { All (λ r. r < MASK) draws.now }
+    ensures gear { gear.new ≡ one_after (gear.old.powered && reached) (command_of frame) draws.now gear.old }
+    ensures answer { result.answer ≡ (if gear.old.powered && reached then answer (command_of frame) gear.old else None) }
+    ensures drew { result.drew ≡ ((gear.old.powered && reached) && would_draw (command_of frame) gear.old) }
+{
+    if !reached {
+        return Effect {
+            answer: None,
+            drew: false,
+        };
+    }
+    let draw = match draws.first() {
+        Some(draw) => *draw,
+        None => gear.random(),
+    };
+    gear.take(frame, draw)
+}
+
+/// What is heard when one more gear answers, or does not.
+fn joined(heard: Answer, answer: Option<u8>) -> Answer
+    ensures { result ≡ joined_answer heard answer }
+{
+    match (heard, answer) {
+        (heard, None) => heard,
+        (Answer::Silence, Some(byte)) => Answer::Byte(byte),
+        (Answer::Byte(_) | Answer::Damaged, Some(_)) => Answer::Damaged,
+    }
+}
