@@ -3,44 +3,57 @@ use dali_frame::{Answer, Forward, Random24, SearchAddress, Short};
 use dali_special::{Command, Target};
 use std::test::Fail;
 
-fn number(value: u32) -> Random24 {
-    Random24::of(value).unwrap_or(Random24::MASK)
-}
-
 fn frame(text: &[u8]) -> Result<Forward, Fail> {
     Ok(Forward::read_hex(text)?)
 }
 
 #[test]
 fn one_gear_is_addressed(rt: HostRuntime) -> Result<(), Fail> {
-    let mut gear = [Gear::new()];
-    let gear = &mut gear[..];
-    let draw = number(0x123456);
+    let mut gear = Gear::new();
+    let draw = Random24::of(0x123456).ok_or("a random address")?;
     for text in [b"A5FF", b"A5FF", b"A700"] {
-        row::take(gear, frame(text)?, Reach::Everyone, &[]);
+        let effect = gear.take(frame(text)?, draw);
+        assert_eq!(rt; (effect.answer, effect.drew), (None, false));
     }
     let randomise = frame(b"A700")?;
-    assert_eq!(rt; gear[0].would_draw(&randomise), true);
-    assert_eq!(rt; gear[0].half_pair(), Some(Command::Randomise));
-    assert_eq!(rt; row::draws_needed(gear, randomise, Reach::Everyone), 1);
-    let effect = gear[0].take(randomise, draw);
+    assert_eq!(rt; gear.would_draw(&randomise), true);
+    assert_eq!(rt; gear.half_pair(), Some(Command::Randomise));
+    let effect = gear.take(randomise, draw);
     assert_eq!(rt; (effect.answer, effect.drew), (None, true));
-    assert_eq!(rt; gear[0].random(), draw);
+    assert_eq!(rt; gear.random(), draw);
     for text in [b"B112", b"B334", b"B556", b"B70B"] {
-        row::take(gear, frame(text)?, Reach::Everyone, &[]);
+        gear.take(frame(text)?, draw);
     }
-    assert_eq!(rt; gear[0].short(), Short::of(5));
-    assert_eq!(rt; gear[0].search(), SearchAddress::of(draw));
-    assert_eq!(rt; gear[0].state(), InitialisationState::Enabled);
-    let heard = row::take(gear, frame(b"BB00")?, Reach::Everyone, &[]);
-    assert_eq!(rt; (heard.answer, heard.drawn), (Answer::Byte(0x0B), 0));
+    assert_eq!(rt; gear.short(), Short::of(5));
+    assert_eq!(rt; gear.search(), SearchAddress::of(draw));
+    assert_eq!(rt; gear.state(), InitialisationState::Enabled);
+    assert_eq!(rt; gear.take(frame(b"BB00")?, draw).answer, Some(0x0B));
 
-    gear[0].power_off();
-    assert_eq!(rt; gear[0].is_powered(), false);
-    gear[0].power_on();
-    assert_eq!(rt; gear[0].state(), InitialisationState::Disabled);
-    assert_eq!(rt; gear[0].search(), SearchAddress::MASK);
-    assert_eq!(rt; (gear[0].short(), gear[0].random()), (Short::of(5), draw));
+    gear.power_off();
+    assert_eq!(rt; gear.is_powered(), false);
+    gear.power_on();
+    assert_eq!(rt; gear.state(), InitialisationState::Disabled);
+    assert_eq!(rt; gear.search(), SearchAddress::MASK);
+    assert_eq!(rt; (gear.short(), gear.random()), (Short::of(5), draw));
+    Ok(())
+}
+
+#[test]
+fn gear_of_a_row_draw_in_order(rt: HostRuntime) -> Result<(), Fail> {
+    let mut gear = [Gear::new(), Gear::new()];
+    let gear = &mut gear[..];
+    let first = Random24::of(0x000001).ok_or("a random address")?;
+    let second = Random24::of(0x000002).ok_or("a random address")?;
+    let draws = [first, second];
+    for text in [b"A5FF", b"A5FF", b"A700", b"A700"] {
+        let frame = frame(text)?;
+        let needed = row::draws_needed(gear, frame, Reach::Everyone);
+        assert!(rt; needed <= 2);
+        let heard = row::take(gear, frame, Reach::Everyone, &draws);
+        assert_eq!(rt; (heard.answer, heard.drawn), (Answer::Silence, needed));
+    }
+    assert_eq!(rt; gear.len(), 2);
+    assert_eq!(rt; (gear[0].random(), gear[1].random()), (first, second));
     Ok(())
 }
 
