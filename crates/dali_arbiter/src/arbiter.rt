@@ -1,0 +1,227 @@
+ghost use Rattle.std.specs.Prelude.{◌≡◌, ℕ, ◌<◌, ◌≤◌, ◌↔◌, ◌⊎◌, List, [], length, Some, None, IsSome, IfSome, IfOk, IfErr, OnErr, IsErrOf, IsTrue};
+ghost use Rattle.std.specs.List.{AllByRecursion};
+ghost use Rattle.dali_arbiter.specs.declared.request.Request.{Request};
+ghost use Rattle.dali_arbiter.specs.declared.refusals.NewError.TheVariants.{BadCapacity};
+ghost use Rattle.dali_arbiter.specs.Bus.{Bus, idle, total, next, request_of, offer_refusal, offered, sent, destroyed, collision, collided, lapsed, silenced, first_list, taken, freed, is_barred};
+
+use crate::refusals::{NewError, OfferError};
+use crate::request::Request;
+use crate::waiting;
+use dali_frame::{Forward, Priority};
+use std::alloc::Global;
+use std::marker::Model;
+
+/// The requests that wait for the bus, oldest first in each of the five lists, and the owner of the bus.
+///
+/// Contracts see the five lists, the owner, and how many requests may wait.
+#[derive(Drop)]
+pub struct Arbiter {
+    waiting: Vec<Request>,
+    capacity: usize,
+    owner: Option<u8>,
+}
+
+impl Model for Arbiter {
+    ghost use Rattle.dali_arbiter.specs.Bus.{Bus};
+
+    ghost Value = { Bus };
+
+    ghost use Rattle.std.specs.Prelude.{vec_capacity};
+    ghost use Rattle.dali_arbiter.specs.Listed.{lists_of, IsKept};
+
+    ghost view = { λ a. record { lists = lists_of a.waiting.items; owner = a.owner; capacity = a.capacity } };
+
+    ghost invariant = { λ a. IsKept a.waiting.items (vec_capacity a.waiting) a.capacity a.owner };
+}
+
+impl Arbiter {
+    /// An arbiter of a bus that nobody owns, with room for `capacity` requests: 1 to 1024.
+    ///
+    /// `BadCapacity` comes before `NoMemory`.
+    pub fn new(alloc: Global, capacity: usize) -> Result<Arbiter, NewError>
+        ensures ok { IfOk result (λ a. a ≡ idle capacity) }
+        ensures bad_capacity { IsErrOf result BadCapacity ↔ ((capacity ≡ 0) ⊎ (1024 < capacity)) }
+    {
+        if capacity == 0 || 1024 < capacity {
+            return Err(NewError::BadCapacity);
+        }
+        Ok(Arbiter {
+            waiting: Vec::with_capacity(alloc, capacity)?,
+            capacity,
+            owner: None,
+        })
+    }
+
+    /// Puts a request last in the list of its priority.
+    ///
+    /// Priority 1 is for the owner of the bus alone. `NotOwner` comes before `QueueFull`.
+    pub fn offer(
+        &mut self,
+        sender: u8,
+        priority: Priority,
+        frame: Forward,
+    ) -> Result<(), OfferError>
+        ensures ok { IfOk result (λ _. offer_refusal self.old (request_of sender priority frame) ≡ None) }
+        ensures put { IfOk result (λ _. self.new ≡ offered self.old (request_of sender priority frame)) }
+        ensures refused { IfErr result (λ e. offer_refusal self.old (request_of sender priority frame) ≡ Some e) }
+        ensures unchanged { OnErr result (self.new ≡ self.old) }
+    {
+        if self.is_barred(sender, priority) {
+            return Err(OfferError::NotOwner);
+        }
+        if self.is_full() {
+            return Err(OfferError::QueueFull);
+        }
+        self.waiting.push_reserved(Request {
+            sender,
+            priority,
+            frame,
+        });
+        Ok(())
+    }
+
+    /// The request that is next: of the owner of the bus its first at priority 1; where nobody owns the bus, the first
+    /// of the highest priority that waits.
+    pub fn pick(&self) -> Option<Request>
+        ensures next { result ≡ next self.now }
+        ensures owned { (owner : ℕ) → self.now.owner ≡ Some owner → IfSome result (λ r. r.sender ≡ owner) }
+    {
+        match self.owner {
+            Some(_) => waiting::oldest(&self.waiting, 1),
+            None => {
+                let (_, request) = waiting::first(&self.waiting)?;
+                Some(request)
+            }
+        }
+    }
+
+    /// The next request was sent: it leaves.
+    ///
+    /// With `more` frames of its transaction to come, its sender owns the bus from now on; else nobody does, and the
+    /// list of priority 1 is emptied.
+    pub fn sent(&mut self, more: bool)
+        requires { IsSome (next self.old) }
+        ensures { self.new ≡ sent self.old more }
+    {
+        let request = self.take();
+        if more {
+            self.owner = Some(request.sender);
+        } else {
+            self.free();
+        }
+    }
+
+    /// The next request was destroyed on the bus: it leaves, nobody owns the bus, and the list of priority 1 is emptied.
+    pub fn destroyed(&mut self)
+        requires { IsSome (next self.old) }
+        ensures { self.new ≡ destroyed self.old }
+    {
+        self.take();
+        self.free();
+    }
+
+    /// The next request collided: as `destroyed`; where the request behind it in its list has another sender, that
+    /// one leaves too and is answered.
+    pub fn collided(&mut self) -> Option<Request>
+        requires { IsSome (next self.old) }
+        ensures other { result ≡ collision self.old.lists }
+        ensures bus { self.new ≡ collided self.old }
+    {
+        let other = waiting::colliding(&self.waiting);
+        self.take();
+        if other.is_some() {
+            self.take();
+        }
+        self.free();
+        other
+    }
+
+    /// Ownership ends: nobody owns the bus, and the list of priority 1 is emptied. Answers who owned it.
+    pub fn lapse(&mut self) -> Option<u8>
+        ensures owner { result ≡ self.old.owner }
+        ensures bus { self.new ≡ lapsed self.old }
+    {
+        let owner = self.owner;
+        self.free();
+        owner
+    }
+
+    /// A sender falls silent: all its requests leave, the others keep their order, and its ownership ends.
+    ///
+    /// Where it owned the bus, the list of priority 1 is emptied.
+    pub fn silence(&mut self, sender: u8)
+        ensures { self.new ≡ silenced self.old sender }
+    {
+        waiting::drop_sender(&mut self.waiting, sender);
+        if self.owner == Some(sender) {
+            self.free();
+        }
+    }
+
+    /// Who owns the bus.
+    ///
+    /// The requests of priority 1 are the owner's; where nobody owns the bus there are none.
+    pub fn owner(&self) -> Option<u8>
+        ensures value { result ≡ self.now.owner }
+        ensures owned { AllByRecursion (λ r. self.now.owner ≡ Some r.sender) (first_list self.now) }
+        ensures free { self.now.owner ≡ None → first_list self.now ≡ [] }
+    {
+        self.owner
+    }
+
+    /// How many requests wait, in the five lists together.
+    pub fn len(&self) -> usize
+        ensures count { result ≡ total self.now }
+        ensures bound { total self.now ≤ self.now.capacity }
+        ensures five { length self.now.lists ≡ 5 }
+    {
+        self.waiting.len()
+    }
+
+    /// Whether no request waits.
+    pub fn is_empty(&self) -> bool
+        ensures { IsTrue result ↔ (total self.now ≡ 0) }
+    {
+        self.len() == 0
+    }
+
+    /// Whether as many requests wait as may.
+    pub fn is_full(&self) -> bool
+        ensures { IsTrue result ↔ (total self.now ≡ self.now.capacity) }
+    {
+        self.len() == self.capacity
+    }
+
+    /// How many requests may wait: 1 to 1024.
+    pub fn capacity(&self) -> usize
+        ensures value { result ≡ self.now.capacity }
+        ensures least { 1 ≤ self.now.capacity }
+        ensures most { self.now.capacity ≤ 1024 }
+    {
+        self.capacity
+    }
+
+    fn is_barred(&self, sender: u8, priority: Priority) -> bool
+        ensures barred { result ≡ is_barred self.now.owner sender priority }
+        ensures least { 1 ≤ priority }
+        ensures most { priority ≤ 5 }
+    {
+        priority.number() == 1 && self.owner != Some(sender)
+    }
+
+    fn take(&mut self) -> Request
+        requires { IsSome (next self.old) }
+        ensures value { next self.old ≡ Some result }
+        ensures bus { self.new ≡ taken self.old }
+        ensures owned { (owner : ℕ) → self.old.owner ≡ Some owner → result.sender ≡ owner }
+    {
+        waiting::take_first(&mut self.waiting)
+    }
+
+    fn free(&mut self)
+        ensures { self.new ≡ freed self.old }
+    {
+        waiting::empty_first(&mut self.waiting);
+        self.owner = None;
+    }
+}

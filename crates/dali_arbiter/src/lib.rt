@@ -1,0 +1,20 @@
+//! Whose frame is next on a bus that several application controllers share: the requests that wait, a list for each
+//! priority, and the owner of the bus.
+//!
+//! This project's profile of transactions in the manner of IEC 62386-101:2014: all forward frames of a transaction but
+//! the first have priority 1, and nobody else sends while the owner of the bus goes on.
+//!
+//! Only [`Arbiter::new`] takes memory.
+#![tactic(auto)]
+
+mod arbiter;
+mod refusals;
+mod request;
+mod waiting;
+
+pub use arbiter::Arbiter;
+pub use refusals::{NewError, OfferError};
+pub use request::Request;
+
+#[cfg(test)]
+mod tests;

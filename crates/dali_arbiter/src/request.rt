@@ -1,0 +1,12 @@
+use dali_frame::{Forward, Priority};
+
+/// One forward frame that waits for the bus.
+#[derive(Clone, Copy, Debug, PartialEq, Eq, Hash)]
+pub struct Request {
+    /// The number of the application controller that sends it.
+    pub sender: u8,
+    /// The list that it waits in.
+    pub priority: Priority,
+    /// What is sent.
+    pub frame: Forward,
+}
