@@ -1,0 +1,30 @@
+use Rattle.std.specs.Prelude.{ℕ, ◌+◌, List, [], ◌∷◌, Bool, true, false, Option, Some, None, ◌==◌, if◌then◌else◌}
+use Rattle.std.specs.List.{onto_first, slice_split}
+
+-- The lines of an input: each ends at its line feed, which the last line may lack.
+abbrev pub lines_of : List ℕ → List (List ℕ)
+lines_of [] = []
+lines_of (b ∷ bs) = if b == 10 then [] ∷ lines_of bs else onto_first b (lines_of bs)
+
+-- an empty line and a comment are skipped
+abbrev pub is_skipped : List ℕ → Bool
+is_skipped [] = true
+is_skipped (b ∷ bs) = b == 35
+
+-- the lines that are not skipped, each with its number, where the first of the lines is line n
+abbrev pub numbered_from : ℕ → List (List ℕ) → List (ℕ × List ℕ)
+numbered_from n [] = []
+numbered_from n (line ∷ lines) = if is_skipped line then numbered_from (n + 1) lines else (n, line) ∷ numbered_from (n + 1) lines
+
+-- the same of the rest of an input of which some lines were read
+abbrev pub numbered_after : ℕ → List ℕ → List (ℕ × List ℕ)
+numbered_after read rest = numbered_from (read + 1) (lines_of rest)
+
+-- The words of a line stand between single spaces: two spaces make an empty word, which no form accepts.
+abbrev pub words_of : List ℕ → List (List ℕ)
+words_of line = slice_split (λ b. b == 32) line
+
+-- the words of what follows a space, if anything does
+abbrev pub words_after : Option (List ℕ) → List (List ℕ)
+words_after None = []
+words_after (Some rest) = words_of rest
