@@ -53,11 +53,11 @@ number_err {E = E} word e plain h = go (all_ascii_digits word) refl where
       let le : nat_le (digits_value 10 word) 1000000 ≡ false = grind (arith, nat_tests) in
       rw (plain, digits, le) refl
     where
-    small : (b : Bool) → nat_lt (digits_value 10 word) (2 ^ 32) ≡ b → 0 < length word → all_ascii_digits word ≡ true → nat_lt (digits_value 10 word) (2 ^ 32) ≡ false
-    small false is some digits' = is
-    small true is some digits' =
-        let lt : digits_value 10 word < 2 ^ 32 = grind (arith, nat_tests) in
-        absurd (parses {E = E} word (Err e) plain h (digits', some, lt))
+      small : (b : Bool) → nat_lt (digits_value 10 word) (2 ^ 32) ≡ b → 0 < length word → all_ascii_digits word ≡ true → nat_lt (digits_value 10 word) (2 ^ 32) ≡ false
+      small false is some digits' = is
+      small true is some digits' =
+          let lt : digits_value 10 word < 2 ^ 32 = grind (arith, nat_tests) in
+          absurd (parses {E = E} word (Err e) plain h (digits', some, lt))
 
 pub number_no_text : (word : List ℕ) → starts_plain word ≡ true → (IsUtf8 word → ⊥) → None ≡ number_of word
 number_no_text word plain h = go (all_ascii_digits word) refl where

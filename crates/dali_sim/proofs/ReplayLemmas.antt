@@ -77,6 +77,7 @@ tells_of_plays old new input (Err (BadPlan e)) h = (h.0, refused_appends (planne
     go : (o : Option Event) → ((v : World) → (played v lines).end ≡ Refused e → ⊥) → (playing line.0 w o (λ v. played v lines)).end ≡ Refused e → ⊥
     go None never is' = cc
     go (Some event) never is' = never (after w event) is'
+
   refused_appends : (plan : Result (World × List (ℕ × List ℕ)) End) → (output plan).end ≡ Refused e → Appends old new (output plan).text → Appends old new []
   refused_appends (Ok p) is h' = absurd (played_never p.0 p.1 is)
   refused_appends (Err end) is h' = h'

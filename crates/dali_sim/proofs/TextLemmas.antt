@@ -13,4 +13,4 @@ gear_texts_more old new whole n gs g here here_is is so_far =
     let next : drop n gs ≡ g ∷ drop (n + 1) gs = drop_more gs n g here ∙ ap (λ x. x ∷ drop (n + 1) gs) (sym here_is) in
     let known = rw next at so_far in
     ap (λ xs. xs ++ gear_texts (n + 1) (drop (n + 1) gs)) is
-      ∙ append_assoc old (gear_text n g) (gear_texts (n + 1) (drop (n + 1) gs)) ∙ known
+    ∙ append_assoc old (gear_text n g) (gear_texts (n + 1) (drop (n + 1) gs)) ∙ known

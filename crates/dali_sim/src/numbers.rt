@@ -32,5 +32,9 @@ pub fn number_of(word: &[u8]) -> Option<u32>
     let Ok(number) = text.parse::<u32>() else {
         return None;
     };
-    if number <= LARGEST { Some(number) } else { None }
+    if number <= LARGEST {
+        Some(number)
+    } else {
+        None
+    }
 }

@@ -105,7 +105,12 @@ fn plan(alloc: Global, script: &mut Script) -> Result<Bench, ReplayFault>
 }
 
 /// Plays the lines after the plan. Each report is written before the next line is taken.
-fn play<W: Write>(alloc: Global, script: &mut Script, bench: &mut Bench, writer: &mut W) -> Result<(), ReplayFault>
+fn play<W: Write>(
+    alloc: Global,
+    script: &mut Script,
+    bench: &mut Bench,
+    writer: &mut W,
+) -> Result<(), ReplayFault>
     requires { script.old.read + length script.old.rest.now ≤ 1048576 }
     ensures { Plays (W.contents writer.old) (W.contents writer.new) (played bench.old (numbered_after script.old.read script.old.rest.now)) result }
 {
@@ -139,7 +144,11 @@ fn replay<W: Write>(alloc: Global, input: &[u8], writer: &mut W) -> Result<(), R
 /// What is written, where the answer is `Ok`, is exactly what the input asks for. At `BadLine` the reports up to that
 /// line are written, at `Memory` the first of the reports, and at `BadPlan` and `Read` nothing. At `Write` nothing is
 /// said of what went out.
-pub fn run_replay<R: Read, W: Write>(alloc: Global, reader: &mut R, writer: &mut W) -> Result<(), ReplayFault>
+pub fn run_replay<R: Read, W: Write>(
+    alloc: Global,
+    reader: &mut R,
+    writer: &mut W,
+) -> Result<(), ReplayFault>
     // Of a reader that does not tell its bytes, some input is told.
     ensures some { (input : List ℕ) × Tells (W.contents writer.old) (W.contents writer.new) (output_of input) result }
     ensures unread { IsErrOf result ReplayFault.Read → writer.new ≡ writer.old }

@@ -9,5 +9,5 @@ loop-one-preserved c =
     let here : c.loop-one.one-index < length c.loop-one.gear = omega arith in
     record {
       quiet = map_more quieted _ _ _ _ _ _ here c.loop-one.invariant.untouched c.quiet.ensures c.loop-one.invariant.quiet;
-      untouched = rest_is c.loop-one.gear c.args.gear.now c.loop-one.one-index c.quiet.new.self c.loop-one.invariant.untouched
+      untouched = rest_is c.loop-one.gear c.args.gear.now c.loop-one.one-index c.quiet.new.self c.loop-one.invariant.untouched;
     }

@@ -5,5 +5,5 @@ use Rattle.dali_sim.proofs.bench.quiet_all.Given as goal
 abbrev pub invariant-loop-one : goal.invariant-loop-one
 invariant-loop-one l = record {
   quiet : take l.one-index l.gear ++ map quieted (drop l.one-index l.fn.gear) ≡ map quieted l.fn.gear;
-  untouched : drop l.one-index l.gear ≡ drop l.one-index l.fn.gear
+  untouched : drop l.one-index l.gear ≡ drop l.one-index l.fn.gear;
 }

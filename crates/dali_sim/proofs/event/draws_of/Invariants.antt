@@ -9,7 +9,7 @@ abbrev pub invariant-loop-rest : goal.invariant-loop-rest
 invariant-loop-rest l = record {
   draws : option_map (λ more. l.draws.items ++ more) (randoms_of (words_after (option_map (λ rest. rest.now) l.rest))) ≡ randoms_of (words_after (option_map (λ rest. rest.now) l.initial.rest));
   count : length l.draws.items + length (words_after (option_map (λ rest. rest.now) l.rest)) ≡ length (words_after (option_map (λ rest. rest.now) l.initial.rest));
-  few : length l.draws.items ≤ 1024
+  few : length l.draws.items ≤ 1024;
 }
 
 abbrev pub decreases-loop-rest : goal.decreases-loop-rest

@@ -6,8 +6,8 @@ use Rattle.dali_sim.proofs.replay.play.Goals as goal
 pub returns-in_default-event_of : goal.returns-in_default-event_of
 returns-in_default-event_of g c =
     c.loop-line.invariant.leads _ (Err (BadLine c.number.result))
-      (rw c.number.ensures
-        (plays_bad_line c.loop-line.bench _ _ _ c.in-Some.line.now _ c.in-Some.ensures.line (sym c.in_default-event_of.ensures)))
+    (rw c.number.ensures
+    (plays_bad_line c.loop-line.bench _ _ _ c.in-Some.line.now _ c.in-Some.ensures.line (sym c.in_default-event_of.ensures)))
 
 pub returns-in_err-report : goal.returns-in_err-report
 returns-in_err-report g c =
@@ -18,11 +18,11 @@ pub loop-line-preserved : goal.loop-line-preserved
 loop-line-preserved g c = record {
   leads = λ d r more. c.loop-line.invariant.leads d r
       (plays_event c.loop-line.bench _ _ _ c.in-Some.line.now c.in-Some-event_of.event _ _ d r
-        c.in-Some.ensures.line
-        (sym c.in-Some-event_of.ensures)
-        (rw (c.as_bytes.ensures.value, c.in_ok-report.ensures.text, c.clear.ensures.bytes) at c.in-Ok.ensures.bytes)
-        (rw c.in_ok-report.ensures.world at more));
-  range = c.next.ensures.range
+      c.in-Some.ensures.line
+      (sym c.in-Some-event_of.ensures)
+      (rw (c.as_bytes.ensures.value, c.in_ok-report.ensures.text, c.clear.ensures.bytes) at c.in-Ok.ensures.bytes)
+      (rw c.in_ok-report.ensures.world at more));
+  range = c.next.ensures.range;
 }
 
 pub returns : goal.returns

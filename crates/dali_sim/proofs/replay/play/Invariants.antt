@@ -7,7 +7,7 @@ use Rattle.dali_sim.proofs.replay.play.Given as goal
 abbrev pub invariant-loop-line : goal.invariant-loop-line
 invariant-loop-line g l = record {
   leads : Leads (g.W.Write.contents l.fn.writer) (played l.fn.bench (numbered_after l.fn.script.read l.fn.script.rest.now)) (g.W.Write.contents l.writer) (played l.bench (numbered_after l.script.read l.script.rest.now));
-  range : l.script.read + length l.script.rest.now ≤ 1048576
+  range : l.script.read + length l.script.rest.now ≤ 1048576;
 }
 
 abbrev pub decreases-loop-line : goal.decreases-loop-line
