@@ -1,4 +1,4 @@
-use Rattle.std.proofs.Common.{◌≡◌, ℕ, ◌<◌, ◌≤◌, Bool, true, false, List, [], ◌∷◌, ◌++◌, refl, sym, ap, subst, ◌∙◌, arith, length, lit<, lit≤, Option, Some, None}
+use Rattle.std.proofs.Common.{◌≡◌, ◌⊎◌, inl, inr, ℕ, ◌<◌, ◌≤◌, Bool, true, false, List, [], ◌∷◌, ◌++◌, refl, sym, ap, subst, ◌∙◌, arith, length, lit<, lit≤, Option, Some, None}
 use Rattle.std.specs.Prelude.{◌==◌, if◌then◌else◌, option_map}
 use Rattle.std.proofs.lemmas.Bool.Decides.{nat_tests}
 use Rattle.dali_frame.specs.declared.frames.Forward.{Forward}
@@ -8,6 +8,7 @@ use Rattle.dali_frame.specs.declared.numbers.SearchAddress.{SearchAddress}
 use Rattle.dali_frame.specs.Short.{code_of, short_of}
 use Rattle.dali_frame.specs.Random.{value_of}
 use Rattle.dali_special.specs.declared.command.Target.TheVariants.{Unaddressed}
+use Rattle.dali_special.specs.declared.command.Target.{Target}
 use Rattle.dali_special.specs.declared.command.Command.{Command}
 use Rattle.dali_special.specs.declared.command.Command.TheVariants.{Terminate, Initialise, Randomise, Compare, Withdraw, SearchHigh, SearchMiddle, SearchLow, Program, QueryShort, Arc}
 use Rattle.dali_special.specs.Command.{MASK, command_of, frame_of, IsSpelled}
@@ -467,3 +468,196 @@ room b xs t f lawful =
     let front : length t < length (steps lawful.0) = front_short t f (steps lawful.0) lawful.2 in
     let short : length (steps lawful.0) ≤ 7 = script_short lawful.0 in
     omega arith
+
+-- WHAT A FRONT OF A SCRIPT SAYS
+says_from : (b : Block) (xs : List Assignment) (t : List Entry) (s : Stage) (f : Forward) (ss : List Step) (r : SearchAddress) (found : Option Assignment)
+    → IsFront t f ss → Tracks b xs s ss → Says s r found → Says (stage_from s t) (searched_from r t) (later found (finding_from r t))
+unfolding Tracks
+says_from b xs [] s f [] r found front tr k = absurd front
+says_from b xs (e ∷ t) s f [] r found front tr k = absurd front
+says_from b xs [] s f (step ∷ more) r found front tr k = k
+says_from b xs (e ∷ t) s f (step ∷ more) r found front tr k =
+    let spelled : IsSpelled step.command = subst IsSpelled front.0 (read_spelled e.frame) in
+    let rest : Tracks b xs (next_stage s step.command e.heard) more = tr.1 spelled e.heard front.1 in
+    let here : Follows b xs s (command_of e.frame) = subst (λ c. Follows b xs s c) (sym front.0) tr.0 in
+    let c : Command = command_of e.frame in
+    let next = says_more b xs s (command_of e.frame) e.heard r found here k in
+    let later_on = says_from b xs t (next_stage s (command_of e.frame) e.heard) f more (search_after (command_of e.frame) r) (later found (found_by r (command_of e.frame) e.heard))
+        front.2 (subst (λ d. Tracks b xs (next_stage s d e.heard) more) (sym front.0) rest) next in
+    record {
+      searched = later_on.searched;
+      finding = later_later found (found_by r (command_of e.frame) e.heard) (finding_from (search_after (command_of e.frame) r) t) ∙ later_on.finding;
+    }
+
+says_lawful : (b : Block) (xs : List Assignment) (t : List Entry) (f : Forward) → Lawful b xs t f → Says (stage_of t) (searched t) (finding_of t)
+unfolding stage_of
+says_lawful b xs t f lawful =
+    let says = says_from b xs t Free f (steps lawful.0) at_power_on None lawful.2 (tracks b xs lawful.0 lawful.1) (record { searched = tt; finding = refl }) in
+    record { searched = says.searched; finding = sym (none_later (finding_of t)) ∙ says.finding }
+
+-- the stage's search address is what the frames have set
+pub searched_lawful : (b : Block) (xs : List Assignment) (t : List Entry) (f : Forward) → Lawful b xs t f → IsSearched (stage_of t) (searched t)
+searched_lawful b xs t f lawful = (says_lawful b xs t f lawful).searched
+
+-- the stage's finding is that of the trace
+pub finding_lawful : (b : Block) (xs : List Assignment) (t : List Entry) (f : Forward) → Lawful b xs t f → finding_of t ≡ finding_at (stage_of t)
+finding_lawful b xs t f lawful = (says_lawful b xs t f lawful).finding
+
+-- the same after one more frame
+says_after : (b : Block) (xs : List Assignment) (t : List Entry) (e : Entry) → Lawful b xs t e.frame → Says (stage_of (t ++ e ∷ [])) (searched (t ++ e ∷ [])) (finding_of (t ++ e ∷ []))
+says_after b xs t e lawful =
+    let more = says_more b xs (stage_of t) (command_of e.frame) e.heard (searched t) (finding_of t) (follows_lawful b xs t e.frame lawful) (says_lawful b xs t e.frame lawful) in
+    record {
+      searched = subst (λ s. IsSearched s (searched (t ++ e ∷ []))) (sym (stage_more t e)) (subst (λ r. IsSearched (next_stage (stage_of t) (command_of e.frame) e.heard) r) (sym (searched_more t e)) more.searched);
+      finding = finding_more t e ∙ more.finding ∙ ap finding_at (sym (stage_more t e));
+    }
+
+pub searched_after : (b : Block) (xs : List Assignment) (t : List Entry) (e : Entry) → Lawful b xs t e.frame → IsSearched (stage_of (t ++ e ∷ [])) (searched (t ++ e ∷ []))
+searched_after b xs t e lawful = (says_after b xs t e lawful).searched
+
+pub finding_after : (b : Block) (xs : List Assignment) (t : List Entry) (e : Entry) → Lawful b xs t e.frame → finding_of (t ++ e ∷ []) ≡ finding_at (stage_of (t ++ e ∷ []))
+finding_after b xs t e lawful = (says_after b xs t e lawful).finding
+
+-- only the empty trace is free
+queried_not_free : (r : SearchAddress) (h : Answer) → queried r h ≡ Free → ⊥
+queried_not_free r Silence e = cc
+queried_not_free r Damaged e = cc
+queried_not_free r (Byte v) e = go (short_of v) (v == MASK) e where
+  go : (o : Option ℕ) (m : Bool) → named r o m ≡ Free → ⊥
+  go (Some c) m e = cc
+  go None true e = cc
+  go None false e = cc
+
+verified_not_free : (r : SearchAddress) (a : ℕ) (h : Answer) → verified r a h ≡ Free → ⊥
+verified_not_free r a Silence e = cc
+verified_not_free r a Damaged e = cc
+verified_not_free r a (Byte v) e = go (short_of v) e where
+  go : (o : Option ℕ) → answered r a o ≡ Free → ⊥
+  go None e = cc
+  go (Some c) e = same (c == a) e where
+    same : (m : Bool) → (if m then Confirmed r a else Inconclusive r (Some c)) ≡ Free → ⊥
+    same true e = cc
+    same false e = cc
+
+next_not_free : (s : Stage) (c : Command) (h : Answer) → next_stage s c h ≡ Free → ⊥
+next_not_free (NumberSent r) QueryShort h e = queried_not_free r h e
+next_not_free (Programmed r a) QueryShort h e = verified_not_free r a h e
+next_not_free Free Terminate h e = cc
+next_not_free Free (SearchHigh high) h e = cc
+next_not_free Terminated (Initialise Unaddressed) h e = cc
+next_not_free InitialisedOnce (Initialise Unaddressed) h e = cc
+next_not_free Initialised Randomise h e = cc
+next_not_free RandomisedOnce Randomise h e = cc
+next_not_free (HighSent high) (SearchMiddle middle) h e = cc
+next_not_free (MiddleSent high middle) (SearchLow low) h e = cc
+next_not_free (NumberSent r) Compare h e = cc
+next_not_free (Found r b) Withdraw h e = cc
+next_not_free (Unnamed r) (Program (Some a)) h e = cc
+next_not_free (Confirmed r a) Withdraw h e = cc
+next_not_free _ _ h e = cc
+
+stage_from_not_free : (s : Stage) (t : List Entry) → (s ≡ Free → ⊥) → stage_from s t ≡ Free → ⊥
+stage_from_not_free s [] started e = started e
+stage_from_not_free s (x ∷ t) started e = stage_from_not_free (next_stage s (command_of x.frame) x.heard) t (next_not_free s (command_of x.frame) x.heard) e
+
+pub free_is_empty : (t : List Entry) → stage_of t ≡ Free → t ≡ []
+unfolding stage_of
+free_is_empty [] e = refl
+free_is_empty (x ∷ t) e = absurd (stage_from_not_free (next_stage Free (command_of x.frame) x.heard) t (next_not_free Free (command_of x.frame) x.heard) e)
+
+-- which stage each command comes at
+free_of_terminate : (b : Block) (xs : List Assignment) (s : Stage) (c : Command) → Follows b xs s c → c ≡ Terminate → s ≡ Free
+free_of_terminate b xs _ _ begins_opening e = refl
+free_of_terminate b xs _ _ k e = absurd (cc)
+
+free_of_high : (b : Block) (xs : List Assignment) (s : Stage) (c : Command) (high : ℕ) → Follows b xs s c → c ≡ SearchHigh high → s ≡ Free
+free_of_high b xs _ _ high (begins_search h) e = refl
+free_of_high b xs _ _ high k e = absurd (cc)
+
+free_of_arc : (b : Block) (xs : List Assignment) (s : Stage) (c : Command) (g : Forward) → Follows b xs s c → c ≡ Arc g → s ≡ Free
+free_of_arc b xs _ _ g (begins_arc h) e = refl
+free_of_arc b xs _ _ g k e = absurd (cc)
+
+at_initialise : (b : Block) (xs : List Assignment) (s : Stage) (c : Command) (g : Target) → Follows b xs s c → c ≡ Initialise g
+    → (g ≡ Unaddressed) × ((s ≡ Terminated) ⊎ (s ≡ InitialisedOnce))
+at_initialise b xs _ _ g initialises_once e = (cc, inl refl)
+at_initialise b xs _ _ g initialises e = (cc, inr refl)
+at_initialise b xs _ _ g k e = absurd (cc)
+
+at_randomise : (b : Block) (xs : List Assignment) (s : Stage) (c : Command) → Follows b xs s c → c ≡ Randomise → (s ≡ Initialised) ⊎ (s ≡ RandomisedOnce)
+at_randomise b xs _ _ randomises_once e = inl refl
+at_randomise b xs _ _ randomises e = inr refl
+at_randomise b xs _ _ k e = absurd (cc)
+
+at_compare : (b : Block) (xs : List Assignment) (s : Stage) (c : Command) → Follows b xs s c → c ≡ Compare → (r : SearchAddress) × (s ≡ NumberSent r)
+at_compare b xs _ _ (compares r) e = (r, refl)
+at_compare b xs _ _ k e = absurd (cc)
+
+at_query : (b : Block) (xs : List Assignment) (s : Stage) (c : Command) → Follows b xs s c → c ≡ QueryShort
+    → (r : SearchAddress) × ((s ≡ NumberSent r) ⊎ ((a : ℕ) × (s ≡ Programmed r a) × MayGive b xs r a))
+at_query b xs _ _ (queries_number r) e = (r, inl refl)
+at_query b xs _ _ (queries_given r a may) e = (r, inr (a, refl, may))
+at_query b xs _ _ k e = absurd (cc)
+
+at_program : (b : Block) (xs : List Assignment) (s : Stage) (c : Command) (o : Option ℕ) → Follows b xs s c → c ≡ Program o
+    → (a : ℕ) × (r : SearchAddress) × (o ≡ Some a) × (s ≡ Unnamed r) × MayGive b xs r a
+at_program b xs _ _ o (programs r a may) e = (a, r, cc, refl, may)
+at_program b xs _ _ o k e = absurd (cc)
+
+at_withdraw : (b : Block) (xs : List Assignment) (s : Stage) (c : Command) → Follows b xs s c → c ≡ Withdraw
+    → (r : SearchAddress) × (a : ℕ) × ((s ≡ Found r a) ⊎ ((s ≡ Confirmed r a) × MayGive b xs r a))
+at_withdraw b xs _ _ (withdraws_found r a) e = (r, a, inl refl)
+at_withdraw b xs _ _ (withdraws_given r a may) e = (r, a, inr (refl, may))
+at_withdraw b xs _ _ k e = absurd (cc)
+
+-- TERMINATE, SEARCHADDRH and arc power stand first alone
+pub terminate_first : (b : Block) (xs : List Assignment) (t : List Entry) (f : Forward) → Lawful b xs t f → command_of f ≡ Terminate → t ≡ []
+terminate_first b xs t f lawful e = free_is_empty t (free_of_terminate b xs (stage_of t) (command_of f) (follows_lawful b xs t f lawful) e)
+
+pub search_high_first : (b : Block) (xs : List Assignment) (t : List Entry) (f : Forward) (high : ℕ) → Lawful b xs t f → command_of f ≡ SearchHigh high → t ≡ []
+search_high_first b xs t f high lawful e = free_is_empty t (free_of_high b xs (stage_of t) (command_of f) high (follows_lawful b xs t f lawful) e)
+
+pub arc_first : (b : Block) (xs : List Assignment) (t : List Entry) (f g : Forward) → Lawful b xs t f → command_of f ≡ Arc g → t ≡ []
+arc_first b xs t f g lawful e = free_is_empty t (free_of_arc b xs (stage_of t) (command_of f) g (follows_lawful b xs t f lawful) e)
+
+first_of : (b : Block) (xs : List Assignment) (s : Stage) (c : Command) → Follows b xs s c → s ≡ Free
+    → (c ≡ Terminate) ⊎ (((high : ℕ) × (c ≡ SearchHigh high)) ⊎ ((g : Forward) × (c ≡ Arc g)))
+first_of b xs _ _ begins_opening e = inl refl
+first_of b xs _ _ (begins_search high) e = inr (inl (high, refl))
+first_of b xs _ _ (begins_arc g) e = inr (inr (g, refl))
+first_of b xs _ _ k e = absurd (cc)
+
+-- and a transaction begins with no other frame
+pub first_frames : (b : Block) (xs : List Assignment) (f : Forward) → Lawful b xs [] f
+    → (command_of f ≡ Terminate) ⊎ (((high : ℕ) × (command_of f ≡ SearchHigh high)) ⊎ ((g : Forward) × (command_of f ≡ Arc g)))
+first_frames b xs f lawful = first_of b xs (stage_of []) (command_of f) (follows_lawful b xs [] f lawful) stage_none
+
+pub begins_by : (b : Block) (xs : List Assignment) (f : Forward)
+    → (command_of f ≡ Terminate) ⊎ (((high : ℕ) × (command_of f ≡ SearchHigh high)) ⊎ ((g : Forward) × (command_of f ≡ Arc g))) → Lawful b xs [] f
+begins_by b xs f (inl e) = (Close, tt, e)
+begins_by b xs f (inr (inl e)) = (Probe (record { high = e.0; middle = 0; low = 0 }), tt, e.1)
+begins_by b xs f (inr (inr e)) = (ArcPower e.0, tt, e.1)
+
+pub initialise_at : (b : Block) (xs : List Assignment) (t : List Entry) (f : Forward) (g : Target) → Lawful b xs t f → command_of f ≡ Initialise g
+    → (g ≡ Unaddressed) × ((stage_of t ≡ Terminated) ⊎ (stage_of t ≡ InitialisedOnce))
+initialise_at b xs t f g lawful e = at_initialise b xs (stage_of t) (command_of f) g (follows_lawful b xs t f lawful) e
+
+pub randomise_at : (b : Block) (xs : List Assignment) (t : List Entry) (f : Forward) → Lawful b xs t f → command_of f ≡ Randomise
+    → (stage_of t ≡ Initialised) ⊎ (stage_of t ≡ RandomisedOnce)
+randomise_at b xs t f lawful e = at_randomise b xs (stage_of t) (command_of f) (follows_lawful b xs t f lawful) e
+
+pub compare_at : (b : Block) (xs : List Assignment) (t : List Entry) (f : Forward) → Lawful b xs t f → command_of f ≡ Compare
+    → (r : SearchAddress) × (stage_of t ≡ NumberSent r)
+compare_at b xs t f lawful e = at_compare b xs (stage_of t) (command_of f) (follows_lawful b xs t f lawful) e
+
+pub query_at : (b : Block) (xs : List Assignment) (t : List Entry) (f : Forward) → Lawful b xs t f → command_of f ≡ QueryShort
+    → (r : SearchAddress) × ((stage_of t ≡ NumberSent r) ⊎ ((a : ℕ) × (stage_of t ≡ Programmed r a) × MayGive b xs r a))
+query_at b xs t f lawful e = at_query b xs (stage_of t) (command_of f) (follows_lawful b xs t f lawful) e
+
+pub program_at : (b : Block) (xs : List Assignment) (t : List Entry) (f : Forward) (o : Option ℕ) → Lawful b xs t f → command_of f ≡ Program o
+    → (a : ℕ) × (r : SearchAddress) × (o ≡ Some a) × (stage_of t ≡ Unnamed r) × MayGive b xs r a
+program_at b xs t f o lawful e = at_program b xs (stage_of t) (command_of f) o (follows_lawful b xs t f lawful) e
+
+pub withdraw_at : (b : Block) (xs : List Assignment) (t : List Entry) (f : Forward) → Lawful b xs t f → command_of f ≡ Withdraw
+    → (r : SearchAddress) × (a : ℕ) × ((stage_of t ≡ Found r a) ⊎ ((stage_of t ≡ Confirmed r a) × MayGive b xs r a))
+withdraw_at b xs t f lawful e = at_withdraw b xs (stage_of t) (command_of f) (follows_lawful b xs t f lawful) e

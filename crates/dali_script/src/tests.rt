@@ -78,3 +78,25 @@ fn every_address_has_room(rt: HostRuntime) -> Result<(), Fail> {
     assert_eq!(rt; Kept::new(rt.alloc(), block(5, 4)?)?.first_free(), None);
     Ok(())
 }
+
+fn frame(text: &[u8; 4]) -> Result<Forward, Fail> {
+    Ok(Forward::read_hex(text)?)
+}
+
+/// A trace of frames, each allowed where it is pushed.
+fn sent(kept: &Kept, entries: &[(&[u8; 4], Answer)]) -> Result<Trace, Fail> {
+    let mut trace = Trace::new();
+    for (text, heard) in entries {
+        send(&mut trace, kept, frame(text)?, *heard)?;
+    }
+    Ok(trace)
+}
+
+fn send(trace: &mut Trace, kept: &Kept, frame: Forward, heard: Answer) -> Result<(), Fail> {
+    if trace.allows(kept, frame) {
+        trace.push(frame, heard);
+        Ok(())
+    } else {
+        Err(Fail::from("a frame that is not allowed"))
+    }
+}
