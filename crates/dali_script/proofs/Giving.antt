@@ -103,6 +103,7 @@ may_give_from b xs r a e =
   where
     below : (n m : ℕ) → nat_lt n m ≡ true → n < m
     below n m t = grind (arith, nat_tests)
+
     inside : in_block b a ≡ true → InBlock b a
     inside t =
         let low : b.first ≤ a = grind (arith, nat_tests) in
@@ -127,8 +128,8 @@ give_none b xs n a none = sym (not_second _ _ (false_of_not _ (λ e. none (has_m
 pub give_some_to : (b : Block) (xs : List Assignment) (n c : ℕ) → IsMap xs → ((d : ℕ) → HasAddress xs d → InBlock b d) → Has xs (c, n) → true ≡ may_give_some b xs n
 give_some_to b xs n c m within h = sym (both _ _ (below_by n MASK24 (m.drawn n (has_map (λ q. q.1) xs (c, n) h)))
     (any_by_member (λ p. in_block b p.0 && (p.1 == n)) xs (c, n) h (both _ _ (in_block_by b c (within c (has_map (λ q. q.0) xs (c, n) h))) (self n)))) where
-  self : (k : ℕ) → (k == k) ≡ true
-  self k = grind (arith, nat_tests)
+      self : (k : ℕ) → (k == k) ≡ true
+      self k = grind (arith, nat_tests)
 
 pub give_to_none : (b : Block) (xs : List Assignment) (n : ℕ) → (HasNumber xs n → ⊥) → false ≡ may_give_some b xs n
 give_to_none b xs n none = sym (not_second _ _ (false_of_not _ (λ e. from (member_by_any (λ p. in_block b p.0 && (p.1 == n)) xs e)))) where
@@ -148,8 +149,8 @@ goes_on_by b xs n (Some c) m within h = give_some_to b xs n c m within h
 pub may_give_some_by : (b : Block) (xs : List Assignment) (r : SearchAddress) (a : ℕ) → MayGive b xs r a → may_give_some b xs (value_of r) ≡ true
 may_give_some_by b xs r a g = both _ _ (below_by (value_of r) MASK24 g.drawn)
     (any_by_member (λ p. in_block b p.0 && (p.1 == value_of r)) xs (a, value_of r) g.reserved_for (both _ _ (in_block_by b a g.within) (self (value_of r)))) where
-  self : (k : ℕ) → (k == k) ≡ true
-  self k = grind (arith, nat_tests)
+      self : (k : ℕ) → (k == k) ≡ true
+      self k = grind (arith, nat_tests)
 
 pub may_give_some_from : (b : Block) (xs : List Assignment) (r : SearchAddress) → may_give_some b xs (value_of r) ≡ true → (a : ℕ) × MayGive b xs r a
 may_give_some_from b xs r e =

@@ -46,9 +46,9 @@ pub once_more : (xs : List ℕ) (x : ℕ) → IsOnce xs → (Has xs x → ⊥) �
 once_more [] x o fresh = (λ h. h, tt)
 once_more (y ∷ xs) x o fresh =
     (λ h. go (has_cases xs x y h), once_more xs x o.1 (λ h. fresh (inr h))) where
-  go : Has xs y ⊎ (x ≡ y) → ⊥
-  go (inl h) = o.0 h
-  go (inr e) = fresh (inl (sym e))
+      go : Has xs y ⊎ (x ≡ y) → ⊥
+      go (inl h) = o.0 h
+      go (inr e) = fresh (inl (sym e))
 
 pub has_at : {A : Type 0} (xs : List A) (i : ℕ) (d : A) → i < length xs → Has xs (get_or xs i d)
 has_at [] i d h = absurd (omega arith)
@@ -106,10 +106,10 @@ few zero [] o below = omega arith
 few zero (x ∷ xs) o below = absurd (let none : x < 0 = below x (inl refl) in omega arith)
 few (suc n) xs o below =
     let less : length (without n xs) ≤ n =
-        few n (without n xs) (once_without n xs o) (λ a h.
-          let bound : a < suc n = below a (has_without n xs a h) in
-          let other : a ≡ n → ⊥ = λ e. gone_without n xs o (subst (λ y. Has (without n xs) y) e h) in
-          omega arith) in
+    few n (without n xs) (once_without n xs o) (λ a h.
+    let bound : a < suc n = below a (has_without n xs a h) in
+    let other : a ≡ n → ⊥ = λ e. gone_without n xs o (subst (λ y. Has (without n xs) y) e h) in
+    omega arith) in
     let one : length xs ≤ length (without n xs) + 1 = length_without n xs in
     omega arith
 
@@ -141,6 +141,7 @@ map_more xs a r m no_address no_number small drawn =
     short_of_cases : (b : ℕ) → Has (addresses xs) b ⊎ (a ≡ b) → b < 64
     short_of_cases b (inl h) = m.short b h
     short_of_cases b (inr e) = subst (λ n. n < 64) e small
+
     drawn_of_cases : (q : ℕ) → Has (numbers xs) q ⊎ (r ≡ q) → q < MASK24
     drawn_of_cases q (inl h) = m.drawn q h
     drawn_of_cases q (inr e) = subst (λ n. n < MASK24) e drawn
@@ -170,6 +171,7 @@ pub pairs_decide : (p q : Assignment) → Decides (nat_eq p.0 q.0 && nat_eq p.1 
 pairs_decide p q = (λ e. both p q (let first : p.0 ≡ q.0 = grind (arith, nat_tests) in first) (let second : p.1 ≡ q.1 = grind (arith, nat_tests) in second), λ e. subst (λ r. (nat_eq p.0 r.0 && nat_eq p.1 r.1) ≡ true) e (self p)) where
   both : (p q : Assignment) → p.0 ≡ q.0 → p.1 ≡ q.1 → p ≡ q
   both p q first second = ap (λ a. (a, p.1)) first ∙ ap (λ r. (q.0, r)) second
+
   self : (p : Assignment) → (nat_eq p.0 p.0 && nat_eq p.1 p.1) ≡ true
   self p = grind (arith, nat_tests)
 
@@ -179,9 +181,9 @@ pub within_after : {E : Type 0} (b : Block) (old new : List Assignment) (a n : �
 within_after b old new a n (Err e) within here ok err c h = within c (subst (λ xs. HasAddress xs c) err h)
 within_after b old new a n (Ok u) within here ok err c h =
     go (has_cases (addresses old) a c (subst (λ xs. Has xs c) (map_append (λ p. p.0) old (a, n)) (subst (λ xs. HasAddress xs c) ok h))) where
-  go : Has (addresses old) c ⊎ (a ≡ c) → InBlock b c
-  go (inl k) = within c k
-  go (inr e) = subst (λ d. InBlock b d) e here
+      go : Has (addresses old) c ⊎ (a ≡ c) → InBlock b c
+      go (inl k) = within c k
+      go (inr e) = subst (λ d. InBlock b d) e here
 
 -- one more address of the block is reserved
 pub reserved_more : (b : Block) (xs : List Assignment) (n : ℕ) → ((c : ℕ) → b.first ≤ c → c < n → HasAddress xs c) → HasAddress xs n

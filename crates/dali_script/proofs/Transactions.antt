@@ -37,6 +37,7 @@ verified_named : (r : SearchAddress) (a : ℕ) → a < 64 → verified r a (Byte
 verified_named r a small = rw (short_of_code a small) (go (a == a) (self a)) where
   self : (n : ℕ) → (n == n) ≡ true
   self n = grind (arith, nat_tests)
+
   go : (t : Bool) → t ≡ true → (if t then Confirmed r a else Inconclusive r (Some a)) ≡ Confirmed r a
   go true e = refl
   go false e = cc
@@ -483,7 +484,7 @@ says_from b xs (e ∷ t) s f (step ∷ more) r found front tr k =
     let c : Command = command_of e.frame in
     let next = says_more b xs s (command_of e.frame) e.heard r found here k in
     let later_on = says_from b xs t (next_stage s (command_of e.frame) e.heard) f more (search_after (command_of e.frame) r) (later found (found_by r (command_of e.frame) e.heard))
-        front.2 (subst (λ d. Tracks b xs (next_stage s d e.heard) more) (sym front.0) rest) next in
+    front.2 (subst (λ d. Tracks b xs (next_stage s d e.heard) more) (sym front.0) rest) next in
     record {
       searched = later_on.searched;
       finding = later_later found (found_by r (command_of e.frame) e.heard) (finding_from (search_after (command_of e.frame) r) t) ∙ later_on.finding;

@@ -93,7 +93,8 @@ impl Kept {
         ensures { IsTrue result ↔ Fits self.now.block added.now }
     {
         match *added {
-            Record::Reserve(address, number) => self.has_in_block(address) && number < Random24::MASK,
+            Record::Reserve(address, number) => self.has_in_block(address)
+                && number < Random24::MASK,
             Record::Enrol(_, number) => number < Random24::MASK,
         }
     }
@@ -207,7 +208,11 @@ fn address_for(pairs: &[(Short, Random24)], number: Random24) -> Option<Short>
 }
 
 /// Adds a pair at the end, unless its address or its number is there.
-fn insert(pairs: &mut Vec<(Short, Random24)>, address: Short, number: Random24) -> Result<(), AddError>
+fn insert(
+    pairs: &mut Vec<(Short, Random24)>,
+    address: Short,
+    number: Random24,
+) -> Result<(), AddError>
     requires map { IsMap pairs.old.items }
     requires capacity { 64 ≤ vec_capacity pairs.old }
     requires drawn { number < MASK24 }

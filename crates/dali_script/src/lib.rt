@@ -17,6 +17,5 @@ pub use records::{AddError, MakeError, Record};
 pub use stage::Stage;
 pub use trace::{Entry, Trace};
 
-
 #[cfg(test)]
 mod tests;

@@ -113,7 +113,10 @@ impl Stage {
         ensures { result ≡ follows kept.now.block kept.now.reserved self command }
     {
         match self {
-            Stage::Free => matches!(command, Command::Terminate | Command::SearchHigh(_) | Command::Arc(_)),
+            Stage::Free => matches!(
+                command,
+                Command::Terminate | Command::SearchHigh(_) | Command::Arc(_)
+            ),
             Stage::Terminated | Stage::InitialisedOnce => is_initialise(command),
             Stage::Initialised | Stage::RandomisedOnce => command == Command::Randomise,
             Stage::HighSent(_) => matches!(command, Command::SearchMiddle(_)),
@@ -121,7 +124,10 @@ impl Stage {
             Stage::NumberSent(_) => matches!(command, Command::Compare | Command::QueryShort),
             Stage::Found(..) => command == Command::Withdraw,
             Stage::Unnamed(number) => match command {
-                Command::Program(short) => short.is_some_and(|short| kept.may_give(number.value(), short)),
+                Command::Program(short) => short.is_some_and(|short| kept.may_give(
+                    number.value(),
+                    short,
+                )),
                 _ => false,
             },
             Stage::Programmed(number, short) => {
@@ -169,13 +175,13 @@ impl Stage {
     fn queried(number: SearchAddress, heard: Answer) -> Stage
         ensures { result ≡ queried number heard }
     {
-        let Answer::Byte(byte) = heard else {
-            return Stage::Inconclusive(number, None);
-        };
-        match Short::read(byte) {
-            Some(short) => Stage::Found(number, short),
-            None if byte == 0xFF => Stage::Unnamed(number),
-            None => Stage::Inconclusive(number, None),
+        match heard {
+            Answer::Byte(byte) => match Short::read(byte) {
+                Some(short) => Stage::Found(number, short),
+                None if byte == 0xFF => Stage::Unnamed(number),
+                None => Stage::Inconclusive(number, None),
+            },
+            Answer::Silence | Answer::Damaged => Stage::Inconclusive(number, None),
         }
     }
 
@@ -183,10 +189,11 @@ impl Stage {
     fn verified(number: SearchAddress, given: Short, heard: Answer) -> Stage
         ensures { result ≡ verified number given heard }
     {
-        let Answer::Byte(byte) = heard else {
-            return Stage::Inconclusive(number, None);
+        let named = match heard {
+            Answer::Byte(byte) => Short::read(byte),
+            _ => None,
         };
-        match Short::read(byte) {
+        match named {
             Some(short) if short == given => Stage::Confirmed(number, given),
             other => Stage::Inconclusive(number, other),
         }

@@ -36,7 +36,7 @@ returns c =
     let none : HasAddress c.args.pairs.now.items c.args.address → ⊥ = rw c.deref.ensures.value at (has_not_by_test (λ p. p.0) c.deref.result.now c.args.address (sym c.if-has_address.ensures.value)) in
     let fresh : HasNumber c.args.pairs.now.items c.args.number → ⊥ = rw c.deref-2.ensures.value at (has_not_by_test (λ p. p.1) c.deref-2.result.now c.args.number (sym c.if-has_number.ensures)) in
     let more : IsMap (c.args.pairs.now.items ++ (c.args.address, c.args.number) ∷ []) =
-        map_more c.args.pairs.now.items c.args.address c.args.number c.requires.map none fresh c.has_address.ensures.range c.requires.drawn in
+    map_more c.args.pairs.now.items c.args.address c.args.number c.requires.map none fresh c.has_address.ensures.range c.requires.drawn in
     let room : length c.args.pairs.now.items < 64 = room_before c.args.pairs.now.items (c.args.address, c.args.number) more in
     let capacity = c.requires.capacity in
     let pushed = c.push.ensures.succeeds (omega arith) in

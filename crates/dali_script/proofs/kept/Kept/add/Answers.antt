@@ -3,8 +3,7 @@ use Rattle.dali_script.proofs.kept.Kept.add.Goals as goal
 
 pub invariant_of-self : goal.invariant_of-self
 invariant_of-self c =
-    let fits = rw (← c.self.view_is, c.in-Reserve.is) at c.requires in
-    (
+    let fits = rw (← c.self.view_is, c.in-Reserve.is) at c.requires in (
       record {
         reserved = c.insert.ensures.map;
         enrolled = c.self.invariant.0.enrolled;

@@ -9,8 +9,7 @@ returns-clause-lawful c =
     let k = c.args.kept.now in
     let t = c.args.self.now in
     let f = c.args.frame in
-    let answer : c.allows.result ≡ follows k.block k.reserved (stage_of t) (command_of f) = cc in
-    (
+    let answer : c.allows.result ≡ follows k.block k.reserved (stage_of t) (command_of f) = cc in (
       λ e. lawful_follows k.block k.reserved t f (follows_from_test k.block k.reserved (stage_of t) (command_of f) (sym answer ∙ e)),
       λ lawful. answer ∙ follows_test k.block k.reserved (stage_of t) (command_of f) (follows_lawful k.block k.reserved t f lawful),
     )
