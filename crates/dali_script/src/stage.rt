@@ -47,7 +47,7 @@ pub enum Stage {
 
 impl Stage {
     ghost use Rattle.std.specs.Prelude.{if◌then◌else◌};
-    ghost use Rattle.dali_script.specs.Stages.{next_stage, programmed, queried, verified, follows, may_follow, finding_at};
+    ghost use Rattle.dali_script.specs.Stages.{next_stage, programmed, queried, verified, follows, may_program, may_follow, finding_at};
 
     /// The stage after one more frame.
     pub(crate) fn next(self, command: Command, heard: Answer) -> Stage
@@ -124,10 +124,7 @@ impl Stage {
             Stage::NumberSent(_) => matches!(command, Command::Compare | Command::QueryShort),
             Stage::Found(..) => command == Command::Withdraw,
             Stage::Unnamed(number) => match command {
-                Command::Program(short) => short.is_some_and(|short| kept.may_give(
-                    number.value(),
-                    short,
-                )),
+                Command::Program(short) => Stage::may_program(kept, number, short),
                 _ => false,
             },
             Stage::Programmed(number, short) => {
@@ -137,6 +134,16 @@ impl Stage {
                 command == Command::Withdraw && kept.may_give(number.value(), short)
             }
             _ => false,
+        }
+    }
+
+    /// Whether PROGRAM SHORT ADDRESS with this data may come next, where the gear at this number has no address.
+    fn may_program(kept: &Kept, number: SearchAddress, short: Option<Short>) -> bool
+        ensures { result ≡ may_program kept.now.block kept.now.reserved number short }
+    {
+        match short {
+            Some(short) => kept.may_give(number.value(), short),
+            None => false,
         }
     }
 
@@ -191,7 +198,7 @@ impl Stage {
     {
         let named = match heard {
             Answer::Byte(byte) => Short::read(byte),
-            _ => None,
+            Answer::Silence | Answer::Damaged => None,
         };
         match named {
             Some(short) if short == given => Stage::Confirmed(number, given),
