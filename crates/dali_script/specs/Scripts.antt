@@ -83,6 +83,10 @@ Lawful b reserved t f = (s : Script) × MaySend b reserved s × IsFront t f (ste
 abbrev pub IsLawful : List Entry → Forward → Type 0
 IsLawful t f = (b : Block) × (reserved : List Assignment) × Lawful b reserved t f
 
+-- A first frame: one that may begin a transaction.
+abbrev pub IsFirst : Forward → Type 0
+IsFirst f = IsLawful [] f
+
 -- COMPLETE: no frame may follow.
 abbrev pub IsComplete : Block → List Assignment → List Entry → Type 0
 IsComplete b reserved t = (f : Forward) → Lawful b reserved t f → ⊥

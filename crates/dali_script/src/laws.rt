@@ -16,7 +16,7 @@ ghost use Rattle.dali_script.specs.declared.trace.Entry.{Entry};
 ghost use Rattle.dali_script.specs.declared.stage.Stage.{Stage};
 ghost use Rattle.dali_script.specs.declared.stage.Stage.TheVariants.{Free, Terminated, InitialisedOnce, Initialised, RandomisedOnce, NumberSent, Found, Unnamed, Programmed, Confirmed};
 ghost use Rattle.dali_script.specs.Records.{Assignment, HasAddress};
-ghost use Rattle.dali_script.specs.Scripts.{Lawful, MayGive, IsComplete, GoesOn};
+ghost use Rattle.dali_script.specs.Scripts.{Lawful, IsFirst, MayGive, IsComplete, GoesOn};
 ghost use Rattle.dali_script.specs.Findings.{search_after, searched, found_by, later, finding_of};
 ghost use Rattle.dali_script.specs.Stages.{Follows, follows, may_follow, next_stage, stage_of, finding_at, IsSearched};
 
@@ -46,7 +46,8 @@ pub fn stages_say_what_was_sent_and_found()
 
 /// A transaction begins with TERMINATE, SEARCHADDRH or direct arc power, and none of these comes later in one.
 pub fn transactions_begin_once()
-    ensures begins { (b : Block) (xs : List Assignment) (f : Forward) → Lawful b xs [] f
+    ensures begins { (b : Block) (xs : List Assignment) (f : Forward) → Lawful b xs [] f ↔ IsFirst f }
+    ensures first { (f : Forward) → IsFirst f
         ↔ ((command_of f ≡ Terminate) ⊎ (((high : ℕ) × (command_of f ≡ SearchHigh high)) ⊎ ((g : Forward) × (command_of f ≡ Arc g)))) }
     ensures terminate { (b : Block) (xs : List Assignment) (t : List Entry) (f : Forward) → Lawful b xs t f → command_of f ≡ Terminate → t ≡ [] }
     ensures search_high { (b : Block) (xs : List Assignment) (t : List Entry) (f : Forward) (high : ℕ) → Lawful b xs t f → command_of f ≡ SearchHigh high → t ≡ [] }
