@@ -1,0 +1,194 @@
+use Rattle.std.proofs.Common.{◌≡◌, ℕ, ◌+◌, ◌<◌, ◌≤◌, ◌⊎◌, inl, inr, Bool, true, false, List, [], ◌∷◌, ◌++◌, refl, sym, ap, subst, ◌∙◌, arith, length, length-append, map, get_or, drop, drop-cons, add-one, nat_eq, Decides, Result, Ok, Err}
+use Rattle.std.specs.Prelude.{◌==◌, ◌||◌, ◌&&◌, OnOk, OnErr, if◌then◌else◌, zero, suc}
+use Rattle.std.specs.List.{list_any}
+use Rattle.std.proofs.lemmas.Bool.Decides.{nat_tests}
+use Rattle.dali_script.specs.declared.block.Block.{Block}
+use Rattle.dali_script.specs.Records.{Assignment, Has, IsOnce, addresses, numbers, HasAddress, HasNumber, InBlock, IsMap, MASK24}
+
+-- a test over a list finds what stands in it
+pub has_by_test : (key : Assignment → ℕ) (xs : List Assignment) (a : ℕ) → list_any (λ p. key p == a) xs ≡ true → Has (map key xs) a
+has_by_test key [] a e = absurd (cc)
+has_by_test key (p ∷ xs) a e = go (key p == a) refl e (has_by_test key xs a) where
+  go : (b : Bool) → (key p == a) ≡ b → (b || list_any (λ q. key q == a) xs) ≡ true → (list_any (λ q. key q == a) xs ≡ true → Has (map key xs) a)
+      → Has (map key (p ∷ xs)) a
+  go true is e' later = inl (let same : key p ≡ a = grind (arith, nat_tests) in same)
+  go false is e' later = inr (later e')
+
+pub has_not_by_test : (key : Assignment → ℕ) (xs : List Assignment) (a : ℕ) → list_any (λ p. key p == a) xs ≡ false → Has (map key xs) a → ⊥
+has_not_by_test key [] a e h = h
+has_not_by_test key (p ∷ xs) a e h = go (key p == a) refl e (has_not_by_test key xs a) h where
+  go : (b : Bool) → (key p == a) ≡ b → (b || list_any (λ q. key q == a) xs) ≡ false → (list_any (λ q. key q == a) xs ≡ false → Has (map key xs) a → ⊥)
+      → Has (map key (p ∷ xs)) a → ⊥
+  go true is e' later h' = cc
+  go false is e' later (inl same) = grind (arith, nat_tests)
+  go false is e' later (inr more) = later e' more
+
+-- membership and an append
+pub has_front : {A : Type 0} (xs ys : List A) (x : A) → Has xs x → Has (xs ++ ys) x
+has_front [] ys x h = elim h [ ]
+has_front (y ∷ xs) ys x (inl e) = inl e
+has_front (y ∷ xs) ys x (inr h) = inr (has_front xs ys x h)
+
+pub has_last : {A : Type 0} (xs : List A) (x : A) → Has (xs ++ x ∷ []) x
+has_last [] x = inl refl
+has_last (y ∷ xs) x = inr (has_last xs x)
+
+pub has_cases : {A : Type 0} (xs : List A) (y x : A) → Has (xs ++ y ∷ []) x → Has xs x ⊎ (y ≡ x)
+has_cases [] y x (inl e) = inr e
+has_cases [] y x (inr h) = elim h [ ]
+has_cases (z ∷ xs) y x (inl e) = inl (inl e)
+has_cases (z ∷ xs) y x (inr h) = go (has_cases xs y x h) where
+  go : Has xs x ⊎ (y ≡ x) → Has (z ∷ xs) x ⊎ (y ≡ x)
+  go (inl k) = inl (inr k)
+  go (inr e) = inr e
+
+pub once_more : (xs : List ℕ) (x : ℕ) → IsOnce xs → (Has xs x → ⊥) → IsOnce (xs ++ x ∷ [])
+once_more [] x o fresh = (λ h. h, tt)
+once_more (y ∷ xs) x o fresh =
+    (λ h. go (has_cases xs x y h), once_more xs x o.1 (λ h. fresh (inr h))) where
+      go : Has xs y ⊎ (x ≡ y) → ⊥
+      go (inl h) = o.0 h
+      go (inr e) = fresh (inl (sym e))
+
+pub has_at : {A : Type 0} (xs : List A) (i : ℕ) (d : A) → i < length xs → Has xs (get_or xs i d)
+has_at [] i d h = absurd (omega arith)
+has_at (x ∷ xs) zero d h = inl refl
+has_at (x ∷ xs) (suc i) d h = inr (has_at xs i d (omega arith))
+
+pub has_map : {A B : Type 0} (f : A → B) (xs : List A) (x : A) → Has xs x → Has (map f xs) (f x)
+has_map f [] x h = elim h [ ]
+has_map f (y ∷ xs) x (inl e) = inl (ap f e)
+has_map f (y ∷ xs) x (inr h) = inr (has_map f xs x h)
+
+-- as many different numbers below n as n at most
+without : ℕ → List ℕ → List ℕ
+without n [] = []
+without n (x ∷ xs) = if x == n then xs else x ∷ without n xs
+
+has_without : (n : ℕ) (xs : List ℕ) (y : ℕ) → Has (without n xs) y → Has xs y
+unfolding without
+has_without n [] y h = h
+has_without n (x ∷ xs) y h = go (x == n) h (has_without n xs y) where
+  go : (b : Bool) → Has (if b then xs else x ∷ without n xs) y → (Has (without n xs) y → Has xs y) → Has (x ∷ xs) y
+  go true h' later = inr h'
+  go false (inl e) later = inl e
+  go false (inr h') later = inr (later h')
+
+once_without : (n : ℕ) (xs : List ℕ) → IsOnce xs → IsOnce (without n xs)
+unfolding without
+once_without n [] o = tt
+once_without n (x ∷ xs) o = go (x == n) (once_without n xs o.1) where
+  go : (b : Bool) → IsOnce (without n xs) → IsOnce (if b then xs else x ∷ without n xs)
+  go true later = o.1
+  go false later = (λ h. o.0 (has_without n xs x h), later)
+
+gone_without : (n : ℕ) (xs : List ℕ) → IsOnce xs → Has (without n xs) n → ⊥
+unfolding without
+gone_without n [] o h = h
+gone_without n (x ∷ xs) o h = go (x == n) refl h (gone_without n xs o.1) where
+  go : (b : Bool) → (x == n) ≡ b → Has (if b then xs else x ∷ without n xs) n → (Has (without n xs) n → ⊥) → ⊥
+  go true is h' later =
+      let same : n ≡ x = grind (arith, nat_tests) in
+      o.0 (subst (λ y. Has xs y) same h')
+  go false is (inl e) later = grind (arith, nat_tests)
+  go false is (inr h') later = later h'
+
+length_without : (n : ℕ) (xs : List ℕ) → length xs ≤ length (without n xs) + 1
+unfolding without
+length_without n [] = omega arith
+length_without n (x ∷ xs) = go (x == n) (length_without n xs) where
+  go : (b : Bool) → length xs ≤ length (without n xs) + 1 → length (x ∷ xs) ≤ length (if b then xs else x ∷ without n xs) + 1
+  go true later = omega arith
+  go false later = omega arith
+
+pub few : (n : ℕ) (xs : List ℕ) → IsOnce xs → ((a : ℕ) → Has xs a → a < n) → length xs ≤ n
+few zero [] o below = omega arith
+few zero (x ∷ xs) o below = absurd (let none : x < 0 = below x (inl refl) in omega arith)
+few (suc n) xs o below =
+    let less : length (without n xs) ≤ n =
+    few n (without n xs) (once_without n xs o) (λ a h.
+    let bound : a < suc n = below a (has_without n xs a h) in
+    let other : a ≡ n → ⊥ = λ e. gone_without n xs o (subst (λ y. Has (without n xs) y) e h) in
+    omega arith) in
+    let one : length xs ≤ length (without n xs) + 1 = length_without n xs in
+    omega arith
+
+pub map_append : {A B : Type 0} (f : A → B) (xs : List A) (y : A) → map f (xs ++ y ∷ []) ≡ map f xs ++ f y ∷ []
+map_append f [] y = refl
+map_append f (x ∷ xs) y = ap (λ zs. f x ∷ zs) (map_append f xs y)
+
+pub length_map : {A B : Type 0} (f : A → B) (xs : List A) → length (map f xs) ≡ length xs
+length_map f [] = refl
+length_map f (x ∷ xs) = ap suc (length_map f xs)
+
+-- a map with one more pair
+pub map_more : (xs : List Assignment) (a r : ℕ) → IsMap xs → (HasAddress xs a → ⊥) → (HasNumber xs r → ⊥) → a < 64 → r < MASK24 → IsMap (xs ++ (a, r) ∷ [])
+map_more xs a r m no_address no_number small drawn =
+    let there : addresses (xs ++ (a, r) ∷ []) ≡ addresses xs ++ a ∷ [] = map_append (λ p. p.0) xs (a, r) in
+    let of : numbers (xs ++ (a, r) ∷ []) ≡ numbers xs ++ r ∷ [] = map_append (λ p. p.1) xs (a, r) in
+    let once : IsOnce (addresses (xs ++ (a, r) ∷ [])) = subst IsOnce (sym there) (once_more (addresses xs) a m.address_once no_address) in
+    let short : (b : ℕ) → HasAddress (xs ++ (a, r) ∷ []) b → b < 64 = λ b h. short_of_cases b (has_cases (addresses xs) a b (subst (λ ys. Has ys b) there h)) in
+    record {
+      address_once = once;
+      number_once = subst IsOnce (sym of) (once_more (numbers xs) r m.number_once no_number);
+      short = short;
+      drawn = λ q h. drawn_of_cases q (has_cases (numbers xs) r q (subst (λ ys. Has ys q) of h));
+      room =
+          let few_addresses : length (addresses (xs ++ (a, r) ∷ [])) ≤ 64 = few 64 (addresses (xs ++ (a, r) ∷ [])) once short in
+          subst (λ n. n ≤ 64) (length_map (λ p. p.0) (xs ++ (a, r) ∷ [])) few_addresses;
+    }
+  where
+    short_of_cases : (b : ℕ) → Has (addresses xs) b ⊎ (a ≡ b) → b < 64
+    short_of_cases b (inl h) = m.short b h
+    short_of_cases b (inr e) = subst (λ n. n < 64) e small
+
+    drawn_of_cases : (q : ℕ) → Has (numbers xs) q ⊎ (r ≡ q) → q < MASK24
+    drawn_of_cases q (inl h) = m.drawn q h
+    drawn_of_cases q (inr e) = subst (λ n. n < MASK24) e drawn
+
+-- so there is room for it
+pub room_before : (xs : List Assignment) (p : Assignment) → IsMap (xs ++ p ∷ []) → length xs < 64
+room_before xs p m =
+    let more : length (xs ++ p ∷ []) ≡ length xs + 1 = length_more xs p in
+    let room : length (xs ++ p ∷ []) ≤ 64 = m.room in
+    omega arith
+  where
+    length_more : (ys : List Assignment) (q : Assignment) → length (ys ++ q ∷ []) ≡ length ys + 1
+    length_more ys q = simp (length-append)
+
+-- the rest of a list, past a pair with another number
+pub number_later : (xs : List Assignment) (i n : ℕ) (d : Assignment) → i < length xs → ((get_or xs i d).1 ≡ n → ⊥) → HasNumber (drop i xs) n → HasNumber (drop (i + 1) xs) n
+number_later xs i n d h other has = go (subst (λ ys. HasNumber ys n) (drop-cons xs i d h) has) where
+  go : HasNumber (get_or xs i d ∷ drop (suc i) xs) n → HasNumber (drop (i + 1) xs) n
+  go (inl e) = absurd (other e)
+  go (inr more) = rw add-one more
+
+pub pair_here : (xs : List Assignment) (i n : ℕ) (p : Assignment) → i < length xs → p ≡ get_or xs i p → p.1 ≡ n → Has xs (p.0, n)
+pair_here xs i n p h is same = subst (λ m. Has xs (p.0, m)) same (subst (λ q. Has xs q) (sym is) (has_at xs i p h))
+
+-- two pairs are equal where their parts are
+pub pairs_decide : (p q : Assignment) → Decides (nat_eq p.0 q.0 && nat_eq p.1 q.1) (p ≡ q)
+pairs_decide p q = (λ e. both p q (let first : p.0 ≡ q.0 = grind (arith, nat_tests) in first) (let second : p.1 ≡ q.1 = grind (arith, nat_tests) in second), λ e. subst (λ r. (nat_eq p.0 r.0 && nat_eq p.1 r.1) ≡ true) e (self p)) where
+  both : (p q : Assignment) → p.0 ≡ q.0 → p.1 ≡ q.1 → p ≡ q
+  both p q first second = ap (λ a. (a, p.1)) first ∙ ap (λ r. (q.0, r)) second
+
+  self : (p : Assignment) → (nat_eq p.0 p.0 && nat_eq p.1 p.1) ≡ true
+  self p = grind (arith, nat_tests)
+
+-- what holds of a list's addresses and of one more, whether it was added or not
+pub within_after : {E : Type 0} (b : Block) (old new : List Assignment) (a n : ℕ) (r : Result (Unit {0}) E) → ((c : ℕ) → HasAddress old c → InBlock b c) → InBlock b a
+    → OnOk r (new ≡ old ++ (a, n) ∷ []) → OnErr r (new ≡ old) → (c : ℕ) → HasAddress new c → InBlock b c
+within_after b old new a n (Err e) within here ok err c h = within c (subst (λ xs. HasAddress xs c) err h)
+within_after b old new a n (Ok u) within here ok err c h =
+    go (has_cases (addresses old) a c (subst (λ xs. Has xs c) (map_append (λ p. p.0) old (a, n)) (subst (λ xs. HasAddress xs c) ok h))) where
+      go : Has (addresses old) c ⊎ (a ≡ c) → InBlock b c
+      go (inl k) = within c k
+      go (inr e) = subst (λ d. InBlock b d) e here
+
+-- one more address of the block is reserved
+pub reserved_more : (b : Block) (xs : List Assignment) (n : ℕ) → ((c : ℕ) → b.first ≤ c → c < n → HasAddress xs c) → HasAddress xs n
+    → (c : ℕ) → b.first ≤ c → c < n + 1 → HasAddress xs c
+reserved_more b xs n below here c low high = go (nat_eq c n) refl where
+  go : (t : Bool) → nat_eq c n ≡ t → HasAddress xs c
+  go true is = let same : n ≡ c = grind (arith, nat_tests) in subst (λ d. HasAddress xs d) same here
+  go false is = below c low (grind (arith, nat_tests))

@@ -1,0 +1,664 @@
+use Rattle.std.proofs.Common.{◌≡◌, ◌⊎◌, inl, inr, ℕ, ◌<◌, ◌≤◌, Bool, true, false, List, [], ◌∷◌, ◌++◌, refl, sym, ap, subst, ◌∙◌, arith, length, lit<, lit≤, Option, Some, None}
+use Rattle.std.specs.Prelude.{◌==◌, if◌then◌else◌, option_map}
+use Rattle.std.proofs.lemmas.Bool.Decides.{nat_tests}
+use Rattle.dali_frame.specs.declared.frames.Forward.{Forward}
+use Rattle.dali_frame.specs.declared.frames.Answer.{Answer}
+use Rattle.dali_frame.specs.declared.frames.Answer.TheVariants.{Silence, Byte, Damaged}
+use Rattle.dali_frame.specs.declared.numbers.SearchAddress.{SearchAddress}
+use Rattle.dali_frame.specs.Short.{code_of, short_of}
+use Rattle.dali_frame.specs.Random.{value_of}
+use Rattle.dali_special.specs.declared.command.Target.TheVariants.{Unaddressed}
+use Rattle.dali_special.specs.declared.command.Target.{Target}
+use Rattle.dali_special.specs.declared.command.Command.{Command}
+use Rattle.dali_special.specs.declared.command.Command.TheVariants.{Terminate, Initialise, Randomise, Compare, Withdraw, SearchHigh, SearchMiddle, SearchLow, Program, QueryShort, Arc}
+use Rattle.dali_special.specs.Command.{MASK, command_of, frame_of, IsSpelled}
+use Rattle.dali_special.proofs.Table.{short_of_code, short_small, read_spelled, read_written}
+use Rattle.dali_script.specs.declared.block.Block.{Block}
+use Rattle.dali_script.specs.declared.trace.Entry.{Entry}
+use Rattle.dali_script.specs.declared.stage.Stage.{Stage}
+use Rattle.dali_script.specs.declared.stage.Stage.TheVariants.{Free, Terminated, InitialisedOnce, Initialised, RandomisedOnce, Opened, HighSent, MiddleSent, NumberSent, Probed, Found, Unnamed, Inconclusive, Programmed, Confirmed, Withdrawn, Over}
+use Rattle.dali_script.specs.Records.{Assignment, HasAddress}
+use Rattle.dali_script.specs.Scripts.{no_address, some_address, address, IsHeard, Step, sends, queries, search_at, Script, Open, Probe, Look, Give, Close, ArcPower, steps, MayGive, MaySend, IsFront, Lawful, IsLawful, IsComplete, IsFrame, GoesOn}
+use Rattle.dali_script.specs.Findings.{search_after, at_power_on, searched_from, searched, found_by, later, finding_from, finding_of}
+use Rattle.dali_script.proofs.Lists.{has_map}
+use Rattle.dali_script.proofs.Giving.{may_give_by, may_give_from, may_give_some_by, may_give_some_from}
+use Rattle.dali_script.specs.Stages.{follows, may_follow, named, queried, answered, verified, next_stage, stage_from, stage_of, Follows, begins_opening, begins_search, begins_arc, initialises_once, initialises, randomises_once, randomises, sets_middle, sets_low, compares, queries_number, withdraws_found, programs, queries_given, withdraws_given, finding_at, IsSearched, IsTrace}
+
+-- LAWFUL FRAMES FOLLOW. From a stage on, steps keep to what may come next.
+Tracks : Block → List Assignment → Stage → List Step → Type 0
+Tracks b xs s [] = Unit {0}
+Tracks b xs s (step ∷ more) =
+    Follows b xs s step.command × (IsSpelled step.command → (h : Answer) → IsHeard step.wanted h → Tracks b xs (next_stage s step.command h) more)
+
+queried_named : (r : SearchAddress) (c : ℕ) → c < 64 → queried r (Byte (code_of c)) ≡ Found r c
+queried_named r c small = rw (short_of_code c small) refl
+
+verified_named : (r : SearchAddress) (a : ℕ) → a < 64 → verified r a (Byte (code_of a)) ≡ Confirmed r a
+verified_named r a small = rw (short_of_code a small) (go (a == a) (self a)) where
+  self : (n : ℕ) → (n == n) ≡ true
+  self n = grind (arith, nat_tests)
+
+  go : (t : Bool) → t ≡ true → (if t then Confirmed r a else Inconclusive r (Some a)) ≡ Confirmed r a
+  go true e = refl
+  go false e = cc
+
+tracks_look : (b : Block) (xs : List Assignment) (r : SearchAddress) (h : Answer) → IsHeard some_address h → Tracks b xs (queried r h) (sends Withdraw ∷ [])
+unfolding Tracks
+tracks_look b xs r h heard =
+    let there : queried r h ≡ Found r heard.0 = ap (λ x. queried r x) heard.2 ∙ queried_named r heard.0 heard.1 in
+    subst (λ s. Tracks b xs s (sends Withdraw ∷ [])) (sym there) (withdraws_found r heard.0, λ spelled x y. tt)
+
+tracks_verify : (b : Block) (xs : List Assignment) (r : SearchAddress) (a : ℕ) → MayGive b xs r a → a < 64 → (h : Answer) → IsHeard (address a) h
+    → Tracks b xs (verified r a h) (sends Withdraw ∷ [])
+unfolding Tracks
+tracks_verify b xs r a may small h heard =
+    let there : verified r a h ≡ Confirmed r a = ap (λ x. verified r a x) heard ∙ verified_named r a small in
+    subst (λ s. Tracks b xs s (sends Withdraw ∷ [])) (sym there) (withdraws_given r a may, λ spelled x y. tt)
+
+tracks_give : (b : Block) (xs : List Assignment) (r : SearchAddress) (a : ℕ) → MayGive b xs r a → (h : Answer) → IsHeard no_address h
+    → Tracks b xs (queried r h) (sends (Program (Some a)) ∷ queries (address a) ∷ sends Withdraw ∷ [])
+unfolding Tracks
+tracks_give b xs r a may h heard =
+    let there : queried r h ≡ Unnamed r = ap (λ x. queried r x) heard in
+    subst (λ s. Tracks b xs s (sends (Program (Some a)) ∷ queries (address a) ∷ sends Withdraw ∷ [])) (sym there)
+    (programs r a may, λ small x y. (queries_given r a may, λ spelled z w. tracks_verify b xs r a may small z w))
+
+tracks : (b : Block) (xs : List Assignment) (s : Script) → MaySend b xs s → Tracks b xs Free (steps s)
+unfolding Tracks
+tracks b xs Open may =
+    (begins_opening, λ a h w. (initialises_once, λ a h w. (initialises, λ a h w. (randomises_once, λ a h w. (randomises, λ a h w. tt)))))
+tracks b xs (Probe r) may =
+    (begins_search r.high, λ a h w. (sets_middle r.high r.middle, λ a h w. (sets_low r.high r.middle r.low, λ a h w. (compares r, λ a h w. tt))))
+tracks b xs (Look r) may =
+    (begins_search r.high, λ a h w. (sets_middle r.high r.middle, λ a h w. (sets_low r.high r.middle r.low, λ a h w. (queries_number r, λ a h w. tracks_look b xs r h w))))
+tracks b xs (Give r n) may =
+    (begins_search r.high, λ a h w. (sets_middle r.high r.middle, λ a h w. (sets_low r.high r.middle r.low, λ a h w. (queries_number r, λ a h w. tracks_give b xs r n may h w))))
+tracks b xs Close may = (begins_opening, λ a h w. tt)
+tracks b xs (ArcPower f) may = (begins_arc f, λ a h w. tt)
+
+follows_from : (b : Block) (xs : List Assignment) (t : List Entry) (s : Stage) (f : Forward) (ss : List Step) → IsFront t f ss → Tracks b xs s ss
+    → Follows b xs (stage_from s t) (command_of f)
+unfolding Tracks
+follows_from b xs [] s f [] front tr = absurd front
+follows_from b xs (e ∷ t) s f [] front tr = absurd front
+follows_from b xs [] s f (step ∷ more) front tr = subst (λ c. Follows b xs s c) (sym front) tr.0
+follows_from b xs (e ∷ t) s f (step ∷ more) front tr =
+    let spelled : IsSpelled step.command = subst IsSpelled front.0 (read_spelled e.frame) in
+    let rest : Tracks b xs (next_stage s step.command e.heard) more = tr.1 spelled e.heard front.1 in
+    follows_from b xs t (next_stage s (command_of e.frame) e.heard) f more front.2 (subst (λ c. Tracks b xs (next_stage s c e.heard) more) (sym front.0) rest)
+
+-- a frame that may follow a trace follows at its stage
+pub follows_lawful : (b : Block) (xs : List Assignment) (t : List Entry) (f : Forward) → Lawful b xs t f → Follows b xs (stage_of t) (command_of f)
+unfolding stage_of
+follows_lawful b xs t f lawful = follows_from b xs t Free f (steps lawful.0) lawful.2 (tracks b xs lawful.0 lawful.1)
+
+-- FRAMES THAT FOLLOW ARE LAWFUL. What may be left of a script once its search address was sent, and at each stage.
+data Tail (b : Block) (xs : List Assignment) (r : SearchAddress) : List Step → Type 0 where
+  probing : Tail b xs r (sends Compare ∷ [])
+  looking : Tail b xs r (queries some_address ∷ sends Withdraw ∷ [])
+  giving : (a : ℕ) → MayGive b xs r a → Tail b xs r (queries no_address ∷ sends (Program (Some a)) ∷ queries (address a) ∷ sends Withdraw ∷ [])
+
+data Rest (b : Block) (xs : List Assignment) : Stage → List Step → Type 0 where
+  at_free : (s : Script) → MaySend b xs s → Rest b xs Free (steps s)
+  at_terminated : Rest b xs Terminated (sends (Initialise Unaddressed) ∷ sends (Initialise Unaddressed) ∷ sends Randomise ∷ sends Randomise ∷ [])
+  at_initialised_once : Rest b xs InitialisedOnce (sends (Initialise Unaddressed) ∷ sends Randomise ∷ sends Randomise ∷ [])
+  at_initialised : Rest b xs Initialised (sends Randomise ∷ sends Randomise ∷ [])
+  at_randomised_once : Rest b xs RandomisedOnce (sends Randomise ∷ [])
+  at_high : (high middle low : ℕ) (ss : List Step) → Tail b xs (record { high = high; middle = middle; low = low }) ss → Rest b xs (HighSent high) (sends (SearchMiddle middle) ∷ sends (SearchLow low) ∷ ss)
+  at_middle : (high middle low : ℕ) (ss : List Step) → Tail b xs (record { high = high; middle = middle; low = low }) ss → Rest b xs (MiddleSent high middle) (sends (SearchLow low) ∷ ss)
+  at_number : (r : SearchAddress) (ss : List Step) → Tail b xs r ss → Rest b xs (NumberSent r) ss
+  at_found : (r : SearchAddress) (c : ℕ) → Rest b xs (Found r c) (sends Withdraw ∷ [])
+  at_unnamed : (r : SearchAddress) (a : ℕ) → MayGive b xs r a → Rest b xs (Unnamed r) (sends (Program (Some a)) ∷ queries (address a) ∷ sends Withdraw ∷ [])
+  at_programmed : (r : SearchAddress) (a : ℕ) → MayGive b xs r a → Rest b xs (Programmed r a) (queries (address a) ∷ sends Withdraw ∷ [])
+  at_confirmed : (r : SearchAddress) (a : ℕ) → MayGive b xs r a → Rest b xs (Confirmed r a) (sends Withdraw ∷ [])
+
+-- a step of a script that is left at a stage, before the rest
+abbrev Before : Block → List Assignment → Stage → Command → Answer → List Step → Type 0
+Before b xs s c h ss = (step : Step) × (c ≡ step.command) × IsHeard step.wanted h × Rest b xs s (step ∷ ss)
+
+before_terminated : (b : Block) (xs : List Assignment) (h : Answer) (ss : List Step) → Rest b xs Terminated ss → Before b xs Free Terminate h ss
+before_terminated b xs h _ at_terminated = (sends Terminate, refl, tt, at_free Open tt)
+
+before_initialised_once : (b : Block) (xs : List Assignment) (h : Answer) (ss : List Step) → Rest b xs InitialisedOnce ss → Before b xs Terminated (Initialise Unaddressed) h ss
+before_initialised_once b xs h _ at_initialised_once = (sends (Initialise Unaddressed), refl, tt, at_terminated)
+
+before_initialised : (b : Block) (xs : List Assignment) (h : Answer) (ss : List Step) → Rest b xs Initialised ss → Before b xs InitialisedOnce (Initialise Unaddressed) h ss
+before_initialised b xs h _ at_initialised = (sends (Initialise Unaddressed), refl, tt, at_initialised_once)
+
+before_randomised_once : (b : Block) (xs : List Assignment) (h : Answer) (ss : List Step) → Rest b xs RandomisedOnce ss → Before b xs Initialised Randomise h ss
+before_randomised_once b xs h _ at_randomised_once = (sends Randomise, refl, tt, at_initialised)
+
+before_opened : (b : Block) (xs : List Assignment) (h : Answer) (ss : List Step) → Rest b xs Opened ss → Before b xs RandomisedOnce Randomise h ss
+before_opened b xs h ss r = elim r [ ]
+
+nothing_over : (b : Block) (xs : List Assignment) (ss : List Step) → Rest b xs Over ss → ⊥
+nothing_over b xs ss r = elim r [ ]
+
+nothing_inconclusive : (b : Block) (xs : List Assignment) (r : SearchAddress) (o : Option ℕ) (ss : List Step) → Rest b xs (Inconclusive r o) ss → ⊥
+nothing_inconclusive b xs r o ss k = elim k [ ]
+
+whole : (b : Block) (xs : List Assignment) (r : SearchAddress) (ss : List Step) → Tail b xs r ss → Rest b xs Free (search_at r ss)
+whole b xs r _ probing = at_free (Probe r) tt
+whole b xs r _ looking = at_free (Look r) tt
+whole b xs r _ (giving a may) = at_free (Give r a) may
+
+before_high : (b : Block) (xs : List Assignment) (high : ℕ) (h : Answer) (ss : List Step) → Rest b xs (HighSent high) ss → Before b xs Free (SearchHigh high) h ss
+before_high b xs _ h _ (at_high high middle low ss tail) =
+    (sends (SearchHigh high), refl, tt, whole b xs (record { high = high; middle = middle; low = low }) ss tail)
+
+before_middle : (b : Block) (xs : List Assignment) (high middle : ℕ) (h : Answer) (ss : List Step) → Rest b xs (MiddleSent high middle) ss → Before b xs (HighSent high) (SearchMiddle middle) h ss
+before_middle b xs _ _ h _ (at_middle high middle low ss tail) = (sends (SearchMiddle middle), refl, tt, at_high high middle low ss tail)
+
+before_number : (b : Block) (xs : List Assignment) (high middle low : ℕ) (r : SearchAddress) (h : Answer) (ss : List Step) → r ≡ record { high = high; middle = middle; low = low }
+    → Rest b xs (NumberSent r) ss → Before b xs (MiddleSent high middle) (SearchLow low) h ss
+before_number b xs high middle low _ h _ is (at_number r ss tail) =
+    (sends (SearchLow low), refl, tt, at_middle high middle low ss (subst (λ n. Tail b xs n ss) is tail))
+
+before_probed : (b : Block) (xs : List Assignment) (r : SearchAddress) (h : Answer) (ss : List Step) → Rest b xs (Probed r h) ss → Before b xs (NumberSent r) Compare h ss
+before_probed b xs r h ss k = elim k [ ]
+
+before_found : (b : Block) (xs : List Assignment) (r : SearchAddress) (c : ℕ) (h : Answer) (ss : List Step) → IsHeard some_address h → Rest b xs (Found r c) ss → Before b xs (NumberSent r) QueryShort h ss
+before_found b xs _ _ h _ heard (at_found r c) = (queries some_address, refl, heard, at_number r _ looking)
+
+before_unnamed : (b : Block) (xs : List Assignment) (r : SearchAddress) (h : Answer) (ss : List Step) → IsHeard no_address h → Rest b xs (Unnamed r) ss → Before b xs (NumberSent r) QueryShort h ss
+before_unnamed b xs _ h _ heard (at_unnamed r a may) = (queries no_address, refl, heard, at_number r _ (giving a may))
+
+code_of_short : (byte a : ℕ) → short_of byte ≡ Some a → byte ≡ code_of a
+code_of_short byte a e = grind (arith, nat_tests)
+
+before_queried : (b : Block) (xs : List Assignment) (r : SearchAddress) (h : Answer) (ss : List Step) → Rest b xs (queried r h) ss → Before b xs (NumberSent r) QueryShort h ss
+before_queried b xs r Silence ss k = absurd (nothing_inconclusive b xs r None ss k)
+before_queried b xs r Damaged ss k = absurd (nothing_inconclusive b xs r None ss k)
+before_queried b xs r (Byte v) ss k = go (short_of v) (v == MASK) refl refl k where
+  go : (o : Option ℕ) (m : Bool) → short_of v ≡ o → (v == MASK) ≡ m → Rest b xs (named r o m) ss → Before b xs (NumberSent r) QueryShort (Byte v) ss
+  go (Some c) m short mask k = before_found b xs r c (Byte v) ss (c, short_small v c short, ap (λ n. Byte n) (code_of_short v c short)) k
+  go None true short mask k = before_unnamed b xs r (Byte v) ss (ap (λ n. Byte n) (let same : v ≡ MASK = grind (arith, nat_tests) in same)) k
+  go None false short mask k = absurd (nothing_inconclusive b xs r None ss k)
+
+before_programmed : (b : Block) (xs : List Assignment) (r : SearchAddress) (a : ℕ) (h : Answer) (ss : List Step) → Rest b xs (Programmed r a) ss → Before b xs (Unnamed r) (Program (Some a)) h ss
+before_programmed b xs _ _ h _ (at_programmed r a may) = (sends (Program (Some a)), refl, tt, at_unnamed r a may)
+
+before_confirmed : (b : Block) (xs : List Assignment) (r : SearchAddress) (a : ℕ) (h : Answer) (ss : List Step) → IsHeard (address a) h → Rest b xs (Confirmed r a) ss → Before b xs (Programmed r a) QueryShort h ss
+before_confirmed b xs _ _ h _ heard (at_confirmed r a may) = (queries (address a), refl, heard, at_programmed r a may)
+
+before_verified : (b : Block) (xs : List Assignment) (r : SearchAddress) (a : ℕ) (h : Answer) (ss : List Step) → Rest b xs (verified r a h) ss → Before b xs (Programmed r a) QueryShort h ss
+before_verified b xs r a Silence ss k = absurd (nothing_inconclusive b xs r None ss k)
+before_verified b xs r a Damaged ss k = absurd (nothing_inconclusive b xs r None ss k)
+before_verified b xs r a (Byte v) ss k = go (short_of v) refl k where
+  go : (o : Option ℕ) → short_of v ≡ o → Rest b xs (answered r a o) ss → Before b xs (Programmed r a) QueryShort (Byte v) ss
+  go None short k = absurd (nothing_inconclusive b xs r None ss k)
+  go (Some c) short k = same (c == a) refl k where
+    same : (m : Bool) → (c == a) ≡ m → Rest b xs (if m then Confirmed r a else Inconclusive r (Some c)) ss → Before b xs (Programmed r a) QueryShort (Byte v) ss
+    same true is k = before_confirmed b xs r a (Byte v) ss (ap (λ n. Byte n) (code_of_short v c short ∙ ap (λ n. code_of n) (let e : c ≡ a = grind (arith, nat_tests) in e))) k
+    same false is k = absurd (nothing_inconclusive b xs r (Some c) ss k)
+
+before_withdrawn : (b : Block) (xs : List Assignment) (s : Stage) (r : SearchAddress) (c : ℕ) (h : Answer) (ss : List Step) → Rest b xs (Withdrawn r c) ss → Before b xs s Withdraw h ss
+before_withdrawn b xs s r c h ss k = elim k [ ]
+
+before : (b : Block) (xs : List Assignment) (s : Stage) (c : Command) (h : Answer) (ss : List Step) → Rest b xs (next_stage s c h) ss → Before b xs s c h ss
+before b xs Free Terminate h ss k = before_terminated b xs h ss k
+before b xs Free (SearchHigh high) h ss k = before_high b xs high h ss k
+before b xs Terminated (Initialise Unaddressed) h ss k = before_initialised_once b xs h ss k
+before b xs InitialisedOnce (Initialise Unaddressed) h ss k = before_initialised b xs h ss k
+before b xs Initialised Randomise h ss k = before_randomised_once b xs h ss k
+before b xs RandomisedOnce Randomise h ss k = before_opened b xs h ss k
+before b xs (HighSent high) (SearchMiddle middle) h ss k = before_middle b xs high middle h ss k
+before b xs (MiddleSent high middle) (SearchLow low) h ss k = before_number b xs high middle low (record { high = high; middle = middle; low = low }) h ss refl k
+before b xs (NumberSent r) Compare h ss k = before_probed b xs r h ss k
+before b xs (NumberSent r) QueryShort h ss k = before_queried b xs r h ss k
+before b xs (Found r c) Withdraw h ss k = before_withdrawn b xs (Found r c) r c h ss k
+before b xs (Unnamed r) (Program (Some a)) h ss k = before_programmed b xs r a h ss k
+before b xs (Programmed r a) QueryShort h ss k = before_verified b xs r a h ss k
+before b xs (Confirmed r a) Withdraw h ss k = before_withdrawn b xs (Confirmed r a) r a h ss k
+before b xs _ _ h ss k = absurd (nothing_over b xs ss k)
+
+abbrev Ends : Block → List Assignment → Stage → Command → Type 0
+Ends b xs s c = (step : Step) × (more : List Step) × (c ≡ step.command) × Rest b xs s (step ∷ more)
+
+ends : (b : Block) (xs : List Assignment) (s : Stage) (c : Command) → Follows b xs s c → Ends b xs s c
+ends b xs _ _ begins_opening = (_, _, refl, at_free Close tt)
+ends b xs _ _ (begins_search high) = (_, _, refl, at_free (Probe (record { high = high; middle = 0; low = 0 })) tt)
+ends b xs _ _ (begins_arc f) = (_, _, refl, at_free (ArcPower f) tt)
+ends b xs _ _ initialises_once = (_, _, refl, at_terminated)
+ends b xs _ _ initialises = (_, _, refl, at_initialised_once)
+ends b xs _ _ randomises_once = (_, _, refl, at_initialised)
+ends b xs _ _ randomises = (_, _, refl, at_randomised_once)
+ends b xs _ _ (sets_middle high middle) = (_, _, refl, at_high high middle 0 _ probing)
+ends b xs _ _ (sets_low high middle low) = (_, _, refl, at_middle high middle low _ probing)
+ends b xs _ _ (compares r) = (_, _, refl, at_number r _ probing)
+ends b xs _ _ (queries_number r) = (_, _, refl, at_number r _ looking)
+ends b xs _ _ (withdraws_found r c) = (_, _, refl, at_found r c)
+ends b xs _ _ (programs r a may) = (_, _, refl, at_unnamed r a may)
+ends b xs _ _ (queries_given r a may) = (_, _, refl, at_programmed r a may)
+ends b xs _ _ (withdraws_given r a may) = (_, _, refl, at_confirmed r a may)
+
+front_from : (b : Block) (xs : List Assignment) (t : List Entry) (s : Stage) (f : Forward) → Follows b xs (stage_from s t) (command_of f)
+    → (ss : List Step) × Rest b xs s ss × IsFront t f ss
+front_from b xs [] s f k = let e = ends b xs s (command_of f) k in (e.0 ∷ e.1, e.3, e.2)
+front_from b xs (e ∷ t) s f k =
+    let later = front_from b xs t (next_stage s (command_of e.frame) e.heard) f k in
+    let now = before b xs s (command_of e.frame) e.heard later.0 later.1 in
+    (now.0 ∷ later.0, now.3, (now.1, now.2, later.2))
+
+script_of : (b : Block) (xs : List Assignment) (t : List Entry) (f : Forward) (ss : List Step) → Rest b xs Free ss → IsFront t f ss → Lawful b xs t f
+script_of b xs t f _ (at_free s may) front = (s, may, front)
+
+-- a frame that follows at a trace's stage may follow the trace
+pub lawful_follows : (b : Block) (xs : List Assignment) (t : List Entry) (f : Forward) → Follows b xs (stage_of t) (command_of f) → Lawful b xs t f
+unfolding stage_of
+lawful_follows b xs t f k = let whole = front_from b xs t Free f k in script_of b xs t f whole.0 whole.1 whole.2
+
+-- THE TESTS
+pub follows_test : (b : Block) (xs : List Assignment) (s : Stage) (c : Command) → Follows b xs s c → follows b xs s c ≡ true
+follows_test b xs _ _ begins_opening = refl
+follows_test b xs _ _ (begins_search high) = refl
+follows_test b xs _ _ (begins_arc f) = refl
+follows_test b xs _ _ initialises_once = refl
+follows_test b xs _ _ initialises = refl
+follows_test b xs _ _ randomises_once = refl
+follows_test b xs _ _ randomises = refl
+follows_test b xs _ _ (sets_middle high middle) = refl
+follows_test b xs _ _ (sets_low high middle low) = refl
+follows_test b xs _ _ (compares r) = refl
+follows_test b xs _ _ (queries_number r) = refl
+follows_test b xs _ _ (withdraws_found r c) = refl
+follows_test b xs _ _ (programs r a may) = may_give_by b xs r a may
+follows_test b xs _ _ (queries_given r a may) = may_give_by b xs r a may
+follows_test b xs _ _ (withdraws_given r a may) = may_give_by b xs r a may
+
+pub follows_from_test : (b : Block) (xs : List Assignment) (s : Stage) (c : Command) → follows b xs s c ≡ true → Follows b xs s c
+follows_from_test b xs Free Terminate e = begins_opening
+follows_from_test b xs Free (SearchHigh high) e = begins_search high
+follows_from_test b xs Free (Arc f) e = begins_arc f
+follows_from_test b xs Terminated (Initialise Unaddressed) e = initialises_once
+follows_from_test b xs InitialisedOnce (Initialise Unaddressed) e = initialises
+follows_from_test b xs Initialised Randomise e = randomises_once
+follows_from_test b xs RandomisedOnce Randomise e = randomises
+follows_from_test b xs (HighSent high) (SearchMiddle middle) e = sets_middle high middle
+follows_from_test b xs (MiddleSent high middle) (SearchLow low) e = sets_low high middle low
+follows_from_test b xs (NumberSent r) Compare e = compares r
+follows_from_test b xs (NumberSent r) QueryShort e = queries_number r
+follows_from_test b xs (Found r c) Withdraw e = withdraws_found r c
+follows_from_test b xs (Unnamed r) (Program (Some a)) e = programs r a (may_give_from b xs r a e)
+follows_from_test b xs (Programmed r a) QueryShort e = queries_given r a (may_give_from b xs r a e)
+follows_from_test b xs (Confirmed r a) Withdraw e = withdraws_given r a (may_give_from b xs r a e)
+follows_from_test b xs _ _ e = absurd (cc)
+
+-- where no frame may follow, none is lawful
+pub over : (b : Block) (xs : List Assignment) (s : Stage) (c : Command) → may_follow b xs s ≡ false → Follows b xs s c → ⊥
+over b xs _ _ e begins_opening = cc
+over b xs _ _ e (begins_search high) = cc
+over b xs _ _ e (begins_arc f) = cc
+over b xs _ _ e initialises_once = cc
+over b xs _ _ e initialises = cc
+over b xs _ _ e randomises_once = cc
+over b xs _ _ e randomises = cc
+over b xs _ _ e (sets_middle high middle) = cc
+over b xs _ _ e (sets_low high middle low) = cc
+over b xs _ _ e (compares r) = cc
+over b xs _ _ e (queries_number r) = cc
+over b xs _ _ e (withdraws_found r c) = cc
+over b xs _ _ e (programs r a may) = let some = may_give_some_by b xs r a may in cc
+over b xs _ _ e (queries_given r a may) = let given = may_give_by b xs r a may in cc
+over b xs _ _ e (withdraws_given r a may) = let given = may_give_by b xs r a may in cc
+
+pub complete_at : (b : Block) (xs : List Assignment) (t : List Entry) → may_follow b xs (stage_of t) ≡ false → IsComplete b xs t
+complete_at b xs t e f lawful = over b xs (stage_of t) (command_of f) e (follows_lawful b xs t f lawful)
+
+-- where one may follow, there is such a frame
+abbrev Next : Block → List Assignment → Stage → Type 0
+Next b xs s = (c : Command) × IsSpelled c × IsFrame (frame_of c) × Follows b xs s c
+
+next_program : (b : Block) (xs : List Assignment) (r : SearchAddress) (a : ℕ) → a < 64 → MayGive b xs r a → Next b xs (Unnamed r)
+next_program b xs r a small may = (Program (Some a), small, (lit< tt, omega arith), programs r a may)
+
+pub next_at : (b : Block) (xs : List Assignment) → ((a : ℕ) → HasAddress xs a → a < 64) → (s : Stage) → may_follow b xs s ≡ true → Next b xs s
+next_at b xs small Free e = (Terminate, tt, (lit< tt, lit< tt), begins_opening)
+next_at b xs small Terminated e = (Initialise Unaddressed, tt, (lit< tt, lit< tt), initialises_once)
+next_at b xs small InitialisedOnce e = (Initialise Unaddressed, tt, (lit< tt, lit< tt), initialises)
+next_at b xs small Initialised e = (Randomise, tt, (lit< tt, lit< tt), randomises_once)
+next_at b xs small RandomisedOnce e = (Randomise, tt, (lit< tt, lit< tt), randomises)
+next_at b xs small Opened e = absurd (cc)
+next_at b xs small (HighSent high) e = (SearchMiddle 0, tt, (lit< tt, lit< tt), sets_middle high 0)
+next_at b xs small (MiddleSent high middle) e = (SearchLow 0, tt, (lit< tt, lit< tt), sets_low high middle 0)
+next_at b xs small (NumberSent r) e = (Compare, tt, (lit< tt, lit< tt), compares r)
+next_at b xs small (Probed r h) e = absurd (cc)
+next_at b xs small (Found r c) e = (Withdraw, tt, (lit< tt, lit< tt), withdraws_found r c)
+next_at b xs small (Unnamed r) e =
+    let found = may_give_some_from b xs r e in
+    next_program b xs r found.0 (small found.0 (has_map (λ p. p.0) xs (found.0, value_of r) found.1.reserved_for)) found.1
+next_at b xs small (Inconclusive r other) e = absurd (cc)
+next_at b xs small (Programmed r a) e = (QueryShort, tt, (lit< tt, lit< tt), queries_given r a (may_give_from b xs r a e))
+next_at b xs small (Confirmed r a) e = (Withdraw, tt, (lit< tt, lit< tt), withdraws_given r a (may_give_from b xs r a e))
+next_at b xs small (Withdrawn r a) e = absurd (cc)
+next_at b xs small Over e = absurd (cc)
+
+pub goes_on_at : (b : Block) (xs : List Assignment) (t : List Entry) → ((a : ℕ) → HasAddress xs a → a < 64) → may_follow b xs (stage_of t) ≡ true → GoesOn b xs t
+goes_on_at b xs t small e =
+    let next = next_at b xs small (stage_of t) e in
+    let read : command_of (frame_of next.0) ≡ next.0 = read_written next.0 next.1 in
+    (frame_of next.0, next.2, lawful_follows b xs t (frame_of next.0) (subst (λ c. Follows b xs (stage_of t) c) (sym read) next.3))
+
+-- ONE MORE FRAME
+stage_from_more : (s : Stage) (t : List Entry) (e : Entry) → stage_from s (t ++ e ∷ []) ≡ next_stage (stage_from s t) (command_of e.frame) e.heard
+stage_from_more s [] e = refl
+stage_from_more s (x ∷ t) e = stage_from_more (next_stage s (command_of x.frame) x.heard) t e
+
+pub stage_more : (t : List Entry) (e : Entry) → stage_of (t ++ e ∷ []) ≡ next_stage (stage_of t) (command_of e.frame) e.heard
+unfolding stage_of
+stage_more t e = stage_from_more Free t e
+
+pub stage_none : stage_of [] ≡ Free
+unfolding stage_of
+stage_none = refl
+
+searched_from_more : (r : SearchAddress) (t : List Entry) (e : Entry) → searched_from r (t ++ e ∷ []) ≡ search_after (command_of e.frame) (searched_from r t)
+searched_from_more r [] e = refl
+searched_from_more r (x ∷ t) e = searched_from_more (search_after (command_of x.frame) r) t e
+
+pub searched_more : (t : List Entry) (e : Entry) → searched (t ++ e ∷ []) ≡ search_after (command_of e.frame) (searched t)
+searched_more t e = searched_from_more at_power_on t e
+
+later_none : (o : Option Assignment) → later o None ≡ o
+later_none o = refl
+
+none_later : (o : Option Assignment) → later None o ≡ o
+none_later None = refl
+none_later (Some x) = refl
+
+later_later : (o p q : Option Assignment) → later o (later p q) ≡ later (later o p) q
+later_later o p None = refl
+later_later o p (Some x) = refl
+
+finding_from_more : (r : SearchAddress) (t : List Entry) (e : Entry)
+    → finding_from r (t ++ e ∷ []) ≡ later (finding_from r t) (found_by (searched_from r t) (command_of e.frame) e.heard)
+finding_from_more r [] e = sym (none_later (found_by r (command_of e.frame) e.heard))
+finding_from_more r (x ∷ t) e =
+    ap (λ o. later (found_by r (command_of x.frame) x.heard) o) (finding_from_more (search_after (command_of x.frame) r) t e)
+    ∙ later_later (found_by r (command_of x.frame) x.heard) (finding_from (search_after (command_of x.frame) r) t) (found_by (searched_from (search_after (command_of x.frame) r) t) (command_of e.frame) e.heard)
+
+pub finding_more : (t : List Entry) (e : Entry) → finding_of (t ++ e ∷ []) ≡ later (finding_of t) (found_by (searched t) (command_of e.frame) e.heard)
+finding_more t e = finding_from_more at_power_on t e
+
+-- what a stage says, after one more frame
+pub record Says (s : Stage) (r : SearchAddress) (found : Option Assignment) : Type 0 where
+  pub searched : IsSearched s r
+  pub finding : found ≡ finding_at s
+
+queried_says : (r : SearchAddress) (h : Answer) → Says (queried r h) r (found_by r QueryShort h)
+queried_says r Silence = record { searched = refl; finding = refl }
+queried_says r Damaged = record { searched = refl; finding = refl }
+queried_says r (Byte v) = go (short_of v) (v == MASK) where
+  go : (o : Option ℕ) (m : Bool) → Says (named r o m) r (option_map (λ c. (c, value_of r)) o)
+  go (Some c) m = record { searched = refl; finding = refl }
+  go None true = record { searched = refl; finding = refl }
+  go None false = record { searched = refl; finding = refl }
+
+verified_says : (r : SearchAddress) (a : ℕ) (h : Answer) → Says (verified r a h) r (found_by r QueryShort h)
+verified_says r a Silence = record { searched = refl; finding = refl }
+verified_says r a Damaged = record { searched = refl; finding = refl }
+verified_says r a (Byte v) = go (short_of v) where
+  go : (o : Option ℕ) → Says (answered r a o) r (option_map (λ c. (c, value_of r)) o)
+  go None = record { searched = refl; finding = refl }
+  go (Some c) = same (c == a) refl where
+    same : (m : Bool) → (c == a) ≡ m → Says (if m then Confirmed r a else Inconclusive r (Some c)) r (Some (c, value_of r))
+    same true is =
+        let e : c ≡ a = grind (arith, nat_tests) in
+        record { searched = refl; finding = ap (λ n. Some (n, value_of r)) e }
+    same false is = record { searched = refl; finding = refl }
+
+says_at : (s : Stage) (r n : SearchAddress) (found : Option Assignment) (h : Answer) → r ≡ n → found ≡ None → Says s n (found_by n QueryShort h) → Says s r (later found (found_by r QueryShort h))
+says_at s r n found h is none says =
+    let at : Says s r (found_by r QueryShort h) = subst (λ m. Says s m (found_by m QueryShort h)) (sym is) says in
+    subst (λ o. Says s r o) (sym (none_later (found_by r QueryShort h)) ∙ ap (λ o. later o (found_by r QueryShort h)) (sym none)) at
+
+says_more : (b : Block) (xs : List Assignment) (s : Stage) (c : Command) (h : Answer) (r : SearchAddress) (found : Option Assignment)
+    → Follows b xs s c → Says s r found → Says (next_stage s c h) (search_after c r) (later found (found_by r c h))
+says_more b xs _ _ h r found begins_opening k = record { searched = tt; finding = k.finding }
+says_more b xs _ _ h r found (begins_search high) k = record { searched = refl; finding = k.finding }
+says_more b xs _ _ h r found (begins_arc f) k = record { searched = tt; finding = k.finding }
+says_more b xs _ _ h r found initialises_once k = record { searched = tt; finding = k.finding }
+says_more b xs _ _ h r found initialises k = record { searched = tt; finding = k.finding }
+says_more b xs _ _ h r found randomises_once k = record { searched = tt; finding = k.finding }
+says_more b xs _ _ h r found randomises k = record { searched = tt; finding = k.finding }
+says_more b xs _ _ h r found (sets_middle high middle) k = record { searched = (k.searched, refl); finding = k.finding }
+says_more b xs _ _ h r found (sets_low high middle low) k =
+    record { searched = ap (λ n. record { high = n; middle = r.middle; low = low }) k.searched.0 ∙ ap (λ n. record { high = high; middle = n; low = low }) k.searched.1; finding = k.finding }
+says_more b xs _ _ h r found (compares n) k = record { searched = k.searched; finding = k.finding }
+says_more b xs _ _ h r found (queries_number n) k = says_at (queried n h) r n found h k.searched k.finding (queried_says n h)
+says_more b xs _ _ h r found (withdraws_found n c) k = record { searched = k.searched; finding = k.finding }
+says_more b xs _ _ h r found (programs n a may) k = record { searched = k.searched; finding = k.finding }
+says_more b xs _ _ h r found (queries_given n a may) k = says_at (verified n a h) r n found h k.searched k.finding (verified_says n a h)
+says_more b xs _ _ h r found (withdraws_given n a may) k = record { searched = k.searched; finding = k.finding }
+
+pub trace_none : IsTrace Free []
+trace_none = record { stage = sym stage_none; searched = tt; finding = refl }
+
+pub trace_more : (s : Stage) (t : List Entry) (f : Forward) (h : Answer) → IsLawful t f → IsTrace s t
+    → IsTrace (next_stage s (command_of f) h) (t ++ (record { frame = f; heard = h }) ∷ [])
+trace_more s t f h lawful k =
+    let b : Block = lawful.0 in
+    let xs : List Assignment = lawful.1 in
+    let follows : Follows b xs s (command_of f) = subst (λ x. Follows b xs x (command_of f)) (sym k.stage) (follows_lawful b xs t f lawful.2) in
+    let says : Says s (searched t) (finding_of t) = record { searched = k.searched; finding = k.finding } in
+    let more = says_more b xs s (command_of f) h (searched t) (finding_of t) follows says in
+    let e : Entry = record { frame = f; heard = h } in
+    record {
+      stage = ap (λ x. next_stage x (command_of f) h) k.stage ∙ sym (stage_more t e);
+      searched = subst (λ r. IsSearched (next_stage s (command_of f) h) r) (sym (searched_more t e)) more.searched;
+      finding = finding_more t e ∙ more.finding;
+    }
+
+-- THERE IS ROOM: no script has more than seven frames
+front_short : (t : List Entry) (f : Forward) (ss : List Step) → IsFront t f ss → length t < length ss
+front_short [] f [] front = absurd front
+front_short (e ∷ t) f [] front = absurd front
+front_short [] f (s ∷ ss) front = omega arith
+front_short (e ∷ t) f (s ∷ ss) front = let less : length t < length ss = front_short t f ss front.2 in omega arith
+
+script_short : (s : Script) → length (steps s) ≤ 7
+script_short Open = lit≤ tt
+script_short (Probe r) = lit≤ tt
+script_short (Look r) = lit≤ tt
+script_short (Give r a) = lit≤ tt
+script_short Close = lit≤ tt
+script_short (ArcPower f) = lit≤ tt
+
+pub room : (b : Block) (xs : List Assignment) (t : List Entry) (f : Forward) → Lawful b xs t f → length t < 7
+room b xs t f lawful =
+    let front : length t < length (steps lawful.0) = front_short t f (steps lawful.0) lawful.2 in
+    let short : length (steps lawful.0) ≤ 7 = script_short lawful.0 in
+    omega arith
+
+-- WHAT A FRONT OF A SCRIPT SAYS
+says_from : (b : Block) (xs : List Assignment) (t : List Entry) (s : Stage) (f : Forward) (ss : List Step) (r : SearchAddress) (found : Option Assignment)
+    → IsFront t f ss → Tracks b xs s ss → Says s r found → Says (stage_from s t) (searched_from r t) (later found (finding_from r t))
+unfolding Tracks
+says_from b xs [] s f [] r found front tr k = absurd front
+says_from b xs (e ∷ t) s f [] r found front tr k = absurd front
+says_from b xs [] s f (step ∷ more) r found front tr k = k
+says_from b xs (e ∷ t) s f (step ∷ more) r found front tr k =
+    let spelled : IsSpelled step.command = subst IsSpelled front.0 (read_spelled e.frame) in
+    let rest : Tracks b xs (next_stage s step.command e.heard) more = tr.1 spelled e.heard front.1 in
+    let here : Follows b xs s (command_of e.frame) = subst (λ c. Follows b xs s c) (sym front.0) tr.0 in
+    let c : Command = command_of e.frame in
+    let next = says_more b xs s (command_of e.frame) e.heard r found here k in
+    let later_on = says_from b xs t (next_stage s (command_of e.frame) e.heard) f more (search_after (command_of e.frame) r) (later found (found_by r (command_of e.frame) e.heard))
+    front.2 (subst (λ d. Tracks b xs (next_stage s d e.heard) more) (sym front.0) rest) next in
+    record {
+      searched = later_on.searched;
+      finding = later_later found (found_by r (command_of e.frame) e.heard) (finding_from (search_after (command_of e.frame) r) t) ∙ later_on.finding;
+    }
+
+says_lawful : (b : Block) (xs : List Assignment) (t : List Entry) (f : Forward) → Lawful b xs t f → Says (stage_of t) (searched t) (finding_of t)
+unfolding stage_of
+says_lawful b xs t f lawful =
+    let says = says_from b xs t Free f (steps lawful.0) at_power_on None lawful.2 (tracks b xs lawful.0 lawful.1) (record { searched = tt; finding = refl }) in
+    record { searched = says.searched; finding = sym (none_later (finding_of t)) ∙ says.finding }
+
+-- the stage's search address is what the frames have set
+pub searched_lawful : (b : Block) (xs : List Assignment) (t : List Entry) (f : Forward) → Lawful b xs t f → IsSearched (stage_of t) (searched t)
+searched_lawful b xs t f lawful = (says_lawful b xs t f lawful).searched
+
+-- the stage's finding is that of the trace
+pub finding_lawful : (b : Block) (xs : List Assignment) (t : List Entry) (f : Forward) → Lawful b xs t f → finding_of t ≡ finding_at (stage_of t)
+finding_lawful b xs t f lawful = (says_lawful b xs t f lawful).finding
+
+-- the same after one more frame
+says_after : (b : Block) (xs : List Assignment) (t : List Entry) (e : Entry) → Lawful b xs t e.frame → Says (stage_of (t ++ e ∷ [])) (searched (t ++ e ∷ [])) (finding_of (t ++ e ∷ []))
+says_after b xs t e lawful =
+    let more = says_more b xs (stage_of t) (command_of e.frame) e.heard (searched t) (finding_of t) (follows_lawful b xs t e.frame lawful) (says_lawful b xs t e.frame lawful) in
+    record {
+      searched = subst (λ s. IsSearched s (searched (t ++ e ∷ []))) (sym (stage_more t e)) (subst (λ r. IsSearched (next_stage (stage_of t) (command_of e.frame) e.heard) r) (sym (searched_more t e)) more.searched);
+      finding = finding_more t e ∙ more.finding ∙ ap finding_at (sym (stage_more t e));
+    }
+
+pub searched_after : (b : Block) (xs : List Assignment) (t : List Entry) (e : Entry) → Lawful b xs t e.frame → IsSearched (stage_of (t ++ e ∷ [])) (searched (t ++ e ∷ []))
+searched_after b xs t e lawful = (says_after b xs t e lawful).searched
+
+pub finding_after : (b : Block) (xs : List Assignment) (t : List Entry) (e : Entry) → Lawful b xs t e.frame → finding_of (t ++ e ∷ []) ≡ finding_at (stage_of (t ++ e ∷ []))
+finding_after b xs t e lawful = (says_after b xs t e lawful).finding
+
+-- only the empty trace is free
+queried_not_free : (r : SearchAddress) (h : Answer) → queried r h ≡ Free → ⊥
+queried_not_free r Silence e = cc
+queried_not_free r Damaged e = cc
+queried_not_free r (Byte v) e = go (short_of v) (v == MASK) e where
+  go : (o : Option ℕ) (m : Bool) → named r o m ≡ Free → ⊥
+  go (Some c) m e = cc
+  go None true e = cc
+  go None false e = cc
+
+verified_not_free : (r : SearchAddress) (a : ℕ) (h : Answer) → verified r a h ≡ Free → ⊥
+verified_not_free r a Silence e = cc
+verified_not_free r a Damaged e = cc
+verified_not_free r a (Byte v) e = go (short_of v) e where
+  go : (o : Option ℕ) → answered r a o ≡ Free → ⊥
+  go None e = cc
+  go (Some c) e = same (c == a) e where
+    same : (m : Bool) → (if m then Confirmed r a else Inconclusive r (Some c)) ≡ Free → ⊥
+    same true e = cc
+    same false e = cc
+
+next_not_free : (s : Stage) (c : Command) (h : Answer) → next_stage s c h ≡ Free → ⊥
+next_not_free (NumberSent r) QueryShort h e = queried_not_free r h e
+next_not_free (Programmed r a) QueryShort h e = verified_not_free r a h e
+next_not_free Free Terminate h e = cc
+next_not_free Free (SearchHigh high) h e = cc
+next_not_free Terminated (Initialise Unaddressed) h e = cc
+next_not_free InitialisedOnce (Initialise Unaddressed) h e = cc
+next_not_free Initialised Randomise h e = cc
+next_not_free RandomisedOnce Randomise h e = cc
+next_not_free (HighSent high) (SearchMiddle middle) h e = cc
+next_not_free (MiddleSent high middle) (SearchLow low) h e = cc
+next_not_free (NumberSent r) Compare h e = cc
+next_not_free (Found r b) Withdraw h e = cc
+next_not_free (Unnamed r) (Program (Some a)) h e = cc
+next_not_free (Confirmed r a) Withdraw h e = cc
+next_not_free _ _ h e = cc
+
+stage_from_not_free : (s : Stage) (t : List Entry) → (s ≡ Free → ⊥) → stage_from s t ≡ Free → ⊥
+stage_from_not_free s [] started e = started e
+stage_from_not_free s (x ∷ t) started e = stage_from_not_free (next_stage s (command_of x.frame) x.heard) t (next_not_free s (command_of x.frame) x.heard) e
+
+pub free_is_empty : (t : List Entry) → stage_of t ≡ Free → t ≡ []
+unfolding stage_of
+free_is_empty [] e = refl
+free_is_empty (x ∷ t) e = absurd (stage_from_not_free (next_stage Free (command_of x.frame) x.heard) t (next_not_free Free (command_of x.frame) x.heard) e)
+
+-- which stage each command comes at
+free_of_terminate : (b : Block) (xs : List Assignment) (s : Stage) (c : Command) → Follows b xs s c → c ≡ Terminate → s ≡ Free
+free_of_terminate b xs _ _ begins_opening e = refl
+free_of_terminate b xs _ _ k e = absurd (cc)
+
+free_of_high : (b : Block) (xs : List Assignment) (s : Stage) (c : Command) (high : ℕ) → Follows b xs s c → c ≡ SearchHigh high → s ≡ Free
+free_of_high b xs _ _ high (begins_search h) e = refl
+free_of_high b xs _ _ high k e = absurd (cc)
+
+free_of_arc : (b : Block) (xs : List Assignment) (s : Stage) (c : Command) (g : Forward) → Follows b xs s c → c ≡ Arc g → s ≡ Free
+free_of_arc b xs _ _ g (begins_arc h) e = refl
+free_of_arc b xs _ _ g k e = absurd (cc)
+
+at_initialise : (b : Block) (xs : List Assignment) (s : Stage) (c : Command) (g : Target) → Follows b xs s c → c ≡ Initialise g
+    → (g ≡ Unaddressed) × ((s ≡ Terminated) ⊎ (s ≡ InitialisedOnce))
+at_initialise b xs _ _ g initialises_once e = (cc, inl refl)
+at_initialise b xs _ _ g initialises e = (cc, inr refl)
+at_initialise b xs _ _ g k e = absurd (cc)
+
+at_randomise : (b : Block) (xs : List Assignment) (s : Stage) (c : Command) → Follows b xs s c → c ≡ Randomise → (s ≡ Initialised) ⊎ (s ≡ RandomisedOnce)
+at_randomise b xs _ _ randomises_once e = inl refl
+at_randomise b xs _ _ randomises e = inr refl
+at_randomise b xs _ _ k e = absurd (cc)
+
+at_compare : (b : Block) (xs : List Assignment) (s : Stage) (c : Command) → Follows b xs s c → c ≡ Compare → (r : SearchAddress) × (s ≡ NumberSent r)
+at_compare b xs _ _ (compares r) e = (r, refl)
+at_compare b xs _ _ k e = absurd (cc)
+
+at_query : (b : Block) (xs : List Assignment) (s : Stage) (c : Command) → Follows b xs s c → c ≡ QueryShort
+    → (r : SearchAddress) × ((s ≡ NumberSent r) ⊎ ((a : ℕ) × (s ≡ Programmed r a) × MayGive b xs r a))
+at_query b xs _ _ (queries_number r) e = (r, inl refl)
+at_query b xs _ _ (queries_given r a may) e = (r, inr (a, refl, may))
+at_query b xs _ _ k e = absurd (cc)
+
+at_program : (b : Block) (xs : List Assignment) (s : Stage) (c : Command) (o : Option ℕ) → Follows b xs s c → c ≡ Program o
+    → (a : ℕ) × (r : SearchAddress) × (o ≡ Some a) × (s ≡ Unnamed r) × MayGive b xs r a
+at_program b xs _ _ o (programs r a may) e = (a, r, cc, refl, may)
+at_program b xs _ _ o k e = absurd (cc)
+
+at_withdraw : (b : Block) (xs : List Assignment) (s : Stage) (c : Command) → Follows b xs s c → c ≡ Withdraw
+    → (r : SearchAddress) × (a : ℕ) × ((s ≡ Found r a) ⊎ ((s ≡ Confirmed r a) × MayGive b xs r a))
+at_withdraw b xs _ _ (withdraws_found r a) e = (r, a, inl refl)
+at_withdraw b xs _ _ (withdraws_given r a may) e = (r, a, inr (refl, may))
+at_withdraw b xs _ _ k e = absurd (cc)
+
+-- TERMINATE, SEARCHADDRH and arc power stand first alone
+pub terminate_first : (b : Block) (xs : List Assignment) (t : List Entry) (f : Forward) → Lawful b xs t f → command_of f ≡ Terminate → t ≡ []
+terminate_first b xs t f lawful e = free_is_empty t (free_of_terminate b xs (stage_of t) (command_of f) (follows_lawful b xs t f lawful) e)
+
+pub search_high_first : (b : Block) (xs : List Assignment) (t : List Entry) (f : Forward) (high : ℕ) → Lawful b xs t f → command_of f ≡ SearchHigh high → t ≡ []
+search_high_first b xs t f high lawful e = free_is_empty t (free_of_high b xs (stage_of t) (command_of f) high (follows_lawful b xs t f lawful) e)
+
+pub arc_first : (b : Block) (xs : List Assignment) (t : List Entry) (f g : Forward) → Lawful b xs t f → command_of f ≡ Arc g → t ≡ []
+arc_first b xs t f g lawful e = free_is_empty t (free_of_arc b xs (stage_of t) (command_of f) g (follows_lawful b xs t f lawful) e)
+
+first_of : (b : Block) (xs : List Assignment) (s : Stage) (c : Command) → Follows b xs s c → s ≡ Free
+    → (c ≡ Terminate) ⊎ (((high : ℕ) × (c ≡ SearchHigh high)) ⊎ ((g : Forward) × (c ≡ Arc g)))
+first_of b xs _ _ begins_opening e = inl refl
+first_of b xs _ _ (begins_search high) e = inr (inl (high, refl))
+first_of b xs _ _ (begins_arc g) e = inr (inr (g, refl))
+first_of b xs _ _ k e = absurd (cc)
+
+-- and a transaction begins with no other frame
+pub first_frames : (b : Block) (xs : List Assignment) (f : Forward) → Lawful b xs [] f
+    → (command_of f ≡ Terminate) ⊎ (((high : ℕ) × (command_of f ≡ SearchHigh high)) ⊎ ((g : Forward) × (command_of f ≡ Arc g)))
+first_frames b xs f lawful = first_of b xs (stage_of []) (command_of f) (follows_lawful b xs [] f lawful) stage_none
+
+pub begins_by : (b : Block) (xs : List Assignment) (f : Forward)
+    → (command_of f ≡ Terminate) ⊎ (((high : ℕ) × (command_of f ≡ SearchHigh high)) ⊎ ((g : Forward) × (command_of f ≡ Arc g))) → Lawful b xs [] f
+begins_by b xs f (inl e) = (Close, tt, e)
+begins_by b xs f (inr (inl e)) = (Probe (record { high = e.0; middle = 0; low = 0 }), tt, e.1)
+begins_by b xs f (inr (inr e)) = (ArcPower e.0, tt, e.1)
+
+pub initialise_at : (b : Block) (xs : List Assignment) (t : List Entry) (f : Forward) (g : Target) → Lawful b xs t f → command_of f ≡ Initialise g
+    → (g ≡ Unaddressed) × ((stage_of t ≡ Terminated) ⊎ (stage_of t ≡ InitialisedOnce))
+initialise_at b xs t f g lawful e = at_initialise b xs (stage_of t) (command_of f) g (follows_lawful b xs t f lawful) e
+
+pub randomise_at : (b : Block) (xs : List Assignment) (t : List Entry) (f : Forward) → Lawful b xs t f → command_of f ≡ Randomise
+    → (stage_of t ≡ Initialised) ⊎ (stage_of t ≡ RandomisedOnce)
+randomise_at b xs t f lawful e = at_randomise b xs (stage_of t) (command_of f) (follows_lawful b xs t f lawful) e
+
+pub compare_at : (b : Block) (xs : List Assignment) (t : List Entry) (f : Forward) → Lawful b xs t f → command_of f ≡ Compare
+    → (r : SearchAddress) × (stage_of t ≡ NumberSent r)
+compare_at b xs t f lawful e = at_compare b xs (stage_of t) (command_of f) (follows_lawful b xs t f lawful) e
+
+pub query_at : (b : Block) (xs : List Assignment) (t : List Entry) (f : Forward) → Lawful b xs t f → command_of f ≡ QueryShort
+    → (r : SearchAddress) × ((stage_of t ≡ NumberSent r) ⊎ ((a : ℕ) × (stage_of t ≡ Programmed r a) × MayGive b xs r a))
+query_at b xs t f lawful e = at_query b xs (stage_of t) (command_of f) (follows_lawful b xs t f lawful) e
+
+pub program_at : (b : Block) (xs : List Assignment) (t : List Entry) (f : Forward) (o : Option ℕ) → Lawful b xs t f → command_of f ≡ Program o
+    → (a : ℕ) × (r : SearchAddress) × (o ≡ Some a) × (stage_of t ≡ Unnamed r) × MayGive b xs r a
+program_at b xs t f o lawful e = at_program b xs (stage_of t) (command_of f) o (follows_lawful b xs t f lawful) e
+
+pub withdraw_at : (b : Block) (xs : List Assignment) (t : List Entry) (f : Forward) → Lawful b xs t f → command_of f ≡ Withdraw
+    → (r : SearchAddress) × (a : ℕ) × ((stage_of t ≡ Found r a) ⊎ ((stage_of t ≡ Confirmed r a) × MayGive b xs r a))
+withdraw_at b xs t f lawful e = at_withdraw b xs (stage_of t) (command_of f) (follows_lawful b xs t f lawful) e

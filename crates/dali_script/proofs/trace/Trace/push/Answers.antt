@@ -1,0 +1,15 @@
+use Rattle.std.proofs.Common.{◌<◌, length, arith}
+use Rattle.dali_script.proofs.Transactions.{trace_more, room}
+use Rattle.dali_script.proofs.trace.Trace.push.Goals as goal
+
+pub push-requires : goal.push-requires
+push-requires c =
+    let lawful = rw (← c.self.view_is) at c.requires in
+    let short : length c.self.inside.entries.items < 7 = room lawful.0 lawful.1 c.self.inside.entries.items c.args.frame lawful.2 in
+    omega arith
+
+pub invariant_of-self : goal.invariant_of-self
+invariant_of-self c =
+    let lawful = rw (← c.self.view_is) at c.requires in
+    rw (c.push.ensures.items, c.next-self-inside.ensures, c.read.ensures.table)
+    (trace_more c.self.inside.stage c.self.inside.entries.items c.args.frame c.args.heard lawful c.self.invariant)

@@ -1,0 +1,6 @@
+pub mod Records
+pub mod Refusals
+pub mod Commands
+pub mod Scripts
+pub mod Findings
+pub mod Stages

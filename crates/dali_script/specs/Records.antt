@@ -1,0 +1,98 @@
+use Rattle.std.specs.Prelude.{◌≡◌, ℕ, ◌<◌, ◌≤◌, ◌⊎◌, List, [], ◌∷◌, ◌++◌, map, length}
+use Rattle.dali_script.specs.declared.block.Block.{Block}
+use Rattle.dali_script.specs.declared.records.Record.{Record}
+use Rattle.dali_script.specs.declared.records.Record.TheVariants.{Reserve, Enrol}
+
+-- a short address and the random address that it is for
+abbrev pub Assignment : Type 0
+Assignment = ℕ × ℕ
+
+-- What a controller keeps: its block of short addresses, and its reservations and enrolments, each in the order of their records.
+pub record Records : Type 0 where
+  pub block : Block
+  pub reserved : List Assignment
+  pub enrolled : List Assignment
+
+abbrev pub without_records : Block → Records
+without_records b = record { block = b; reserved = []; enrolled = [] }
+
+-- the value stands in the list
+abbrev pub Has : {A : Type 0} → List A → A → Type 0
+Has [] x = ⊥
+Has (y ∷ ys) x = (y ≡ x) ⊎ Has ys x
+
+-- each value stands in the list once
+abbrev pub IsOnce : List ℕ → Type 0
+IsOnce [] = Unit {0}
+IsOnce (x ∷ xs) = (Has xs x → ⊥) × IsOnce xs
+
+abbrev pub addresses : List Assignment → List ℕ
+addresses xs = map (λ p. p.0) xs
+
+abbrev pub numbers : List Assignment → List ℕ
+numbers xs = map (λ p. p.1) xs
+
+abbrev pub HasAddress : List Assignment → ℕ → Type 0
+HasAddress xs a = Has (addresses xs) a
+
+abbrev pub HasNumber : List Assignment → ℕ → Type 0
+HasNumber xs r = Has (numbers xs) r
+
+-- the short address lies in the block
+abbrev pub InBlock : Block → ℕ → Type 0
+InBlock b a = (b.first ≤ a) × (a ≤ b.last)
+
+-- no gear draws the random address FFFFFF (IEC 62386-102:2014, RANDOMISE)
+abbrev pub MASK24 : ℕ
+MASK24 = 0xFFFFFF
+
+-- An ordered map of short addresses to random addresses that were drawn, both ways: each address once, each number once.
+pub record IsMap (xs : List Assignment) : Type 0 where
+  pub address_once : IsOnce (addresses xs)
+  pub number_once : IsOnce (numbers xs)
+  pub short : (a : ℕ) → HasAddress xs a → a < 64
+  pub drawn : (r : ℕ) → HasNumber xs r → r < MASK24
+  pub room : length xs ≤ 64
+
+-- What holds of all records that are kept.
+pub record IsKept (k : Records) : Type 0 where
+  pub reserved : IsMap k.reserved
+  pub enrolled : IsMap k.enrolled
+  pub within : (a : ℕ) → HasAddress k.reserved a → InBlock k.block a
+
+-- A record fits a block: a reserved address lies in it, and the number is one that gear draw.
+abbrev pub Fits : Block → Record → Type 0
+Fits b (Reserve a r) = InBlock b a × (r < MASK24)
+Fits b (Enrol a r) = r < MASK24
+
+-- the records of a record's kind, and its pair
+abbrev pub same_kind : Records → Record → List Assignment
+same_kind k (Reserve a r) = k.reserved
+same_kind k (Enrol a r) = k.enrolled
+
+abbrev pub address_of : Record → ℕ
+address_of (Reserve a r) = a
+address_of (Enrol a r) = a
+
+abbrev pub random_of : Record → ℕ
+random_of (Reserve a r) = r
+random_of (Enrol a r) = r
+
+-- neither the address nor the number stands in a record of its kind
+abbrev pub IsFresh : Records → Record → Type 0
+IsFresh k x = (HasAddress (same_kind k x) (address_of x) → ⊥) × (HasNumber (same_kind k x) (random_of x) → ⊥)
+
+-- the records with one more
+abbrev pub with_record : Records → Record → Records
+with_record k (Reserve a r) = record k { reserved = k.reserved ++ (a, r) ∷ [] }
+with_record k (Enrol a r) = record k { enrolled = k.enrolled ++ (a, r) ∷ [] }
+
+-- the least address of the block that no reservation has
+pub record IsLeastFree (b : Block) (reserved : List Assignment) (a : ℕ) : Type 0 where
+  pub within : InBlock b a
+  pub free : HasAddress reserved a → ⊥
+  pub least : (c : ℕ) → InBlock b c → c < a → HasAddress reserved c
+
+-- each address of the block is reserved
+abbrev pub IsFull : Block → List Assignment → Type 0
+IsFull b reserved = (a : ℕ) → InBlock b a → HasAddress reserved a

@@ -1,0 +1,96 @@
+use Rattle.std.specs.Prelude.{◌≡◌, ℕ, ◌<◌, List, [], ◌∷◌, Some}
+use Rattle.dali_frame.specs.declared.frames.Forward.{Forward}
+use Rattle.dali_frame.specs.declared.frames.Answer.{Answer}
+use Rattle.dali_frame.specs.declared.frames.Answer.TheVariants.{Byte}
+use Rattle.dali_frame.specs.declared.numbers.SearchAddress.{SearchAddress}
+use Rattle.dali_frame.specs.Short.{code_of}
+use Rattle.dali_frame.specs.Random.{value_of}
+use Rattle.dali_special.specs.declared.command.Target.TheVariants.{Unaddressed}
+use Rattle.dali_special.specs.declared.command.Command.{Command}
+use Rattle.dali_special.specs.declared.command.Command.TheVariants.{Terminate, Initialise, Randomise, Compare, Withdraw, SearchHigh, SearchMiddle, SearchLow, Program, QueryShort, Arc}
+use Rattle.dali_special.specs.Command.{MASK, command_of}
+use Rattle.dali_script.specs.declared.block.Block.{Block}
+use Rattle.dali_script.specs.declared.trace.Entry.{Entry}
+use Rattle.dali_script.specs.Records.{Assignment, Has, InBlock, MASK24}
+
+-- What must be heard after a frame for its script to go on.
+pub data Wanted : Type 0 where
+  anything : Wanted
+  no_address : Wanted
+  some_address : Wanted
+  address : ℕ → Wanted
+
+abbrev pub IsHeard : Wanted → Answer → Type 0
+IsHeard anything h = Unit {0}
+IsHeard no_address h = h ≡ Byte MASK
+IsHeard some_address h = (b : ℕ) × (b < 64) × (h ≡ Byte (code_of b))
+IsHeard (address a) h = h ≡ Byte (code_of a)
+
+-- one frame of a script
+pub record Step : Type 0 where
+  pub command : Command
+  pub wanted : Wanted
+
+abbrev pub sends : Command → Step
+sends c = record { command = c; wanted = anything }
+
+-- QUERY SHORT ADDRESS
+abbrev pub queries : Wanted → Step
+queries w = record { command = QueryShort; wanted = w }
+
+-- SEARCHADDRH, SEARCHADDRM and SEARCHADDRL, each sent anew
+abbrev pub search_at : SearchAddress → List Step → List Step
+search_at r more = sends (SearchHigh r.high) ∷ sends (SearchMiddle r.middle) ∷ sends (SearchLow r.low) ∷ more
+
+-- THE SCRIPTS: all that a transaction of commissioning may be (this project's profile of IEC 62386-102:2014, special commands).
+pub data Script : Type 0 where
+  Open : Script
+  Probe : SearchAddress → Script
+  Look : SearchAddress → Script
+  Give : SearchAddress → ℕ → Script
+  Close : Script
+  ArcPower : Forward → Script
+
+abbrev pub steps : Script → List Step
+steps Open = sends Terminate ∷ sends (Initialise Unaddressed) ∷ sends (Initialise Unaddressed) ∷ sends Randomise ∷ sends Randomise ∷ []
+steps (Probe r) = search_at r (sends Compare ∷ [])
+steps (Look r) = search_at r (queries some_address ∷ sends Withdraw ∷ [])
+steps (Give r a) = search_at r (queries no_address ∷ sends (Program (Some a)) ∷ queries (address a) ∷ sends Withdraw ∷ [])
+steps Close = sends Terminate ∷ []
+steps (ArcPower f) = sends (Arc f) ∷ []
+
+-- An address may be given to the gear at a search address: one that gear draw, and for which the sender has reserved it in its block.
+pub record MayGive (b : Block) (reserved : List Assignment) (r : SearchAddress) (a : ℕ) : Type 0 where
+  pub drawn : value_of r < MASK24
+  pub within : InBlock b a
+  pub reserved_for : Has reserved (a, value_of r)
+
+abbrev pub MaySend : Block → List Assignment → Script → Type 0
+MaySend b reserved (Give r a) = MayGive b reserved r a
+MaySend b reserved _ = Unit {0}
+
+-- The frames of a trace, each with what was heard, and then one more frame are a front of these steps.
+abbrev pub IsFront : List Entry → Forward → List Step → Type 0
+IsFront _ f [] = ⊥
+IsFront [] f (s ∷ ss) = command_of f ≡ s.command
+IsFront (e ∷ t) f (s ∷ ss) = (command_of e.frame ≡ s.command) × IsHeard s.wanted e.heard × IsFront t f ss
+
+-- LAWFUL: the frame may follow the trace, for a sender with this block and these reservations.
+abbrev pub Lawful : Block → List Assignment → List Entry → Forward → Type 0
+Lawful b reserved t f = (s : Script) × MaySend b reserved s × IsFront t f (steps s)
+
+-- some sender may send the frame after the trace
+abbrev pub IsLawful : List Entry → Forward → Type 0
+IsLawful t f = (b : Block) × (reserved : List Assignment) × Lawful b reserved t f
+
+-- COMPLETE: no frame may follow.
+abbrev pub IsComplete : Block → List Assignment → List Entry → Type 0
+IsComplete b reserved t = (f : Forward) → Lawful b reserved t f → ⊥
+
+-- two bytes
+abbrev pub IsFrame : Forward → Type 0
+IsFrame f = (f.address_byte < 256) × (f.opcode_byte < 256)
+
+-- a frame may follow: the opposite of complete, with the frame at hand
+abbrev pub GoesOn : Block → List Assignment → List Entry → Type 0
+GoesOn b reserved t = (f : Forward) × IsFrame f × Lawful b reserved t f

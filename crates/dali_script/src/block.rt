@@ -1,0 +1,8 @@
+use dali_frame::Short;
+
+/// The short addresses that one controller may give, `first` to `last`; empty where `first` is above `last`.
+#[derive(Clone, Copy, Debug, PartialEq, Eq, Hash)]
+pub struct Block {
+    pub first: Short,
+    pub last: Short,
+}

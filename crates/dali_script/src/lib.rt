@@ -1,0 +1,21 @@
+//! Which transactions a controller may send while it commissions short addresses, and the records that it keeps meanwhile.
+//!
+//! A transaction is a front of one of six scripts ([`Trace`]); what a controller has reserved and enrolled is [`Kept`].
+//! Only `Kept::new` and `Kept::copy` take memory.
+#![tactic(auto)]
+
+mod block;
+mod kept;
+pub mod laws;
+mod records;
+mod stage;
+mod trace;
+
+pub use block::Block;
+pub use kept::Kept;
+pub use records::{AddError, MakeError, Record};
+pub use stage::Stage;
+pub use trace::{Entry, Trace};
+
+#[cfg(test)]
+mod tests;

@@ -1,0 +1,56 @@
+ghost use Rattle.std.specs.Prelude.{◌≡◌};
+ghost use Rattle.dali_script.specs.Refusals.{make_number_of, add_number_of};
+
+use dali_frame::{Random24, Short};
+use thiserror::Error;
+
+/// What a controller decides once and for all: a short address, and the random address of the gear that it is for.
+#[derive(Clone, Copy, Debug, PartialEq, Eq, Hash)]
+pub enum Record {
+    /// The address is kept for the gear with this random address, and may be programmed into it alone.
+    Reserve(Short, Random24),
+    /// The gear with this random address was found with this short address.
+    Enrol(Short, Random24),
+}
+
+/// Why there are no records. The number never changes.
+#[derive(Clone, Copy, Debug, PartialEq, Eq, Hash, Error)]
+pub enum MakeError {
+    /// 1: memory ran out.
+    #[error("out of memory")]
+    NoMemory,
+}
+
+impl MakeError {
+    /// The refusal's number.
+    pub fn number(self) -> u8
+        ensures { result ≡ make_number_of self }
+    {
+        match self {
+            MakeError::NoMemory => 1,
+        }
+    }
+}
+
+/// Why a record is not added. The numbers never change.
+#[derive(Clone, Copy, Debug, PartialEq, Eq, Hash, Error)]
+pub enum AddError {
+    /// 3: a record of this kind has the short address.
+    #[error("the short address has a record of this kind")]
+    AddressTaken,
+    /// 4: a record of this kind has the random address.
+    #[error("the random address has a record of this kind")]
+    RandomTaken,
+}
+
+impl AddError {
+    /// The refusal's number.
+    pub fn number(self) -> u8
+        ensures { result ≡ add_number_of self }
+    {
+        match self {
+            AddError::AddressTaken => 3,
+            AddError::RandomTaken => 4,
+        }
+    }
+}

@@ -1,0 +1,111 @@
+ghost use Rattle.std.specs.Prelude.{◌≡◌, ℕ, ◌<◌, ◌↔◌, List, [], ◌∷◌, ◌++◌, false, not, IsTrue, length};
+ghost use Rattle.dali_frame.specs.declared.frames.Forward.{Forward};
+ghost use Rattle.dali_special.specs.Command.{command_of};
+
+use crate::kept::Kept;
+use crate::stage::Stage;
+use arrayvec::ArrayVec;
+use dali_frame::{Answer, Forward, Random24, Short};
+use dali_special::Command;
+use std::marker::Model;
+
+/// One frame of a transaction, and what was heard after it.
+#[derive(Clone, Copy, Debug, PartialEq, Eq, Hash)]
+pub struct Entry {
+    pub frame: Forward,
+    pub heard: Answer,
+}
+
+/// TERMINATE, heard as silence.
+impl Default for Entry {
+    fn default() -> Entry {
+        Entry {
+            frame: Forward {
+                address_byte: 0xA1,
+                opcode_byte: 0,
+            },
+            heard: Answer::Silence,
+        }
+    }
+}
+
+/// The frames of a running transaction, each with what was heard. No script has more than seven.
+///
+/// Contracts see the list of entries, oldest first.
+#[derive(Drop)]
+pub struct Trace {
+    entries: ArrayVec<Entry, 8>,
+    stage: Stage,
+}
+
+impl Model for Trace {
+    ghost use Rattle.std.specs.Prelude.{◌≡◌, List};
+    ghost use Rattle.dali_script.specs.declared.trace.Entry.{Entry};
+    ghost use Rattle.dali_script.specs.Stages.{IsTrace};
+
+    ghost Value = { List Entry };
+
+    ghost view = { λ t. t.entries.items };
+
+    ghost invariant = { λ t. IsTrace t.stage t.entries.items };
+}
+
+impl Trace {
+    ghost use Rattle.dali_script.specs.Scripts.{Lawful, IsLawful, IsComplete, GoesOn};
+    ghost use Rattle.dali_script.specs.Findings.{finding_of};
+    ghost use Rattle.dali_script.specs.Stages.{stage_of, follows, may_follow};
+
+    /// No transaction yet.
+    pub fn new() -> Trace
+        ensures { result ≡ [] }
+    {
+        Trace {
+            entries: ArrayVec::new(),
+            stage: Stage::Free,
+        }
+    }
+
+    /// Whether a frame may follow, for a sender with these records.
+    pub fn allows(&self, kept: &Kept, frame: Forward) -> bool
+        ensures lawful { IsTrue result ↔ Lawful kept.now.block kept.now.reserved self.now frame }
+        ensures stage { result
+            ≡ follows kept.now.block kept.now.reserved (stage_of self.now) (command_of frame) }
+    {
+        self.stage.allows(kept, Command::read(frame))
+    }
+
+    /// Adds a frame that was sent, and what was heard after it.
+    pub fn push(&mut self, frame: Forward, heard: Answer)
+        requires { IsLawful self.old frame }
+        ensures { self.new ≡ self.old ++ (record { frame = frame; heard = heard }) ∷ [] }
+    {
+        self.entries.push(Entry { frame, heard });
+        self.stage = self.stage.next(Command::read(frame), heard);
+    }
+
+    /// Whether no frame may follow, for a sender with these records.
+    pub fn complete(&self, kept: &Kept) -> bool
+        ensures complete { IsTrue result → IsComplete kept.now.block kept.now.reserved self.now }
+        ensures goes_on { result ≡ false → GoesOn kept.now.block kept.now.reserved self.now }
+        ensures stage { result
+            ≡ not (may_follow kept.now.block kept.now.reserved (stage_of self.now)) }
+    {
+        // What is reserved are short addresses, so each has a frame that programs it.
+        let _ = kept.block();
+        !self.stage.goes_on(kept)
+    }
+
+    /// The last finding: the short address that QUERY SHORT ADDRESS was heard as, and the search address it was asked under.
+    pub fn finding(&self) -> Option<(Short, Random24)>
+        ensures { result ≡ finding_of self.now }
+    {
+        self.stage.finding()
+    }
+
+    /// How far the transaction is.
+    pub fn stage(&self) -> Stage
+        ensures { result ≡ stage_of self.now }
+    {
+        self.stage
+    }
+}
