@@ -1,0 +1,12 @@
+use dali_frame::Random24;
+
+/// What an answer leads to.
+#[derive(Clone, Copy, Debug, PartialEq, Eq, Hash)]
+pub enum Step {
+    /// The search goes on with another probe.
+    Again,
+    /// The search has ended: this is the least member.
+    Found(Random24),
+    /// The search has ended: there is no member.
+    Nobody,
+}
