@@ -1,3 +1,4 @@
 pub mod Lists
 pub mod Giving
 pub mod Transactions
+pub mod Examples

@@ -3,7 +3,9 @@ use Rattle.std.specs.Prelude.{◌==◌, ◌||◌, ◌&&◌, OnOk, OnErr, if◌th
 use Rattle.std.specs.List.{list_any}
 use Rattle.std.proofs.lemmas.Bool.Decides.{nat_tests}
 use Rattle.dali_script.specs.declared.block.Block.{Block}
-use Rattle.dali_script.specs.Records.{Assignment, Has, IsOnce, addresses, numbers, HasAddress, HasNumber, InBlock, IsMap, MASK24}
+use Rattle.dali_script.specs.declared.records.Record.{Record}
+use Rattle.dali_script.specs.declared.records.Record.TheVariants.{Reserve, Enrol}
+use Rattle.dali_script.specs.Records.{Records, IsKept, without_records, Fits, IsFresh, address_of, with_record, Assignment, Has, IsOnce, addresses, numbers, HasAddress, HasNumber, InBlock, IsMap, MASK24}
 
 -- a test over a list finds what stands in it
 pub has_by_test : (key : Assignment → ℕ) (xs : List Assignment) (a : ℕ) → list_any (λ p. key p == a) xs ≡ true → Has (map key xs) a
@@ -192,3 +194,21 @@ reserved_more b xs n below here c low high = go (nat_eq c n) refl where
   go : (t : Bool) → nat_eq c n ≡ t → HasAddress xs c
   go true is = let same : n ≡ c = grind (arith, nat_tests) in subst (λ d. HasAddress xs d) same here
   go false is = below c low (grind (arith, nat_tests))
+
+-- RECORDS STAY KEPT
+pub kept_none : (b : Block) → IsKept (without_records b)
+kept_none b = record { reserved = map_none; enrolled = map_none; within = λ c h. absurd h } where
+  map_none : IsMap []
+  map_none = record { address_once = tt; number_once = tt; short = λ a h. absurd h; drawn = λ r h. absurd h; room = omega arith }
+
+pub kept_more : (k : Records) (x : Record) → IsKept k → Fits k.block x → address_of x < 64 → IsFresh k x → IsKept (with_record k x)
+kept_more k (Reserve a r) m fits small fresh = record {
+  reserved = map_more k.reserved a r m.reserved fresh.0 fresh.1 small fits.1;
+  enrolled = m.enrolled;
+  within = λ c h. go c (has_cases (addresses k.reserved) a c (subst (λ ys. Has ys c) (map_append (λ p. p.0) k.reserved (a, r)) h));
+} where
+  go : (c : ℕ) → Has (addresses k.reserved) c ⊎ (a ≡ c) → InBlock k.block c
+  go c (inl h) = m.within c h
+  go c (inr e) = subst (λ d. InBlock k.block d) e fits.0
+kept_more k (Enrol a r) m fits small fresh =
+    record { reserved = m.reserved; enrolled = map_more k.enrolled a r m.enrolled fresh.0 fresh.1 small fits; within = m.within }

@@ -18,7 +18,7 @@ use Rattle.dali_script.specs.declared.trace.Entry.{Entry}
 use Rattle.dali_script.specs.declared.stage.Stage.{Stage}
 use Rattle.dali_script.specs.declared.stage.Stage.TheVariants.{Free, Terminated, InitialisedOnce, Initialised, RandomisedOnce, Opened, HighSent, MiddleSent, NumberSent, Probed, Found, Unnamed, Inconclusive, Programmed, Confirmed, Withdrawn, Over}
 use Rattle.dali_script.specs.Records.{Assignment, HasAddress}
-use Rattle.dali_script.specs.Scripts.{no_address, some_address, address, IsHeard, Step, sends, queries, search_at, Script, Open, Probe, Look, Give, Close, ArcPower, steps, MayGive, MaySend, IsFront, Lawful, IsLawful, IsComplete, IsFrame, GoesOn}
+use Rattle.dali_script.specs.Scripts.{no_address, some_address, address, IsHeard, Step, sends, queries, search_at, Script, Open, Probe, Look, Give, Close, ArcPower, steps, MayGive, MaySend, IsFront, Lawful, IsLawful, IsFirst, IsComplete, IsFrame, GoesOn}
 use Rattle.dali_script.specs.Findings.{search_after, at_power_on, searched_from, searched, found_by, later, finding_from, finding_of}
 use Rattle.dali_script.proofs.Lists.{has_map}
 use Rattle.dali_script.proofs.Giving.{may_give_by, may_give_from, may_give_some_by, may_give_some_from}
@@ -638,6 +638,18 @@ pub begins_by : (b : Block) (xs : List Assignment) (f : Forward)
 begins_by b xs f (inl e) = (Close, tt, e)
 begins_by b xs f (inr (inl e)) = (Probe (record { high = e.0; middle = 0; low = 0 }), tt, e.1)
 begins_by b xs f (inr (inr e)) = (ArcPower e.0, tt, e.1)
+
+pub first_commands : (f : Forward) → IsFirst f
+    → (command_of f ≡ Terminate) ⊎ (((high : ℕ) × (command_of f ≡ SearchHigh high)) ⊎ ((g : Forward) × (command_of f ≡ Arc g)))
+first_commands f first = first_frames first.0 first.1 f first.2
+
+pub first_by : (f : Forward)
+    → (command_of f ≡ Terminate) ⊎ (((high : ℕ) × (command_of f ≡ SearchHigh high)) ⊎ ((g : Forward) × (command_of f ≡ Arc g))) → IsFirst f
+first_by f is = (record { first = 0; last = 0 }, [], begins_by (record { first = 0; last = 0 }) [] f is)
+
+-- whoever sends it
+pub first_for_all : (b : Block) (xs : List Assignment) (f : Forward) → IsFirst f → Lawful b xs [] f
+first_for_all b xs f first = begins_by b xs f (first_commands f first)
 
 pub initialise_at : (b : Block) (xs : List Assignment) (t : List Entry) (f : Forward) (g : Target) → Lawful b xs t f → command_of f ≡ Initialise g
     → (g ≡ Unaddressed) × ((stage_of t ≡ Terminated) ⊎ (stage_of t ≡ InitialisedOnce))

@@ -34,7 +34,7 @@ pub record Step : Type 0 where
 abbrev pub sends : Command → Step
 sends c = record { command = c; wanted = anything }
 
--- QUERY SHORT ADDRESS
+-- QUERY SHORT ADDRESS, with what must be heard for the script to go on
 abbrev pub queries : Wanted → Step
 queries w = record { command = QueryShort; wanted = w }
 
@@ -59,7 +59,7 @@ steps (Give r a) = search_at r (queries no_address ∷ sends (Program (Some a)) 
 steps Close = sends Terminate ∷ []
 steps (ArcPower f) = sends (Arc f) ∷ []
 
--- An address may be given to the gear at a search address: one that gear draw, and for which the sender has reserved it in its block.
+-- What may be given to the gear at a search address: its number is one that gear draw, and the sender has reserved the address for it, in its block.
 pub record MayGive (b : Block) (reserved : List Assignment) (r : SearchAddress) (a : ℕ) : Type 0 where
   pub drawn : value_of r < MASK24
   pub within : InBlock b a
@@ -82,6 +82,10 @@ Lawful b reserved t f = (s : Script) × MaySend b reserved s × IsFront t f (ste
 -- some sender may send the frame after the trace
 abbrev pub IsLawful : List Entry → Forward → Type 0
 IsLawful t f = (b : Block) × (reserved : List Assignment) × Lawful b reserved t f
+
+-- A first frame: one that may begin a transaction.
+abbrev pub IsFirst : Forward → Type 0
+IsFirst f = IsLawful [] f
 
 -- COMPLETE: no frame may follow.
 abbrev pub IsComplete : Block → List Assignment → List Entry → Type 0

@@ -13,10 +13,11 @@ ghost use Rattle.dali_special.specs.declared.command.Command.TheVariants.{Termin
 ghost use Rattle.dali_special.specs.Command.{command_of};
 ghost use Rattle.dali_script.specs.declared.block.Block.{Block};
 ghost use Rattle.dali_script.specs.declared.trace.Entry.{Entry};
+ghost use Rattle.dali_script.specs.declared.records.Record.{Record};
 ghost use Rattle.dali_script.specs.declared.stage.Stage.{Stage};
 ghost use Rattle.dali_script.specs.declared.stage.Stage.TheVariants.{Free, Terminated, InitialisedOnce, Initialised, RandomisedOnce, NumberSent, Found, Unnamed, Programmed, Confirmed};
-ghost use Rattle.dali_script.specs.Records.{Assignment, HasAddress};
-ghost use Rattle.dali_script.specs.Scripts.{Lawful, MayGive, IsComplete, GoesOn};
+ghost use Rattle.dali_script.specs.Records.{Assignment, Records, Has, HasAddress, IsMap, IsKept, Fits, IsFresh, address_of, without_records, with_record};
+ghost use Rattle.dali_script.specs.Scripts.{Lawful, IsFirst, MayGive, IsComplete, GoesOn};
 ghost use Rattle.dali_script.specs.Findings.{search_after, searched, found_by, later, finding_of};
 ghost use Rattle.dali_script.specs.Stages.{Follows, follows, may_follow, next_stage, stage_of, finding_at, IsSearched};
 
@@ -46,7 +47,8 @@ pub fn stages_say_what_was_sent_and_found()
 
 /// A transaction begins with TERMINATE, SEARCHADDRH or direct arc power, and none of these comes later in one.
 pub fn transactions_begin_once()
-    ensures begins { (b : Block) (xs : List Assignment) (f : Forward) → Lawful b xs [] f
+    ensures begins { (b : Block) (xs : List Assignment) (f : Forward) → Lawful b xs [] f ↔ IsFirst f }
+    ensures first { (f : Forward) → IsFirst f
         ↔ ((command_of f ≡ Terminate) ⊎ (((high : ℕ) × (command_of f ≡ SearchHigh high)) ⊎ ((g : Forward) × (command_of f ≡ Arc g)))) }
     ensures terminate { (b : Block) (xs : List Assignment) (t : List Entry) (f : Forward) → Lawful b xs t f → command_of f ≡ Terminate → t ≡ [] }
     ensures search_high { (b : Block) (xs : List Assignment) (t : List Entry) (f : Forward) (high : ℕ) → Lawful b xs t f → command_of f ≡ SearchHigh high → t ≡ [] }
@@ -79,4 +81,12 @@ pub fn transactions_end()
     ensures room { (b : Block) (xs : List Assignment) (t : List Entry) (f : Forward) → Lawful b xs t f → length t < 7 }
     ensures complete { (b : Block) (xs : List Assignment) (t : List Entry) → may_follow b xs (stage_of t) ≡ false → IsComplete b xs t }
     ensures goes_on { (b : Block) (xs : List Assignment) (t : List Entry) → ((a : ℕ) → HasAddress xs a → a < 64) → may_follow b xs (stage_of t) ≡ true → GoesOn b xs t }
+{}
+
+/// What holds of all records that are kept holds of none, and of one more that fits and is fresh;
+/// and a number has one address.
+pub fn records_stay_kept()
+    ensures none { (b : Block) → IsKept (without_records b) }
+    ensures more { (k : Records) (x : Record) → IsKept k → Fits k.block x → address_of x < 64 → IsFresh k x → IsKept (with_record k x) }
+    ensures one_address { (xs : List Assignment) (a c n : ℕ) → IsMap xs → Has xs (a, n) → Has xs (c, n) → a ≡ c }
 {}

@@ -80,14 +80,12 @@ impl Stage {
                 Command::Program(short) => Stage::programmed(number, short),
                 _ => Stage::Over,
             },
-            Stage::Programmed(number, short) => match command {
-                Command::QueryShort => Stage::verified(number, short, heard),
-                _ => Stage::Over,
-            },
-            Stage::Found(number, short) | Stage::Confirmed(number, short) => match command {
-                Command::Withdraw => Stage::Withdrawn(number, short),
-                _ => Stage::Over,
-            },
+            Stage::Programmed(number, short) if command == Command::QueryShort => {
+                Stage::verified(number, short, heard)
+            }
+            Stage::Found(number, short) | Stage::Confirmed(number, short) => {
+                Stage::Withdrawn(number, short).after(command == Command::Withdraw)
+            }
             _ => Stage::Over,
         }
     }

@@ -18,6 +18,12 @@ pub struct Entry {
 
 /// TERMINATE, heard as silence.
 impl Default for Entry {
+    ghost use Rattle.std.specs.Prelude.{◌≡◌};
+    ghost use Rattle.dali_frame.specs.declared.frames.Answer.TheVariants.{Silence};
+    ghost use Rattle.dali_special.specs.Command.{frame};
+
+    ghost is_default = { λ e. e ≡ (record { frame = frame 0xA1 0; heard = Silence }) };
+
     fn default() -> Entry {
         Entry {
             frame: Forward {

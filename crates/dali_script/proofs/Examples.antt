@@ -1,0 +1,60 @@
+-- Worked examples of what may follow: block 4 to 7, with 4 reserved for the random address 0ABCDE.
+use Rattle.std.proofs.Common.{◌≡◌, inl, true, ℕ, List, [], ◌∷◌, refl, lit<, lit≤}
+use Rattle.dali_frame.specs.declared.frames.Answer.{Answer}
+use Rattle.dali_frame.specs.declared.frames.Answer.TheVariants.{Silence, Byte, Damaged}
+use Rattle.dali_special.specs.Command.{command_of, frame}
+use Rattle.dali_script.specs.declared.block.Block.{Block}
+use Rattle.dali_script.specs.declared.trace.Entry.{Entry}
+use Rattle.dali_script.specs.Records.{Assignment}
+use Rattle.dali_script.specs.Scripts.{Look, Give, Lawful}
+use Rattle.dali_script.specs.Stages.{stage_of, follows}
+use Rattle.dali_script.proofs.Transactions.{follows_lawful, follows_test}
+
+block : Block
+block = record { first = 4; last = 7 }
+
+reserved : List Assignment
+reserved = (4, 0x0ABCDE) ∷ []
+
+sent : ℕ → ℕ → Answer → Entry
+sent address opcode heard = record { frame = frame address opcode; heard = heard }
+
+searched_with : List Entry → List Entry
+searched_with more = sent 0xB1 0x0A Silence ∷ sent 0xB3 0xBC Silence ∷ sent 0xB5 0xDE Silence ∷ more
+
+-- The gear at the number has no address: PROGRAM of the address reserved for it may follow.
+reserved_address_is_given : Lawful block reserved (searched_with (sent 0xBB 0 (Byte 0xFF) ∷ [])) (frame 0xB7 0x09)
+unfolding block reserved sent searched_with command_of
+reserved_address_is_given = (
+  Give (record { high = 0x0A; middle = 0xBC; low = 0xDE }) 4,
+  record { drawn = lit< tt; within = (lit≤ tt, lit≤ tt); reserved_for = inl refl },
+  ((refl, tt, (refl, tt, (refl, tt, (refl, refl, refl))))),
+)
+
+-- An address was heard: WITHDRAW may follow.
+heard_address_is_withdrawn : Lawful block [] (searched_with (sent 0xBB 0 (Byte 0x09) ∷ [])) (frame 0xAB 0)
+unfolding block sent searched_with command_of
+heard_address_is_withdrawn =
+    (Look (record { high = 0x0A; middle = 0xBC; low = 0xDE }), tt, (refl, tt, (refl, tt, (refl, tt, (refl, (4, lit< tt, refl), refl)))))
+
+-- PROGRAM of another address may not, nor after SEARCHADDRH, M and L alone, nor WITHDRAW after a damaged answer.
+other_address_is_not_given : Lawful block reserved (searched_with (sent 0xBB 0 (Byte 0xFF) ∷ [])) (frame 0xB7 0x0B) → ⊥
+unfolding block reserved sent searched_with command_of stage_of
+other_address_is_not_given lawful =
+    let t = searched_with (sent 0xBB 0 (Byte 0xFF) ∷ []) in
+    let test : follows block reserved (stage_of t) (command_of (frame 0xB7 0x0B)) ≡ true = follows_test block reserved (stage_of t) (command_of (frame 0xB7 0x0B)) (follows_lawful block reserved t (frame 0xB7 0x0B) lawful) in
+    cc
+
+no_program_without_query : Lawful block reserved (searched_with []) (frame 0xB7 0x09) → ⊥
+unfolding block reserved sent searched_with command_of stage_of
+no_program_without_query lawful =
+    let t = searched_with [] in
+    let test : follows block reserved (stage_of t) (command_of (frame 0xB7 0x09)) ≡ true = follows_test block reserved (stage_of t) (command_of (frame 0xB7 0x09)) (follows_lawful block reserved t (frame 0xB7 0x09) lawful) in
+    cc
+
+no_withdraw_after_damage : Lawful block reserved (searched_with (sent 0xBB 0 Damaged ∷ [])) (frame 0xAB 0) → ⊥
+unfolding block reserved sent searched_with command_of stage_of
+no_withdraw_after_damage lawful =
+    let t = searched_with (sent 0xBB 0 Damaged ∷ []) in
+    let test : follows block reserved (stage_of t) (command_of (frame 0xAB 0)) ≡ true = follows_test block reserved (stage_of t) (command_of (frame 0xAB 0)) (follows_lawful block reserved t (frame 0xAB 0) lawful) in
+    cc
