@@ -1,1 +1,3 @@
+pub mod Agreement
+mod Heard
 mod Narrowing

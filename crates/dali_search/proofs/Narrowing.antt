@@ -1,10 +1,11 @@
-use Rattle.std.proofs.Common.{◌≡◌, ℕ, ◌+◌, ◌*◌, ◌/◌, ◌^◌, ◌<◌, ◌≤◌, Bool, true, false, List, [], ◌∷◌, ◌++◌, refl, sym, ap, subst, ◌∙◌, arith, length, length-append, nat_lt, max, min}
+use Rattle.std.proofs.Common.{◌≡◌, ℕ, ◌+◌, ◌*◌, ◌/◌, ◌^◌, ◌<◌, ◌≤◌, Bool, true, false, List, [], ◌∷◌, ◌++◌, refl, sym, ap, subst, ◌∙◌, arith, length, length-append, add-one, nat_lt, max, min}
 use Rattle.std.specs.Prelude.{◌==◌, if◌then◌else◌, zero, suc}
 use Rattle.std.proofs.lemmas.Bool.Decides.{nat_tests}
 use Rattle.dali_search.specs.declared.step.Step.{Step}
 use Rattle.dali_search.specs.declared.step.Step.TheVariants.{Again, Found, Nobody}
 use Rattle.dali_search.specs.Least.{Searched, IsBelow, HasAtMost, Agrees, IsLeast, Says, NumberOf, lowest, highest, step_between, step_after, probe_between, probe_after}
-use Rattle.dali_search.specs.Narrowing.{Narrows}
+use Rattle.dali_search.specs.Narrowing.{Narrows, left_of, answers_of}
+use Rattle.dali_search.proofs.Heard.{heard_more}
 
 -- a further answer
 lowest_yes : (xs : List (ℕ × Bool)) (p : ℕ) → lowest (xs ++ (p, true) ∷ []) ≡ lowest xs
@@ -154,7 +155,15 @@ next_probe_small low high p q is top small = grind (arith, nat_tests)
 at_top : (low high p : ℕ) → p ≡ probe_between low high → high ≡ 0xFFFFFF → p ≡ 0xFFFFFE
 at_top low high p is e = grind (arith, nat_tests)
 
-pub narrows_more : (low high next_low next_high : ℕ) (s t : Searched) (said : Bool) → Narrows low high s → s.step ≡ Again
+low_at_first : (low high : ℕ) (s : Searched) → Narrows low high s → low < high → high ≡ 0xFFFFFF → low ≡ 0
+low_at_first low high s n less e = sym n.low_is ∙ nothing_asked s.answers (n.untouched e less)
+
+probe_inside : (low high : ℕ) (s : Searched) → Narrows low high s → s.step ≡ Again → low ≤ s.probe × s.probe < high
+probe_inside low high s n running =
+    let less : low < high = again_less low high (sym n.step_is ∙ running) in
+    subst (λ p. low ≤ p × p < high) (sym (n.probe_is running)) (probe_between_both low high less n.top (low_at_first low high s n less))
+
+narrows_more : (low high next_low next_high : ℕ) (s t : Searched) (said : Bool) → Narrows low high s → s.step ≡ Again
     → t.answers ≡ s.answers ++ (s.probe, said) ∷ []
     → next_low ≡ (if said then low else s.probe + 1) → next_high ≡ (if said then s.probe else high)
     → t.step ≡ step_between next_low next_high
@@ -163,8 +172,8 @@ pub narrows_more : (low high next_low next_high : ℕ) (s t : Searched) (said : 
 narrows_more low high next_low next_high s t said n running answers low_is high_is step probe =
     let less : low < high = again_less low high (sym n.step_is ∙ running) in
     let asked : s.probe ≡ probe_between low high = n.probe_is running in
-    let first_low : high ≡ 0xFFFFFF → low ≡ 0 = λ e. sym n.low_is ∙ nothing_asked s.answers (n.untouched e less) in
-    let inside : low ≤ s.probe × s.probe < high = subst (λ p. low ≤ p × p < high) (sym asked) (probe_between_both low high less n.top first_low) in
+    let first_low : high ≡ 0xFFFFFF → low ≡ 0 = low_at_first low high s n less in
+    let inside : low ≤ s.probe × s.probe < high = probe_inside low high s n running in
     let one_more : length t.answers ≡ length s.answers + 1 = ap length answers ∙ simp (length-append) in
     let few = few_more low high s.probe (length s.answers) less n.top asked (λ e. n.untouched e less) first_low n.few.0 n.few.1 n.few.2 in
     go said answers low_is high_is less asked first_low inside one_more few
@@ -221,3 +230,28 @@ below_told low high s n = subst (λ step. NumberOf step (λ r. r < 0xFFFFFF)) (s
   go true c less is = tt
   go false true less is = tt
   go false false less is = let top : high ≤ 0xFFFFFF = n.top in let order : low ≤ high = n.order in grind (arith, nat_tests)
+
+-- one more answer, as it is told by the number of answers and the least number that they leave
+heard_next : (k low high next_low next_high : ℕ) (s : Searched) (said : Bool) → Narrows low high s → s.step ≡ Again → left_of k low ≡ (low, high)
+    → next_low ≡ (if said then low else s.probe + 1) → next_high ≡ (if said then s.probe else high)
+    → (left_of (k + 1) next_low ≡ (next_low, next_high)) × (answers_of (k + 1) next_low ≡ answers_of k low ++ (s.probe, said) ∷ [])
+heard_next k low high next_low next_high s said n running here low_is high_is =
+    let less : low < high = again_less low high (sym n.step_is ∙ running) in
+    rw add-one (heard_more k low high s.probe next_low next_high said here less n.top (n.probe_is running) (probe_inside low high s n running) low_is high_is)
+
+pub heard_told : (k low high next_low next_high p : ℕ) (step : Step) (said : Bool)
+    → Narrows low high (record { answers = answers_of k low; probe = p; step = step }) → step ≡ Again → left_of k low ≡ (low, high)
+    → next_low ≡ (if said then low else p + 1) → next_high ≡ (if said then p else high)
+    → answers_of (k + 1) next_low ≡ answers_of k low ++ (p, said) ∷ []
+heard_told k low high next_low next_high p step said n running here low_is high_is =
+    (heard_next k low high next_low next_high (record { answers = answers_of k low; probe = p; step = step }) said n running here low_is high_is).1
+
+pub stands_more : (k low high next_low next_high p q : ℕ) (step next : Step) (said : Bool)
+    → Narrows low high (record { answers = answers_of k low; probe = p; step = step }) → step ≡ Again → left_of k low ≡ (low, high)
+    → next_low ≡ (if said then low else p + 1) → next_high ≡ (if said then p else high)
+    → next ≡ step_between next_low next_high → q ≡ (if nat_lt next_low next_high then probe_between next_low next_high else p)
+    → Narrows next_low next_high (record { answers = answers_of (k + 1) next_low; probe = q; step = next }) × (left_of (k + 1) next_low ≡ (next_low, next_high))
+stands_more k low high next_low next_high p q step next said n running here low_is high_is next_is q_is =
+    let s : Searched = record { answers = answers_of k low; probe = p; step = step } in
+    let heard = heard_next k low high next_low next_high s said n running here low_is high_is in
+    (narrows_more low high next_low next_high s (record { answers = answers_of (k + 1) next_low; probe = q; step = next }) said n running heard.1 low_is high_is next_is q_is, heard.0)

@@ -1,4 +1,4 @@
-use Rattle.std.specs.Prelude.{◌≡◌, ℕ, ◌+◌, ◌^◌, ◌<◌, ◌≤◌, length}
+use Rattle.std.specs.Prelude.{◌≡◌, ℕ, zero, suc, ◌+◌, ◌^◌, ◌<◌, ◌≤◌, Bool, true, false, List, [], ◌∷◌, ◌++◌, length, nat_lt, if◌then◌else◌}
 use Rattle.dali_search.specs.declared.step.Step.TheVariants.{Again}
 use Rattle.dali_search.specs.Least.{Searched, lowest, highest, step_between, probe_between}
 
@@ -14,3 +14,28 @@ pub record Narrows (low high : ℕ) (s : Searched) : Type 0 where
   pub probe_top : s.probe < 0xFFFFFF
   pub count : length s.answers ≤ 25
   pub few : (left : ℕ) × (length s.answers + left ≡ 25) × (high < low + 2 ^ left)
+
+-- What a search has heard is told by how many answers there were, and by the least number that they leave: a set with
+-- this least member, where FFFFFF stands for a set with none, gives the same answers.
+
+-- the number that is asked while the numbers from l.0 to l.1 are left
+abbrev pub asked_of : ℕ × ℕ → ℕ
+asked_of l = probe_between l.0 l.1
+
+-- what that set answers
+abbrev pub answer_of : ℕ × ℕ → ℕ → ℕ × Bool
+answer_of l least = (asked_of l, if nat_lt (asked_of l) least then false else true)
+
+-- the numbers that this answer leaves
+abbrev pub narrowed : ℕ × ℕ → ℕ → ℕ × ℕ
+narrowed l least = if nat_lt (asked_of l) least then (asked_of l + 1, l.1) else (l.0, asked_of l)
+
+-- the numbers that so many answers leave
+abbrev pub left_of : ℕ → ℕ → ℕ × ℕ
+left_of zero least = (0, 0xFFFFFF)
+left_of (suc k) least = narrowed (left_of k least) least
+
+-- so many answers, oldest first
+abbrev pub answers_of : ℕ → ℕ → List (ℕ × Bool)
+answers_of zero least = []
+answers_of (suc k) least = answers_of k least ++ answer_of (left_of k least) least ∷ []

@@ -3,6 +3,7 @@
 //! A search is a pure value: it knows nothing of a bus, and takes no memory.
 #![tactic(auto)]
 
+pub mod laws;
 mod left;
 mod search;
 mod step;

@@ -5,7 +5,6 @@ ghost use Rattle.dali_search.specs.Least.{Searched, at_first, step_after, probe_
 
 use crate::left::Left;
 use crate::step::Step;
-use arrayvec::ArrayVec;
 use dali_frame::Random24;
 use std::marker::Model;
 
@@ -16,22 +15,27 @@ use std::marker::Model;
 /// see the probes with their answers so far, the probe that is next, and what the last answer led to.
 #[derive(Drop)]
 pub struct Search {
+    /// How many answers there were.
+    answers: u8,
+    /// The numbers that they leave.
     left: Left,
+    /// The number that is asked next; after an end the last one that was asked.
     probe: Random24,
+    /// What the last answer led to.
     step: Step,
-    answers: ArrayVec<(u32, bool), 25>,
 }
 
 impl Model for Search {
     ghost use Rattle.std.specs.Prelude.{◌≡◌};
     ghost use Rattle.dali_search.specs.Least.{Searched};
-    ghost use Rattle.dali_search.specs.Narrowing.{Narrows};
+    ghost use Rattle.dali_search.specs.Narrowing.{Narrows, answers_of, left_of};
 
     ghost Value = { Searched };
 
-    ghost view = { λ s. record { answers = s.answers.items; probe = s.probe; step = s.step } };
+    ghost view = { λ s. record { answers = answers_of s.answers s.left.low; probe = s.probe; step = s.step } };
 
-    ghost invariant = { λ s. Narrows s.left.low s.left.high (record { answers = s.answers.items; probe = s.probe; step = s.step }) };
+    ghost invariant = { λ s. Narrows s.left.low s.left.high (record { answers = answers_of s.answers s.left.low; probe = s.probe; step = s.step })
+        × (left_of s.answers s.left.low ≡ (s.left.low, s.left.high)) };
 }
 
 impl Search {
@@ -40,10 +44,10 @@ impl Search {
         ensures { result ≡ at_first }
     {
         Search {
+            answers: 0,
             left: Left::ALL,
             probe: Left::ALL.probe(),
             step: Step::Again,
-            answers: ArrayVec::new(),
         }
     }
 
@@ -82,7 +86,7 @@ impl Search {
             return self.step;
         };
         let asked = self.probe;
-        self.answers.push((asked.value(), yes));
+        self.answers += 1;
         self.left = self.left.narrowed(asked, yes);
         self.step = self.left.step();
         self.probe = self.left.probe_after(asked);
