@@ -4,3 +4,4 @@ pub mod Commands
 pub mod Scripts
 pub mod Findings
 pub mod Stages
+pub mod Laws

@@ -2,4 +2,4 @@ use Rattle.dali_script.proofs.Transactions.{searched_lawful, finding_lawful, sea
 use Rattle.dali_script.proofs.laws.stages_say_what_was_sent_and_found.Goals as goal
 
 pub returns : goal.returns
-returns c = record { searched = searched_lawful; finding = finding_lawful; searched_after = searched_after; finding_after = finding_after }
+returns c = record { search = searched_lawful; found = finding_lawful; searched_after = searched_after; finding_after = finding_after }

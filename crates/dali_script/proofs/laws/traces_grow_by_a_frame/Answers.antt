@@ -2,4 +2,4 @@ use Rattle.dali_script.proofs.Transactions.{stage_none, free_is_empty, stage_mor
 use Rattle.dali_script.proofs.laws.traces_grow_by_a_frame.Goals as goal
 
 pub returns : goal.returns
-returns c = record { none = stage_none; free = free_is_empty; stage = stage_more; searched = searched_more; finding = finding_more }
+returns c = record { none = stage_none; free = free_is_empty; stage = stage_more; search = searched_more; found = finding_more }
