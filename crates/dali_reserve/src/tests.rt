@@ -2,6 +2,7 @@ use super::*;
 use dali_frame::{Random24, Short};
 use dali_script::{Block, Record};
 use std::alloc::Global;
+use std::process::Abort;
 use std::test::Fail;
 
 fn short(number: u8) -> Result<Short, Fail> {
@@ -42,8 +43,11 @@ fn read_and_commit<K: Keep>(
 }
 
 /// One list of commits with each refusal, through the bound, and what is read back.
-fn commits_are_read_back<K: Keep>(rt: &HostRuntime, keep: &mut K) -> Result<(), Fail> {
-    let alloc = rt.alloc();
+fn commits_are_read_back<K: Keep>(
+    rt: &impl Abort,
+    alloc: Global,
+    keep: &mut K,
+) -> Result<(), Fail> {
     let commits = [
         (reserve(0, 0x123456)?, Ok(())),
         (reserve(0, 0x000001)?, Err(KeepError::AddressTaken)),
@@ -80,7 +84,7 @@ fn commits_are_read_back<K: Keep>(rt: &HostRuntime, keep: &mut K) -> Result<(), 
 #[test]
 fn every_store_keeps_a_list(rt: HostRuntime) -> Result<(), Fail> {
     let mut keep = MemoryKeep::new(rt.alloc(), block(0, 3)?)?;
-    commits_are_read_back(&rt, &mut keep)
+    commits_are_read_back(&rt, rt.alloc(), &mut keep)
 }
 
 #[test]
