@@ -21,6 +21,6 @@ RefusesCommit e = (e ≡ AddressTaken) ⊎ (e ≡ RandomTaken) ⊎ (e ≡ StoreF
 abbrev pub IsTaken : {A : Type 0} → Result A KeepError → Type 0
 IsTaken r = (r ≡ Err AddressTaken) ⊎ (r ≡ Err RandomTaken)
 
--- it isn't known whether the record was stored
-abbrev pub IsOpen : {A : Type 0} → Result A KeepError → Type 0
-IsOpen r = (r ≡ Err StoreFailed) ⊎ (r ≡ Err NoMemory)
+-- the commit failed: it isn't known whether its record is stored
+abbrev pub HasFailed : {A : Type 0} → Result A KeepError → Type 0
+HasFailed r = (r ≡ Err StoreFailed) ⊎ (r ≡ Err NoMemory)

@@ -3,7 +3,7 @@ ghost use Rattle.dali_script.specs.declared.block.Block.{Block};
 ghost use Rattle.dali_script.specs.declared.records.Record.{Record};
 ghost use Rattle.dali_script.specs.Records.{Records, without_records, Fits, HasAddress, HasNumber, same_kind, address_of, random_of, with_record};
 ghost use Rattle.dali_reserve.specs.declared.error.KeepError.TheVariants.{StoreFailed, AddressTaken, RandomTaken, BadStore};
-ghost use Rattle.dali_reserve.specs.Refusals.{RefusesRead, RefusesCommit, IsTaken, IsOpen};
+ghost use Rattle.dali_reserve.specs.Refusals.{RefusesRead, RefusesCommit, IsTaken, HasFailed};
 ghost use Rattle.dali_reserve.specs.Store.{AreGood, IsReplay};
 
 use crate::error::KeepError;
@@ -73,7 +73,7 @@ pub trait Keep {
 
         ensures ok { OnOk result ((kept self.new ≡ with_record (kept self.old) added) × (must_read self.new ≡ false)) }
         ensures taken { IsTaken result → (kept self.new ≡ kept self.old) × (must_read self.new ≡ false) }
-        ensures failed { IsOpen result → must_read self.new ≡ true }
+        ensures failed { HasFailed result → must_read self.new ≡ true }
 
         ensures block { block self.new ≡ block self.old }
         ensures up { is_up self.new → is_up self.old }
@@ -82,7 +82,7 @@ pub trait Keep {
             → (xs : List Record) → holds self.old xs → holds self.new (xs ++ added ∷ [])) }
         ensures adds_none { ((must_read self.old ≡ true) ⊎ IsTaken result) → is_sound self.old → is_up self.new
             → (xs : List Record) → holds self.old xs → holds self.new xs }
-        ensures adds_or_not { IsOpen result → is_sound self.old → is_up self.new
+        ensures adds_or_not { HasFailed result → is_sound self.old → is_up self.new
             → (xs : List Record) → holds self.old xs → holds self.new xs ⊎ holds self.new (xs ++ added ∷ []) };
 
     ghost has_records: { (s : Self) → is_sound s → (xs : List Record) × holds s xs };

@@ -34,6 +34,7 @@ impl MemoryKeep {
     /// A store with no records, for a controller with this block. It takes all the memory that commits will need.
     pub fn new(alloc: Global, block: Block) -> Result<MemoryKeep, KeepError>
         ensures empty { IfOk result (λ s. s ≡ without_records block) }
+        ensures sound { IfOk result HasRecords }
         ensures refusal { IfErr result (λ e. e ≡ NoMemory) }
     {
         match Kept::new(alloc, block) {

@@ -1,3 +1,6 @@
+ghost use Rattle.std.specs.Prelude.{◌≡◌, ◌↔◌, ◌⊎◌, List, [], ◌∷◌, ◌++◌, OnOk, IfOk, false};
+ghost use Rattle.dali_script.specs.declared.records.Record.{Record};
+
 use super::*;
 use dali_frame::{Random24, Short};
 use dali_script::{Block, Record};
@@ -33,7 +36,15 @@ fn read_and_commit<K: Keep>(
     keep: &mut K,
     alloc: Global,
     added: Record,
-) -> Result<Result<(), KeepError>, Fail> {
+) -> Result<Result<(), KeepError>, Fail>
+    ensures up { K.is_up keep.new → K.is_up keep.old }
+    ensures sound { K.is_sound keep.old → K.is_up keep.new → K.is_sound keep.new }
+    ensures list { K.is_sound keep.old → K.is_up keep.new → (xs : List Record) → K.holds keep.old xs
+        → K.holds keep.new xs ⊎ K.holds keep.new (xs ++ added ∷ []) }
+    ensures committed { IfOk result (λ answer. OnOk answer (K.is_sound keep.old → K.is_up keep.new → (xs : List Record) → K.holds keep.old xs
+        → K.holds keep.new (xs ++ added ∷ []))) }
+    ensures read { IfOk result (λ answer. OnOk answer (K.must_read keep.new ≡ false)) }
+{
     let kept = keep.read(alloc)?;
     if kept.fits(&added) {
         Ok(keep.commit(added))
