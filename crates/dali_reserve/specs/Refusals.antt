@@ -1,4 +1,4 @@
-use Rattle.std.specs.Prelude.{◌≡◌, ℕ, ◌⊎◌, Result, Ok, Err}
+use Rattle.std.specs.Prelude.{◌≡◌, ℕ, ◌⊎◌, Result, Err}
 use Rattle.dali_reserve.specs.declared.error.KeepError.{KeepError}
 use Rattle.dali_reserve.specs.declared.error.KeepError.TheVariants.{NoMemory, StoreFailed, AddressTaken, RandomTaken, BadStore}
 

@@ -67,8 +67,8 @@ pub trait Keep {
             ↔ ((must_read self.old ≡ false) × HasAddress (same_kind (kept self.old) added) (address_of added)) }
         ensures random_taken { (result ≡ Err RandomTaken)
             ↔ ((must_read self.old ≡ false)
-                × (HasAddress (same_kind (kept self.old) added) (address_of added) → ⊥)
-                × HasNumber (same_kind (kept self.old) added) (random_of added)) }
+            × (HasAddress (same_kind (kept self.old) added) (address_of added) → ⊥)
+            × HasNumber (same_kind (kept self.old) added) (random_of added)) }
         ensures refusal { IfErr result RefusesCommit }
 
         ensures ok { OnOk result ((kept self.new ≡ with_record (kept self.old) added) × (must_read self.new ≡ false)) }

@@ -18,12 +18,12 @@ invariant_of-self c = kept c
 
 pub returns-clause-adds : goal.returns-clause-adds
 returns-clause-adds c = elim c.match-add.branch [
-    in-Ok w ↦ rw w.result-is (
+  | in-Ok w ↦ rw w.result-is (
       subst
       (λ (k : Records). (xs : List Record) → IsReplay k.block xs k → IsReplay c.add.new.self.block (xs ++ c.args.added ∷ []) c.add.new.self)
       c.self.view_is
       (replay_ok c.self.inside.kept c.add.new.self c.args.added c.add.result w.in-Ok.field-0 w.in-Ok.is c.add.ensures.short (fits c) c.add.ensures.success c.add.ensures.ok)
-    )
+      )
   | in-Err-AddressTaken w ↦ rw w.result-is tt
   | in-Err-RandomTaken w ↦ rw w.result-is tt
 ]
