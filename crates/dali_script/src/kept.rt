@@ -119,6 +119,7 @@ impl Kept {
 
         ensures ok { OnOk result (self.new ≡ with_record self.old added) }
         ensures err { OnErr result (self.new ≡ self.old) }
+        ensures short { address_of added < 64 }
     {
         match added {
             Record::Reserve(address, number) => insert(&mut self.reserved, address, number),
@@ -223,6 +224,7 @@ fn insert(
         ↔ ((HasAddress pairs.old.items address → ⊥) × HasNumber pairs.old.items number) }
     ensures ok { OnOk result (pairs.new.items ≡ pairs.old.items ++ (address, number) ∷ []) }
     ensures err { OnErr result (pairs.new.items ≡ pairs.old.items) }
+    ensures short { address < 64 }
     ensures map { IsMap pairs.new.items }
     ensures capacity { 64 ≤ vec_capacity pairs.new }
 {

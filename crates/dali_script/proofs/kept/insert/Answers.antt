@@ -12,6 +12,7 @@ returns-then-has_address c =
       random_taken = (λ e. absurd (cc), λ f. absurd (f.0 has));
       ok = tt;
       err = refl;
+      short = c.if-has_address.ensures.range;
       map = c.requires.map;
       capacity = c.requires.capacity;
     }
@@ -26,6 +27,7 @@ returns-then-has_number c =
       random_taken = (λ e. (none, has), λ f. refl);
       ok = tt;
       err = refl;
+      short = c.if-has_address.ensures.range;
       map = c.requires.map;
       capacity = c.requires.capacity;
     }
@@ -47,6 +49,7 @@ returns c =
       random_taken = (λ e. absurd (cc), λ f. absurd (fresh f.1));
       ok = items;
       err = tt;
+      short = c.if-has_address.ensures.range;
       map = rw items more;
       capacity = omega (arith, c.push.ensures.capacity);
     }

@@ -1,0 +1,111 @@
+ghost use Rattle.std.specs.Prelude.{◌≡◌, ◌↔◌, ◌⊎◌, true, false, List, [], ◌∷◌, ◌++◌, Ok, Err, IsTrue, IsOk, OnOk, OnErr, IfOk, IfErr};
+ghost use Rattle.dali_script.specs.declared.records.Record.{Record};
+ghost use Rattle.dali_script.specs.Records.{without_records, Fits, IsFresh, HasAddress, HasNumber, same_kind, address_of, random_of, with_record};
+ghost use Rattle.dali_reserve.specs.declared.error.KeepError.TheVariants.{NoMemory, AddressTaken, RandomTaken};
+
+use crate::error::KeepError;
+use crate::keep::Keep;
+use dali_script::{AddError, Block, Kept, MakeError, Record};
+use std::alloc::Global;
+use std::marker::Model;
+
+/// A store in memory. It never fails.
+///
+/// Contracts see what is kept: the block, and what was committed, each kind in the order of the commits.
+#[derive(Drop)]
+pub struct MemoryKeep {
+    kept: Kept,
+}
+
+impl Model for MemoryKeep {
+    ghost use Rattle.dali_script.specs.Records.{Records};
+    ghost use Rattle.dali_reserve.specs.Store.{HasRecords};
+
+    ghost Value = { Records };
+
+    ghost view = { λ s. s.kept };
+
+    ghost invariant = { λ s. HasRecords s.kept };
+}
+
+impl MemoryKeep {
+    ghost use Rattle.dali_reserve.specs.Store.{HasRecords};
+
+    /// A store with no records, for a controller with this block. It takes all the memory that commits will need.
+    pub fn new(alloc: Global, block: Block) -> Result<MemoryKeep, KeepError>
+        ensures empty { IfOk result (λ s. s ≡ without_records block) }
+        ensures sound { IfOk result HasRecords }
+        ensures refusal { IfErr result (λ e. e ≡ NoMemory) }
+    {
+        match Kept::new(alloc, block) {
+            Ok(kept) => Ok(MemoryKeep { kept }),
+            Err(MakeError::NoMemory) => Err(KeepError::NoMemory),
+        }
+    }
+
+    /// Whether the records are of this block.
+    pub fn is_of(&self, block: Block) -> bool
+        ensures value { IsTrue result ↔ (self.now.block ≡ block) }
+        ensures sound { HasRecords self.now }
+    {
+        self.kept.block() == block
+    }
+}
+
+impl Keep for MemoryKeep {
+    ghost use Rattle.dali_reserve.specs.Store.{IsReplay, HasRecords};
+
+    ghost block = { λ s. s.block };
+
+    ghost holds = { λ s xs. IsReplay s.block xs s };
+
+    ghost kept = { λ s. s };
+
+    ghost must_read = { λ _. false };
+
+    ghost is_sound = { HasRecords };
+
+    ghost is_up = { λ _. Unit {0} };
+
+    ghost has_records = { λ s sound. sound };
+
+    ghost replay = { λ s xs sound read held. held };
+
+    /// A copy of what is kept. It takes memory, and is refused as `NoMemory` alone.
+    fn read(&mut self, alloc: Global) -> Result<Kept, KeepError>
+        ensures answer { IfOk result (λ k. k ≡ self.old) }
+        ensures refusal { IfErr result (λ e. e ≡ NoMemory) }
+        ensures same { self.new ≡ self.old }
+        ensures sound { HasRecords self.new }
+    {
+        match self.kept.copy(alloc) {
+            Ok(kept) => Ok(kept),
+            Err(MakeError::NoMemory) => Err(KeepError::NoMemory),
+        }
+    }
+
+    /// Adds a record as the last of its kind. It takes no memory.
+    ///
+    /// `AddressTaken` comes before `RandomTaken`; each speaks of records of the same kind alone.
+    fn commit(&mut self, added: Record) -> Result<(), KeepError>
+        requires { Fits self.old.block added }
+
+        ensures success { IsOk result ↔ IsFresh self.old added }
+        ensures address_taken { (result ≡ Err AddressTaken)
+            ↔ HasAddress (same_kind self.old added) (address_of added) }
+        ensures random_taken { (result ≡ Err RandomTaken)
+            ↔ ((HasAddress (same_kind self.old added) (address_of added) → ⊥) × HasNumber (same_kind self.old added) (random_of added)) }
+        ensures ok { OnOk result (self.new ≡ with_record self.old added) }
+        ensures err { OnErr result (self.new ≡ self.old) }
+
+        ensures refusal { IfErr result (λ e. (e ≡ AddressTaken) ⊎ (e ≡ RandomTaken)) }
+        ensures adds { OnOk result ((xs : List Record) → IsReplay self.old.block xs self.old → IsReplay self.new.block (xs ++ added ∷ []) self.new) }
+        ensures sound { HasRecords self.new }
+    {
+        match self.kept.add(added) {
+            Ok(()) => Ok(()),
+            Err(AddError::AddressTaken) => Err(KeepError::AddressTaken),
+            Err(AddError::RandomTaken) => Err(KeepError::RandomTaken),
+        }
+    }
+}
