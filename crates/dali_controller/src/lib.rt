@@ -1,0 +1,12 @@
+//! The application controller's machine: it gives short addresses to the gear on a bus, one input and one order at a time.
+//!
+//! A [`Machine`] knows nothing of a bus or a store. Only `Machine::new` takes memory.
+#![tactic(auto)]
+
+mod error;
+mod orders;
+mod purpose;
+mod work;
+
+pub use error::{MachineError, StepError};
+pub use orders::{Due, End, Fault, Input, Order};
