@@ -1,4 +1,4 @@
-use Rattle.std.proofs.Common.{◌≡◌, ◌⊎◌, inl, inr, ℕ, ◌+◌, ◌<◌, ◌≤◌, Bool, true, false, List, [], ◌∷◌, ◌++◌, refl, sym, ap, subst, ◌∙◌, arith, Option, Some, None}
+use Rattle.std.proofs.Common.{length, get_or, ◌≡◌, ◌⊎◌, inl, inr, ℕ, ◌+◌, ◌<◌, ◌≤◌, Bool, true, false, List, [], ◌∷◌, ◌++◌, refl, sym, ap, subst, ◌∙◌, arith, Option, Some, None}
 use Rattle.std.specs.Prelude.{◌==◌, if◌then◌else◌, unwrap_or}
 use Rattle.std.proofs.lemmas.Bool.Decides.{nat_tests}
 use Rattle.dali_frame.specs.declared.frames.Forward.{Forward}
@@ -15,23 +15,29 @@ use Rattle.dali_special.proofs.Table.{read_written}
 use Rattle.dali_script.specs.declared.block.Block.{Block}
 use Rattle.dali_script.specs.declared.trace.Entry.{Entry}
 use Rattle.dali_script.specs.declared.records.Record.{Record}
+use Rattle.dali_script.specs.declared.records.Record.TheVariants.{Reserve, Enrol}
 use Rattle.dali_script.specs.declared.stage.Stage.{Stage}
 use Rattle.dali_script.specs.declared.stage.Stage.TheVariants.{Free, Terminated, InitialisedOnce, Initialised, RandomisedOnce, Opened, HighSent, MiddleSent, NumberSent, Probed, Found, Unnamed, Inconclusive, Programmed, Confirmed, Withdrawn, Over}
-use Rattle.dali_script.specs.Records.{Records, Assignment, Has, HasNumber, IsFull, Fits, IsFresh}
+use Rattle.dali_script.specs.Records.{IsKept, with_record, HasAddress, Records, Assignment, Has, HasNumber, IsFull, Fits, IsFresh, MASK24}
 use Rattle.dali_script.specs.Scripts.{MayGive, Lawful, IsLawful}
-use Rattle.dali_script.specs.Stages.{stage_of, next_stage, queried, named, verified, answered, Follows, begins_opening, begins_search, initialises_once, initialises, randomises_once, randomises, sets_middle, sets_low, compares, queries_number, withdraws_found, programs, queries_given, withdraws_given}
-use Rattle.dali_script.proofs.Transactions.{lawful_follows, stage_none, stage_more, begins_by}
+use Rattle.dali_script.specs.Findings.{later, finding_of}
+use Rattle.dali_script.specs.Stages.{finding_at, stage_of, next_stage, queried, named, verified, answered, Follows, begins_opening, begins_search, initialises_once, initialises, randomises_once, randomises, sets_middle, sets_low, compares, queries_number, withdraws_found, programs, queries_given, withdraws_given}
+use Rattle.dali_script.proofs.Transactions.{lawful_follows, stage_none, stage_more, finding_after}
+use Rattle.dali_enrol.specs.Roster.{Roster}
+use Rattle.dali_search.specs.declared.step.Step.TheVariants.{Again}
+use Rattle.dali_script.proofs.Lists.{has_map, has_at, has_last}
 use Rattle.dali_search.specs.Least.{Searched}
 use Rattle.dali_controller.specs.declared.orders.Order.{Order}
 use Rattle.dali_controller.specs.declared.orders.Order.TheVariants.{Put, Commit, Done, Halt}
 use Rattle.dali_controller.specs.declared.orders.End.{End}
+use Rattle.dali_controller.specs.declared.orders.Fault.TheVariants as fault
 use Rattle.dali_controller.specs.declared.orders.End.TheVariants.{AllFound, BlockFull, GaveUp}
 use Rattle.dali_controller.specs.declared.purpose.Purpose.{Purpose}
 use Rattle.dali_controller.specs.declared.purpose.Purpose.TheVariants.{Opening, Probing, Visiting, Closing}
 use Rattle.dali_controller.specs.declared.work.Work.{Work}
-use Rattle.dali_controller.specs.Progress.{Progress, roster_of, frame_put, record_ordered, opened_after, silent_after, tries_after}
-use Rattle.dali_controller.specs.Orders.{FIRST, LATER, closing_by, Cause, IsBegun, IsCaused, AfterMask, AfterFinding, IsOrdered, ordered, end_at}
-use Rattle.dali_controller.specs.Moments.{closing_of, seen, first_of, asks, IsSearching, Sends, Arrived, Knows, KnowsAt, IsCalm, CalmAt, IsReady, IsSending, IsStoring, Pending, IsFine, IsHeard, IsTurn, Turns, Begins, IsNext}
+use Rattle.dali_controller.specs.Progress.{lost, Progress, roster_of, frame_put, record_ordered, opened_after, silent_after, tries_after}
+use Rattle.dali_controller.specs.Orders.{Contradicts, FIRST, LATER, closing_by, Cause, IsBegun, IsCaused, AfterMask, AfterFinding, IsOrdered, ordered, end_at}
+use Rattle.dali_controller.specs.Moments.{FoundAt, IsBetween, Closes, closing_of, seen, first_of, asks, IsSearching, Sends, Arrived, Knows, KnowsAt, IsCalm, CalmAt, IsReady, IsSending, IsStoring, Pending, IsFine, IsHeard, IsTurn, Turns, Begins, IsNext}
 
 -- THE COMMANDS OF A TRANSACTION. A first command may begin one.
 first_follows : (b : Block) (xs : List Assignment) (p : Purpose) (n : SearchAddress) (c : Command) → c ≡ first_of p n → Follows b xs Free c
@@ -379,20 +385,27 @@ calm_small (Closing e) i calm = calm.0
 pub sending_small : (w : Work) (f : Forward) → IsSending w f → w.silent < 255
 sending_small w f e = let small : w.silent ≤ 16 = calm_small w.purpose w.silent e.ready.calm in omega arith
 
+found_at : (s : Stage) (earlier found : Option Assignment) → found ≡ later earlier (finding_at s) → FoundAt s found
+found_at (Withdrawn r b) earlier found is = is
+found_at _ earlier found is = tt
+
 -- the parts after a frame was heard, the last finding noted, and the counts made
-pub hear_heard : (w noted : Work) (f : Forward) (h : Answer) (t : List Entry) (found : Option Assignment) (s : Stage) (complete o : Bool) (n i : ℕ) → IsFine w → frame_put w.last ≡ Some f
-    → t ≡ w.trace ++ (record { frame = f; heard = h }) ∷ [] → noted ≡ record w { trace = t; finding = found } → s ≡ stage_of noted.trace
+pub hear_heard : (w noted : Work) (f : Forward) (h : Answer) (t : List Entry) (s : Stage) (complete o : Bool) (n i : ℕ) → IsFine w → frame_put w.last ≡ Some f
+    → t ≡ w.trace ++ (record { frame = f; heard = h }) ∷ [] → noted ≡ record w { trace = t; finding = later w.finding (finding_of t) } → s ≡ stage_of noted.trace
     → n ≡ tries_after complete noted.tries → i ≡ silent_after (stage_of noted.trace) noted.opened noted.silent → o ≡ opened_after (stage_of noted.trace) noted.opened
     → IsHeard (record noted { tries = n; silent = i; opened = o }) s
-hear_heard w noted f h t found s complete o n i fine put trace is stage tries silent opened =
+hear_heard w noted f h t s complete o n i fine put trace is stage tries silent opened =
     let sent : IsSending w f = sending w w.last f put fine.pending in
     let same_trace : noted.trace ≡ t = ap (λ (x : Work). x.trace) is in
     let there : stage_of noted.trace ≡ next_stage (stage_of w.trace) (command_of f) h = ap stage_of (same_trace ∙ trace) ∙ stage_more w.trace (record { frame = f; heard = h }) in
     let arrived : Arrived w.kept w.number w.purpose (stage_of noted.trace) = subst (Arrived w.kept w.number w.purpose) (sym there) (sends_arrive w.kept w.number w.purpose (stage_of w.trace) (command_of f) h sent.sends) in
-    rw stage (from arrived sent.ready)
+    let finding : noted.finding ≡ later w.finding (finding_at (stage_of noted.trace)) =
+    ap (λ (x : Work). x.finding) is ∙ ap (λ u. later w.finding (finding_of u)) trace ∙ ap (later w.finding) (finding_after w.kept.block w.kept.reserved w.trace (record { frame = f; heard = h }) (sending_lawful w f sent))
+        ∙ ap (λ u. later w.finding (finding_at (stage_of u))) (sym (same_trace ∙ trace)) in
+    rw stage (from arrived sent.ready finding)
   where
-    from : Arrived w.kept w.number w.purpose (stage_of noted.trace) → IsReady w → IsHeard (record noted { tries = n; silent = i; opened = o }) (stage_of noted.trace)
-    from arrived ready = record {
+    from : Arrived w.kept w.number w.purpose (stage_of noted.trace) → IsReady w → noted.finding ≡ later w.finding (finding_at (stage_of noted.trace)) → IsHeard (record noted { tries = n; silent = i; opened = o }) (stage_of noted.trace)
+    from arrived ready finding = record {
       table = ap (λ (x : Work). x.table) is ∙ fine.table ∙ ap roster_of (ap (λ (x : Work). x.kept) (sym is));
       stage = refl;
       tries = subst (λ m. m < 8) (sym (tries ∙ ap (λ m. tries_after complete m) (ap (λ (x : Work). x.tries) is))) (tries_less complete w.tries ready.tries);
@@ -401,4 +414,189 @@ hear_heard w noted f h t found s complete o n i fine put trace is stage tries si
           (calm_at w.kept w.number w.opened w.purpose w.silent (stage_of noted.trace) arrived ready.calm));
       knows = rw opened (subst (λ (x : Work). KnowsAt (stage_of noted.trace) x.kept x.number x.search (opened_after (stage_of noted.trace) x.opened) x.purpose) (sym is)
           (knows_at w.kept w.number w.search w.opened w.purpose (stage_of noted.trace) ready.knows));
+      finding = found_at (stage_of noted.trace) w.finding noted.finding finding;
     }
+
+-- THE TRANSACTIONS
+pub opens : (w : Work) (n : SearchAddress) → IsBetween w → w.opened ≡ false → Begins w Opening n
+opens w n b opened = record {
+  table = b.table;
+  tries = b.tries;
+  calm = b.silent;
+  knows = opened;
+  turns = b.going;
+  unnamed = λ r e. absurd (b.unnamed r e);
+  found = b.found;
+}
+
+pub probes : (w : Work) (n : SearchAddress) → IsBetween w → w.opened ≡ true → w.search.step ≡ Again → value_of n ≡ w.search.probe → Begins w Probing n
+probes w n b opened running is = record {
+  table = b.table;
+  tries = b.tries;
+  calm = b.silent;
+  knows = (opened, running, is);
+  turns = b.going;
+  unnamed = λ r e. absurd (b.unnamed r e);
+  found = b.found;
+}
+
+pub visits : (w : Work) (n : SearchAddress) → IsBetween w → value_of n < MASK24 → (w.opened ≡ false → HasNumber w.kept.reserved (value_of n)) → Begins w Visiting n
+visits w n b drawn reserved = record {
+  table = b.table;
+  tries = b.tries;
+  calm = b.silent;
+  knows = (drawn, reserved);
+  turns = b.going;
+  unnamed = λ r e. absurd (b.unnamed r e);
+  found = b.found;
+}
+
+pub closing : (w : Work) (e : End) (n : SearchAddress) → Closes w e → Begins w (Closing e) n
+closing w e n b = record {
+  table = b.table;
+  tries = b.tries;
+  calm = b.calm;
+  knows = b.opened;
+  turns = record { opened = b.opened; cause = inr (b.going, b.end, b.cause) };
+  unnamed = λ r is. let x = b.unnamed r is in (x.0, x.1, ap (λ y. Closing y) x.2);
+  found = λ r c is. absurd (b.found r c is);
+}
+
+-- LOST
+turns_same : (w : Work) (p : Purpose) → w.purpose ≡ p → Knows w.kept w.number w.search w.opened p → Turns w p
+turns_same w Opening is knows = ap closing_of is
+turns_same w Probing is knows = ap closing_of is
+turns_same w Visiting is knows = ap closing_of is
+turns_same w (Closing e) is knows = record { opened = knows; cause = inl (ap closing_of is) }
+
+pub lost_begins : (w : Work) (f : Forward) (t : List Entry) → IsFine w → frame_put w.last ≡ Some f → t ≡ [] → (w.tries + 1 ≡ 8 → ⊥) → Begins (record w { trace = t; tries = w.tries + 1 }) w.purpose w.number
+lost_begins w f t fine put empty more =
+    let ready : IsReady w = (sending w w.last f put fine.pending).ready in
+    let less : w.tries < 8 = ready.tries in
+    let free : stage_of t ≡ Free = free_of t empty in
+    record {
+      table = fine.table;
+      tries = omega (arith, more);
+      calm = ready.calm;
+      knows = ready.knows;
+      turns = turns_same (record w { trace = t; tries = w.tries + 1 }) w.purpose refl ready.knows;
+      unnamed = λ r e. absurd (cc);
+      found = λ r b e. absurd (cc);
+    }
+
+lost_ended_at : (w : Work) → IsReady w → w.tries + 1 ≡ 8 → IsOrdered (lost (seen w)) (Done GaveUp)
+lost_ended_at w ready is =
+    let free : stage_of [] ≡ Free = stage_none in
+    record {
+      allowed = tt;
+      caused = inl (refl, is);
+      given_up = λ e. refl;
+      silent = λ e. silent_closes w.purpose w.silent ready.calm e;
+      unnamed = λ r e. absurd (cc);
+      found = λ r b e. absurd (cc);
+    }
+
+pub lost_ended : (w : Work) (f : Forward) (t : List Entry) (o : Order) (new : Progress) → IsFine w → frame_put w.last ≡ Some f → t ≡ [] → w.tries + 1 ≡ 8 → o ≡ Done GaveUp
+    → new ≡ ordered (seen (record w { trace = t; tries = w.tries + 1 })) o → IsNext (lost (seen w)) o new
+lost_ended w f t o new fine put empty is done state = record {
+  order = subst (IsOrdered (lost (seen w))) (sym done) (lost_ended_at w (sending w w.last f put fine.pending).ready is);
+  state = state ∙ ap (λ u. ordered (seen (record w { trace = u; tries = w.tries + 1 })) o) empty;
+}
+
+pub lost_next : (w : Work) (t : List Entry) (o : Order) (new : Progress) → t ≡ [] → IsNext (seen (record w { trace = t; tries = w.tries + 1 })) o new → IsNext (lost (seen w)) o new
+lost_next w t o new empty next = subst (λ u. IsNext (seen (record w { trace = u; tries = w.tries + 1 })) o new) empty next
+
+-- TO GIVE
+may_give : (k : Records) (r : SearchAddress) (a : ℕ) → IsKept k → Has k.reserved (a, value_of r) → MayGive k.block k.reserved r a
+may_give k r a m h = record {
+  drawn = m.reserved.drawn (value_of r) (has_map (λ q. q.1) k.reserved (a, value_of r) h);
+  within = m.within a (has_map (λ q. q.0) k.reserved (a, value_of r) h);
+  reserved_for = h;
+}
+
+pub sends_program : (k : Records) (n r : SearchAddress) (p : Purpose) (a m : ℕ) → IsKept k → (p ≡ Visiting) × (r ≡ n) → m ≡ value_of r → Has k.reserved (a, m) → Sends k n p (Unnamed r) (Program (Some a))
+sends_program k n r p a m kept visiting is h =
+    let there : Has k.reserved (a, value_of r) = subst (λ v. Has k.reserved (a, v)) is h in
+    (visiting.0, visiting.1, (a, kept.reserved.short a (has_map (λ q. q.0) k.reserved (a, value_of r) there), may_give k r a kept there, refl))
+
+-- a pair of a list
+pub number_here : (xs : List Assignment) (i : ℕ) (p : Assignment) → i < length xs → p ≡ get_or xs i p → HasNumber xs p.1
+number_here xs i p h is = has_map (λ q. q.1) xs p (subst (Has xs) (sym is) (has_at xs i p h))
+
+-- TO SETTLE
+entries_of : (w : Work) → w.table ≡ roster_of w.kept → w.table.entries ≡ w.kept.enrolled
+entries_of w is = ap (λ (t : Roster). t.entries) is
+
+settled_calm : (w : Work) (r : SearchAddress) (b : ℕ) → IsHeard w (Withdrawn r b) → w.silent < 16
+settled_calm w r b h = subst (λ p. IsCalm p w.silent) h.arrived.0 h.calm
+
+same_address : (r q : SearchAddress) (b d : ℕ) → Withdrawn r b ≡ Withdrawn q d → b ≡ d
+same_address r q b d e = cc
+
+same_number : (r q : SearchAddress) (b d : ℕ) → Withdrawn r b ≡ Withdrawn q d → r ≡ q
+same_number r q b d e = cc
+
+halted_at : (w : Work) (r : SearchAddress) (b : ℕ) → IsHeard w (Withdrawn r b) → Contradicts w.kept.enrolled b (value_of r) → IsOrdered (seen w) (Halt fault.Conflict)
+halted_at w r b h conflict =
+    let tries : w.tries < 8 = h.tries in
+    let calm : w.silent < 16 = settled_calm w r b h in
+    let stage : stage_of w.trace ≡ Withdrawn r b = h.stage in
+    record {
+      allowed = tt;
+      caused = (b, value_of r, h.finding, conflict);
+      given_up = λ e. absurd (omega arith);
+      silent = λ e. absurd (omega arith);
+      unnamed = λ q e. absurd (cc);
+      found = λ q d e.
+          let there : Withdrawn r b ≡ Withdrawn q d = sym stage ∙ e in
+          subst (λ n. Contradicts w.kept.enrolled d (value_of n)) (same_number r q b d there) (subst (λ a. Contradicts w.kept.enrolled a (value_of r)) (same_address r q b d there) conflict);
+    }
+
+halted : (w : Work) (r : SearchAddress) (b : ℕ) (o : Order) (new : Progress) → IsHeard w (Withdrawn r b) → Contradicts w.kept.enrolled b (value_of r) → o ≡ Halt fault.Conflict → new ≡ ordered (seen w) o → IsNext (seen w) o new
+halted w r b o new h conflict is state = record { order = subst (IsOrdered (seen w)) (sym is) (halted_at w r b h conflict); state = state }
+
+-- the table has the address for another gear
+pub halts_by_address : (w : Work) (r : SearchAddress) (b n m : ℕ) (o : Order) (new : Progress) → IsHeard w (Withdrawn r b) → Has w.table.entries (b, n) → m ≡ value_of r → (n ≡ m → ⊥)
+    → o ≡ Halt fault.Conflict → new ≡ ordered (seen w) o → IsNext (seen w) o new
+halts_by_address w r b n m o new h has is other order state =
+    halted w r b o new h (inl (n, subst (λ xs. Has xs (b, n)) (entries_of w h.table) has, λ e. other (e ∙ sym is))) order state
+
+-- or the gear with another address
+pub halts_by_random : (w : Work) (r : SearchAddress) (b a m : ℕ) (o : Order) (new : Progress) → IsHeard w (Withdrawn r b) → (HasAddress w.table.entries b → ⊥) → Has w.table.entries (a, m) → m ≡ value_of r
+    → o ≡ Halt fault.Conflict → new ≡ ordered (seen w) o → IsNext (seen w) o new
+halts_by_random w r b a m o new h none has is order state =
+    halted w r b o new h (inr (
+      a,
+      subst (λ xs. Has xs (a, value_of r)) (entries_of w h.table) (subst (λ n. Has w.table.entries (a, n)) is has),
+      λ e. none (subst (HasAddress w.table.entries) e (has_map (λ q. q.0) w.table.entries (a, m) has)),
+    )) order state
+
+enrols_at : (w : Work) (r : SearchAddress) (b : ℕ) → IsHeard w (Withdrawn r b) → (HasAddress w.kept.enrolled b → ⊥) → (HasNumber w.kept.enrolled (value_of r) → ⊥) → IsOrdered (seen w) (Commit (Enrol b (value_of r)))
+enrols_at w r b h none fresh =
+    let tries : w.tries < 8 = h.tries in
+    let calm : w.silent < 16 = settled_calm w r b h in
+    let stage : stage_of w.trace ≡ Withdrawn r b = h.stage in
+    let visiting : Knows w.kept w.number w.search w.opened Visiting = subst (Knows w.kept w.number w.search w.opened) h.arrived.0 h.knows in
+    record {
+      allowed = record { fits = subst (λ n. value_of n < MASK24) (sym h.arrived.1) visiting.0; fresh = (none, fresh); warranted = h.finding };
+      caused = ap closing_of h.arrived.0;
+      given_up = λ e. absurd (omega arith);
+      silent = λ e. absurd (omega arith);
+      unnamed = λ q e. absurd (cc);
+      found = λ q d e.
+          let there : Withdrawn r b ≡ Withdrawn q d = sym stage ∙ e in
+          ap (λ a. Enrol a (value_of r)) (same_address r q b d there) ∙ ap (λ n. Enrol d (value_of n)) (same_number r q b d there);
+    }
+
+pub enrols : (w : Work) (r : SearchAddress) (b m : ℕ) (o : Order) (new : Progress) → IsHeard w (Withdrawn r b) → (HasAddress w.table.entries b → ⊥) → (HasNumber w.table.entries m → ⊥) → m ≡ value_of r
+    → o ≡ Commit (Enrol b m) → new ≡ ordered (seen w) o → IsNext (seen w) o new
+enrols w r b m o new h none fresh is order state = record {
+  order = subst (IsOrdered (seen w)) (sym (order ∙ ap (λ n. Commit (Enrol b n)) is))
+      (enrols_at w r b h (subst (λ xs. HasAddress xs b → ⊥) (entries_of w h.table) none) (subst (λ xs. HasNumber xs (value_of r) → ⊥) (entries_of w h.table) (subst (λ n. HasNumber w.table.entries n → ⊥) is fresh)));
+  state = state;
+}
+
+-- a number is reserved once its reservation is kept
+pub reserved_kept : (w new : Work) (a n m : ℕ) → new ≡ record w { kept = with_record w.kept (Reserve a n) } → m ≡ n → HasNumber new.kept.reserved m
+reserved_kept w new a n m is same =
+    subst (λ (x : Work). HasNumber x.kept.reserved m) (sym is) (subst (HasNumber (w.kept.reserved ++ (a, n) ∷ [])) (sym same) (has_map (λ q. q.1) (w.kept.reserved ++ (a, n) ∷ []) (a, n) (has_last w.kept.reserved (a, n))))

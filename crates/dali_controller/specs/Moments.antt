@@ -9,7 +9,7 @@ use Rattle.dali_special.specs.Command.{command_of, frame_of}
 use Rattle.dali_script.specs.declared.records.Record.{Record}
 use Rattle.dali_script.specs.declared.stage.Stage.{Stage}
 use Rattle.dali_script.specs.declared.stage.Stage.TheVariants.{Free, Terminated, InitialisedOnce, Initialised, RandomisedOnce, Opened, HighSent, MiddleSent, NumberSent, Probed, Found, Unnamed, Inconclusive, Programmed, Confirmed, Withdrawn, Over}
-use Rattle.dali_script.specs.Records.{Records, Has, HasNumber, Fits, IsFresh, IsFull, MASK24}
+use Rattle.dali_script.specs.Records.{Records, Assignment, Has, HasNumber, Fits, IsFresh, IsFull, MASK24}
 use Rattle.dali_script.specs.Scripts.{MayGive}
 use Rattle.dali_script.specs.Stages.{stage_of}
 use Rattle.dali_search.specs.declared.step.Step.TheVariants.{Again}
@@ -119,6 +119,11 @@ abbrev pub CalmAt : Stage → Purpose → Bool → ℕ → Type 0
 CalmAt (Inconclusive r other) p opened silent = (silent ≤ 16) × (silent ≡ 16 → opened ≡ true)
 CalmAt _ p opened silent = IsCalm p silent
 
+-- the gear that was withdrawn is the last finding
+abbrev pub FoundAt : Stage → Option Assignment → Type 0
+FoundAt (Withdrawn r b) found = found ≡ Some (b, value_of r)
+FoundAt _ found = Unit {0}
+
 pub record IsReady (w : Work) : Type 0 where
   pub tries : w.tries < 8
   pub calm : IsCalm w.purpose w.silent
@@ -160,6 +165,7 @@ pub record IsHeard (w : Work) (s : Stage) : Type 0 where
   pub arrived : Arrived w.kept w.number w.purpose s
   pub calm : CalmAt s w.purpose w.opened w.silent
   pub knows : KnowsAt s w.kept w.number w.search w.opened w.purpose
+  pub finding : FoundAt s w.finding
 
 -- what holds where a transaction may end without a record and without a close
 pub record IsBetween (w : Work) : Type 0 where
@@ -189,6 +195,19 @@ pub record Begins (w : Work) (p : Purpose) (n : SearchAddress) : Type 0 where
   pub unnamed : (r : SearchAddress) → stage_of w.trace ≡ Unnamed r
       → (HasNumber w.kept.reserved (value_of r) → ⊥) × IsFull w.kept.block w.kept.reserved × (p ≡ Closing BlockFull)
   pub found : (r : SearchAddress) (b : ℕ) → stage_of w.trace ≡ Withdrawn r b → Has w.kept.enrolled (b, value_of r)
+
+-- what holds where a close is begun
+pub record Closes (w : Work) (e : End) : Type 0 where
+  pub table : w.table ≡ roster_of w.kept
+  pub tries : w.tries < 8
+  pub calm : IsCalm (Closing e) w.silent
+  pub opened : w.opened ≡ true
+  pub going : closing_of w.purpose ≡ None
+  pub end : end_at (stage_of w.trace) ≡ e
+  pub cause : Cause (seen w) e
+  pub unnamed : (r : SearchAddress) → stage_of w.trace ≡ Unnamed r
+      → (HasNumber w.kept.reserved (value_of r) → ⊥) × IsFull w.kept.block w.kept.reserved × (e ≡ BlockFull)
+  pub found : (r : SearchAddress) (b : ℕ) → stage_of w.trace ≡ Withdrawn r b → ⊥
 
 -- an order that a machine of which this is seen may give, and what is seen after it
 pub record IsNext (t : Progress) (o : Order) (new : Progress) : Type 0 where

@@ -4,8 +4,10 @@
 #![tactic(auto)]
 
 mod error;
+mod moments;
 mod orders;
 mod purpose;
+mod unfinished;
 mod work;
 
 pub use error::{MachineError, StepError};

@@ -8,5 +8,5 @@ push-requires c =
 
 pub returns-clause-heard : goal.returns-clause-heard
 returns-clause-heard c =
-    hear_heard c.args.self.now c.note_finding.new.self c.args.frame c.args.heard _ _ _ _ _ _ _ c.requires.fine c.requires.put
+    hear_heard c.args.self.now c.note_finding.new.self c.args.frame c.args.heard _ _ _ _ _ _ c.requires.fine c.requires.put
     c.push.ensures c.note_finding.ensures c.stage.ensures c.tries_after-self.ensures c.silent_after-self.ensures c.opened_after-self.ensures
