@@ -1,5 +1,5 @@
-use Rattle.std.proofs.Common.{length, get_or, ◌≡◌, ◌⊎◌, inl, inr, ℕ, ◌+◌, ◌<◌, ◌≤◌, Bool, true, false, List, [], ◌∷◌, ◌++◌, refl, sym, ap, subst, ◌∙◌, arith, Option, Some, None}
-use Rattle.std.specs.Prelude.{◌==◌, if◌then◌else◌, unwrap_or}
+use Rattle.std.proofs.Common.{map, take, lit<, length, get_or, ◌≡◌, ◌⊎◌, inl, inr, ℕ, ◌+◌, ◌<◌, ◌≤◌, Bool, true, false, List, [], ◌∷◌, ◌++◌, refl, sym, ap, subst, ◌∙◌, arith, Option, Some, None}
+use Rattle.std.specs.Prelude.{◌==◌, zero, suc, if◌then◌else◌, unwrap_or}
 use Rattle.std.proofs.lemmas.Bool.Decides.{nat_tests}
 use Rattle.dali_frame.specs.declared.frames.Forward.{Forward}
 use Rattle.dali_frame.specs.declared.frames.Answer.{Answer}
@@ -18,7 +18,7 @@ use Rattle.dali_script.specs.declared.records.Record.{Record}
 use Rattle.dali_script.specs.declared.records.Record.TheVariants.{Reserve, Enrol}
 use Rattle.dali_script.specs.declared.stage.Stage.{Stage}
 use Rattle.dali_script.specs.declared.stage.Stage.TheVariants.{Free, Terminated, InitialisedOnce, Initialised, RandomisedOnce, Opened, HighSent, MiddleSent, NumberSent, Probed, Found, Unnamed, Inconclusive, Programmed, Confirmed, Withdrawn, Over}
-use Rattle.dali_script.specs.Records.{IsKept, with_record, HasAddress, Records, Assignment, Has, HasNumber, IsFull, Fits, IsFresh, MASK24}
+use Rattle.dali_script.specs.Records.{IsKept, IsOnce, with_record, HasAddress, Records, Assignment, Has, HasNumber, IsFull, Fits, IsFresh, MASK24}
 use Rattle.dali_script.specs.Scripts.{MayGive, Lawful, IsLawful}
 use Rattle.dali_script.specs.Findings.{later, finding_of}
 use Rattle.dali_script.specs.Stages.{finding_at, stage_of, next_stage, queried, named, verified, answered, Follows, begins_opening, begins_search, initialises_once, initialises, randomises_once, randomises, sets_middle, sets_low, compares, queries_number, withdraws_found, programs, queries_given, withdraws_given}
@@ -600,3 +600,30 @@ enrols w r b m o new h none fresh is order state = record {
 pub reserved_kept : (w new : Work) (a n m : ℕ) → new ≡ record w { kept = with_record w.kept (Reserve a n) } → m ≡ n → HasNumber new.kept.reserved m
 reserved_kept w new a n m is same =
     subst (λ (x : Work). HasNumber x.kept.reserved m) (sym is) (subst (HasNumber (w.kept.reserved ++ (a, n) ∷ [])) (sym same) (has_map (λ q. q.1) (w.kept.reserved ++ (a, n) ∷ []) (a, n) (has_last w.kept.reserved (a, n))))
+
+-- before the start
+pub fine_at_first : (w : Work) → w.table ≡ roster_of w.kept → w.trace ≡ [] → w.last ≡ None → w.tries ≡ 0 → w.silent ≡ 0 → w.opened ≡ false → w.purpose ≡ Opening → IsFine w
+fine_at_first w table trace last tries silent opened opening = record {
+  table = table;
+  pending = rw last (record {
+    ready = record {
+      tries = rw tries (lit< tt);
+      calm = rw (opening, silent) (lit< tt);
+      knows = rw (opening, opened) refl;
+    };
+    free = free_of w.trace trace;
+    opening = opening;
+  });
+}
+
+-- an element stands in no earlier place of a list in which its key stands once
+once_before : (key : Assignment → ℕ) (xs : List Assignment) (i : ℕ) (d : Assignment) → IsOnce (map key xs) → i < length xs → Has (map key (take i xs)) (key (get_or xs i d)) → ⊥
+once_before key [] i d once h has = absurd (omega arith)
+once_before key (x ∷ xs) zero d once h has = has
+once_before key (x ∷ xs) (suc i) d once h (inl same) = once.0 (subst (Has (map key xs)) (sym same) (has_map key xs (get_or xs i d) (has_at xs i d (omega arith))))
+once_before key (x ∷ xs) (suc i) d once h (inr more) = once_before key xs i d once.1 (omega arith) more
+
+pub not_before : (key : Assignment → ℕ) (xs : List Assignment) (i : ℕ) (p : Assignment) (t : Roster) (b : Block) → IsOnce (map key xs) → i < length xs → p ≡ get_or xs i p
+    → t ≡ record { block = b; entries = take i xs } → Has (map key t.entries) (key p) → ⊥
+not_before key xs i p t b once h is table has =
+    once_before key xs i p once h (subst (λ q. Has (map key (take i xs)) (key q)) is (subst (λ (u : Roster). Has (map key u.entries) (key p)) table has))

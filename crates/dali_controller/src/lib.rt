@@ -3,7 +3,9 @@
 //! A [`Machine`] knows nothing of a bus or a store. Only `Machine::new` takes memory.
 #![tactic(auto)]
 
+mod entries;
 mod error;
+mod machine;
 mod moments;
 mod orders;
 mod purpose;
@@ -11,4 +13,5 @@ mod unfinished;
 mod work;
 
 pub use error::{MachineError, StepError};
+pub use machine::Machine;
 pub use orders::{Due, End, Fault, Input, Order};

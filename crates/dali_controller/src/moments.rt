@@ -9,6 +9,7 @@ ghost use Rattle.dali_controller.specs.declared.orders.Input.TheVariants as inpu
 ghost use Rattle.dali_controller.specs.declared.orders.Order.TheVariants as order;
 ghost use Rattle.dali_controller.specs.Progress.{lost, frame_put, record_ordered, roster_of};
 
+use crate::entries::enter;
 use crate::orders::{End, Fault, Order};
 use crate::purpose::Purpose;
 use crate::unfinished::next_unfinished;
@@ -318,7 +319,7 @@ impl Work {
             }
             Record::Enrol(short, number) => {
                 self.keep(Record::Enrol(short, number));
-                self.enter(short, number);
+                enter(&mut self.table, short, number);
                 self.go_on()
             }
         }
@@ -332,16 +333,6 @@ impl Work {
     {
         // It is the only record of its address and of its number, so it is not refused.
         let _ = self.kept.add(added);
-    }
-
-    /// Enters gear into the table, after its enrolment was kept.
-    fn enter(&mut self, short: Short, number: Random24)
-        requires address { HasAddress self.old.table.entries short → ⊥ }
-        requires number { HasNumber self.old.table.entries number → ⊥ }
-        ensures { self.new ≡ record self.old { table = with_entry self.old.table short number } }
-    {
-        // It is the only entry of its address and of its number, so it is not refused.
-        let _ = self.table.enrol(short, number);
     }
 
     /// The record that was ordered could not be kept.
