@@ -1,0 +1,629 @@
+use Rattle.std.proofs.Common.{map, take, lit<, length, get_or, ◌≡◌, ◌⊎◌, inl, inr, ℕ, ◌+◌, ◌<◌, ◌≤◌, Bool, true, false, List, [], ◌∷◌, ◌++◌, refl, sym, ap, subst, ◌∙◌, arith, Option, Some, None}
+use Rattle.std.specs.Prelude.{◌==◌, zero, suc, if◌then◌else◌, unwrap_or}
+use Rattle.std.proofs.lemmas.Bool.Decides.{nat_tests}
+use Rattle.dali_frame.specs.declared.frames.Forward.{Forward}
+use Rattle.dali_frame.specs.declared.frames.Answer.{Answer}
+use Rattle.dali_frame.specs.declared.frames.Answer.TheVariants.{Silence, Byte, Damaged}
+use Rattle.dali_frame.specs.declared.numbers.SearchAddress.{SearchAddress}
+use Rattle.dali_frame.specs.Short.{short_of}
+use Rattle.dali_frame.specs.Random.{value_of}
+use Rattle.dali_special.specs.declared.command.Target.TheVariants.{Unaddressed}
+use Rattle.dali_special.specs.declared.command.Command.{Command}
+use Rattle.dali_special.specs.declared.command.Command.TheVariants.{Terminate, Initialise, Randomise, Compare, Withdraw, SearchHigh, SearchMiddle, SearchLow, Program, QueryShort}
+use Rattle.dali_special.specs.Command.{MASK, command_of, frame_of, IsSpelled}
+use Rattle.dali_special.proofs.Table.{read_written}
+use Rattle.dali_script.specs.declared.block.Block.{Block}
+use Rattle.dali_script.specs.declared.trace.Entry.{Entry}
+use Rattle.dali_script.specs.declared.records.Record.{Record}
+use Rattle.dali_script.specs.declared.records.Record.TheVariants.{Reserve, Enrol}
+use Rattle.dali_script.specs.declared.stage.Stage.{Stage}
+use Rattle.dali_script.specs.declared.stage.Stage.TheVariants.{Free, Terminated, InitialisedOnce, Initialised, RandomisedOnce, Opened, HighSent, MiddleSent, NumberSent, Probed, Found, Unnamed, Inconclusive, Programmed, Confirmed, Withdrawn, Over}
+use Rattle.dali_script.specs.Records.{IsKept, IsOnce, with_record, HasAddress, Records, Assignment, Has, HasNumber, IsFull, Fits, IsFresh, MASK24}
+use Rattle.dali_script.specs.Scripts.{MayGive, Lawful, IsLawful}
+use Rattle.dali_script.specs.Findings.{later, finding_of}
+use Rattle.dali_script.specs.Stages.{finding_at, stage_of, next_stage, queried, named, verified, answered, Follows, begins_opening, begins_search, initialises_once, initialises, randomises_once, randomises, sets_middle, sets_low, compares, queries_number, withdraws_found, programs, queries_given, withdraws_given}
+use Rattle.dali_script.proofs.Transactions.{lawful_follows, stage_none, stage_more, finding_after}
+use Rattle.dali_enrol.specs.Roster.{Roster}
+use Rattle.dali_search.specs.declared.step.Step.TheVariants.{Again}
+use Rattle.dali_script.proofs.Lists.{has_map, has_at, has_last}
+use Rattle.dali_search.specs.Least.{Searched}
+use Rattle.dali_controller.specs.declared.orders.Order.{Order}
+use Rattle.dali_controller.specs.declared.orders.Order.TheVariants.{Put, Commit, Done, Halt}
+use Rattle.dali_controller.specs.declared.orders.End.{End}
+use Rattle.dali_controller.specs.declared.orders.Fault.TheVariants as fault
+use Rattle.dali_controller.specs.declared.orders.End.TheVariants.{AllFound, BlockFull, GaveUp}
+use Rattle.dali_controller.specs.declared.purpose.Purpose.{Purpose}
+use Rattle.dali_controller.specs.declared.purpose.Purpose.TheVariants.{Opening, Probing, Visiting, Closing}
+use Rattle.dali_controller.specs.declared.work.Work.{Work}
+use Rattle.dali_controller.specs.Progress.{lost, Progress, roster_of, frame_put, record_ordered, opened_after, silent_after, tries_after}
+use Rattle.dali_controller.specs.Orders.{Contradicts, FIRST, LATER, closing_by, Cause, IsBegun, IsCaused, AfterMask, AfterFinding, IsOrdered, ordered, end_at}
+use Rattle.dali_controller.specs.Moments.{FoundAt, IsBetween, Closes, closing_of, seen, first_of, asks, IsSearching, Sends, Arrived, Knows, KnowsAt, IsCalm, CalmAt, IsReady, IsSending, IsStoring, Pending, IsFine, IsHeard, IsTurn, Turns, Begins, IsNext}
+
+-- THE COMMANDS OF A TRANSACTION. A first command may begin one.
+first_follows : (b : Block) (xs : List Assignment) (p : Purpose) (n : SearchAddress) (c : Command) → c ≡ first_of p n → Follows b xs Free c
+first_follows b xs Opening n c is = subst (Follows b xs Free) (sym is) begins_opening
+first_follows b xs (Closing e) n c is = subst (Follows b xs Free) (sym is) begins_opening
+first_follows b xs Probing n c is = subst (Follows b xs Free) (sym is) (begins_search n.high)
+first_follows b xs Visiting n c is = subst (Follows b xs Free) (sym is) (begins_search n.high)
+
+asks_follows : (b : Block) (xs : List Assignment) (p : Purpose) (r : SearchAddress) (c : Command) → c ≡ asks p → Follows b xs (NumberSent r) c
+asks_follows b xs Opening r c is = subst (Follows b xs (NumberSent r)) (sym is) (queries_number r)
+asks_follows b xs (Closing e) r c is = subst (Follows b xs (NumberSent r)) (sym is) (queries_number r)
+asks_follows b xs Probing r c is = subst (Follows b xs (NumberSent r)) (sym is) (compares r)
+asks_follows b xs Visiting r c is = subst (Follows b xs (NumberSent r)) (sym is) (queries_number r)
+
+-- what is sent at a stage may follow there
+pub sends_follow : (k : Records) (n : SearchAddress) (p : Purpose) (s : Stage) (c : Command) → Sends k n p s c → Follows k.block k.reserved s c
+sends_follow k n p Free c e = first_follows k.block k.reserved p n c e
+sends_follow k n p Terminated c e = subst (Follows k.block k.reserved Terminated) (sym e.1) initialises_once
+sends_follow k n p InitialisedOnce c e = subst (Follows k.block k.reserved InitialisedOnce) (sym e.1) initialises
+sends_follow k n p Initialised c e = subst (Follows k.block k.reserved Initialised) (sym e.1) randomises_once
+sends_follow k n p RandomisedOnce c e = subst (Follows k.block k.reserved RandomisedOnce) (sym e.1) randomises
+sends_follow k n p (HighSent high) c e = subst (Follows k.block k.reserved (HighSent high)) (sym e.2) (sets_middle high n.middle)
+sends_follow k n p (MiddleSent high middle) c e = subst (Follows k.block k.reserved (MiddleSent high middle)) (sym e.3) (sets_low high middle n.low)
+sends_follow k n p (NumberSent r) c e = asks_follows k.block k.reserved p r c e.2
+sends_follow k n p (Found r b) c e = subst (Follows k.block k.reserved (Found r b)) (sym e.2) (withdraws_found r b)
+sends_follow k n p (Unnamed r) c e = subst (Follows k.block k.reserved (Unnamed r)) (sym e.2.3) (programs r e.2.0 e.2.2)
+sends_follow k n p (Programmed r a) c e = subst (Follows k.block k.reserved (Programmed r a)) (sym e.3) (queries_given r a e.2)
+sends_follow k n p (Confirmed r a) c e = subst (Follows k.block k.reserved (Confirmed r a)) (sym e.3) (withdraws_given r a e.2)
+sends_follow k n p _ c e = absurd e
+
+first_spelled : (p : Purpose) (n : SearchAddress) → IsSpelled (first_of p n)
+first_spelled Opening n = tt
+first_spelled (Closing e) n = tt
+first_spelled Probing n = tt
+first_spelled Visiting n = tt
+
+asks_spelled : (p : Purpose) → IsSpelled (asks p)
+asks_spelled Opening = tt
+asks_spelled (Closing e) = tt
+asks_spelled Probing = tt
+asks_spelled Visiting = tt
+
+-- and is read from its frame
+pub sends_spelled : (k : Records) (n : SearchAddress) (p : Purpose) (s : Stage) (c : Command) → Sends k n p s c → IsSpelled c
+sends_spelled k n p Free c e = subst IsSpelled (sym e) (first_spelled p n)
+sends_spelled k n p Terminated c e = subst IsSpelled (sym e.1) tt
+sends_spelled k n p InitialisedOnce c e = subst IsSpelled (sym e.1) tt
+sends_spelled k n p Initialised c e = subst IsSpelled (sym e.1) tt
+sends_spelled k n p RandomisedOnce c e = subst IsSpelled (sym e.1) tt
+sends_spelled k n p (HighSent high) c e = subst IsSpelled (sym e.2) tt
+sends_spelled k n p (MiddleSent high middle) c e = subst IsSpelled (sym e.3) tt
+sends_spelled k n p (NumberSent r) c e = subst IsSpelled (sym e.2) (asks_spelled p)
+sends_spelled k n p (Found r b) c e = subst IsSpelled (sym e.2) tt
+sends_spelled k n p (Unnamed r) c e = subst IsSpelled (sym e.2.3) e.2.1
+sends_spelled k n p (Programmed r a) c e = subst IsSpelled (sym e.3) tt
+sends_spelled k n p (Confirmed r a) c e = subst IsSpelled (sym e.3) tt
+sends_spelled k n p _ c e = absurd e
+
+-- WHERE IT LEADS TO.
+arrives_first : (k : Records) (n : SearchAddress) (p : Purpose) (h : Answer) → Arrived k n p (next_stage Free (first_of p n) h)
+arrives_first k n Opening h = inl refl
+arrives_first k n (Closing e) h = inr (e, refl)
+arrives_first k n Probing h = (tt, refl)
+arrives_first k n Visiting h = (tt, refl)
+
+arrives_queried : (k : Records) (n r : SearchAddress) (h : Answer) → r ≡ n → Arrived k n Visiting (queried r h)
+arrives_queried k n r Silence is = (refl, is)
+arrives_queried k n r Damaged is = (refl, is)
+arrives_queried k n r (Byte v) is = go (short_of v) (v == MASK) where
+  go : (o : Option ℕ) (m : Bool) → Arrived k n Visiting (named r o m)
+  go (Some b) m = (refl, is)
+  go None true = (refl, is)
+  go None false = (refl, is)
+
+arrives_asked : (k : Records) (n r : SearchAddress) (p : Purpose) (h : Answer) → IsSearching p → r ≡ n → Arrived k n p (next_stage (NumberSent r) (asks p) h)
+arrives_asked k n r Probing h searching is = (refl, is)
+arrives_asked k n r Visiting h searching is = arrives_queried k n r h is
+arrives_asked k n r Opening h searching is = absurd searching
+arrives_asked k n r (Closing e) h searching is = absurd searching
+
+arrives_verified : (k : Records) (n r : SearchAddress) (a : ℕ) (h : Answer) → r ≡ n → MayGive k.block k.reserved r a → Arrived k n Visiting (verified r a h)
+arrives_verified k n r a Silence is may = (refl, is)
+arrives_verified k n r a Damaged is may = (refl, is)
+arrives_verified k n r a (Byte v) is may = go (short_of v) where
+  go : (o : Option ℕ) → Arrived k n Visiting (answered r a o)
+  go None = (refl, is)
+  go (Some b) = same (b == a) where
+    same : (m : Bool) → Arrived k n Visiting (if m then Confirmed r a else Inconclusive r (Some b))
+    same true = (refl, is, may)
+    same false = (refl, is)
+
+pub sends_arrive : (k : Records) (n : SearchAddress) (p : Purpose) (s : Stage) (c : Command) (h : Answer) → Sends k n p s c → Arrived k n p (next_stage s c h)
+sends_arrive k n p Free c h e = rw e (arrives_first k n p h)
+sends_arrive k n p Terminated c h e = rw e.1 e.0
+sends_arrive k n p InitialisedOnce c h e = rw e.1 e.0
+sends_arrive k n p Initialised c h e = rw e.1 e.0
+sends_arrive k n p RandomisedOnce c h e = rw e.1 e.0
+sends_arrive k n p (HighSent high) c h e = rw e.2 (e.0, e.1, refl)
+sends_arrive k n p (MiddleSent high middle) c h e = rw e.3 (e.0, whole n high middle e.1 e.2) where
+  whole : (n : SearchAddress) (high middle : ℕ) → n.high ≡ high → n.middle ≡ middle → record { high = high; middle = middle; low = n.low } ≡ n
+  whole n high middle one two = rw (← one, ← two) refl
+sends_arrive k n p (NumberSent r) c h e = rw e.2 (arrives_asked k n r p h e.0 e.1)
+sends_arrive k n p (Found r b) c h e = rw e.2 (e.0, e.1)
+sends_arrive k n p (Unnamed r) c h e = rw e.2.3 (e.0, e.1, e.2.2)
+sends_arrive k n p (Programmed r a) c h e = rw (e.3, e.0) (arrives_verified k n r a h e.1 e.2)
+sends_arrive k n p (Confirmed r a) c h e = rw e.3 (e.0, e.1)
+sends_arrive k n p _ c h e = absurd e
+
+-- what is known there
+pub knows_at : (k : Records) (n : SearchAddress) (s : Searched) (o : Bool) (p : Purpose) (there : Stage) → Knows k n s o p → KnowsAt there k n s (opened_after there o) p
+knows_at k n s o p Opened e = refl
+knows_at k n s o p _ e = e
+
+calm_visiting : (o : Bool) (i : ℕ) → i < 16 → (r : SearchAddress) (other : Option ℕ) → CalmAt (Inconclusive r other) Visiting o (silent_after (Inconclusive r other) o i)
+calm_visiting true i h r other = (omega arith, λ e. refl)
+calm_visiting false i h r other = (omega arith, λ e. absurd (omega arith))
+
+pub calm_at : (k : Records) (n : SearchAddress) (o : Bool) (p : Purpose) (i : ℕ) (there : Stage) → Arrived k n p there → IsCalm p i → CalmAt there p (opened_after there o) (silent_after there o i)
+calm_at k n o p i (Inconclusive r other) there e =
+    let h : i < 16 = subst (λ q. IsCalm q i) there.0 e in
+    calm_visiting o i h r other
+calm_at k n o p i (Withdrawn r b) there e = rw there.0 (zero_less i (subst (λ q. IsCalm q i) there.0 e)) where
+  zero_less : (i : ℕ) → i < 16 → 0 < 16
+  zero_less i h = omega arith
+calm_at k n o p i _ there e = e
+
+pub tries_less : (complete : Bool) (n : ℕ) → n < 8 → tries_after complete n < 8
+tries_less true n h = omega arith
+tries_less false n h = h
+
+-- and at the next command again
+pub sends_calm : (k : Records) (n : SearchAddress) (p : Purpose) (s : Stage) (c : Command) (o : Bool) (i : ℕ) → Sends k n p s c → CalmAt s p o i → IsCalm p i
+sends_calm k n p (Inconclusive r other) c o i e calm = absurd e
+sends_calm k n p _ c o i e calm = calm
+
+pub sends_knows : (k : Records) (n : SearchAddress) (p : Purpose) (s : Stage) (c : Command) (x : Searched) (o : Bool) → Sends k n p s c → KnowsAt s k n x o p → Knows k n x o p
+sends_knows k n p Opened c x o e knows = absurd e
+sends_knows k n p _ c x o e knows = knows
+
+open_of : (p : Purpose) → IsSearching p → closing_of p ≡ None
+open_of Probing e = refl
+open_of Visiting e = refl
+open_of Opening e = absurd e
+open_of (Closing end) e = absurd e
+
+-- past the first command no close runs
+pub sends_open : (k : Records) (n : SearchAddress) (p : Purpose) (s : Stage) (c : Command) → (s ≡ Free → ⊥) → Sends k n p s c → closing_of p ≡ None
+sends_open k n p Free c later e = absurd (later refl)
+sends_open k n p Terminated c later e = ap closing_of e.0
+sends_open k n p InitialisedOnce c later e = ap closing_of e.0
+sends_open k n p Initialised c later e = ap closing_of e.0
+sends_open k n p RandomisedOnce c later e = ap closing_of e.0
+sends_open k n p (HighSent high) c later e = open_of p e.0
+sends_open k n p (MiddleSent high middle) c later e = open_of p e.0
+sends_open k n p (NumberSent r) c later e = open_of p e.0
+sends_open k n p (Found r b) c later e = ap closing_of e.0
+sends_open k n p (Unnamed r) c later e = ap closing_of e.0
+sends_open k n p (Programmed r a) c later e = ap closing_of e.0
+sends_open k n p (Confirmed r a) c later e = ap closing_of e.0
+sends_open k n p _ c later e = absurd e
+
+calm_less : (p : Purpose) (i : ℕ) → closing_of p ≡ None → IsCalm p i → i < 16
+calm_less Opening i e calm = calm
+calm_less Probing i e calm = calm
+calm_less Visiting i e calm = calm
+calm_less (Closing end) i e calm = absurd (cc)
+
+-- A FRAME THAT IS OUTSTANDING
+pub sending : (w : Work) (l : Option Order) (f : Forward) → frame_put l ≡ Some f → Pending w l → IsSending w f
+sending w None f is e = absurd (cc)
+sending w (Some (Put p g)) f is e = subst (λ d. IsSending w d) (let same : g ≡ f = cc in same) e
+sending w (Some (Commit x)) f is e = absurd (cc)
+sending w (Some (Done end)) f is e = absurd (cc)
+sending w (Some (Halt why)) f is e = absurd (cc)
+
+pub sending_lawful : (w : Work) (f : Forward) → IsSending w f → Lawful w.kept.block w.kept.reserved w.trace f
+sending_lawful w f e = lawful_follows w.kept.block w.kept.reserved w.trace f (sends_follow w.kept w.number w.purpose (stage_of w.trace) (command_of f) e.sends)
+
+-- TO GO ON
+put_fine_at : (w : Work) (s : Stage) (c : Command) (p : ℕ) (f : Forward) → IsHeard w s → Sends w.kept w.number w.purpose s c → command_of f ≡ c → IsFine (record w { last = Some (Put p f) })
+put_fine_at w s c p f h e read = record {
+  table = h.table;
+  pending = record {
+    ready = record {
+      tries = h.tries;
+      calm = sends_calm w.kept w.number w.purpose s c w.opened w.silent e h.calm;
+      knows = sends_knows w.kept w.number w.purpose s c w.search w.opened e h.knows;
+    };
+    sends = subst (λ x. Sends w.kept w.number w.purpose x (command_of f)) (sym h.stage) (subst (λ d. Sends w.kept w.number w.purpose s d) (sym read) e);
+  };
+}
+
+pub put_fine : (w : Work) (s : Stage) (c : Command) (p : ℕ) (f : Forward) → IsHeard w s → Sends w.kept w.number w.purpose s c → (IsSpelled c → command_of f ≡ c) → IsFine (record w { last = Some (Put p f) })
+put_fine w s c p f h e read = put_fine_at w s c p f h e (read (sends_spelled w.kept w.number w.purpose s c e))
+
+begun_none : (t : Progress) (o : Option End) → o ≡ None → t.closing ≡ None → IsBegun t o
+begun_none t o is none = subst (IsBegun t) (sym is) none
+
+put_masked : (w : Work) (s : Stage) (c : Command) (r : SearchAddress) → Sends w.kept w.number w.purpose s c → s ≡ Unnamed r → AfterMask (seen w) r (Put LATER (frame_of c))
+put_masked w s c r e is =
+    let there : Sends w.kept w.number w.purpose (Unnamed r) c = subst (λ x. Sends w.kept w.number w.purpose x c) is e in
+    inl (there.2.0, there.2.2.reserved_for, refl, ap frame_of there.2.3)
+
+not_empty : (t : List Entry) (s : Stage) → stage_of t ≡ s → (s ≡ Free → ⊥) → t ≡ [] → ⊥
+not_empty t s is later empty = later (sym is ∙ ap stage_of empty ∙ stage_none)
+
+put_next_at : (w : Work) (s : Stage) (c : Command) → IsHeard w s → Sends w.kept w.number w.purpose s c → (s ≡ Free → ⊥)
+    → IsNext (seen w) (Put LATER (frame_of c)) (seen (record w { last = Some (Put LATER (frame_of c)) }))
+put_next_at w s c h e later =
+    let going : closing_of w.purpose ≡ None = sends_open w.kept w.number w.purpose s c later e in
+    let calm : w.silent < 16 = calm_less w.purpose w.silent going (sends_calm w.kept w.number w.purpose s c w.opened w.silent e h.calm) in
+    let tries : w.tries < 8 = h.tries in
+    let spelled : command_of (frame_of c) ≡ c = read_written c (sends_spelled w.kept w.number w.purpose s c e) in
+    let sends : Sends w.kept w.number w.purpose (stage_of w.trace) (command_of (frame_of c)) =
+    subst (λ x. Sends w.kept w.number w.purpose x (command_of (frame_of c))) (sym h.stage) (subst (λ d. Sends w.kept w.number w.purpose s d) (sym spelled) e) in
+    record {
+      order = record {
+        allowed = inr (refl, not_empty w.trace s h.stage later,
+          lawful_follows w.kept.block w.kept.reserved w.trace (frame_of c) (sends_follow w.kept w.number w.purpose (stage_of w.trace) (command_of (frame_of c)) sends));
+        caused = (begun_none (seen w) (closing_of w.purpose) going going, inl going);
+        given_up = λ n. absurd (omega arith);
+        silent = λ n. absurd (omega arith);
+        unnamed = λ r is. put_masked w s c r e (sym h.stage ∙ is);
+        found = λ r b is. absurd (subst (λ x. Sends w.kept w.number w.purpose x c) (sym h.stage ∙ is) e);
+      };
+      state = refl;
+    }
+
+pub put_next : (w : Work) (s : Stage) (c : Command) (p : ℕ) (f : Forward) → IsHeard w s → Sends w.kept w.number w.purpose s c → (s ≡ Free → ⊥) → p ≡ LATER → f ≡ frame_of c
+    → IsNext (seen w) (Put p f) (seen (record w { last = Some (Put p f) }))
+put_next w s c p f h e later first is =
+    subst (λ q. IsNext (seen w) (Put q f) (seen (record w { last = Some (Put q f) }))) (sym first)
+    (subst (λ g. IsNext (seen w) (Put LATER g) (seen (record w { last = Some (Put LATER g) }))) (sym is) (put_next_at w s c h e later))
+
+-- TO BEGIN
+closes : (w : Work) (p : Purpose) (n : SearchAddress) → Begins w p n → closing_by (seen w) (Put FIRST (frame_of (first_of p n))) ≡ closing_of p
+closes w Opening n b = rw b.knows b.turns
+closes w Probing n b = b.turns
+closes w Visiting n b = b.turns
+closes w (Closing e) n b = rw b.knows (go b.turns.cause) where
+  go : (closing_of w.purpose ≡ Some e) ⊎ ((closing_of w.purpose ≡ None) × (end_at (stage_of w.trace) ≡ e) × Cause (seen w) e)
+      → Some (unwrap_or (closing_of w.purpose) (end_at (stage_of w.trace))) ≡ Some e
+  go (inl is) = rw is refl
+  go (inr is) = rw (is.0, is.1) refl
+
+begun : (w : Work) (p : Purpose) → Turns w p → IsBegun (seen w) (closing_of p)
+begun w Opening t = t
+begun w Probing t = t
+begun w Visiting t = t
+begun w (Closing e) t = go t.cause where
+  go : (closing_of w.purpose ≡ Some e) ⊎ ((closing_of w.purpose ≡ None) × (end_at (stage_of w.trace) ≡ e) × Cause (seen w) e)
+      → (closing_of w.purpose ≡ Some e) ⊎ ((closing_of w.purpose ≡ None) × Cause (seen w) e)
+  go (inl is) = inl is
+  go (inr is) = inr (is.0, is.2)
+
+terminates : (p : Purpose) (n : SearchAddress) → (closing_of p ≡ None) ⊎ ((FIRST ≡ FIRST) × (frame_of (first_of p n) ≡ frame_of Terminate))
+terminates Opening n = inl refl
+terminates Probing n = inl refl
+terminates Visiting n = inl refl
+terminates (Closing e) n = inr (refl, refl)
+
+silent_closes : (p : Purpose) (i : ℕ) → IsCalm p i → i ≡ 16 → closing_of p ≡ Some GaveUp
+silent_closes Opening i calm is = absurd (omega arith)
+silent_closes Probing i calm is = absurd (omega arith)
+silent_closes Visiting i calm is = absurd (omega arith)
+silent_closes (Closing e) i calm is = ap (λ x. Some x) (calm.1 is)
+
+first_lawful : (b : Block) (xs : List Assignment) (p : Purpose) (n : SearchAddress) → Lawful b xs [] (frame_of (first_of p n))
+first_lawful b xs p n =
+    lawful_follows b xs [] (frame_of (first_of p n))
+    (subst (λ s. Follows b xs s (command_of (frame_of (first_of p n)))) (sym stage_none)
+    (first_follows b xs p n (command_of (frame_of (first_of p n))) (read_written (first_of p n) (first_spelled p n))))
+
+begin_next_at : (w : Work) (p : Purpose) (n : SearchAddress) → Begins w p n
+    → IsNext (seen w) (Put FIRST (frame_of (first_of p n))) (seen (record w { trace = []; last = Some (Put FIRST (frame_of (first_of p n))); purpose = p; number = n }))
+begin_next_at w p n b =
+    let tries : w.tries < 8 = b.tries in
+    let closed : closing_by (seen w) (Put FIRST (frame_of (first_of p n))) ≡ closing_of p = closes w p n b in
+    record {
+      order = record {
+        allowed = inl (refl, first_lawful w.kept.block w.kept.reserved p n);
+        caused = (
+          subst (IsBegun (seen w)) (sym closed) (begun w p b.turns),
+          subst (λ o. (o ≡ None) ⊎ ((FIRST ≡ FIRST) × (frame_of (first_of p n) ≡ frame_of Terminate))) (sym closed) (terminates p n),
+        );
+        given_up = λ e. absurd (omega arith);
+        silent = λ e. closed ∙ silent_closes p w.silent b.calm e;
+        unnamed = λ r e. let x = b.unnamed r e in inr (x.0, x.1, closed ∙ ap closing_of x.2);
+        found = b.found;
+      };
+      state = ap (λ o. record {
+        id = w.id;
+        kept = w.kept;
+        trace = [];
+        finding = w.finding;
+        last = Some (Put FIRST (frame_of (first_of p n)));
+        tries = w.tries;
+        silent = w.silent;
+        opened = w.opened;
+        closing = o;
+      }) (sym closed);
+    }
+
+pub begin_next : (w : Work) (p : Purpose) (n : SearchAddress) (t : List Entry) (q : ℕ) (f : Forward) → Begins w p n → t ≡ [] → q ≡ FIRST → f ≡ frame_of (first_of p n)
+    → IsNext (seen w) (Put q f) (seen (record w { trace = t; last = Some (Put q f); purpose = p; number = n }))
+begin_next w p n t q f b empty first is =
+    subst (λ u. IsNext (seen w) (Put q f) (seen (record w { trace = u; last = Some (Put q f); purpose = p; number = n }))) (sym empty)
+    (subst (λ x. IsNext (seen w) (Put x f) (seen (record w { trace = []; last = Some (Put x f); purpose = p; number = n }))) (sym first)
+    (subst (λ g. IsNext (seen w) (Put FIRST g) (seen (record w { trace = []; last = Some (Put FIRST g); purpose = p; number = n }))) (sym is) (begin_next_at w p n b)))
+
+free_of : (t : List Entry) → t ≡ [] → stage_of t ≡ Free
+free_of t empty = ap stage_of empty ∙ stage_none
+
+pub begin_fine : (w : Work) (p : Purpose) (n : SearchAddress) (t : List Entry) (q : ℕ) (f : Forward) → Begins w p n → t ≡ [] → f ≡ frame_of (first_of p n)
+    → IsFine (record w { trace = t; last = Some (Put q f); purpose = p; number = n })
+begin_fine w p n t q f b empty is = record {
+  table = b.table;
+  pending = record {
+    ready = record { tries = b.tries; calm = b.calm; knows = b.knows };
+    sends = subst (λ s. Sends w.kept n p s (command_of f)) (sym (free_of t empty)) (ap command_of is ∙ read_written (first_of p n) (first_spelled p n));
+  };
+}
+
+-- TO STORE
+pub commit_fine : (w : Work) (x : Record) (t : List Entry) → w.table ≡ roster_of w.kept → IsReady w → w.purpose ≡ Visiting → Fits w.kept.block x → IsFresh w.kept x → t ≡ []
+    → IsFine (record w { trace = t; last = Some (Commit x) })
+commit_fine w x t table ready visiting fits fresh empty = record {
+  table = table;
+  pending = record {
+    ready = record { tries = ready.tries; calm = ready.calm; knows = ready.knows };
+    free = free_of t empty;
+    visiting = visiting;
+    fits = fits;
+    fresh = fresh;
+  };
+}
+
+-- TO HEAR
+calm_small : (p : Purpose) (i : ℕ) → IsCalm p i → i ≤ 16
+calm_small Opening i calm = omega arith
+calm_small Probing i calm = omega arith
+calm_small Visiting i calm = omega arith
+calm_small (Closing e) i calm = calm.0
+
+pub sending_small : (w : Work) (f : Forward) → IsSending w f → w.silent < 255
+sending_small w f e = let small : w.silent ≤ 16 = calm_small w.purpose w.silent e.ready.calm in omega arith
+
+found_at : (s : Stage) (earlier found : Option Assignment) → found ≡ later earlier (finding_at s) → FoundAt s found
+found_at (Withdrawn r b) earlier found is = is
+found_at _ earlier found is = tt
+
+-- the parts after a frame was heard, the last finding noted, and the counts made
+pub hear_heard : (w noted : Work) (f : Forward) (h : Answer) (t : List Entry) (s : Stage) (complete o : Bool) (n i : ℕ) → IsFine w → frame_put w.last ≡ Some f
+    → t ≡ w.trace ++ (record { frame = f; heard = h }) ∷ [] → noted ≡ record w { trace = t; finding = later w.finding (finding_of t) } → s ≡ stage_of noted.trace
+    → n ≡ tries_after complete noted.tries → i ≡ silent_after (stage_of noted.trace) noted.opened noted.silent → o ≡ opened_after (stage_of noted.trace) noted.opened
+    → IsHeard (record noted { tries = n; silent = i; opened = o }) s
+hear_heard w noted f h t s complete o n i fine put trace is stage tries silent opened =
+    let sent : IsSending w f = sending w w.last f put fine.pending in
+    let same_trace : noted.trace ≡ t = ap (λ (x : Work). x.trace) is in
+    let there : stage_of noted.trace ≡ next_stage (stage_of w.trace) (command_of f) h = ap stage_of (same_trace ∙ trace) ∙ stage_more w.trace (record { frame = f; heard = h }) in
+    let arrived : Arrived w.kept w.number w.purpose (stage_of noted.trace) = subst (Arrived w.kept w.number w.purpose) (sym there) (sends_arrive w.kept w.number w.purpose (stage_of w.trace) (command_of f) h sent.sends) in
+    let finding : noted.finding ≡ later w.finding (finding_at (stage_of noted.trace)) =
+    ap (λ (x : Work). x.finding) is ∙ ap (λ u. later w.finding (finding_of u)) trace ∙ ap (later w.finding) (finding_after w.kept.block w.kept.reserved w.trace (record { frame = f; heard = h }) (sending_lawful w f sent))
+        ∙ ap (λ u. later w.finding (finding_at (stage_of u))) (sym (same_trace ∙ trace)) in
+    rw stage (from arrived sent.ready finding)
+  where
+    from : Arrived w.kept w.number w.purpose (stage_of noted.trace) → IsReady w → noted.finding ≡ later w.finding (finding_at (stage_of noted.trace)) → IsHeard (record noted { tries = n; silent = i; opened = o }) (stage_of noted.trace)
+    from arrived ready finding = record {
+      table = ap (λ (x : Work). x.table) is ∙ fine.table ∙ ap roster_of (ap (λ (x : Work). x.kept) (sym is));
+      stage = refl;
+      tries = subst (λ m. m < 8) (sym (tries ∙ ap (λ m. tries_after complete m) (ap (λ (x : Work). x.tries) is))) (tries_less complete w.tries ready.tries);
+      arrived = subst (λ (x : Work). Arrived x.kept x.number x.purpose (stage_of noted.trace)) (sym is) arrived;
+      calm = rw (opened, silent) (subst (λ (x : Work). CalmAt (stage_of noted.trace) x.purpose (opened_after (stage_of noted.trace) x.opened) (silent_after (stage_of noted.trace) x.opened x.silent)) (sym is)
+          (calm_at w.kept w.number w.opened w.purpose w.silent (stage_of noted.trace) arrived ready.calm));
+      knows = rw opened (subst (λ (x : Work). KnowsAt (stage_of noted.trace) x.kept x.number x.search (opened_after (stage_of noted.trace) x.opened) x.purpose) (sym is)
+          (knows_at w.kept w.number w.search w.opened w.purpose (stage_of noted.trace) ready.knows));
+      finding = found_at (stage_of noted.trace) w.finding noted.finding finding;
+    }
+
+-- THE TRANSACTIONS
+pub opens : (w : Work) (n : SearchAddress) → IsBetween w → w.opened ≡ false → Begins w Opening n
+opens w n b opened = record {
+  table = b.table;
+  tries = b.tries;
+  calm = b.silent;
+  knows = opened;
+  turns = b.going;
+  unnamed = λ r e. absurd (b.unnamed r e);
+  found = b.found;
+}
+
+pub probes : (w : Work) (n : SearchAddress) → IsBetween w → w.opened ≡ true → w.search.step ≡ Again → value_of n ≡ w.search.probe → Begins w Probing n
+probes w n b opened running is = record {
+  table = b.table;
+  tries = b.tries;
+  calm = b.silent;
+  knows = (opened, running, is);
+  turns = b.going;
+  unnamed = λ r e. absurd (b.unnamed r e);
+  found = b.found;
+}
+
+pub visits : (w : Work) (n : SearchAddress) → IsBetween w → value_of n < MASK24 → (w.opened ≡ false → HasNumber w.kept.reserved (value_of n)) → Begins w Visiting n
+visits w n b drawn reserved = record {
+  table = b.table;
+  tries = b.tries;
+  calm = b.silent;
+  knows = (drawn, reserved);
+  turns = b.going;
+  unnamed = λ r e. absurd (b.unnamed r e);
+  found = b.found;
+}
+
+pub closing : (w : Work) (e : End) (n : SearchAddress) → Closes w e → Begins w (Closing e) n
+closing w e n b = record {
+  table = b.table;
+  tries = b.tries;
+  calm = b.calm;
+  knows = b.opened;
+  turns = record { opened = b.opened; cause = inr (b.going, b.end, b.cause) };
+  unnamed = λ r is. let x = b.unnamed r is in (x.0, x.1, ap (λ y. Closing y) x.2);
+  found = λ r c is. absurd (b.found r c is);
+}
+
+-- LOST
+turns_same : (w : Work) (p : Purpose) → w.purpose ≡ p → Knows w.kept w.number w.search w.opened p → Turns w p
+turns_same w Opening is knows = ap closing_of is
+turns_same w Probing is knows = ap closing_of is
+turns_same w Visiting is knows = ap closing_of is
+turns_same w (Closing e) is knows = record { opened = knows; cause = inl (ap closing_of is) }
+
+pub lost_begins : (w : Work) (f : Forward) (t : List Entry) → IsFine w → frame_put w.last ≡ Some f → t ≡ [] → (w.tries + 1 ≡ 8 → ⊥) → Begins (record w { trace = t; tries = w.tries + 1 }) w.purpose w.number
+lost_begins w f t fine put empty more =
+    let ready : IsReady w = (sending w w.last f put fine.pending).ready in
+    let less : w.tries < 8 = ready.tries in
+    let free : stage_of t ≡ Free = free_of t empty in
+    record {
+      table = fine.table;
+      tries = omega (arith, more);
+      calm = ready.calm;
+      knows = ready.knows;
+      turns = turns_same (record w { trace = t; tries = w.tries + 1 }) w.purpose refl ready.knows;
+      unnamed = λ r e. absurd (cc);
+      found = λ r b e. absurd (cc);
+    }
+
+lost_ended_at : (w : Work) → IsReady w → w.tries + 1 ≡ 8 → IsOrdered (lost (seen w)) (Done GaveUp)
+lost_ended_at w ready is =
+    let free : stage_of [] ≡ Free = stage_none in
+    record {
+      allowed = tt;
+      caused = inl (refl, is);
+      given_up = λ e. refl;
+      silent = λ e. silent_closes w.purpose w.silent ready.calm e;
+      unnamed = λ r e. absurd (cc);
+      found = λ r b e. absurd (cc);
+    }
+
+pub lost_ended : (w : Work) (f : Forward) (t : List Entry) (o : Order) (new : Progress) → IsFine w → frame_put w.last ≡ Some f → t ≡ [] → w.tries + 1 ≡ 8 → o ≡ Done GaveUp
+    → new ≡ ordered (seen (record w { trace = t; tries = w.tries + 1 })) o → IsNext (lost (seen w)) o new
+lost_ended w f t o new fine put empty is done state = record {
+  order = subst (IsOrdered (lost (seen w))) (sym done) (lost_ended_at w (sending w w.last f put fine.pending).ready is);
+  state = state ∙ ap (λ u. ordered (seen (record w { trace = u; tries = w.tries + 1 })) o) empty;
+}
+
+pub lost_next : (w : Work) (t : List Entry) (o : Order) (new : Progress) → t ≡ [] → IsNext (seen (record w { trace = t; tries = w.tries + 1 })) o new → IsNext (lost (seen w)) o new
+lost_next w t o new empty next = subst (λ u. IsNext (seen (record w { trace = u; tries = w.tries + 1 })) o new) empty next
+
+-- TO GIVE
+may_give : (k : Records) (r : SearchAddress) (a : ℕ) → IsKept k → Has k.reserved (a, value_of r) → MayGive k.block k.reserved r a
+may_give k r a m h = record {
+  drawn = m.reserved.drawn (value_of r) (has_map (λ q. q.1) k.reserved (a, value_of r) h);
+  within = m.within a (has_map (λ q. q.0) k.reserved (a, value_of r) h);
+  reserved_for = h;
+}
+
+pub sends_program : (k : Records) (n r : SearchAddress) (p : Purpose) (a m : ℕ) → IsKept k → (p ≡ Visiting) × (r ≡ n) → m ≡ value_of r → Has k.reserved (a, m) → Sends k n p (Unnamed r) (Program (Some a))
+sends_program k n r p a m kept visiting is h =
+    let there : Has k.reserved (a, value_of r) = subst (λ v. Has k.reserved (a, v)) is h in
+    (visiting.0, visiting.1, (a, kept.reserved.short a (has_map (λ q. q.0) k.reserved (a, value_of r) there), may_give k r a kept there, refl))
+
+-- a pair of a list
+pub number_here : (xs : List Assignment) (i : ℕ) (p : Assignment) → i < length xs → p ≡ get_or xs i p → HasNumber xs p.1
+number_here xs i p h is = has_map (λ q. q.1) xs p (subst (Has xs) (sym is) (has_at xs i p h))
+
+-- TO SETTLE
+entries_of : (w : Work) → w.table ≡ roster_of w.kept → w.table.entries ≡ w.kept.enrolled
+entries_of w is = ap (λ (t : Roster). t.entries) is
+
+settled_calm : (w : Work) (r : SearchAddress) (b : ℕ) → IsHeard w (Withdrawn r b) → w.silent < 16
+settled_calm w r b h = subst (λ p. IsCalm p w.silent) h.arrived.0 h.calm
+
+same_address : (r q : SearchAddress) (b d : ℕ) → Withdrawn r b ≡ Withdrawn q d → b ≡ d
+same_address r q b d e = cc
+
+same_number : (r q : SearchAddress) (b d : ℕ) → Withdrawn r b ≡ Withdrawn q d → r ≡ q
+same_number r q b d e = cc
+
+halted_at : (w : Work) (r : SearchAddress) (b : ℕ) → IsHeard w (Withdrawn r b) → Contradicts w.kept.enrolled b (value_of r) → IsOrdered (seen w) (Halt fault.Conflict)
+halted_at w r b h conflict =
+    let tries : w.tries < 8 = h.tries in
+    let calm : w.silent < 16 = settled_calm w r b h in
+    let stage : stage_of w.trace ≡ Withdrawn r b = h.stage in
+    record {
+      allowed = tt;
+      caused = (b, value_of r, h.finding, conflict);
+      given_up = λ e. absurd (omega arith);
+      silent = λ e. absurd (omega arith);
+      unnamed = λ q e. absurd (cc);
+      found = λ q d e.
+          let there : Withdrawn r b ≡ Withdrawn q d = sym stage ∙ e in
+          subst (λ n. Contradicts w.kept.enrolled d (value_of n)) (same_number r q b d there) (subst (λ a. Contradicts w.kept.enrolled a (value_of r)) (same_address r q b d there) conflict);
+    }
+
+halted : (w : Work) (r : SearchAddress) (b : ℕ) (o : Order) (new : Progress) → IsHeard w (Withdrawn r b) → Contradicts w.kept.enrolled b (value_of r) → o ≡ Halt fault.Conflict → new ≡ ordered (seen w) o → IsNext (seen w) o new
+halted w r b o new h conflict is state = record { order = subst (IsOrdered (seen w)) (sym is) (halted_at w r b h conflict); state = state }
+
+-- the table has the address for another gear
+pub halts_by_address : (w : Work) (r : SearchAddress) (b n m : ℕ) (o : Order) (new : Progress) → IsHeard w (Withdrawn r b) → Has w.table.entries (b, n) → m ≡ value_of r → (n ≡ m → ⊥)
+    → o ≡ Halt fault.Conflict → new ≡ ordered (seen w) o → IsNext (seen w) o new
+halts_by_address w r b n m o new h has is other order state =
+    halted w r b o new h (inl (n, subst (λ xs. Has xs (b, n)) (entries_of w h.table) has, λ e. other (e ∙ sym is))) order state
+
+-- or the gear with another address
+pub halts_by_random : (w : Work) (r : SearchAddress) (b a m : ℕ) (o : Order) (new : Progress) → IsHeard w (Withdrawn r b) → (HasAddress w.table.entries b → ⊥) → Has w.table.entries (a, m) → m ≡ value_of r
+    → o ≡ Halt fault.Conflict → new ≡ ordered (seen w) o → IsNext (seen w) o new
+halts_by_random w r b a m o new h none has is order state =
+    halted w r b o new h (inr (
+      a,
+      subst (λ xs. Has xs (a, value_of r)) (entries_of w h.table) (subst (λ n. Has w.table.entries (a, n)) is has),
+      λ e. none (subst (HasAddress w.table.entries) e (has_map (λ q. q.0) w.table.entries (a, m) has)),
+    )) order state
+
+enrols_at : (w : Work) (r : SearchAddress) (b : ℕ) → IsHeard w (Withdrawn r b) → (HasAddress w.kept.enrolled b → ⊥) → (HasNumber w.kept.enrolled (value_of r) → ⊥) → IsOrdered (seen w) (Commit (Enrol b (value_of r)))
+enrols_at w r b h none fresh =
+    let tries : w.tries < 8 = h.tries in
+    let calm : w.silent < 16 = settled_calm w r b h in
+    let stage : stage_of w.trace ≡ Withdrawn r b = h.stage in
+    let visiting : Knows w.kept w.number w.search w.opened Visiting = subst (Knows w.kept w.number w.search w.opened) h.arrived.0 h.knows in
+    record {
+      allowed = record { fits = subst (λ n. value_of n < MASK24) (sym h.arrived.1) visiting.0; fresh = (none, fresh); warranted = h.finding };
+      caused = ap closing_of h.arrived.0;
+      given_up = λ e. absurd (omega arith);
+      silent = λ e. absurd (omega arith);
+      unnamed = λ q e. absurd (cc);
+      found = λ q d e.
+          let there : Withdrawn r b ≡ Withdrawn q d = sym stage ∙ e in
+          ap (λ a. Enrol a (value_of r)) (same_address r q b d there) ∙ ap (λ n. Enrol d (value_of n)) (same_number r q b d there);
+    }
+
+pub enrols : (w : Work) (r : SearchAddress) (b m : ℕ) (o : Order) (new : Progress) → IsHeard w (Withdrawn r b) → (HasAddress w.table.entries b → ⊥) → (HasNumber w.table.entries m → ⊥) → m ≡ value_of r
+    → o ≡ Commit (Enrol b m) → new ≡ ordered (seen w) o → IsNext (seen w) o new
+enrols w r b m o new h none fresh is order state = record {
+  order = subst (IsOrdered (seen w)) (sym (order ∙ ap (λ n. Commit (Enrol b n)) is))
+      (enrols_at w r b h (subst (λ xs. HasAddress xs b → ⊥) (entries_of w h.table) none) (subst (λ xs. HasNumber xs (value_of r) → ⊥) (entries_of w h.table) (subst (λ n. HasNumber w.table.entries n → ⊥) is fresh)));
+  state = state;
+}
+
+-- a number is reserved once its reservation is kept
+pub reserved_kept : (w new : Work) (a n m : ℕ) → new ≡ record w { kept = with_record w.kept (Reserve a n) } → m ≡ n → HasNumber new.kept.reserved m
+reserved_kept w new a n m is same =
+    subst (λ (x : Work). HasNumber x.kept.reserved m) (sym is) (subst (HasNumber (w.kept.reserved ++ (a, n) ∷ [])) (sym same) (has_map (λ q. q.1) (w.kept.reserved ++ (a, n) ∷ []) (a, n) (has_last w.kept.reserved (a, n))))
+
+-- before the start
+pub fine_at_first : (w : Work) → w.table ≡ roster_of w.kept → w.trace ≡ [] → w.last ≡ None → w.tries ≡ 0 → w.silent ≡ 0 → w.opened ≡ false → w.purpose ≡ Opening → IsFine w
+fine_at_first w table trace last tries silent opened opening = record {
+  table = table;
+  pending = rw last (record {
+    ready = record {
+      tries = rw tries (lit< tt);
+      calm = rw (opening, silent) (lit< tt);
+      knows = rw (opening, opened) refl;
+    };
+    free = free_of w.trace trace;
+    opening = opening;
+  });
+}
+
+-- an element stands in no earlier place of a list in which its key stands once
+once_before : (key : Assignment → ℕ) (xs : List Assignment) (i : ℕ) (d : Assignment) → IsOnce (map key xs) → i < length xs → Has (map key (take i xs)) (key (get_or xs i d)) → ⊥
+once_before key [] i d once h has = absurd (omega arith)
+once_before key (x ∷ xs) zero d once h has = has
+once_before key (x ∷ xs) (suc i) d once h (inl same) = once.0 (subst (Has (map key xs)) (sym same) (has_map key xs (get_or xs i d) (has_at xs i d (omega arith))))
+once_before key (x ∷ xs) (suc i) d once h (inr more) = once_before key xs i d once.1 (omega arith) more
+
+pub not_before : (key : Assignment → ℕ) (xs : List Assignment) (i : ℕ) (p : Assignment) (t : Roster) (b : Block) → IsOnce (map key xs) → i < length xs → p ≡ get_or xs i p
+    → t ≡ record { block = b; entries = take i xs } → Has (map key t.entries) (key p) → ⊥
+not_before key xs i p t b once h is table has =
+    once_before key xs i p once h (subst (λ q. Has (map key (take i xs)) (key q)) is (subst (λ (u : Roster). Has (map key u.entries) (key p)) table has))

@@ -1,0 +1,4 @@
+pub mod Refusals
+pub mod Progress
+pub mod Orders
+pub mod Moments

@@ -1,0 +1,219 @@
+use Rattle.std.specs.Prelude.{◌≡◌, ℕ, ◌<◌, ◌≤◌, ◌⊎◌, Bool, true, false, Option, Some, None}
+use Rattle.dali_frame.specs.declared.frames.Forward.{Forward}
+use Rattle.dali_frame.specs.declared.numbers.SearchAddress.{SearchAddress}
+use Rattle.dali_frame.specs.Random.{value_of}
+use Rattle.dali_special.specs.declared.command.Target.TheVariants.{Unaddressed}
+use Rattle.dali_special.specs.declared.command.Command.{Command}
+use Rattle.dali_special.specs.declared.command.Command.TheVariants.{Terminate, Initialise, Randomise, Compare, Withdraw, SearchHigh, SearchMiddle, SearchLow, Program, QueryShort}
+use Rattle.dali_special.specs.Command.{command_of, frame_of}
+use Rattle.dali_script.specs.declared.records.Record.{Record}
+use Rattle.dali_script.specs.declared.stage.Stage.{Stage}
+use Rattle.dali_script.specs.declared.stage.Stage.TheVariants.{Free, Terminated, InitialisedOnce, Initialised, RandomisedOnce, Opened, HighSent, MiddleSent, NumberSent, Probed, Found, Unnamed, Inconclusive, Programmed, Confirmed, Withdrawn, Over}
+use Rattle.dali_script.specs.Records.{Records, Assignment, Has, HasNumber, Fits, IsFresh, IsFull, MASK24}
+use Rattle.dali_script.specs.Scripts.{MayGive}
+use Rattle.dali_script.specs.Stages.{stage_of}
+use Rattle.dali_search.specs.declared.step.Step.TheVariants.{Again}
+use Rattle.dali_search.specs.Least.{Searched}
+use Rattle.dali_controller.specs.declared.orders.Input.{Input}
+use Rattle.dali_controller.specs.declared.orders.Order.{Order}
+use Rattle.dali_controller.specs.declared.orders.Order.TheVariants.{Put, Commit, Done, Halt}
+use Rattle.dali_controller.specs.declared.orders.End.{End}
+use Rattle.dali_controller.specs.declared.orders.End.TheVariants.{BlockFull, GaveUp}
+use Rattle.dali_controller.specs.declared.purpose.Purpose.{Purpose}
+use Rattle.dali_controller.specs.declared.purpose.Purpose.TheVariants.{Opening, Probing, Visiting, Closing}
+use Rattle.dali_controller.specs.declared.work.Work.{Work}
+use Rattle.dali_controller.specs.Progress.{Progress, roster_of}
+use Rattle.dali_controller.specs.Orders.{Cause, end_at, IsOrdered, ordered, IsAnswered, after}
+
+-- What holds inside a machine between its moments. Its public contract cites none of this.
+
+abbrev pub closing_of : Purpose → Option End
+closing_of (Closing e) = Some e
+closing_of _ = None
+
+-- what contracts see
+abbrev pub seen : Work → Progress
+seen w = record {
+  id = w.id;
+  kept = w.kept;
+  trace = w.trace;
+  finding = w.finding;
+  last = w.last;
+  tries = w.tries;
+  silent = w.silent;
+  opened = w.opened;
+  closing = closing_of w.purpose;
+}
+
+-- the first command of a transaction, and what it asks of the gear at its search address
+abbrev pub first_of : Purpose → SearchAddress → Command
+first_of Opening n = Terminate
+first_of (Closing e) n = Terminate
+first_of _ n = SearchHigh n.high
+
+abbrev pub asks : Purpose → Command
+asks Probing = Compare
+asks _ = QueryShort
+
+abbrev pub IsSearching : Purpose → Type 0
+IsSearching Probing = Unit {0}
+IsSearching Visiting = Unit {0}
+IsSearching _ = ⊥
+
+-- which command is sent at a stage
+abbrev pub Sends : Records → SearchAddress → Purpose → Stage → Command → Type 0
+Sends k n p Free c = c ≡ first_of p n
+Sends k n p Terminated c = (p ≡ Opening) × (c ≡ Initialise Unaddressed)
+Sends k n p InitialisedOnce c = (p ≡ Opening) × (c ≡ Initialise Unaddressed)
+Sends k n p Initialised c = (p ≡ Opening) × (c ≡ Randomise)
+Sends k n p RandomisedOnce c = (p ≡ Opening) × (c ≡ Randomise)
+Sends k n p (HighSent high) c = IsSearching p × (n.high ≡ high) × (c ≡ SearchMiddle n.middle)
+Sends k n p (MiddleSent high middle) c = IsSearching p × (n.high ≡ high) × (n.middle ≡ middle) × (c ≡ SearchLow n.low)
+Sends k n p (NumberSent r) c = IsSearching p × (r ≡ n) × (c ≡ asks p)
+Sends k n p (Found r b) c = (p ≡ Visiting) × (r ≡ n) × (c ≡ Withdraw)
+Sends k n p (Unnamed r) c = (p ≡ Visiting) × (r ≡ n) × ((a : ℕ) × (a < 64) × MayGive k.block k.reserved r a × (c ≡ Program (Some a)))
+Sends k n p (Programmed r a) c = (p ≡ Visiting) × (r ≡ n) × MayGive k.block k.reserved r a × (c ≡ QueryShort)
+Sends k n p (Confirmed r a) c = (p ≡ Visiting) × (r ≡ n) × MayGive k.block k.reserved r a × (c ≡ Withdraw)
+Sends k n p _ c = ⊥
+
+-- what is known at a stage of the transaction that led there
+abbrev pub Arrived : Records → SearchAddress → Purpose → Stage → Type 0
+Arrived k n p Terminated = (p ≡ Opening) ⊎ ((e : End) × (p ≡ Closing e))
+Arrived k n p InitialisedOnce = p ≡ Opening
+Arrived k n p Initialised = p ≡ Opening
+Arrived k n p RandomisedOnce = p ≡ Opening
+Arrived k n p Opened = p ≡ Opening
+Arrived k n p (HighSent high) = IsSearching p × (n.high ≡ high)
+Arrived k n p (MiddleSent high middle) = IsSearching p × (n.high ≡ high) × (n.middle ≡ middle)
+Arrived k n p (NumberSent r) = IsSearching p × (r ≡ n)
+Arrived k n p (Probed r h) = (p ≡ Probing) × (r ≡ n)
+Arrived k n p (Found r b) = (p ≡ Visiting) × (r ≡ n)
+Arrived k n p (Unnamed r) = (p ≡ Visiting) × (r ≡ n)
+Arrived k n p (Inconclusive r other) = (p ≡ Visiting) × (r ≡ n)
+Arrived k n p (Programmed r a) = (p ≡ Visiting) × (r ≡ n) × MayGive k.block k.reserved r a
+Arrived k n p (Confirmed r a) = (p ≡ Visiting) × (r ≡ n) × MayGive k.block k.reserved r a
+Arrived k n p (Withdrawn r b) = (p ≡ Visiting) × (r ≡ n)
+Arrived k n p Free = ⊥
+Arrived k n p Over = ⊥
+
+-- What is known while a transaction runs: whether an opening was complete, and where its number comes from. In the visits
+-- before the opening it is reserved.
+abbrev pub Knows : Records → SearchAddress → Searched → Bool → Purpose → Type 0
+Knows k n s opened Opening = opened ≡ false
+Knows k n s opened Probing = (opened ≡ true) × (s.step ≡ Again) × (value_of n ≡ s.probe)
+Knows k n s opened Visiting = (value_of n < MASK24) × (opened ≡ false → HasNumber k.reserved (value_of n))
+Knows k n s opened (Closing e) = opened ≡ true
+
+-- at the end of an opening it is complete
+abbrev pub KnowsAt : Stage → Records → SearchAddress → Searched → Bool → Purpose → Type 0
+KnowsAt Opened k n s opened p = opened ≡ true
+KnowsAt _ k n s opened p = Knows k n s opened p
+
+-- the count of silent searches is below its limit, unless a close was begun for it
+abbrev pub IsCalm : Purpose → ℕ → Type 0
+IsCalm (Closing e) silent = (silent ≤ 16) × (silent ≡ 16 → e ≡ GaveUp)
+IsCalm _ silent = silent < 16
+
+-- a search that led to no gear may just have reached it
+abbrev pub CalmAt : Stage → Purpose → Bool → ℕ → Type 0
+CalmAt (Inconclusive r other) p opened silent = (silent ≤ 16) × (silent ≡ 16 → opened ≡ true)
+CalmAt _ p opened silent = IsCalm p silent
+
+-- the gear that was withdrawn is the last finding
+abbrev pub FoundAt : Stage → Option Assignment → Type 0
+FoundAt (Withdrawn r b) found = found ≡ Some (b, value_of r)
+FoundAt _ found = Unit {0}
+
+pub record IsReady (w : Work) : Type 0 where
+  pub tries : w.tries < 8
+  pub calm : IsCalm w.purpose w.silent
+  pub knows : Knows w.kept w.number w.search w.opened w.purpose
+
+pub record IsUnstarted (w : Work) : Type 0 where
+  pub ready : IsReady w
+  pub free : stage_of w.trace ≡ Free
+  pub opening : w.purpose ≡ Opening
+
+pub record IsSending (w : Work) (f : Forward) : Type 0 where
+  pub ready : IsReady w
+  pub sends : Sends w.kept w.number w.purpose (stage_of w.trace) (command_of f)
+
+pub record IsStoring (w : Work) (x : Record) : Type 0 where
+  pub ready : IsReady w
+  pub free : stage_of w.trace ≡ Free
+  pub visiting : w.purpose ≡ Visiting
+  pub fits : Fits w.kept.block x
+  pub fresh : IsFresh w.kept x
+
+abbrev pub Pending : Work → Option Order → Type 0
+Pending w None = IsUnstarted w
+Pending w (Some (Put p f)) = IsSending w f
+Pending w (Some (Commit x)) = IsStoring w x
+Pending w (Some (Done e)) = Unit {0}
+Pending w (Some (Halt why)) = Unit {0}
+
+-- what holds between two inputs
+pub record IsFine (w : Work) : Type 0 where
+  pub table : w.table ≡ roster_of w.kept
+  pub pending : Pending w w.last
+
+-- what holds where a frame was just heard
+pub record IsHeard (w : Work) (s : Stage) : Type 0 where
+  pub table : w.table ≡ roster_of w.kept
+  pub stage : stage_of w.trace ≡ s
+  pub tries : w.tries < 8
+  pub arrived : Arrived w.kept w.number w.purpose s
+  pub calm : CalmAt s w.purpose w.opened w.silent
+  pub knows : KnowsAt s w.kept w.number w.search w.opened w.purpose
+  pub finding : FoundAt s w.finding
+
+-- what holds where a transaction may end without a record and without a close
+pub record IsBetween (w : Work) : Type 0 where
+  pub table : w.table ≡ roster_of w.kept
+  pub tries : w.tries < 8
+  pub silent : w.silent < 16
+  pub going : closing_of w.purpose ≡ None
+  pub unnamed : (r : SearchAddress) → stage_of w.trace ≡ Unnamed r → ⊥
+  pub found : (r : SearchAddress) (b : ℕ) → stage_of w.trace ≡ Withdrawn r b → Has w.kept.enrolled (b, value_of r)
+
+-- a close is begun with its cause, or again
+pub record IsTurn (w : Work) (e : End) : Type 0 where
+  pub opened : w.opened ≡ true
+  pub cause : (closing_of w.purpose ≡ Some e) ⊎ ((closing_of w.purpose ≡ None) × (end_at (stage_of w.trace) ≡ e) × Cause (seen w) e)
+
+abbrev pub Turns : Work → Purpose → Type 0
+Turns w (Closing e) = IsTurn w e
+Turns w _ = closing_of w.purpose ≡ None
+
+-- what holds where a transaction begins
+pub record Begins (w : Work) (p : Purpose) (n : SearchAddress) : Type 0 where
+  pub table : w.table ≡ roster_of w.kept
+  pub tries : w.tries < 8
+  pub calm : IsCalm p w.silent
+  pub knows : Knows w.kept n w.search w.opened p
+  pub turns : Turns w p
+  pub unnamed : (r : SearchAddress) → stage_of w.trace ≡ Unnamed r
+      → (HasNumber w.kept.reserved (value_of r) → ⊥) × IsFull w.kept.block w.kept.reserved × (p ≡ Closing BlockFull)
+  pub found : (r : SearchAddress) (b : ℕ) → stage_of w.trace ≡ Withdrawn r b → Has w.kept.enrolled (b, value_of r)
+
+-- what holds where a close is begun
+pub record Closes (w : Work) (e : End) : Type 0 where
+  pub table : w.table ≡ roster_of w.kept
+  pub tries : w.tries < 8
+  pub calm : IsCalm (Closing e) w.silent
+  pub opened : w.opened ≡ true
+  pub going : closing_of w.purpose ≡ None
+  pub end : end_at (stage_of w.trace) ≡ e
+  pub cause : Cause (seen w) e
+  pub unnamed : (r : SearchAddress) → stage_of w.trace ≡ Unnamed r
+      → (HasNumber w.kept.reserved (value_of r) → ⊥) × IsFull w.kept.block w.kept.reserved × (e ≡ BlockFull)
+  pub found : (r : SearchAddress) (b : ℕ) → stage_of w.trace ≡ Withdrawn r b → ⊥
+
+-- an order that a machine of which this is seen may give, and what is seen after it
+pub record IsNext (t : Progress) (o : Order) (new : Progress) : Type 0 where
+  pub order : IsOrdered t o
+  pub state : new ≡ ordered t o
+
+pub record IsStep (m : Progress) (i : Input) (o : Order) (new : Progress) : Type 0 where
+  pub order : IsAnswered m i o
+  pub state : new ≡ after m i o

@@ -1,0 +1,36 @@
+ghost use Rattle.std.specs.Prelude.{◌≡◌, IfOk};
+ghost use Rattle.dali_script.specs.Records.{HasAddress, HasNumber};
+ghost use Rattle.dali_enrol.specs.Roster.{with_entry};
+ghost use Rattle.dali_controller.specs.Progress.{roster_of};
+
+use crate::error::MachineError;
+use dali_enrol::Table;
+use dali_frame::{Random24, Short};
+use dali_script::{Block, Kept};
+use std::alloc::Global;
+
+/// The table of the enrolments that are kept.
+pub(crate) fn table_of(alloc: Global, block: Block, kept: &Kept) -> Result<Table, MachineError>
+    requires { kept.now.block ≡ block }
+    ensures { IfOk result (λ table. table ≡ roster_of kept.now) }
+{
+    // In the records each address stands once, and each number.
+    let _ = kept.block();
+    let Ok(mut table) = Table::new(alloc, block) else {
+        return Err(MachineError::NoMemory);
+    };
+    for entry in kept.enrolled() {
+        enter(&mut table, entry.0, entry.1);
+    }
+    Ok(table)
+}
+
+/// Enters gear into a table that has neither its address nor its number.
+pub(crate) fn enter(table: &mut Table, short: Short, number: Random24)
+    requires address { HasAddress table.old.entries short → ⊥ }
+    requires number { HasNumber table.old.entries number → ⊥ }
+    ensures { table.new ≡ with_entry table.old short number }
+{
+    // So it is not refused.
+    let _ = table.enrol(short, number);
+}

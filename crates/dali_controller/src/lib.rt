@@ -1,0 +1,17 @@
+//! The application controller's machine: it gives short addresses to the gear on a bus, one input and one order at a time.
+//!
+//! A [`Machine`] knows nothing of a bus or a store. Only `Machine::new` takes memory.
+#![tactic(auto)]
+
+mod entries;
+mod error;
+mod machine;
+mod moments;
+mod orders;
+mod purpose;
+mod unfinished;
+mod work;
+
+pub use error::{MachineError, StepError};
+pub use machine::Machine;
+pub use orders::{Due, End, Fault, Input, Order};

@@ -1,0 +1,347 @@
+ghost use Rattle.std.specs.Prelude.{◌≡◌, ◌<◌, true, false, Some, None};
+ghost use Rattle.dali_frame.specs.Random.{value_of};
+ghost use Rattle.dali_frame.specs.declared.frames.Answer.TheVariants.{Silence};
+ghost use Rattle.dali_script.specs.declared.stage.Stage.TheVariants as stage;
+ghost use Rattle.dali_script.specs.Records.{Fits, IsFresh, HasAddress, HasNumber, MASK24, with_record};
+ghost use Rattle.dali_enrol.specs.Roster.{with_entry};
+ghost use Rattle.dali_search.specs.declared.step.Step.TheVariants as search;
+ghost use Rattle.dali_controller.specs.declared.orders.Input.TheVariants as input;
+ghost use Rattle.dali_controller.specs.declared.orders.Order.TheVariants as order;
+ghost use Rattle.dali_controller.specs.Progress.{lost, frame_put, record_ordered, roster_of};
+
+use crate::entries::enter;
+use crate::orders::{End, Fault, Order};
+use crate::purpose::Purpose;
+use crate::unfinished::next_unfinished;
+use crate::work::Work;
+use dali_frame::{Answer, Forward, Random24, SearchAddress, Short};
+use dali_script::{Record, Stage, Trace};
+use dali_search::{Search, Step};
+use dali_special::{Command, Target};
+
+/// The tries of one transaction.
+const TRIES: u8 = 8;
+
+/// The silent searches in a row.
+const SILENT: u8 = 16;
+
+/// Whether an answer to COMPARE is a yes: a damaged one is, as of several gear that answer together.
+fn is_yes(heard: Answer) -> bool
+    ensures { result ≡ false → heard ≡ Silence }
+{
+    match heard {
+        Answer::Silence => false,
+        Answer::Byte(_) | Answer::Damaged => true,
+    }
+}
+
+impl Work {
+    ghost use Rattle.dali_controller.specs.Moments.{seen, IsFine, IsHeard, IsBetween, Closes, IsNext, IsStep};
+
+    /// The start: visits to what is unfinished, and then an opening.
+    pub(crate) fn start(&mut self) -> Order
+        requires fine { IsFine self.old }
+        requires unstarted { self.old.last ≡ None }
+
+        ensures step { IsStep (seen self.old) input.Start result (seen self.new) }
+        ensures fine { IsFine self.new }
+    {
+        self.go_on()
+    }
+
+    /// The next transaction: before the opening was complete another visit or the opening, afterwards a new search.
+    fn go_on(&mut self) -> Order
+        requires { IsBetween self.old }
+
+        ensures next { IsNext (seen self.old) result (seen self.new) }
+        ensures fine { IsFine self.new }
+    {
+        if self.opened {
+            return self.search_anew();
+        }
+        match next_unfinished(&self.kept, &self.table, self.from) {
+            Some((from, number)) => {
+                self.from = from;
+                self.visit(SearchAddress::of(number))
+            }
+            None => self.open(),
+        }
+    }
+
+    fn search_anew(&mut self) -> Order
+        requires between { IsBetween self.old }
+        requires opened { self.old.opened ≡ true }
+
+        ensures next { IsNext (seen self.old) result (seen self.new) }
+        ensures fine { IsFine self.new }
+    {
+        self.search = Search::new();
+        self.probe()
+    }
+
+    /// The transaction that lets all gear without short address draw a random address.
+    #[tactic(auto, using(crate::proofs::Steps::opens))]
+    fn open(&mut self) -> Order
+        requires between { IsBetween self.old }
+        requires opened { self.old.opened ≡ false }
+
+        ensures next { IsNext (seen self.old) result (seen self.new) }
+        ensures fine { IsFine self.new }
+    {
+        let number = self.number;
+        self.begin(Purpose::Opening, number)
+    }
+
+    /// The transaction that asks whether some gear is at most the search's number.
+    #[tactic(auto, using(crate::proofs::Steps::probes))]
+    fn probe(&mut self) -> Order
+        requires between { IsBetween self.old }
+        requires opened { self.old.opened ≡ true }
+        requires running { self.old.search.step ≡ search.Again }
+
+        ensures next { IsNext (seen self.old) result (seen self.new) }
+        ensures fine { IsFine self.new }
+    {
+        let number = SearchAddress::of(self.search.probe());
+        self.begin(Purpose::Probing, number)
+    }
+
+    /// The transaction that asks the gear at a number for its short address.
+    #[tactic(auto, using(crate::proofs::Steps::visits))]
+    fn visit(&mut self, number: SearchAddress) -> Order
+        requires between { IsBetween self.old }
+        requires drawn { value_of number < MASK24 }
+        requires reserved { self.old.opened ≡ false → HasNumber self.old.kept.reserved (value_of number) }
+
+        ensures next { IsNext (seen self.old) result (seen self.new) }
+        ensures fine { IsFine self.new }
+    {
+        self.begin(Purpose::Visiting, number)
+    }
+
+    /// The transaction that ends the initialisation of all gear, before this end.
+    #[tactic(auto, using(crate::proofs::Steps::closing))]
+    fn close(&mut self, end: End) -> Order
+        requires { Closes self.old end }
+
+        ensures next { IsNext (seen self.old) result (seen self.new) }
+        ensures fine { IsFine self.new }
+    {
+        let number = self.number;
+        self.begin(Purpose::Closing(end), number)
+    }
+
+    /// What follows a frame that was sent, and what was heard after it.
+    pub(crate) fn heard(&mut self, frame: Forward, heard: Answer) -> Order
+        requires fine { IsFine self.old }
+        requires put { frame_put self.old.last ≡ Some frame }
+
+        ensures step { IsStep (seen self.old) (input.Heard heard) result (seen self.new) }
+        ensures fine { IsFine self.new }
+    {
+        let stage = self.hear(frame, heard);
+        self.after(stage)
+    }
+
+    /// What follows at each stage of a transaction.
+    fn after(&mut self, stage: Stage) -> Order
+        requires { IsHeard self.old stage }
+
+        ensures next { IsNext (seen self.old) result (seen self.new) }
+        ensures fine { IsFine self.new }
+    {
+        match stage {
+            Stage::Terminated => self.terminated(),
+            Stage::InitialisedOnce => {
+                self.put(Stage::InitialisedOnce, Command::Initialise(Target::Unaddressed))
+            }
+            Stage::Initialised => self.put(Stage::Initialised, Command::Randomise),
+            Stage::RandomisedOnce => self.put(Stage::RandomisedOnce, Command::Randomise),
+            Stage::Opened => self.all_drawn(),
+            Stage::HighSent(high) => {
+                let middle = self.number.middle;
+                self.put(Stage::HighSent(high), Command::SearchMiddle(middle))
+            }
+            Stage::MiddleSent(high, middle) => {
+                let low = self.number.low;
+                self.put(Stage::MiddleSent(high, middle), Command::SearchLow(low))
+            }
+            Stage::NumberSent(number) => {
+                let asked = self.purpose.asks();
+                self.put(Stage::NumberSent(number), asked)
+            }
+            Stage::Probed(number, heard) => self.probed(number, heard),
+            Stage::Found(number, short) => self.put(Stage::Found(number, short), Command::Withdraw),
+            Stage::Unnamed(number) => self.unnamed(number),
+            Stage::Inconclusive(number, other) => self.silenced(number, other),
+            Stage::Programmed(number, short) => {
+                self.put(Stage::Programmed(number, short), Command::QueryShort)
+            }
+            Stage::Confirmed(number, short) => {
+                self.put(Stage::Confirmed(number, short), Command::Withdraw)
+            }
+            Stage::Withdrawn(number, short) => self.settle(number, short),
+            Stage::Free | Stage::Over => unreachable!(),
+        }
+    }
+
+    /// TERMINATE was sent: an opening goes on, a close is complete.
+    fn terminated(&mut self) -> Order
+        requires { IsHeard self.old stage.Terminated }
+
+        ensures next { IsNext (seen self.old) result (seen self.new) }
+        ensures fine { IsFine self.new }
+    {
+        match self.purpose {
+            Purpose::Opening => {
+                self.put(Stage::Terminated, Command::Initialise(Target::Unaddressed))
+            }
+            Purpose::Closing(end) => self.done(end),
+            Purpose::Probing | Purpose::Visiting => unreachable!(),
+        }
+    }
+
+    /// The opening is complete.
+    fn all_drawn(&mut self) -> Order
+        requires { IsHeard self.old stage.Opened }
+
+        ensures next { IsNext (seen self.old) result (seen self.new) }
+        ensures fine { IsFine self.new }
+    {
+        self.search_anew()
+    }
+
+    /// COMPARE was sent, and this was heard.
+    fn probed(&mut self, number: SearchAddress, heard: Answer) -> Order
+        requires { IsHeard self.old (stage.Probed number heard) }
+
+        ensures next { IsNext (seen self.old) result (seen self.new) }
+        ensures fine { IsFine self.new }
+    {
+        match self.search.answer(is_yes(heard)) {
+            Step::Again => self.probe(),
+            Step::Found(found) => self.visit(SearchAddress::of(found)),
+            Step::Nobody => self.close(End::AllFound),
+        }
+    }
+
+    /// The gear at this number has no short address: it is programmed with the one that is reserved for it.
+    fn unnamed(&mut self, number: SearchAddress) -> Order
+        requires { IsHeard self.old (stage.Unnamed number) }
+
+        ensures next { IsNext (seen self.old) result (seen self.new) }
+        ensures fine { IsFine self.new }
+    {
+        // What is reserved lies in the block, and is for a number that gear draw.
+        let _ = self.kept.block();
+        match self.kept.reserved_for(number.value()) {
+            Some(short) => self.put(Stage::Unnamed(number), Command::Program(Some(short))),
+            None => self.reserve(number),
+        }
+    }
+
+    /// The gear at this number has no short address, and none is reserved for it.
+    fn reserve(&mut self, number: SearchAddress) -> Order
+        requires heard { IsHeard self.old (stage.Unnamed number) }
+        requires free { HasNumber self.old.kept.reserved (value_of number) → ⊥ }
+
+        ensures next { IsNext (seen self.old) result (seen self.new) }
+        ensures fine { IsFine self.new }
+    {
+        match self.kept.first_free() {
+            Some(short) => self.commit(Record::Reserve(short, number.value())),
+            None => self.close(End::BlockFull),
+        }
+    }
+
+    /// The visit led to no gear.
+    fn silenced(&mut self, number: SearchAddress, other: Option<Short>) -> Order
+        requires { IsHeard self.old (stage.Inconclusive number other) }
+
+        ensures next { IsNext (seen self.old) result (seen self.new) }
+        ensures fine { IsFine self.new }
+    {
+        if self.silent == SILENT {
+            self.close(End::GaveUp)
+        } else {
+            self.go_on()
+        }
+    }
+
+    /// The gear at this number has this short address, and was withdrawn.
+    fn settle(&mut self, number: SearchAddress, short: Short) -> Order
+        requires { IsHeard self.old (stage.Withdrawn number short) }
+
+        ensures next { IsNext (seen self.old) result (seen self.new) }
+        ensures fine { IsFine self.new }
+    {
+        let random = number.value();
+        match self.table.by_address(short) {
+            Some(enrolled) if enrolled == random => self.go_on(),
+            Some(_) => self.halt(Fault::Conflict),
+            None => match self.table.by_random(random) {
+                Some(_) => self.halt(Fault::Conflict),
+                None => self.commit(Record::Enrol(short, random)),
+            },
+        }
+    }
+
+    /// The frame that was put was destroyed, or not sent: the same transaction begins again.
+    pub(crate) fn lost(&mut self, frame: Forward) -> Order
+        requires fine { IsFine self.old }
+        requires put { frame_put self.old.last ≡ Some frame }
+
+        ensures next { IsNext (lost (seen self.old)) result (seen self.new) }
+        ensures fine { IsFine self.new }
+    {
+        self.trace = Trace::new();
+        self.tries += 1;
+        if self.tries == TRIES {
+            return self.done(End::GaveUp);
+        }
+        let purpose = self.purpose;
+        let number = self.number;
+        self.begin(purpose, number)
+    }
+
+    /// The record that was ordered is kept.
+    pub(crate) fn committed(&mut self, added: Record) -> Order
+        requires fine { IsFine self.old }
+        requires ordered { record_ordered self.old.last ≡ Some added }
+
+        ensures step { IsStep (seen self.old) input.Committed result (seen self.new) }
+        ensures fine { IsFine self.new }
+    {
+        match added {
+            Record::Reserve(short, number) => {
+                self.keep(Record::Reserve(short, number));
+                self.visit(SearchAddress::of(number))
+            }
+            Record::Enrol(short, number) => {
+                self.keep(Record::Enrol(short, number));
+                enter(&mut self.table, short, number);
+                self.go_on()
+            }
+        }
+    }
+
+    /// Adds a record to those that are kept.
+    fn keep(&mut self, added: Record)
+        requires fits { Fits self.old.kept.block added }
+        requires fresh { IsFresh self.old.kept added }
+        ensures { self.new ≡ record self.old { kept = with_record self.old.kept added } }
+    {
+        // It is the only record of its address and of its number, so it is not refused.
+        let _ = self.kept.add(added);
+    }
+
+    /// The record that was ordered could not be kept.
+    pub(crate) fn commit_failed(&mut self) -> Order
+        requires { IsFine self.old }
+
+        ensures step { IsStep (seen self.old) input.CommitFailed result (seen self.new) }
+        ensures fine { IsFine self.new }
+    {
+        self.halt(Fault::Store)
+    }
+}

@@ -1,0 +1,66 @@
+use dali_frame::{Answer, Forward, Priority};
+use dali_script::Record;
+
+/// What a machine is told.
+#[derive(Clone, Copy, Debug, PartialEq, Eq, Hash)]
+pub enum Input {
+    /// To start, once, before all else.
+    Start,
+    /// The frame that was put was sent, and this was heard after it.
+    Heard(Answer),
+    /// The frame that was put was destroyed on the bus.
+    Destroyed,
+    /// The machine lost the bus before the frame that was put was sent.
+    Lapsed,
+    /// The record that was ordered is kept.
+    Committed,
+    /// The record that was ordered could not be kept.
+    CommitFailed,
+}
+
+/// What a machine orders.
+#[derive(Clone, Copy, Debug, PartialEq, Eq, Hash)]
+pub enum Order {
+    /// To send a frame at a priority: 3 for the first frame of a transaction, 1 for each later one.
+    Put(Priority, Forward),
+    /// To keep a record for good.
+    Commit(Record),
+    /// Nothing more: the machine has ended.
+    Done(End),
+    /// Nothing more: the machine cannot go on.
+    Halt(Fault),
+}
+
+/// How a machine ends.
+#[derive(Clone, Copy, Debug, PartialEq, Eq, Hash)]
+pub enum End {
+    /// No gear answers the search any more. It does not say that every gear has a short address: gear whose
+    /// initialisation another controller has ended do not answer either.
+    AllFound,
+    /// Gear without short address was found, and each address of the block is reserved.
+    BlockFull,
+    /// A transaction was lost eight times, or sixteen searches led to no gear.
+    GaveUp,
+}
+
+/// Why a machine cannot go on.
+#[derive(Clone, Copy, Debug, PartialEq, Eq, Hash)]
+pub enum Fault {
+    /// A gear was found whose short address or random address the table has for another.
+    Conflict,
+    /// A record could not be kept.
+    Store,
+}
+
+/// What a machine waits for.
+#[derive(Clone, Copy, Debug, PartialEq, Eq, Hash)]
+pub enum Due {
+    /// To be started.
+    Start,
+    /// What became of the frame that was put.
+    Bus,
+    /// What became of the record that was ordered.
+    Store,
+    /// Nothing: it has ended or halted.
+    Nothing,
+}

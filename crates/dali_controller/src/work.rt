@@ -1,0 +1,191 @@
+ghost use Rattle.std.specs.Prelude.{◌≡◌, ◌+◌, ◌<◌, ◌≤◌, Some};
+ghost use Rattle.dali_script.specs.declared.stage.Stage.TheVariants.{Free};
+ghost use Rattle.dali_script.specs.Findings.{later, finding_of};
+ghost use Rattle.dali_script.specs.Records.{Fits, IsFresh};
+ghost use Rattle.dali_script.specs.Stages.{stage_of};
+ghost use Rattle.dali_controller.specs.declared.orders.Input.TheVariants as input;
+ghost use Rattle.dali_controller.specs.declared.orders.Order.TheVariants as order;
+ghost use Rattle.dali_controller.specs.declared.purpose.Purpose.TheVariants as purpose;
+ghost use Rattle.dali_controller.specs.Progress.{told, frame_put, is_complete, tries_after, silent_after, opened_after, roster_of};
+ghost use Rattle.dali_controller.specs.Orders.{ordered, FIRST, LATER};
+
+use crate::orders::{End, Fault, Order};
+use crate::purpose::Purpose;
+use dali_enrol::Table;
+use dali_frame::{Answer, Forward, Priority, Random24, SearchAddress, Short};
+use dali_script::{Kept, Record, Stage, Trace};
+use dali_search::Search;
+use dali_special::Command;
+
+/// A machine's parts. Between two moments they may disagree.
+#[derive(Drop)]
+pub(crate) struct Work {
+    pub id: u8,
+    pub kept: Kept,
+    pub table: Table,
+    pub search: Search,
+    pub trace: Trace,
+    pub finding: Option<(Short, Random24)>,
+    pub last: Option<Order>,
+    pub tries: u8,
+    pub silent: u8,
+    pub opened: bool,
+    pub purpose: Purpose,
+    /// The search address of the running transaction, where it has one.
+    pub number: SearchAddress,
+    /// In the visits before the opening, the first short address that was not looked at.
+    pub from: u8,
+}
+
+fn first_priority() -> Priority
+    ensures { result ≡ FIRST }
+{
+    Priority::of(3).unwrap()
+}
+
+fn later_priority() -> Priority
+    ensures { result ≡ LATER }
+{
+    Priority::of(1).unwrap()
+}
+
+impl Work {
+    ghost use Rattle.dali_controller.specs.Moments.{closing_of, seen, Sends, IsReady, IsFine, IsHeard, Begins, IsNext};
+
+    /// Whether the running transaction is complete.
+    fn is_complete(&self) -> bool
+        ensures { result ≡ is_complete self.now.kept (closing_of self.now.purpose) (stage_of self.now.trace) }
+    {
+        self.purpose.end().is_some() || self.trace.complete(&self.kept)
+    }
+
+    /// The tries of the running transaction: none where it is complete.
+    fn tries_after(&self) -> u8
+        ensures { result
+            ≡ tries_after (is_complete self.now.kept (closing_of self.now.purpose) (stage_of self.now.trace)) self.now.tries }
+    {
+        if self.is_complete() { 0 } else { self.tries }
+    }
+
+    /// The silent searches, with the running transaction.
+    fn silent_after(&self) -> u8
+        requires { self.now.silent < 255 }
+        ensures { result ≡ silent_after (stage_of self.now.trace) self.now.opened self.now.silent }
+    {
+        match self.trace.stage() {
+            Stage::Inconclusive(..) if self.opened => self.silent + 1,
+            Stage::Withdrawn(..) => 0,
+            _ => self.silent,
+        }
+    }
+
+    /// Whether an opening was complete, with the running transaction.
+    fn opened_after(&self) -> bool
+        ensures { result ≡ opened_after (stage_of self.now.trace) self.now.opened }
+    {
+        match self.trace.stage() {
+            Stage::Opened => true,
+            _ => self.opened,
+        }
+    }
+
+    /// Keeps the last finding.
+    fn note_finding(&mut self)
+        ensures { self.new ≡ record self.old { finding = later self.old.finding (finding_of self.old.trace) } }
+    {
+        if let Some(found) = self.trace.finding() {
+            self.finding = Some(found);
+        }
+    }
+
+    /// Takes what was heard after the frame that was put, and says how far the transaction is.
+    pub(crate) fn hear(&mut self, frame: Forward, heard: Answer) -> Stage
+        requires fine { IsFine self.old }
+        requires put { frame_put self.old.last ≡ Some frame }
+
+        ensures told { seen self.new ≡ told (seen self.old) (input.Heard heard) }
+        ensures heard { IsHeard self.new result }
+    {
+        self.trace.push(frame, heard);
+        self.note_finding();
+        self.tries = self.tries_after();
+        self.silent = self.silent_after();
+        self.opened = self.opened_after();
+        self.trace.stage()
+    }
+
+    /// Goes on with the running transaction, which is at this stage.
+    pub(crate) fn put(&mut self, _at: Stage, command: Command) -> Order
+        requires heard { IsHeard self.old _at }
+        requires sends { Sends self.old.kept self.old.number self.old.purpose _at command }
+        requires later { _at ≡ Free → ⊥ }
+
+        ensures next { IsNext (seen self.old) result (seen self.new) }
+        ensures fine { IsFine self.new }
+    {
+        let priority = later_priority();
+        let frame = command.write();
+        self.last = Some(Order::Put(priority, frame));
+        Order::Put(priority, frame)
+    }
+
+    /// Begins a transaction.
+    pub(crate) fn begin(&mut self, purpose: Purpose, number: SearchAddress) -> Order
+        requires { Begins self.old purpose number }
+
+        ensures next { IsNext (seen self.old) result (seen self.new) }
+        ensures fine { IsFine self.new }
+    {
+        self.trace = Trace::new();
+        self.purpose = purpose;
+        self.number = number;
+        let priority = first_priority();
+        let frame = purpose.first(number).write();
+        self.last = Some(Order::Put(priority, frame));
+        Order::Put(priority, frame)
+    }
+
+    /// Orders that a record is kept.
+    pub(crate) fn commit(&mut self, added: Record) -> Order
+        requires table { self.old.table ≡ roster_of self.old.kept }
+        requires ready { IsReady self.old }
+        requires visiting { self.old.purpose ≡ purpose.Visiting }
+        requires fits { Fits self.old.kept.block added }
+        requires fresh { IsFresh self.old.kept added }
+
+        ensures order { result ≡ order.Commit added }
+        ensures state { seen self.new ≡ ordered (seen self.old) result }
+        ensures fine { IsFine self.new }
+    {
+        self.trace = Trace::new();
+        let same = added;
+        self.last = Some(Order::Commit(added));
+        Order::Commit(same)
+    }
+
+    /// Ends.
+    pub(crate) fn done(&mut self, end: End) -> Order
+        requires { self.old.table ≡ roster_of self.old.kept }
+
+        ensures order { result ≡ order.Done end }
+        ensures state { seen self.new ≡ ordered (seen self.old) result }
+        ensures fine { IsFine self.new }
+    {
+        self.trace = Trace::new();
+        self.last = Some(Order::Done(end));
+        Order::Done(end)
+    }
+
+    /// Halts.
+    pub(crate) fn halt(&mut self, fault: Fault) -> Order
+        requires { self.old.table ≡ roster_of self.old.kept }
+
+        ensures order { result ≡ order.Halt fault }
+        ensures state { seen self.new ≡ ordered (seen self.old) result }
+        ensures fine { IsFine self.new }
+    {
+        self.trace = Trace::new();
+        self.last = Some(Order::Halt(fault));
+        Order::Halt(fault)
+    }
+}
