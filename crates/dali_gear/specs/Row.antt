@@ -4,7 +4,8 @@ use Rattle.dali_frame.specs.declared.frames.Answer.TheVariants.{Silence, Byte, D
 use Rattle.dali_special.specs.declared.command.Command.{Command}
 use Rattle.dali_gear.specs.declared.row.Reach.{Reach}
 use Rattle.dali_gear.specs.declared.row.Reach.TheVariants.{Everyone, Only}
-use Rattle.dali_gear.specs.ControlGear.{ControlGear, would_draw, taken, answer}
+use Rattle.dali_special.specs.declared.command.Command.TheVariants.{Program}
+use Rattle.dali_gear.specs.ControlGear.{ControlGear, is_active, is_found, would_draw, taken, answer}
 
 -- whether a frame reaches the gear of this number: in a set, gear k is the bit of value 2^k
 abbrev pub reaches : Reach → ℕ → Bool
@@ -64,3 +65,33 @@ joined_answer Damaged (Some byte) = Damaged
 abbrev pub joined_all : Answer → List ℕ → Answer
 joined_all heard [] = heard
 joined_all heard (byte ∷ bytes) = joined_all (joined_answer heard (Some byte)) bytes
+
+-- which gear draws which number; where none is left, nothing is drawn
+abbrev pub drawn_one : Bool → ℕ → List ℕ → List (ℕ × ℕ) → List (ℕ × ℕ)
+drawn_one false k left more = more
+drawn_one true k [] more = more
+drawn_one true k (draw ∷ left) more = (k, draw) ∷ more
+
+abbrev pub drawn_of : Reach → Command → ℕ → List ControlGear → List ℕ → List (ℕ × ℕ)
+drawn_of reach c k [] left = []
+drawn_of reach c k (g ∷ gs) left =
+    drawn_one (takes reach k g && would_draw c g) k left (drawn_of reach c (k + 1) gs (left_after (takes reach k g && would_draw c g) left))
+
+-- the numbers that are left then
+abbrev pub row_left : Reach → Command → ℕ → List ControlGear → List ℕ → List ℕ
+row_left reach c k [] left = left
+row_left reach c k (g ∷ gs) left = row_left reach c (k + 1) gs (left_after (takes reach k g && would_draw c g) left)
+
+-- the short address that a powered gear stores at a command: PROGRAM SHORT ADDRESS may also erase, which stores none
+abbrev pub stored : Command → ControlGear → Option ℕ
+stored (Program short) g = if is_active g.state && is_found g then short else None
+stored _ g = None
+
+-- which gear stores which short address
+abbrev pub stored_one : ℕ → Option ℕ → List (ℕ × ℕ) → List (ℕ × ℕ)
+stored_one k None more = more
+stored_one k (Some a) more = (k, a) ∷ more
+
+abbrev pub stored_of : Reach → Command → ℕ → List ControlGear → List (ℕ × ℕ)
+stored_of reach c k [] = []
+stored_of reach c k (g ∷ gs) = stored_one k (if takes reach k g then stored c g else None) (stored_of reach c (k + 1) gs)

@@ -1,0 +1,60 @@
+use Rattle.std.proofs.Common.{◌≡◌, ℕ, ◌<◌, List, [], ◌∷◌, ◌++◌, refl, sym, ap, subst, ◌∙◌, length}
+use Rattle.dali_script.specs.Records.{Assignment, Has}
+use Rattle.dali_events.specs.declared.event.Event.{Event}
+use Rattle.dali_events.specs.Plan.{SitePlan}
+use Rattle.dali_events.specs.World.{World, gear_at, controller_at}
+use Rattle.dali_events.specs.Happens.{happens}
+use Rattle.dali_events.specs.Runs.{after, after_all, IsRun, AreDrawn, IsSafe}
+use Rattle.dali_events.specs.Promises.{GiftsAreReserved, IsEnrolled, NamesGear, TablesAgree}
+use Rattle.dali_events.proofs.Members.{same_member}
+use Rattle.dali_events.proofs.Controllers.{controllers_count}
+use Rattle.dali_events.proofs.Reserves.{still_reserved}
+use Rattle.dali_events.proofs.Drawn.{drawn_in_front}
+use Rattle.dali_events.proofs.Safe.{holds_after, safe, run_front}
+
+-- GIFTS STAY RESERVED
+pub gifts_reserved : (p : SitePlan) (capacity : ℕ) (front rest : List Event) → IsRun p capacity (front ++ rest) → GiftsAreReserved (after p capacity front)
+gifts_reserved p capacity front rest run = (holds_after p capacity front (run_front p capacity front rest run)).gifts.reserved
+
+pub reservations_stay : (w : World) (es : List Event) (c : ℕ) (x : Assignment) → c < length w.controllers → Has (controller_at w c).records.reserved x
+    → Has (controller_at (after_all w es) c).records.reserved x
+reservations_stay w [] c x there h = h
+reservations_stay w (e ∷ es) c x there h =
+    let here : c < length (happens w e).controllers = subst (λ n. c < n) (sym (controllers_count w e)) there in
+    reservations_stay (happens w e) es c x here (still_reserved x w e c here h)
+
+-- TABLES AGREE
+module _ (w : World) (s : IsSafe w) where
+  pair : (x y : Assignment) → x.0 ≡ y.0 → x.1 ≡ y.1 → x ≡ y
+  pair x y first second = ap (λ a. (a, x.1)) first ∙ ap (λ r. (y.0, r)) second
+
+  -- the same gear, the same entry
+  one_entry : (x y : Assignment) (g h : ℕ) → NamesGear w x g → NamesGear w y h → g ≡ h → x ≡ y
+  one_entry x y g h n m same =
+      let given : Has w.gifts (g, y.0) = subst (λ k. Has w.gifts (k, y.0)) (sym same) m.given in
+      let random : (gear_at w g).random ≡ y.1 = subst (λ k. (gear_at w k).random ≡ y.1) (sym same) m.random in
+      pair x y (ap (λ gift. gift.1) (same_member (λ gift. gift.0) w.gifts (g, x.0) (g, y.0) s.gear_once n.given given refl)) (sym n.random ∙ random)
+
+  named : (c : ℕ) (x : Assignment) → IsEnrolled w c x → (g : ℕ) × NamesGear w x g
+  named c x h = let n = s.tables c h.0 x h.1 in (n.0, record { drawer = n.2; given = n.3; random = n.4 })
+
+  one_address : (x y : Assignment) → (g : ℕ) × NamesGear w x g → (g : ℕ) × NamesGear w y g → x.0 ≡ y.0 → x ≡ y
+  one_address x y n m same =
+      let given : Has w.gifts (n.0, y.0) = subst (λ a. Has w.gifts (n.0, a)) same n.1.given in
+      one_entry x y n.0 m.0 n.1 m.1 (ap (λ gift. gift.0) (same_member (λ gift. gift.1) w.gifts (n.0, y.0) (m.0, y.0) s.address_once given m.1.given refl))
+
+  one_number : AreDrawn w → (x y : Assignment) → (g : ℕ) × NamesGear w x g → (g : ℕ) × NamesGear w y g → x.1 ≡ y.1 → x ≡ y
+  one_number d x y n m same =
+      let drew : Has w.drawn (n.0, y.1) = subst (λ r. Has w.drawn (n.0, r)) same n.1.drawer in
+      one_entry x y n.0 m.0 n.1 m.1 (ap (λ draw. draw.0) (same_member (λ draw. draw.1) w.drawn (n.0, y.1) (m.0, y.1) d.once drew m.1.drawer refl))
+
+  pub tables_agree : AreDrawn w → TablesAgree w
+  tables_agree d = record {
+    address = λ c k x y h i same. one_address x y (named c x h) (named k y i) same;
+    number = λ c k x y h i same. one_number d x y (named c x h) (named k y i) same;
+    gear = λ c k g x y h i n m. one_entry x y g g n m refl;
+  }
+
+pub tables_agree_in : (p : SitePlan) (capacity : ℕ) (front rest : List Event) → IsRun p capacity (front ++ rest) → TablesAgree (after p capacity front)
+tables_agree_in p capacity front rest run =
+    tables_agree (after p capacity front) (safe p (after p capacity front) (holds_after p capacity front (run_front p capacity front rest run))) (drawn_in_front p capacity front rest run)

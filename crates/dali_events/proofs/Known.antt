@@ -1,0 +1,244 @@
+use Rattle.std.proofs.Common.{◌≡◌, ℕ, ◌<◌, ◌⊎◌, inl, inr, Bool, true, false, List, refl, sym, ap, subst, ◌∙◌, arith, Option, Some, None}
+use Rattle.std.specs.Prelude.{◌&&◌, ◌==◌, if◌then◌else◌}
+use Rattle.std.proofs.lemmas.Bool.Decides.{nat_tests}
+use Rattle.dali_frame.specs.declared.frames.Answer.{Answer}
+use Rattle.dali_frame.specs.declared.frames.Answer.TheVariants.{Silence, Byte, Damaged}
+use Rattle.dali_frame.specs.declared.numbers.SearchAddress.{SearchAddress}
+use Rattle.dali_frame.specs.Short.{code_of, short_of}
+use Rattle.dali_frame.specs.Random.{value_of}
+use Rattle.dali_special.specs.declared.command.Target.TheVariants.{Unaddressed}
+use Rattle.dali_special.specs.declared.command.Command.{Command}
+use Rattle.dali_special.specs.declared.command.Command.TheVariants.{Initialise, Randomise, Program, QueryShort}
+use Rattle.dali_special.specs.Command.{MASK, program_data, IsSpelled}
+use Rattle.dali_special.proofs.Table.{short_of_code}
+use Rattle.dali_gear.specs.declared.state.InitialisationState.TheVariants.{Enabled}
+use Rattle.dali_gear.specs.ControlGear.{ControlGear, is_active, is_found, is_second, concerns, would_draw, random_after, state_after, short_after, taken, answer, quieted}
+use Rattle.dali_gear.specs.Row.{stored}
+use Rattle.dali_script.specs.declared.block.Block.{Block}
+use Rattle.dali_script.specs.declared.stage.Stage.{Stage}
+use Rattle.dali_script.specs.declared.stage.Stage.TheVariants as stage
+use Rattle.dali_script.specs.Records.{Assignment}
+use Rattle.dali_script.specs.Scripts.{MayGive}
+use Rattle.dali_script.specs.Stages.{Follows, begins_opening, begins_search, begins_arc, initialises_once, initialises, randomises_once, randomises, sets_middle, sets_low, compares, queries_number, withdraws_found, programs, queries_given, withdraws_given, next_stage, queried, named, verified, answered, IsSearched}
+
+-- WHAT A STAGE SAYS OF EACH POWERED GEAR that takes part in the initialisation
+abbrev pub IsActive : ControlGear → Type 0
+IsActive g = is_active g.state ≡ true
+
+abbrev pub Unnumbered : ControlGear → Type 0
+Unnumbered g = IsActive g → g.short ≡ None
+
+abbrev pub Seeks : SearchAddress → ControlGear → Type 0
+Seeks r g = IsActive g → g.search ≡ r
+
+abbrev pub Knows : Stage → ControlGear → Type 0
+Knows stage.Terminated g = Unnumbered g
+Knows stage.InitialisedOnce g = Unnumbered g
+Knows stage.Initialised g = Unnumbered g
+Knows stage.RandomisedOnce g = Unnumbered g
+Knows (stage.HighSent high) g = IsActive g → g.search.high ≡ high
+Knows (stage.MiddleSent high middle) g = IsActive g → (g.search.high ≡ high) × (g.search.middle ≡ middle)
+Knows (stage.NumberSent r) g = Seeks r g
+Knows (stage.Found r b) g = Seeks r g
+Knows (stage.Unnamed r) g = IsActive g → (g.search ≡ r) × (g.random ≡ value_of r → g.short ≡ None)
+Knows (stage.Programmed r a) g = Seeks r g
+Knows (stage.Confirmed r a) g = Seeks r g
+Knows _ g = Unit {0}
+
+-- a byte that is heard is what the gear answered, if it answered
+abbrev pub Agrees : Command → ControlGear → Answer → Type 0
+Agrees c g h = (u v : ℕ) → h ≡ Byte u → answer c g ≡ Some v → v ≡ u
+
+-- its short address is one
+abbrev pub IsShort : ControlGear → Type 0
+IsShort g = (a : ℕ) → g.short ≡ Some a → a < 64
+
+-- a gear that is heard to have none has none
+none_of_code : (o : Option ℕ) (v : ℕ) → ((a : ℕ) → o ≡ Some a → a < 64) → short_of v ≡ None → program_data o ≡ v → o ≡ None
+none_of_code None v small short e = refl
+none_of_code (Some a) v small short e = absurd (let read : short_of (code_of a) ≡ Some a = short_of_code a (small a refl) in let at : short_of (code_of a) ≡ None = ap short_of e ∙ short in cc)
+
+-- a gear that is heard to have one has it
+pub some_of_code : (o : Option ℕ) (v b : ℕ) → ((a : ℕ) → o ≡ Some a → a < 64) → short_of v ≡ Some b → program_data o ≡ v → o ≡ Some b
+some_of_code None v b small short e = absurd (let at : short_of 255 ≡ Some b = ap short_of e ∙ short in cc)
+some_of_code (Some a) v b small short e = sym (short_of_code a (small a refl)) ∙ ap short_of e ∙ short
+
+query_answer : (g : ControlGear) → IsActive g → is_found g ≡ true → answer QueryShort g ≡ Some (program_data g.short)
+query_answer g active found = rw (active, found) refl
+
+found_at : (g : ControlGear) (r : SearchAddress) → g.search ≡ r → g.random ≡ value_of r → is_found g ≡ true
+found_at g r search random = test (g.random) (value_of g.search) (random ∙ ap value_of (sym search)) where
+  test : (m n : ℕ) → m ≡ n → (m == n) ≡ true
+  test m n e = grind (arith, nat_tests)
+
+pub found_random : (g : ControlGear) (r : SearchAddress) → g.search ≡ r → is_found g ≡ true → g.random ≡ value_of r
+found_random g r search found = test (g.random) (value_of g.search) found ∙ ap value_of search where
+  test : (m n : ℕ) → (m == n) ≡ true → m ≡ n
+  test m n e = grind (arith, nat_tests)
+
+knows_queried : (r : SearchAddress) (h : Answer) (g : ControlGear) (x : ℕ) → IsShort g → Agrees QueryShort g h → Seeks r g → Knows (queried r h) (taken QueryShort x g)
+knows_queried r Silence g x small agrees k = tt
+knows_queried r Damaged g x small agrees k = tt
+knows_queried r (Byte v) g x small agrees k = go (short_of v) (v == MASK) refl where
+  go : (o : Option ℕ) (m : Bool) → short_of v ≡ o → Knows (named r o m) (taken QueryShort x g)
+  go (Some b) m short = k
+  go None true short = λ active. (k active, λ random. none_of_code g.short v small short (agrees v (program_data g.short) refl (query_answer g active (found_at g r (k active) random))))
+  go None false short = tt
+
+knows_verified : (r : SearchAddress) (a : ℕ) (h : Answer) (g : ControlGear) (x : ℕ) → Seeks r g → Knows (verified r a h) (taken QueryShort x g)
+knows_verified r a Silence g x k = tt
+knows_verified r a Damaged g x k = tt
+knows_verified r a (Byte v) g x k = go (short_of v) where
+  go : (o : Option ℕ) → Knows (answered r a o) (taken QueryShort x g)
+  go None = tt
+  go (Some b) = same (b == a) where
+    same : (m : Bool) → Knows (if m then stage.Confirmed r a else stage.Inconclusive r (Some b)) (taken QueryShort x g)
+    same true = k
+    same false = tt
+
+both_true : (a b : Bool) → (a && b) ≡ true → (a ≡ true) × (b ≡ true)
+both_true true b e = (refl, e)
+both_true false b e = absurd (cc)
+
+concerned_none : (short : Option ℕ) → concerns Unaddressed short ≡ true → short ≡ None
+concerned_none None e = refl
+concerned_none (Some a) e = absurd (cc)
+
+-- who becomes active at INITIALISE for gear without short address has none
+initialised_none : (g : ControlGear) → Unnumbered g → is_active (state_after (Initialise Unaddressed) g) ≡ true → g.short ≡ None
+initialised_none g k active = go (is_second (Initialise Unaddressed) g.half && concerns Unaddressed g.short) refl active where
+  go : (b : Bool) → (is_second (Initialise Unaddressed) g.half && concerns Unaddressed g.short) ≡ b → is_active (if b then Enabled else g.state) ≡ true → g.short ≡ None
+  go true e a = concerned_none g.short (both_true (is_second (Initialise Unaddressed) g.half) (concerns Unaddressed g.short) e).1
+  go false e a = k a
+
+pub knows_step : (b : Block) (xs : List Assignment) (s : Stage) (c : Command) (h : Answer) (g : ControlGear) (x : ℕ)
+    → Follows b xs s c → IsShort g → Agrees c g h → Knows s g → Knows (next_stage s c h) (taken c x g)
+knows_step b xs _ _ h g x begins_opening small agrees k = λ active. absurd (cc)
+knows_step b xs _ _ h g x (begins_search high) small agrees k = λ active. rw active refl
+knows_step b xs _ _ h g x (begins_arc f) small agrees k = tt
+knows_step b xs _ _ h g x initialises_once small agrees k = initialised_none g k
+knows_step b xs _ _ h g x initialises small agrees k = initialised_none g k
+knows_step b xs _ _ h g x randomises_once small agrees k = k
+knows_step b xs _ _ h g x randomises small agrees k = tt
+knows_step b xs _ _ h g x (sets_middle high middle) small agrees k = λ active. rw active (k active, refl)
+knows_step b xs _ _ h g x (sets_low high middle low) small agrees k = λ active.
+    rw active (ap (λ n. record { high = n; middle = g.search.middle; low = low }) (k active).0 ∙ ap (λ n. record { high = high; middle = n; low = low }) (k active).1)
+knows_step b xs _ _ h g x (compares r) small agrees k = tt
+knows_step b xs _ _ h g x (queries_number r) small agrees k = knows_queried r h g x small agrees k
+knows_step b xs _ _ h g x (withdraws_found r a) small agrees k = tt
+knows_step b xs _ _ h g x (programs r a may) small agrees k = λ active. (k active).0
+knows_step b xs _ _ h g x (queries_given r a may) small agrees k = knows_verified r a h g x k
+knows_step b xs _ _ h g x (withdraws_given r a may) small agrees k = tt
+
+-- of a gear that takes no part a stage says nothing
+pub knows_inactive : (s : Stage) (g : ControlGear) → is_active g.state ≡ false → Knows s g
+knows_inactive stage.Terminated g off = λ active. absurd (cc)
+knows_inactive stage.InitialisedOnce g off = λ active. absurd (cc)
+knows_inactive stage.Initialised g off = λ active. absurd (cc)
+knows_inactive stage.RandomisedOnce g off = λ active. absurd (cc)
+knows_inactive (stage.HighSent high) g off = λ active. absurd (cc)
+knows_inactive (stage.MiddleSent high middle) g off = λ active. absurd (cc)
+knows_inactive (stage.NumberSent r) g off = λ active. absurd (cc)
+knows_inactive (stage.Found r a) g off = λ active. absurd (cc)
+knows_inactive (stage.Unnamed r) g off = λ active. absurd (cc)
+knows_inactive (stage.Programmed r a) g off = λ active. absurd (cc)
+knows_inactive (stage.Confirmed r a) g off = λ active. absurd (cc)
+knows_inactive _ g off = tt
+
+-- a stage says nothing of half pairs here
+pub knows_quieted : (s : Stage) (g : ControlGear) → Knows s g → Knows s (quieted g)
+knows_quieted stage.Terminated g k = k
+knows_quieted stage.InitialisedOnce g k = k
+knows_quieted stage.Initialised g k = k
+knows_quieted stage.RandomisedOnce g k = k
+knows_quieted (stage.HighSent high) g k = k
+knows_quieted (stage.MiddleSent high middle) g k = k
+knows_quieted (stage.NumberSent r) g k = k
+knows_quieted (stage.Found r a) g k = k
+knows_quieted (stage.Unnamed r) g k = k
+knows_quieted (stage.Programmed r a) g k = k
+knows_quieted (stage.Confirmed r a) g k = k
+knows_quieted _ g k = tt
+
+-- ONE GEAR AND ONE FRAME. What a gear stores, and what it keeps.
+pub short_from : (c : Command) (g : ControlGear) (a : ℕ) → short_after c g ≡ Some a → (g.short ≡ Some a) ⊎ (stored c g ≡ Some a)
+short_from (Program short) g a e = go (is_active g.state && is_found g) e where
+  go : (t : Bool) → (if t then short else g.short) ≡ Some a → (g.short ≡ Some a) ⊎ ((if t then short else None) ≡ Some a)
+  go true e = inr e
+  go false e = inl e
+short_from _ g a e = inl e
+
+pub short_stored : (c : Command) (g : ControlGear) (a : ℕ) → stored c g ≡ Some a → short_after c g ≡ Some a
+short_stored (Program short) g a e = go (is_active g.state && is_found g) e where
+  go : (t : Bool) → (if t then short else None) ≡ Some a → (if t then short else g.short) ≡ Some a
+  go true e = e
+  go false e = absurd (cc)
+short_stored _ g a e = absurd (cc)
+
+pub short_taken : (c : Command) (g : ControlGear) (x : ℕ) → IsSpelled c → IsShort g → IsShort (taken c x g)
+short_taken c g x spelled small a e = go (short_from c g a e) where
+  of_program : (d : Command) → IsSpelled d → stored d g ≡ Some a → a < 64
+  of_program (Program (Some b)) is e = from (is_active g.state && is_found g) e where
+    from : (t : Bool) → (if t then Some b else None) ≡ Some a → a < 64
+    from true e = subst (λ n. n < 64) (let same : b ≡ a = cc in same) is
+    from false e = absurd (cc)
+  of_program (Program None) is e = from (is_active g.state && is_found g) e where
+    from : (t : Bool) → (if t then None else None) ≡ Some a → a < 64
+    from true e = absurd (cc)
+    from false e = absurd (cc)
+  of_program _ is e = absurd (cc)
+
+  go : (g.short ≡ Some a) ⊎ (stored c g ≡ Some a) → a < 64
+  go (inl e) = small a e
+  go (inr e) = of_program c spelled e
+
+-- what a gear without short address was given, where it stores one
+pub record IsNew (b : Block) (xs : List Assignment) (g : ControlGear) (a : ℕ) : Type 0 where
+  pub number : SearchAddress
+  pub random : g.random ≡ value_of number
+  pub none : g.short ≡ None
+  pub may : MayGive b xs number a
+
+pub new_from : (b : Block) (xs : List Assignment) (s : Stage) (c : Command) (g : ControlGear) (a : ℕ) → Follows b xs s c → Knows s g → stored c g ≡ Some a → IsNew b xs g a
+new_from b xs _ _ g a (programs r d may) k e = go (is_active g.state) (is_found g) refl refl e where
+  go : (t f : Bool) → is_active g.state ≡ t → is_found g ≡ f → (if t && f then Some d else None) ≡ Some a → IsNew b xs g a
+  go true true active found e =
+      let search : g.search ≡ r = (k active).0 in
+      let random : g.random ≡ value_of r = found_random g r search found in
+      record { number = r; random = random; none = (k active).1 random; may = subst (λ n. MayGive b xs r n) (let same : d ≡ a = cc in same) may }
+  go true false active found e = absurd (cc)
+  go false f active found e = absurd (cc)
+new_from b xs _ _ g a _ k e = absurd (cc)
+
+-- a short address stays
+pub short_stays : (b : Block) (xs : List Assignment) (s : Stage) (c : Command) (g : ControlGear) (a : ℕ) → Follows b xs s c → Knows s g → g.short ≡ Some a → short_after c g ≡ Some a
+short_stays b xs _ _ g a (programs r d may) k e = go (is_active g.state) (is_found g) refl refl where
+  go : (t f : Bool) → is_active g.state ≡ t → is_found g ≡ f → (if t && f then Some d else g.short) ≡ Some a
+  go true true active found = absurd (let none : g.short ≡ None = (k active).1 (found_random g r (k active).0 found) in cc)
+  go true false active found = e
+  go false f active found = e
+short_stays b xs _ _ g a _ k e = e
+
+drawing_none : (g : ControlGear) (a : ℕ) → Unnumbered g → g.short ≡ Some a → would_draw Randomise g ≡ false
+drawing_none g a k e = go (is_second Randomise g.half) (is_active g.state) refl where
+  go : (t f : Bool) → is_active g.state ≡ f → (t && f) ≡ false
+  go true true active = absurd (let none : g.short ≡ None = k active in cc)
+  go true false active = refl
+  go false f active = refl
+
+-- and so does the random address of a gear with a short address
+pub random_stays : (b : Block) (xs : List Assignment) (s : Stage) (c : Command) (g : ControlGear) (x a : ℕ) → Follows b xs s c → Knows s g → g.short ≡ Some a → random_after c x g ≡ g.random
+random_stays b xs _ _ g x a randomises_once k e = rw (drawing_none g a k e) refl
+random_stays b xs _ _ g x a randomises k e = rw (drawing_none g a k e) refl
+random_stays b xs _ _ g x a _ k e = refl
+
+-- as does that of a gear that stores one
+pub random_stored : (c : Command) (g : ControlGear) (x a : ℕ) → stored c g ≡ Some a → random_after c x g ≡ g.random
+random_stored (Program short) g x a e = refl
+random_stored _ g x a e = absurd (cc)
+
+-- at QUERY SHORT ADDRESS the gear have the search address that was sent
+pub search_known : (b : Block) (xs : List Assignment) (s : Stage) (c : Command) (g : ControlGear) (r : SearchAddress) → Follows b xs s c → c ≡ QueryShort → IsSearched s r → Knows s g → IsActive g → g.search ≡ r
+search_known b xs _ _ g r (queries_number n) is searched k active = k active ∙ sym searched
+search_known b xs _ _ g r (queries_given n a may) is searched k active = k active ∙ sym searched
+search_known b xs _ _ g r _ is searched k active = absurd (cc)

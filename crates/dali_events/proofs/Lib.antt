@@ -1,0 +1,15 @@
+pub mod Growing
+pub mod Plans
+pub mod Examples
+pub mod Members
+pub mod Takes
+pub mod Drawn
+pub mod Controllers
+pub mod Reserves
+pub mod Answers
+pub mod Known
+pub mod Sending
+pub mod Gifts
+pub mod Naming
+pub mod Safe
+pub mod Agreeing

@@ -1,0 +1,183 @@
+use Rattle.std.proofs.Common.{◌≡◌, ℕ, ◌<◌, Bool, true, false, List, [], ◌∷◌, ◌++◌, refl, sym, ap, subst, ◌∙◌, length, length-set, get_or, Some, None}
+use Rattle.std.proofs.lemmas.List.{length-map, length-replicate, get_or-replicate}
+use Rattle.std.specs.Prelude.{if◌then◌else◌}
+use Rattle.dali_frame.specs.declared.frames.Forward.{Forward}
+use Rattle.dali_special.specs.Command.{command_of}
+use Rattle.dali_gear.specs.declared.row.Reach.{Reach}
+use Rattle.dali_gear.specs.declared.row.Reach.TheVariants.{Everyone, Only}
+use Rattle.dali_gear.specs.ControlGear.{ControlGear, fresh, expired, quieted}
+use Rattle.dali_gear.specs.Row.{row_after, drawn_of, stored_of}
+use Rattle.dali_script.specs.Records.{Assignment, Has}
+use Rattle.dali_script.specs.Stages.{stage_of}
+use Rattle.dali_events.specs.declared.event.Event.{Event}
+use Rattle.dali_events.specs.declared.event.Event.TheVariants as event
+use Rattle.dali_events.specs.Plan.{SitePlan, IsPlan}
+use Rattle.dali_events.specs.World.{World, gear_at, controller_at, nobody, start, changed_gear}
+use Rattle.dali_events.specs.Happens.{happens, running, powered}
+use Rattle.dali_events.specs.Allowed.{Allowed, IsUp, MaySend}
+use Rattle.dali_events.specs.Runs.{after, after_all, AllAllowed, IsRun, Names, IsSafe, KeepsRandom, IsSafeHistory}
+use Rattle.dali_events.proofs.Growing.{after_both, allowed_front, allowed_rest}
+use Rattle.dali_events.proofs.Members.{Each, each_changed, each_map}
+use Rattle.dali_events.proofs.Drawn.{Draws, draws_step, draws_start, are_drawn}
+use Rattle.dali_events.proofs.Controllers.{Of}
+use Rattle.dali_events.proofs.Reserves.{AllReserve, reserves_step, reserves_start, IsReserved, reserved_stays, one_number}
+use Rattle.dali_events.proofs.Sending.{IsKnown, known_step, known_start, follows_of, knows_running}
+use Rattle.dali_events.proofs.Gifts.{Gifts, Change, SameAddresses, no_change, frame_changes, gifts_step, gift_stays, gift_random, draw_stays}
+use Rattle.dali_events.proofs.Naming.{Says, FoundBy, says_step, says_start, found_names}
+
+-- THE INVARIANT of every run
+pub record Holds (p : SitePlan) (w : World) : Type 0 where
+  pub draws : Draws p.draws w.gear w.drawn w.left
+  pub reserves : AllReserve p w.controllers
+  pub known : IsKnown w
+  pub gifts : Gifts (IsReserved w.controllers) w.gear w.drawn w.gifts
+  pub says : Each nobody (Of (Says (Names w))) w.controllers
+
+-- WHAT AN EVENT CHANGES of addresses
+abbrev ChangeOf : World → World → Type 0
+ChangeOf w v = Change (IsReserved w.controllers) w.gear w.drawn w.gifts v.gear v.drawn v.gifts
+
+frame_change : (w : World) (c : ℕ) (f : Forward) (reach : Reach) → IsUp w c → MaySend w c f → IsKnown w → ((p : SitePlan) × Draws p.draws w.gear w.drawn w.left)
+    → Change (IsReserved w.controllers) w.gear w.drawn w.gifts (row_after reach (command_of f) 0 w.gear w.left) (w.drawn ++ drawn_of reach (command_of f) 0 w.gear w.left) (w.gifts ++ stored_of reach (command_of f) 0 w.gear)
+frame_change w c f reach up may known draws =
+    frame_changes (IsReserved w.controllers) (controller_at w c).records.block (controller_at w c).records.reserved (stage_of (running w c)) (command_of f) reach (follows_of w c f may)
+    w.gear w.left w.drawn w.gifts (knows_running w c known.knows) draws.1.each (λ a r h. (c, up.known, h))
+
+powered_same : (on : Bool) (g : ControlGear) → ((powered on g).short ≡ g.short) × ((powered on g).random ≡ g.random)
+powered_same false g = (refl, refl)
+powered_same true g = go (g.powered) where
+  go : (b : Bool) → ((if b then g else record g { powered = true; state = fresh.state; search = fresh.search; half = None }).short ≡ g.short)
+      × ((if b then g else record g { powered = true; state = fresh.state; search = fresh.search; half = None }).random ≡ g.random)
+  go true = (refl, refl)
+  go false = (refl, refl)
+
+one_change : (w : World) (change : ControlGear → ControlGear) (g : ℕ) → ((x : ControlGear) → ((change x).short ≡ x.short) × ((change x).random ≡ x.random))
+    → Change (IsReserved w.controllers) w.gear w.drawn w.gifts (changed_gear w.gear g change) w.drawn w.gifts
+one_change w change g same =
+    no_change (IsReserved w.controllers) w.gear (changed_gear w.gear g change) w.drawn w.gifts (length-set w.gear g (change (gear_at w g)))
+    (each_changed fresh (SameAddresses w.gear) change w.gear g (λ there h. same (gear_at w g)) (λ i h. (refl, refl)))
+
+same_gear : (w : World) → Change (IsReserved w.controllers) w.gear w.drawn w.gifts w.gear w.drawn w.gifts
+same_gear w = no_change (IsReserved w.controllers) w.gear w.gear w.drawn w.gifts refl (λ i h. (refl, refl))
+
+change_of : (p : SitePlan) (w : World) (e : Event) → Allowed w e → Holds p w → ChangeOf w (happens w e)
+change_of p w (event.Acted c i o) here k = same_gear w
+change_of p w (event.Offered c f) here k = same_gear w
+change_of p w (event.Sent c f h) here k = frame_change w c f Everyone here.up here.may k.known (p, k.draws)
+change_of p w (event.Destroyed c f set) here k = frame_change w c f (Only set) here.up here.may k.known (p, k.draws)
+change_of p w (event.Collided c f d g) here k = same_gear w
+change_of p w event.Lapsed here k = same_gear w
+change_of p w event.Quiet here k =
+    no_change (IsReserved w.controllers) w.gear _ w.drawn w.gifts (length-map w.gear quieted) (each_map fresh (SameAddresses w.gear) quieted w.gear (λ i x h. h) (λ i h. (refl, refl)))
+change_of p w (event.Power g on) here k = one_change w (powered on) g (powered_same on)
+change_of p w (event.Expired g) here k = one_change w expired g (λ x. (refl, refl))
+change_of p w (event.Down c) here k = same_gear w
+change_of p w (event.Up c kept) here k = same_gear w
+
+-- ONE EVENT
+gifts_more : (R S : Assignment → Type 0) (gs : List ControlGear) (ds gf : List (ℕ × ℕ)) → ((x : Assignment) → R x → S x) → Gifts R gs ds gf → Gifts S gs ds gf
+gifts_more R S gs ds gf more k = record {
+  there = k.there;
+  holds = k.holds;
+  drawn = k.drawn;
+  reserved = λ g a h. more (a, (get_or gs g fresh).random) (k.reserved g a h);
+  gear_once = k.gear_once;
+  address_once = k.address_once;
+}
+
+names_stay : (w v : World) → ChangeOf w v → ((x : ℕ × ℕ) → Has w.drawn x → Has v.drawn x) → KeepsRandom w v → (x : Assignment) → Names w x → Names v x
+names_stay w v ch drawn keeps x n =
+    let kept = keeps n.0 x.0 n.3 in
+    (n.0, subst (λ m. n.0 < m) (sym ch.count) n.1, drawn (n.0, x.1) n.2, kept.0, kept.1 ∙ n.4)
+
+found_of : (p : SitePlan) (w : World) (e : Event) (M : Assignment → Type 0) → Allowed w e → Holds p w → ((x : Assignment) → Names w x → M x) → FoundBy M w e
+found_of p w (event.Sent c f h) M here k more = λ x e. more x (found_names (IsReserved w.controllers) w c f h here k.known k.gifts x e)
+found_of p w _ M here k more = tt
+
+module _ (p : SitePlan) (plan : IsPlan p) (w : World) (e : Event) (here : Allowed w e) (k : Holds p w) where
+  ch : ChangeOf w (happens w e)
+  ch = change_of p w e here k
+
+  keeps : KeepsRandom w (happens w e)
+  keeps g a h = (
+    gift_stays (IsReserved w.controllers) (one_number p w.controllers plan k.reserves) w.gear _ w.drawn w.gifts _ _ (are_drawn p w plan k.draws).once k.gifts ch g a h,
+    gift_random (IsReserved w.controllers) (one_number p w.controllers plan k.reserves) w.gear _ w.drawn w.gifts _ _ (are_drawn p w plan k.draws).once k.gifts ch g a h,
+  )
+
+  names : (x : Assignment) → Names w x → Names (happens w e) x
+  names x n = names_stay w (happens w e) ch
+      (draw_stays (IsReserved w.controllers) (one_number p w.controllers plan k.reserves) w.gear _ w.drawn w.gifts _ _ (are_drawn p w plan k.draws).once k.gifts ch) keeps x n
+
+  pub keeps_step : KeepsRandom w (happens w e)
+  keeps_step = keeps
+
+  pub holds_step : Holds p (happens w e)
+  holds_step = record {
+    draws = draws_step p w e k.draws;
+    reserves = reserves_step p w e here k.reserves;
+    known = known_step w e here k.known;
+    gifts = gifts_more (IsReserved w.controllers) (IsReserved (happens w e).controllers) (happens w e).gear (happens w e).drawn (happens w e).gifts (λ x r. reserved_stays x w e r)
+        (gifts_step (IsReserved w.controllers) (one_number p w.controllers plan k.reserves) w.gear _ w.drawn w.gifts _ _ (are_drawn p w plan k.draws).once k.gifts ch);
+    says = says_step (Names w) (Names (happens w e)) w e here names (found_of p w e (Names (happens w e)) here k names) k.says;
+  }
+
+-- EVERY RUN
+holds_start : (p : SitePlan) (capacity : ℕ) → Holds p (start p capacity)
+holds_start p capacity = record {
+  draws = draws_start p capacity;
+  reserves = reserves_start p capacity;
+  known = known_start p capacity;
+  gifts = record {
+    there = λ g a h. elim h [ ];
+    holds = λ g a h. (λ e. absurd (none g a h e), λ k. elim k [ ]);
+    drawn = λ g a h. elim h [ ];
+    reserved = λ g a h. elim h [ ];
+    gear_once = tt;
+    address_once = tt;
+  };
+  says = says_start (Names (start p capacity)) p capacity;
+} where
+  none : (g a : ℕ) → g < length (start p capacity).gear → (gear_at (start p capacity) g).short ≡ Some a → ⊥
+  none g a h e =
+      let there : g < p.gear = subst (λ n. g < n) (length-replicate p.gear fresh) h in
+      let is : fresh.short ≡ Some a = ap (λ x. x.short) (sym (get_or-replicate p.gear g fresh fresh there)) ∙ e in
+      cc
+
+pub holds_all : (p : SitePlan) → IsPlan p → (w : World) (es : List Event) → AllAllowed w es → Holds p w → Holds p (after_all w es)
+holds_all p plan w [] all k = k
+holds_all p plan w (e ∷ es) all k = holds_all p plan (happens w e) es all.1 (holds_step p plan w e all.0 k)
+
+pub holds_after : (p : SitePlan) (capacity : ℕ) (log : List Event) → IsRun p capacity log → Holds p (after p capacity log)
+holds_after p capacity log run = holds_all p run.plan (start p capacity) log run.allowed (holds_start p capacity)
+
+pub keeps_all : (p : SitePlan) → IsPlan p → (w : World) (es : List Event) → AllAllowed w es → Holds p w → KeepsRandom w (after_all w es)
+keeps_all p plan w [] all k = λ g a h. (h, refl)
+keeps_all p plan w (e ∷ es) all k =
+    both (keeps_step p plan w e all.0 k) (keeps_all p plan (happens w e) es all.1 (holds_step p plan w e all.0 k)) where
+      both : KeepsRandom w (happens w e) → KeepsRandom (happens w e) (after_all (happens w e) es) → KeepsRandom w (after_all (happens w e) es)
+      both first rest g a h = let one = first g a h in let two = rest g a one.0 in (two.0, two.1 ∙ one.1)
+
+-- A WORLD OF A RUN IS SAFE
+pub safe : (p : SitePlan) (w : World) → Holds p w → IsSafe w
+safe p w k = record {
+  gear_once = k.gifts.gear_once;
+  address_once = k.gifts.address_once;
+  holds = k.gifts.holds;
+  tables = λ c there entry h. (k.says c there).enrolled entry h;
+}
+
+pub run_front : (p : SitePlan) (capacity : ℕ) (front rest : List Event) → IsRun p capacity (front ++ rest) → IsRun p capacity front
+run_front p capacity front rest run = record { plan = run.plan; allowed = allowed_front (start p capacity) front rest run.allowed }
+
+pub safe_history : (p : SitePlan) (capacity : ℕ) (log : List Event) → IsRun p capacity log → IsSafeHistory p capacity log
+safe_history p capacity log run = record {
+  always = λ earlier more e. safe p (after p capacity earlier)
+      (holds_after p capacity earlier (run_front p capacity earlier more (subst (λ es. IsRun p capacity es) (sym e) run)));
+  ever_after = λ earlier later rest e. since earlier later rest (subst (λ es. IsRun p capacity es) (sym e) run);
+} where
+  since : (earlier later rest : List Event) → IsRun p capacity (earlier ++ (later ++ rest)) → KeepsRandom (after p capacity earlier) (after p capacity (earlier ++ later))
+  since earlier later rest r =
+      let allowed : AllAllowed (after p capacity earlier) later =
+      allowed_front (after p capacity earlier) later rest (allowed_rest (start p capacity) earlier (later ++ rest) r.allowed) in
+      subst (λ v. KeepsRandom (after p capacity earlier) v) (sym (after_both (start p capacity) earlier later))
+      (keeps_all p r.plan (after p capacity earlier) later allowed (holds_after p capacity earlier (run_front p capacity earlier (later ++ rest) r)))

@@ -1,0 +1,6 @@
+use Rattle.dali_events.specs.World.{start}
+use Rattle.dali_events.proofs.Growing.{after_more, run_more}
+use Rattle.dali_events.proofs.laws.histories_grow_at_the_end.Goals as goal
+
+pub returns : goal.returns
+returns c = record { world = λ p capacity log e. after_more (start p capacity) log e; run = run_more }

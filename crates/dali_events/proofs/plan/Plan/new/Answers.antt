@@ -1,0 +1,12 @@
+use Rattle.std.proofs.Common.{◌≡◌, None, sym}
+use Rattle.dali_events.specs.Plan.{refusal_of}
+use Rattle.dali_events.proofs.Plans.{accepted, plan_is, gear_is, blocks_are}
+use Rattle.dali_events.proofs.plan.Plan.new.Goals as goal
+
+pub invariant_of-result : goal.invariant_of-result
+invariant_of-result c =
+    let is : refusal_of c.args.gear c.args.blocks.now c.args.draws.now ≡ None = sym c.in_default.ensures in
+    let all = accepted c.args.gear c.args.blocks.now c.args.draws.now is in
+    let gear = gear_is c.args.gear all.gear_count in
+    rw (c.in_ok-blocks.ensures, c.in_ok-draws.ensures)
+    (plan_is c.args.gear c.args.blocks.now c.args.draws.now is, gear.0, gear.1, blocks_are c.args.blocks.now all.controllers, c.requires)

@@ -1,0 +1,10 @@
+use Rattle.std.proofs.Common.{◌≡◌, take, drop, false}
+use Rattle.std.specs.Prelude.{nat_lt}
+use Rattle.std.specs.List.{list_any}
+use Rattle.dali_events.proofs.plan.draws_of.Given as goal
+
+abbrev pub invariant-loop-draw : goal.invariant-loop-draw
+invariant-loop-draw l = record {
+  made : l.made.items ≡ take l.draw-index l.draws;
+  small : list_any (λ draw. nat_lt 0xFFFFFE draw) (drop l.draw-index l.draws) ≡ false;
+}

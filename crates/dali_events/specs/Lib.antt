@@ -1,0 +1,6 @@
+pub mod Plan
+pub mod World
+pub mod Happens
+pub mod Allowed
+pub mod Runs
+pub mod Promises

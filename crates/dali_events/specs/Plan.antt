@@ -1,0 +1,77 @@
+use Rattle.std.specs.Prelude.{◌≡◌, ℕ, ◌+◌, ◌<◌, ◌≤◌, List, [], ◌∷◌, length, Bool, true, false, Option, Some, None, ◌==◌, ◌||◌, ◌&&◌, nat_lt, nat_le, map, slice_index_or, if◌then◌else◌}
+use Rattle.std.specs.List.{list_any}
+use Rattle.dali_script.specs.declared.block.Block.{Block}
+use Rattle.dali_script.specs.Records.{InBlock, IsOnce, MASK24, Has}
+use Rattle.dali_events.specs.declared.plan.PlanError.{PlanError}
+use Rattle.dali_events.specs.declared.plan.PlanError.TheVariants.{NoMemory, GearCount, ControllerCount, BlockOrder, BlockOverlap, DrawTooLarge, DrawTwice}
+
+-- A site as it is planned: the number of its gear, a block of short addresses for each controller, and the numbers that
+-- the gear will draw, in the order in which they will be drawn.
+pub record SitePlan : Type 0 where
+  pub gear : ℕ
+  pub blocks : List Block
+  pub draws : List ℕ
+
+-- the refusals' numbers
+abbrev pub number_of : PlanError → ℕ
+number_of NoMemory = 1
+number_of GearCount = 2
+number_of ControllerCount = 3
+number_of BlockOrder = 4
+number_of BlockOverlap = 5
+number_of DrawTooLarge = 6
+number_of DrawTwice = 7
+
+-- some pair of different places of a list passes
+abbrev pub any_pair : {A : Type 0} → (A → A → Bool) → List A → Bool
+any_pair test [] = false
+any_pair test (x ∷ xs) = list_any (test x) xs || any_pair test xs
+
+-- a block that is none: it ends before it begins, or past the last short address
+abbrev pub is_misordered : ℕ × ℕ → Bool
+is_misordered b = nat_lt b.1 b.0 || nat_lt 63 b.1
+
+-- some address lies in both blocks
+abbrev pub overlap : ℕ × ℕ → ℕ × ℕ → Bool
+overlap b c = nat_le b.0 c.1 && nat_le c.0 b.1
+
+-- Why a plan is refused: the first cause that holds, of its gear, its blocks (first and last address) and its numbers.
+abbrev pub refusal_of : ℕ → List (ℕ × ℕ) → List ℕ → Option PlanError
+refusal_of gear blocks draws =
+    if nat_lt gear 1 || nat_lt 128 gear then Some GearCount
+    else if nat_lt (length blocks) 1 || nat_lt 4 (length blocks) then Some ControllerCount
+    else if list_any is_misordered blocks then Some BlockOrder
+    else if any_pair overlap blocks then Some BlockOverlap
+    else if list_any (λ draw. nat_lt 0xFFFFFE draw) draws then Some DrawTooLarge
+    else if any_pair (λ draw other. draw == other) draws then Some DrawTwice
+    else None
+
+-- the plan of these
+abbrev pub block_of : ℕ × ℕ → Block
+block_of b = record { first = b.0; last = b.1 }
+
+abbrev pub plan_of : ℕ → List (ℕ × ℕ) → List ℕ → SitePlan
+plan_of gear blocks draws = record { gear = gear; blocks = map block_of blocks; draws = draws }
+
+-- the block of controller c
+abbrev pub no_block : Block
+no_block = record { first = 1; last = 0 }
+
+abbrev pub block_at : SitePlan → ℕ → Block
+block_at p c = slice_index_or p.blocks c no_block
+
+-- What a plan that is not refused has, in the words that the laws use.
+pub record IsPlan (p : SitePlan) : Type 0 where
+  -- no address lies in the blocks of two controllers
+  pub apart : (c d a : ℕ) → c < length p.blocks → d < length p.blocks → InBlock (block_at p c) a → InBlock (block_at p d) a → c ≡ d
+  -- each block has short addresses alone
+  pub short : (c a : ℕ) → c < length p.blocks → InBlock (block_at p c) a → a < 64
+  -- no number is drawn twice on the site
+  pub draws_once : IsOnce p.draws
+  -- and none is FFFFFF
+  pub draws_below : (r : ℕ) → Has p.draws r → r < MASK24
+
+-- what a refusal says: its cause, or no cause where memory was wanting
+abbrev pub IsRefusal : ℕ → List (ℕ × ℕ) → List ℕ → PlanError → Type 0
+IsRefusal gear blocks draws NoMemory = refusal_of gear blocks draws ≡ None
+IsRefusal gear blocks draws e = refusal_of gear blocks draws ≡ Some e
