@@ -197,7 +197,10 @@ gone = refl
 -- 14. a run: the first frames of an opening are allowed, one after the other
 opening_is_allowed : AllAllowed site begun_opening
 unfolding command_of stage_of
-opening_is_allowed =
-    (record { up = record { known = lit< tt; up = refl }; due = refl; order = inl (refl, (first_block, [], (Open, tt, refl))) },
-    (record { up = record { known = lit< tt; up = refl }; may = inr (refl, (first_block, [], (Open, tt, refl))); draws = lit≤ tt; heard = tt },
-    (record { up = record { known = lit< tt; up = refl }; due = refl; order = inr (refl, refl, (Open, tt, (refl, tt, refl))) }, tt)))
+opening_is_allowed = (
+  record { up = record { known = lit< tt; up = refl }; due = refl; order = inl (refl, (first_block, [], (Open, tt, refl))) },
+  (
+    record { up = record { known = lit< tt; up = refl }; may = inr (refl, (first_block, [], (Open, tt, refl))); draws = lit≤ tt; heard = tt },
+    (record { up = record { known = lit< tt; up = refl }; due = refl; order = inr (refl, refl, (Open, tt, (refl, tt, refl))) }, tt),
+  ),
+)
