@@ -1,5 +1,7 @@
 //! One controller alone with its gear, on a bus without trouble: the machine's orders are carried out at once.
 
+ghost use Rattle.std.specs.Prelude.{◌<◌, ◌↔◌, IsTrue, All};
+
 use dali_controller::{End, Input, Machine, Order};
 use dali_frame::{Random24, Short};
 use dali_gear::{Gear, Reach, row};
@@ -16,6 +18,13 @@ struct Outcome {
     commits: Vec<Record>,
     table: Vec<(u8, u32)>,
     shorts: Vec<Option<Short>>,
+}
+
+/// Whether gear may draw each of these numbers.
+fn are_drawable(draws: &[Random24]) -> bool
+    ensures { IsTrue result ↔ All (λ draw. draw < 0xFFFFFF) draws.now }
+{
+    draws.iter().all(|draw| draw.value() < 0xFFFFFF)
 }
 
 /// Runs the machine of a controller with this block to its end.
@@ -61,7 +70,7 @@ fn commissioned<R: Abort + AllocGlobal>(
                 assert!(rt; gear.len() <= 128);
                 let left = numbers.get(drawn..).unwrap_or(&[]);
                 assert!(rt; row::draws_needed(&gear, frame, Reach::Everyone) <= left.len());
-                assert!(rt; left.iter().all(|draw| draw.value() < 0xFFFFFF));
+                assert!(rt; are_drawable(left));
                 let heard = row::take(&mut gear, frame, Reach::Everyone, left);
                 drawn = drawn.wrapping_add(heard.drawn);
                 outcome.frames = outcome.frames.wrapping_add(1);
