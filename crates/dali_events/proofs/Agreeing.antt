@@ -4,13 +4,14 @@ use Rattle.dali_events.specs.declared.event.Event.{Event}
 use Rattle.dali_events.specs.Plan.{SitePlan}
 use Rattle.dali_events.specs.World.{World, gear_at, controller_at}
 use Rattle.dali_events.specs.Happens.{happens}
-use Rattle.dali_events.specs.Runs.{after, after_all, IsRun, AreDrawn, IsSafe}
-use Rattle.dali_events.specs.Promises.{GiftsAreReserved, IsEnrolled, NamesGear, TablesAgree}
+use Rattle.dali_events.specs.Runs.{after, after_all, IsRun, AreDrawn, Names, IsSafe}
+use Rattle.dali_events.specs.Promises.{GiftsAreReserved, IsEnrolled, NamesGear, TablesAgree, HasFound, FindingsAgree}
 use Rattle.dali_events.proofs.Members.{same_member}
 use Rattle.dali_events.proofs.Controllers.{controllers_count}
 use Rattle.dali_events.proofs.Reserves.{still_reserved}
 use Rattle.dali_events.proofs.Drawn.{drawn_in_front}
-use Rattle.dali_events.proofs.Safe.{holds_after, safe, run_front}
+use Rattle.dali_events.proofs.Naming.{SaysFinding}
+use Rattle.dali_events.proofs.Safe.{Holds, holds_after, safe, run_front}
 
 -- GIFTS STAY RESERVED
 pub gifts_reserved : (p : SitePlan) (capacity : ℕ) (front rest : List Event) → IsRun p capacity (front ++ rest) → GiftsAreReserved (after p capacity front)
@@ -48,6 +49,15 @@ module _ (w : World) (s : IsSafe w) where
       let drew : Has w.drawn (n.0, y.1) = subst (λ r. Has w.drawn (n.0, r)) same n.1.drawer in
       one_entry x y n.0 m.0 n.1 m.1 (ap (λ draw. draw.0) (same_member (λ draw. draw.1) w.drawn (n.0, y.1) (m.0, y.1) d.once drew m.1.drawer refl))
 
+  found_named : (x : Assignment) → Names w x → (g : ℕ) × NamesGear w x g
+  found_named x n = (n.0, record { drawer = n.2; given = n.3; random = n.4 })
+
+  pub found_address : (d : ℕ) (x y : Assignment) → Names w x → IsEnrolled w d y → x.0 ≡ y.0 → x ≡ y
+  found_address d x y n h same = one_address x y (found_named x n) (named d y h) same
+
+  pub found_number : AreDrawn w → (d : ℕ) (x y : Assignment) → Names w x → IsEnrolled w d y → x.1 ≡ y.1 → x ≡ y
+  found_number a d x y n h same = one_number a x y (found_named x n) (named d y h) same
+
   pub tables_agree : AreDrawn w → TablesAgree w
   tables_agree d = record {
     address = λ c k x y h i same. one_address x y (named c x h) (named k y i) same;
@@ -58,3 +68,18 @@ module _ (w : World) (s : IsSafe w) where
 pub tables_agree_in : (p : SitePlan) (capacity : ℕ) (front rest : List Event) → IsRun p capacity (front ++ rest) → TablesAgree (after p capacity front)
 tables_agree_in p capacity front rest run =
     tables_agree (after p capacity front) (safe p (after p capacity front) (holds_after p capacity front (run_front p capacity front rest run))) (drawn_in_front p capacity front rest run)
+
+-- FINDINGS AGREE
+finding_named : (p : SitePlan) (w : World) → Holds p w → (c : ℕ) (x : Assignment) → HasFound w c x → Names w x
+finding_named p w k c x h = subst (λ f. SaysFinding (Names w) f) h.1 (k.says c h.0).finding
+
+pub findings_agree : (p : SitePlan) (w : World) → Holds p w → AreDrawn w → FindingsAgree w
+findings_agree p w k d = record {
+  named = finding_named p w k;
+  address = λ c e x y h i same. found_address w (safe p w k) e x y (finding_named p w k c x h) i same;
+  number = λ c e x y h i same. found_number w (safe p w k) d e x y (finding_named p w k c x h) i same;
+}
+
+pub findings_agree_in : (p : SitePlan) (capacity : ℕ) (front rest : List Event) → IsRun p capacity (front ++ rest) → FindingsAgree (after p capacity front)
+findings_agree_in p capacity front rest run =
+    findings_agree p (after p capacity front) (holds_after p capacity front (run_front p capacity front rest run)) (drawn_in_front p capacity front rest run)

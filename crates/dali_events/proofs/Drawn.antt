@@ -80,7 +80,7 @@ draws_start p capacity = record {
   numbers = refl;
 }
 
-draws_all : (p : SitePlan) (w : World) (es : List Event) → Draws p.draws w.gear w.drawn w.left → Draws p.draws (after_all w es).gear (after_all w es).drawn (after_all w es).left
+pub draws_all : (p : SitePlan) (w : World) (es : List Event) → Draws p.draws w.gear w.drawn w.left → Draws p.draws (after_all w es).gear (after_all w es).drawn (after_all w es).left
 draws_all p w [] d = d
 draws_all p w (e ∷ es) d = draws_all p (happens w e) es (draws_step p w e d)
 

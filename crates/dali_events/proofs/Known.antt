@@ -39,10 +39,10 @@ Knows stage.RandomisedOnce g = Unnumbered g
 Knows (stage.HighSent high) g = IsActive g → g.search.high ≡ high
 Knows (stage.MiddleSent high middle) g = IsActive g → (g.search.high ≡ high) × (g.search.middle ≡ middle)
 Knows (stage.NumberSent r) g = Seeks r g
-Knows (stage.Found r b) g = Seeks r g
+Knows (stage.Found r b) g = IsActive g → (g.search ≡ r) × (g.random ≡ value_of r → g.short ≡ Some b)
 Knows (stage.Unnamed r) g = IsActive g → (g.search ≡ r) × (g.random ≡ value_of r → g.short ≡ None)
 Knows (stage.Programmed r a) g = Seeks r g
-Knows (stage.Confirmed r a) g = Seeks r g
+Knows (stage.Confirmed r a) g = IsActive g → (g.search ≡ r) × (g.random ≡ value_of r → g.short ≡ Some a)
 Knows _ g = Unit {0}
 
 -- a byte that is heard is what the gear answered, if it answered
@@ -81,20 +81,23 @@ knows_queried r Silence g x small agrees k = tt
 knows_queried r Damaged g x small agrees k = tt
 knows_queried r (Byte v) g x small agrees k = go (short_of v) (v == MASK) refl where
   go : (o : Option ℕ) (m : Bool) → short_of v ≡ o → Knows (named r o m) (taken QueryShort x g)
-  go (Some b) m short = k
+  go (Some b) m short = λ active.
+      (k active, λ random. some_of_code g.short v b small short (agrees v (program_data g.short) refl (query_answer g active (found_at g r (k active) random))))
   go None true short = λ active. (k active, λ random. none_of_code g.short v small short (agrees v (program_data g.short) refl (query_answer g active (found_at g r (k active) random))))
   go None false short = tt
 
-knows_verified : (r : SearchAddress) (a : ℕ) (h : Answer) (g : ControlGear) (x : ℕ) → Seeks r g → Knows (verified r a h) (taken QueryShort x g)
-knows_verified r a Silence g x k = tt
-knows_verified r a Damaged g x k = tt
-knows_verified r a (Byte v) g x k = go (short_of v) where
-  go : (o : Option ℕ) → Knows (answered r a o) (taken QueryShort x g)
-  go None = tt
-  go (Some b) = same (b == a) where
-    same : (m : Bool) → Knows (if m then stage.Confirmed r a else stage.Inconclusive r (Some b)) (taken QueryShort x g)
-    same true = k
-    same false = tt
+knows_verified : (r : SearchAddress) (a : ℕ) (h : Answer) (g : ControlGear) (x : ℕ) → IsShort g → Agrees QueryShort g h → Seeks r g → Knows (verified r a h) (taken QueryShort x g)
+knows_verified r a Silence g x small agrees k = tt
+knows_verified r a Damaged g x small agrees k = tt
+knows_verified r a (Byte v) g x small agrees k = go (short_of v) refl where
+  go : (o : Option ℕ) → short_of v ≡ o → Knows (answered r a o) (taken QueryShort x g)
+  go None short = tt
+  go (Some b) short = same (b == a) refl where
+    same : (m : Bool) → (b == a) ≡ m → Knows (if m then stage.Confirmed r a else stage.Inconclusive r (Some b)) (taken QueryShort x g)
+    same true is = λ active.
+        let number : b ≡ a = grind (arith, nat_tests) in
+        (k active, λ random. some_of_code g.short v b small short (agrees v (program_data g.short) refl (query_answer g active (found_at g r (k active) random))) ∙ ap (λ n. Some n) number)
+    same false is = tt
 
 both_true : (a b : Bool) → (a && b) ≡ true → (a ≡ true) × (b ≡ true)
 both_true true b e = (refl, e)
@@ -127,7 +130,7 @@ knows_step b xs _ _ h g x (compares r) small agrees k = tt
 knows_step b xs _ _ h g x (queries_number r) small agrees k = knows_queried r h g x small agrees k
 knows_step b xs _ _ h g x (withdraws_found r a) small agrees k = tt
 knows_step b xs _ _ h g x (programs r a may) small agrees k = λ active. (k active).0
-knows_step b xs _ _ h g x (queries_given r a may) small agrees k = knows_verified r a h g x k
+knows_step b xs _ _ h g x (queries_given r a may) small agrees k = knows_verified r a h g x small agrees k
 knows_step b xs _ _ h g x (withdraws_given r a may) small agrees k = tt
 
 -- of a gear that takes no part a stage says nothing

@@ -13,3 +13,10 @@ pub mod Gifts
 pub mod Naming
 pub mod Safe
 pub mod Agreeing
+pub mod Halves
+pub mod Opening
+pub mod AllFound
+pub mod Commissioned
+pub mod Keeping
+pub mod Premises
+pub mod OpeningAlone

@@ -4,3 +4,4 @@ pub mod Happens
 pub mod Allowed
 pub mod Runs
 pub mod Promises
+pub mod Searching

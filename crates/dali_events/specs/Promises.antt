@@ -1,7 +1,9 @@
-use Rattle.std.specs.Prelude.{◌≡◌, ℕ, ◌<◌, length}
-use Rattle.dali_script.specs.Records.{Assignment, Has}
+use Rattle.std.specs.Prelude.{◌≡◌, ℕ, ◌<◌, length, Some}
+use Rattle.dali_script.specs.declared.records.Record.{Record}
+use Rattle.dali_script.specs.Records.{Assignment, Has, IsKept, IsFresh, Fits}
+use Rattle.dali_events.specs.Plan.{SitePlan, block_at}
 use Rattle.dali_events.specs.World.{World, gear_at, controller_at}
-use Rattle.dali_events.specs.Runs.{IsDrawer}
+use Rattle.dali_events.specs.Runs.{IsDrawer, Names}
 
 -- WHAT THE LAWS SAY OF ONE WORLD.
 
@@ -32,3 +34,26 @@ pub record TablesAgree (w : World) : Type 0 where
   pub address : (c d : ℕ) (x y : Assignment) → IsEnrolled w c x → IsEnrolled w d y → x.0 ≡ y.0 → x ≡ y
   pub number : (c d : ℕ) (x y : Assignment) → IsEnrolled w c x → IsEnrolled w d y → x.1 ≡ y.1 → x ≡ y
   pub gear : (c d g : ℕ) (x y : Assignment) → IsEnrolled w c x → IsEnrolled w d y → NamesGear w x g → NamesGear w y g → x ≡ y
+
+-- ---------------------------------------------------------------- findings
+
+-- controller c's last finding since it came up
+abbrev pub HasFound : World → ℕ → Assignment → Type 0
+HasFound w c found = (c < length w.controllers) × ((controller_at w c).finding ≡ Some found)
+
+-- each finding names a gear, and no kept enrolment, of whomever, has its address with another number or its number with
+-- another address
+pub record FindingsAgree (w : World) : Type 0 where
+  pub named : (c : ℕ) (found : Assignment) → HasFound w c found → Names w found
+  pub address : (c d : ℕ) (found entry : Assignment) → HasFound w c found → IsEnrolled w d entry → found.0 ≡ entry.0 → found ≡ entry
+  pub number : (c d : ℕ) (found entry : Assignment) → HasFound w c found → IsEnrolled w d entry → found.1 ≡ entry.1 → found ≡ entry
+
+-- ---------------------------------------------------------------- records
+
+-- each controller keeps records of its block, each address and each number once of each kind; and an outstanding record
+-- fits them, with neither its address nor its number among those of its kind
+pub record KeepsRecords (p : SitePlan) (w : World) : Type 0 where
+  pub block : (c : ℕ) → c < length w.controllers → (controller_at w c).records.block ≡ block_at p c
+  pub kept : (c : ℕ) → c < length w.controllers → IsKept (controller_at w c).records
+  pub fresh : (c : ℕ) (x : Record) → c < length w.controllers → (controller_at w c).outstanding ≡ Some x → IsFresh (controller_at w c).records x
+  pub fits : (c : ℕ) (x : Record) → c < length w.controllers → (controller_at w c).outstanding ≡ Some x → Fits (controller_at w c).records.block x

@@ -1,0 +1,189 @@
+use Rattle.std.proofs.Common.{◌≡◌, ℕ, ◌<◌, ◌≤◌, List, [], ◌∷◌, ◌++◌, Option, Some, None, refl, inl, inr, lit<, lit≤, arith, length}
+use Rattle.dali_frame.specs.declared.frames.Forward.{Forward}
+use Rattle.dali_frame.specs.declared.frames.Answer.{Answer}
+use Rattle.dali_frame.specs.declared.frames.Answer.TheVariants.{Silence, Byte, Damaged}
+use Rattle.dali_frame.specs.declared.numbers.SearchAddress.{SearchAddress}
+use Rattle.dali_frame.specs.Random.{value_of}
+use Rattle.dali_special.specs.Command.{command_of, frame}
+use Rattle.dali_script.specs.declared.block.Block.{Block}
+use Rattle.dali_script.specs.declared.trace.Entry.{Entry}
+use Rattle.dali_script.specs.declared.records.Record.TheVariants.{Reserve, Enrol}
+use Rattle.dali_script.specs.Records.{Assignment, Has, InBlock, IsOnce, MASK24}
+use Rattle.dali_script.specs.Scripts.{Open, Probe, Look, Give, MayGive}
+use Rattle.dali_script.specs.Stages.{stage_of}
+use Rattle.dali_controller.specs.declared.orders.Input.TheVariants as input
+use Rattle.dali_controller.specs.declared.orders.Order.TheVariants.{Put, Commit}
+use Rattle.dali_events.specs.declared.event.Event.{Event}
+use Rattle.dali_events.specs.declared.event.Event.TheVariants as event
+use Rattle.dali_events.specs.Plan.{SitePlan, IsPlan, block_at}
+use Rattle.dali_events.specs.World.{World, gear_at, controller_at, start}
+use Rattle.dali_events.specs.Runs.{after, AllAllowed, IsRun}
+use Rattle.dali_events.specs.Searching.{SearchesAll, NobodyAnswers, searched_on, sent}
+
+-- A WHOLE RUN: one gear and one controller. An opening, a number that is reserved, an address that is given, and at last a
+-- COMPARE under FFFFFE that nobody answers. It shows that the laws speak of something.
+abbrev block : Block
+block = record { first = 0; last = 3 }
+
+abbrev plan : SitePlan
+plan = record { gear = 1; blocks = block ∷ []; draws = 0x123456 ∷ [] }
+
+abbrev number : SearchAddress
+number = record { high = 0x12; middle = 0x34; low = 0x56 }
+
+abbrev highest : SearchAddress
+highest = record { high = 0xFF; middle = 0xFF; low = 0xFE }
+
+abbrev heard : Forward → Answer → Entry
+heard f h = record { frame = f; heard = h }
+
+abbrev silent : ℕ → ℕ → Entry
+silent address byte = heard (frame address byte) Silence
+
+-- the opening
+abbrev terminate : Entry
+terminate = silent 0xA1 0
+
+abbrev initialise : Entry
+initialise = silent 0xA5 0xFF
+
+abbrev randomise : Entry
+randomise = silent 0xA7 0
+
+abbrev opening : List Event
+opening = sent 0 initialise ∷ sent 0 initialise ∷ sent 0 randomise ∷ []
+
+-- the number is reserved, the gear at it is asked, given an address, asked again and withdrawn; and the search address is set
+abbrev middle : List Event
+middle =
+    event.Acted 0 (input.Heard Silence) (Commit (Reserve 0 0x123456)) ∷
+    event.Acted 0 input.Committed (Put 3 (frame 0xB1 0x12)) ∷
+    sent 0 (silent 0xB1 0x12) ∷
+    sent 0 (silent 0xB3 0x34) ∷
+    sent 0 (silent 0xB5 0x56) ∷
+    sent 0 (heard (frame 0xBB 0) (Byte 0xFF)) ∷
+    sent 0 (silent 0xB7 0x01) ∷
+    sent 0 (heard (frame 0xBB 0) (Byte 0x01)) ∷
+    sent 0 (silent 0xAB 0) ∷
+    sent 0 (silent 0xB1 0xFF) ∷
+    sent 0 (silent 0xB3 0xFF) ∷
+    sent 0 (silent 0xB5 0xFE) ∷
+    []
+
+abbrev compare : Entry
+compare = silent 0xA9 0
+
+abbrev log : List Event
+log = searched_on [] 0 terminate opening randomise middle
+
+is_plan : IsPlan plan
+is_plan = record {
+  apart = λ c d a h k in_c in_d. only c d h k;
+  short = λ c a h within. small c a h within;
+  draws_once = (λ h. h, tt);
+  draws_below = λ r h. below r h;
+} where
+  only : (c d : ℕ) → c < 1 → d < 1 → c ≡ d
+  only c d h k = omega arith
+
+  small : (c a : ℕ) → c < 1 → InBlock (block_at plan c) a → a < 64
+  small c a h within = first (zero_of c h) within where
+    zero_of : (c : ℕ) → c < 1 → c ≡ 0
+    zero_of c h = omega arith
+
+    first : c ≡ 0 → InBlock (block_at plan c) a → a < 64
+    first e within =
+        let at : InBlock block a = rw e at within in
+        let high : a ≤ 3 = at.1 in
+        omega arith
+
+  below : (r : ℕ) → Has (0x123456 ∷ []) r → r < MASK24
+  below r (inl e) = rw (← e) (lit< tt)
+  below r (inr h) = absurd h
+
+-- what may be given
+may_give : MayGive block ((0, 0x123456) ∷ []) number 0
+may_give = record { drawn = lit< tt; within = (lit≤ tt, lit≤ tt); reserved_for = inl refl }
+
+allowed : AllAllowed (start plan 8) (searched_on [] 0 terminate opening randomise (middle ++ sent 0 compare ∷ []))
+unfolding command_of stage_of
+allowed = (
+  record { up = record { known = lit< tt; up = refl }; may = inr (refl, (block, [], (Open, tt, refl))); draws = lit≤ tt; heard = tt },
+  (
+    record { up = record { known = lit< tt; up = refl }; may = inl (refl, (Open, tt, (refl, tt, refl))); draws = lit≤ tt; heard = tt },
+    (
+      record { up = record { known = lit< tt; up = refl }; may = inl (refl, (Open, tt, (refl, tt, (refl, tt, refl)))); draws = lit≤ tt; heard = tt },
+      (
+        record { up = record { known = lit< tt; up = refl }; may = inl (refl, (Open, tt, (refl, tt, (refl, tt, (refl, tt, refl))))); draws = lit≤ tt; heard = tt },
+        (
+          record { up = record { known = lit< tt; up = refl }; may = inl (refl, (Open, tt, (refl, tt, (refl, tt, (refl, tt, (refl, tt, refl)))))); draws = lit≤ tt; heard = tt },
+          (
+            record { up = record { known = lit< tt; up = refl }; due = refl; order = (refl, ((lit≤ tt, lit≤ tt), lit< tt, (λ h. h, λ h. h))) },
+            (
+              record { up = record { known = lit< tt; up = refl }; due = tt; order = inl (refl, (block, [], (Probe number, tt, refl))) },
+              (
+                record { up = record { known = lit< tt; up = refl }; may = inr (refl, (block, [], (Probe number, tt, refl))); draws = lit≤ tt; heard = tt },
+                (
+                  record { up = record { known = lit< tt; up = refl }; may = inl (refl, (Probe number, tt, (refl, tt, refl))); draws = lit≤ tt; heard = tt },
+                  (
+                    record { up = record { known = lit< tt; up = refl }; may = inl (refl, (Probe number, tt, (refl, tt, (refl, tt, refl)))); draws = lit≤ tt; heard = tt },
+                    (
+                      record { up = record { known = lit< tt; up = refl }; may = inl (refl, (Look number, tt, (refl, tt, (refl, tt, (refl, tt, refl))))); draws = lit≤ tt; heard = (λ e. cc, (refl, tt)) },
+                      (
+                        record { up = record { known = lit< tt; up = refl }; may = inl (refl, (Give number 0, may_give, (refl, tt, (refl, tt, (refl, tt, (refl, refl, refl)))))); draws = lit≤ tt; heard = tt },
+                        (
+                          record { up = record { known = lit< tt; up = refl }; may = inl (refl, (Give number 0, may_give, (refl, tt, (refl, tt, (refl, tt, (refl, refl, (refl, tt, refl))))))); draws = lit≤ tt; heard = (λ e. cc, (refl, tt)) },
+                          (
+                            record { up = record { known = lit< tt; up = refl }; may = inl (refl, (Give number 0, may_give, (refl, tt, (refl, tt, (refl, tt, (refl, refl, (refl, tt, (refl, refl, refl)))))))); draws = lit≤ tt; heard = tt },
+                            (
+                              record { up = record { known = lit< tt; up = refl }; may = inr (refl, (block, [], (Probe highest, tt, refl))); draws = lit≤ tt; heard = tt },
+                              (
+                                record { up = record { known = lit< tt; up = refl }; may = inl (refl, (Probe highest, tt, (refl, tt, refl))); draws = lit≤ tt; heard = tt },
+                                (
+                                  record { up = record { known = lit< tt; up = refl }; may = inl (refl, (Probe highest, tt, (refl, tt, (refl, tt, refl)))); draws = lit≤ tt; heard = tt },
+                                  (
+                                    record { up = record { known = lit< tt; up = refl }; may = inl (refl, (Probe highest, tt, (refl, tt, (refl, tt, (refl, tt, refl))))); draws = lit≤ tt; heard = tt },
+                                    tt,
+                                  ),
+                                ),
+                              ),
+                            ),
+                          ),
+                        ),
+                      ),
+                    ),
+                  ),
+                ),
+              ),
+            ),
+          ),
+        ),
+      ),
+    ),
+  ),
+)
+
+searches : SearchesAll plan 8 [] 0 terminate opening randomise middle compare
+unfolding command_of stage_of
+searches = record {
+  run = record { plan = is_plan; allowed = allowed };
+  terminate = refl;
+  calm_opening = (λ e. cc, (λ e. cc, (λ e. cc, tt)));
+  complete = record { owner = refl; opening = (refl, tt, (refl, tt, (refl, tt, (refl, tt, refl)))); last = refl };
+  calm_since = (tt, (tt, (λ e. cc, (λ e. cc, (λ e. cc, (λ e. cc, (λ e. cc, (λ e. cc, (λ e. cc, (λ e. cc, (λ e. cc, (λ e. cc, tt))))))))))));
+  compare_sent = refl;
+  highest = refl;
+}
+
+nobody_answers : NobodyAnswers (after plan 8 log)
+unfolding command_of stage_of
+nobody_answers = refl
+
+-- the gear has the address that it was given
+gifts : (after plan 8 log).gifts ≡ (0, 0) ∷ []
+unfolding command_of stage_of
+gifts = refl
+
+holds : (gear_at (after plan 8 log) 0).short ≡ Some 0
+unfolding command_of stage_of
+holds = refl

@@ -1,0 +1,188 @@
+use Rattle.std.proofs.Common.{◌≡◌, ℕ, ◌+◌, ◌<◌, ◌≤◌, ◌⊎◌, inl, inr, Bool, true, false, zero, suc, List, [], ◌∷◌, refl, sym, subst, arith, length, get_or, Option, Some, None, add-zero, zero-add}
+use Rattle.std.specs.Prelude.{◌&&◌, ◌==◌, if◌then◌else◌}
+use Rattle.dali_frame.specs.declared.frames.Answer.{Answer}
+use Rattle.dali_frame.specs.declared.frames.Answer.TheVariants.{Silence, Byte, Damaged}
+use Rattle.dali_frame.specs.declared.numbers.SearchAddress.{SearchAddress}
+use Rattle.dali_frame.specs.Short.{short_of}
+use Rattle.dali_frame.specs.Random.{value_of}
+use Rattle.dali_special.specs.declared.command.Target.TheVariants.{Unaddressed}
+use Rattle.dali_special.specs.declared.command.Command.{Command}
+use Rattle.dali_special.specs.declared.command.Command.TheVariants.{Terminate, Initialise, Randomise, Withdraw, Program, QueryShort}
+use Rattle.dali_special.specs.Command.{MASK}
+use Rattle.dali_gear.specs.declared.state.InitialisationState.TheVariants.{Enabled, Withdrawn}
+use Rattle.dali_gear.specs.declared.row.Reach.{Reach}
+use Rattle.dali_gear.specs.ControlGear as gear
+use Rattle.dali_gear.specs.ControlGear.{ControlGear, fresh, is_active, is_enabled, is_found, is_second, concerns, would_draw, taken, state_after, random_after, short_after, half_after}
+use Rattle.dali_gear.specs.Row.{takes, left_after, row_after, drawn_one, drawn_of, draws_needed}
+use Rattle.dali_script.specs.declared.block.Block.{Block}
+use Rattle.dali_script.specs.declared.stage.Stage.{Stage}
+use Rattle.dali_script.specs.declared.stage.Stage.TheVariants as stage
+use Rattle.dali_script.specs.Records.{Assignment, Has}
+use Rattle.dali_script.specs.Stages.{Follows, begins_opening, begins_search, begins_arc, initialises_once, initialises, randomises_once, randomises, sets_middle, sets_low, compares, queries_number, withdraws_found, programs, queries_given, withdraws_given, next_stage, queried, named, verified, answered}
+use Rattle.dali_events.proofs.Known.{Knows, IsActive, found_random}
+
+-- WITH NUMBERS ENOUGH, who would draw draws one of them
+record DrawsNumber (reach : Reach) (c : Command) (k : ℕ) (gs : List ControlGear) (left : List ℕ) (i : ℕ) : Type 0 where
+  pub number : ℕ
+  pub drawn : Has (drawn_of reach c k gs left) (k + i, number)
+  pub moved : get_or (row_after reach c k gs left) i fresh ≡ taken c number (get_or gs i fresh)
+
+draws_here : (reach : Reach) (c : Command) (k : ℕ) (g : ControlGear) (gs : List ControlGear) (left : List ℕ) → takes reach k g ≡ true → would_draw c g ≡ true
+    → draws_needed reach c k (g ∷ gs) ≤ length left → DrawsNumber reach c k (g ∷ gs) left 0
+draws_here reach c k g gs [] t w enough =
+    absurd (let more : 1 + draws_needed reach c (k + 1) gs ≤ 0 = rw (t, w) at enough in omega arith)
+draws_here reach c k g gs (r ∷ left) t w enough = record {
+  number = r;
+  drawn = rw (t, w, add-zero) (inl refl);
+  moved = rw t refl;
+}
+
+has_drawn_one : (b : Bool) (k : ℕ) (left : List ℕ) (more : List (ℕ × ℕ)) (x : ℕ × ℕ) → Has more x → Has (drawn_one b k left more) x
+has_drawn_one false k left more x h = h
+has_drawn_one true k [] more x h = h
+has_drawn_one true k (r ∷ left) more x h = inr h
+
+enough_left : (b : Bool) (n : ℕ) (left : List ℕ) → (if b then 1 else 0) + n ≤ length left → n ≤ length (left_after b left)
+enough_left false n left h = omega arith
+enough_left true n [] h = omega arith
+enough_left true n (r ∷ left) h = omega arith
+
+draws_from : (reach : Reach) (c : Command) (k : ℕ) (gs : List ControlGear) (left : List ℕ) (i : ℕ) → i < length gs → draws_needed reach c k gs ≤ length left
+    → takes reach (k + i) (get_or gs i fresh) ≡ true → would_draw c (get_or gs i fresh) ≡ true → DrawsNumber reach c k gs left i
+draws_from reach c k [] left i h enough t w = absurd (omega arith)
+draws_from reach c k (g ∷ gs) left zero h enough t w = draws_here reach c k g gs left (rw add-zero at t) w enough
+draws_from reach c k (g ∷ gs) left (suc i) h enough t w =
+    let b : Bool = takes reach k g && would_draw c g in
+    let same : k + suc i ≡ k + 1 + i = omega arith in
+    let fewer : draws_needed reach c (k + 1) gs ≤ length (left_after (takes reach k g && would_draw c g) left) = enough_left (takes reach k g && would_draw c g) (draws_needed reach c (k + 1) gs) left enough in
+    let d = draws_from reach c (k + 1) gs (left_after (takes reach k g && would_draw c g) left) i (omega arith) fewer (subst (λ n. takes reach n (get_or gs i fresh) ≡ true) same t) w in
+    record {
+      number = d.number;
+      drawn = has_drawn_one (takes reach k g && would_draw c g) k left (drawn_of reach c (k + 1) gs (left_after (takes reach k g && would_draw c g) left)) (k + suc i, d.number)
+          (subst (λ n. Has (drawn_of reach c (k + 1) gs (left_after (takes reach k g && would_draw c g) left)) (n, d.number)) (sym same) d.drawn);
+      moved = d.moved;
+    }
+
+pub draws_at : (reach : Reach) (c : Command) (gs : List ControlGear) (left : List ℕ) (i : ℕ) → i < length gs → draws_needed reach c 0 gs ≤ length left
+    → takes reach i (get_or gs i fresh) ≡ true → would_draw c (get_or gs i fresh) ≡ true
+    → (r : ℕ) × Has (drawn_of reach c 0 gs left) (i, r) × (get_or (row_after reach c 0 gs left) i fresh ≡ taken c r (get_or gs i fresh))
+draws_at reach c gs left i h enough t w =
+    let d = draws_from reach c 0 gs left i h enough (subst (λ n. takes reach n (get_or gs i fresh) ≡ true) (sym (zero-add i)) t) w in
+    (d.number, subst (λ n. Has (drawn_of reach c 0 gs left) (n, d.number)) (zero-add i) d.drawn, d.moved)
+
+-- WHAT AN OPENING SAYS of each powered gear without short address
+abbrev pub Opens : Stage → ControlGear → Type 0
+Opens stage.Terminated g = g.half ≡ None
+Opens stage.InitialisedOnce g = g.half ≡ Some (Initialise Unaddressed)
+Opens stage.Initialised g = (g.half ≡ None) × (g.state ≡ Enabled)
+Opens stage.RandomisedOnce g = (g.half ≡ Some Randomise) × (g.state ≡ Enabled)
+Opens _ g = Unit {0}
+
+opens_queried : (r : SearchAddress) (h : Answer) (g : ControlGear) → Opens (queried r h) g
+opens_queried r Silence g = tt
+opens_queried r Damaged g = tt
+opens_queried r (Byte v) g = go (short_of v) (v == MASK) where
+  go : (o : Option ℕ) (m : Bool) → Opens (named r o m) g
+  go (Some b) m = tt
+  go None true = tt
+  go None false = tt
+
+opens_verified : (r : SearchAddress) (a : ℕ) (h : Answer) (g : ControlGear) → Opens (verified r a h) g
+opens_verified r a Silence g = tt
+opens_verified r a Damaged g = tt
+opens_verified r a (Byte v) g = go (short_of v) where
+  go : (o : Option ℕ) → Opens (answered r a o) g
+  go None = tt
+  go (Some b) = same (b == a) where
+    same : (m : Bool) → Opens (if m then stage.Confirmed r a else stage.Inconclusive r (Some b)) g
+    same true = tt
+    same false = tt
+
+-- the second INITIALISE enables it
+enables : (g : ControlGear) → g.half ≡ Some (Initialise Unaddressed) → g.short ≡ None → (half_after (Initialise Unaddressed) g ≡ None) × (state_after (Initialise Unaddressed) g ≡ Enabled)
+enables g half none = rw (half, none) (refl, refl)
+
+remembers_initialise : (g : ControlGear) → g.half ≡ None → half_after (Initialise Unaddressed) g ≡ Some (Initialise Unaddressed)
+remembers_initialise g half = rw half refl
+
+remembers_randomise : (g : ControlGear) → g.half ≡ None → half_after Randomise g ≡ Some Randomise
+remembers_randomise g half = rw half refl
+
+pub opens_step : (b : Block) (xs : List Assignment) (s : Stage) (c : Command) (h : Answer) (g : ControlGear) (x : ℕ)
+    → Follows b xs s c → (g.short ≡ None → Opens s g) → short_after c g ≡ None → Opens (next_stage s c h) (taken c x g)
+opens_step b xs _ _ h g x begins_opening k none = refl
+opens_step b xs _ _ h g x (begins_search high) k none = tt
+opens_step b xs _ _ h g x (begins_arc f) k none = tt
+opens_step b xs _ _ h g x initialises_once k none = remembers_initialise g (k none)
+opens_step b xs _ _ h g x initialises k none = enables g (k none) none
+opens_step b xs _ _ h g x randomises_once k none = (remembers_randomise g (k none).0, (k none).1)
+opens_step b xs _ _ h g x randomises k none = tt
+opens_step b xs _ _ h g x (sets_middle high middle) k none = tt
+opens_step b xs _ _ h g x (sets_low high middle low) k none = tt
+opens_step b xs _ _ h g x (compares r) k none = tt
+opens_step b xs _ _ h g x (queries_number r) k none = opens_queried r h (taken QueryShort x g)
+opens_step b xs _ _ h g x (withdraws_found r a) k none = tt
+opens_step b xs _ _ h g x (programs r a may) k none = tt
+opens_step b xs _ _ h g x (queries_given r a may) k none = opens_verified r a h (taken QueryShort x g)
+opens_step b xs _ _ h g x (withdraws_given r a may) k none = tt
+
+-- READY: a gear without short address that was opened to a search takes part in it, and has drawn a number
+abbrev pub Ready : ControlGear → Type 0
+Ready g = g.short ≡ None → (g.state ≡ Enabled) × (g.random < gear.MASK)
+
+pub draws_ready : (g : ControlGear) → (g.half ≡ Some Randomise) × (g.state ≡ Enabled) → would_draw Randomise g ≡ true
+draws_ready g k = rw (k.0, k.1) refl
+
+pub drawn_ready : (g : ControlGear) (r : ℕ) → (g.half ≡ Some Randomise) × (g.state ≡ Enabled) → r < gear.MASK → Ready (taken Randomise r g)
+drawn_ready g r k below = λ none. (k.1, rw (draws_ready g k) below)
+
+-- a frame that is no TERMINATE leaves it ready
+randomised_ready : (g : ControlGear) (r : ℕ) → (would_draw Randomise g ≡ true → (r ≡ g.random) ⊎ (r < gear.MASK)) → Ready g → Ready (taken Randomise r g)
+randomised_ready g r drew k = λ none. ((k none).0, go (would_draw Randomise g) refl (k none).1) where
+  go : (b : Bool) → would_draw Randomise g ≡ b → g.random < gear.MASK → (if b then r else g.random) < gear.MASK
+  go false e below = below
+  go true e below = from (drew e) where
+    from : (r ≡ g.random) ⊎ (r < gear.MASK) → r < gear.MASK
+    from (inl same) = subst (λ n. n < gear.MASK) (sym same) below
+    from (inr h) = h
+
+initialised_ready : (g : ControlGear) → Ready g → g.short ≡ None → state_after (Initialise Unaddressed) g ≡ Enabled
+initialised_ready g k none = go (is_second (Initialise Unaddressed) g.half && concerns Unaddressed g.short) where
+  go : (b : Bool) → (if b then Enabled else g.state) ≡ Enabled
+  go true = refl
+  go false = (k none).0
+
+-- only gear with a short address withdraw
+withdrawn_ready : (g : ControlGear) (r : SearchAddress) (a : ℕ) → (IsActive g → (g.search ≡ r) × (g.random ≡ value_of r → g.short ≡ Some a)) → Ready g → g.short ≡ None → state_after Withdraw g ≡ Enabled
+withdrawn_ready g r a knows k none = go (is_enabled g.state && is_found g) refl where
+  active : is_active g.state ≡ true
+  active = rw (k none).0 refl
+
+  second : (t f : Bool) → (t && f) ≡ true → f ≡ true
+  second true f e = e
+  second false f e = absurd (cc)
+
+  go : (b : Bool) → (is_enabled g.state && is_found g) ≡ b → (if b then Withdrawn else g.state) ≡ Enabled
+  go false e = (k none).0
+  go true e =
+      let found : is_found g ≡ true = second (is_enabled g.state) (is_found g) e in
+      let short : g.short ≡ Some a = (knows active).1 (found_random g r (knows active).0 found) in
+      absurd (cc)
+
+programmed_ready : (g : ControlGear) (a : ℕ) → Ready g → short_after (Program (Some a)) g ≡ None → (g.state ≡ Enabled) × (g.random < gear.MASK)
+programmed_ready g a k none = go (is_active g.state && is_found g) none where
+  go : (b : Bool) → (if b then Some a else g.short) ≡ None → (g.state ≡ Enabled) × (g.random < gear.MASK)
+  go true e = absurd (cc)
+  go false e = k e
+
+pub ready_step : (b : Block) (xs : List Assignment) (s : Stage) (c : Command) (g : ControlGear) (r : ℕ)
+    → Follows b xs s c → (c ≡ Terminate → ⊥) → (would_draw c g ≡ true → (r ≡ g.random) ⊎ (r < gear.MASK)) → Knows s g → Ready g → Ready (taken c r g)
+ready_step b xs _ _ g r begins_opening calm drew knows k = absurd (calm refl)
+ready_step b xs _ _ g r initialises_once calm drew knows k = λ none. (initialised_ready g k none, (k none).1)
+ready_step b xs _ _ g r initialises calm drew knows k = λ none. (initialised_ready g k none, (k none).1)
+ready_step b xs _ _ g r randomises_once calm drew knows k = randomised_ready g r drew k
+ready_step b xs _ _ g r randomises calm drew knows k = randomised_ready g r drew k
+ready_step b xs _ _ g r (withdraws_found n a) calm drew knows k = λ none. (withdrawn_ready g n a knows k none, (k none).1)
+ready_step b xs _ _ g r (programs n a may) calm drew knows k = programmed_ready g a k
+ready_step b xs _ _ g r (withdraws_given n a may) calm drew knows k = λ none. (withdrawn_ready g n a knows k none, (k none).1)
+ready_step b xs _ _ g r _ calm drew knows k = k
