@@ -19,7 +19,6 @@ use Rattle.dali_controller.specs.declared.orders.Order.{Order}
 use Rattle.dali_controller.specs.declared.orders.Order.TheVariants.{Put, Commit, Done, Halt}
 use Rattle.dali_controller.specs.declared.orders.End.{End}
 use Rattle.dali_controller.specs.declared.orders.End.TheVariants.{AllFound, BlockFull, GaveUp}
-use Rattle.dali_controller.specs.declared.orders.Fault.{Fault}
 use Rattle.dali_controller.specs.declared.orders.Fault.TheVariants as fault
 use Rattle.dali_controller.specs.Progress.{Progress, told}
 

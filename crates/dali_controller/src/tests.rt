@@ -125,7 +125,7 @@ impl Site {
 
     fn told(&mut self, input: Input) -> Result<Order, Fail> {
         self.order = Some(self.machine.step(input)?);
-        self.order.ok_or(Fail::from("an order"))
+        Ok(self.order.ok_or("an order")?)
     }
 
     /// Takes each input in turn; the first whose order is not to put the frame beside it, if there is one.
@@ -153,10 +153,12 @@ impl Site {
 
     /// Does what is ordered until this is ordered.
     fn until(&mut self, wanted: Order) -> Result<(), Fail> {
+        let mut order = self.goes_on()?;
         for _ in 0..1000 {
-            if self.goes_on()? == wanted {
+            if order == wanted {
                 return Ok(());
             }
+            order = self.goes_on()?;
         }
         Err(Fail::from("it is not ordered"))
     }
