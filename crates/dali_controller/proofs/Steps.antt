@@ -1,15 +1,13 @@
 use Rattle.std.proofs.Common.{map, take, lit<, length, get_or, ◌≡◌, ◌⊎◌, inl, inr, ℕ, ◌+◌, ◌<◌, ◌≤◌, Bool, true, false, List, [], ◌∷◌, ◌++◌, refl, sym, ap, subst, ◌∙◌, arith, Option, Some, None}
 use Rattle.std.specs.Prelude.{◌==◌, zero, suc, if◌then◌else◌, unwrap_or}
-use Rattle.std.proofs.lemmas.Bool.Decides.{nat_tests}
 use Rattle.dali_frame.specs.declared.frames.Forward.{Forward}
 use Rattle.dali_frame.specs.declared.frames.Answer.{Answer}
 use Rattle.dali_frame.specs.declared.frames.Answer.TheVariants.{Silence, Byte, Damaged}
 use Rattle.dali_frame.specs.declared.numbers.SearchAddress.{SearchAddress}
 use Rattle.dali_frame.specs.Short.{short_of}
 use Rattle.dali_frame.specs.Random.{value_of}
-use Rattle.dali_special.specs.declared.command.Target.TheVariants.{Unaddressed}
 use Rattle.dali_special.specs.declared.command.Command.{Command}
-use Rattle.dali_special.specs.declared.command.Command.TheVariants.{Terminate, Initialise, Randomise, Compare, Withdraw, SearchHigh, SearchMiddle, SearchLow, Program, QueryShort}
+use Rattle.dali_special.specs.declared.command.Command.TheVariants.{Terminate, Program, Arc}
 use Rattle.dali_special.specs.Command.{MASK, command_of, frame_of, IsSpelled}
 use Rattle.dali_special.proofs.Table.{read_written}
 use Rattle.dali_script.specs.declared.block.Block.{Block}
@@ -17,9 +15,9 @@ use Rattle.dali_script.specs.declared.trace.Entry.{Entry}
 use Rattle.dali_script.specs.declared.records.Record.{Record}
 use Rattle.dali_script.specs.declared.records.Record.TheVariants.{Reserve, Enrol}
 use Rattle.dali_script.specs.declared.stage.Stage.{Stage}
-use Rattle.dali_script.specs.declared.stage.Stage.TheVariants.{Free, Terminated, InitialisedOnce, Initialised, RandomisedOnce, Opened, HighSent, MiddleSent, NumberSent, Probed, Found, Unnamed, Inconclusive, Programmed, Confirmed, Withdrawn, Over}
-use Rattle.dali_script.specs.Records.{IsKept, IsOnce, with_record, HasAddress, Records, Assignment, Has, HasNumber, IsFull, Fits, IsFresh, MASK24}
-use Rattle.dali_script.specs.Scripts.{MayGive, Lawful, IsLawful}
+use Rattle.dali_script.specs.declared.stage.Stage.TheVariants.{Free, Terminated, InitialisedOnce, Initialised, RandomisedOnce, Opened, HighSent, MiddleSent, NumberSent, Found, Unnamed, Inconclusive, Programmed, Confirmed, Withdrawn}
+use Rattle.dali_script.specs.Records.{IsKept, IsOnce, with_record, HasAddress, Records, Assignment, Has, HasNumber, Fits, IsFresh, MASK24}
+use Rattle.dali_script.specs.Scripts.{MayGive, Lawful}
 use Rattle.dali_script.specs.Findings.{later, finding_of}
 use Rattle.dali_script.specs.Stages.{finding_at, stage_of, next_stage, queried, named, verified, answered, Follows, begins_opening, begins_search, initialises_once, initialises, randomises_once, randomises, sets_middle, sets_low, compares, queries_number, withdraws_found, programs, queries_given, withdraws_given}
 use Rattle.dali_script.proofs.Transactions.{lawful_follows, stage_none, stage_more, finding_after}
@@ -31,13 +29,13 @@ use Rattle.dali_controller.specs.declared.orders.Order.{Order}
 use Rattle.dali_controller.specs.declared.orders.Order.TheVariants.{Put, Commit, Done, Halt}
 use Rattle.dali_controller.specs.declared.orders.End.{End}
 use Rattle.dali_controller.specs.declared.orders.Fault.TheVariants as fault
-use Rattle.dali_controller.specs.declared.orders.End.TheVariants.{AllFound, BlockFull, GaveUp}
+use Rattle.dali_controller.specs.declared.orders.End.TheVariants.{GaveUp}
 use Rattle.dali_controller.specs.declared.purpose.Purpose.{Purpose}
 use Rattle.dali_controller.specs.declared.purpose.Purpose.TheVariants.{Opening, Probing, Visiting, Closing}
 use Rattle.dali_controller.specs.declared.work.Work.{Work}
-use Rattle.dali_controller.specs.Progress.{lost, Progress, roster_of, frame_put, record_ordered, opened_after, silent_after, tries_after}
-use Rattle.dali_controller.specs.Orders.{Contradicts, FIRST, LATER, closing_by, Cause, IsBegun, IsCaused, AfterMask, AfterFinding, IsOrdered, ordered, end_at}
-use Rattle.dali_controller.specs.Moments.{FoundAt, IsBetween, Closes, closing_of, seen, first_of, asks, IsSearching, Sends, Arrived, Knows, KnowsAt, IsCalm, CalmAt, IsReady, IsSending, IsStoring, Pending, IsFine, IsHeard, IsTurn, Turns, Begins, IsNext}
+use Rattle.dali_controller.specs.Progress.{lost, Progress, roster_of, frame_put, opened_after, silent_after, tries_after}
+use Rattle.dali_controller.specs.Orders.{Contradicts, FIRST, LATER, closing_by, Cause, IsBegun, AfterMask, IsOrdered, ordered, end_at}
+use Rattle.dali_controller.specs.Moments.{FoundAt, IsBetween, Closes, closing_of, seen, first_of, asks, IsSearching, Sends, Arrived, Knows, KnowsAt, IsCalm, CalmAt, IsReady, IsSending, Pending, IsFine, IsHeard, Turns, Begins, IsNext}
 
 -- THE COMMANDS OF A TRANSACTION. A first command may begin one.
 first_follows : (b : Block) (xs : List Assignment) (p : Purpose) (n : SearchAddress) (c : Command) → c ≡ first_of p n → Follows b xs Free c
@@ -95,6 +93,34 @@ sends_spelled k n p (Unnamed r) c e = subst IsSpelled (sym e.2.3) e.2.1
 sends_spelled k n p (Programmed r a) c e = subst IsSpelled (sym e.3) tt
 sends_spelled k n p (Confirmed r a) c e = subst IsSpelled (sym e.3) tt
 sends_spelled k n p _ c e = absurd e
+
+-- and is no direct arc power
+first_no_arc : (p : Purpose) (n : SearchAddress) (g : Forward) → first_of p n ≡ Arc g → ⊥
+first_no_arc Opening n g is = cc
+first_no_arc (Closing e) n g is = cc
+first_no_arc Probing n g is = cc
+first_no_arc Visiting n g is = cc
+
+asks_no_arc : (p : Purpose) (g : Forward) → asks p ≡ Arc g → ⊥
+asks_no_arc Opening g is = cc
+asks_no_arc (Closing e) g is = cc
+asks_no_arc Probing g is = cc
+asks_no_arc Visiting g is = cc
+
+sends_no_arc : (k : Records) (n : SearchAddress) (p : Purpose) (s : Stage) (c : Command) (g : Forward) → Sends k n p s c → c ≡ Arc g → ⊥
+sends_no_arc k n p Free c g e is = first_no_arc p n g (sym e ∙ is)
+sends_no_arc k n p Terminated c g e is = let x = e.1 in cc
+sends_no_arc k n p InitialisedOnce c g e is = let x = e.1 in cc
+sends_no_arc k n p Initialised c g e is = let x = e.1 in cc
+sends_no_arc k n p RandomisedOnce c g e is = let x = e.1 in cc
+sends_no_arc k n p (HighSent high) c g e is = let x = e.2 in cc
+sends_no_arc k n p (MiddleSent high middle) c g e is = let x = e.3 in cc
+sends_no_arc k n p (NumberSent r) c g e is = asks_no_arc p g (sym e.2 ∙ is)
+sends_no_arc k n p (Found r b) c g e is = let x = e.2 in cc
+sends_no_arc k n p (Unnamed r) c g e is = let x = e.2.3 in cc
+sends_no_arc k n p (Programmed r a) c g e is = let x = e.3 in cc
+sends_no_arc k n p (Confirmed r a) c g e is = let x = e.3 in cc
+sends_no_arc k n p _ c g e is = absurd e
 
 -- WHERE IT LEADS TO.
 arrives_first : (k : Records) (n : SearchAddress) (p : Purpose) (h : Answer) → Arrived k n p (next_stage Free (first_of p n) h)
@@ -255,8 +281,12 @@ put_next_at w s c h e later =
     subst (λ x. Sends w.kept w.number w.purpose x (command_of (frame_of c))) (sym h.stage) (subst (λ d. Sends w.kept w.number w.purpose s d) (sym spelled) e) in
     record {
       order = record {
-        allowed = inr (refl, not_empty w.trace s h.stage later,
-          lawful_follows w.kept.block w.kept.reserved w.trace (frame_of c) (sends_follow w.kept w.number w.purpose (stage_of w.trace) (command_of (frame_of c)) sends));
+        allowed = inr (
+          refl,
+          not_empty w.trace s h.stage later,
+          lawful_follows w.kept.block w.kept.reserved w.trace (frame_of c) (sends_follow w.kept w.number w.purpose (stage_of w.trace) (command_of (frame_of c)) sends),
+        );
+        addressing = λ g is. sends_no_arc w.kept w.number w.purpose s c g e (sym spelled ∙ is);
         caused = (begun_none (seen w) (closing_of w.purpose) going going, inl going);
         given_up = λ n. absurd (omega arith);
         silent = λ n. absurd (omega arith);
@@ -319,6 +349,7 @@ begin_next_at w p n b =
     record {
       order = record {
         allowed = inl (refl, first_lawful w.kept.block w.kept.reserved p n);
+        addressing = λ g is. first_no_arc p n g (sym (read_written (first_of p n) (first_spelled p n)) ∙ is);
         caused = (
           subst (IsBegun (seen w)) (sym closed) (begun w p b.turns),
           subst (λ o. (o ≡ None) ⊎ ((FIRST ≡ FIRST) × (frame_of (first_of p n) ≡ frame_of Terminate))) (sym closed) (terminates p n),
@@ -401,7 +432,7 @@ hear_heard w noted f h t s complete o n i fine put trace is stage tries silent o
     let arrived : Arrived w.kept w.number w.purpose (stage_of noted.trace) = subst (Arrived w.kept w.number w.purpose) (sym there) (sends_arrive w.kept w.number w.purpose (stage_of w.trace) (command_of f) h sent.sends) in
     let finding : noted.finding ≡ later w.finding (finding_at (stage_of noted.trace)) =
     ap (λ (x : Work). x.finding) is ∙ ap (λ u. later w.finding (finding_of u)) trace ∙ ap (later w.finding) (finding_after w.kept.block w.kept.reserved w.trace (record { frame = f; heard = h }) (sending_lawful w f sent))
-        ∙ ap (λ u. later w.finding (finding_at (stage_of u))) (sym (same_trace ∙ trace)) in
+    ∙ ap (λ u. later w.finding (finding_at (stage_of u))) (sym (same_trace ∙ trace)) in
     rw stage (from arrived sent.ready finding)
   where
     from : Arrived w.kept w.number w.purpose (stage_of noted.trace) → IsReady w → noted.finding ≡ later w.finding (finding_at (stage_of noted.trace)) → IsHeard (record noted { tries = n; silent = i; opened = o }) (stage_of noted.trace)
@@ -489,6 +520,7 @@ lost_ended_at w ready is =
     let free : stage_of [] ≡ Free = stage_none in
     record {
       allowed = tt;
+      addressing = tt;
       caused = inl (refl, is);
       given_up = λ e. refl;
       silent = λ e. silent_closes w.purpose w.silent ready.calm e;
@@ -543,6 +575,7 @@ halted_at w r b h conflict =
     let stage : stage_of w.trace ≡ Withdrawn r b = h.stage in
     record {
       allowed = tt;
+      addressing = tt;
       caused = (b, value_of r, h.finding, conflict);
       given_up = λ e. absurd (omega arith);
       silent = λ e. absurd (omega arith);
@@ -579,6 +612,7 @@ enrols_at w r b h none fresh =
     let visiting : Knows w.kept w.number w.search w.opened Visiting = subst (Knows w.kept w.number w.search w.opened) h.arrived.0 h.knows in
     record {
       allowed = record { fits = subst (λ n. value_of n < MASK24) (sym h.arrived.1) visiting.0; fresh = (none, fresh); warranted = h.finding };
+      addressing = tt;
       caused = ap closing_of h.arrived.0;
       given_up = λ e. absurd (omega arith);
       silent = λ e. absurd (omega arith);

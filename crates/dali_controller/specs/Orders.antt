@@ -3,8 +3,8 @@ use Rattle.dali_frame.specs.declared.frames.Forward.{Forward}
 use Rattle.dali_frame.specs.declared.frames.Answer.TheVariants.{Silence}
 use Rattle.dali_frame.specs.declared.numbers.SearchAddress.{SearchAddress}
 use Rattle.dali_frame.specs.Random.{value_of}
-use Rattle.dali_special.specs.declared.command.Command.TheVariants.{Terminate, Program}
-use Rattle.dali_special.specs.Command.{frame_of}
+use Rattle.dali_special.specs.declared.command.Command.TheVariants.{Terminate, Program, Arc}
+use Rattle.dali_special.specs.Command.{command_of, frame_of}
 use Rattle.dali_script.specs.declared.records.Record.{Record}
 use Rattle.dali_script.specs.declared.records.Record.TheVariants.{Reserve, Enrol}
 use Rattle.dali_script.specs.declared.trace.Entry.{Entry}
@@ -19,7 +19,6 @@ use Rattle.dali_controller.specs.declared.orders.Order.{Order}
 use Rattle.dali_controller.specs.declared.orders.Order.TheVariants.{Put, Commit, Done, Halt}
 use Rattle.dali_controller.specs.declared.orders.End.{End}
 use Rattle.dali_controller.specs.declared.orders.End.TheVariants.{AllFound, BlockFull, GaveUp}
-use Rattle.dali_controller.specs.declared.orders.Fault.{Fault}
 use Rattle.dali_controller.specs.declared.orders.Fault.TheVariants as fault
 use Rattle.dali_controller.specs.Progress.{Progress, told}
 
@@ -80,6 +79,11 @@ pub record MayCommit (t : Progress) (x : Record) : Type 0 where
   pub fresh : IsFresh t.kept x
   pub warranted : IsWarranted t x
 
+-- a frame that is put is an addressing command, and no direct arc power
+abbrev pub IsAddressing : Order → Type 0
+IsAddressing (Put p f) = (g : Forward) → command_of f ≡ Arc g → ⊥
+IsAddressing _ = Unit {0}
+
 abbrev pub IsAllowed : Progress → Order → Type 0
 IsAllowed t (Put p f) = MayPut t p f
 IsAllowed t (Commit x) = MayCommit t x
@@ -133,6 +137,7 @@ AfterFinding t r b (Halt w) = Contradicts t.kept.enrolled b (value_of r)
 -- THE ORDERS of a machine that was told an input.
 pub record IsOrdered (t : Progress) (o : Order) : Type 0 where
   pub allowed : IsAllowed t o
+  pub addressing : IsAddressing o
   pub caused : IsCaused t o
   pub given_up : t.tries ≡ 8 → o ≡ Done GaveUp
   pub silent : t.silent ≡ 16 → closing_by t o ≡ Some GaveUp

@@ -15,3 +15,6 @@ mod work;
 pub use error::{MachineError, StepError};
 pub use machine::Machine;
 pub use orders::{Due, End, Fault, Input, Order};
+
+#[cfg(test)]
+mod tests;

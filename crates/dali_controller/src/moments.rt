@@ -153,7 +153,10 @@ impl Work {
         match stage {
             Stage::Terminated => self.terminated(),
             Stage::InitialisedOnce => {
-                self.put(Stage::InitialisedOnce, Command::Initialise(Target::Unaddressed))
+                self.put(
+                    Stage::InitialisedOnce,
+                    Command::Initialise(Target::Unaddressed),
+                )
             }
             Stage::Initialised => self.put(Stage::Initialised, Command::Randomise),
             Stage::RandomisedOnce => self.put(Stage::RandomisedOnce, Command::Randomise),

@@ -1,0 +1,51 @@
+use Rattle.std.proofs.Common.{◌≡◌, true, false, Some, None, refl}
+use Rattle.dali_frame.specs.declared.frames.Answer.TheVariants.{Silence}
+use Rattle.dali_frame.specs.declared.numbers.SearchAddress.{SearchAddress}
+use Rattle.dali_special.specs.Command.{frame}
+use Rattle.dali_script.specs.declared.stage.Stage.TheVariants.{Probed, Inconclusive, Withdrawn}
+use Rattle.dali_script.specs.Records.{Records}
+use Rattle.dali_script.specs.Stages.{stage_of}
+use Rattle.dali_controller.specs.declared.orders.Input.{Input}
+use Rattle.dali_controller.specs.declared.orders.Input.TheVariants as input
+use Rattle.dali_controller.specs.declared.orders.Order.TheVariants.{Put, Done}
+use Rattle.dali_controller.specs.declared.orders.End.{End}
+use Rattle.dali_controller.specs.declared.orders.End.TheVariants.{AllFound}
+use Rattle.dali_controller.specs.Progress.{Progress, at_first, due_after, accepts, lost, silent_after}
+use Rattle.dali_controller.specs.Orders.{closing_by}
+
+-- WORKED EXAMPLES of the definitions.
+
+-- TERMINATE before an opening was complete begins the opening, and no close
+opening_is_no_close : (k : Records) → closing_by (at_first 0 k) (Put 3 (frame 0xA1 0)) ≡ None
+opening_is_no_close k = refl
+
+-- after a probe that was heard as silence it begins a close with all-found
+close_after_a_silent_probe : (t : Progress) (r : SearchAddress) → t.opened ≡ true → t.closing ≡ None → stage_of t.trace ≡ Probed r Silence → closing_by t (Put 3 (frame 0xA1 0)) ≡ Some AllFound
+close_after_a_silent_probe t r opened none stage = rw (opened, none, stage) refl
+
+-- a close that was lost is begun again with its end
+close_again : (t : Progress) (e : End) → t.opened ≡ true → t.closing ≡ Some e → closing_by t (Put 3 (frame 0xA1 0)) ≡ Some e
+close_again t e opened is = rw (opened, is) refl
+
+-- a visit that led to no gear counts only after the opening, and one that led to gear ends the row
+early_visits_do_not_count : (r : SearchAddress) → silent_after (Inconclusive r None) false 3 ≡ 3
+early_visits_do_not_count r = refl
+
+later_visits_count : (r : SearchAddress) → silent_after (Inconclusive r None) true 3 ≡ 4
+later_visits_count r = refl
+
+gear_end_the_row : (r : SearchAddress) → silent_after (Withdrawn r 5) true 3 ≡ 0
+gear_end_the_row r = refl
+
+-- a lost frame is a try
+a_lost_frame_is_a_try : (k : Records) → (lost (at_first 0 k)).tries ≡ 1
+a_lost_frame_is_a_try k = refl
+
+-- after an end nothing is due
+nothing_after_an_end : (e : End) (i : Input) → accepts (due_after (Some (Done e))) i ≡ false
+nothing_after_an_end e input.Start = refl
+nothing_after_an_end e (input.Heard h) = refl
+nothing_after_an_end e input.Destroyed = refl
+nothing_after_an_end e input.Lapsed = refl
+nothing_after_an_end e input.Committed = refl
+nothing_after_an_end e input.CommitFailed = refl
