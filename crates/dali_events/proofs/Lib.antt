@@ -20,3 +20,4 @@ pub mod Commissioned
 pub mod Keeping
 pub mod Premises
 pub mod OpeningAlone
+pub mod LapseForgotten
