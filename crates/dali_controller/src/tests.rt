@@ -7,20 +7,7 @@ use std::test::Fail;
 
 const SILENCE: Input = Input::Heard(Answer::Silence);
 
-const DAMAGED: Input = Input::Heard(Answer::Damaged);
-
 const MASK: Input = Input::Heard(Answer::Byte(0xFF));
-
-/// An input, and the frame that is put then: its priority and its four digits.
-type Row = (Input, u8, u16);
-
-/// The visit to the gear `123456`, for which short address 0 is reserved, up to the first QUERY SHORT ADDRESS.
-const VISIT: [Row; 4] = [
-    (Input::Start, 3, 0xB112),
-    (SILENCE, 1, 0xB334),
-    (SILENCE, 1, 0xB556),
-    (SILENCE, 1, 0xBB00),
-];
 
 fn short(number: u8) -> Result<Short, Fail> {
     Ok(Short::of(number).ok_or("a short address")?)
@@ -28,6 +15,13 @@ fn short(number: u8) -> Result<Short, Fail> {
 
 fn random(number: u32) -> Result<Random24, Fail> {
     Ok(Random24::of(number).ok_or("a random address")?)
+}
+
+fn block(first: u8, last: u8) -> Result<Block, Fail> {
+    Ok(Block {
+        first: short(first)?,
+        last: short(last)?,
+    })
 }
 
 fn reserve(address: u8, number: u32) -> Result<Record, Fail> {
@@ -38,15 +32,57 @@ fn enrol(address: u8, number: u32) -> Result<Record, Fail> {
     Ok(Record::Enrol(short(address)?, random(number)?))
 }
 
-fn put(priority: u8, digits: u16) -> Result<Order, Fail> {
-    let frame = Forward {
-        address_byte: (digits / 256) as u8,
-        opcode_byte: (digits % 256) as u8,
-    };
-    Ok(Order::Put(Priority::of(priority).ok_or("a priority")?, frame))
+/// Records of block 0 to 3.
+fn kept(alloc: Global, records: &[Record]) -> Result<Kept, Fail> {
+    let mut kept = Kept::new(alloc, block(0, 3)?)?;
+    for added in records {
+        if !kept.fits(added) {
+            return Err(Fail::from("a record that does not fit"));
+        }
+        kept.add(*added)?;
+    }
+    Ok(kept)
 }
 
-/// One gear with a random address.
+fn machine(alloc: Global, records: &[Record]) -> Result<Machine, Fail> {
+    let kept = kept(alloc, records)?;
+    let block = kept.block();
+    Ok(Machine::new(alloc, 0, block, &kept)?)
+}
+
+/// The first frame of a transaction.
+fn first(address_byte: u8, opcode_byte: u8) -> Order {
+    let frame = Forward {
+        address_byte,
+        opcode_byte,
+    };
+    Order::Put(Priority::of(3).unwrap(), frame)
+}
+
+/// A later frame of a transaction.
+fn later(address_byte: u8, opcode_byte: u8) -> Order {
+    let frame = Forward {
+        address_byte,
+        opcode_byte,
+    };
+    Order::Put(Priority::of(1).unwrap(), frame)
+}
+
+fn heard(byte: u8) -> Input {
+    Input::Heard(Answer::Byte(byte))
+}
+
+/// Takes each input in turn; the first whose order is not the one beside it, if there is one.
+fn odd_step(machine: &mut Machine, steps: &[(Input, Order)]) -> Result<Option<usize>, Fail> {
+    for (i, step) in steps.iter().enumerate() {
+        if machine.step(step.0)? != step.1 {
+            return Ok(Some(i));
+        }
+    }
+    Ok(None)
+}
+
+/// One gear with a random address, alone on the bus.
 #[derive(Drop)]
 struct Gear {
     random: Random24,
@@ -56,284 +92,364 @@ struct Gear {
 }
 
 impl Gear {
+    fn unaddressed(number: u32) -> Result<Gear, Fail> {
+        Ok(Gear {
+            random: random(number)?,
+            search: [0xFF; 3],
+            short: None,
+            enabled: false,
+        })
+    }
+
+    fn searched(&self) -> Random24 {
+        Random24::from_bytes(self.search[0], self.search[1], self.search[2])
+    }
+
     fn takes(&mut self, frame: Forward) -> Answer {
-        let searched = Random24::from_bytes(self.search[0], self.search[1], self.search[2]);
-        let here = self.random == searched;
+        let here = self.random == self.searched();
         match Command::read(frame) {
             Command::Terminate => self.enabled = false,
             Command::Initialise(_) => self.enabled = self.short.is_none(),
             Command::SearchHigh(byte) => self.search[0] = byte,
             Command::SearchMiddle(byte) => self.search[1] = byte,
             Command::SearchLow(byte) => self.search[2] = byte,
-            Command::Compare if self.enabled && self.random <= searched => {
+            Command::Compare if self.enabled && self.random <= self.searched() => {
                 return Answer::Byte(0xFF);
             }
             Command::Withdraw if here => self.enabled = false,
             Command::Program(short) if here => self.short = short,
-            Command::QueryShort if here => return Gear::named(self.short),
+            Command::QueryShort if here => return self.answers(),
             _ => {}
         }
         Answer::Silence
     }
 
-    fn named(short: Option<Short>) -> Answer {
-        match short {
+    fn answers(&self) -> Answer {
+        match self.short {
             Some(short) => Answer::Byte(short.code()),
             None => Answer::Byte(0xFF),
         }
     }
 }
 
-/// A machine of block 0 to 3, and the gear `123456` alone on its bus.
-#[derive(Drop)]
-struct Site {
-    machine: Machine,
-    gear: Gear,
-    order: Option<Order>,
+/// Does what was ordered, and gives the next order.
+fn done(machine: &mut Machine, gear: &mut Gear, order: Order) -> Result<Order, Fail> {
+    let input = match order {
+        Order::Put(_, frame) => Input::Heard(gear.takes(frame)),
+        Order::Commit(_) => Input::Committed,
+        Order::Done(_) | Order::Halt(_) => return Err(Fail::from("nothing is due")),
+    };
+    Ok(machine.step(input)?)
 }
 
-impl Site {
-    fn new(alloc: Global, records: &[Record]) -> Result<Site, Fail> {
-        let block = Block {
-            first: short(0)?,
-            last: short(3)?,
-        };
-        let mut kept = Kept::new(alloc, block)?;
-        for added in records {
-            if !kept.fits(added) {
-                return Err(Fail::from("a record that does not fit"));
-            }
-            kept.add(*added)?;
+/// Does what is ordered until this is ordered.
+fn until(
+    machine: &mut Machine,
+    gear: &mut Gear,
+    from: Order,
+    wanted: Order,
+) -> Result<Order, Fail> {
+    let mut order = from;
+    for _ in 0..1000 {
+        if order == wanted {
+            return Ok(order);
         }
-        let gear = Gear {
-            random: random(0x123456)?,
-            search: [0xFF; 3],
-            short: None,
-            enabled: false,
-        };
-        Site::of(alloc, &kept, gear)
+        order = done(machine, gear, order)?;
     }
-
-    fn of(alloc: Global, kept: &Kept, gear: Gear) -> Result<Site, Fail> {
-        let machine = Machine::new(alloc, 2, kept.block(), kept)?;
-        Ok(Site {
-            machine,
-            gear,
-            order: None,
-        })
-    }
-
-    fn told(&mut self, input: Input) -> Result<Order, Fail> {
-        self.order = Some(self.machine.step(input)?);
-        Ok(self.order.ok_or("an order")?)
-    }
-
-    /// Takes each input in turn; the first whose order is not to put the frame beside it, if there is one.
-    fn odd_row(&mut self, rows: &[Row]) -> Result<Option<usize>, Fail> {
-        for (i, row) in rows.iter().enumerate() {
-            if self.told(row.0)? != put(row.1, row.2)? {
-                return Ok(Some(i));
-            }
-        }
-        Ok(None)
-    }
-
-    /// Does what was ordered.
-    fn goes_on(&mut self) -> Result<Order, Fail> {
-        match self.order {
-            None => self.told(Input::Start),
-            Some(Order::Put(_, frame)) => {
-                let answer = self.gear.takes(frame);
-                self.told(Input::Heard(answer))
-            }
-            Some(Order::Commit(_)) => self.told(Input::Committed),
-            Some(_) => Err(Fail::from("nothing is due")),
-        }
-    }
-
-    /// Does what is ordered until this is ordered.
-    fn until(&mut self, wanted: Order) -> Result<(), Fail> {
-        let mut order = self.goes_on()?;
-        for _ in 0..1000 {
-            if order == wanted {
-                return Ok(());
-            }
-            order = self.goes_on()?;
-        }
-        Err(Fail::from("it is not ordered"))
-    }
-
-    /// Does what is ordered to the end: how many frames were sent, and the last order.
-    fn to_end(&mut self) -> Result<(u32, Option<Order>), Fail> {
-        let mut sent = 0u32;
-        for _ in 0..10000 {
-            match self.machine.due() {
-                Due::Nothing => return Ok((sent, self.order)),
-                Due::Bus => sent = sent.saturating_add(1),
-                Due::Start | Due::Store => {}
-            }
-            self.goes_on()?;
-        }
-        Err(Fail::from("it does not end"))
-    }
+    Err(Fail::from("it is not ordered"))
 }
 
-const ALL_FOUND: Option<Order> = Some(Order::Done(End::AllFound));
+/// Does what is ordered to the end: how many frames were sent, and the last order.
+fn to_end(machine: &mut Machine, gear: &mut Gear, from: Order) -> Result<(u32, Order), Fail> {
+    let mut order = from;
+    let mut sent = 0u32;
+    for _ in 0..10000 {
+        match machine.due() {
+            Due::Nothing => return Ok((sent, order)),
+            Due::Bus => sent = sent.saturating_add(1),
+            Due::Start | Due::Store => {}
+        }
+        order = done(machine, gear, order)?;
+    }
+    Err(Fail::from("it does not end"))
+}
 
 #[test]
 fn an_empty_bus_is_all_found(rt: HostRuntime) -> Result<(), Fail> {
-    let rows = [
-        (Input::Start, 3, 0xA100),
-        (SILENCE, 1, 0xA5FF),
-        (SILENCE, 1, 0xA5FF),
-        (SILENCE, 1, 0xA700),
-        (SILENCE, 1, 0xA700),
-        (SILENCE, 3, 0xB1FF),
-        (SILENCE, 1, 0xB3FF),
-        (SILENCE, 1, 0xB5FE),
-        (SILENCE, 1, 0xA900),
-        (SILENCE, 3, 0xA100),
+    let mut machine = machine(rt.alloc(), &[])?;
+    assert_eq!(rt; machine.id(), 0);
+    assert_eq!(rt; machine.due(), Due::Start);
+    assert_eq!(rt; machine.step(SILENCE), Err(StepError::NotDue));
+    let steps = [
+        (Input::Start, first(0xA1, 0x00)),
+        (SILENCE, later(0xA5, 0xFF)),
+        (SILENCE, later(0xA5, 0xFF)),
+        (SILENCE, later(0xA7, 0x00)),
+        (SILENCE, later(0xA7, 0x00)),
+        (SILENCE, first(0xB1, 0xFF)),
+        (SILENCE, later(0xB3, 0xFF)),
+        (SILENCE, later(0xB5, 0xFE)),
+        (SILENCE, later(0xA9, 0x00)),
+        (SILENCE, first(0xA1, 0x00)),
+        (SILENCE, Order::Done(End::AllFound)),
     ];
-    let mut site = Site::new(rt.alloc(), &[])?;
-    assert_eq!(rt; site.machine.step(SILENCE), Err(StepError::NotDue));
-    assert_eq!(rt; site.odd_row(&rows)?, None);
-    assert_eq!(rt; site.told(SILENCE)?, Order::Done(End::AllFound));
-    assert_eq!(rt; site.machine.due(), Due::Nothing);
-    for input in [Input::Start, SILENCE, Input::Lapsed, Input::CommitFailed] {
-        assert_eq!(rt; site.machine.step(input), Err(StepError::NotDue));
+    assert_eq!(rt; odd_step(&mut machine, &steps)?, None);
+    assert_eq!(rt; machine.due(), Due::Nothing);
+    for input in [
+        Input::Start,
+        SILENCE,
+        Input::Destroyed,
+        Input::Lapsed,
+        Input::Committed,
+        Input::CommitFailed,
+    ] {
+        assert_eq!(rt; machine.step(input), Err(StepError::NotDue));
     }
+    assert_eq!(rt; StepError::NotDue.number(), 1);
+    assert_eq!(rt; MachineError::NoMemory.number(), 2);
     Ok(())
 }
 
 #[test]
 fn eight_lost_frames_give_up(rt: HostRuntime) -> Result<(), Fail> {
-    let rows = [
-        (Input::Start, 3, 0xA100),
-        (Input::Destroyed, 3, 0xA100),
-        (Input::Lapsed, 3, 0xA100),
-        (Input::Destroyed, 3, 0xA100),
-        (Input::Destroyed, 3, 0xA100),
-        (Input::Lapsed, 3, 0xA100),
-        (Input::Lapsed, 3, 0xA100),
-        (Input::Destroyed, 3, 0xA100),
-    ];
-    let mut site = Site::new(rt.alloc(), &[])?;
-    assert_eq!(rt; site.odd_row(&rows)?, None);
-    assert_eq!(rt; site.told(Input::Destroyed)?, Order::Done(End::GaveUp));
+    let mut machine = machine(rt.alloc(), &[])?;
+    assert_eq!(rt; machine.step(Input::Start), Ok(first(0xA1, 0x00)));
+    for input in [
+        Input::Destroyed,
+        Input::Lapsed,
+        Input::Destroyed,
+        Input::Destroyed,
+        Input::Lapsed,
+        Input::Lapsed,
+        Input::Destroyed,
+    ] {
+        assert_eq!(rt; machine.step(input), Ok(first(0xA1, 0x00)));
+    }
+    assert_eq!(rt;
+        machine.step(Input::Destroyed),
+        Ok(Order::Done(End::GaveUp))
+    );
+    Ok(())
+}
 
-    // Seven in the opening and seven in the first probe are not eight of one transaction.
-    let mut site = Site::new(rt.alloc(), &[])?;
-    assert_eq!(rt; site.odd_row(&rows)?, None);
-    site.until(put(3, 0xB1FF)?)?;
-    assert_eq!(rt; site.odd_row(&[(Input::Lapsed, 3, 0xB1FF); 7])?, None);
-    assert_eq!(rt; site.told(Input::Lapsed)?, Order::Done(End::GaveUp));
+/// Seven lost frames in the opening and seven in the first probe are not eight of one transaction.
+#[test]
+fn tries_are_those_of_one_transaction(rt: HostRuntime) -> Result<(), Fail> {
+    let mut machine = machine(rt.alloc(), &[])?;
+    assert_eq!(rt; machine.step(Input::Start), Ok(first(0xA1, 0x00)));
+    for _ in 0..7 {
+        assert_eq!(rt; machine.step(Input::Destroyed), Ok(first(0xA1, 0x00)));
+    }
+    for _ in 0..4 {
+        let _ = machine.step(SILENCE)?;
+    }
+    assert_eq!(rt; machine.step(SILENCE), Ok(first(0xB1, 0xFF)));
+    for _ in 0..7 {
+        assert_eq!(rt; machine.step(Input::Lapsed), Ok(first(0xB1, 0xFF)));
+    }
+    assert_eq!(rt; machine.step(Input::Lapsed), Ok(Order::Done(End::GaveUp)));
     Ok(())
 }
 
 #[test]
 fn one_gear_is_given_an_address(rt: HostRuntime) -> Result<(), Fail> {
-    let mut site = Site::new(rt.alloc(), &[])?;
-    site.until(Order::Commit(reserve(0, 0x123456)?))?;
-    assert_eq!(rt; site.machine.due(), Due::Store);
-    site.until(Order::Commit(enrol(0, 0x123456)?))?;
-    assert_eq!(rt; site.machine.table().entries().len(), 0);
-    assert_eq!(rt; site.to_end()?, (5, ALL_FOUND));
-    assert_eq!(rt; site.gear.short, Some(short(0)?));
-    assert_eq!(rt; site.machine.table().entries().len(), 1);
+    let mut machine = machine(rt.alloc(), &[])?;
+    let mut gear = Gear::unaddressed(0x123456)?;
+    let start = machine.step(Input::Start)?;
+    let reserves = Order::Commit(reserve(0, 0x123456)?);
+    let reserved = until(&mut machine, &mut gear, start, reserves)?;
+    assert_eq!(rt; machine.due(), Due::Store);
+    assert_eq!(rt; machine.step(SILENCE), Err(StepError::NotDue));
+    let enrols = Order::Commit(enrol(0, 0x123456)?);
+    let enrolled = until(&mut machine, &mut gear, reserved, enrols)?;
+    assert_eq!(rt; machine.table().entries().len(), 0);
+    assert_eq!(rt;
+        to_end(&mut machine, &mut gear, enrolled)?,
+        (5, Order::Done(End::AllFound))
+    );
+    assert_eq!(rt; gear.short, Some(short(0)?));
+    assert_eq!(rt;
+        machine.table().entries(),
+        [(short(0)?, random(0x123456)?)].as_slice()
+    );
+    Ok(())
+}
 
-    let mut site = Site::new(rt.alloc(), &[])?;
-    assert_eq!(rt; site.to_end()?, (121, ALL_FOUND));
-    assert_eq!(rt; site.machine.id(), 2);
+#[test]
+fn one_gear_takes_121_frames(rt: HostRuntime) -> Result<(), Fail> {
+    let mut machine = machine(rt.alloc(), &[])?;
+    let mut gear = Gear::unaddressed(0x123456)?;
+    let start = machine.step(Input::Start)?;
+    assert_eq!(rt;
+        to_end(&mut machine, &mut gear, start)?,
+        (121, Order::Done(End::AllFound))
+    );
     Ok(())
 }
 
 /// The answer to QUERY SHORT ADDRESS before PROGRAM SHORT ADDRESS is lost: the gear is searched for again.
 #[test]
 fn a_lost_answer_is_no_mask(rt: HostRuntime) -> Result<(), Fail> {
-    let mut site = Site::new(rt.alloc(), &[])?;
-    site.until(Order::Commit(reserve(0, 0x123456)?))?;
-    site.until(put(1, 0xBB00)?)?;
-    assert_eq!(rt; site.told(SILENCE)?, put(3, 0xB1FF)?);
-    assert_eq!(rt; site.to_end()?, (112, ALL_FOUND));
-    assert_eq!(rt; site.gear.short, Some(short(0)?));
+    let mut machine = machine(rt.alloc(), &[])?;
+    let mut gear = Gear::unaddressed(0x123456)?;
+    let start = machine.step(Input::Start)?;
+    let reserves = Order::Commit(reserve(0, 0x123456)?);
+    let reserved = until(&mut machine, &mut gear, start, reserves)?;
+    let visit = done(&mut machine, &mut gear, reserved)?;
+    assert_eq!(rt; visit, first(0xB1, 0x12));
+    let _ = until(&mut machine, &mut gear, visit, later(0xBB, 0x00))?;
+    let again = machine.step(SILENCE)?;
+    assert_eq!(rt; again, first(0xB1, 0xFF));
+    assert_eq!(rt;
+        to_end(&mut machine, &mut gear, again)?,
+        (112, Order::Done(End::AllFound))
+    );
+    assert_eq!(rt; gear.short, Some(short(0)?));
     Ok(())
 }
 
 #[test]
-fn a_program_that_was_destroyed_or_not_sent_is_no_loss(rt: HostRuntime) -> Result<(), Fail> {
-    // The gear took it, though it was destroyed.
-    let mut site = Site::new(rt.alloc(), &[])?;
-    site.until(put(1, 0xB701)?)?;
-    site.gear.short = Some(short(0)?);
-    assert_eq!(rt; site.told(Input::Destroyed)?, put(3, 0xB112)?);
-    assert_eq!(rt; site.to_end()?, (10, ALL_FOUND));
+fn a_destroyed_program_that_was_taken_is_found(rt: HostRuntime) -> Result<(), Fail> {
+    let mut machine = machine(rt.alloc(), &[])?;
+    let mut gear = Gear::unaddressed(0x123456)?;
+    let start = machine.step(Input::Start)?;
+    let program = until(&mut machine, &mut gear, start, later(0xB7, 0x01))?;
+    let Order::Put(_, frame) = program else {
+        return Err(Fail::from("a frame"));
+    };
+    let _ = gear.takes(frame);
+    let again = machine.step(Input::Destroyed)?;
+    assert_eq!(rt; again, first(0xB1, 0x12));
+    assert_eq!(rt;
+        to_end(&mut machine, &mut gear, again)?,
+        (10, Order::Done(End::AllFound))
+    );
+    assert_eq!(rt;
+        machine.table().entries(),
+        [(short(0)?, random(0x123456)?)].as_slice()
+    );
+    Ok(())
+}
 
-    let mut site = Site::new(rt.alloc(), &[])?;
-    site.until(put(1, 0xB701)?)?;
-    assert_eq!(rt; site.told(Input::Lapsed)?, put(3, 0xB112)?);
-    assert_eq!(rt; site.to_end()?, (12, ALL_FOUND));
+#[test]
+fn a_lapsed_program_is_sent_again(rt: HostRuntime) -> Result<(), Fail> {
+    let mut machine = machine(rt.alloc(), &[])?;
+    let mut gear = Gear::unaddressed(0x123456)?;
+    let start = machine.step(Input::Start)?;
+    let _ = until(&mut machine, &mut gear, start, later(0xB7, 0x01))?;
+    let again = machine.step(Input::Lapsed)?;
+    assert_eq!(rt; again, first(0xB1, 0x12));
+    assert_eq!(rt;
+        to_end(&mut machine, &mut gear, again)?,
+        (12, Order::Done(End::AllFound))
+    );
     Ok(())
 }
 
 /// A machine is lost after its reservation was kept, and before it was told so.
 #[test]
 fn a_reservation_is_finished_by_the_next_machine(rt: HostRuntime) -> Result<(), Fail> {
-    let mut site = Site::new(rt.alloc(), &[reserve(0, 0x123456)?])?;
-    site.gear.enabled = true;
-    assert_eq!(rt; site.to_end()?, (17, ALL_FOUND));
-    assert_eq!(rt; site.gear.short, Some(short(0)?));
+    let mut lost = machine(rt.alloc(), &[])?;
+    let mut gear = Gear::unaddressed(0x123456)?;
+    let start = lost.step(Input::Start)?;
+    let reserves = reserve(0, 0x123456)?;
+    let _ = until(&mut lost, &mut gear, start, Order::Commit(reserves))?;
+    let mut next = machine(rt.alloc(), &[reserves])?;
+    let visit = next.step(Input::Start)?;
+    assert_eq!(rt; visit, first(0xB1, 0x12));
+    assert_eq!(rt;
+        to_end(&mut next, &mut gear, visit)?,
+        (17, Order::Done(End::AllFound))
+    );
+    assert_eq!(rt; gear.short, Some(short(0)?));
     Ok(())
 }
 
 #[test]
 fn unfinished_reservations_are_visited_by_address(rt: HostRuntime) -> Result<(), Fail> {
-    let named = [
-        (Input::Start, 3, 0xB1AB),
-        (SILENCE, 1, 0xB3CD),
-        (SILENCE, 1, 0xB5EF),
-        (SILENCE, 1, 0xBB00),
-        (Input::Heard(Answer::Byte(0x0B)), 1, 0xAB00),
-    ];
-    let unnamed = [
-        (Input::Committed, 3, 0xB100),
-        (SILENCE, 1, 0xB300),
-        (SILENCE, 1, 0xB503),
-        (SILENCE, 1, 0xBB00),
-        (MASK, 1, 0xB707),
-        (SILENCE, 1, 0xBB00),
-        (Input::Heard(Answer::Byte(0x07)), 1, 0xAB00),
-    ];
-    let finished = reserve(0, 0x000001)?;
     let records = [
         reserve(3, 0x000003)?,
         reserve(1, 0xABCDEF)?,
-        finished,
+        reserve(0, 0x000001)?,
         enrol(0, 0x000001)?,
     ];
-    let mut site = Site::new(rt.alloc(), &records)?;
-    assert_eq!(rt; site.odd_row(&named)?, None);
-    assert_eq!(rt; site.told(SILENCE)?, Order::Commit(enrol(5, 0xABCDEF)?));
-    assert_eq!(rt; site.odd_row(&unnamed)?, None);
-    assert_eq!(rt; site.told(SILENCE)?, Order::Commit(enrol(3, 0x000003)?));
-    assert_eq!(rt; site.told(Input::Committed)?, put(3, 0xA100)?);
+    let mut machine = machine(rt.alloc(), &records)?;
+    assert_eq!(rt;
+        machine.table().entries(),
+        [(short(0)?, random(0x000001)?)].as_slice()
+    );
+    let steps = [
+        // Heard as an address that is not the reserved one: it is enrolled with what was heard.
+        (Input::Start, first(0xB1, 0xAB)),
+        (SILENCE, later(0xB3, 0xCD)),
+        (SILENCE, later(0xB5, 0xEF)),
+        (SILENCE, later(0xBB, 0x00)),
+        (heard(0x0B), later(0xAB, 0x00)),
+        (SILENCE, Order::Commit(enrol(5, 0xABCDEF)?)),
+        // Heard as MASK: it is programmed, and asked again.
+        (Input::Committed, first(0xB1, 0x00)),
+        (SILENCE, later(0xB3, 0x00)),
+        (SILENCE, later(0xB5, 0x03)),
+        (SILENCE, later(0xBB, 0x00)),
+        (MASK, later(0xB7, 0x07)),
+        (SILENCE, later(0xBB, 0x00)),
+        (heard(0x07), later(0xAB, 0x00)),
+        (SILENCE, Order::Commit(enrol(3, 0x000003)?)),
+        (Input::Committed, first(0xA1, 0x00)),
+    ];
+    assert_eq!(rt; odd_step(&mut machine, &steps)?, None);
+    let entries = [
+        (short(0)?, random(0x000001)?),
+        (short(5)?, random(0xABCDEF)?),
+        (short(3)?, random(0x000003)?),
+    ];
+    assert_eq!(rt; machine.table().entries(), entries.as_slice());
     Ok(())
 }
 
+/// After the first QUERY SHORT ADDRESS.
 #[test]
-fn only_addresses_that_are_heard_count(rt: HostRuntime) -> Result<(), Fail> {
-    let reserved = [reserve(0, 0x123456)?];
-    // After the first QUERY SHORT ADDRESS.
-    for answer in [SILENCE, DAMAGED, Input::Heard(Answer::Byte(0x02))] {
-        let mut site = Site::new(rt.alloc(), &reserved)?;
-        assert_eq!(rt; site.odd_row(&VISIT)?, None);
-        assert_eq!(rt; site.odd_row(&[(answer, 3, 0xA100)])?, None);
+fn silence_damage_and_another_byte_lead_to_no_gear(rt: HostRuntime) -> Result<(), Fail> {
+    for answer in [
+        SILENCE,
+        Input::Heard(Answer::Damaged),
+        heard(0x02),
+        heard(0x81),
+    ] {
+        let mut machine = machine(rt.alloc(), &[reserve(0, 0x123456)?])?;
+        let steps = [
+            (Input::Start, first(0xB1, 0x12)),
+            (SILENCE, later(0xB3, 0x34)),
+            (SILENCE, later(0xB5, 0x56)),
+            (SILENCE, later(0xBB, 0x00)),
+            (answer, first(0xA1, 0x00)),
+        ];
+        assert_eq!(rt; odd_step(&mut machine, &steps)?, None);
     }
-    // After the one that follows PROGRAM SHORT ADDRESS.
-    for answer in [SILENCE, DAMAGED, MASK, Input::Heard(Answer::Byte(0x05))] {
-        let mut site = Site::new(rt.alloc(), &reserved)?;
-        let rows = [(MASK, 1, 0xB701), (SILENCE, 1, 0xBB00), (answer, 3, 0xA100)];
-        assert_eq!(rt; site.odd_row(&VISIT)?, None);
-        assert_eq!(rt; site.odd_row(&rows)?, None);
+    Ok(())
+}
+
+/// After the QUERY SHORT ADDRESS that follows PROGRAM SHORT ADDRESS.
+#[test]
+fn only_the_programmed_address_is_confirmed(rt: HostRuntime) -> Result<(), Fail> {
+    for answer in [
+        SILENCE,
+        MASK,
+        Input::Heard(Answer::Damaged),
+        heard(0x02),
+        heard(0x05),
+    ] {
+        let mut machine = machine(rt.alloc(), &[reserve(0, 0x123456)?])?;
+        let steps = [
+            (Input::Start, first(0xB1, 0x12)),
+            (SILENCE, later(0xB3, 0x34)),
+            (SILENCE, later(0xB5, 0x56)),
+            (SILENCE, later(0xBB, 0x00)),
+            (MASK, later(0xB7, 0x01)),
+            (SILENCE, later(0xBB, 0x00)),
+            (answer, first(0xA1, 0x00)),
+        ];
+        assert_eq!(rt; odd_step(&mut machine, &steps)?, None);
     }
     Ok(())
 }
@@ -341,93 +457,119 @@ fn only_addresses_that_are_heard_count(rt: HostRuntime) -> Result<(), Fail> {
 #[test]
 fn a_lost_frame_begins_the_transaction_again(rt: HostRuntime) -> Result<(), Fail> {
     let visit = [
-        (Input::Start, 3, 0xB112),
-        (SILENCE, 1, 0xB334),
-        (SILENCE, 1, 0xB556),
-        (SILENCE, 1, 0xBB00),
-        (MASK, 1, 0xB701),
-        (SILENCE, 1, 0xBB00),
-        (Input::Heard(Answer::Byte(0x01)), 1, 0xAB00),
+        (SILENCE, later(0xB3, 0x34)),
+        (SILENCE, later(0xB5, 0x56)),
+        (SILENCE, later(0xBB, 0x00)),
+        (MASK, later(0xB7, 0x01)),
+        (SILENCE, later(0xBB, 0x00)),
+        (heard(0x01), later(0xAB, 0x00)),
     ];
-    let reserved = [reserve(0, 0x123456)?];
-    for frames in 1..8 {
-        let mut site = Site::new(rt.alloc(), &reserved)?;
-        assert_eq!(rt; site.odd_row(&visit[..frames])?, None);
-        assert_eq!(rt; site.odd_row(&[(Input::Destroyed, 3, 0xB112)])?, None);
+    for frames in 0..7 {
+        for input in [Input::Destroyed, Input::Lapsed] {
+            let mut machine = machine(rt.alloc(), &[reserve(0, 0x123456)?])?;
+            assert_eq!(rt; machine.step(Input::Start), Ok(first(0xB1, 0x12)));
+            assert_eq!(rt; odd_step(&mut machine, &visit[..frames])?, None);
+            assert_eq!(rt; machine.step(input), Ok(first(0xB1, 0x12)));
+        }
     }
     Ok(())
 }
 
 #[test]
-fn a_machine_halts(rt: HostRuntime) -> Result<(), Fail> {
-    // The table has the short address for another gear.
-    let records = [reserve(0, 0x123456)?, enrol(5, 0x000001)?];
-    let mut site = Site::new(rt.alloc(), &records)?;
-    let named = [(Input::Heard(Answer::Byte(0x0B)), 1, 0xAB00)];
-    assert_eq!(rt; site.odd_row(&VISIT)?, None);
-    assert_eq!(rt; site.odd_row(&named)?, None);
-    assert_eq!(rt; site.told(SILENCE)?, Order::Halt(Fault::Conflict));
+fn a_finding_that_contradicts_the_table_halts(rt: HostRuntime) -> Result<(), Fail> {
+    // The table has the address for another gear, or nothing of both.
+    for (answer, order) in [
+        (0x0B, Order::Halt(Fault::Conflict)),
+        (0x07, Order::Commit(enrol(3, 0x123456)?)),
+    ] {
+        let records = [reserve(0, 0x123456)?, enrol(5, 0x000001)?];
+        let mut machine = machine(rt.alloc(), &records)?;
+        let steps = [
+            (Input::Start, first(0xB1, 0x12)),
+            (SILENCE, later(0xB3, 0x34)),
+            (SILENCE, later(0xB5, 0x56)),
+            (SILENCE, later(0xBB, 0x00)),
+            (heard(answer), later(0xAB, 0x00)),
+            (SILENCE, order),
+        ];
+        assert_eq!(rt; odd_step(&mut machine, &steps)?, None);
+    }
+    Ok(())
+}
 
-    // A record could not be kept.
+#[test]
+fn a_record_that_is_not_kept_halts(rt: HostRuntime) -> Result<(), Fail> {
     for wanted in [reserve(0, 0x123456)?, enrol(0, 0x123456)?] {
-        let mut site = Site::new(rt.alloc(), &[])?;
-        site.until(Order::Commit(wanted))?;
-        assert_eq!(rt; site.told(Input::CommitFailed)?, Order::Halt(Fault::Store));
-        assert_eq!(rt; site.machine.table().entries().len(), 0);
+        let mut machine = machine(rt.alloc(), &[])?;
+        let mut gear = Gear::unaddressed(0x123456)?;
+        let start = machine.step(Input::Start)?;
+        let _ = until(&mut machine, &mut gear, start, Order::Commit(wanted))?;
+        assert_eq!(rt;
+            machine.step(Input::CommitFailed),
+            Ok(Order::Halt(Fault::Store))
+        );
+        assert_eq!(rt; machine.due(), Due::Nothing);
+        assert_eq!(rt; machine.table().entries().len(), 0);
     }
     Ok(())
-}
-
-#[test]
-fn refusals_have_numbers(rt: HostRuntime) {
-    assert_eq!(rt; StepError::NotDue.number(), 1);
-    assert_eq!(rt; MachineError::NoMemory.number(), 2);
 }
 
 #[test]
 fn a_full_block_closes(rt: HostRuntime) -> Result<(), Fail> {
     let records = [
-        reserve(0, 1)?,
-        reserve(1, 2)?,
-        reserve(2, 3)?,
-        reserve(3, 4)?,
+        reserve(0, 0x000001)?,
+        reserve(1, 0x000002)?,
+        reserve(2, 0x000003)?,
+        reserve(3, 0x000004)?,
     ];
-    let mut site = Site::new(rt.alloc(), &records)?;
-    assert_eq!(rt; site.to_end()?.1, Some(Order::Done(End::BlockFull)));
-    assert_eq!(rt; site.gear.short, None);
+    let mut machine = machine(rt.alloc(), &records)?;
+    let mut gear = Gear::unaddressed(0x123456)?;
+    let start = machine.step(Input::Start)?;
+    let opens = until(&mut machine, &mut gear, start, first(0xA1, 0x00))?;
+    let probes = until(&mut machine, &mut gear, opens, first(0xB1, 0xFF))?;
+    let closes = until(&mut machine, &mut gear, probes, first(0xA1, 0x00))?;
+    assert_eq!(rt;
+        to_end(&mut machine, &mut gear, closes)?,
+        (1, Order::Done(End::BlockFull))
+    );
+    assert_eq!(rt; gear.short, None);
     Ok(())
 }
 
-/// Gear that answer COMPARE, but whose answers to QUERY SHORT ADDRESS are all lost: how many visits there are.
-fn mute_visits(site: &mut Site) -> Result<(u32, Option<Order>), Fail> {
+/// A gear that answers COMPARE, but whose answers to QUERY SHORT ADDRESS are all lost.
+fn searches_of_mute_gear(machine: &mut Machine, from: Order) -> Result<(u32, Order), Fail> {
+    let mut order = from;
     let mut visits = 0u32;
-    let mut order = site.told(Input::Start)?;
     for _ in 0..10000 {
         let Order::Put(_, frame) = order else {
-            return Ok((visits, Some(order)));
+            return Ok((visits, order));
         };
         let answer = match Command::read(frame) {
-            Command::Compare => DAMAGED,
-            Command::QueryShort => {
-                visits = visits.saturating_add(1);
-                SILENCE
-            }
-            _ => SILENCE,
+            Command::Compare => Answer::Damaged,
+            _ => Answer::Silence,
         };
-        order = site.told(answer)?;
+        if Command::read(frame) == Command::QueryShort {
+            visits = visits.saturating_add(1);
+        }
+        order = machine.step(Input::Heard(answer))?;
     }
     Err(Fail::from("it does not end"))
 }
 
 #[test]
 fn sixteen_silent_searches_give_up(rt: HostRuntime) -> Result<(), Fail> {
-    let gave_up = Some(Order::Done(End::GaveUp));
-    let mut fresh = Site::new(rt.alloc(), &[])?;
-    assert_eq!(rt; mute_visits(&mut fresh)?, (16, gave_up));
+    let gave_up = Order::Done(End::GaveUp);
+    let mut fresh = machine(rt.alloc(), &[])?;
+    let start = fresh.step(Input::Start)?;
+    assert_eq!(rt; searches_of_mute_gear(&mut fresh, start)?, (16, gave_up));
 
     // The two visits before the opening do not count.
     let records = [reserve(0, 0x123456)?, reserve(1, 0x654321)?];
-    let mut restarted = Site::new(rt.alloc(), &records)?;
-    assert_eq!(rt; mute_visits(&mut restarted)?, (18, gave_up));
+    let mut restarted = machine(rt.alloc(), &records)?;
+    let start = restarted.step(Input::Start)?;
+    assert_eq!(rt;
+        searches_of_mute_gear(&mut restarted, start)?,
+        (18, gave_up)
+    );
     Ok(())
 }
