@@ -1,0 +1,7 @@
+//! A site whose contract is a log of events.
+#![tactic(auto)]
+
+mod refusal;
+mod seat;
+
+pub use refusal::Refusal;
