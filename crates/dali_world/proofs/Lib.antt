@@ -1,1 +1,2 @@
 mod Ties
+mod Rows

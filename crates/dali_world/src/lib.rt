@@ -1,6 +1,7 @@
 //! A site whose contract is a log of events.
 #![tactic(auto)]
 
+mod fitted;
 mod refusal;
 mod seat;
 
