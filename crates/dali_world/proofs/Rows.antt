@@ -1,4 +1,4 @@
-use Rattle.std.proofs.Common.{◌≡◌, ℕ, ◌+◌, ◌<◌, ◌≤◌, List, [], ◌∷◌, ◌++◌, map, take, drop, length, get_or, set, refl, sym, ap, subst, ◌∙◌, arith, Option, Some, None, Bool, true, false, inl, inr, zero-add}
+use Rattle.std.proofs.Common.{◌≡◌, ℕ, ◌+◌, ◌<◌, List, [], ◌∷◌, ◌++◌, map, take, drop, length, get_or, set, refl, sym, ap, subst, ◌∙◌, arith, Some, None, Bool, true, false, inl, inr, zero-add}
 use Rattle.std.specs.Prelude.{◌&&◌, if◌then◌else◌, zero, suc}
 use Rattle.std.proofs.lemmas.List.{drop-drop, drop_more, drop-set-lt, take_more_set, length-append, append-nil}
 use Rattle.std.proofs.Math.Seq.{take-length, drop-length}
@@ -6,7 +6,7 @@ use mathlib.Core.List.{append_assoc}
 use Rattle.dali_special.specs.declared.command.Command.{Command}
 use Rattle.dali_gear.specs.declared.row.Reach.{Reach}
 use Rattle.dali_gear.specs.ControlGear.{ControlGear, MASK, quieted, would_draw}
-use Rattle.dali_gear.specs.Row.{takes, left_after, row_left, row_after, draws_needed, stored_one, stored_of}
+use Rattle.dali_gear.specs.Row.{takes, left_after, row_left, row_after, draws_needed, stored_of}
 use Rattle.dali_script.specs.Records.{Has}
 use Rattle.dali_events.specs.Plan.{SitePlan, IsPlan}
 use Rattle.dali_world.specs.Fitted.{Fitted, taken_at, gift_of}

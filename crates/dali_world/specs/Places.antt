@@ -1,7 +1,5 @@
-use Rattle.std.specs.Prelude.{◌≡◌, ℕ, Bool, true, List, [], ◌∷◌, Option, Some, None, is_some}
+use Rattle.std.specs.Prelude.{◌≡◌, ℕ, Bool, true, List, [], Option, Some, None}
 use Rattle.std.specs.Option.{option_map}
-use Rattle.dali_frame.specs.declared.frames.Forward.{Forward}
-use Rattle.dali_frame.specs.declared.frames.Answer.{Answer}
 use Rattle.dali_script.specs.declared.block.Block.{Block}
 use Rattle.dali_script.specs.declared.trace.Entry.{Entry}
 use Rattle.dali_script.specs.declared.records.Record.{Record}
@@ -15,7 +13,7 @@ use Rattle.dali_controller.specs.Progress.{Progress, at_first, due_after, accept
 use Rattle.dali_controller.specs.Orders.{IsAnswered, after}
 use Rattle.dali_events.specs.World.{Controller, begun}
 use Rattle.dali_events.specs.Allowed.{HasOutstanding}
-use Rattle.dali_events.specs.Happens.{with_outstanding, acted, told_sent, told_destroyed, told_lapsed, gone_down, come_up}
+use Rattle.dali_events.specs.Happens.{with_outstanding, acted, gone_down, come_up}
 
 -- A CONTROLLER'S PLACE on a site: the controller as the site's world has it; and its machine, while it is up.
 pub record Place : Type 0 where

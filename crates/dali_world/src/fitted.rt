@@ -158,10 +158,7 @@ fn stored(gear: &Gear, command: &Command) -> Option<Short>
     match *command {
         Command::Program(Some(short))
             if gear.state() != InitialisationState::Disabled
-                && gear.random() == gear.search().value() =>
-        {
-            Some(short)
-        }
+                && gear.random() == gear.search().value() => { Some(short) }
         _ => None,
     }
 }
