@@ -1,6 +1,7 @@
 ghost use Rattle.std.specs.Prelude.{◌≡◌, ◌↔◌, ◌++◌, ◌∷◌, [], ℕ, Bool, true, false, Some, None, IfOk, OnOk, IfErr, OnErr, IsTrue, MatchOption, option_map};
 ghost use Rattle.dali_special.specs.Command.{command_of};
 ghost use Rattle.dali_script.specs.Findings.{later};
+ghost use Rattle.dali_script.specs.Records.{with_record};
 ghost use Rattle.dali_controller.specs.Progress.{due_after, accepts, frame_put, roster_of};
 ghost use Rattle.dali_controller.specs.declared.orders.Due.TheVariants as due;
 ghost use Rattle.dali_controller.specs.declared.orders.Input.TheVariants as input;
@@ -135,6 +136,21 @@ impl Seat {
         self.last = None;
     }
 
+    /// Whether a copy of records is what the controller keeps, without the outstanding record (false) or with it (true).
+    pub(crate) fn agreement(&self, copy: &Kept) -> Option<bool>
+        ensures { MatchOption result
+            ((kept : Bool) → Agrees self.now.controller copy.now kept → ⊥)
+            (λ kept. Agrees self.now.controller copy.now kept) }
+    {
+        if copy.same(&self.kept) {
+            return Some(false);
+        }
+        match &self.outstanding {
+            Some(added) if is_with(copy, &self.kept, added) => Some(true),
+            _ => None,
+        }
+    }
+
     /// The controller comes up with a copy of what it keeps; `kept` is whether the outstanding record is among it.
     pub(crate) fn up(
         &mut self,
@@ -228,5 +244,45 @@ fn later(
     match found {
         Some(found) => Some(found),
         None => earlier,
+    }
+}
+
+/// Whether a copy is these records with one more.
+fn is_with(copy: &Kept, kept: &Kept, added: &Record) -> bool
+    ensures { IsTrue result ↔ (copy.now ≡ with_record kept.now added.now) }
+{
+    if copy.block() != kept.block() {
+        return false;
+    }
+    match *added {
+        Record::Reserve(address, number) => is_longer(
+            copy.reserved(),
+            kept.reserved(),
+            (address, number),
+        ) && is_alike(copy.enrolled(), kept.enrolled()),
+        Record::Enrol(address, number) => is_longer(
+            copy.enrolled(),
+            kept.enrolled(),
+            (address, number),
+        ) && is_alike(copy.reserved(), kept.reserved()),
+    }
+}
+
+fn is_alike(pairs: &[(Short, Random24)], others: &[(Short, Random24)]) -> bool
+    ensures { IsTrue result ↔ (pairs.now ≡ others.now) }
+{
+    pairs == others
+}
+
+fn is_longer(
+    longer: &[(Short, Random24)],
+    shorter: &[(Short, Random24)],
+    last: (Short, Random24),
+) -> bool
+    ensures { IsTrue result ↔ (longer.now ≡ shorter.now ++ last ∷ []) }
+{
+    match longer.split_last() {
+        Some((end, front)) => *end == last && is_alike(front, shorter),
+        None => false,
     }
 }
