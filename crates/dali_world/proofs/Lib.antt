@@ -1,0 +1,2 @@
+mod Ties
+mod Rows

@@ -1,0 +1,4 @@
+pub mod Refusals
+pub mod Troubles
+pub mod Places
+pub mod Fitted

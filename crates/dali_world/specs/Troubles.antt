@@ -1,0 +1,10 @@
+use Rattle.dali_frame.specs.declared.frames.Answer.{Answer}
+use Rattle.dali_frame.specs.declared.frames.Answer.TheVariants.{Silence, Damaged}
+use Rattle.dali_world.specs.declared.trouble.Trouble.{Trouble}
+use Rattle.dali_world.specs.declared.trouble.Trouble.TheVariants.{AnswerLost, Noise}
+
+-- what is heard under a trouble, where this would be heard without it
+abbrev pub heard_under : Trouble → Answer → Answer
+heard_under AnswerLost plain = Silence
+heard_under Noise plain = Damaged
+heard_under _ plain = plain
