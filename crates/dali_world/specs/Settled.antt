@@ -1,0 +1,87 @@
+use Rattle.std.specs.Prelude.{◌≡◌, ℕ, ◌<◌, Bool, true, false, not, List, [], ◌∷◌, ◌++◌, length, filter, drop, Option, Some, None, ◌==◌, ◌&&◌, if◌then◌else◌}
+use Rattle.std.specs.List.{AllByRecursion}
+use Rattle.dali_frame.specs.declared.frames.Forward.{Forward}
+use Rattle.dali_special.specs.Command.{command_of}
+use Rattle.dali_arbiter.specs.declared.request.Request.{Request}
+use Rattle.dali_arbiter.specs.Bus.{Bus, owns, request_of, first_list}
+use Rattle.dali_script.specs.declared.trace.Entry.{Entry}
+use Rattle.dali_script.specs.Scripts.{Lawful, IsFirst}
+use Rattle.dali_script.specs.Stages.{stage_of, may_follow}
+use Rattle.dali_controller.specs.declared.orders.Input.{Input}
+use Rattle.dali_controller.specs.declared.orders.Input.TheVariants as input
+use Rattle.dali_controller.specs.declared.orders.Order.{Order}
+use Rattle.dali_controller.specs.declared.orders.Order.TheVariants.{Put, Commit, Done, Halt}
+use Rattle.dali_controller.specs.Progress.{Progress}
+use Rattle.dali_events.specs.World.{Controller}
+use Rattle.dali_events.specs.Happens.{entry, is_arc}
+use Rattle.dali_world.specs.Places.{Place}
+
+-- HOW BUS AND CONTROLLERS GO TOGETHER on a site. It holds at each moment of a site, where each frame that is sent was next;
+-- it isn't so in every run of the definitions.
+
+-- ---------------------------------------------------------------- a controller and the bus
+
+-- a controller that owns the bus: its frame waits, and follows the frames of its transaction; or it was told what was heard
+-- after its last one, and more may follow
+abbrev pub IsOwning : List Entry → Controller → Progress → Option Input → Option Order → Type 0
+IsOwning t k m None (Some (Put p f)) = (p ≡ 1) × (t ≡ m.trace) × Lawful k.records.block k.records.reserved t f
+IsOwning t k m (Some (input.Heard h)) (Some (Put p f)) = t ≡ m.trace ++ entry f h ∷ []
+IsOwning t k m _ _ = ⊥
+
+-- a controller that does not: its frame waits, and is a first one; or it was told what was heard after its last one, and
+-- none may follow; or nothing runs
+abbrev pub IsApart : Controller → Progress → Option Input → Option Order → Type 0
+IsApart k m None (Some (Put p f)) = (p ≡ 3) × (m.trace ≡ []) × IsFirst f
+IsApart k m (Some (input.Heard h)) (Some (Put p f)) = may_follow k.records.block k.records.reserved (stage_of (m.trace ++ entry f h ∷ [])) ≡ false
+IsApart k m told (Some (Put p f)) = Unit {0}
+IsApart k m told (Some (Done e)) = Unit {0}
+IsApart k m told (Some (Halt why)) = Unit {0}
+IsApart k m told _ = m.trace ≡ []
+
+abbrev pub IsPlacedBy : Bool → List Entry → Controller → Option Progress → Type 0
+IsPlacedBy owning t k None = owning ≡ false
+IsPlacedBy true t k (Some m) = IsOwning t k m k.told k.last
+IsPlacedBy false t k (Some m) = IsApart k m k.told k.last
+
+abbrev pub IsPlaced : Bool → List Entry → Place → Type 0
+IsPlaced owning t p = IsPlacedBy owning t p.controller p.machine
+
+-- ---------------------------------------------------------------- the requests that wait
+
+-- a request of controller c, other than for arc power
+abbrev pub is_scripted : ℕ → Request → Bool
+is_scripted c r = (r.sender == c) && not (is_arc (command_of r.frame))
+
+-- the requests of some lists that pass a test
+abbrev pub picked : (Request → Bool) → List (List Request) → List Request
+picked test [] = []
+picked test (l ∷ lists) = filter test l ++ picked test lists
+
+-- the request that waits for a controller: that of its last order, until it is told of it
+abbrev pub awaited_by : ℕ → Option Input → Option Order → List Request
+awaited_by c None (Some (Put p f)) = request_of c p f ∷ []
+awaited_by c _ _ = []
+
+abbrev pub awaited : ℕ → Controller → List Request
+awaited c k = awaited_by c k.told k.last
+
+-- list 1: what the owner waits for
+abbrev pub owners_request : Option ℕ → (ℕ → Place) → List Request
+owners_request None place = []
+owners_request (Some c) place = awaited c (place c).controller
+
+abbrev pub IsServed : List (List Request) → Option ℕ → (ℕ → Place) → Type 0
+IsServed [] owner place = ⊥
+IsServed (first ∷ rest) owner place = (first ≡ owners_request owner place)
+    × ((c : ℕ) → picked (is_scripted c) rest ≡ (if owns owner c then [] else awaited c (place c).controller))
+
+-- the senders of all requests are up
+abbrev pub AreUp : List (List Request) → (ℕ → Place) → Type 0
+AreUp lists place = AllByRecursion (λ l. AllByRecursion (λ r. (place r.sender).controller.up ≡ true) l) lists
+
+-- THE PLACES AND THE BUS: `place` is the place of each controller, and an empty one past the last.
+pub record IsSettled (bus : Bus) (trace : List Entry) (place : ℕ → Place) : Type 0 where
+  pub five : length bus.lists ≡ 5
+  pub places : (c : ℕ) → IsPlaced (owns bus.owner c) trace (place c)
+  pub served : IsServed bus.lists bus.owner place
+  pub up : AreUp bus.lists place
