@@ -29,8 +29,8 @@ pub(crate) struct Seat {
 }
 
 impl Model for Seat {
-    ghost use Rattle.std.specs.Prelude.{◌≡◌, is_some};
-    ghost use Rattle.dali_world.specs.Places.{Place, last_of, IsTied};
+    ghost use Rattle.std.specs.Prelude.{is_some};
+    ghost use Rattle.dali_world.specs.Places.{Place, IsTied};
 
     ghost Value = { Place };
 
@@ -39,8 +39,7 @@ impl Model for Seat {
       machine = s.machine;
     } };
 
-    ghost invariant = { λ s. (s.last ≡ last_of s.machine)
-        × IsTied (record { up = is_some s.machine; records = s.kept; outstanding = s.outstanding; finding = s.finding; told = s.told; last = s.last }) s.machine };
+    ghost invariant = { λ s. IsTied (record { up = is_some s.machine; records = s.kept; outstanding = s.outstanding; finding = s.finding; told = s.told; last = s.last }) s.machine };
 }
 
 impl Seat {
