@@ -420,6 +420,10 @@ found_at : (s : Stage) (earlier found : Option Assignment) → found ≡ later e
 found_at (Withdrawn r b) earlier found is = is
 found_at _ earlier found is = tt
 
+trace_found_at : (s : Stage) (found : Option Assignment) → found ≡ finding_at s → FoundAt s found
+trace_found_at (Withdrawn r b) found is = is
+trace_found_at _ found is = tt
+
 -- the parts after a frame was heard, the last finding noted, and the counts made
 pub hear_heard : (w noted : Work) (f : Forward) (h : Answer) (t : List Entry) (s : Stage) (complete o : Bool) (n i : ℕ) → IsFine w → frame_put w.last ≡ Some f
     → t ≡ w.trace ++ (record { frame = f; heard = h }) ∷ [] → noted ≡ record w { trace = t; finding = later w.finding (finding_of t) } → s ≡ stage_of noted.trace
@@ -433,10 +437,13 @@ hear_heard w noted f h t s complete o n i fine put trace is stage tries silent o
     let finding : noted.finding ≡ later w.finding (finding_at (stage_of noted.trace)) =
     ap (λ (x : Work). x.finding) is ∙ ap (λ u. later w.finding (finding_of u)) trace ∙ ap (later w.finding) (finding_after w.kept.block w.kept.reserved w.trace (record { frame = f; heard = h }) (sending_lawful w f sent))
     ∙ ap (λ u. later w.finding (finding_at (stage_of u))) (sym (same_trace ∙ trace)) in
-    rw stage (from arrived sent.ready finding)
+    let trace_finding : finding_of noted.trace ≡ finding_at (stage_of noted.trace) =
+    ap finding_of (same_trace ∙ trace) ∙ finding_after w.kept.block w.kept.reserved w.trace (record { frame = f; heard = h }) (sending_lawful w f sent) ∙ ap (λ u. finding_at (stage_of u)) (sym (same_trace ∙ trace)) in
+    rw stage (from arrived sent.ready finding trace_finding)
   where
-    from : Arrived w.kept w.number w.purpose (stage_of noted.trace) → IsReady w → noted.finding ≡ later w.finding (finding_at (stage_of noted.trace)) → IsHeard (record noted { tries = n; silent = i; opened = o }) (stage_of noted.trace)
-    from arrived ready finding = record {
+    from : Arrived w.kept w.number w.purpose (stage_of noted.trace) → IsReady w → noted.finding ≡ later w.finding (finding_at (stage_of noted.trace)) → finding_of noted.trace ≡ finding_at (stage_of noted.trace)
+        → IsHeard (record noted { tries = n; silent = i; opened = o }) (stage_of noted.trace)
+    from arrived ready finding trace_finding = record {
       table = ap (λ (x : Work). x.table) is ∙ fine.table ∙ ap roster_of (ap (λ (x : Work). x.kept) (sym is));
       stage = refl;
       tries = subst (λ m. m < 8) (sym (tries ∙ ap (λ m. tries_after complete m) (ap (λ (x : Work). x.tries) is))) (tries_less complete w.tries ready.tries);
@@ -446,6 +453,7 @@ hear_heard w noted f h t s complete o n i fine put trace is stage tries silent o
       knows = rw opened (subst (λ (x : Work). KnowsAt (stage_of noted.trace) x.kept x.number x.search (opened_after (stage_of noted.trace) x.opened) x.purpose) (sym is)
           (knows_at w.kept w.number w.search w.opened w.purpose (stage_of noted.trace) ready.knows));
       finding = found_at (stage_of noted.trace) w.finding noted.finding finding;
+      trace_finding = trace_found_at (stage_of noted.trace) (finding_of noted.trace) trace_finding;
     }
 
 -- THE TRANSACTIONS
@@ -576,7 +584,7 @@ halted_at w r b h conflict =
     record {
       allowed = tt;
       addressing = tt;
-      caused = (b, value_of r, h.finding, conflict);
+      caused = (b, value_of r, h.finding, h.trace_finding, conflict);
       given_up = λ e. absurd (omega arith);
       silent = λ e. absurd (omega arith);
       unnamed = λ q e. absurd (cc);
@@ -611,7 +619,7 @@ enrols_at w r b h none fresh =
     let stage : stage_of w.trace ≡ Withdrawn r b = h.stage in
     let visiting : Knows w.kept w.number w.search w.opened Visiting = subst (Knows w.kept w.number w.search w.opened) h.arrived.0 h.knows in
     record {
-      allowed = record { fits = subst (λ n. value_of n < MASK24) (sym h.arrived.1) visiting.0; fresh = (none, fresh); warranted = h.finding };
+      allowed = record { fits = subst (λ n. value_of n < MASK24) (sym h.arrived.1) visiting.0; fresh = (none, fresh); warranted = (h.finding, h.trace_finding) };
       addressing = tt;
       caused = ap closing_of h.arrived.0;
       given_up = λ e. absurd (omega arith);

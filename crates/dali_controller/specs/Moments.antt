@@ -11,6 +11,7 @@ use Rattle.dali_script.specs.declared.stage.Stage.{Stage}
 use Rattle.dali_script.specs.declared.stage.Stage.TheVariants.{Free, Terminated, InitialisedOnce, Initialised, RandomisedOnce, Opened, HighSent, MiddleSent, NumberSent, Probed, Found, Unnamed, Inconclusive, Programmed, Confirmed, Withdrawn, Over}
 use Rattle.dali_script.specs.Records.{Records, Assignment, Has, HasNumber, Fits, IsFresh, IsFull, MASK24}
 use Rattle.dali_script.specs.Scripts.{MayGive}
+use Rattle.dali_script.specs.Findings.{finding_of}
 use Rattle.dali_script.specs.Stages.{stage_of}
 use Rattle.dali_search.specs.declared.step.Step.TheVariants.{Again}
 use Rattle.dali_search.specs.Least.{Searched}
@@ -119,7 +120,7 @@ abbrev pub CalmAt : Stage → Purpose → Bool → ℕ → Type 0
 CalmAt (Inconclusive r other) p opened silent = (silent ≤ 16) × (silent ≡ 16 → opened ≡ true)
 CalmAt _ p opened silent = IsCalm p silent
 
--- the gear that was withdrawn is the last finding
+-- the gear that was withdrawn is what was found
 abbrev pub FoundAt : Stage → Option Assignment → Type 0
 FoundAt (Withdrawn r b) found = found ≡ Some (b, value_of r)
 FoundAt _ found = Unit {0}
@@ -166,6 +167,7 @@ pub record IsHeard (w : Work) (s : Stage) : Type 0 where
   pub calm : CalmAt s w.purpose w.opened w.silent
   pub knows : KnowsAt s w.kept w.number w.search w.opened w.purpose
   pub finding : FoundAt s w.finding
+  pub trace_finding : FoundAt s (finding_of w.trace)
 
 -- what holds where a transaction may end without a record and without a close
 pub record IsBetween (w : Work) : Type 0 where

@@ -12,6 +12,7 @@ use Rattle.dali_script.specs.declared.stage.Stage.{Stage}
 use Rattle.dali_script.specs.declared.stage.Stage.TheVariants.{Terminated, Probed, Unnamed, Withdrawn}
 use Rattle.dali_script.specs.Records.{Assignment, Has, HasNumber, Fits, IsFresh, IsLeastFree, IsFull}
 use Rattle.dali_script.specs.Scripts.{Lawful}
+use Rattle.dali_script.specs.Findings.{finding_of}
 use Rattle.dali_script.specs.Stages.{stage_of}
 use Rattle.dali_controller.specs.declared.orders.Input.{Input}
 use Rattle.dali_controller.specs.declared.orders.Input.TheVariants as input
@@ -68,10 +69,11 @@ abbrev pub MayPut : Progress → ℕ → Forward → Type 0
 MayPut t p f =
     ((p ≡ FIRST) × Lawful t.kept.block t.kept.reserved [] f) ⊎ ((p ≡ LATER) × (t.trace ≡ [] → ⊥) × Lawful t.kept.block t.kept.reserved t.trace f)
 
--- an address is reserved for gear that has answered MASK under its number; enrolled is the last finding
+-- An address is reserved for gear that has answered MASK under its number. Enrolled is the last finding, and it is the one
+-- of the running transaction.
 abbrev pub IsWarranted : Progress → Record → Type 0
 IsWarranted t (Reserve a r) = (n : SearchAddress) × (stage_of t.trace ≡ Unnamed n) × (value_of n ≡ r)
-IsWarranted t (Enrol b r) = t.finding ≡ Some (b, r)
+IsWarranted t (Enrol b r) = (t.finding ≡ Some (b, r)) × (finding_of t.trace ≡ Some (b, r))
 
 -- a record that fits, with neither its address nor its number in a record of its kind
 pub record MayCommit (t : Progress) (x : Record) : Type 0 where
@@ -111,7 +113,7 @@ abbrev pub IsCaused : Progress → Order → Type 0
 IsCaused t (Put p f) = IsBegun t (closing_by t (Put p f)) × ((closing_by t (Put p f) ≡ None) ⊎ ((p ≡ FIRST) × (f ≡ frame_of Terminate)))
 IsCaused t (Commit x) = t.closing ≡ None
 IsCaused t (Done e) = ((e ≡ GaveUp) × (t.tries ≡ 8)) ⊎ ((t.closing ≡ Some e) × (stage_of t.trace ≡ Terminated))
-IsCaused t (Halt fault.Conflict) = (b : ℕ) × (r : ℕ) × (t.finding ≡ Some (b, r)) × Contradicts t.kept.enrolled b r
+IsCaused t (Halt fault.Conflict) = (b : ℕ) × (r : ℕ) × (t.finding ≡ Some (b, r)) × (finding_of t.trace ≡ Some (b, r)) × Contradicts t.kept.enrolled b r
 IsCaused t (Halt fault.Store) = ⊥
 
 -- WHAT A VISIT LEADS TO.
