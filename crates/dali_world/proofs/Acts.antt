@@ -216,11 +216,44 @@ informed_committed w c k m commit tied placed =
       owns_with = owns_none w c (informed k input.Committed) (told m input.Committed) (rw ordered_x none);
     }
 
+-- ---------------------------------------------------------------- where an order leaves its controller
+
+-- its frame waits as a later one of the transaction that the bus runs, or as a first one; or nothing runs
+abbrev pub IsLeft : World → ℕ → Controller → Progress → Order → Type 0
+IsLeft w c k m (Put p f) =
+    ((p ≡ 1) × (w.bus.owner ≡ Some c) × (w.trace ≡ m.trace) × Lawful k.records.block k.records.reserved w.trace f)
+    ⊎ ((p ≡ 3) × (m.trace ≡ []) × IsFirst f)
+IsLeft w c k m (Commit x) = m.trace ≡ []
+IsLeft w c k m (Done e) = Unit {0}
+IsLeft w c k m (Halt why) = Unit {0}
+
+left_by : (w : World) (c : ℕ) (k : Controller) (t : Progress) (o : Order) → AreInformed w c k t → IsAllowed t o → IsLeft w c k (ordered t o) o
+left_by w c k t (Put p f) both (inl may) = inr (may.0, rw may.0 refl, (t.kept.block, t.kept.reserved, may.1))
+left_by w c k t (Put p f) both (inr may) =
+    let lawful : Lawful k.records.block k.records.reserved t.trace f = subst (λ r. Lawful r.block r.reserved t.trace f) both.kept may.2 in
+    let own = both.owns_with f may.1 lawful in
+    inl (may.0, own.0, rw may.0 (sym own.1), subst (λ u. Lawful k.records.block k.records.reserved u f) own.1 lawful)
+left_by w c k t (Commit x) both may = refl
+left_by w c k t (Done e) both may = tt
+left_by w c k t (Halt why) both may = tt
+
+-- WHAT A CONTROLLER THAT ACTS may order, and where the order leaves it
+pub record IsOrderedAt (w : World) (c : ℕ) (k : Controller) (m : Progress) (i : Input) (o : Order) : Type 0 where
+  pub may : MayOrder w c (informed k i) o
+  pub left : IsLeft w c (informed k i) (after m i o) o
+
+ordered_at : (w : World) (c : ℕ) (k : Controller) (m : Progress) (i : Input) (o : Order) → AreInformed w c (informed k i) (told m i) → IsAllowed (told m i) o → IsOrderedAt w c k m i o
+ordered_at w c k m i o both allowed = record {
+  may = may_order_by w c (informed k i) (told m i) o both allowed;
+  left = left_by w c (informed k i) (told m i) o both allowed;
+}
+
 pub may_order : (w : World) (c : ℕ) (k : Controller) (m : Progress) (i : Input) (o : Order) → IsDue k i → IsRunning k m → IsAnswered m i o
-    → IsPlacedBy (owns w.bus.owner c) w.trace k (Some m) → MayOrder w c (informed k i) o
-may_order w c k m (input.Heard h) o due tied answer placed = may_order_by w c _ _ o (informed_bus w c k m (input.Heard h) tt due tied placed) answer.allowed
-may_order w c k m input.Destroyed o due tied answer placed = may_order_by w c _ _ o (informed_bus w c k m input.Destroyed tt due tied placed) answer.allowed
-may_order w c k m input.Lapsed o due tied answer placed = may_order_by w c _ _ o (informed_bus w c k m input.Lapsed tt due tied placed) answer.allowed
-may_order w c k m input.Start o due tied answer placed = may_order_by w c _ _ o (informed_start w c k m due tied placed) answer.allowed
-may_order w c k m input.Committed o due tied answer placed = may_order_by w c _ _ o (informed_committed w c k m due tied placed) answer.allowed
-may_order w c k m input.CommitFailed o due tied answer placed = subst (λ p. MayOrder w c (informed k input.CommitFailed) p) (sym answer) tt
+    → IsPlacedBy (owns w.bus.owner c) w.trace k (Some m) → IsOrderedAt w c k m i o
+may_order w c k m (input.Heard h) o due tied answer placed = ordered_at w c k m (input.Heard h) o (informed_bus w c k m (input.Heard h) tt due tied placed) answer.allowed
+may_order w c k m input.Destroyed o due tied answer placed = ordered_at w c k m input.Destroyed o (informed_bus w c k m input.Destroyed tt due tied placed) answer.allowed
+may_order w c k m input.Lapsed o due tied answer placed = ordered_at w c k m input.Lapsed o (informed_bus w c k m input.Lapsed tt due tied placed) answer.allowed
+may_order w c k m input.Start o due tied answer placed = ordered_at w c k m input.Start o (informed_start w c k m due tied placed) answer.allowed
+may_order w c k m input.Committed o due tied answer placed = ordered_at w c k m input.Committed o (informed_committed w c k m due tied placed) answer.allowed
+may_order w c k m input.CommitFailed o due tied answer placed =
+    subst (λ p. IsOrderedAt w c k m input.CommitFailed p) (sym answer) (record { may = tt; left = tt })

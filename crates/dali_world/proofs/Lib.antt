@@ -1,3 +1,5 @@
 mod Ties
 mod Rows
 mod Acts
+mod Moves
+mod Placing

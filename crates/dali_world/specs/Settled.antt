@@ -15,6 +15,7 @@ use Rattle.dali_controller.specs.Progress.{Progress}
 use Rattle.dali_events.specs.World.{Controller}
 use Rattle.dali_events.specs.Happens.{entry, is_arc}
 use Rattle.dali_world.specs.Places.{Place}
+use Rattle.dali_world.specs.Standing.{Standing, place_in}
 
 -- HOW BUS AND CONTROLLERS GO TOGETHER on a site. It holds at each moment of a site, where each frame that is sent was next;
 -- it isn't so in every run of the definitions.
@@ -43,7 +44,7 @@ IsApart k m (Some (Done e)) told = Unit {0}
 IsApart k m (Some (Halt why)) told = Unit {0}
 
 abbrev pub IsPlacedBy : Bool → List Entry → Controller → Option Progress → Type 0
-IsPlacedBy owning t k None = owning ≡ false
+IsPlacedBy owning t k None = (owning ≡ false) × (k.last ≡ None)
 IsPlacedBy true t k (Some m) = IsOwning t k m k.last k.told
 IsPlacedBy false t k (Some m) = IsApart k m k.last k.told
 
@@ -89,3 +90,6 @@ pub record IsSettled (bus : Bus) (trace : List Entry) (place : ℕ → Place) : 
   pub places : (c : ℕ) → IsPlaced (owns bus.owner c) trace (place c)
   pub served : IsServed bus.lists bus.owner place
   pub up : AreUp bus.lists place
+
+abbrev pub Settled : Standing → Type 0
+Settled s = IsSettled s.bus s.trace (place_in s.seats)
