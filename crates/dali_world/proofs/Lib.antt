@@ -1,2 +1,3 @@
 mod Ties
 mod Rows
+mod Queues

@@ -20,10 +20,6 @@ pub record Place : Type 0 where
   pub controller : Controller
   pub machine : Option Progress
 
-abbrev pub last_of : Option Progress → Option Order
-last_of None = None
-last_of (Some m) = m.last
-
 -- ---------------------------------------------------------------- how the two go together
 
 -- the machine once it has heard what it was told
@@ -52,12 +48,13 @@ IsFound k m = later k.finding (finding_of (informed_by m k.told).trace) ≡ k.fi
 
 pub record IsRunning (k : Controller) (m : Progress) : Type 0 where
   pub kept : m.kept ≡ k.records
-  pub told : IsTold m.last k.told
-  pub outstanding : IsOutstanding k.records m.last k.outstanding
+  pub last : m.last ≡ k.last
+  pub told : IsTold k.last k.told
+  pub outstanding : IsOutstanding k.records k.last k.outstanding
   pub found : IsFound k m
 
 abbrev pub IsTied : Controller → Option Progress → Type 0
-IsTied k None = (k.told ≡ None) × (k.finding ≡ None)
+IsTied k None = (k.told ≡ None) × (k.finding ≡ None) × (k.last ≡ None)
 IsTied k (Some m) = IsRunning k m
 
 -- ---------------------------------------------------------------- what happens to a place

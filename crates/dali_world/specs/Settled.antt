@@ -15,6 +15,7 @@ use Rattle.dali_controller.specs.Progress.{Progress}
 use Rattle.dali_events.specs.World.{Controller}
 use Rattle.dali_events.specs.Happens.{entry, is_arc}
 use Rattle.dali_world.specs.Places.{Place}
+use Rattle.dali_world.specs.Standing.{Standing, place_in}
 
 -- HOW BUS AND CONTROLLERS GO TOGETHER on a site. It holds at each moment of a site, where each frame that is sent was next;
 -- it isn't so in every run of the definitions.
@@ -23,25 +24,29 @@ use Rattle.dali_world.specs.Places.{Place}
 
 -- a controller that owns the bus: its frame waits, and follows the frames of its transaction; or it was told what was heard
 -- after its last one, and more may follow
-abbrev pub IsOwning : List Entry → Controller → Progress → Option Input → Option Order → Type 0
-IsOwning t k m None (Some (Put p f)) = (p ≡ 1) × (t ≡ m.trace) × Lawful k.records.block k.records.reserved t f
-IsOwning t k m (Some (input.Heard h)) (Some (Put p f)) = t ≡ m.trace ++ entry f h ∷ []
+abbrev pub IsOwning : List Entry → Controller → Progress → Option Order → Option Input → Type 0
+IsOwning t k m (Some (Put p f)) None = (p ≡ 1) × (t ≡ m.trace) × Lawful k.records.block k.records.reserved t f × (is_arc (command_of f) ≡ false)
+IsOwning t k m (Some (Put p f)) (Some (input.Heard h)) = t ≡ m.trace ++ entry f h ∷ []
 IsOwning t k m _ _ = ⊥
 
 -- a controller that does not: its frame waits, and is a first one; or it was told what was heard after its last one, and
 -- none may follow; or nothing runs
-abbrev pub IsApart : Controller → Progress → Option Input → Option Order → Type 0
-IsApart k m None (Some (Put p f)) = (p ≡ 3) × (m.trace ≡ []) × IsFirst f
-IsApart k m (Some (input.Heard h)) (Some (Put p f)) = may_follow k.records.block k.records.reserved (stage_of (m.trace ++ entry f h ∷ [])) ≡ false
-IsApart k m told (Some (Put p f)) = Unit {0}
-IsApart k m told (Some (Done e)) = Unit {0}
-IsApart k m told (Some (Halt why)) = Unit {0}
-IsApart k m told _ = m.trace ≡ []
+abbrev pub IsOver : Controller → Progress → Forward → Input → Type 0
+IsOver k m f (input.Heard h) = may_follow k.records.block k.records.reserved (stage_of (m.trace ++ entry f h ∷ [])) ≡ false
+IsOver k m f _ = Unit {0}
+
+abbrev pub IsApart : Controller → Progress → Option Order → Option Input → Type 0
+IsApart k m None told = m.trace ≡ []
+IsApart k m (Some (Put p f)) None = (p ≡ 3) × (m.trace ≡ []) × IsFirst f
+IsApart k m (Some (Put p f)) (Some i) = IsOver k m f i
+IsApart k m (Some (Commit x)) told = m.trace ≡ []
+IsApart k m (Some (Done e)) told = Unit {0}
+IsApart k m (Some (Halt why)) told = Unit {0}
 
 abbrev pub IsPlacedBy : Bool → List Entry → Controller → Option Progress → Type 0
-IsPlacedBy owning t k None = owning ≡ false
-IsPlacedBy true t k (Some m) = IsOwning t k m k.told k.last
-IsPlacedBy false t k (Some m) = IsApart k m k.told k.last
+IsPlacedBy owning t k None = (owning ≡ false) × (k.last ≡ None)
+IsPlacedBy true t k (Some m) = IsOwning t k m k.last k.told
+IsPlacedBy false t k (Some m) = IsApart k m k.last k.told
 
 abbrev pub IsPlaced : Bool → List Entry → Place → Type 0
 IsPlaced owning t p = IsPlacedBy owning t p.controller p.machine
@@ -85,3 +90,6 @@ pub record IsSettled (bus : Bus) (trace : List Entry) (place : ℕ → Place) : 
   pub places : (c : ℕ) → IsPlaced (owns bus.owner c) trace (place c)
   pub served : IsServed bus.lists bus.owner place
   pub up : AreUp bus.lists place
+
+abbrev pub Settled : Standing → Type 0
+Settled s = IsSettled s.bus s.trace (place_in s.seats)
