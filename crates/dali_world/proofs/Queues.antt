@@ -165,3 +165,138 @@ muted_other : (c : ℕ) (test : Request → Bool) (lists : List (List Request)) 
     → picked test (map (without_sender c) lists) ≡ picked test lists
 muted_other c test [] apart = refl
 muted_other c test (l ∷ lists) apart = rw (without_other c test l apart, muted_other c test lists apart) refl
+
+-- ---------------------------------------------------------------- the one request that a controller waits for
+
+awaited_one : (c : ℕ) (told : Option Input) (last : Option Order) (r : Request) (rs : List Request) → r ∷ rs ≡ awaited_by c told last
+    → (rs ≡ []) × (r.sender ≡ c)
+awaited_one c None (Some (Put p f)) r rs e =
+    let same : r ≡ request_of c p f = cc in
+    (cc, ap (λ (x : Request). x.sender) same)
+awaited_one c None (Some (Commit x)) r rs e = absurd (cc)
+awaited_one c None (Some (Done x)) r rs e = absurd (cc)
+awaited_one c None (Some (Halt x)) r rs e = absurd (cc)
+awaited_one c None None r rs e = absurd (cc)
+awaited_one c (Some i) last r rs e = absurd (cc)
+
+owners_is : (owner : Option ℕ) (place : ℕ → Place) (c : ℕ) → owner ≡ Some c → owners_request owner place ≡ awaited c (place c).controller
+owners_is owner place c e = subst (λ o. owners_request o place ≡ awaited c (place c).controller) (sym e) refl
+
+rest_owned : (b : Bool) (rs : List Request) → b ≡ true → (if b then [] else rs) ≡ []
+rest_owned b rs e = rw e refl
+
+rest_free : (b : Bool) (rs : List Request) → b ≡ false → (if b then [] else rs) ≡ rs
+rest_free b rs e = rw e refl
+
+-- WHAT IS LEFT once request r was taken from the lists of a bus, where it was next
+record IsTaken (lists : List (List Request)) (owner : Option ℕ) (place : ℕ → Place) (r : Request) : Type 0 where
+  rest : List (List Request)
+  whole : without_first lists ≡ [] ∷ rest
+  waits : is_arc (command_of r.frame) ≡ false → awaited r.sender (place r.sender).controller ≡ r ∷ []
+  others : (d : ℕ) → (d ≡ r.sender → ⊥) → picked (is_scripted d) rest ≡ awaited d (place d).controller
+  own : is_arc (command_of r.frame) ≡ false → picked (is_scripted r.sender) rest ≡ []
+  arc : is_arc (command_of r.frame) ≡ true → owner ≡ None → picked (is_scripted r.sender) rest ≡ awaited r.sender (place r.sender).controller
+  owned : (o : ℕ) → owner ≡ Some o → (r.sender ≡ o) × (awaited o (place o).controller ≡ r ∷ []) × (collision lists ≡ None)
+
+taken_free : (rest : List (List Request)) (place : ℕ → Place) (r : Request) → IsServed ([] ∷ rest) None place
+    → first_waiting rest ≡ Some r → IsTaken ([] ∷ rest) None place r
+taken_free rest place r served first = record {
+  rest = without_first rest;
+  whole = refl;
+  waits = λ scripted. rw (short scripted) at (is scripted);
+  others = λ d other. taken_other (is_scripted d) rest r first (scripted_other d r other) ∙ served.1 d;
+  own = short;
+  arc = λ arc none. taken_other (is_scripted r.sender) rest r first (scripted_arc r.sender r arc) ∙ served.1 r.sender;
+  owned = λ o e. absurd (cc);
+} where
+  is : is_arc (command_of r.frame) ≡ false → awaited r.sender (place r.sender).controller ≡ r ∷ picked (is_scripted r.sender) (without_first rest)
+  is scripted = sym (served.1 r.sender) ∙ taken_own (is_scripted r.sender) rest r first (scripted_own r.sender r refl scripted)
+  short : is_arc (command_of r.frame) ≡ false → picked (is_scripted r.sender) (without_first rest) ≡ []
+  short scripted =
+      (awaited_one r.sender (place r.sender).controller.told (place r.sender).controller.last r (picked (is_scripted r.sender) (without_first rest)) (sym (is scripted))).0
+
+taken_owned : (x : Request) (rest : List (List Request)) (o : ℕ) (place : ℕ → Place) (r : Request) → IsServed ((x ∷ []) ∷ rest) (Some o) place
+    → x ≡ r → r.sender ≡ o → IsTaken ((x ∷ []) ∷ rest) (Some o) place r
+taken_owned x rest o place r served same owner = record {
+  rest = rest;
+  whole = refl;
+  waits = λ scripted. subst (λ n. awaited n (place n).controller ≡ r ∷ []) (sym owner) is;
+  others = λ d other. served.1 d ∙ rest_free (o == d) (awaited d (place d).controller) (apart_test o d (λ e. other (sym e ∙ sym owner)));
+  own = λ scripted. served.1 r.sender ∙ rest_owned (o == r.sender) (awaited r.sender (place r.sender).controller) (rw owner (same_test o));
+  arc = λ arc none. absurd (cc);
+  owned = λ p e. let whose : o ≡ p = cc in (owner ∙ whose, subst (λ n. awaited n (place n).controller ≡ r ∷ []) whose is, refl);
+} where
+  is : awaited o (place o).controller ≡ r ∷ []
+  is = sym served.0 ∙ ap (λ (y : Request). y ∷ []) same
+
+taken_is : (lists : List (List Request)) (owner : Option ℕ) (place : ℕ → Place) (r : Request) → IsServed lists owner place
+    → first_waiting (if is_some owner then take 1 lists else lists) ≡ Some r → IsTaken lists owner place r
+taken_is [] owner place r served first = elim served [ ]
+taken_is ([] ∷ rest) None place r served first = taken_free rest place r served first
+taken_is ((x ∷ xs) ∷ rest) None place r served first = absurd (let e : x ∷ xs ≡ [] = served.0 in cc)
+taken_is ([] ∷ rest) (Some o) place r served first = absurd (cc)
+taken_is ((x ∷ xs) ∷ rest) (Some o) place r served first =
+    let known = awaited_one o (place o).controller.told (place o).controller.last x xs served.0 in
+    let same : x ≡ r = cc in
+    go xs known.0 served same (ap (λ (y : Request). y.sender) (sym same) ∙ known.1) where
+      go : (ys : List Request) → ys ≡ [] → IsServed ((x ∷ ys) ∷ rest) (Some o) place → x ≡ r → r.sender ≡ o → IsTaken ((x ∷ ys) ∷ rest) (Some o) place r
+      go [] e served same owner = taken_owned x rest o place r served same owner
+      go (y ∷ ys) e served same owner = absurd (cc)
+
+-- ---------------------------------------------------------------- the request that is next
+
+pub next_is : (b : Bus) (place : ℕ → Place) (r : Request) → IsServed b.lists b.owner place → next b ≡ Some r → is_arc (command_of r.frame) ≡ false
+    → awaited r.sender (place r.sender).controller ≡ r ∷ []
+next_is b place r served first scripted = (taken_is b.lists b.owner place r served first).waits scripted
+
+pub next_owned : (b : Bus) (place : ℕ → Place) (r : Request) (c : ℕ) → IsServed b.lists b.owner place → next b ≡ Some r → b.owner ≡ Some c
+    → (r.sender ≡ c) × (awaited c (place c).controller ≡ r ∷ [])
+next_owned b place r c served first owner = let known = (taken_is b.lists b.owner place r served first).owned c owner in (known.0, known.1)
+
+pub collision_owned : (b : Bus) (place : ℕ → Place) (r : Request) (c : ℕ) → IsServed b.lists b.owner place → b.owner ≡ Some c → next b ≡ Some r
+    → collision b.lists ≡ None
+collision_owned b place r c served owner first = ((taken_is b.lists b.owner place r served first).owned c owner).2
+
+-- where a request is next, it is the first of the first list that is not empty
+first_of_all : (owner : Option ℕ) (lists : List (List Request)) (r : Request) → first_waiting (if is_some owner then take 1 lists else lists) ≡ Some r
+    → first_waiting lists ≡ Some r
+first_of_all None lists r e = e
+first_of_all (Some o) [] r e = e
+first_of_all (Some o) ([] ∷ lists) r e = absurd (cc)
+first_of_all (Some o) ((x ∷ xs) ∷ lists) r e = e
+
+rival_differs : (r q : Request) (rs : List Request) → rival r rs ≡ Some q → r.sender ≡ q.sender → ⊥
+rival_differs r q [] e same = absurd (cc)
+rival_differs r q (s ∷ rs) e same = go (decided r.sender s.sender) where
+  go : (r.sender ≡ s.sender) ⊎ (r.sender ≡ s.sender → ⊥) → ⊥
+  go (inl is) =
+      let test : (r.sender == s.sender) ≡ true = rw is (same_test s.sender) in
+      let none = rw test at e in
+      absurd (cc none)
+  go (inr other) =
+      let some = rw (apart_test r.sender s.sender other) at e in
+      let which : s ≡ q = cc some in
+      other (same ∙ ap (λ (y : Request). y.sender) (sym which))
+
+collision_apart : (lists : List (List Request)) (r q : Request) → first_waiting lists ≡ Some r → collision lists ≡ Some q → r.sender ≡ q.sender → ⊥
+collision_apart [] r q first other same = absurd (cc)
+collision_apart ([] ∷ lists) r q first other same = collision_apart lists r q first other same
+collision_apart ((x ∷ xs) ∷ lists) r q first other same =
+    let is : x ≡ r = cc in
+    rival_differs x q xs other (ap (λ (y : Request). y.sender) is ∙ same)
+
+pub collision_differs : (b : Bus) (r q : Request) → next b ≡ Some r → collision b.lists ≡ Some q → r.sender ≡ q.sender → ⊥
+collision_differs b r q first other same = collision_apart b.lists r q (first_of_all b.owner b.lists r first) other same
+
+-- the request that collided is the first once the other is taken
+rival_first : (r q : Request) (rs : List Request) (lists : List (List Request)) → rival r rs ≡ Some q → first_waiting (rs ∷ lists) ≡ Some q
+rival_first r q [] lists e = absurd (cc)
+rival_first r q (s ∷ rs) lists e = go (r.sender == s.sender) e where
+  go : (b : Bool) → (if b then None else Some s) ≡ Some q → Some s ≡ Some q
+  go true e = absurd (cc)
+  go false e = e
+
+collision_first : (lists : List (List Request)) (q : Request) → collision lists ≡ Some q → first_waiting (without_first lists) ≡ Some q
+collision_first [] q e = absurd (cc)
+collision_first ([] ∷ lists) q e = collision_first lists q e
+collision_first ((x ∷ xs) ∷ lists) q e = rival_first x q xs lists e
