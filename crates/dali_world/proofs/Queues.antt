@@ -300,3 +300,126 @@ collision_first : (lists : List (List Request)) (q : Request) → collision list
 collision_first [] q e = absurd (cc)
 collision_first ([] ∷ lists) q e = collision_first lists q e
 collision_first ((x ∷ xs) ∷ lists) q e = rival_first x q xs lists e
+
+-- ---------------------------------------------------------------- places that change
+
+moved : (place place' : ℕ → Place) (d : ℕ) → place' d ≡ place d → awaited d (place d).controller ≡ awaited d (place' d).controller
+moved place place' d same = ap (λ (p : Place). awaited d p.controller) (sym same)
+
+owners_elsewhere : (owner : Option ℕ) (place place' : ℕ → Place) (c : ℕ) → owns owner c ≡ false → Elsewhere place place' c
+    → owners_request owner place ≡ owners_request owner place'
+owners_elsewhere None place place' c apart elsewhere = refl
+owners_elsewhere (Some o) place place' c apart elsewhere = moved place place' o (elsewhere o (unequal o c apart))
+
+owners_alike : (owner : Option ℕ) (place place' : ℕ → Place) → ((d : ℕ) → awaited d (place d).controller ≡ awaited d (place' d).controller)
+    → owners_request owner place ≡ owners_request owner place'
+owners_alike None place place' alike = refl
+owners_alike (Some o) place place' alike = alike o
+
+served_alike : (lists : List (List Request)) (owner : Option ℕ) (place place' : ℕ → Place)
+    → ((d : ℕ) → awaited d (place d).controller ≡ awaited d (place' d).controller) → IsServed lists owner place → IsServed lists owner place'
+served_alike [] owner place place' alike served = elim served [ ]
+served_alike (first ∷ rest) owner place place' alike served =
+    (served.0 ∙ owners_alike owner place place' alike, λ d. served.1 d ∙ ap (λ (rs : List Request). if owns owner d then [] else rs) (alike d))
+
+-- a place changed, for which as much waits as before
+pub served_same : (lists : List (List Request)) (owner : Option ℕ) (place place' : ℕ → Place) (c : ℕ) → IsServed lists owner place → Elsewhere place place' c
+    → awaited c (place' c).controller ≡ awaited c (place c).controller → IsServed lists owner place'
+served_same lists owner place place' c served elsewhere same = served_alike lists owner place place' (λ d. go d (decided d c)) served where
+  go : (d : ℕ) → (d ≡ c) ⊎ (d ≡ c → ⊥) → awaited d (place d).controller ≡ awaited d (place' d).controller
+  go d (inl e) = subst (λ n. awaited n (place n).controller ≡ awaited n (place' n).controller) (sym e) (sym same)
+  go d (inr other) = moved place place' d (elsewhere d other)
+
+-- the start
+pub served_start : (capacity : ℕ) (place : ℕ → Place) → ((c : ℕ) → awaited c (place c).controller ≡ []) → IsServed (idle capacity).lists (idle capacity).owner place
+served_start capacity place none = (refl, λ c. sym (none c))
+
+-- ---------------------------------------------------------------- a frame left the bus
+
+-- what becomes of the sender of a frame that left: it waits for nothing; or the frame was for arc power, and nobody owned the bus
+abbrev pub Gone : Option ℕ → (ℕ → Place) → (ℕ → Place) → Request → Type 0
+Gone owner place place' r = ((is_arc (command_of r.frame) ≡ false) × (awaited r.sender (place' r.sender).controller ≡ []))
+    ⊎ ((is_arc (command_of r.frame) ≡ true) × (place' r.sender ≡ place r.sender) × (owner ≡ None))
+
+module _ (lists : List (List Request)) (owner : Option ℕ) (place place' : ℕ → Place) (r : Request) where
+  left_rest : (left : IsTaken lists owner place r) → Elsewhere place place' r.sender → Gone owner place place' r → IsServed ([] ∷ left.rest) None place'
+  left_rest left elsewhere gone = (refl, λ d. go d (decided d r.sender)) where
+    own : Gone owner place place' r → picked (is_scripted r.sender) left.rest ≡ awaited r.sender (place' r.sender).controller
+    own (inl g) = left.own g.0 ∙ sym g.1
+    own (inr g) = left.arc g.0 g.2 ∙ moved place place' r.sender g.1
+    go : (d : ℕ) → (d ≡ r.sender) ⊎ (d ≡ r.sender → ⊥) → picked (is_scripted d) left.rest ≡ awaited d (place' d).controller
+    go d (inl e) = subst (λ n. picked (is_scripted n) left.rest ≡ awaited n (place' n).controller) (sym e) (own gone)
+    go d (inr other) = left.others d other ∙ moved place place' d (elsewhere d other)
+
+  left_free : IsTaken lists owner place r → Elsewhere place place' r.sender → Gone owner place place' r → IsServed (first_emptied (without_first lists)) None place'
+  left_free left elsewhere gone = subst (λ ls. IsServed (first_emptied ls) None place') (sym left.whole) (left_rest left elsewhere gone)
+
+  left_first : IsTaken lists owner place r → Elsewhere place place' r.sender → Gone owner place place' r → IsServed (without_first lists) None place'
+  left_first left elsewhere gone = subst (λ ls. IsServed ls None place') (sym left.whole) (left_rest left elsewhere gone)
+
+  left_owned : IsTaken lists owner place r → Elsewhere place place' r.sender → is_arc (command_of r.frame) ≡ false
+      → awaited r.sender (place' r.sender).controller ≡ [] → IsServed (without_first lists) (Some r.sender) place'
+  left_owned left elsewhere scripted none = subst (λ ls. IsServed ls (Some r.sender) place') (sym left.whole) (sym none, λ d. go d (decided d r.sender)) where
+    go : (d : ℕ) → (d ≡ r.sender) ⊎ (d ≡ r.sender → ⊥) → picked (is_scripted d) left.rest ≡ (if r.sender == d then [] else awaited d (place' d).controller)
+    go d (inl e) =
+        subst (λ n. picked (is_scripted n) left.rest ≡ (if r.sender == n then [] else awaited n (place' n).controller)) (sym e)
+        (left.own scripted ∙ sym (rest_owned (r.sender == r.sender) (awaited r.sender (place' r.sender).controller) (same_test r.sender)))
+    go d (inr other) =
+        left.others d other ∙ moved place place' d (elsewhere d other)
+        ∙ sym (rest_free (r.sender == d) (awaited d (place' d).controller) (apart_test r.sender d (λ e. other (sym e))))
+
+-- a frame was sent
+pub served_sent : (b : Bus) (place place' : ℕ → Place) (r : Request) (more : Bool) → IsServed b.lists b.owner place → next b ≡ Some r
+    → Elsewhere place place' r.sender → Gone b.owner place place' r → (is_arc (command_of r.frame) ≡ true → more ≡ false)
+    → IsServed (sent_by b r.sender more).lists (sent_by b r.sender more).owner place'
+served_sent b place place' r false served first elsewhere gone last = left_free b.lists b.owner place place' r (taken_is b.lists b.owner place r served first) elsewhere gone
+served_sent b place place' r true served first elsewhere (inl g) last =
+    left_owned b.lists b.owner place place' r (taken_is b.lists b.owner place r served first) elsewhere g.0 g.1
+served_sent b place place' r true served first elsewhere (inr g) last = absurd (cc (last g.0))
+
+-- a frame was destroyed
+pub served_destroyed : (b : Bus) (place place' : ℕ → Place) (r : Request) → IsServed b.lists b.owner place → next b ≡ Some r
+    → Elsewhere place place' r.sender → Gone b.owner place place' r → IsServed (destroyed b).lists (destroyed b).owner place'
+served_destroyed b place place' r served first elsewhere gone = left_free b.lists b.owner place place' r (taken_is b.lists b.owner place r served first) elsewhere gone
+
+-- two frames collided: the one that is next left, and then the other
+module _ (lists : List (List Request)) (place place' : ℕ → Place) (r q : Request) where
+  abbrev between : ℕ → Place
+  between d = if d == r.sender then place' d else place d
+
+  between_own : (d : ℕ) → d ≡ r.sender → between d ≡ place' d
+  between_own d is = let test : (d == r.sender) ≡ true = rw is (same_test r.sender) in rw test refl
+
+  between_other : (d : ℕ) → (d ≡ r.sender → ⊥) → between d ≡ place d
+  between_other d other = rw (apart_test d r.sender other) refl
+
+  gone_before : Gone None place place' r → Gone None place between r
+  gone_before (inl g) = inl (g.0, subst (λ p. awaited r.sender p.controller ≡ []) (sym (between_own r.sender refl)) g.1)
+  gone_before (inr g) = inr (g.0, between_own r.sender refl ∙ g.1, refl)
+
+  gone_after : (q.sender ≡ r.sender → ⊥) → Gone None place place' q → Gone None between place' q
+  gone_after apart (inl g) = inl g
+  gone_after apart (inr g) = inr (g.0, g.1 ∙ sym (between_other q.sender apart), refl)
+
+  left_both : IsServed lists None place → first_waiting lists ≡ Some r → collision lists ≡ Some q
+      → ((d : ℕ) → (d ≡ r.sender → ⊥) → (d ≡ q.sender → ⊥) → place' d ≡ place d) → Gone None place place' r → Gone None place place' q
+      → IsServed (first_emptied (without_first (without_first lists))) None place'
+  left_both served first second elsewhere gone other_gone =
+      left_free (without_first lists) None between place' q
+      (taken_is (without_first lists) None between q before (collision_first lists q second))
+      (λ d other. go d other (decided d r.sender))
+      (gone_after (λ e. collision_apart lists r q first second (sym e)) other_gone) where
+        before : IsServed (without_first lists) None between
+        before = left_first lists None place between r (taken_is lists None place r served first) between_other (gone_before gone)
+        go : (d : ℕ) → (d ≡ q.sender → ⊥) → (d ≡ r.sender) ⊎ (d ≡ r.sender → ⊥) → place' d ≡ between d
+        go d other (inl is) = sym (between_own d is)
+        go d other (inr apart) = elsewhere d apart other ∙ sym (between_other d apart)
+
+pub served_collided : (b : Bus) (place place' : ℕ → Place) (r q : Request) → IsServed b.lists b.owner place → b.owner ≡ None
+    → next b ≡ Some r → collision b.lists ≡ Some q
+    → ((d : ℕ) → (d ≡ r.sender → ⊥) → (d ≡ q.sender → ⊥) → place' d ≡ place d) → Gone b.owner place place' r → Gone b.owner place place' q
+    → IsServed (collided b).lists (collided b).owner place'
+served_collided b place place' r q served free first second elsewhere gone other_gone =
+    subst (λ o. IsServed (freed (if is_some o then taken (taken b) else taken b)).lists None place') (sym second)
+    (left_both b.lists place place' r q (subst (λ o. IsServed b.lists o place) free served) (first_of_all b.owner b.lists r first) second elsewhere
+    (subst (λ o. Gone o place place' r) free gone) (subst (λ o. Gone o place place' q) free other_gone))
