@@ -423,3 +423,173 @@ served_collided b place place' r q served free first second elsewhere gone other
     subst (λ o. IsServed (freed (if is_some o then taken (taken b) else taken b)).lists None place') (sym second)
     (left_both b.lists place place' r q (subst (λ o. IsServed b.lists o place) free served) (first_of_all b.owner b.lists r first) second elsewhere
     (subst (λ o. Gone o place place' r) free gone) (subst (λ o. Gone o place place' q) free other_gone))
+
+-- ---------------------------------------------------------------- the owner loses the bus
+
+emptied_served : (lists : List (List Request)) (place place' : ℕ → Place) (c : ℕ) → IsServed lists (Some c) place → Elsewhere place place' c
+    → awaited c (place' c).controller ≡ [] → IsServed (first_emptied lists) None place'
+emptied_served [] place place' c served elsewhere none = elim served [ ]
+emptied_served (first ∷ rest) place place' c served elsewhere none = (refl, λ d. go d (decided d c)) where
+  go : (d : ℕ) → (d ≡ c) ⊎ (d ≡ c → ⊥) → picked (is_scripted d) rest ≡ awaited d (place' d).controller
+  go d (inl e) =
+      subst (λ n. picked (is_scripted n) rest ≡ awaited n (place' n).controller) (sym e)
+      (served.1 c ∙ rest_owned (c == c) (awaited c (place c).controller) (same_test c) ∙ sym none)
+  go d (inr other) =
+      served.1 d ∙ rest_free (c == d) (awaited d (place d).controller) (apart_test c d (λ e. other (sym e))) ∙ moved place place' d (elsewhere d other)
+
+pub served_lapsed : (b : Bus) (place place' : ℕ → Place) (c : ℕ) → IsServed b.lists b.owner place → b.owner ≡ Some c → Elsewhere place place' c
+    → awaited c (place' c).controller ≡ [] → IsServed (lapsed b).lists (lapsed b).owner place'
+served_lapsed b place place' c served owner elsewhere none =
+    emptied_served b.lists place place' c (subst (λ o. IsServed b.lists o place) owner served) elsewhere none
+
+idle_served : (lists : List (List Request)) (place : ℕ → Place) → IsServed lists None place → IsServed (first_emptied lists) None place
+idle_served [] place served = elim served [ ]
+idle_served (first ∷ rest) place served = (refl, served.1)
+
+pub served_idle : (b : Bus) (place : ℕ → Place) → b.owner ≡ None → IsServed b.lists b.owner place → IsServed (lapsed b).lists (lapsed b).owner place
+served_idle b place free served = idle_served b.lists place (subst (λ o. IsServed b.lists o place) free served)
+
+-- ---------------------------------------------------------------- a controller goes down
+
+without_awaited : (c o : ℕ) (told : Option Input) (last : Option Order) → (o ≡ c → ⊥) → without_sender c (awaited_by o told last) ≡ awaited_by o told last
+without_awaited c o None (Some (Put p f)) other = rw (apart_test o c other) refl
+without_awaited c o None (Some (Commit x)) other = refl
+without_awaited c o None (Some (Done x)) other = refl
+without_awaited c o None (Some (Halt x)) other = refl
+without_awaited c o None None other = refl
+without_awaited c o (Some i) last other = refl
+
+without_owners : (owner : Option ℕ) (place : ℕ → Place) (c : ℕ) → owns owner c ≡ false → without_sender c (owners_request owner place) ≡ owners_request owner place
+without_owners None place c apart = refl
+without_owners (Some o) place c apart = without_awaited c o (place o).controller.told (place o).controller.last (unequal o c apart)
+
+apart_of : (c d : ℕ) → (d ≡ c → ⊥) → (r : Request) → r.sender ≡ c → is_scripted d r ≡ false
+apart_of c d other r is = scripted_other d r (λ e. other (e ∙ is))
+
+muted_owned : (lists : List (List Request)) (place place' : ℕ → Place) (c : ℕ) → IsServed lists (Some c) place → Elsewhere place place' c
+    → awaited c (place' c).controller ≡ [] → IsServed (first_emptied (map (without_sender c) lists)) None place'
+muted_owned [] place place' c served elsewhere none = elim served [ ]
+muted_owned (first ∷ rest) place place' c served elsewhere none = (refl, λ d. go d (decided d c)) where
+  go : (d : ℕ) → (d ≡ c) ⊎ (d ≡ c → ⊥) → picked (is_scripted d) (map (without_sender c) rest) ≡ awaited d (place' d).controller
+  go d (inl e) =
+      subst (λ n. picked (is_scripted n) (map (without_sender c) rest) ≡ awaited n (place' n).controller) (sym e) (muted_own c rest ∙ sym none)
+  go d (inr other) =
+      muted_other c (is_scripted d) rest (apart_of c d other) ∙ served.1 d
+      ∙ rest_free (c == d) (awaited d (place d).controller) (apart_test c d (λ e. other (sym e))) ∙ moved place place' d (elsewhere d other)
+
+muted_apart : (lists : List (List Request)) (owner : Option ℕ) (place place' : ℕ → Place) (c : ℕ) → owns owner c ≡ false → IsServed lists owner place
+    → Elsewhere place place' c → awaited c (place' c).controller ≡ [] → IsServed (map (without_sender c) lists) owner place'
+muted_apart [] owner place place' c apart served elsewhere none = elim served [ ]
+muted_apart (first ∷ rest) owner place place' c apart served elsewhere none =
+    (ap (without_sender c) served.0 ∙ without_owners owner place c apart ∙ owners_elsewhere owner place place' c apart elsewhere, λ d. go d (decided d c)) where
+      go : (d : ℕ) → (d ≡ c) ⊎ (d ≡ c → ⊥) → picked (is_scripted d) (map (without_sender c) rest) ≡ (if owns owner d then [] else awaited d (place' d).controller)
+      go d (inl e) =
+          subst (λ n. picked (is_scripted n) (map (without_sender c) rest) ≡ (if owns owner n then [] else awaited n (place' n).controller)) (sym e)
+          (muted_own c rest ∙ sym none ∙ sym (rest_free (owns owner c) (awaited c (place' c).controller) apart))
+      go d (inr other) =
+          muted_other c (is_scripted d) rest (apart_of c d other) ∙ served.1 d
+          ∙ ap (λ (rs : List Request). if owns owner d then [] else rs) (moved place place' d (elsewhere d other))
+
+pub served_silenced : (b : Bus) (place place' : ℕ → Place) (c : ℕ) → IsServed b.lists b.owner place → Elsewhere place place' c
+    → awaited c (place' c).controller ≡ [] → IsServed (silenced b c).lists (silenced b c).owner place'
+served_silenced b place place' c served elsewhere none = go (owns b.owner c) refl where
+  go : (t : Bool) → owns b.owner c ≡ t → IsServed (if t then freed (muted b c) else muted b c).lists (if t then freed (muted b c) else muted b c).owner place'
+  go true e = muted_owned b.lists place place' c (subst (λ o. IsServed b.lists o place) (owned_is b.owner c e) served) elsewhere none
+  go false e = muted_apart b.lists b.owner place place' c e served elsewhere none
+
+-- ---------------------------------------------------------------- an arc power frame is offered
+
+arc_served : (lists : List (List Request)) (owner : Option ℕ) (place : ℕ → Place) (c : ℕ) (f : Forward) → IsServed lists owner place
+    → is_arc (command_of f) ≡ true → IsServed (put_last (request_of c 2 f) 1 lists) owner place
+arc_served [] owner place c f served arc = elim served [ ]
+arc_served (first ∷ rest) owner place c f served arc =
+    (served.0, λ d. picked_other (is_scripted d) (request_of c 2 f) 2 rest (scripted_arc d (request_of c 2 f) arc) ∙ served.1 d)
+
+pub served_offered : (b : Bus) (place : ℕ → Place) (c : ℕ) (f : Forward) → IsServed b.lists b.owner place → is_arc (command_of f) ≡ true
+    → IsServed (offered b (request_of c 2 f)).lists (offered b (request_of c 2 f)).owner place
+served_offered b place c f served arc = arc_served b.lists b.owner place c f served arc
+
+-- ---------------------------------------------------------------- a controller acts
+
+-- an order whose frame, if it has one, is scripted, and goes to list 1 from the owner or to list 3
+abbrev pub MayAsk : Option ℕ → ℕ → Order → Type 0
+MayAsk owner c (Put p f) = (is_arc (command_of f) ≡ false) × (((p ≡ 1) × (owns owner c ≡ true)) ⊎ (p ≡ 3))
+MayAsk owner c _ = Unit {0}
+
+module _ (place place' : ℕ → Place) (c : ℕ) (f : Forward) where
+  put_owned : (lists : List (List Request)) → IsServed lists (Some c) place → Elsewhere place place' c → awaited c (place c).controller ≡ []
+      → awaited c (place' c).controller ≡ request_of c 1 f ∷ [] → IsServed (put_last (request_of c 1 f) 1 lists) (Some c) place'
+  put_owned [] served elsewhere none new = elim served [ ]
+  put_owned (first ∷ rest) served elsewhere none new = (now, λ d. ap (picked (is_scripted d)) beyond ∙ served.1 d ∙ go d (decided d c)) where
+    now : first ++ request_of c 1 f ∷ [] ≡ awaited c (place' c).controller
+    now = let e : first ≡ [] = served.0 ∙ none in rw e (sym new)
+    beyond : put_last (request_of c 1 f) 2 rest ≡ rest
+    beyond = put_beyond (request_of c 1 f) 2 rest (omega arith)
+    go : (d : ℕ) → (d ≡ c) ⊎ (d ≡ c → ⊥) → (if c == d then [] else awaited d (place d).controller) ≡ (if c == d then [] else awaited d (place' d).controller)
+    go d (inl e) =
+        let test : (c == d) ≡ true = rw e (same_test c) in
+        rest_owned (c == d) (awaited d (place d).controller) test ∙ sym (rest_owned (c == d) (awaited d (place' d).controller) test)
+    go d (inr other) = ap (λ (rs : List Request). if c == d then [] else rs) (moved place place' d (elsewhere d other))
+
+  put_third : (lists : List (List Request)) (owner : Option ℕ) → length lists ≡ 5 → owns owner c ≡ false → is_arc (command_of f) ≡ false
+      → IsServed lists owner place → Elsewhere place place' c → awaited c (place c).controller ≡ []
+      → awaited c (place' c).controller ≡ request_of c 3 f ∷ [] → IsServed (put_last (request_of c 3 f) 1 lists) owner place'
+  put_third [] owner five apart scripted served elsewhere none new = elim served [ ]
+  put_third (first ∷ rest) owner five apart scripted served elsewhere none new =
+      (served.0 ∙ owners_elsewhere owner place place' c apart elsewhere, λ d. go d (decided d c)) where
+        nothing : picked (is_scripted c) rest ≡ []
+        nothing = served.1 c ∙ rest_free (owns owner c) (awaited c (place c).controller) apart ∙ none
+        added : picked (is_scripted c) (put_last (request_of c 3 f) 2 rest) ≡ request_of c 3 f ∷ []
+        added = picked_added (is_scripted c) (request_of c 3 f) 2 rest nothing (scripted_own c (request_of c 3 f) refl scripted) (omega arith) (omega arith)
+        go : (d : ℕ) → (d ≡ c) ⊎ (d ≡ c → ⊥)
+            → picked (is_scripted d) (put_last (request_of c 3 f) 2 rest) ≡ (if owns owner d then [] else awaited d (place' d).controller)
+        go d (inl e) =
+            subst (λ n. picked (is_scripted n) (put_last (request_of c 3 f) 2 rest) ≡ (if owns owner n then [] else awaited n (place' n).controller)) (sym e)
+            (added ∙ sym new ∙ sym (rest_free (owns owner c) (awaited c (place' c).controller) apart))
+        go d (inr other) =
+            picked_other (is_scripted d) (request_of c 3 f) 2 rest (scripted_other d (request_of c 3 f) other) ∙ served.1 d
+            ∙ ap (λ (rs : List Request). if owns owner d then [] else rs) (moved place place' d (elsewhere d other))
+
+emptied_length : (lists : List (List Request)) → length (first_emptied lists) ≡ length lists
+emptied_length [] = refl
+emptied_length (l ∷ lists) = refl
+
+module _ (b : Bus) (place place' : ℕ → Place) (c : ℕ) (served : IsServed b.lists b.owner place) (elsewhere : Elsewhere place place' c)
+    (none : awaited c (place c).controller ≡ []) where
+  -- an order with no frame
+  acted_quiet : awaited c (place' c).controller ≡ [] → (t : Bool) → owns b.owner c ≡ t
+      → IsServed (if t && true then lapsed b else b).lists (if t && true then lapsed b else b).owner place'
+  acted_quiet new true e = served_lapsed b place place' c served (owned_is b.owner c e) elsewhere new
+  acted_quiet new false e = served_same b.lists b.owner place place' c served elsewhere (new ∙ sym none)
+
+  acted_owned : (f : Forward) → owns b.owner c ≡ true → awaited c (place' c).controller ≡ request_of c 1 f ∷ []
+      → IsServed (bus_acted b c (Put 1 f)).lists (bus_acted b c (Put 1 f)).owner place'
+  acted_owned f owned new = rw owned (subst (λ o. IsServed (put_last (request_of c 1 f) 1 b.lists) o place') (sym owner)
+      (put_owned place place' c f b.lists (subst (λ o. IsServed b.lists o place) owner served) elsewhere none new)) where
+    owner : b.owner ≡ Some c
+    owner = owned_is b.owner c owned
+
+  acted_third : (f : Forward) → length b.lists ≡ 5 → is_arc (command_of f) ≡ false → awaited c (place' c).controller ≡ request_of c 3 f ∷ []
+      → IsServed (bus_acted b c (Put 3 f)).lists (bus_acted b c (Put 3 f)).owner place'
+  acted_third f five scripted new = go (owns b.owner c) refl where
+    go : (t : Bool) → owns b.owner c ≡ t
+        → IsServed (put_last (request_of c 3 f) 1 (if t && true then lapsed b else b).lists) (if t && true then lapsed b else b).owner place'
+    go true e =
+        put_third place place' c f (first_emptied b.lists) None (emptied_length b.lists ∙ five) refl scripted
+        (served_lapsed b place place c served (owned_is b.owner c e) (λ d other. refl) none) elsewhere none new
+    go false e = put_third place place' c f b.lists b.owner five e scripted served elsewhere none new
+
+pub served_acted : (b : Bus) (place place' : ℕ → Place) (c : ℕ) (o : Order) → length b.lists ≡ 5 → IsServed b.lists b.owner place → Elsewhere place place' c
+    → awaited c (place c).controller ≡ [] → awaited c (place' c).controller ≡ awaited_by c None (Some o) → MayAsk b.owner c o
+    → IsServed (bus_acted b c o).lists (bus_acted b c o).owner place'
+served_acted b place place' c (Put p f) five served elsewhere none new asks = go asks.1 where
+  go : ((p ≡ 1) × (owns b.owner c ≡ true)) ⊎ (p ≡ 3) → IsServed (bus_acted b c (Put p f)).lists (bus_acted b c (Put p f)).owner place'
+  go (inl first) =
+      subst (λ n. awaited c (place' c).controller ≡ request_of c n f ∷ [] → IsServed (bus_acted b c (Put n f)).lists (bus_acted b c (Put n f)).owner place')
+      (sym first.0) (acted_owned b place place' c served elsewhere none f first.1) new
+  go (inr third) =
+      subst (λ n. awaited c (place' c).controller ≡ request_of c n f ∷ [] → IsServed (bus_acted b c (Put n f)).lists (bus_acted b c (Put n f)).owner place')
+      (sym third) (acted_third b place place' c served elsewhere none f five asks.0) new
+served_acted b place place' c (Commit x) five served elsewhere none new asks = acted_quiet b place place' c served elsewhere none new (owns b.owner c) refl
+served_acted b place place' c (Done x) five served elsewhere none new asks = acted_quiet b place place' c served elsewhere none new (owns b.owner c) refl
+served_acted b place place' c (Halt x) five served elsewhere none new asks = acted_quiet b place place' c served elsewhere none new (owns b.owner c) refl
