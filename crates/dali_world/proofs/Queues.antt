@@ -1,4 +1,4 @@
-use Rattle.std.proofs.Common.{◌≡◌, ℕ, ◌+◌, ◌<◌, ◌≤◌, ◌⊎◌, inl, inr, Bool, true, false, not, List, [], ◌∷◌, ◌++◌, length, map, filter, take, Option, Some, None, refl, sym, ap, subst, ◌∙◌, arith, cond, ◌==◌}
+use Rattle.std.proofs.Common.{◌≡◌, ℕ, ◌+◌, ◌<◌, ◌≤◌, ◌⊎◌, inl, inr, Bool, true, false, not, List, [], ◌∷◌, ◌++◌, length, map, filter, take, Option, Some, None, refl, sym, ap, subst, ◌∙◌, arith, suc, ◌==◌}
 use Rattle.std.specs.Prelude.{◌&&◌, if◌then◌else◌, is_some}
 use Rattle.std.specs.List.{AllByRecursion}
 use Rattle.std.proofs.lemmas.Bool.Decides.{nat_tests}
@@ -593,3 +593,164 @@ served_acted b place place' c (Put p f) five served elsewhere none new asks = go
 served_acted b place place' c (Commit x) five served elsewhere none new asks = acted_quiet b place place' c served elsewhere none new (owns b.owner c) refl
 served_acted b place place' c (Done x) five served elsewhere none new asks = acted_quiet b place place' c served elsewhere none new (owns b.owner c) refl
 served_acted b place place' c (Halt x) five served elsewhere none new asks = acted_quiet b place place' c served elsewhere none new (owns b.owner c) refl
+
+-- ---------------------------------------------------------------- five lists stay five
+
+put_length : (r : Request) (n : ℕ) (lists : List (List Request)) → length (put_last r n lists) ≡ length lists
+put_length r n [] = refl
+put_length r n (l ∷ lists) = ap suc (put_length r (n + 1) lists)
+
+without_length : (lists : List (List Request)) → length (without_first lists) ≡ length lists
+without_length [] = refl
+without_length ([] ∷ lists) = ap suc (without_length lists)
+without_length ((x ∷ xs) ∷ lists) = refl
+
+muted_length : (c : ℕ) (lists : List (List Request)) → length (map (without_sender c) lists) ≡ length lists
+muted_length c [] = refl
+muted_length c (l ∷ lists) = ap suc (muted_length c lists)
+
+pub five_lapsed : (b : Bus) → length b.lists ≡ 5 → length (lapsed b).lists ≡ 5
+five_lapsed b five = emptied_length b.lists ∙ five
+
+pub five_offered : (b : Bus) (r : Request) → length b.lists ≡ 5 → length (offered b r).lists ≡ 5
+five_offered b r five = put_length r 1 b.lists ∙ five
+
+pub five_acted : (b : Bus) (c : ℕ) (o : Order) → length b.lists ≡ 5 → length (bus_acted b c o).lists ≡ 5
+five_acted b c o five = go o (before (gives_up b c o)) where
+  before : (t : Bool) → length (if t then lapsed b else b).lists ≡ 5
+  before true = five_lapsed b five
+  before false = five
+  go : (x : Order) → length (if gives_up b c o then lapsed b else b).lists ≡ 5 → length (put_after (if gives_up b c o then lapsed b else b) c x).lists ≡ 5
+  go (Put p f) is = five_offered (if gives_up b c o then lapsed b else b) (request_of c p f) is
+  go (Commit x) is = is
+  go (Done x) is = is
+  go (Halt x) is = is
+
+pub five_destroyed : (b : Bus) → length b.lists ≡ 5 → length (destroyed b).lists ≡ 5
+five_destroyed b five = emptied_length (without_first b.lists) ∙ without_length b.lists ∙ five
+
+pub five_sent : (b : Bus) (c : ℕ) (more : Bool) → length b.lists ≡ 5 → length (sent_by b c more).lists ≡ 5
+five_sent b c true five = without_length b.lists ∙ five
+five_sent b c false five = five_destroyed b five
+
+pub five_collided : (b : Bus) → length b.lists ≡ 5 → length (collided b).lists ≡ 5
+five_collided b five = go (is_some (collision b.lists)) where
+  go : (t : Bool) → length (freed (if t then taken (taken b) else taken b)).lists ≡ 5
+  go true = emptied_length (without_first (without_first b.lists)) ∙ without_length (without_first b.lists) ∙ without_length b.lists ∙ five
+  go false = five_destroyed b five
+
+pub five_silenced : (b : Bus) (c : ℕ) → length b.lists ≡ 5 → length (silenced b c).lists ≡ 5
+five_silenced b c five = go (owns b.owner c) where
+  go : (t : Bool) → length (if t then freed (muted b c) else muted b c).lists ≡ 5
+  go true = emptied_length (map (without_sender c) b.lists) ∙ muted_length c b.lists ∙ five
+  go false = muted_length c b.lists ∙ five
+
+-- ---------------------------------------------------------------- what is true of all requests
+
+abbrev AllOf : (Request → Type 0) → List (List Request) → Type 0
+AllOf P lists = AllByRecursion (λ l. AllByRecursion P l) lists
+
+more_of : (P Q : Request → Type 0) (l : List Request) → ((r : Request) → P r → Q r) → AllByRecursion P l → AllByRecursion Q l
+more_of P Q [] more all = tt
+more_of P Q (x ∷ xs) more all = (more x all.0, more_of P Q xs more all.1)
+
+all_more : (P Q : Request → Type 0) (lists : List (List Request)) → ((r : Request) → P r → Q r) → AllOf P lists → AllOf Q lists
+all_more P Q [] more all = tt
+all_more P Q (l ∷ lists) more all = (more_of P Q l more all.0, all_more P Q lists more all.1)
+
+last_of_all : (P : Request → Type 0) (l : List Request) (r : Request) → AllByRecursion P l → P r → AllByRecursion P (l ++ r ∷ [])
+last_of_all P [] r all is = (is, tt)
+last_of_all P (x ∷ xs) r all is = (all.0, last_of_all P xs r all.1 is)
+
+all_put : (P : Request → Type 0) (r : Request) (n : ℕ) (lists : List (List Request)) → AllOf P lists → P r → AllOf P (put_last r n lists)
+all_put P r n [] all is = tt
+all_put P r n (l ∷ lists) all is = (go (r.priority == n), all_put P r (n + 1) lists all.1 is) where
+  go : (b : Bool) → AllByRecursion P (if b then l ++ r ∷ [] else l)
+  go true = last_of_all P l r all.0 is
+  go false = all.0
+
+all_emptied : (P : Request → Type 0) (lists : List (List Request)) → AllOf P lists → AllOf P (first_emptied lists)
+all_emptied P [] all = tt
+all_emptied P (l ∷ lists) all = (tt, all.1)
+
+all_without : (P : Request → Type 0) (lists : List (List Request)) → AllOf P lists → AllOf P (without_first lists)
+all_without P [] all = tt
+all_without P ([] ∷ lists) all = (tt, all_without P lists all.1)
+all_without P ((x ∷ xs) ∷ lists) all = (all.0.1, all.1)
+
+quiet_of : (P Q : Request → Type 0) (c : ℕ) (l : List Request) → ((r : Request) → (r.sender ≡ c → ⊥) → P r → Q r) → AllByRecursion P l → AllByRecursion Q (without_sender c l)
+quiet_of P Q c [] more all = tt
+quiet_of P Q c (x ∷ xs) more all = go (x.sender == c) refl (quiet_of P Q c xs more all.1) where
+  go : (b : Bool) → (x.sender == c) ≡ b → AllByRecursion Q (without_sender c xs) → AllByRecursion Q (if not b then x ∷ without_sender c xs else without_sender c xs)
+  go true e later = later
+  go false e later = (more x (unequal x.sender c e) all.0, later)
+
+all_muted : (P Q : Request → Type 0) (c : ℕ) (lists : List (List Request)) → ((r : Request) → (r.sender ≡ c → ⊥) → P r → Q r) → AllOf P lists
+    → AllOf Q (map (without_sender c) lists)
+all_muted P Q c [] more all = tt
+all_muted P Q c (l ∷ lists) more all = (quiet_of P Q c l more all.0, all_muted P Q c lists more all.1)
+
+all_first : (P : Request → Type 0) (lists : List (List Request)) (r : Request) → AllOf P lists → first_waiting lists ≡ Some r → P r
+all_first P [] r all first = absurd (cc)
+all_first P ([] ∷ lists) r all first = all_first P lists r all.1 first
+all_first P ((x ∷ xs) ∷ lists) r all first = let same : x ≡ r = cc in subst P same all.0.0
+
+-- ---------------------------------------------------------------- the senders of all requests are up
+
+abbrev UpAt : (ℕ → Place) → Request → Type 0
+UpAt place r = (place r.sender).controller.up ≡ true
+
+pub up_more : (lists : List (List Request)) (place place' : ℕ → Place) → ((c : ℕ) → (place c).controller.up ≡ true → (place' c).controller.up ≡ true)
+    → AreUp lists place → AreUp lists place'
+up_more lists place place' more all = all_more (UpAt place) (UpAt place') lists (λ r is. more r.sender is) all
+
+pub up_start : (capacity : ℕ) (place : ℕ → Place) → AreUp (idle capacity).lists place
+up_start capacity place = (tt, (tt, (tt, (tt, (tt, tt)))))
+
+pub up_lapsed : (b : Bus) (place : ℕ → Place) → AreUp b.lists place → AreUp (lapsed b).lists place
+up_lapsed b place all = all_emptied (UpAt place) b.lists all
+
+pub up_offered : (b : Bus) (place : ℕ → Place) (r : Request) → AreUp b.lists place → (place r.sender).controller.up ≡ true → AreUp (offered b r).lists place
+up_offered b place r all is = all_put (UpAt place) r 1 b.lists all is
+
+pub up_acted : (b : Bus) (place : ℕ → Place) (c : ℕ) (o : Order) → AreUp b.lists place → (place c).controller.up ≡ true → AreUp (bus_acted b c o).lists place
+up_acted b place c o all is = go o (before (gives_up b c o)) where
+  before : (t : Bool) → AreUp (if t then lapsed b else b).lists place
+  before true = up_lapsed b place all
+  before false = all
+  go : (x : Order) → AreUp (if gives_up b c o then lapsed b else b).lists place → AreUp (put_after (if gives_up b c o then lapsed b else b) c x).lists place
+  go (Put p f) then_all = up_offered (if gives_up b c o then lapsed b else b) place (request_of c p f) then_all is
+  go (Commit x) then_all = then_all
+  go (Done x) then_all = then_all
+  go (Halt x) then_all = then_all
+
+pub up_destroyed : (b : Bus) (place : ℕ → Place) → AreUp b.lists place → AreUp (destroyed b).lists place
+up_destroyed b place all = all_emptied (UpAt place) (without_first b.lists) (all_without (UpAt place) b.lists all)
+
+pub up_sent : (b : Bus) (place : ℕ → Place) (c : ℕ) (more : Bool) → AreUp b.lists place → AreUp (sent_by b c more).lists place
+up_sent b place c true all = all_without (UpAt place) b.lists all
+up_sent b place c false all = up_destroyed b place all
+
+pub up_collided : (b : Bus) (place : ℕ → Place) → AreUp b.lists place → AreUp (collided b).lists place
+up_collided b place all = go (is_some (collision b.lists)) where
+  once : AreUp (without_first b.lists) place
+  once = all_without (UpAt place) b.lists all
+  go : (t : Bool) → AreUp (freed (if t then taken (taken b) else taken b)).lists place
+  go true = all_emptied (UpAt place) (without_first (without_first b.lists)) (all_without (UpAt place) (without_first b.lists) once)
+  go false = all_emptied (UpAt place) (without_first b.lists) once
+
+-- the controller whose requests left need not be up
+pub up_silenced : (b : Bus) (place place' : ℕ → Place) (c : ℕ) → AreUp b.lists place → Elsewhere place place' c → AreUp (silenced b c).lists place'
+up_silenced b place place' c all elsewhere = go (owns b.owner c) where
+  others : AreUp (map (without_sender c) b.lists) place'
+  others = all_muted (UpAt place) (UpAt place') c b.lists (λ r other is. subst (λ p. p.controller.up ≡ true) (sym (elsewhere r.sender other)) is) all
+  go : (t : Bool) → AreUp (if t then freed (muted b c) else muted b c).lists place'
+  go true = all_emptied (UpAt place') (map (without_sender c) b.lists) others
+  go false = others
+
+pub next_up : (b : Bus) (place : ℕ → Place) (r : Request) → AreUp b.lists place → next b ≡ Some r → (place r.sender).controller.up ≡ true
+next_up b place r all first = all_first (UpAt place) b.lists r all (first_of_all b.owner b.lists r first)
+
+pub collision_up : (b : Bus) (place : ℕ → Place) (q : Request) → AreUp b.lists place → collision b.lists ≡ Some q → (place q.sender).controller.up ≡ true
+collision_up b place q all second =
+    all_first (UpAt place) (without_first b.lists) q (all_without (UpAt place) b.lists all) (collision_first b.lists q second)
