@@ -3,3 +3,4 @@ mod Rows
 mod Acts
 mod Moves
 mod Placing
+mod Queues
