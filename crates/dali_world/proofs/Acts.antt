@@ -3,6 +3,9 @@ use Rattle.std.specs.Prelude.{◌&&◌, ◌==◌, if◌then◌else◌}
 use Rattle.std.proofs.lemmas.Bool.Decides.{nat_tests}
 use Rattle.dali_frame.specs.declared.frames.Forward.{Forward}
 use Rattle.dali_frame.specs.declared.frames.Answer.{Answer}
+use Rattle.dali_special.specs.declared.command.Command.{Command}
+use Rattle.dali_special.specs.declared.command.Command.TheVariants.{Terminate, Initialise, Randomise, Compare, Withdraw, SearchHigh, SearchMiddle, SearchLow, Program, Verify, QueryShort, Arc, Other}
+use Rattle.dali_special.specs.Command.{command_of}
 use Rattle.dali_arbiter.specs.Bus.{Bus, owns, request_of, offered, lapsed}
 use Rattle.dali_script.specs.declared.trace.Entry.{Entry}
 use Rattle.dali_script.specs.declared.records.Record.{Record}
@@ -18,9 +21,9 @@ use Rattle.dali_controller.specs.declared.orders.Order.{Order}
 use Rattle.dali_controller.specs.declared.orders.Order.TheVariants.{Put, Commit, Done, Halt}
 use Rattle.dali_controller.specs.declared.orders.Fault.TheVariants as fault
 use Rattle.dali_controller.specs.Progress.{Progress, told, due_after, accepts, frame_put, heard}
-use Rattle.dali_controller.specs.Orders.{IsOrdered, IsAnswered, IsAllowed, ordered, after, trace_by}
+use Rattle.dali_controller.specs.Orders.{IsOrdered, IsAnswered, IsAllowed, IsAddressing, ordered, after, trace_by}
 use Rattle.dali_events.specs.World.{World, Controller}
-use Rattle.dali_events.specs.Happens.{entry, informed, acted, gives_up, keeps_bus, bus_acted, put_after, with_outstanding}
+use Rattle.dali_events.specs.Happens.{entry, informed, acted, gives_up, keeps_bus, bus_acted, put_after, with_outstanding, is_arc}
 use Rattle.dali_events.specs.Allowed.{IsDue, IsCommit, MayOrder}
 use Rattle.dali_world.specs.Places.{Place, IsRunning, IsTold, IsOutstanding, IsFound, informed_by, IsTied, MayAnswer, acted_at}
 use Rattle.dali_world.specs.Settled.{IsOwning, IsApart, IsPlacedBy, IsPlaced}
@@ -66,7 +69,7 @@ bus_put input.Start last bus a = elim bus [ ]
 bus_put input.Committed last bus a = elim bus [ ]
 bus_put input.CommitFailed last bus a = elim bus [ ]
 
-committed_last : (last : Option Order) → IsCommit last → (x : Record) × (last ≡ Some (Commit x))
+pub committed_last : (last : Option Order) → IsCommit last → (x : Record) × (last ≡ Some (Commit x))
 committed_last None c = elim c [ ]
 committed_last (Some (Put p f)) c = elim c [ ]
 committed_last (Some (Commit x)) c = (x, refl)
@@ -221,39 +224,55 @@ informed_committed w c k m commit tied placed =
 -- its frame waits as a later one of the transaction that the bus runs, or as a first one; or nothing runs
 abbrev pub IsLeft : World → ℕ → Controller → Progress → Order → Type 0
 IsLeft w c k m (Put p f) =
-    ((p ≡ 1) × (w.bus.owner ≡ Some c) × (w.trace ≡ m.trace) × Lawful k.records.block k.records.reserved w.trace f)
-    ⊎ ((p ≡ 3) × (m.trace ≡ []) × IsFirst f)
+    (is_arc (command_of f) ≡ false)
+    × (((p ≡ 1) × (w.bus.owner ≡ Some c) × (w.trace ≡ m.trace) × Lawful k.records.block k.records.reserved w.trace f)
+      ⊎ ((p ≡ 3) × (m.trace ≡ []) × IsFirst f))
 IsLeft w c k m (Commit x) = m.trace ≡ []
 IsLeft w c k m (Done e) = Unit {0}
 IsLeft w c k m (Halt why) = Unit {0}
 
-left_by : (w : World) (c : ℕ) (k : Controller) (t : Progress) (o : Order) → AreInformed w c k t → IsAllowed t o → IsLeft w c k (ordered t o) o
-left_by w c k t (Put p f) both (inl may) = inr (may.0, rw may.0 refl, (t.kept.block, t.kept.reserved, may.1))
-left_by w c k t (Put p f) both (inr may) =
+no_arc : (x : Command) → ((g : Forward) → x ≡ Arc g → ⊥) → is_arc x ≡ false
+no_arc (Arc g) none = absurd (none g refl)
+no_arc Terminate none = refl
+no_arc (Initialise target) none = refl
+no_arc Randomise none = refl
+no_arc Compare none = refl
+no_arc Withdraw none = refl
+no_arc (SearchHigh byte) none = refl
+no_arc (SearchMiddle byte) none = refl
+no_arc (SearchLow byte) none = refl
+no_arc (Program short) none = refl
+no_arc (Verify short) none = refl
+no_arc QueryShort none = refl
+no_arc (Other g) none = refl
+
+left_by : (w : World) (c : ℕ) (k : Controller) (t : Progress) (o : Order) → AreInformed w c k t → IsAllowed t o → IsAddressing o → IsLeft w c k (ordered t o) o
+left_by w c k t (Put p f) both (inl may) scripted = (no_arc (command_of f) scripted, inr (may.0, rw may.0 refl, (t.kept.block, t.kept.reserved, may.1)))
+left_by w c k t (Put p f) both (inr may) scripted =
     let lawful : Lawful k.records.block k.records.reserved t.trace f = subst (λ r. Lawful r.block r.reserved t.trace f) both.kept may.2 in
     let own = both.owns_with f may.1 lawful in
-    inl (may.0, own.0, rw may.0 (sym own.1), subst (λ u. Lawful k.records.block k.records.reserved u f) own.1 lawful)
-left_by w c k t (Commit x) both may = refl
-left_by w c k t (Done e) both may = tt
-left_by w c k t (Halt why) both may = tt
+    (no_arc (command_of f) scripted, inl (may.0, own.0, rw may.0 (sym own.1), subst (λ u. Lawful k.records.block k.records.reserved u f) own.1 lawful))
+left_by w c k t (Commit x) both may scripted = refl
+left_by w c k t (Done e) both may scripted = tt
+left_by w c k t (Halt why) both may scripted = tt
 
 -- WHAT A CONTROLLER THAT ACTS may order, and where the order leaves it
 pub record IsOrderedAt (w : World) (c : ℕ) (k : Controller) (m : Progress) (i : Input) (o : Order) : Type 0 where
   pub may : MayOrder w c (informed k i) o
   pub left : IsLeft w c (informed k i) (after m i o) o
 
-ordered_at : (w : World) (c : ℕ) (k : Controller) (m : Progress) (i : Input) (o : Order) → AreInformed w c (informed k i) (told m i) → IsAllowed (told m i) o → IsOrderedAt w c k m i o
-ordered_at w c k m i o both allowed = record {
-  may = may_order_by w c (informed k i) (told m i) o both allowed;
-  left = left_by w c (informed k i) (told m i) o both allowed;
+ordered_at : (w : World) (c : ℕ) (k : Controller) (m : Progress) (i : Input) (o : Order) → AreInformed w c (informed k i) (told m i) → IsOrdered (told m i) o → IsOrderedAt w c k m i o
+ordered_at w c k m i o both order = record {
+  may = may_order_by w c (informed k i) (told m i) o both order.allowed;
+  left = left_by w c (informed k i) (told m i) o both order.allowed order.addressing;
 }
 
 pub may_order : (w : World) (c : ℕ) (k : Controller) (m : Progress) (i : Input) (o : Order) → IsDue k i → IsRunning k m → IsAnswered m i o
     → IsPlacedBy (owns w.bus.owner c) w.trace k (Some m) → IsOrderedAt w c k m i o
-may_order w c k m (input.Heard h) o due tied answer placed = ordered_at w c k m (input.Heard h) o (informed_bus w c k m (input.Heard h) tt due tied placed) answer.allowed
-may_order w c k m input.Destroyed o due tied answer placed = ordered_at w c k m input.Destroyed o (informed_bus w c k m input.Destroyed tt due tied placed) answer.allowed
-may_order w c k m input.Lapsed o due tied answer placed = ordered_at w c k m input.Lapsed o (informed_bus w c k m input.Lapsed tt due tied placed) answer.allowed
-may_order w c k m input.Start o due tied answer placed = ordered_at w c k m input.Start o (informed_start w c k m due tied placed) answer.allowed
-may_order w c k m input.Committed o due tied answer placed = ordered_at w c k m input.Committed o (informed_committed w c k m due tied placed) answer.allowed
+may_order w c k m (input.Heard h) o due tied answer placed = ordered_at w c k m (input.Heard h) o (informed_bus w c k m (input.Heard h) tt due tied placed) answer
+may_order w c k m input.Destroyed o due tied answer placed = ordered_at w c k m input.Destroyed o (informed_bus w c k m input.Destroyed tt due tied placed) answer
+may_order w c k m input.Lapsed o due tied answer placed = ordered_at w c k m input.Lapsed o (informed_bus w c k m input.Lapsed tt due tied placed) answer
+may_order w c k m input.Start o due tied answer placed = ordered_at w c k m input.Start o (informed_start w c k m due tied placed) answer
+may_order w c k m input.Committed o due tied answer placed = ordered_at w c k m input.Committed o (informed_committed w c k m due tied placed) answer
 may_order w c k m input.CommitFailed o due tied answer placed =
     subst (λ p. IsOrderedAt w c k m input.CommitFailed p) (sym answer) (record { may = tt; left = tt })

@@ -4,3 +4,4 @@ mod Acts
 mod Moves
 mod Placing
 mod Queues
+mod Settling

@@ -40,7 +40,7 @@ placed_other b c t u p q same (inr is) placed =
 -- ---------------------------------------------------------------- a controller acts
 
 -- an order that keeps the bus
-kept_bus : (b : Bus) (c p : ℕ) (f : Forward) → p ≡ 1 → ((bus_acted b c (Put p f)).owner ≡ b.owner) × (gives_up b c (Put p f) ≡ false)
+pub kept_bus : (b : Bus) (c p : ℕ) (f : Forward) → p ≡ 1 → ((bus_acted b c (Put p f)).owner ≡ b.owner) × (gives_up b c (Put p f) ≡ false)
 kept_bus b c p f e = rw e (go (owns b.owner c)) where
   go : (x : Bool) → ((if x && false then lapsed b else b).owner ≡ b.owner) × ((x && false) ≡ false)
   go true = (refl, refl)
@@ -60,9 +60,9 @@ left_bus b c o e = go o e (owns b.owner c) refl where
 
 placed_left : (w : World) (c : ℕ) (k : Controller) (m : Progress) (i : Input) (o : Order) → IsLeft w c (informed k i) (after m i o) o
     → IsPlacedBy (owns (bus_acted w.bus c o).owner c) (if gives_up w.bus c o then [] else w.trace) (acted k i o) (Some (after m i o))
-placed_left w c k m i (Put p f) (inl is) =
-    rw ((kept_bus w.bus c p f is.0).0, (kept_bus w.bus c p f is.0).1, owner_owns w.bus.owner c is.1) (is.0, is.2, is.3)
-placed_left w c k m i (Put p f) (inr is) = rw (left_bus w.bus c (Put p f) (rw is.0 refl)) is
+placed_left w c k m i (Put p f) (scripted, inl is) =
+    rw ((kept_bus w.bus c p f is.0).0, (kept_bus w.bus c p f is.0).1, owner_owns w.bus.owner c is.1) (is.0, is.2, is.3, scripted)
+placed_left w c k m i (Put p f) (scripted, inr is) = rw (left_bus w.bus c (Put p f) (rw is.0 refl)) is
 placed_left w c k m i (Commit x) is = rw (left_bus w.bus c (Commit x) refl) is
 placed_left w c k m i (Done e) is = rw (left_bus w.bus c (Done e) refl) tt
 placed_left w c k m i (Halt why) is = rw (left_bus w.bus c (Halt why) refl) tt

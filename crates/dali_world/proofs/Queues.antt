@@ -295,7 +295,7 @@ rival_first r q (s ∷ rs) lists e = go (r.sender == s.sender) e where
   go true e = absurd (cc)
   go false e = e
 
-collision_first : (lists : List (List Request)) (q : Request) → collision lists ≡ Some q → first_waiting (without_first lists) ≡ Some q
+pub collision_first : (lists : List (List Request)) (q : Request) → collision lists ≡ Some q → first_waiting (without_first lists) ≡ Some q
 collision_first [] q e = absurd (cc)
 collision_first ([] ∷ lists) q e = collision_first lists q e
 collision_first ((x ∷ xs) ∷ lists) q e = rival_first x q xs lists e

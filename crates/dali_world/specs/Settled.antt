@@ -1,9 +1,10 @@
-use Rattle.std.specs.Prelude.{◌≡◌, ℕ, ◌<◌, Bool, true, false, not, List, [], ◌∷◌, ◌++◌, length, filter, drop, Option, Some, None, ◌==◌, ◌&&◌, if◌then◌else◌}
+use Rattle.std.specs.Prelude.{◌≡◌, ℕ, ◌<◌, Bool, true, false, not, List, [], ◌∷◌, ◌++◌, length, filter, drop, Option, Some, None, is_some, ◌==◌, ◌&&◌, if◌then◌else◌}
 use Rattle.std.specs.List.{AllByRecursion}
 use Rattle.dali_frame.specs.declared.frames.Forward.{Forward}
+use Rattle.dali_frame.specs.declared.frames.Answer.{Answer}
 use Rattle.dali_special.specs.Command.{command_of}
 use Rattle.dali_arbiter.specs.declared.request.Request.{Request}
-use Rattle.dali_arbiter.specs.Bus.{Bus, owns, request_of, first_list}
+use Rattle.dali_arbiter.specs.Bus.{Bus, owns, request_of, first_list, offer_refusal}
 use Rattle.dali_script.specs.declared.trace.Entry.{Entry}
 use Rattle.dali_script.specs.Scripts.{Lawful, IsFirst}
 use Rattle.dali_script.specs.Stages.{stage_of, may_follow}
@@ -11,10 +12,10 @@ use Rattle.dali_controller.specs.declared.orders.Input.{Input}
 use Rattle.dali_controller.specs.declared.orders.Input.TheVariants as input
 use Rattle.dali_controller.specs.declared.orders.Order.{Order}
 use Rattle.dali_controller.specs.declared.orders.Order.TheVariants.{Put, Commit, Done, Halt}
-use Rattle.dali_controller.specs.Progress.{Progress}
+use Rattle.dali_controller.specs.Progress.{Progress, frame_put}
 use Rattle.dali_events.specs.World.{Controller}
 use Rattle.dali_events.specs.Happens.{entry, is_arc}
-use Rattle.dali_world.specs.Places.{Place}
+use Rattle.dali_world.specs.Places.{Place, trace_of}
 use Rattle.dali_world.specs.Standing.{Standing, place_in}
 
 -- HOW BUS AND CONTROLLERS GO TOGETHER on a site. It holds at each moment of a site, where each frame that is sent was next;
@@ -25,7 +26,7 @@ use Rattle.dali_world.specs.Standing.{Standing, place_in}
 -- a controller that owns the bus: its frame waits, and follows the frames of its transaction; or it was told what was heard
 -- after its last one, and more may follow
 abbrev pub IsOwning : List Entry → Controller → Progress → Option Order → Option Input → Type 0
-IsOwning t k m (Some (Put p f)) None = (p ≡ 1) × (t ≡ m.trace) × Lawful k.records.block k.records.reserved t f
+IsOwning t k m (Some (Put p f)) None = (p ≡ 1) × (t ≡ m.trace) × Lawful k.records.block k.records.reserved t f × (is_arc (command_of f) ≡ false)
 IsOwning t k m (Some (Put p f)) (Some (input.Heard h)) = t ≡ m.trace ++ entry f h ∷ []
 IsOwning t k m _ _ = ⊥
 
@@ -87,9 +88,20 @@ AreUp lists place = AllByRecursion (λ l. AllByRecursion (λ r. (place r.sender)
 -- THE PLACES AND THE BUS: `place` is the place of each controller, and an empty one past the last.
 pub record IsSettled (bus : Bus) (trace : List Entry) (place : ℕ → Place) : Type 0 where
   pub five : length bus.lists ≡ 5
+  pub running : (c : ℕ) → (place c).controller.up ≡ is_some (place c).machine
   pub places : (c : ℕ) → IsPlaced (owns bus.owner c) trace (place c)
   pub served : IsServed bus.lists bus.owner place
   pub up : AreUp bus.lists place
+
+-- the sender of a scripted frame waits for it, and its transaction runs with it
+abbrev pub IsHearing : Place → Forward → Answer → List Entry → Type 0
+IsHearing p f h running = is_arc (command_of f) ≡ false
+    → (frame_put p.controller.last ≡ Some f) × (p.controller.told ≡ None) × (running ≡ trace_of p.machine ++ entry f h ∷ [])
+
+-- what is ordered on the bus is not refused
+abbrev pub IsAccepted : Bus → ℕ → Order → Type 0
+IsAccepted b c (Put p f) = offer_refusal b (request_of c p f) ≡ None
+IsAccepted b c _ = Unit {0}
 
 abbrev pub Settled : Standing → Type 0
 Settled s = IsSettled s.bus s.trace (place_in s.seats)

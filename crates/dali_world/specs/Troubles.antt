@@ -1,5 +1,6 @@
 use Rattle.dali_frame.specs.declared.frames.Answer.{Answer}
 use Rattle.dali_frame.specs.declared.frames.Answer.TheVariants.{Silence, Damaged}
+use Rattle.dali_gear.specs.declared.row.GearSet.{GearSet}
 use Rattle.dali_world.specs.declared.trouble.Trouble.{Trouble}
 use Rattle.dali_world.specs.declared.trouble.Trouble.TheVariants.{AnswerLost, Noise}
 
@@ -8,3 +9,7 @@ abbrev pub heard_under : Trouble → Answer → Answer
 heard_under AnswerLost plain = Silence
 heard_under Noise plain = Damaged
 heard_under _ plain = plain
+
+-- the set of no gear
+abbrev pub nobody_at_all : GearSet
+nobody_at_all = record { 0 = 0 }

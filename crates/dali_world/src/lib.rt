@@ -5,6 +5,7 @@
 mod fitted;
 mod refusal;
 mod seat;
+mod standing;
 mod trouble;
 
 pub use refusal::Refusal;

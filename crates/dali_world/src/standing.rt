@@ -1,0 +1,319 @@
+ghost use Rattle.std.specs.Prelude.{◌≡◌, ◌↔◌, ◌++◌, ◌∷◌, [], ℕ, ◌<◌, ◌≤◌, List, length, map, true, false, Some, None, IfOk, IfErr, OnOk, OnErr, IsTrue, Bool, MatchOption, if◌then◌else◌};
+ghost use Rattle.dali_special.specs.Command.{command_of};
+ghost use Rattle.dali_gear.specs.declared.row.Reach.TheVariants.{Everyone, Only};
+ghost use Rattle.dali_gear.specs.ControlGear.{expired, quieted};
+ghost use Rattle.dali_gear.specs.Row.{draws_needed, answers_of, heard_of, stored_of};
+ghost use Rattle.dali_arbiter.specs.Bus.{next, owns, total, lapsed, request_of, offer_refusal, collision};
+ghost use Rattle.dali_controller.specs.Progress.{frame_put};
+ghost use Rattle.dali_events.specs.declared.event.Event.TheVariants as event;
+ghost use Rattle.dali_events.specs.World.{changed_gear};
+ghost use Rattle.dali_events.specs.Happens.{entry, is_arc, keeps_bus, gives_up, put_after, powered, told_sent, told_destroyed};
+ghost use Rattle.dali_events.specs.Allowed.{IsArc, IsDue};
+ghost use Rattle.dali_world.specs.Fitted.{changed_at};
+ghost use Rattle.dali_world.specs.Places.{MayAnswer, Agrees, trace_of, told_at};
+ghost use Rattle.dali_world.specs.Troubles.{heard_under};
+ghost use Rattle.dali_world.specs.Settled.{IsAccepted, IsHearing};
+ghost use Rattle.dali_world.specs.Troubles.{nobody_at_all};
+ghost use Rattle.dali_world.specs.declared.refusal.Refusal.TheVariants as refusal;
+
+use crate::fitted::FittedGear;
+use crate::refusal::Refusal;
+use crate::seat::Seat;
+use crate::trouble::Trouble;
+use dali_arbiter::{Arbiter, Request};
+use dali_controller::{Due, Input, Order};
+use dali_enrol::Table;
+use dali_events::Plan;
+use dali_frame::{Answer, Forward, Priority, Short};
+use dali_gear::{Gear, GearSet, Reach};
+use dali_script::{Block, Kept, Trace};
+use dali_special::Command;
+use std::alloc::Global;
+use std::marker::Model;
+
+/// What stands on a site at one moment: its gear, the requests that wait for its bus, the frames of the running
+/// transaction, and a place for each controller.
+#[derive(Drop)]
+pub(crate) struct Standing {
+    fitted: FittedGear,
+    arbiter: Arbiter,
+    trace: Trace,
+    seats: Vec<Seat>,
+}
+
+impl Model for Standing {
+    ghost use Rattle.dali_world.specs.Standing.{Standing, place_in};
+    ghost use Rattle.dali_world.specs.Settled.{IsSettled};
+
+    ghost Value = { Standing };
+
+    ghost view = { λ s. record { fitted = s.fitted; bus = s.arbiter; trace = s.trace; seats = s.seats.items } };
+
+    ghost invariant = { λ s. IsSettled s.arbiter s.trace (place_in s.seats.items) };
+}
+
+impl Standing {
+    ghost use Rattle.dali_world.specs.Standing.{Standing, standing_at, place_at, Moves, has_acted, has_offered, has_sent, has_lost, has_collided, has_lapsed, with_gear, has_gone_down, has_come_up};
+
+    /// Whether the controller may act on this input.
+    pub(crate) fn may_act(&self, c: u8, input: Input) -> bool
+        requires { c < length self.now.seats }
+        ensures { IsTrue result ↔ IsDue (place_at self.now c).controller input }
+    {
+        self.seats[c as usize].may_act(input)
+    }
+
+    /// A controller acts on an input. What it orders on the bus waits there from now on.
+    pub(crate) fn act(&mut self, c: u8, input: Input) -> Order
+        requires up { (place_at self.old c).controller.up ≡ true }
+        requires due { IsDue (place_at self.old c).controller input }
+        requires room { total self.old.bus < self.old.bus.capacity }
+        ensures answer { MayAnswer (place_at self.old c).machine input result }
+        ensures moves { Moves self.old (event.Acted c input result) self.new }
+    {
+        let seat = &mut self.seats[c as usize];
+        let order = seat.act(input);
+        give_up(&mut self.arbiter, &mut self.trace, c, &order);
+        request(&mut self.arbiter, c, &order);
+        order
+    }
+
+    /// A controller asks to send an arc power frame.
+    pub(crate) fn offer(&mut self, c: u8, frame: Forward)
+        requires up { (place_at self.old c).controller.up ≡ true }
+        requires arc { IsArc frame }
+        requires room { total self.old.bus < self.old.bus.capacity }
+        ensures { Moves self.old (event.Offered c frame) self.new }
+    {
+        match self.arbiter.offer(c, arc_priority(), frame) {
+            Ok(()) => {}
+            Err(_) => unreachable!(),
+        }
+    }
+
+    /// The request that is next, if one is.
+    pub(crate) fn next_request(&self) -> Option<Request>
+        ensures { result ≡ next self.now.bus }
+    {
+        self.arbiter.pick()
+    }
+
+    /// Whether the gear that a frame reaches would draw more numbers than are left.
+    pub(crate) fn is_spent(&self, frame: Forward, reach: Reach) -> bool
+        ensures { IsTrue result ↔ (length self.now.fitted.left < draws_needed reach (command_of frame) 0 self.now.fitted.gear) }
+    {
+        self.fitted.is_spent(frame, reach)
+    }
+
+    /// The request that is next is sent. Answers what was heard.
+    pub(crate) fn send(&mut self, request: Request, trouble: Trouble) -> Answer
+        requires next { next self.old.bus ≡ Some request }
+        requires draws { draws_needed Everyone (command_of request.frame) 0 self.old.fitted.gear ≤ length self.old.fitted.left }
+        requires room { length (self.old.fitted.gifts ++ stored_of Everyone (command_of request.frame) 0 self.old.fitted.gear) ≤ length self.old.fitted.gear }
+        ensures heard { result ≡ heard_under trouble (heard_of (answers_of Everyone (command_of request.frame) 0 self.old.fitted.gear)) }
+        ensures moves { Moves self.old (event.Sent request.sender request.frame result) self.new }
+    {
+        let plain = self.fitted.take(request.frame, Reach::Everyone);
+        let heard = trouble.heard(plain);
+        if self.arbiter.owner() != Some(request.sender) {
+            self.trace = Trace::new();
+        }
+        self.trace.push(request.frame, heard);
+        let seat = &mut self.seats[request.sender as usize];
+        hear(seat, request.frame, heard, &self.trace);
+        let more = !self.trace.complete(seat.kept());
+        if !more {
+            self.trace = Trace::new();
+        }
+        self.arbiter.sent(more);
+        heard
+    }
+
+    /// The request that is next is destroyed on the bus. The powered gear of the set take its frame all the same.
+    pub(crate) fn destroy(&mut self, request: Request, set: GearSet)
+        requires next { next self.old.bus ≡ Some request }
+        requires draws { draws_needed (Only set) (command_of request.frame) 0 self.old.fitted.gear ≤ length self.old.fitted.left }
+        requires room { length (self.old.fitted.gifts ++ stored_of (Only set) (command_of request.frame) 0 self.old.fitted.gear) ≤ length self.old.fitted.gear }
+        ensures { Moves self.old (event.Destroyed request.sender request.frame set) self.new }
+    {
+        self.fitted.take(request.frame, Reach::Only(set));
+        self.arbiter.destroyed();
+        self.trace = Trace::new();
+        let seat = &mut self.seats[request.sender as usize];
+        lose(seat, request.frame);
+    }
+
+    /// The request that is next collides with the one behind it in its list, where another controller has put that there;
+    /// else it is destroyed, and no gear takes its frame. Answers the other request.
+    pub(crate) fn collide(&mut self, request: Request) -> Option<Request>
+        requires next { next self.old.bus ≡ Some request }
+        requires draws { draws_needed (Only nobody_at_all) (command_of request.frame) 0 self.old.fitted.gear ≤ length self.old.fitted.left }
+        requires room { length (self.old.fitted.gifts ++ stored_of (Only nobody_at_all) (command_of request.frame) 0 self.old.fitted.gear) ≤ length self.old.fitted.gear }
+        ensures other { result ≡ collision self.old.bus.lists }
+        ensures moves { MatchOption result (Moves self.old (event.Destroyed request.sender request.frame nobody_at_all) self.new)
+            (λ q. Moves self.old (event.Collided request.sender request.frame q.sender q.frame) self.new) }
+    {
+        let other = self.arbiter.collided();
+        self.trace = Trace::new();
+        let seat = &mut self.seats[request.sender as usize];
+        lose(seat, request.frame);
+        match &other {
+            Some(second) => {
+                let seat = &mut self.seats[second.sender as usize];
+                lose(seat, second.frame);
+            }
+            None => {
+                self.fitted.take(request.frame, Reach::Only(GearSet(0)));
+            }
+        }
+        other
+    }
+
+    /// The owner, if there is one, loses the bus. Answers who it was.
+    pub(crate) fn lapse(&mut self) -> Option<u8>
+        ensures owner { result ≡ self.old.bus.owner }
+        ensures moves { Moves self.old event.Lapsed self.new }
+    {
+        let owner = self.arbiter.lapse();
+        self.trace = Trace::new();
+        if let Some(c) = owner {
+            let seat = &mut self.seats[c as usize];
+            seat.lapse();
+        }
+        owner
+    }
+
+    /// The bus is quiet for so long that half pairs are forgotten.
+    pub(crate) fn quiet(&mut self)
+        ensures { Moves self.old event.Quiet self.new }
+    {
+        self.fitted.quiet();
+    }
+
+    /// A gear's power comes or goes.
+    pub(crate) fn power(&mut self, number: u32, on: bool)
+        requires { number < length self.old.fitted.gear }
+        ensures { Moves self.old (event.Power number on) self.new }
+    {
+        self.fitted.power(number, on);
+    }
+
+    /// The 15 minutes of a gear's initialisation are over.
+    pub(crate) fn expire(&mut self, number: u32)
+        requires { number < length self.old.fitted.gear }
+        ensures { Moves self.old (event.Expired number) self.new }
+    {
+        self.fitted.expire(number);
+    }
+
+    /// A controller goes down. Its requests leave, and its ownership ends.
+    pub(crate) fn down(&mut self, c: u8)
+        requires { (place_at self.old c).controller.up ≡ true }
+        ensures { Moves self.old (event.Down c) self.new }
+    {
+        if self.arbiter.owner() == Some(c) {
+            self.trace = Trace::new();
+        }
+        self.arbiter.silence(c);
+        let seat = &mut self.seats[c as usize];
+        seat.down();
+    }
+
+    /// Whether a copy of records is what the controller keeps, without the outstanding record (false) or with it (true).
+    pub(crate) fn agreement(&self, c: u8, copy: &Kept) -> Option<bool>
+        requires { c < length self.now.seats }
+        ensures { MatchOption result
+            ((kept : Bool) → Agrees (place_at self.now c).controller copy.now kept → ⊥)
+            (λ kept. Agrees (place_at self.now c).controller copy.now kept) }
+    {
+        self.seats[c as usize].agreement(copy)
+    }
+
+    /// A controller comes up with a copy of what it keeps; `kept` is whether the outstanding record is among it.
+    pub(crate) fn up(
+        &mut self,
+        alloc: Global,
+        c: u8,
+        copy: &Kept,
+        kept: bool,
+    ) -> Result<(), Refusal>
+        requires known { c < length self.old.seats }
+        requires down { (place_at self.old c).controller.up ≡ false }
+        requires agrees { Agrees (place_at self.old c).controller copy.now kept }
+        ensures ok { OnOk result (Moves self.old (event.Up c kept) self.new) }
+        ensures err { OnErr result (self.new ≡ self.old) }
+        ensures memory { IfErr result (λ e. e ≡ refusal.NoMemory) }
+    {
+        let seat = &mut self.seats[c as usize];
+        seat.up(alloc, c, copy, kept)
+    }
+}
+
+/// Whether a controller that owns the bus keeps it with this order.
+fn keeps_bus(order: &Order) -> bool
+    ensures { result ≡ keeps_bus order.now }
+{
+    match order {
+        Order::Put(priority, _) => priority.number() == 1,
+        _ => false,
+    }
+}
+
+/// The owner gives up the bus with any order but a later frame of its transaction.
+fn give_up(arbiter: &mut Arbiter, trace: &mut Trace, c: u8, order: &Order)
+    ensures bus { arbiter.new ≡ (if gives_up arbiter.old c order.now then lapsed arbiter.old else arbiter.old) }
+    ensures trace { trace.new ≡ (if gives_up arbiter.old c order.now then [] else trace.old) }
+{
+    if arbiter.owner() == Some(c) && !keeps_bus(order) {
+        arbiter.lapse();
+        *trace = Trace::new();
+    }
+}
+
+/// A frame that is ordered waits for the bus.
+fn request(arbiter: &mut Arbiter, c: u8, order: &Order)
+    requires { IsAccepted arbiter.old c order.now }
+    ensures { arbiter.new ≡ put_after arbiter.old c order.now }
+{
+    if let Order::Put(priority, frame) = order {
+        match arbiter.offer(c, *priority, *frame) {
+            Ok(()) => {}
+            Err(_) => unreachable!(),
+        }
+    }
+}
+
+fn arc_priority() -> Priority
+    ensures { result ≡ 2 }
+{
+    Priority::of(2).unwrap()
+}
+
+/// Whether a frame is direct arc power, of which a controller is told nothing.
+fn is_arc(frame: Forward) -> bool
+    ensures { result ≡ is_arc (command_of frame) }
+{
+    matches!(Command::read(frame), Command::Arc(_))
+}
+
+/// The sender of a frame is told what was heard. `running` are the frames of its transaction, with this one.
+#[tactic(auto, using(crate::proofs::Settling::arc_tells))]
+fn hear(seat: &mut Seat, frame: Forward, heard: Answer, running: &Trace)
+    requires { IsHearing seat.old frame heard running.now }
+    ensures { seat.new ≡ told_at (told_sent (trace_of seat.old.machine) frame heard) seat.old }
+{
+    if !is_arc(frame) {
+        seat.hear(frame, heard, running);
+    }
+}
+
+/// The sender of a frame is told that it was destroyed.
+#[tactic(auto, using(crate::proofs::Settling::arc_loses))]
+fn lose(seat: &mut Seat, frame: Forward)
+    requires { is_arc (command_of frame) ≡ false → frame_put seat.old.controller.last ≡ Some frame }
+    ensures { seat.new ≡ told_at (told_destroyed frame) seat.old }
+{
+    if !is_arc(frame) {
+        seat.lose(frame);
+    }
+}
