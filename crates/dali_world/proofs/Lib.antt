@@ -5,3 +5,4 @@ mod Moves
 mod Placing
 mod Queues
 mod Settling
+mod Done
