@@ -27,7 +27,9 @@ use Rattle.dali_world.specs.Places.{Place, IsTied, MayAnswer, acted_at, told_at,
 use Rattle.dali_world.specs.Standing.{Standing, place_in, place_at, world_of, with_place, running_in, goes_on_in, owner_lapsed, has_acted, has_offered, has_sent, has_lost, has_collided, has_lapsed, has_gone_down, has_come_up, empty_place, Moves}
 use Rattle.dali_world.specs.Settled.{IsAccepted, IsHearing, Settled}
 use Rattle.dali_world.proofs.Moves.{up_there, place_here, place_elsewhere, moves_acted, moves_offered, moves_sent, moves_lost, moves_collided, moves_lapsed, moves_down, moves_up}
-use Rattle.dali_world.proofs.Settling.{may_ask, accepted, settled_acted, settled_offered, settled_sent, settled_lost, settled_collided, settled_lapsed, settled_down, settled_up}
+use Rattle.dali_events.proofs.Sending.{lawful_of}
+use Rattle.dali_world.proofs.Placing.{running_is}
+use Rattle.dali_world.proofs.Settling.{IsNextAt, next_at, arc_tells, may_ask, accepted, settled_acted, settled_offered, settled_sent, settled_lost, settled_collided, settled_lapsed, settled_down, settled_up}
 
 -- WHAT A CALL DID, from what its parts did: the event moves what stood, and what stands is settled.
 pub record IsDone (was : Standing) (e : Event) (new : Standing) : Type 0 where
@@ -80,3 +82,107 @@ act_answers s was c i o at view up read answer =
     let here : (place_at s c).controller.up ≡ true = subst (λ (w : Standing). (place_at w c).controller.up ≡ true) (sym view) up in
     let is : at ≡ place_at s c = place_read s.seats c at read (up_there s.seats c here) in
     subst (λ (w : Standing). MayAnswer (place_at w c).machine i o) view (subst (λ (p : Place). MayAnswer p.machine i o) is answer)
+
+-- ---------------------------------------------------------------- requests and frames
+
+pub offer_done : (s was : Standing) (c : ℕ) (f : Forward) (bus : Bus) → s ≡ was → Settled s → (place_at was c).controller.up ≡ true → IsArc f
+    → bus ≡ offered s.bus (request_of c 2 f) → IsDone was (event.Offered c f) (record { fitted = s.fitted; bus = bus; trace = s.trace; seats = s.seats })
+offer_done s was c f bus view settled up arc is =
+    let here : (place_at s c).controller.up ≡ true = subst (λ (w : Standing). (place_at w c).controller.up ≡ true) (sym view) up in
+    subst (λ (w : Standing). IsDone w (event.Offered c f) (record { fitted = s.fitted; bus = bus; trace = s.trace; seats = s.seats })) view
+    (done_as s (event.Offered c f) (has_offered s c f) _ (rw is refl) (record { moves = moves_offered s c f here arc; settled = settled_offered s c f settled here arc }))
+
+-- the request that is next, of what stands
+next_here : (s was : Standing) (r : Request) → s ≡ was → next was.bus ≡ Some r → next s.bus ≡ Some r
+next_here s was r view first = subst (λ (w : Standing). next w.bus ≡ Some r) (sym view) first
+
+-- its sender is there
+pub sender_there : (s was : Standing) (r : Request) → s ≡ was → Settled s → next was.bus ≡ Some r → r.sender < length s.seats
+sender_there s was r view settled first = up_there s.seats r.sender (next_at s r settled (next_here s was r view first)).up
+
+-- its frame may be pushed
+pub frame_follows : (s was : Standing) (r : Request) (t : List Entry) → s ≡ was → Settled s → next was.bus ≡ Some r → t ≡ (if owns s.bus.owner r.sender then s.trace else [])
+    → IsLawful t r.frame
+frame_follows s was r t view settled first is =
+    let n = next_at s r settled (next_here s was r view first) in
+    let lawful = lawful_of (world_of s []) r.sender r.frame (n.may []) in
+    subst (λ u. IsLawful u r.frame) (sym is) (_, _, lawful)
+
+abbrev IsKind : Standing → Request → Type 0
+IsKind s r = ((is_arc (command_of r.frame) ≡ false) × ((place_at s r.sender).controller.told ≡ None) × ((place_at s r.sender).controller.last ≡ Some (Put r.priority r.frame)))
+    ⊎ ((is_arc (command_of r.frame) ≡ true) × (s.bus.owner ≡ None))
+
+-- its sender waits for it
+pub sender_hears : (s was : Standing) (r : Request) (at : Place) (h : Answer) (t u : List Entry) → s ≡ was → Settled s → next was.bus ≡ Some r → at ≡ get_or s.seats r.sender at
+    → t ≡ (if owns s.bus.owner r.sender then s.trace else []) → u ≡ t ++ entry r.frame h ∷ [] → IsHearing at r.frame h u
+sender_hears s was r at h t u view settled first read t_is u_is scripted =
+    let n = next_at s r settled (next_here s was r view first) in
+    let is : at ≡ place_at s r.sender = place_read s.seats r.sender at read (up_there s.seats r.sender n.up) in
+    let known : (frame_put (place_at s r.sender).controller.last ≡ Some r.frame) × ((place_at s r.sender).controller.told ≡ None) × (u ≡ trace_of (place_at s r.sender).machine ++ entry r.frame h ∷ []) = go n.kind in
+    subst (λ (p : Place). (frame_put p.controller.last ≡ Some r.frame) × (p.controller.told ≡ None) × (u ≡ trace_of p.machine ++ entry r.frame h ∷ [])) (sym is) known where
+  go : IsKind s r → (frame_put (place_at s r.sender).controller.last ≡ Some r.frame) × ((place_at s r.sender).controller.told ≡ None) × (u ≡ trace_of (place_at s r.sender).machine ++ entry r.frame h ∷ [])
+  go (inl k) = (rw k.2 refl, k.1,
+    u_is ∙ ap (λ v. v ++ entry r.frame h ∷ []) (t_is ∙ running_is (owns s.bus.owner r.sender) s.trace (place_at s r.sender) r.priority r.frame k.1 k.2 (settled.places r.sender)))
+  go (inr k) = absurd (let no = k.0 in cc)
+
+pub sender_loses : (s was : Standing) (r : Request) (at : Place) → s ≡ was → Settled s → next was.bus ≡ Some r → at ≡ get_or s.seats r.sender at
+    → is_arc (command_of r.frame) ≡ false → frame_put at.controller.last ≡ Some r.frame
+sender_loses s was r at view settled first read scripted =
+    let n = next_at s r settled (next_here s was r view first) in
+    let is : at ≡ place_at s r.sender = place_read s.seats r.sender at read (up_there s.seats r.sender n.up) in
+    subst (λ (p : Place). frame_put p.controller.last ≡ Some r.frame) (sym is) (go n.kind) where
+  go : IsKind s r → frame_put (place_at s r.sender).controller.last ≡ Some r.frame
+  go (inl k) = rw k.2 refl
+  go (inr k) = absurd (let no = k.0 in cc)
+
+-- what is told does not hang on whose trace it is called
+told_running : (s : Standing) (r : Request) (h : Answer) → Settled s → next s.bus ≡ Some r
+    → told_at (told_sent (trace_of (place_at s r.sender).machine) r.frame h) (place_at s r.sender) ≡ told_at (told_sent (running_in s r.sender) r.frame h) (place_at s r.sender)
+told_running s r h settled first = go (next_at s r settled first).kind where
+  go : IsKind s r → told_at (told_sent (trace_of (place_at s r.sender).machine) r.frame h) (place_at s r.sender) ≡ told_at (told_sent (running_in s r.sender) r.frame h) (place_at s r.sender)
+  go (inl k) = ap (λ t. told_at (told_sent t r.frame h) (place_at s r.sender)) (sym (running_is (owns s.bus.owner r.sender) s.trace (place_at s r.sender) r.priority r.frame k.1 k.2 (settled.places r.sender)))
+  go (inr k) = arc_tells (trace_of (place_at s r.sender).machine) r.frame h (place_at s r.sender) k.0 ∙ sym (arc_tells (running_in s r.sender) r.frame h (place_at s r.sender) k.0)
+
+sent_is : (b : Bus) (r : Request) (more : Bool) → next b ≡ Some r → sent b more ≡ sent_by b r.sender more
+sent_is b r true first = rw first refl
+sent_is b r false first = refl
+
+not_not : (b c : Bool) → c ≡ not b → not c ≡ b
+not_not true c e = rw e refl
+not_not false c e = rw e refl
+
+pub send_done : (s was : Standing) (r : Request) (h : Answer) (at seat : Place) (fitted : Fitted) (bus : Bus) (t u v : List Entry) (done : Bool) → s ≡ was → Settled s → next was.bus ≡ Some r
+    → draws_needed Everyone (command_of r.frame) 0 was.fitted.gear ≤ length was.fitted.left → Hears (answers_of Everyone (command_of r.frame) 0 s.fitted.gear) h
+    → at ≡ get_or s.seats r.sender at → fitted ≡ taken_at Everyone (command_of r.frame) s.fitted
+    → t ≡ (if owns s.bus.owner r.sender then s.trace else []) → u ≡ t ++ entry r.frame h ∷ []
+    → seat ≡ told_at (told_sent (trace_of at.machine) r.frame h) at
+    → done ≡ not (may_follow seat.controller.records.block seat.controller.records.reserved (stage_of u)) → v ≡ (if not done then u else []) → bus ≡ sent s.bus (not done)
+    → IsDone was (event.Sent r.sender r.frame h) (record { fitted = fitted; bus = bus; trace = v; seats = with_place s.seats r.sender seat })
+send_done s was r h at seat fitted bus t u v done view settled first draws heard read fitted_is t_is u_is seat_is done_is v_is bus_is =
+    let here = next_here s was r view first in
+    let n = next_at s r settled here in
+    let is : at ≡ place_at s r.sender = place_read s.seats r.sender at read (up_there s.seats r.sender n.up) in
+    let seat_so : seat ≡ told_at (told_sent (running_in s r.sender) r.frame h) (place_at s r.sender) =
+      seat_is ∙ ap (λ (p : Place). told_at (told_sent (trace_of p.machine) r.frame h) p) is ∙ told_running s r h settled here in
+    let u_so : u ≡ running_in s r.sender ++ entry r.frame h ∷ [] = u_is ∙ ap (λ x. x ++ entry r.frame h ∷ []) t_is in
+    let more_so : not done ≡ goes_on_in s r.sender (running_in s r.sender ++ entry r.frame h ∷ []) = not_not (goes_on_in s r.sender (running_in s r.sender ++ entry r.frame h ∷ [])) done
+      (done_is ∙ ap (λ (p : Place). not (may_follow p.controller.records.block p.controller.records.reserved (stage_of u))) seat_so ∙ ap (λ x. not (goes_on_in s r.sender x)) u_so) in
+    let draws_here = subst (λ (w : Standing). draws_needed Everyone (command_of r.frame) 0 w.fitted.gear ≤ length w.fitted.left) (sym view) draws in
+    subst (λ (w : Standing). IsDone w (event.Sent r.sender r.frame h) (record { fitted = fitted; bus = bus; trace = v; seats = with_place s.seats r.sender seat })) view
+    (done_as s (event.Sent r.sender r.frame h) (has_sent s r.sender r.frame h) _
+      (rw (fitted_is, bus_is ∙ sent_is s.bus r (not done) here, v_is, u_so, seat_so, more_so) refl)
+      (record { moves = moves_sent s r.sender r.frame h n.up n.may draws_here heard; settled = settled_sent s r h settled here }))
+
+pub destroy_done : (s was : Standing) (r : Request) (set : GearSet) (at seat : Place) (fitted : Fitted) (bus : Bus) (t : List Entry) → s ≡ was → Settled s → next was.bus ≡ Some r
+    → draws_needed (Only set) (command_of r.frame) 0 was.fitted.gear ≤ length was.fitted.left
+    → at ≡ get_or s.seats r.sender at → fitted ≡ taken_at (Only set) (command_of r.frame) s.fitted → seat ≡ told_at (told_destroyed r.frame) at → bus ≡ destroyed s.bus → t ≡ []
+    → IsDone was (event.Destroyed r.sender r.frame set) (record { fitted = fitted; bus = bus; trace = t; seats = with_place s.seats r.sender seat })
+destroy_done s was r set at seat fitted bus t view settled first draws read fitted_is seat_is bus_is t_is =
+    let here = next_here s was r view first in
+    let n = next_at s r settled here in
+    let is : at ≡ place_at s r.sender = place_read s.seats r.sender at read (up_there s.seats r.sender n.up) in
+    let seat_so : seat ≡ told_at (told_destroyed r.frame) (place_at s r.sender) = seat_is ∙ ap (λ (p : Place). told_at (told_destroyed r.frame) p) is in
+    let draws_here = subst (λ (w : Standing). draws_needed (Only set) (command_of r.frame) 0 w.fitted.gear ≤ length w.fitted.left) (sym view) draws in
+    subst (λ (w : Standing). IsDone w (event.Destroyed r.sender r.frame set) (record { fitted = fitted; bus = bus; trace = t; seats = with_place s.seats r.sender seat })) view
+    (done_as s (event.Destroyed r.sender r.frame set) (has_lost s r.sender r.frame set) _ (rw (fitted_is, bus_is, t_is, seat_so) refl)
+      (record { moves = moves_lost s r.sender r.frame set n.up n.may draws_here; settled = settled_lost s r set settled here }))

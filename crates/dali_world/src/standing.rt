@@ -115,16 +115,13 @@ impl Standing {
     {
         let plain = self.fitted.take(request.frame, Reach::Everyone);
         let heard = trouble.heard(plain);
-        if self.arbiter.owner() != Some(request.sender) {
-            self.trace = Trace::new();
-        }
+        let owned = owns(&self.arbiter, request.sender);
+        keep_if(&mut self.trace, owned);
         self.trace.push(request.frame, heard);
         let seat = &mut self.seats[request.sender as usize];
         hear(seat, request.frame, heard, &self.trace);
         let more = !self.trace.complete(seat.kept());
-        if !more {
-            self.trace = Trace::new();
-        }
+        keep_if(&mut self.trace, more);
         self.arbiter.sent(more);
         heard
     }
@@ -211,9 +208,8 @@ impl Standing {
         requires { (place_at self.old c).controller.up ≡ true }
         ensures { Moves self.old (event.Down c) self.new }
     {
-        if self.arbiter.owner() == Some(c) {
-            self.trace = Trace::new();
-        }
+        let owned = owns(&self.arbiter, c);
+        keep_if(&mut self.trace, !owned);
         self.arbiter.silence(c);
         let seat = &mut self.seats[c as usize];
         seat.down();
@@ -249,6 +245,22 @@ impl Standing {
     }
 }
 
+/// Whether a controller owns the bus.
+fn owns(arbiter: &Arbiter, c: u8) -> bool
+    ensures { result ≡ owns arbiter.now.owner c }
+{
+    arbiter.owner() == Some(c)
+}
+
+/// Keeps the frames of a transaction, or forgets them.
+fn keep_if(trace: &mut Trace, goes_on: bool)
+    ensures { trace.new ≡ (if goes_on then trace.old else []) }
+{
+    if !goes_on {
+        *trace = Trace::new();
+    }
+}
+
 /// Whether a controller that owns the bus keeps it with this order.
 fn keeps_bus(order: &Order) -> bool
     ensures { result ≡ keeps_bus order.now }
@@ -264,7 +276,7 @@ fn give_up(arbiter: &mut Arbiter, trace: &mut Trace, c: u8, order: &Order)
     ensures bus { arbiter.new ≡ (if gives_up arbiter.old c order.now then lapsed arbiter.old else arbiter.old) }
     ensures trace { trace.new ≡ (if gives_up arbiter.old c order.now then [] else trace.old) }
 {
-    if arbiter.owner() == Some(c) && !keeps_bus(order) {
+    if owns(arbiter, c) && !keeps_bus(order) {
         arbiter.lapse();
         *trace = Trace::new();
     }
