@@ -1,4 +1,4 @@
-use Rattle.std.proofs.Common.{◌≡◌, ℕ, ◌+◌, ◌<◌, ◌≤◌, ◌⊎◌, inl, inr, Bool, true, false, not, List, [], ◌∷◌, ◌++◌, refl, sym, ap, subst, ◌∙◌, arith, length, get_or, Option, Some, None}
+use Rattle.std.proofs.Common.{◌≡◌, ℕ, ◌+◌, ◌<◌, ◌≤◌, ◌⊎◌, inl, inr, Bool, true, false, not, List, [], ◌∷◌, ◌++◌, refl, sym, ap, subst, ◌∙◌, arith, length, length-set, get_or, Option, Some, None}
 use Rattle.std.specs.Prelude.{◌&&◌, ◌==◌, if◌then◌else◌}
 use Rattle.std.proofs.lemmas.List.{get_or_read_under}
 use Rattle.dali_frame.specs.declared.frames.Forward.{Forward}
@@ -11,7 +11,7 @@ use Rattle.dali_gear.specs.Row.{answers_of, draws_needed, heard_of}
 use Rattle.dali_arbiter.specs.declared.request.Request.{Request}
 use Rattle.dali_arbiter.specs.Bus.{Bus, owns, total, next, request_of, offer_refusal, lapsed, offered, sent, destroyed, collided, collision, silenced}
 use Rattle.dali_script.specs.declared.trace.Entry.{Entry}
-use Rattle.dali_script.specs.Scripts.{IsLawful}
+use Rattle.dali_script.specs.Scripts.{IsLawful, IsFirst}
 use Rattle.dali_script.specs.Stages.{stage_of, may_follow}
 use Rattle.dali_controller.specs.declared.orders.Input.{Input}
 use Rattle.dali_controller.specs.declared.orders.Order.{Order}
@@ -21,15 +21,19 @@ use Rattle.dali_controller.specs.declared.orders.Due.TheVariants as due
 use Rattle.dali_events.specs.declared.event.Event.{Event}
 use Rattle.dali_events.specs.declared.event.Event.TheVariants as event
 use Rattle.dali_events.specs.Happens.{entry, gives_up, put_after, is_arc, told_sent, told_destroyed, told_lapsed, sent_by}
-use Rattle.dali_events.specs.Allowed.{Hears, IsDue, IsArc, HasOutstanding}
+use Rattle.dali_events.specs.Allowed.{Hears, MaySend, IsDue, IsArc, HasOutstanding}
 use Rattle.dali_world.specs.Fitted.{Fitted, taken_at}
 use Rattle.dali_world.specs.Places.{Place, IsTied, MayAnswer, acted_at, told_at, down_at, up_at, trace_of}
 use Rattle.dali_world.specs.Standing.{Standing, place_in, place_at, world_of, with_place, running_in, goes_on_in, owner_lapsed, has_acted, has_offered, has_sent, has_lost, has_collided, has_lapsed, has_gone_down, has_come_up, empty_place, Moves}
 use Rattle.dali_world.specs.Settled.{IsAccepted, IsHearing, Settled}
-use Rattle.dali_world.proofs.Moves.{up_there, place_here, place_elsewhere, moves_acted, moves_offered, moves_sent, moves_lost, moves_collided, moves_lapsed, moves_down, moves_up}
+use Rattle.dali_world.specs.declared.trouble.Trouble.{Trouble}
+use Rattle.dali_world.specs.declared.trouble.Trouble.TheVariants as trouble
+use Rattle.dali_world.specs.Troubles.{heard_under, nobody_at_all}
+use Rattle.dali_world.proofs.Moves.{MaySendAt, up_there, place_here, place_elsewhere, moves_acted, moves_offered, moves_sent, moves_lost, moves_collided, moves_lapsed, moves_down, moves_up}
+use Rattle.dali_events.proofs.Growing.{plain_hearing}
 use Rattle.dali_events.proofs.Sending.{lawful_of}
 use Rattle.dali_world.proofs.Placing.{running_is}
-use Rattle.dali_world.proofs.Settling.{IsNextAt, next_at, arc_tells, may_ask, accepted, settled_acted, settled_offered, settled_sent, settled_lost, settled_collided, settled_lapsed, settled_down, settled_up}
+use Rattle.dali_world.proofs.Settling.{IsNextAt, next_at, owner_put, is_collision, arc_tells, may_ask, accepted, settled_acted, settled_offered, settled_sent, settled_lost, settled_collided, settled_lapsed, settled_down, settled_up}
 
 -- WHAT A CALL DID, from what its parts did: the event moves what stood, and what stands is settled.
 pub record IsDone (was : Standing) (e : Event) (new : Standing) : Type 0 where
@@ -186,3 +190,112 @@ destroy_done s was r set at seat fitted bus t view settled first draws read fitt
     subst (λ (w : Standing). IsDone w (event.Destroyed r.sender r.frame set) (record { fitted = fitted; bus = bus; trace = t; seats = with_place s.seats r.sender seat })) view
     (done_as s (event.Destroyed r.sender r.frame set) (has_lost s r.sender r.frame set) _ (rw (fitted_is, bus_is, t_is, seat_so) refl)
       (record { moves = moves_lost s r.sender r.frame set n.up n.may draws_here; settled = settled_lost s r set settled here }))
+
+-- what is heard under a trouble may be heard
+pub may_hear : (answers : List ℕ) (what : Trouble) (plain h : Answer) → plain ≡ heard_of answers → h ≡ heard_under what plain → Hears answers h
+may_hear answers what plain h plain_is is = subst (λ x. Hears answers x) (sym (is ∙ ap (heard_under what) plain_is)) (go what) where
+  go : (t : Trouble) → Hears answers (heard_under t (heard_of answers))
+  go trouble.AnswerLost = tt
+  go trouble.Noise = tt
+  go trouble.None = plain_hearing answers
+  go (trouble.Destroyed set) = plain_hearing answers
+  go trouble.Collision = plain_hearing answers
+
+-- ---------------------------------------------------------------- two frames collide
+
+alone_is : (b : Bus) → collision b.lists ≡ None → collided b ≡ destroyed b
+alone_is b none = rw none refl
+
+pub alone_done : (s was : Standing) (r : Request) (at seat : Place) (fitted : Fitted) (bus : Bus) (t : List Entry) → s ≡ was → Settled s → next was.bus ≡ Some r
+    → draws_needed (Only nobody_at_all) (command_of r.frame) 0 was.fitted.gear ≤ length was.fitted.left → collision s.bus.lists ≡ None
+    → at ≡ get_or s.seats r.sender at → fitted ≡ taken_at (Only nobody_at_all) (command_of r.frame) s.fitted → seat ≡ told_at (told_destroyed r.frame) at → bus ≡ collided s.bus → t ≡ []
+    → IsDone was (event.Destroyed r.sender r.frame nobody_at_all) (record { fitted = fitted; bus = bus; trace = t; seats = with_place s.seats r.sender seat })
+alone_done s was r at seat fitted bus t view settled first draws none read fitted_is seat_is bus_is t_is =
+    destroy_done s was r nobody_at_all at seat fitted bus t view settled first draws read fitted_is seat_is (bus_is ∙ alone_is s.bus none) t_is
+
+first_frame : (s : Standing) (r : Request) → s.bus.owner ≡ None → MaySendAt s r.sender r.frame → IsFirst r.frame
+first_frame s r free may = go (may []) where
+  go : MaySend (world_of s []) r.sender r.frame → IsFirst r.frame
+  go (inl m) = absurd (let no : Some r.sender ≡ None = sym m.0 ∙ free in cc)
+  go (inr m) = m.1
+
+first_lost : (s was : Standing) (r : Request) (at seat : Place) → s ≡ was → Settled s → next was.bus ≡ Some r → at ≡ get_or s.seats r.sender at
+    → seat ≡ told_at (told_destroyed r.frame) at → with_place s.seats r.sender seat ≡ (has_lost s r.sender r.frame nobody_at_all).seats
+first_lost s was r at seat view settled first read seat_is =
+    let n = next_at s r settled (next_here s was r view first) in
+    let is : at ≡ place_at s r.sender = place_read s.seats r.sender at read (up_there s.seats r.sender n.up) in
+    ap (λ (p : Place). with_place s.seats r.sender p) (seat_is ∙ ap (λ (p : Place). told_at (told_destroyed r.frame) p) is)
+
+pub rival_there : (s was : Standing) (r q : Request) → s ≡ was → Settled s → next was.bus ≡ Some r → collision s.bus.lists ≡ Some q → q.sender < length s.seats
+rival_there s was r q view settled first both =
+    let k = is_collision s r q settled (next_here s was r view first) both in
+    subst (λ n. q.sender < n) (length-set s.seats r.sender (told_at (told_destroyed r.frame) (place_at s r.sender))) (up_there (has_lost s r.sender r.frame nobody_at_all).seats q.sender k.second.up)
+
+pub rival_loses : (s was : Standing) (r q : Request) (at seat at' : Place) → s ≡ was → Settled s → next was.bus ≡ Some r → collision s.bus.lists ≡ Some q
+    → at ≡ get_or s.seats r.sender at → seat ≡ told_at (told_destroyed r.frame) at → at' ≡ get_or (with_place s.seats r.sender seat) q.sender at'
+    → is_arc (command_of q.frame) ≡ false → frame_put at'.controller.last ≡ Some q.frame
+rival_loses s was r q at seat at' view settled first both read seat_is read' scripted =
+    let here = next_here s was r view first in
+    let k = is_collision s r q settled here both in
+    let lost : Standing = has_lost s r.sender r.frame nobody_at_all in
+    sender_loses lost lost q at' refl (settled_lost s r nobody_at_all settled here) k.then_next
+    (subst (λ (ps : List Place). at' ≡ get_or ps q.sender at') (first_lost s was r at seat view settled first read seat_is) read') scripted
+
+pub collide_done : (s was : Standing) (r q : Request) (at seat at' seat' : Place) (bus : Bus) (t : List Entry) → s ≡ was → Settled s → next was.bus ≡ Some r → collision s.bus.lists ≡ Some q
+    → at ≡ get_or s.seats r.sender at → seat ≡ told_at (told_destroyed r.frame) at → at' ≡ get_or (with_place s.seats r.sender seat) q.sender at' → seat' ≡ told_at (told_destroyed q.frame) at'
+    → bus ≡ collided s.bus → t ≡ []
+    → IsDone was (event.Collided r.sender r.frame q.sender q.frame) (record { fitted = s.fitted; bus = bus; trace = t; seats = with_place (with_place s.seats r.sender seat) q.sender seat' })
+collide_done s was r q at seat at' seat' bus t view settled first both read seat_is read' seat'_is bus_is t_is =
+    let here = next_here s was r view first in
+    let k = is_collision s r q settled here both in
+    let lost : Standing = has_lost s r.sender r.frame nobody_at_all in
+    let seats_so : with_place s.seats r.sender seat ≡ lost.seats = first_lost s was r at seat view settled first read seat_is in
+    let at'_so : at' ≡ place_at lost q.sender =
+      place_read lost.seats q.sender at' (subst (λ (ps : List Place). at' ≡ get_or ps q.sender at') seats_so read') (up_there lost.seats q.sender k.second.up) in
+    let seat'_so : seat' ≡ told_at (told_destroyed q.frame) (place_at lost q.sender) = seat'_is ∙ ap (λ (p : Place). told_at (told_destroyed q.frame) p) at'_so in
+    let there : q.sender < length s.seats = rival_there s was r q view settled first both in
+    let up_q : (place_at s q.sender).controller.up ≡ true =
+      subst (λ (p : Place). p.controller.up ≡ true) (place_elsewhere s.seats r.sender q.sender (told_at (told_destroyed r.frame) (place_at s r.sender)) (λ e. k.apart (sym e))) k.second.up in
+    subst (λ (w : Standing). IsDone w (event.Collided r.sender r.frame q.sender q.frame) (record { fitted = s.fitted; bus = bus; trace = t; seats = with_place (with_place s.seats r.sender seat) q.sender seat' })) view
+    (done_as s (event.Collided r.sender r.frame q.sender q.frame) (has_collided s r.sender r.frame q.sender q.frame) _ (rw (bus_is, t_is, seats_so, seat'_so) refl)
+      (record {
+        moves = moves_collided s r.sender r.frame q.sender q.frame k.free k.apart k.first.up up_q (first_frame s r k.free k.first.may) (first_frame lost q refl k.second.may);
+        settled = settled_collided s r q settled here both;
+      }))
+
+-- ---------------------------------------------------------------- the owner loses the bus, controllers go down and come up
+
+pub lapse_done : (s was : Standing) (c : ℕ) (at seat : Place) (bus : Bus) (t : List Entry) → s ≡ was → Settled s → s.bus.owner ≡ Some c → at ≡ get_or s.seats c at → seat ≡ told_at told_lapsed at
+    → bus ≡ lapsed s.bus → t ≡ [] → IsDone was event.Lapsed (record { fitted = s.fitted; bus = bus; trace = t; seats = with_place s.seats c seat })
+lapse_done s was c at seat bus t view settled own read seat_is bus_is t_is =
+    let is : at ≡ place_at s c = place_read s.seats c at read (up_there s.seats c (owner_put s c settled own).0) in
+    subst (λ (w : Standing). IsDone w event.Lapsed (record { fitted = s.fitted; bus = bus; trace = t; seats = with_place s.seats c seat })) view
+    (done_as s event.Lapsed (has_lapsed s) _ (rw (bus_is, t_is, seat_is, own) (ap (λ (p : Place). record { fitted = s.fitted; bus = lapsed s.bus; trace = []; seats = with_place s.seats c (told_at told_lapsed p) }) is))
+      (record { moves = moves_lapsed s; settled = settled_lapsed s settled }))
+
+not_if : (b c : Bool) (t : List Entry) → b ≡ c → (if not b then t else []) ≡ (if c then [] else t)
+not_if true c t e = rw (← e) refl
+not_if false c t e = rw (← e) refl
+
+pub down_done : (s was : Standing) (c : ℕ) (at seat : Place) (bus : Bus) (t : List Entry) (owned : Bool) → s ≡ was → Settled s → (place_at was c).controller.up ≡ true → owned ≡ owns s.bus.owner c
+    → at ≡ get_or s.seats c at → seat ≡ down_at at → bus ≡ silenced s.bus c → t ≡ (if not owned then s.trace else [])
+    → IsDone was (event.Down c) (record { fitted = s.fitted; bus = bus; trace = t; seats = with_place s.seats c seat })
+down_done s was c at seat bus t owned view settled up owned_is read seat_is bus_is t_is =
+    let here : (place_at s c).controller.up ≡ true = subst (λ (w : Standing). (place_at w c).controller.up ≡ true) (sym view) up in
+    let is : at ≡ place_at s c = place_read s.seats c at read (up_there s.seats c here) in
+    subst (λ (w : Standing). IsDone w (event.Down c) (record { fitted = s.fitted; bus = bus; trace = t; seats = with_place s.seats c seat })) view
+    (done_as s (event.Down c) (has_gone_down s c) _
+      (rw (bus_is, t_is ∙ not_if owned (owns s.bus.owner c) s.trace owned_is, seat_is) (ap (λ (p : Place). record { fitted = s.fitted; bus = silenced s.bus c; trace = (if owns s.bus.owner c then [] else s.trace); seats = with_place s.seats c (down_at p) }) is))
+      (record { moves = moves_down s c here; settled = settled_down s c settled here }))
+
+pub up_done : (s was : Standing) (c : ℕ) (kept : Bool) (at seat : Place) → s ≡ was → Settled s → c < length was.seats → (place_at was c).controller.up ≡ false → HasOutstanding (place_at was c).controller kept
+    → at ≡ get_or s.seats c at → seat ≡ up_at c kept at → IsDone was (event.Up c kept) (record { fitted = s.fitted; bus = s.bus; trace = s.trace; seats = with_place s.seats c seat })
+up_done s was c kept at seat view settled there down has read seat_is =
+    let there_s : c < length s.seats = subst (λ (w : Standing). c < length w.seats) (sym view) there in
+    let down_s : (place_at s c).controller.up ≡ false = subst (λ (w : Standing). (place_at w c).controller.up ≡ false) (sym view) down in
+    let has_s : HasOutstanding (place_at s c).controller kept = subst (λ (w : Standing). HasOutstanding (place_at w c).controller kept) (sym view) has in
+    let is : at ≡ place_at s c = place_read s.seats c at read there_s in
+    subst (λ (w : Standing). IsDone w (event.Up c kept) (record { fitted = s.fitted; bus = s.bus; trace = s.trace; seats = with_place s.seats c seat })) view
+    (done_as s (event.Up c kept) (has_come_up s c kept) _
+      (rw seat_is (ap (λ (p : Place). record { fitted = s.fitted; bus = s.bus; trace = s.trace; seats = with_place s.seats c (up_at c kept p) }) is))
+      (record { moves = moves_up s c kept there_s down_s has_s; settled = settled_up s c kept settled there_s down_s }))
