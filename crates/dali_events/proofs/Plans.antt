@@ -145,8 +145,10 @@ gear_is gear is =
     let high : nat_lt 128 gear ≡ false = or_false_right (nat_lt gear 1) (nat_lt 128 gear) is in
     (grind (arith, nat_tests), grind (arith, nat_tests))
 
-pub blocks_are : (blocks : List (ℕ × ℕ)) → (nat_lt (length blocks) 1 || nat_lt 4 (length blocks)) ≡ false → length (map block_of blocks) ≤ 4
+pub blocks_are : (blocks : List (ℕ × ℕ)) → (nat_lt (length blocks) 1 || nat_lt 4 (length blocks)) ≡ false → (1 ≤ length (map block_of blocks)) × (length (map block_of blocks) ≤ 4)
 blocks_are blocks is =
+    let low : nat_lt (length blocks) 1 ≡ false = or_false_left (nat_lt (length blocks) 1) (nat_lt 4 (length blocks)) is in
     let high : nat_lt 4 (length blocks) ≡ false = or_false_right (nat_lt (length blocks) 1) (nat_lt 4 (length blocks)) is in
+    let some : 1 ≤ length blocks = grind (arith, nat_tests) in
     let few : length blocks ≤ 4 = grind (arith, nat_tests) in
-    subst (λ n. n ≤ 4) (sym (length_blocks blocks)) few
+    (subst (λ n. 1 ≤ n) (sym (length_blocks blocks)) some, subst (λ n. n ≤ 4) (sym (length_blocks blocks)) few)
