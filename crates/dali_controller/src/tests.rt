@@ -125,38 +125,25 @@ fn the_second_query_confirms_the_address_alone(rt: HostRuntime) -> Result<(), Fa
 
 #[test]
 fn a_lost_frame_begins_its_transaction_again(rt: HostRuntime) -> Result<(), Fail> {
-    // The opening, the first probe, a visit that gives an address, and the close.
-    play_lost(
-        &rt,
-        "",
-        "",
-        "start: put 3 A100\nsilence: put 1 A5FF\nsilence: put 1 A5FF\nsilence: put 1 A700\nsilence: put 1 A700\n",
-        "put 3 A100\nsilence: put 1 A5FF\n",
-    )?;
+    // An opening.
     let opening =
         "start: put 3 A100\nsilence: put 1 A5FF\nsilence: put 1 A5FF\nsilence: put 1 A700\nsilence: put 1 A700\n";
-    play_lost(
-        &rt,
-        "",
-        opening,
-        "silence: put 3 B1FF\nsilence: put 1 B3FF\nsilence: put 1 B5FE\nsilence: put 1 A900\n",
-        "put 3 B1FF\nsilence: put 1 B3FF\n",
+    let again = "put 3 A100\nsilence: put 1 A5FF\n";
+    play_lost(&rt, "", "", opening, again)?;
+    // A probe.
+    let probe = format!(in rt.alloc(); "silence: put 3 B1FF\n{PROBE}")?;
+    let again = "put 3 B1FF\nsilence: put 1 B3FF\n";
+    play_lost(&rt, "", opening, probe.as_str(), again)?;
+    // A visit that gives an address.
+    let visit = format!(in rt.alloc();
+        "{VISIT}FF: put 1 B701\nsilence: put 1 BB00\n01: put 1 AB00\n"
     )?;
-    play_lost(
-        &rt,
-        "reserve 0 123456",
-        "",
-        "start: put 3 B112\nsilence: put 1 B334\nsilence: put 1 B556\nsilence: put 1 BB00\nFF: put 1 B701\nsilence: put 1 BB00\n01: put 1 AB00\n",
-        "put 3 B112\nsilence: put 1 B334\n",
-    )?;
+    let again = "put 3 B112\nsilence: put 1 B334\n";
+    play_lost(&rt, "reserve 0 123456", "", visit.as_str(), again)?;
+    // A close.
     let probed = format!(in rt.alloc(); "{OPENING}{PROBE}")?;
-    play_lost(
-        &rt,
-        "",
-        probed.as_str(),
-        "silence: put 3 A100\n",
-        "put 3 A100\nsilence: done all-found\n",
-    )
+    let again = "put 3 A100\nsilence: done all-found\n";
+    play_lost(&rt, "", probed.as_str(), "silence: put 3 A100\n", again)
 }
 
 #[test]
@@ -179,7 +166,8 @@ fn unfinished_reservations_are_visited_by_address(rt: HostRuntime) -> Result<(),
         "reserve 3 000003\nreserve 1 000001\nreserve 2 000002\nenrol 2 000002",
         "start: put 3 B100\nsilence: put 1 B300\nsilence: put 1 B501\nsilence: put 1 BB00\nsilence: put 3 B100\nsilence: put 1 B300\nsilence: put 1 B503\nsilence: put 1 BB00\nsilence: put 3 A100\n",
     )?;
-    // The first is heard as another address than the reserved one, and is enrolled as it was heard. The second is given its own.
+    // The first is heard as another address than the reserved one, and is enrolled as it was heard. The second is given
+    // its own.
     play(
         &rt,
         (0, 3),
@@ -190,7 +178,7 @@ fn unfinished_reservations_are_visited_by_address(rt: HostRuntime) -> Result<(),
 
 #[test]
 fn a_finding_is_settled_against_the_table(rt: HostRuntime) -> Result<(), Fail> {
-    // The table has another number for the address, another address for the number, the gear as it was found, or nothing of both.
+    // The table has another number for the address, or nothing of both.
     let rows = [
         (
             "enrol 0 654321",
@@ -210,6 +198,7 @@ fn a_finding_is_settled_against_the_table(rt: HostRuntime) -> Result<(), Fail> {
         let records = format!(in rt.alloc(); "reserve 1 123456\n{enrolled}")?;
         play(&rt, (0, 3), records.as_str(), script.as_str())?;
     }
+    // It has another address for the number, or the gear as it was found.
     let script = format!(in rt.alloc();
         "{OPENING}{SEARCH}03: put 1 AB00\nsilence: halt conflict\n"
     )?;
