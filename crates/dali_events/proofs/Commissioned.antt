@@ -1,14 +1,13 @@
-use Rattle.std.proofs.Common.{◌≡◌, ℕ, ◌<◌, ◌≤◌, List, [], ◌∷◌, ◌++◌, Option, Some, None, refl, inl, inr, lit<, lit≤, arith, length}
+use Rattle.std.proofs.Common.{◌≡◌, ℕ, ◌<◌, ◌≤◌, List, [], ◌∷◌, ◌++◌, Some, refl, inl, inr, lit<, lit≤, arith}
 use Rattle.dali_frame.specs.declared.frames.Forward.{Forward}
 use Rattle.dali_frame.specs.declared.frames.Answer.{Answer}
-use Rattle.dali_frame.specs.declared.frames.Answer.TheVariants.{Silence, Byte, Damaged}
+use Rattle.dali_frame.specs.declared.frames.Answer.TheVariants.{Silence, Byte}
 use Rattle.dali_frame.specs.declared.numbers.SearchAddress.{SearchAddress}
-use Rattle.dali_frame.specs.Random.{value_of}
 use Rattle.dali_special.specs.Command.{command_of, frame}
 use Rattle.dali_script.specs.declared.block.Block.{Block}
 use Rattle.dali_script.specs.declared.trace.Entry.{Entry}
-use Rattle.dali_script.specs.declared.records.Record.TheVariants.{Reserve, Enrol}
-use Rattle.dali_script.specs.Records.{Assignment, Has, InBlock, IsOnce, MASK24}
+use Rattle.dali_script.specs.declared.records.Record.TheVariants.{Reserve}
+use Rattle.dali_script.specs.Records.{Has, InBlock, MASK24}
 use Rattle.dali_script.specs.Scripts.{Open, Probe, Look, Give, MayGive}
 use Rattle.dali_script.specs.Stages.{stage_of}
 use Rattle.dali_controller.specs.declared.orders.Input.TheVariants as input
@@ -16,8 +15,8 @@ use Rattle.dali_controller.specs.declared.orders.Order.TheVariants.{Put, Commit}
 use Rattle.dali_events.specs.declared.event.Event.{Event}
 use Rattle.dali_events.specs.declared.event.Event.TheVariants as event
 use Rattle.dali_events.specs.Plan.{SitePlan, IsPlan, block_at}
-use Rattle.dali_events.specs.World.{World, gear_at, controller_at, start}
-use Rattle.dali_events.specs.Runs.{after, AllAllowed, IsRun}
+use Rattle.dali_events.specs.World.{gear_at, start}
+use Rattle.dali_events.specs.Runs.{after, AllAllowed}
 use Rattle.dali_events.specs.Searching.{SearchesAll, NobodyAnswers, searched_on, sent}
 
 -- A WHOLE RUN: one gear and one controller. An opening, a number that is reserved, an address that is given, and at last a

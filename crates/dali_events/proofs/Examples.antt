@@ -1,18 +1,14 @@
-use Rattle.std.proofs.Common.{◌≡◌, ℕ, ◌+◌, ◌*◌, Bool, true, false, List, [], ◌∷◌, ◌++◌, Option, Some, None, refl, inl, inr, lit<, lit≤}
+use Rattle.std.proofs.Common.{◌≡◌, ℕ, true, false, List, [], ◌∷◌, ◌++◌, Some, None, refl, inl, inr, lit<, lit≤}
 use Rattle.dali_frame.specs.declared.frames.Forward.{Forward}
-use Rattle.dali_frame.specs.declared.frames.Answer.TheVariants.{Silence, Byte, Damaged}
+use Rattle.dali_frame.specs.declared.frames.Answer.TheVariants.{Silence, Byte}
 use Rattle.dali_frame.specs.declared.numbers.SearchAddress.{SearchAddress}
-use Rattle.dali_special.specs.declared.command.Command.TheVariants.{Randomise, Initialise}
-use Rattle.dali_special.specs.declared.command.Target.TheVariants.{Unaddressed}
+use Rattle.dali_special.specs.declared.command.Command.TheVariants.{Randomise}
 use Rattle.dali_special.specs.Command.{command_of, frame}
-use Rattle.dali_gear.specs.declared.row.GearSet.{GearSet}
 use Rattle.dali_gear.specs.declared.state.InitialisationState.TheVariants.{Disabled, Enabled}
-use Rattle.dali_gear.specs.ControlGear.{ControlGear, MASK, fresh, search_mask}
-use Rattle.dali_arbiter.specs.Bus.{Bus, request_of, idle}
+use Rattle.dali_gear.specs.ControlGear.{ControlGear, search_mask}
+use Rattle.dali_arbiter.specs.Bus.{request_of, idle}
 use Rattle.dali_script.specs.declared.block.Block.{Block}
-use Rattle.dali_script.specs.declared.trace.Entry.{Entry}
-use Rattle.dali_script.specs.declared.records.Record.TheVariants.{Reserve, Enrol}
-use Rattle.dali_script.specs.Records.{Records}
+use Rattle.dali_script.specs.declared.records.Record.TheVariants.{Reserve}
 use Rattle.dali_script.specs.Scripts.{Open}
 use Rattle.dali_script.specs.Stages.{stage_of}
 use Rattle.dali_controller.specs.declared.orders.Input.TheVariants as input
@@ -20,10 +16,9 @@ use Rattle.dali_controller.specs.declared.orders.Order.TheVariants.{Put, Commit}
 use Rattle.dali_events.specs.declared.event.Event.{Event}
 use Rattle.dali_events.specs.declared.event.Event.TheVariants as event
 use Rattle.dali_events.specs.Plan.{SitePlan}
-use Rattle.dali_events.specs.World.{World, Controller, gear_at, controller_at, start}
-use Rattle.dali_events.specs.Happens.{happens, entry}
-use Rattle.dali_events.specs.Allowed.{Allowed}
-use Rattle.dali_events.specs.Runs.{after_all, AllAllowed, after}
+use Rattle.dali_events.specs.World.{World, gear_at, controller_at, start}
+use Rattle.dali_events.specs.Happens.{happens}
+use Rattle.dali_events.specs.Runs.{after_all, AllAllowed}
 
 -- SHORT HISTORIES, EACH WITH THE WORLD THAT THE RULES GIVE. They are proved by computing the definitions.
 

@@ -1,11 +1,11 @@
-use Rattle.std.proofs.Common.{◌≡◌, ℕ, ◌<◌, ◌≤◌, List, [], ◌∷◌, ◌++◌, refl, sym, ap, subst, ◌∙◌, length, get_or, Option, Some, None}
+use Rattle.std.proofs.Common.{◌≡◌, ℕ, ◌<◌, List, [], ◌∷◌, ◌++◌, refl, subst, ◌∙◌, length, Option, Some, None}
 use Rattle.std.proofs.lemmas.List.{get_or-map, length-map}
 use Rattle.dali_special.proofs.Table.{short_small}
 use Rattle.dali_special.specs.Command.{command_of}
 use Rattle.dali_script.specs.declared.block.Block.{Block}
 use Rattle.dali_script.specs.declared.records.Record.{Record}
 use Rattle.dali_script.specs.declared.records.Record.TheVariants.{Reserve, Enrol}
-use Rattle.dali_script.specs.Records.{Assignment, Records, InBlock, IsKept, IsFresh, Fits, address_of, without_records}
+use Rattle.dali_script.specs.Records.{Assignment, Records, InBlock, IsKept, IsFresh, Fits, address_of}
 use Rattle.dali_script.specs.Findings.{searched, found_by, later}
 use Rattle.dali_script.proofs.Lists.{kept_none, kept_more}
 use Rattle.dali_controller.specs.declared.orders.Order.{Order}

@@ -1,12 +1,10 @@
-use Rattle.std.proofs.Common.{◌≡◌, ℕ, zero, suc, ◌+◌, ◌<◌, ◌≤◌, Bool, true, false, List, [], ◌∷◌, length, get_or, map, Option, Some, None, refl, sym, ap, subst, ◌∙◌, inl, inr, ⊎_elim, arith}
+use Rattle.std.proofs.Common.{◌≡◌, ℕ, zero, suc, ◌<◌, ◌≤◌, Bool, true, false, List, [], ◌∷◌, length, get_or, map, Some, None, refl, sym, ap, subst, inl, inr, arith}
 use Rattle.std.proofs.lemmas.Bool.Decides.{nat_tests}
-use Rattle.std.specs.Prelude.{◌⊎◌, ◌==◌, ◌||◌, ◌&&◌, nat_lt, nat_le, if◌then◌else◌}
+use Rattle.std.specs.Prelude.{◌==◌, ◌||◌, nat_lt, if◌then◌else◌}
 use Rattle.std.specs.List.{list_any}
-use Rattle.dali_script.specs.declared.block.Block.{Block}
 use Rattle.dali_script.specs.Records.{Has, IsOnce, InBlock, MASK24}
-use Rattle.dali_events.specs.declared.plan.PlanError.{PlanError}
-use Rattle.dali_events.specs.declared.plan.PlanError.TheVariants.{NoMemory, GearCount, ControllerCount, BlockOrder, BlockOverlap, DrawTooLarge, DrawTwice}
-use Rattle.dali_events.specs.Plan.{SitePlan, any_pair, is_misordered, overlap, refusal_of, block_of, plan_of, block_at, no_block, IsPlan}
+use Rattle.dali_events.specs.declared.plan.PlanError.TheVariants.{GearCount, ControllerCount, BlockOrder, BlockOverlap, DrawTooLarge, DrawTwice}
+use Rattle.dali_events.specs.Plan.{any_pair, is_misordered, overlap, refusal_of, block_of, plan_of, no_block, IsPlan}
 
 -- a plan that is not refused fails no test
 pub record IsAccepted (gear : ℕ) (blocks : List (ℕ × ℕ)) (draws : List ℕ) : Type 0 where
@@ -145,8 +143,10 @@ gear_is gear is =
     let high : nat_lt 128 gear ≡ false = or_false_right (nat_lt gear 1) (nat_lt 128 gear) is in
     (grind (arith, nat_tests), grind (arith, nat_tests))
 
-pub blocks_are : (blocks : List (ℕ × ℕ)) → (nat_lt (length blocks) 1 || nat_lt 4 (length blocks)) ≡ false → length (map block_of blocks) ≤ 4
+pub blocks_are : (blocks : List (ℕ × ℕ)) → (nat_lt (length blocks) 1 || nat_lt 4 (length blocks)) ≡ false → (1 ≤ length (map block_of blocks)) × (length (map block_of blocks) ≤ 4)
 blocks_are blocks is =
+    let low : nat_lt (length blocks) 1 ≡ false = or_false_left (nat_lt (length blocks) 1) (nat_lt 4 (length blocks)) is in
     let high : nat_lt 4 (length blocks) ≡ false = or_false_right (nat_lt (length blocks) 1) (nat_lt 4 (length blocks)) is in
+    let some : 1 ≤ length blocks = grind (arith, nat_tests) in
     let few : length blocks ≤ 4 = grind (arith, nat_tests) in
-    subst (λ n. n ≤ 4) (sym (length_blocks blocks)) few
+    (subst (λ n. 1 ≤ n) (sym (length_blocks blocks)) some, subst (λ n. n ≤ 4) (sym (length_blocks blocks)) few)

@@ -1,7 +1,6 @@
-use Rattle.std.specs.Prelude.{ℕ, ◌+◌, Bool, true, false, not, List, [], ◌∷◌, ◌++◌, map, Option, Some, None, ◌==◌, ◌&&◌, if◌then◌else◌}
+use Rattle.std.specs.Prelude.{ℕ, Bool, true, false, not, List, [], ◌∷◌, ◌++◌, map, Option, Some, None, ◌==◌, ◌&&◌, if◌then◌else◌}
 use Rattle.dali_frame.specs.declared.frames.Forward.{Forward}
 use Rattle.dali_frame.specs.declared.frames.Answer.{Answer}
-use Rattle.dali_frame.specs.declared.numbers.SearchAddress.{SearchAddress}
 use Rattle.dali_special.specs.declared.command.Command.{Command}
 use Rattle.dali_special.specs.declared.command.Command.TheVariants.{Arc}
 use Rattle.dali_special.specs.Command.{command_of}
@@ -13,13 +12,13 @@ use Rattle.dali_gear.specs.Row.{row_after, row_left, drawn_of, stored_of}
 use Rattle.dali_arbiter.specs.Bus.{Bus, owns, request_of, offered, sent, destroyed, collided, lapsed, silenced}
 use Rattle.dali_script.specs.declared.trace.Entry.{Entry}
 use Rattle.dali_script.specs.declared.records.Record.{Record}
-use Rattle.dali_script.specs.Records.{Assignment, Records, with_record}
+use Rattle.dali_script.specs.Records.{Records, with_record}
 use Rattle.dali_script.specs.Findings.{searched, found_by, later}
 use Rattle.dali_script.specs.Stages.{stage_of, may_follow}
 use Rattle.dali_controller.specs.declared.orders.Input.{Input}
 use Rattle.dali_controller.specs.declared.orders.Input.TheVariants as input
 use Rattle.dali_controller.specs.declared.orders.Order.{Order}
-use Rattle.dali_controller.specs.declared.orders.Order.TheVariants.{Put, Commit, Done, Halt}
+use Rattle.dali_controller.specs.declared.orders.Order.TheVariants.{Put, Commit}
 use Rattle.dali_events.specs.declared.event.Event.{Event}
 use Rattle.dali_events.specs.declared.event.Event.TheVariants as event
 use Rattle.dali_events.specs.World.{Controller, World, controller_at, changed_gear, changed}

@@ -1,4 +1,4 @@
-use Rattle.std.specs.Prelude.{◌≡◌, ℕ, ◌+◌, ◌<◌, ◌≤◌, List, [], ◌∷◌, length, Bool, true, false, Option, Some, None, ◌==◌, ◌||◌, ◌&&◌, nat_lt, nat_le, map, slice_index_or, if◌then◌else◌}
+use Rattle.std.specs.Prelude.{◌≡◌, ℕ, ◌<◌, List, [], ◌∷◌, length, Bool, false, Option, Some, None, ◌==◌, ◌||◌, ◌&&◌, nat_lt, nat_le, map, slice_index_or, if◌then◌else◌}
 use Rattle.std.specs.List.{list_any}
 use Rattle.dali_script.specs.declared.block.Block.{Block}
 use Rattle.dali_script.specs.Records.{InBlock, IsOnce, MASK24, Has}

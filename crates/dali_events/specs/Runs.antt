@@ -1,5 +1,5 @@
 use Rattle.std.specs.Prelude.{◌≡◌, ◌⊎◌, ◌↔◌, ℕ, ◌<◌, List, [], ◌∷◌, ◌++◌, length, map, Some}
-use Rattle.dali_gear.specs.ControlGear.{ControlGear, MASK}
+use Rattle.dali_gear.specs.ControlGear.{MASK}
 use Rattle.dali_script.specs.Records.{Assignment, Has, IsOnce}
 use Rattle.dali_events.specs.declared.event.Event.{Event}
 use Rattle.dali_events.specs.Plan.{SitePlan, IsPlan}

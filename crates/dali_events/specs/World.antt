@@ -1,4 +1,4 @@
-use Rattle.std.specs.Prelude.{ℕ, Bool, true, false, List, [], ◌∷◌, length, map, replicate, Option, Some, None, slice_set, slice_index_or}
+use Rattle.std.specs.Prelude.{ℕ, Bool, true, false, List, [], map, replicate, Option, Some, None, slice_set, slice_index_or}
 use Rattle.dali_gear.specs.ControlGear.{ControlGear, fresh}
 use Rattle.dali_arbiter.specs.Bus.{Bus, idle}
 use Rattle.dali_script.specs.declared.block.Block.{Block}

@@ -189,7 +189,7 @@ impl Model for Plan {
 
     ghost view = { λ p. record { gear = p.gear; blocks = p.blocks.items; draws = p.draws.items } };
 
-    ghost invariant = { λ p. IsPlan (record { gear = p.gear; blocks = p.blocks.items; draws = p.draws.items }) × (1 ≤ p.gear) × (p.gear ≤ 128) × (length p.blocks.items ≤ 4) × (length p.draws.items ≤ 1024) };
+    ghost invariant = { λ p. IsPlan (record { gear = p.gear; blocks = p.blocks.items; draws = p.draws.items }) × (1 ≤ p.gear) × (p.gear ≤ 128) × (1 ≤ length p.blocks.items) × (length p.blocks.items ≤ 4) × (length p.draws.items ≤ 1024) };
 }
 
 impl Plan {
@@ -221,14 +221,18 @@ impl Plan {
 
     /// The number of gear, 1 to 128.
     pub fn gear(&self) -> u32
-        ensures { result ≡ self.now.gear }
+        ensures value { result ≡ self.now.gear }
+        ensures least { 1 ≤ self.now.gear }
+        ensures most { self.now.gear ≤ 128 }
     {
         self.gear
     }
 
     /// The block of each controller, 1 to 4 of them.
     pub fn blocks(&self) -> &[Block]
-        ensures { result.now ≡ self.now.blocks }
+        ensures value { result.now ≡ self.now.blocks }
+        ensures least { 1 ≤ length self.now.blocks }
+        ensures most { length self.now.blocks ≤ 4 }
     {
         self.blocks.as_slice()
     }

@@ -8,5 +8,6 @@ invariant_of-result c =
     let is : refusal_of c.args.gear c.args.blocks.now c.args.draws.now ≡ None = sym c.in_default.ensures in
     let all = accepted c.args.gear c.args.blocks.now c.args.draws.now is in
     let gear = gear_is c.args.gear all.gear_count in
+    let blocks = blocks_are c.args.blocks.now all.controllers in
     rw (c.in_ok-blocks.ensures, c.in_ok-draws.ensures)
-    (plan_is c.args.gear c.args.blocks.now c.args.draws.now is, gear.0, gear.1, blocks_are c.args.blocks.now all.controllers, c.requires)
+    (plan_is c.args.gear c.args.blocks.now c.args.draws.now is, gear.0, gear.1, blocks.0, blocks.1, c.requires)
