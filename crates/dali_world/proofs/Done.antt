@@ -1,6 +1,6 @@
-use Rattle.std.proofs.Common.{◌≡◌, ℕ, ◌+◌, ◌<◌, ◌≤◌, ◌⊎◌, inl, inr, Bool, true, false, not, List, [], ◌∷◌, ◌++◌, refl, sym, ap, subst, ◌∙◌, arith, length, length-set, get_or, Option, Some, None}
+use Rattle.std.proofs.Common.{◌≡◌, ℕ, ◌+◌, ◌<◌, ◌≤◌, ◌⊎◌, inl, inr, Bool, true, false, not, List, [], ◌∷◌, ◌++◌, refl, sym, ap, subst, ◌∙◌, arith, length, length-set, get_or, Option, Some, None, Result, Ok, Err, OnOk, OnErr}
 use Rattle.std.specs.Prelude.{◌&&◌, ◌==◌, if◌then◌else◌}
-use Rattle.std.proofs.lemmas.List.{get_or_read_under}
+use Rattle.std.proofs.lemmas.List.{get_or_read_under, set-get_or}
 use Rattle.dali_frame.specs.declared.frames.Forward.{Forward}
 use Rattle.dali_frame.specs.declared.frames.Answer.{Answer}
 use Rattle.dali_special.specs.Command.{command_of}
@@ -26,6 +26,7 @@ use Rattle.dali_world.specs.Fitted.{Fitted, taken_at}
 use Rattle.dali_world.specs.Places.{Place, IsTied, MayAnswer, acted_at, told_at, down_at, up_at, trace_of}
 use Rattle.dali_world.specs.Standing.{Standing, place_in, place_at, world_of, with_place, running_in, goes_on_in, owner_lapsed, has_acted, has_offered, has_sent, has_lost, has_collided, has_lapsed, has_gone_down, has_come_up, empty_place, Moves}
 use Rattle.dali_world.specs.Settled.{IsAccepted, IsHearing, Settled}
+use Rattle.dali_world.specs.declared.refusal.Refusal.{Refusal}
 use Rattle.dali_world.specs.declared.trouble.Trouble.{Trouble}
 use Rattle.dali_world.specs.declared.trouble.Trouble.TheVariants as trouble
 use Rattle.dali_world.specs.Troubles.{heard_under, nobody_at_all}
@@ -299,3 +300,18 @@ up_done s was c kept at seat view settled there down has read seat_is =
     (done_as s (event.Up c kept) (has_come_up s c kept) _
       (rw seat_is (ap (λ (p : Place). record { fitted = s.fitted; bus = s.bus; trace = s.trace; seats = with_place s.seats c (up_at c kept p) }) is))
       (record { moves = moves_up s c kept there_s down_s has_s; settled = settled_up s c kept settled there_s down_s }))
+
+-- a seat that came up, or was refused
+pub up_settles : (res : Result (Unit {0}) Refusal) (s was : Standing) (c : ℕ) (kept : Bool) (at seat : Place) → s ≡ was → Settled s → c < length was.seats → (place_at was c).controller.up ≡ false
+    → HasOutstanding (place_at was c).controller kept → at ≡ get_or s.seats c at → OnOk res (seat ≡ up_at c kept at) → OnErr res (seat ≡ at)
+    → Settled (record { fitted = s.fitted; bus = s.bus; trace = s.trace; seats = with_place s.seats c seat })
+up_settles (Ok x) s was c kept at seat view settled there down has read seat_is same = (up_done s was c kept at seat view settled there down has read seat_is).settled
+up_settles (Err e) s was c kept at seat view settled there down has read seat_is same =
+    let unchanged : with_place s.seats c seat ≡ s.seats = ap (λ (p : Place). with_place s.seats c p) (same ∙ read) ∙ set-get_or s.seats c at in
+    rw unchanged settled
+
+pub up_moves : (res : Result (Unit {0}) Refusal) (s was : Standing) (c : ℕ) (kept : Bool) (at seat : Place) → s ≡ was → Settled s → c < length was.seats → (place_at was c).controller.up ≡ false
+    → HasOutstanding (place_at was c).controller kept → at ≡ get_or s.seats c at → OnOk res (seat ≡ up_at c kept at)
+    → OnOk res (Moves was (event.Up c kept) (record { fitted = s.fitted; bus = s.bus; trace = s.trace; seats = with_place s.seats c seat }))
+up_moves (Ok x) s was c kept at seat view settled there down has read seat_is = (up_done s was c kept at seat view settled there down has read seat_is).moves
+up_moves (Err e) s was c kept at seat view settled there down has read seat_is = tt

@@ -1,5 +1,5 @@
 use Rattle.std.proofs.Common.{◌≡◌, ℕ, ◌+◌, ◌<◌, ◌≤◌, ◌⊎◌, inl, inr, Bool, true, false, not, List, [], ◌∷◌, ◌++◌, refl, sym, ap, subst, ◌∙◌, arith, length, nat_eq, sum_by, is_some, Option, Some, None}
-use Rattle.std.specs.Prelude.{◌&&◌, ◌==◌, if◌then◌else◌}
+use Rattle.std.specs.Prelude.{◌&&◌, ◌==◌, if◌then◌else◌, zero, suc}
 use Rattle.std.proofs.lemmas.Bool.Decides.{nat_tests}
 use Rattle.std.proofs.lemmas.List.Sums.{sum_by-cons}
 use Rattle.dali_frame.specs.declared.frames.Forward.{Forward}
@@ -11,7 +11,9 @@ use Rattle.std.specs.Option.{option_map}
 use Rattle.dali_gear.specs.declared.row.GearSet.{GearSet}
 use Rattle.dali_arbiter.specs.declared.request.Request.{Request}
 use Rattle.dali_arbiter.specs.Bus.{Bus, owns, total, next, request_of, offer_refusal, is_barred, lapsed, first_emptied, collision, collided, destroyed, silenced, freed, muted}
+use Rattle.dali_script.specs.declared.block.Block.{Block}
 use Rattle.dali_script.specs.declared.trace.Entry.{Entry}
+use Rattle.dali_events.specs.Plan.{SitePlan}
 use Rattle.dali_script.specs.declared.records.Record.{Record}
 use Rattle.dali_script.specs.Records.{Records}
 use Rattle.dali_script.specs.Scripts.{Lawful, IsFirst}
@@ -26,13 +28,13 @@ use Rattle.dali_controller.specs.Orders.{after}
 use Rattle.dali_events.specs.World.{World, Controller}
 use Rattle.dali_events.specs.Happens.{entry, informed, acted, gives_up, keeps_bus, bus_acted, is_arc, told_sent, told_destroyed, told_lapsed, sent_by}
 use Rattle.dali_events.specs.Allowed.{IsDue, IsCommit, IsArc}
-use Rattle.dali_world.specs.Places.{Place, IsTied, MayAnswer, acted_at, told_at, down_at, up_at}
-use Rattle.dali_world.specs.Standing.{Standing, place_in, place_at, world_of, with_place, running_in, goes_on_in, owner_lapsed, has_acted, has_offered, has_sent, has_lost, has_collided, has_lapsed, has_gone_down, has_come_up}
+use Rattle.dali_world.specs.Places.{Place, IsTied, MayAnswer, acted_at, told_at, down_at, up_at, begun_at}
+use Rattle.dali_world.specs.Standing.{Standing, place_in, place_at, world_of, with_place, running_in, goes_on_in, owner_lapsed, has_acted, has_offered, has_sent, has_lost, has_collided, has_lapsed, has_gone_down, has_come_up, standing_at, seats_from, empty_place}
 use Rattle.dali_world.specs.Settled.{IsOwning, IsApart, IsPlacedBy, IsPlaced, awaited, awaited_by, IsServed, AreUp, IsSettled, IsAccepted, Settled}
 use Rattle.dali_world.proofs.Acts.{IsLeft, may_order, owner_owns, owner_is, other_owns, committed_last}
 use Rattle.dali_world.proofs.Moves.{MaySendAt, controller_in, place_here, place_elsewhere, up_there}
 use Rattle.dali_world.proofs.Placing.{kept_bus, IsOthers, placed_apart, placed_other, placed_acted, acted_other, placed_sent, placed_told}
-use Rattle.dali_world.proofs.Queues.{Elsewhere, MayAsk, Gone, next_is, next_owned, collision_owned, collision_differs, collision_first, served_same, served_sent, served_destroyed, served_lapsed, served_idle, served_silenced, served_offered, served_acted, five_lapsed, five_offered, five_acted, five_destroyed, five_sent, five_silenced, up_more, up_lapsed, up_offered, up_acted, up_destroyed, up_sent, up_silenced, next_up}
+use Rattle.dali_world.proofs.Queues.{Elsewhere, MayAsk, Gone, next_is, next_owned, collision_owned, collision_differs, collision_first, served_same, served_start, served_sent, served_destroyed, served_lapsed, served_idle, served_silenced, served_offered, served_acted, five_lapsed, five_offered, five_acted, five_destroyed, five_sent, five_silenced, up_more, up_lapsed, up_offered, up_acted, up_destroyed, up_sent, up_silenced, up_start, next_up}
 use Rattle.dali_world.specs.Troubles.{nobody_at_all}
 
 -- BUS AND CONTROLLERS STAY SETTLED, whatever happens on a site.
@@ -509,3 +511,20 @@ settled_up s c kept settled there down =
         (ap (λ (q : Place). awaited c q.controller) (place_here s.seats c p there) ∙ sym rests.1);
       up = up_more s.bus.lists (place_in s.seats) (place_in (with_place s.seats c p)) (up_changed s.seats c p there refl) settled.up;
     }
+
+-- ---------------------------------------------------------------- the start
+
+-- each place at the start is that of a controller that has not begun, or an empty one
+begun_or_empty : (P : Place → Type 0) → ((c : ℕ) (b : Block) → P (begun_at c b)) → P empty_place → (d : ℕ) (bs : List Block) (c : ℕ) → P (place_in (seats_from d bs) c)
+begun_or_empty P begun empty d [] c = empty
+begun_or_empty P begun empty d (b ∷ bs) zero = begun d b
+begun_or_empty P begun empty d (b ∷ bs) (suc c) = begun_or_empty P begun empty (d + 1) bs c
+
+pub settled_start : (p : SitePlan) (capacity : ℕ) → Settled (standing_at p capacity)
+settled_start p capacity = record {
+  five = refl;
+  running = λ c. begun_or_empty (λ q. q.controller.up ≡ is_some q.machine) (λ d b. refl) refl 0 p.blocks c;
+  places = λ c. begun_or_empty (λ q. IsPlaced false [] q) (λ d b. refl) (refl, refl) 0 p.blocks c;
+  served = served_start capacity (place_in (seats_from 0 p.blocks)) (λ c. begun_or_empty (λ q. awaited c q.controller ≡ []) (λ d b. refl) refl 0 p.blocks c);
+  up = up_start capacity (place_in (seats_from 0 p.blocks));
+}

@@ -45,7 +45,6 @@ impl FittedGear {
 
     /// The gear of a plan, from the factory. It takes all the memory that it will need.
     pub(crate) fn new(alloc: Global, plan: &Plan) -> Result<FittedGear, Refusal>
-        requires { plan.now.gear ≤ 128 }
         ensures ok { IfOk result (λ f. f ≡ fitted_at plan.now) }
         ensures err { IfErr result (λ e. e ≡ refusal.NoMemory) }
     {

@@ -10,6 +10,7 @@ ghost use Rattle.dali_events.specs.World.{changed_gear};
 ghost use Rattle.dali_events.specs.Happens.{entry, is_arc, keeps_bus, gives_up, put_after, powered, told_sent, told_destroyed};
 ghost use Rattle.dali_events.specs.Allowed.{IsArc, IsDue};
 ghost use Rattle.dali_world.specs.Fitted.{changed_at};
+ghost use Rattle.dali_world.specs.Standing.{seats_from};
 ghost use Rattle.dali_world.specs.Places.{MayAnswer, Agrees, trace_of, told_at};
 ghost use Rattle.dali_world.specs.Troubles.{heard_under};
 ghost use Rattle.dali_world.specs.Settled.{IsAccepted, IsHearing};
@@ -54,6 +55,27 @@ impl Model for Standing {
 
 impl Standing {
     ghost use Rattle.dali_world.specs.Standing.{Standing, standing_at, place_at, Moves, has_acted, has_offered, has_sent, has_lost, has_collided, has_lapsed, with_gear, has_gone_down, has_come_up};
+
+    /// What stands on a site of this plan at its start. It takes all the memory that it will need until a controller comes up
+    /// anew. `queue` requests may wait.
+    pub(crate) fn new(alloc: Global, plan: &Plan, queue: usize) -> Result<Standing, Refusal>
+        requires least { 1 ≤ queue }
+        requires most { queue ≤ 1024 }
+        ensures ok { IfOk result (λ s. s ≡ standing_at plan.now queue) }
+        ensures err { IfErr result (λ e. e ≡ refusal.NoMemory) }
+    {
+        let fitted = FittedGear::new(alloc, plan)?;
+        let Ok(arbiter) = Arbiter::new(alloc, queue) else {
+            return Err(Refusal::NoMemory);
+        };
+        let seats = seats(alloc, plan.blocks())?;
+        Ok(Standing {
+            fitted,
+            arbiter,
+            trace: Trace::new(),
+            seats,
+        })
+    }
 
     /// Whether the controller may act on this input.
     pub(crate) fn may_act(&self, c: u8, input: Input) -> bool
@@ -243,6 +265,22 @@ impl Standing {
         let seat = &mut self.seats[c as usize];
         seat.up(alloc, c, copy, kept)
     }
+}
+
+/// The places of controllers with these blocks, before their start.
+fn seats(alloc: Global, blocks: &[Block]) -> Result<Vec<Seat>, Refusal>
+    requires { length blocks.now ≤ 4 }
+    ensures ok { IfOk result (λ seats. seats.items ≡ seats_from 0 blocks.now) }
+    ensures err { IfErr result (λ e. e ≡ refusal.NoMemory) }
+{
+    let Ok(mut seats) = Vec::with_capacity(alloc, blocks.len()) else {
+        return Err(Refusal::NoMemory);
+    };
+    for (c, block) in blocks.iter().enumerate() {
+        let seat = Seat::new(alloc, c as u8, *block)?;
+        seats.push_reserved(seat);
+    }
+    Ok(seats)
 }
 
 /// Whether a controller owns the bus.
