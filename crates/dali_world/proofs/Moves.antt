@@ -10,7 +10,10 @@ use Rattle.dali_gear.specs.declared.row.Reach.TheVariants.{Everyone, Only}
 use Rattle.dali_gear.specs.ControlGear.{expired, quieted}
 use Rattle.dali_gear.specs.Row.{answers_of, draws_needed}
 use Rattle.dali_arbiter.specs.Bus.{Bus, owns}
+use Rattle.dali_script.specs.declared.block.Block.{Block}
 use Rattle.dali_script.specs.declared.trace.Entry.{Entry}
+use Rattle.dali_script.specs.Records.{without_records}
+use Rattle.dali_events.specs.Plan.{SitePlan}
 use Rattle.dali_script.specs.Scripts.{IsFirst}
 use Rattle.dali_script.specs.Stages.{stage_of, may_follow}
 use Rattle.dali_controller.specs.declared.orders.Input.{Input}
@@ -19,12 +22,12 @@ use Rattle.dali_controller.specs.Progress.{Progress, at_first}
 use Rattle.dali_controller.specs.Orders.{after}
 use Rattle.dali_events.specs.declared.event.Event.{Event}
 use Rattle.dali_events.specs.declared.event.Event.TheVariants as event
-use Rattle.dali_events.specs.World.{World, Controller, controller_at, nobody, changed, changed_gear}
+use Rattle.dali_events.specs.World.{World, Controller, controller_at, nobody, changed, changed_gear, begun, start}
 use Rattle.dali_events.specs.Happens.{happens, entry, informed, acted, running, goes_on, sent_by, told_sent, told_destroyed, told_lapsed, owner_told, powered, gone_down, come_up}
 use Rattle.dali_events.specs.Allowed.{Allowed, Hears, IsUp, IsDue, IsArc, HasDraws, MaySend, MayOrder, IsActed, IsSent, IsDestroyed, IsCollided, IsDown, HasOutstanding}
 use Rattle.dali_world.specs.Fitted.{Fitted, taken_at, changed_at}
 use Rattle.dali_world.specs.Places.{Place, IsTied, MayAnswer, acted_at, down_at, up_at, told_at}
-use Rattle.dali_world.specs.Standing.{Standing, empty_place, place_in, place_at, controllers_of, machines_of, world_of, machine_in, machines_after, with_place, running_in, goes_on_in, has_acted, has_offered, has_sent, has_lost, has_collided, owner_lapsed, has_lapsed, with_gear, has_gone_down, has_come_up, Moves}
+use Rattle.dali_world.specs.Standing.{Seated, empty_place, place_in, place_at, controllers_of, machines_of, world_of, machine_in, machines_after, with_place, running_in, goes_on_in, has_acted, has_offered, has_sent, has_lost, has_collided, owner_lapsed, has_lapsed, with_gear, has_gone_down, has_come_up, IsMove, flat, stand_of, seats_from, seated_at, machines_at}
 use Rattle.dali_world.specs.Settled.{IsPlaced}
 use Rattle.dali_world.proofs.Acts.{may_order}
 
@@ -75,7 +78,7 @@ up_there [] c up = cc
 up_there (p ∷ seats) zero up = omega arith
 up_there (p ∷ seats) (suc c) up = let there = up_there seats c up in omega arith
 
-pub is_up : (s : Standing) (c : ℕ) (drawn : List (ℕ × ℕ)) → (place_at s c).controller.up ≡ true → IsUp (world_of s drawn) c
+pub is_up : (s : Seated) (c : ℕ) (drawn : List (ℕ × ℕ)) → (place_at s c).controller.up ≡ true → IsUp (world_of s drawn) c
 is_up s c drawn up = record {
   known = subst (λ n. c < n) (sym (length-map s.seats (λ p. p.controller))) (up_there s.seats c up);
   up = subst (λ (k : Controller). k.up ≡ true) (sym (controller_in s.seats c)) up;
@@ -83,7 +86,7 @@ is_up s c drawn up = record {
 
 -- ---------------------------------------------------------------- a controller acts
 
-acted_world : (s : Standing) (c : ℕ) (i : Input) (o : Order) (drawn : List (ℕ × ℕ)) → world_of (has_acted s c i o) drawn ≡ happens (world_of s drawn) (event.Acted c i o)
+acted_world : (s : Seated) (c : ℕ) (i : Input) (o : Order) (drawn : List (ℕ × ℕ)) → world_of (has_acted s c i o) drawn ≡ happens (world_of s drawn) (event.Acted c i o)
 acted_world s c i o drawn = rw (changed_is s.seats c (λ k. acted k i o) (acted_at (place_at s c) i o) refl) refl
 
 acted_machines : (seats : List Place) (c : ℕ) (i : Input) (o : Order)
@@ -98,9 +101,9 @@ may_order_at w c p i o due tied answer placed = go p.machine tied answer placed 
   go None tied answer placed = elim answer [ ]
   go (Some m) tied answer placed = (may_order w c p.controller m i o due tied answer placed).may
 
-pub moves_acted : (s : Standing) (c : ℕ) (i : Input) (o : Order) → (place_at s c).controller.up ≡ true → IsDue (place_at s c).controller i
+pub moves_acted : (s : Seated) (c : ℕ) (i : Input) (o : Order) → (place_at s c).controller.up ≡ true → IsDue (place_at s c).controller i
     → IsTied (place_at s c).controller (place_at s c).machine → MayAnswer (place_at s c).machine i o → IsPlaced (owns s.bus.owner c) s.trace (place_at s c)
-    → Moves s (event.Acted c i o) (has_acted s c i o)
+    → IsMove s (event.Acted c i o) (has_acted s c i o)
 moves_acted s c i o up due tied answer placed = record {
   allowed = λ drawn. record {
     up = is_up s c drawn up;
@@ -113,32 +116,32 @@ moves_acted s c i o up due tied answer placed = record {
 
 -- ---------------------------------------------------------------- frames
 
-pub moves_offered : (s : Standing) (c : ℕ) (f : Forward) → (place_at s c).controller.up ≡ true → IsArc f → Moves s (event.Offered c f) (has_offered s c f)
+pub moves_offered : (s : Seated) (c : ℕ) (f : Forward) → (place_at s c).controller.up ≡ true → IsArc f → IsMove s (event.Offered c f) (has_offered s c f)
 moves_offered s c f up arc = record { allowed = λ drawn. (is_up s c drawn up, arc); world = λ drawn. refl; machines = λ drawn. refl }
 
 -- who may send, by the place of the sender
-abbrev pub MaySendAt : Standing → ℕ → Forward → Type 0
+abbrev pub MaySendAt : Seated → ℕ → Forward → Type 0
 MaySendAt s c f = (drawn : List (ℕ × ℕ)) → MaySend (world_of s drawn) c f
 
-sent_world : (s : Standing) (c : ℕ) (f : Forward) (h : Answer) (drawn : List (ℕ × ℕ))
+sent_world : (s : Seated) (c : ℕ) (f : Forward) (h : Answer) (drawn : List (ℕ × ℕ))
     → world_of (has_sent s c f h) (happens (world_of s drawn) (event.Sent c f h)).drawn ≡ happens (world_of s drawn) (event.Sent c f h)
 sent_world s c f h drawn = rw (changed_is s.seats c (told_sent (running_in s c) f h) (told_at (told_sent (running_in s c) f h) (place_at s c)) refl, controller_in s.seats c) refl
 
-pub moves_sent : (s : Standing) (c : ℕ) (f : Forward) (h : Answer) → (place_at s c).controller.up ≡ true → MaySendAt s c f
+pub moves_sent : (s : Seated) (c : ℕ) (f : Forward) (h : Answer) → (place_at s c).controller.up ≡ true → MaySendAt s c f
     → draws_needed Everyone (command_of f) 0 s.fitted.gear ≤ length s.fitted.left → Hears (answers_of Everyone (command_of f) 0 s.fitted.gear) h
-    → Moves s (event.Sent c f h) (has_sent s c f h)
+    → IsMove s (event.Sent c f h) (has_sent s c f h)
 moves_sent s c f h up may draws heard = record {
   allowed = λ drawn. record { up = is_up s c drawn up; may = may drawn; draws = draws; heard = heard };
   world = λ drawn. sent_world s c f h drawn;
   machines = λ drawn. machines_same s.seats c _ refl;
 }
 
-lost_world : (s : Standing) (c : ℕ) (f : Forward) (set : GearSet) (drawn : List (ℕ × ℕ))
+lost_world : (s : Seated) (c : ℕ) (f : Forward) (set : GearSet) (drawn : List (ℕ × ℕ))
     → world_of (has_lost s c f set) (happens (world_of s drawn) (event.Destroyed c f set)).drawn ≡ happens (world_of s drawn) (event.Destroyed c f set)
 lost_world s c f set drawn = rw (changed_is s.seats c (told_destroyed f) (told_at (told_destroyed f) (place_at s c)) refl) refl
 
-pub moves_lost : (s : Standing) (c : ℕ) (f : Forward) (set : GearSet) → (place_at s c).controller.up ≡ true → MaySendAt s c f
-    → draws_needed (Only set) (command_of f) 0 s.fitted.gear ≤ length s.fitted.left → Moves s (event.Destroyed c f set) (has_lost s c f set)
+pub moves_lost : (s : Seated) (c : ℕ) (f : Forward) (set : GearSet) → (place_at s c).controller.up ≡ true → MaySendAt s c f
+    → draws_needed (Only set) (command_of f) 0 s.fitted.gear ≤ length s.fitted.left → IsMove s (event.Destroyed c f set) (has_lost s c f set)
 moves_lost s c f set up may draws = record {
   allowed = λ drawn. record { up = is_up s c drawn up; may = may drawn; draws = draws };
   world = λ drawn. lost_world s c f set drawn;
@@ -152,8 +155,8 @@ collided_places seats c d f g =
     changed_is (with_place seats c (told_at (told_destroyed f) (place_in seats c))) d (told_destroyed g) (told_at (told_destroyed g) (place_in (with_place seats c (told_at (told_destroyed f) (place_in seats c))) d)) refl
     ∙ ap (λ cs. changed cs d (told_destroyed g)) (changed_is seats c (told_destroyed f) (told_at (told_destroyed f) (place_in seats c)) refl)
 
-pub moves_collided : (s : Standing) (c : ℕ) (f : Forward) (d : ℕ) (g : Forward) → s.bus.owner ≡ None → (c ≡ d → ⊥)
-    → (place_at s c).controller.up ≡ true → (place_at s d).controller.up ≡ true → IsFirst f → IsFirst g → Moves s (event.Collided c f d g) (has_collided s c f d g)
+pub moves_collided : (s : Seated) (c : ℕ) (f : Forward) (d : ℕ) (g : Forward) → s.bus.owner ≡ None → (c ≡ d → ⊥)
+    → (place_at s c).controller.up ≡ true → (place_at s d).controller.up ≡ true → IsFirst f → IsFirst g → IsMove s (event.Collided c f d g) (has_collided s c f d g)
 moves_collided s c f d g free apart up_c up_d first second = record {
   allowed = λ drawn. record { free = free; apart = apart; first_up = is_up s c drawn up_c; second_up = is_up s d drawn up_d; first = first; second = second };
   world = λ drawn. rw (collided_places s.seats c d f g) refl;
@@ -168,7 +171,7 @@ lapsed_machines : (seats : List Place) (o : Option ℕ) → machines_of (owner_l
 lapsed_machines seats None = refl
 lapsed_machines seats (Some c) = machines_same seats c (told_at told_lapsed (place_in seats c)) refl
 
-pub moves_lapsed : (s : Standing) → Moves s event.Lapsed (has_lapsed s)
+pub moves_lapsed : (s : Seated) → IsMove s event.Lapsed (has_lapsed s)
 moves_lapsed s = record {
   allowed = λ drawn. tt;
   world = λ drawn. rw (lapsed_places s.seats s.bus.owner) refl;
@@ -177,26 +180,26 @@ moves_lapsed s = record {
 
 -- ---------------------------------------------------------------- gear
 
-pub moves_quiet : (s : Standing) → Moves s event.Quiet (with_gear s (changed_at (map quieted s.fitted.gear) s.fitted))
+pub moves_quiet : (s : Seated) → IsMove s event.Quiet (with_gear s (changed_at (map quieted s.fitted.gear) s.fitted))
 moves_quiet s = record { allowed = λ drawn. tt; world = λ drawn. refl; machines = λ drawn. refl }
 
-pub moves_power : (s : Standing) (g : ℕ) (on : Bool) → Moves s (event.Power g on) (with_gear s (changed_at (changed_gear s.fitted.gear g (powered on)) s.fitted))
+pub moves_power : (s : Seated) (g : ℕ) (on : Bool) → IsMove s (event.Power g on) (with_gear s (changed_at (changed_gear s.fitted.gear g (powered on)) s.fitted))
 moves_power s g on = record { allowed = λ drawn. tt; world = λ drawn. refl; machines = λ drawn. refl }
 
-pub moves_expired : (s : Standing) (g : ℕ) → Moves s (event.Expired g) (with_gear s (changed_at (changed_gear s.fitted.gear g expired) s.fitted))
+pub moves_expired : (s : Seated) (g : ℕ) → IsMove s (event.Expired g) (with_gear s (changed_at (changed_gear s.fitted.gear g expired) s.fitted))
 moves_expired s g = record { allowed = λ drawn. tt; world = λ drawn. refl; machines = λ drawn. refl }
 
 -- ---------------------------------------------------------------- controllers go down and come up
 
-pub moves_down : (s : Standing) (c : ℕ) → (place_at s c).controller.up ≡ true → Moves s (event.Down c) (has_gone_down s c)
+pub moves_down : (s : Seated) (c : ℕ) → (place_at s c).controller.up ≡ true → IsMove s (event.Down c) (has_gone_down s c)
 moves_down s c up = record {
   allowed = λ drawn. is_up s c drawn up;
   world = λ drawn. rw (changed_is s.seats c gone_down (down_at (place_at s c)) refl) refl;
   machines = λ drawn. machines_set s.seats c (down_at (place_at s c));
 }
 
-pub moves_up : (s : Standing) (c : ℕ) (kept : Bool) → c < length s.seats → (place_at s c).controller.up ≡ false → HasOutstanding (place_at s c).controller kept
-    → Moves s (event.Up c kept) (has_come_up s c kept)
+pub moves_up : (s : Seated) (c : ℕ) (kept : Bool) → c < length s.seats → (place_at s c).controller.up ≡ false → HasOutstanding (place_at s c).controller kept
+    → IsMove s (event.Up c kept) (has_come_up s c kept)
 moves_up s c kept there down has = record {
   allowed = λ drawn. (record {
     known = subst (λ n. c < n) (sym (length-map s.seats (λ p. p.controller))) there;
@@ -205,3 +208,16 @@ moves_up s c kept there down has = record {
   world = λ drawn. rw (changed_is s.seats c (come_up kept) (up_at c kept (place_at s c)) refl) refl;
   machines = λ drawn. machines_set s.seats c (up_at c kept (place_at s c)) ∙ ap (λ (k : Controller). set (machines_of s.seats) c (Some (at_first c (come_up kept k).records))) (sym (controller_in s.seats c));
 }
+
+-- ---------------------------------------------------------------- the start
+
+controllers_from : (d : ℕ) (bs : List Block) → controllers_of (seats_from d bs) ≡ map begun bs
+controllers_from d [] = refl
+controllers_from d (b ∷ bs) = ap (λ cs. begun b ∷ cs) (controllers_from (d + 1) bs)
+
+machines_from : (d : ℕ) (bs : List Block) → machines_of (seats_from d bs) ≡ machines_at d bs
+machines_from d [] = refl
+machines_from d (b ∷ bs) = ap (λ ms. Some (at_first d (without_records b)) ∷ ms) (machines_from (d + 1) bs)
+
+pub start_stands : (p : SitePlan) (capacity : ℕ) → flat (seated_at p capacity) ≡ stand_of (start p capacity) (machines_at 0 p.blocks)
+start_stands p capacity = rw (controllers_from 0 p.blocks, machines_from 0 p.blocks) refl

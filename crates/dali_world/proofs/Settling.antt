@@ -29,7 +29,7 @@ use Rattle.dali_events.specs.World.{World, Controller}
 use Rattle.dali_events.specs.Happens.{entry, informed, acted, gives_up, keeps_bus, bus_acted, is_arc, told_sent, told_destroyed, told_lapsed, sent_by}
 use Rattle.dali_events.specs.Allowed.{IsDue, IsCommit, IsArc}
 use Rattle.dali_world.specs.Places.{Place, IsTied, MayAnswer, acted_at, told_at, down_at, up_at, begun_at}
-use Rattle.dali_world.specs.Standing.{Standing, place_in, place_at, world_of, with_place, running_in, goes_on_in, owner_lapsed, has_acted, has_offered, has_sent, has_lost, has_collided, has_lapsed, has_gone_down, has_come_up, standing_at, seats_from, empty_place}
+use Rattle.dali_world.specs.Standing.{Seated, place_in, place_at, world_of, with_place, running_in, goes_on_in, owner_lapsed, has_acted, has_offered, has_sent, has_lost, has_collided, has_lapsed, has_gone_down, has_come_up, seated_at, seats_from, empty_place}
 use Rattle.dali_world.specs.Settled.{IsOwning, IsApart, IsPlacedBy, IsPlaced, awaited, awaited_by, IsServed, AreUp, IsSettled, IsAccepted, Settled}
 use Rattle.dali_world.proofs.Acts.{IsLeft, may_order, owner_owns, owner_is, other_owns, committed_last}
 use Rattle.dali_world.proofs.Moves.{MaySendAt, controller_in, place_here, place_elsewhere, up_there}
@@ -95,7 +95,7 @@ awaits_from c None (Some (Halt x)) r e = absurd (cc)
 awaits_from c (Some i) last r e = absurd (cc)
 
 -- what is known of the request that is next, and of its sender
-pub record IsNextAt (s : Standing) (r : Request) : Type 0 where
+pub record IsNextAt (s : Seated) (r : Request) : Type 0 where
   pub up : (place_at s r.sender).controller.up ≡ true
   pub may : MaySendAt s r.sender r.frame
   pub owner : (d : ℕ) → (d ≡ r.sender → ⊥) → owns s.bus.owner d ≡ false
@@ -128,7 +128,7 @@ is_arc_of (Verify short) e = absurd (cc)
 is_arc_of QueryShort e = absurd (cc)
 is_arc_of (Other g) e = absurd (cc)
 
-owned_next : (s : Standing) (r : Request) (d : ℕ) → Settled s → next s.bus ≡ Some r → s.bus.owner ≡ Some d → IsNextAt s r
+owned_next : (s : Seated) (r : Request) (d : ℕ) → Settled s → next s.bus ≡ Some r → s.bus.owner ≡ Some d → IsNextAt s r
 owned_next s r d settled first own =
     let owned = next_owned s.bus (place_in s.seats) r d settled.served first own in
     let is : d ≡ r.sender = sym owned.0 in
@@ -144,7 +144,7 @@ owned_next s r d settled first own =
       kind = inl (sends.1, put.0, put.1);
     }
 
-free_next : (s : Standing) (r : Request) → Settled s → next s.bus ≡ Some r → s.bus.owner ≡ None → IsNextAt s r
+free_next : (s : Seated) (r : Request) → Settled s → next s.bus ≡ Some r → s.bus.owner ≡ None → IsNextAt s r
 free_next s r settled first free = go (is_arc (command_of r.frame)) refl where
   none_owns : (d : ℕ) → owns s.bus.owner d ≡ false
   none_owns d = rw free refl
@@ -166,7 +166,7 @@ free_next s r settled first free = go (is_arc (command_of r.frame)) refl where
         kind = inl (scripted, put.0, put.1);
       }
 
-pub next_at : (s : Standing) (r : Request) → Settled s → next s.bus ≡ Some r → IsNextAt s r
+pub next_at : (s : Seated) (r : Request) → Settled s → next s.bus ≡ Some r → IsNextAt s r
 next_at s r settled first = go s.bus.owner refl where
   go : (o : Option ℕ) → s.bus.owner ≡ o → IsNextAt s r
   go None free = free_next s r settled first free
@@ -184,11 +184,11 @@ arc_loses f p arc = rw (is_arc_of (command_of f) arc).1 refl
 arc_is_over : (k : Records) (f : Forward) (h : Answer) → is_arc (command_of f) ≡ true → may_follow k.block k.reserved (stage_of ([] ++ entry f h ∷ [])) ≡ false
 arc_is_over k f h arc = rw (stage_more [] (entry f h), stage_none, (is_arc_of (command_of f) arc).1) refl
 
-arc_ends : (s : Standing) (r : Request) (h : Answer) → is_arc (command_of r.frame) ≡ true → s.bus.owner ≡ None
+arc_ends : (s : Seated) (r : Request) (h : Answer) → is_arc (command_of r.frame) ≡ true → s.bus.owner ≡ None
     → goes_on_in s r.sender (running_in s r.sender ++ entry r.frame h ∷ []) ≡ false
 arc_ends s r h arc free = rw free (arc_is_over (place_at s r.sender).controller.records r.frame h arc)
 
-arc_more : (s : Standing) (r : Request) (h : Answer) → IsNextAt s r → is_arc (command_of r.frame) ≡ true → goes_on_in s r.sender (running_in s r.sender ++ entry r.frame h ∷ []) ≡ false
+arc_more : (s : Seated) (r : Request) (h : Answer) → IsNextAt s r → is_arc (command_of r.frame) ≡ true → goes_on_in s r.sender (running_in s r.sender ++ entry r.frame h ∷ []) ≡ false
 arc_more s r h n arc = go n.kind where
   go : ((is_arc (command_of r.frame) ≡ false) × ((place_at s r.sender).controller.told ≡ None) × ((place_at s r.sender).controller.last ≡ Some (Put r.priority r.frame)))
       ⊎ ((is_arc (command_of r.frame) ≡ true) × (s.bus.owner ≡ None)) → goes_on_in s r.sender (running_in s r.sender ++ entry r.frame h ∷ []) ≡ false
@@ -257,7 +257,7 @@ accepted b c (Commit x) room may = tt
 accepted b c (Done e) room may = tt
 accepted b c (Halt why) room may = tt
 
-pub settled_acted : (s : Standing) (c : ℕ) (i : Input) (o : Order) → Settled s → (place_at s c).controller.up ≡ true → IsDue (place_at s c).controller i
+pub settled_acted : (s : Seated) (c : ℕ) (i : Input) (o : Order) → Settled s → (place_at s c).controller.up ≡ true → IsDue (place_at s c).controller i
     → IsTied (place_at s c).controller (place_at s c).machine → MayAnswer (place_at s c).machine i o → Settled (has_acted s c i o)
 settled_acted s c i o settled up due tied answer =
     let there : c < length s.seats = up_there s.seats c up in
@@ -279,7 +279,7 @@ settled_acted s c i o settled up due tied answer =
 arc_itself : (f : Forward) → IsArc f → is_arc (command_of f) ≡ true
 arc_itself f arc = rw arc refl
 
-pub settled_offered : (s : Standing) (c : ℕ) (f : Forward) → Settled s → (place_at s c).controller.up ≡ true → IsArc f → Settled (has_offered s c f)
+pub settled_offered : (s : Seated) (c : ℕ) (f : Forward) → Settled s → (place_at s c).controller.up ≡ true → IsArc f → Settled (has_offered s c f)
 settled_offered s c f settled up arc = record {
   five = five_offered s.bus (request_of c 2 f) settled.five;
   running = settled.running;
@@ -289,7 +289,7 @@ settled_offered s c f settled up arc = record {
 }
 
 -- what becomes of the sender of a frame that left
-gone_sender : (s : Standing) (r : Request) (p : Place) → IsNextAt s r → (is_arc (command_of r.frame) ≡ false → awaited r.sender p.controller ≡ [])
+gone_sender : (s : Seated) (r : Request) (p : Place) → IsNextAt s r → (is_arc (command_of r.frame) ≡ false → awaited r.sender p.controller ≡ [])
     → (is_arc (command_of r.frame) ≡ true → p ≡ place_at s r.sender) → Gone s.bus.owner (place_in s.seats) (place_in (with_place s.seats r.sender p)) r
 gone_sender s r p n scripted arc = go n.kind where
   there : r.sender < length s.seats
@@ -301,12 +301,12 @@ gone_sender s r p n scripted arc = go n.kind where
   go (inl k) = inl (k.0, ap (λ (q : Place). awaited r.sender q.controller) here ∙ scripted k.0)
   go (inr k) = inr (k.0, here ∙ arc k.0, k.1)
 
-others_after : (s : Standing) (r : Request) (n : IsNextAt s r) (more : Bool) (t u : List Entry) (d : ℕ) → (d ≡ r.sender → ⊥)
+others_after : (s : Seated) (r : Request) (n : IsNextAt s r) (more : Bool) (t u : List Entry) (d : ℕ) → (d ≡ r.sender → ⊥)
     → IsOthers s.bus.owner t (if more then Some r.sender else None) u d
 others_after s r n true t u d other = inr (n.owner d other, other_owns (Some r.sender) r.sender d other refl)
 others_after s r n false t u d other = inr (n.owner d other, refl)
 
-sent_here : (s : Standing) (r : Request) (h : Answer) (n : IsNextAt s r) → IsPlaced (owns s.bus.owner r.sender) s.trace (place_at s r.sender)
+sent_here : (s : Seated) (r : Request) (h : Answer) (n : IsNextAt s r) → IsPlaced (owns s.bus.owner r.sender) s.trace (place_at s r.sender)
     → IsPlaced (owns (if goes_on_in s r.sender (running_in s r.sender ++ entry r.frame h ∷ []) then Some r.sender else None) r.sender)
       (if goes_on_in s r.sender (running_in s r.sender ++ entry r.frame h ∷ []) then running_in s r.sender ++ entry r.frame h ∷ [] else [])
       (told_at (told_sent (running_in s r.sender) r.frame h) (place_at s r.sender))
@@ -322,7 +322,7 @@ sent_here s r h n placed = go n.kind where
       rw over (subst (λ (q : Place). IsPlaced false [] q) (sym (arc_tells (running_in s r.sender) r.frame h (place_at s r.sender) k.0))
       (placed_apart s.trace [] (place_at s r.sender) (subst (λ o. IsPlaced (owns o r.sender) s.trace (place_at s r.sender)) k.1 placed)))
 
-pub settled_sent : (s : Standing) (r : Request) (h : Answer) → Settled s → next s.bus ≡ Some r → Settled (has_sent s r.sender r.frame h)
+pub settled_sent : (s : Seated) (r : Request) (h : Answer) → Settled s → next s.bus ≡ Some r → Settled (has_sent s r.sender r.frame h)
 settled_sent s r h settled first =
     let n : IsNextAt s r = next_at s r settled first in
     let there : r.sender < length s.seats = up_there s.seats r.sender n.up in
@@ -340,7 +340,7 @@ settled_sent s r h settled first =
         (up_sent s.bus (place_in s.seats) r.sender more settled.up);
     }
 
-lost_here : (s : Standing) (r : Request) (n : IsNextAt s r) → IsPlaced (owns s.bus.owner r.sender) s.trace (place_at s r.sender)
+lost_here : (s : Seated) (r : Request) (n : IsNextAt s r) → IsPlaced (owns s.bus.owner r.sender) s.trace (place_at s r.sender)
     → IsPlaced false [] (told_at (told_destroyed r.frame) (place_at s r.sender))
 lost_here s r n placed = go n.kind where
   go : ((is_arc (command_of r.frame) ≡ false) × ((place_at s r.sender).controller.told ≡ None) × ((place_at s r.sender).controller.last ≡ Some (Put r.priority r.frame)))
@@ -350,7 +350,7 @@ lost_here s r n placed = go n.kind where
   go (inr k) = subst (λ (q : Place). IsPlaced false [] q) (sym (arc_loses r.frame (place_at s r.sender) k.0))
     (placed_apart s.trace [] (place_at s r.sender) (subst (λ o. IsPlaced (owns o r.sender) s.trace (place_at s r.sender)) k.1 placed))
 
-pub settled_lost : (s : Standing) (r : Request) (set : GearSet) → Settled s → next s.bus ≡ Some r → Settled (has_lost s r.sender r.frame set)
+pub settled_lost : (s : Seated) (r : Request) (set : GearSet) → Settled s → next s.bus ≡ Some r → Settled (has_lost s r.sender r.frame set)
 settled_lost s r set settled first =
     let n : IsNextAt s r = next_at s r settled first in
     let there : r.sender < length s.seats = up_there s.seats r.sender n.up in
@@ -380,7 +380,7 @@ rival_next : (b : Bus) (q : Request) (rest : List (List Request)) → b.lists �
 rival_next b q rest e both = rw e (collision_first rest q (subst (λ (ls : List (List Request)). collision ls ≡ Some q) e both))
 
 -- what is known of a collision
-pub record IsCollision (s : Standing) (r q : Request) : Type 0 where
+pub record IsCollision (s : Seated) (r q : Request) : Type 0 where
   pub free : s.bus.owner ≡ None
   pub apart : r.sender ≡ q.sender → ⊥
   pub first : IsNextAt s r
@@ -388,7 +388,7 @@ pub record IsCollision (s : Standing) (r q : Request) : Type 0 where
   pub bus : collided s.bus ≡ destroyed (destroyed s.bus)
   pub then_next : next (destroyed s.bus) ≡ Some q
 
-pub is_collision : (s : Standing) (r q : Request) → Settled s → next s.bus ≡ Some r → collision s.bus.lists ≡ Some q → IsCollision s r q
+pub is_collision : (s : Seated) (r q : Request) → Settled s → next s.bus ≡ Some r → collision s.bus.lists ≡ Some q → IsCollision s r q
 is_collision s r q settled first both = go s.bus.owner refl where
   go : (o : Option ℕ) → s.bus.owner ≡ o → IsCollision s r q
   go (Some c) own = absurd (let none : collision s.bus.lists ≡ None = collision_owned s.bus (place_in s.seats) r c settled.served own first in cc)
@@ -404,7 +404,7 @@ is_collision s r q settled first both = go s.bus.owner refl where
         then_next = second;
       }
 
-pub settled_collided : (s : Standing) (r q : Request) → Settled s → next s.bus ≡ Some r → collision s.bus.lists ≡ Some q
+pub settled_collided : (s : Seated) (r q : Request) → Settled s → next s.bus ≡ Some r → collision s.bus.lists ≡ Some q
     → Settled (has_collided s r.sender r.frame q.sender q.frame)
 settled_collided s r q settled first both =
     let k : IsCollision s r q = is_collision s r q settled first both in
@@ -426,7 +426,7 @@ owning_put t p placed = go p.machine p.controller.last refl p.controller.told re
   go (Some m) (Some (Halt x)) e told is placed = elim (subst (λ l. IsOwning t p.controller m l p.controller.told) e placed) [ ]
 
 -- the owner's last order is a frame, and it is there
-pub owner_put : (s : Standing) (c : ℕ) → Settled s → s.bus.owner ≡ Some c
+pub owner_put : (s : Seated) (c : ℕ) → Settled s → s.bus.owner ≡ Some c
     → ((place_at s c).controller.up ≡ true) × ((q : ℕ) × (f : Forward) × ((place_at s c).controller.last ≡ Some (Put q f)))
 owner_put s c settled own =
     let placed : IsPlaced true s.trace (place_at s c) = subst (λ b. IsPlaced b s.trace (place_at s c)) (owner_owns s.bus.owner c own) (settled.places c) in
@@ -435,7 +435,7 @@ owner_put s c settled own =
   machine_some t k None placed = absurd (let no : true ≡ false = placed.0 in cc)
   machine_some t k (Some m) placed = refl
 
-pub settled_lapsed : (s : Standing) → Settled s → Settled (has_lapsed s)
+pub settled_lapsed : (s : Seated) → Settled s → Settled (has_lapsed s)
 settled_lapsed s settled = go s.bus.owner refl where
   go : (o : Option ℕ) → s.bus.owner ≡ o → IsSettled (lapsed s.bus) [] (place_in (owner_lapsed s.seats o))
   go None free = record {
@@ -474,7 +474,7 @@ silenced_here b c = go (owns b.owner c) refl where
   go true e = refl
   go false e = e
 
-pub settled_down : (s : Standing) (c : ℕ) → Settled s → (place_at s c).controller.up ≡ true → Settled (has_gone_down s c)
+pub settled_down : (s : Seated) (c : ℕ) → Settled s → (place_at s c).controller.up ≡ true → Settled (has_gone_down s c)
 settled_down s c settled up =
     let there : c < length s.seats = up_there s.seats c up in
     let p : Place = down_at (place_at s c) in
@@ -489,7 +489,7 @@ settled_down s c settled up =
     }
 
 -- a controller that is down waits for nothing, and does not own the bus
-down_rests : (s : Standing) (c : ℕ) → Settled s → (place_at s c).controller.up ≡ false → (owns s.bus.owner c ≡ false) × (awaited c (place_at s c).controller ≡ [])
+down_rests : (s : Seated) (c : ℕ) → Settled s → (place_at s c).controller.up ≡ false → (owns s.bus.owner c ≡ false) × (awaited c (place_at s c).controller ≡ [])
 down_rests s c settled down = go (place_at s c).machine refl (settled.places c) where
   none_awaits : (told : Option Input) → awaited_by c told None ≡ []
   none_awaits None = refl
@@ -499,7 +499,7 @@ down_rests s c settled down = go (place_at s c).machine refl (settled.places c) 
   go None is placed = (placed.0, rw placed.1 (none_awaits (place_at s c).controller.told))
   go (Some m) is placed = absurd (let up : (place_at s c).controller.up ≡ true = settled.running c ∙ ap is_some is in cc)
 
-pub settled_up : (s : Standing) (c : ℕ) (kept : Bool) → Settled s → c < length s.seats → (place_at s c).controller.up ≡ false → Settled (has_come_up s c kept)
+pub settled_up : (s : Seated) (c : ℕ) (kept : Bool) → Settled s → c < length s.seats → (place_at s c).controller.up ≡ false → Settled (has_come_up s c kept)
 settled_up s c kept settled there down =
     let p : Place = up_at c kept (place_at s c) in
     let rests = down_rests s c settled down in
@@ -520,7 +520,7 @@ begun_or_empty P begun empty d [] c = empty
 begun_or_empty P begun empty d (b ∷ bs) zero = begun d b
 begun_or_empty P begun empty d (b ∷ bs) (suc c) = begun_or_empty P begun empty (d + 1) bs c
 
-pub settled_start : (p : SitePlan) (capacity : ℕ) → Settled (standing_at p capacity)
+pub settled_start : (p : SitePlan) (capacity : ℕ) → Settled (seated_at p capacity)
 settled_start p capacity = record {
   five = refl;
   running = λ c. begun_or_empty (λ q. q.controller.up ≡ is_some q.machine) (λ d b. refl) refl 0 p.blocks c;

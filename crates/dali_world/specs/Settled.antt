@@ -16,7 +16,7 @@ use Rattle.dali_controller.specs.Progress.{Progress, frame_put}
 use Rattle.dali_events.specs.World.{Controller}
 use Rattle.dali_events.specs.Happens.{entry, is_arc}
 use Rattle.dali_world.specs.Places.{Place, trace_of}
-use Rattle.dali_world.specs.Standing.{Standing, place_in}
+use Rattle.dali_world.specs.Standing.{Seated, place_in}
 
 -- HOW BUS AND CONTROLLERS GO TOGETHER on a site. It holds at each moment of a site, where each frame that is sent was next;
 -- it isn't so in every run of the definitions.
@@ -103,5 +103,5 @@ abbrev pub IsAccepted : Bus → ℕ → Order → Type 0
 IsAccepted b c (Put p f) = offer_refusal b (request_of c p f) ≡ None
 IsAccepted b c _ = Unit {0}
 
-abbrev pub Settled : Standing → Type 0
+abbrev pub Settled : Seated → Type 0
 Settled s = IsSettled s.bus s.trace (place_in s.seats)

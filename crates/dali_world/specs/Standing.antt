@@ -9,6 +9,7 @@ use Rattle.dali_gear.specs.ControlGear.{ControlGear}
 use Rattle.dali_arbiter.specs.Bus.{Bus, owns, idle, request_of, offered, destroyed, collided, lapsed, silenced}
 use Rattle.dali_script.specs.declared.block.Block.{Block}
 use Rattle.dali_script.specs.declared.trace.Entry.{Entry}
+use Rattle.dali_script.specs.Records.{without_records}
 use Rattle.dali_script.specs.Stages.{stage_of, may_follow}
 use Rattle.dali_controller.specs.declared.orders.Input.{Input}
 use Rattle.dali_controller.specs.declared.orders.Order.{Order}
@@ -23,9 +24,30 @@ use Rattle.dali_events.specs.Allowed.{Allowed}
 use Rattle.dali_world.specs.Fitted.{Fitted, fitted_at, taken_at}
 use Rattle.dali_world.specs.Places.{Place, begun_at, acted_at, down_at, up_at, told_at}
 
--- WHAT STANDS on a site at one moment: its gear, its bus, the frames of the running transaction, and a place for each
--- controller. It is a world without the history of draws, and with the machines of the controllers.
+-- WHAT STANDS on a site at one moment: a world without the history of draws, and with the machines of the controllers.
 pub record Standing : Type 0 where
+  pub gear : List ControlGear
+  pub bus : Bus
+  pub trace : List Entry
+  pub controllers : List Controller
+  pub machines : List (Option Progress)
+  pub left : List ℕ
+  pub gifts : List (ℕ × ℕ)
+
+-- what stands in a world, with these machines
+abbrev pub stand_of : World → List (Option Progress) → Standing
+stand_of w ms = record { gear = w.gear; bus = w.bus; trace = w.trace; controllers = w.controllers; machines = ms; left = w.left; gifts = w.gifts }
+
+-- a controller, and its machine
+abbrev pub controller_on : Standing → ℕ → Controller
+controller_on s c = slice_index_or s.controllers c nobody
+
+abbrev pub machine_on : Standing → ℕ → Option Progress
+machine_on s c = slice_index_or s.machines c None
+
+-- ---------------------------------------------------------------- the same, with a place for each controller
+
+pub record Seated : Type 0 where
   pub fitted : Fitted
   pub bus : Bus
   pub trace : List Entry
@@ -37,7 +59,7 @@ empty_place = record { controller = nobody; machine = None }
 abbrev pub place_in : List Place → ℕ → Place
 place_in seats c = slice_index_or seats c empty_place
 
-abbrev pub place_at : Standing → ℕ → Place
+abbrev pub place_at : Seated → ℕ → Place
 place_at s c = place_in s.seats c
 
 abbrev pub controllers_of : List Place → List Controller
@@ -46,8 +68,20 @@ controllers_of seats = map (λ p. p.controller) seats
 abbrev pub machines_of : List Place → List (Option Progress)
 machines_of seats = map (λ p. p.machine) seats
 
+-- what stands then
+abbrev pub flat : Seated → Standing
+flat s = record {
+  gear = s.fitted.gear;
+  bus = s.bus;
+  trace = s.trace;
+  controllers = controllers_of s.seats;
+  machines = machines_of s.seats;
+  left = s.fitted.left;
+  gifts = s.fitted.gifts;
+}
+
 -- the world in which these numbers were drawn
-abbrev pub world_of : Standing → List (ℕ × ℕ) → World
+abbrev pub world_of : Seated → List (ℕ × ℕ) → World
 world_of s drawn = record {
   gear = s.fitted.gear;
   bus = s.bus;
@@ -72,26 +106,31 @@ machines_after w ms (event.Up c kept) = slice_set ms c (Some (at_first c (come_u
 machines_after w ms _ = ms
 
 -- the machines of controllers that have these blocks, from controller c on, before their start
+abbrev pub machines_at : ℕ → List Block → List (Option Progress)
+machines_at c [] = []
+machines_at c (b ∷ bs) = Some (at_first c (without_records b)) ∷ machines_at (c + 1) bs
+
+-- and their places
 abbrev pub seats_from : ℕ → List Block → List Place
 seats_from c [] = []
 seats_from c (b ∷ bs) = begun_at c b ∷ seats_from (c + 1) bs
 
 -- ---------------------------------------------------------------- what happens to it
 
-abbrev pub standing_at : SitePlan → ℕ → Standing
-standing_at p capacity = record { fitted = fitted_at p; bus = idle capacity; trace = []; seats = seats_from 0 p.blocks }
+abbrev pub seated_at : SitePlan → ℕ → Seated
+seated_at p capacity = record { fitted = fitted_at p; bus = idle capacity; trace = []; seats = seats_from 0 p.blocks }
 
 abbrev pub with_place : List Place → ℕ → Place → List Place
 with_place seats c p = slice_set seats c p
 
 -- the frames of the transaction that a frame of controller c goes on with
-abbrev pub running_in : Standing → ℕ → List Entry
+abbrev pub running_in : Seated → ℕ → List Entry
 running_in s c = if owns s.bus.owner c then s.trace else []
 
-abbrev pub goes_on_in : Standing → ℕ → List Entry → Bool
+abbrev pub goes_on_in : Seated → ℕ → List Entry → Bool
 goes_on_in s c t = may_follow (place_at s c).controller.records.block (place_at s c).controller.records.reserved (stage_of t)
 
-abbrev pub has_acted : Standing → ℕ → Input → Order → Standing
+abbrev pub has_acted : Seated → ℕ → Input → Order → Seated
 has_acted s c i o = record {
   fitted = s.fitted;
   bus = bus_acted s.bus c o;
@@ -99,10 +138,10 @@ has_acted s c i o = record {
   seats = with_place s.seats c (acted_at (place_at s c) i o);
 }
 
-abbrev pub has_offered : Standing → ℕ → Forward → Standing
+abbrev pub has_offered : Seated → ℕ → Forward → Seated
 has_offered s c f = record { fitted = s.fitted; bus = offered s.bus (request_of c 2 f); trace = s.trace; seats = s.seats }
 
-abbrev pub has_sent : Standing → ℕ → Forward → Answer → Standing
+abbrev pub has_sent : Seated → ℕ → Forward → Answer → Seated
 has_sent s c f h = record {
   fitted = taken_at Everyone (command_of f) s.fitted;
   bus = sent_by s.bus c (goes_on_in s c (running_in s c ++ entry f h ∷ []));
@@ -110,7 +149,7 @@ has_sent s c f h = record {
   seats = with_place s.seats c (told_at (told_sent (running_in s c) f h) (place_at s c));
 }
 
-abbrev pub has_lost : Standing → ℕ → Forward → GearSet → Standing
+abbrev pub has_lost : Seated → ℕ → Forward → GearSet → Seated
 has_lost s c f set = record {
   fitted = taken_at (Only set) (command_of f) s.fitted;
   bus = destroyed s.bus;
@@ -118,7 +157,7 @@ has_lost s c f set = record {
   seats = with_place s.seats c (told_at (told_destroyed f) (place_at s c));
 }
 
-abbrev pub has_collided : Standing → ℕ → Forward → ℕ → Forward → Standing
+abbrev pub has_collided : Seated → ℕ → Forward → ℕ → Forward → Seated
 has_collided s c f d g = record {
   fitted = s.fitted;
   bus = collided s.bus;
@@ -131,13 +170,13 @@ abbrev pub owner_lapsed : List Place → Option ℕ → List Place
 owner_lapsed seats None = seats
 owner_lapsed seats (Some c) = with_place seats c (told_at told_lapsed (place_in seats c))
 
-abbrev pub has_lapsed : Standing → Standing
+abbrev pub has_lapsed : Seated → Seated
 has_lapsed s = record { fitted = s.fitted; bus = lapsed s.bus; trace = []; seats = owner_lapsed s.seats s.bus.owner }
 
-abbrev pub with_gear : Standing → Fitted → Standing
+abbrev pub with_gear : Seated → Fitted → Seated
 with_gear s fitted = record { fitted = fitted; bus = s.bus; trace = s.trace; seats = s.seats }
 
-abbrev pub has_gone_down : Standing → ℕ → Standing
+abbrev pub has_gone_down : Seated → ℕ → Seated
 has_gone_down s c = record {
   fitted = s.fitted;
   bus = silenced s.bus c;
@@ -145,14 +184,18 @@ has_gone_down s c = record {
   seats = with_place s.seats c (down_at (place_at s c));
 }
 
-abbrev pub has_come_up : Standing → ℕ → Bool → Standing
+abbrev pub has_come_up : Seated → ℕ → Bool → Seated
 has_come_up s c kept = record { fitted = s.fitted; bus = s.bus; trace = s.trace; seats = with_place s.seats c (up_at c kept (place_at s c)) }
 
 -- ---------------------------------------------------------------- one event more
 
--- WHAT AN EVENT MOVES: it is allowed in each world that the site may stand in, it leads to the world that the definitions
--- say, and so for the machines.
-pub record Moves (s : Standing) (e : Event) (new : Standing) : Type 0 where
+-- WHAT AN EVENT MOVES: in each world that stands so it is allowed, and it leads to what the definitions say of the world
+-- and of the machines.
+abbrev pub Moves : Standing → Event → Standing → Type 0
+Moves s e new = (w : World) (ms : List (Option Progress)) → s ≡ stand_of w ms → Allowed w e × (new ≡ stand_of (happens w e) (machines_after w ms e))
+
+-- the same of places: whatever numbers were drawn
+pub record IsMove (s : Seated) (e : Event) (new : Seated) : Type 0 where
   pub allowed : (drawn : List (ℕ × ℕ)) → Allowed (world_of s drawn) e
   pub world : (drawn : List (ℕ × ℕ)) → world_of new (happens (world_of s drawn) e).drawn ≡ happens (world_of s drawn) e
   pub machines : (drawn : List (ℕ × ℕ)) → machines_of new.seats ≡ machines_after (world_of s drawn) (machines_of s.seats) e

@@ -6,7 +6,7 @@ ghost use Rattle.dali_gear.specs.Row.{draws_needed, answers_of, heard_of, stored
 ghost use Rattle.dali_arbiter.specs.Bus.{next, owns, total, lapsed, request_of, offer_refusal, collision};
 ghost use Rattle.dali_controller.specs.Progress.{frame_put};
 ghost use Rattle.dali_events.specs.declared.event.Event.TheVariants as event;
-ghost use Rattle.dali_events.specs.World.{changed_gear};
+ghost use Rattle.dali_events.specs.World.{start};
 ghost use Rattle.dali_events.specs.Happens.{entry, is_arc, keeps_bus, gives_up, put_after, powered, told_sent, told_destroyed};
 ghost use Rattle.dali_events.specs.Allowed.{IsArc, IsDue};
 ghost use Rattle.dali_world.specs.Fitted.{changed_at};
@@ -43,25 +43,25 @@ pub(crate) struct Standing {
 }
 
 impl Model for Standing {
-    ghost use Rattle.dali_world.specs.Standing.{Standing, place_in};
+    ghost use Rattle.dali_world.specs.Standing.{Standing, flat, place_in};
     ghost use Rattle.dali_world.specs.Settled.{IsSettled};
 
     ghost Value = { Standing };
 
-    ghost view = { λ s. record { fitted = s.fitted; bus = s.arbiter; trace = s.trace; seats = s.seats.items } };
+    ghost view = { λ s. flat (record { fitted = s.fitted; bus = s.arbiter; trace = s.trace; seats = s.seats.items }) };
 
     ghost invariant = { λ s. IsSettled s.arbiter s.trace (place_in s.seats.items) };
 }
 
 impl Standing {
-    ghost use Rattle.dali_world.specs.Standing.{Standing, standing_at, place_at, Moves, has_acted, has_offered, has_sent, has_lost, has_collided, has_lapsed, with_gear, has_gone_down, has_come_up};
+    ghost use Rattle.dali_world.specs.Standing.{Standing, stand_of, machines_at, controller_on, machine_on, Moves};
 
     /// What stands on a site of this plan at its start. It takes all the memory that it will need until a controller comes up
     /// anew. `queue` requests may wait.
     pub(crate) fn new(alloc: Global, plan: &Plan, queue: usize) -> Result<Standing, Refusal>
         requires least { 1 ≤ queue }
         requires most { queue ≤ 1024 }
-        ensures ok { IfOk result (λ s. s ≡ standing_at plan.now queue) }
+        ensures ok { IfOk result (λ s. s ≡ stand_of (start plan.now queue) (machines_at 0 plan.now.blocks)) }
         ensures err { IfErr result (λ e. e ≡ refusal.NoMemory) }
     {
         let fitted = FittedGear::new(alloc, plan)?;
@@ -79,18 +79,18 @@ impl Standing {
 
     /// Whether the controller may act on this input.
     pub(crate) fn may_act(&self, c: u8, input: Input) -> bool
-        requires { c < length self.now.seats }
-        ensures { IsTrue result ↔ IsDue (place_at self.now c).controller input }
+        requires { c < length self.now.controllers }
+        ensures { IsTrue result ↔ IsDue (controller_on self.now c) input }
     {
         self.seats[c as usize].may_act(input)
     }
 
     /// A controller acts on an input. What it orders on the bus waits there from now on.
     pub(crate) fn act(&mut self, c: u8, input: Input) -> Order
-        requires up { (place_at self.old c).controller.up ≡ true }
-        requires due { IsDue (place_at self.old c).controller input }
+        requires up { (controller_on self.old c).up ≡ true }
+        requires due { IsDue (controller_on self.old c) input }
         requires room { total self.old.bus < self.old.bus.capacity }
-        ensures answer { MayAnswer (place_at self.old c).machine input result }
+        ensures answer { MayAnswer (machine_on self.old c) input result }
         ensures moves { Moves self.old (event.Acted c input result) self.new }
     {
         let seat = &mut self.seats[c as usize];
@@ -102,7 +102,7 @@ impl Standing {
 
     /// A controller asks to send an arc power frame.
     pub(crate) fn offer(&mut self, c: u8, frame: Forward)
-        requires up { (place_at self.old c).controller.up ≡ true }
+        requires up { (controller_on self.old c).up ≡ true }
         requires arc { IsArc frame }
         requires room { total self.old.bus < self.old.bus.capacity }
         ensures { Moves self.old (event.Offered c frame) self.new }
@@ -122,7 +122,7 @@ impl Standing {
 
     /// Whether the gear that a frame reaches would draw more numbers than are left.
     pub(crate) fn is_spent(&self, frame: Forward, reach: Reach) -> bool
-        ensures { IsTrue result ↔ (length self.now.fitted.left < draws_needed reach (command_of frame) 0 self.now.fitted.gear) }
+        ensures { IsTrue result ↔ (length self.now.left < draws_needed reach (command_of frame) 0 self.now.gear) }
     {
         self.fitted.is_spent(frame, reach)
     }
@@ -130,9 +130,9 @@ impl Standing {
     /// The request that is next is sent. Answers what was heard.
     pub(crate) fn send(&mut self, request: Request, trouble: Trouble) -> Answer
         requires next { next self.old.bus ≡ Some request }
-        requires draws { draws_needed Everyone (command_of request.frame) 0 self.old.fitted.gear ≤ length self.old.fitted.left }
-        requires room { length (self.old.fitted.gifts ++ stored_of Everyone (command_of request.frame) 0 self.old.fitted.gear) ≤ length self.old.fitted.gear }
-        ensures heard { result ≡ heard_under trouble (heard_of (answers_of Everyone (command_of request.frame) 0 self.old.fitted.gear)) }
+        requires draws { draws_needed Everyone (command_of request.frame) 0 self.old.gear ≤ length self.old.left }
+        requires room { length (self.old.gifts ++ stored_of Everyone (command_of request.frame) 0 self.old.gear) ≤ length self.old.gear }
+        ensures heard { result ≡ heard_under trouble (heard_of (answers_of Everyone (command_of request.frame) 0 self.old.gear)) }
         ensures moves { Moves self.old (event.Sent request.sender request.frame result) self.new }
     {
         let plain = self.fitted.take(request.frame, Reach::Everyone);
@@ -151,8 +151,8 @@ impl Standing {
     /// The request that is next is destroyed on the bus. The powered gear of the set take its frame all the same.
     pub(crate) fn destroy(&mut self, request: Request, set: GearSet)
         requires next { next self.old.bus ≡ Some request }
-        requires draws { draws_needed (Only set) (command_of request.frame) 0 self.old.fitted.gear ≤ length self.old.fitted.left }
-        requires room { length (self.old.fitted.gifts ++ stored_of (Only set) (command_of request.frame) 0 self.old.fitted.gear) ≤ length self.old.fitted.gear }
+        requires draws { draws_needed (Only set) (command_of request.frame) 0 self.old.gear ≤ length self.old.left }
+        requires room { length (self.old.gifts ++ stored_of (Only set) (command_of request.frame) 0 self.old.gear) ≤ length self.old.gear }
         ensures { Moves self.old (event.Destroyed request.sender request.frame set) self.new }
     {
         self.fitted.take(request.frame, Reach::Only(set));
@@ -166,8 +166,8 @@ impl Standing {
     /// else it is destroyed, and no gear takes its frame. Answers the other request.
     pub(crate) fn collide(&mut self, request: Request) -> Option<Request>
         requires next { next self.old.bus ≡ Some request }
-        requires draws { draws_needed (Only nobody_at_all) (command_of request.frame) 0 self.old.fitted.gear ≤ length self.old.fitted.left }
-        requires room { length (self.old.fitted.gifts ++ stored_of (Only nobody_at_all) (command_of request.frame) 0 self.old.fitted.gear) ≤ length self.old.fitted.gear }
+        requires draws { draws_needed (Only nobody_at_all) (command_of request.frame) 0 self.old.gear ≤ length self.old.left }
+        requires room { length (self.old.gifts ++ stored_of (Only nobody_at_all) (command_of request.frame) 0 self.old.gear) ≤ length self.old.gear }
         ensures other { result ≡ collision self.old.bus.lists }
         ensures moves { MatchOption result (Moves self.old (event.Destroyed request.sender request.frame nobody_at_all) self.new)
             (λ q. Moves self.old (event.Collided request.sender request.frame q.sender q.frame) self.new) }
@@ -211,7 +211,7 @@ impl Standing {
 
     /// A gear's power comes or goes.
     pub(crate) fn power(&mut self, number: u32, on: bool)
-        requires { number < length self.old.fitted.gear }
+        requires { number < length self.old.gear }
         ensures { Moves self.old (event.Power number on) self.new }
     {
         self.fitted.power(number, on);
@@ -219,7 +219,7 @@ impl Standing {
 
     /// The 15 minutes of a gear's initialisation are over.
     pub(crate) fn expire(&mut self, number: u32)
-        requires { number < length self.old.fitted.gear }
+        requires { number < length self.old.gear }
         ensures { Moves self.old (event.Expired number) self.new }
     {
         self.fitted.expire(number);
@@ -227,7 +227,7 @@ impl Standing {
 
     /// A controller goes down. Its requests leave, and its ownership ends.
     pub(crate) fn down(&mut self, c: u8)
-        requires { (place_at self.old c).controller.up ≡ true }
+        requires { (controller_on self.old c).up ≡ true }
         ensures { Moves self.old (event.Down c) self.new }
     {
         let owned = owns(&self.arbiter, c);
@@ -239,10 +239,10 @@ impl Standing {
 
     /// Whether a copy of records is what the controller keeps, without the outstanding record (false) or with it (true).
     pub(crate) fn agreement(&self, c: u8, copy: &Kept) -> Option<bool>
-        requires { c < length self.now.seats }
+        requires { c < length self.now.controllers }
         ensures { MatchOption result
-            ((kept : Bool) → Agrees (place_at self.now c).controller copy.now kept → ⊥)
-            (λ kept. Agrees (place_at self.now c).controller copy.now kept) }
+            ((kept : Bool) → Agrees (controller_on self.now c) copy.now kept → ⊥)
+            (λ kept. Agrees (controller_on self.now c) copy.now kept) }
     {
         self.seats[c as usize].agreement(copy)
     }
@@ -255,9 +255,9 @@ impl Standing {
         copy: &Kept,
         kept: bool,
     ) -> Result<(), Refusal>
-        requires known { c < length self.old.seats }
-        requires down { (place_at self.old c).controller.up ≡ false }
-        requires agrees { Agrees (place_at self.old c).controller copy.now kept }
+        requires known { c < length self.old.controllers }
+        requires down { (controller_on self.old c).up ≡ false }
+        requires agrees { Agrees (controller_on self.old c) copy.now kept }
         ensures ok { OnOk result (Moves self.old (event.Up c kept) self.new) }
         ensures err { OnErr result (self.new ≡ self.old) }
         ensures memory { IfErr result (λ e. e ≡ refusal.NoMemory) }
