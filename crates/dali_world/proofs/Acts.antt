@@ -32,7 +32,7 @@ use Rattle.dali_world.specs.Settled.{IsOwning, IsApart, IsPlacedBy, IsPlaced}
 
 -- ---------------------------------------------------------------- what was ordered last
 
-start_first : (last : Option Order) → accepts (due_after last) input.Start ≡ true → last ≡ None
+pub start_first : (last : Option Order) → accepts (due_after last) input.Start ≡ true → last ≡ None
 start_first None a = refl
 start_first (Some (Put p f)) a = cc
 start_first (Some (Commit x)) a = cc
@@ -40,16 +40,16 @@ start_first (Some (Done e)) a = cc
 start_first (Some (Halt w)) a = cc
 
 -- a frame is outstanding where the bus may tell of it
-abbrev IsPut : Option Order → Type 0
+abbrev pub IsPut : Option Order → Type 0
 IsPut last = (p : ℕ) × (f : Forward) × (last ≡ Some (Put p f))
 
-abbrev IsOfBus : Input → Type 0
+abbrev pub IsOfBus : Input → Type 0
 IsOfBus (input.Heard h) = Unit {0}
 IsOfBus input.Destroyed = Unit {0}
 IsOfBus input.Lapsed = Unit {0}
 IsOfBus _ = ⊥
 
-bus_put : (i : Input) (last : Option Order) → IsOfBus i → accepts (due_after last) i ≡ true → IsPut last
+pub bus_put : (i : Input) (last : Option Order) → IsOfBus i → accepts (due_after last) i ≡ true → IsPut last
 bus_put (input.Heard h) None bus a = cc
 bus_put (input.Heard h) (Some (Put p f)) bus a = (p, f, refl)
 bus_put (input.Heard h) (Some (Commit x)) bus a = cc
@@ -100,11 +100,11 @@ OwnsWith w c k t = (f : Forward) → (t.trace ≡ [] → ⊥) → Lawful k.recor
 owns_none : (w : World) (c : ℕ) (k : Controller) (t : Progress) → t.trace ≡ [] → OwnsWith w c k t
 owns_none w c k t none f some may = absurd (some none)
 
-placed_start : (b : Bool) (t : List Entry) (k : Controller) (m : Progress) → k.last ≡ None → IsPlacedBy b t k (Some m) → m.trace ≡ []
+pub placed_start : (b : Bool) (t : List Entry) (k : Controller) (m : Progress) → k.last ≡ None → IsPlacedBy b t k (Some m) → m.trace ≡ []
 placed_start true t k m e placed = elim (subst (λ l. IsOwning t k m l k.told) e placed) [ ]
 placed_start false t k m e placed = subst (λ l. IsApart k m l k.told) e placed
 
-placed_commit : (b : Bool) (t : List Entry) (k : Controller) (m : Progress) (x : Record) → k.last ≡ Some (Commit x) → IsPlacedBy b t k (Some m) → m.trace ≡ []
+pub placed_commit : (b : Bool) (t : List Entry) (k : Controller) (m : Progress) (x : Record) → k.last ≡ Some (Commit x) → IsPlacedBy b t k (Some m) → m.trace ≡ []
 placed_commit true t k m x e placed = elim (subst (λ l. IsOwning t k m l k.told) e placed) [ ]
 placed_commit false t k m x e placed = subst (λ l. IsApart k m l k.told) e placed
 
@@ -136,7 +136,7 @@ record AreInformed (w : World) (c : ℕ) (k : Controller) (t : Progress) : Type 
   pub found : later k.finding (finding_of t.trace) ≡ k.finding
   pub owns_with : OwnsWith w c k t
 
-later_some : (k o : Option Assignment) (x : Assignment) → o ≡ Some x → later k o ≡ k → k ≡ Some x
+pub later_some : (k o : Option Assignment) (x : Assignment) → o ≡ Some x → later k o ≡ k → k ≡ Some x
 later_some k o x e is = sym (subst (λ p. later k p ≡ k) e is)
 
 may_order_by : (w : World) (c : ℕ) (k : Controller) (t : Progress) (o : Order) → AreInformed w c k t → IsAllowed t o → MayOrder w c k o
@@ -155,7 +155,7 @@ may_order_by w c k t (Halt why) both may = tt
 put_outstanding : (k : Records) (last : Option Order) (o : Option Record) → IsPut last → IsOutstanding k last o → o ≡ None
 put_outstanding k last o put is = subst (λ l. IsOutstanding k l o) put.2 is
 
-bus_kept : (m : Progress) (i : Input) (p : ℕ) (f : Forward) → IsOfBus i → m.last ≡ Some (Put p f) → (told m i).kept ≡ m.kept
+pub bus_kept : (m : Progress) (i : Input) (p : ℕ) (f : Forward) → IsOfBus i → m.last ≡ Some (Put p f) → (told m i).kept ≡ m.kept
 bus_kept m (input.Heard h) p f bus e = rw e refl
 bus_kept m input.Destroyed p f bus e = refl
 bus_kept m input.Lapsed p f bus e = refl
@@ -180,7 +180,7 @@ owns_told w c k m input.Start p f bus is same e placed = elim bus [ ]
 owns_told w c k m input.Committed p f bus is same e placed = elim bus [ ]
 owns_told w c k m input.CommitFailed p f bus is same e placed = elim bus [ ]
 
-found_told : (k : Controller) (m : Progress) (i : Input) → k.told ≡ Some i → IsFound k m → later k.finding (finding_of (told m i).trace) ≡ k.finding
+pub found_told : (k : Controller) (m : Progress) (i : Input) → k.told ≡ Some i → IsFound k m → later k.finding (finding_of (told m i).trace) ≡ k.finding
 found_told k m i e is = subst (λ t. later k.finding (finding_of (informed_by m t).trace) ≡ k.finding) e is
 
 informed_bus : (w : World) (c : ℕ) (k : Controller) (m : Progress) (i : Input) → IsOfBus i → k.told ≡ Some i → IsRunning k m → IsPlacedBy (owns w.bus.owner c) w.trace k (Some m)

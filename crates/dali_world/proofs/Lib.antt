@@ -6,3 +6,6 @@ mod Placing
 mod Queues
 mod Settling
 mod Done
+mod Room
+mod Agreeing
+mod Logs

@@ -4,3 +4,4 @@ pub mod Places
 pub mod Fitted
 pub mod Standing
 pub mod Settled
+pub mod Site

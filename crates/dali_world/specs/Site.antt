@@ -1,0 +1,214 @@
+use Rattle.std.specs.Prelude.{◌≡◌, ℕ, ◌+◌, ◌<◌, ◌≤◌, ◌⊎◌, Bool, true, false, List, [], ◌∷◌, ◌++◌, length, slice_index_or, Option, Some, None, ◌==◌, if◌then◌else◌}
+use Rattle.dali_frame.specs.declared.frames.Forward.{Forward}
+use Rattle.dali_frame.specs.declared.frames.Answer.{Answer}
+use Rattle.dali_special.specs.Command.{command_of}
+use Rattle.dali_gear.specs.declared.row.GearSet.{GearSet}
+use Rattle.dali_gear.specs.declared.row.Reach.{Reach}
+use Rattle.dali_gear.specs.declared.row.Reach.TheVariants.{Everyone, Only}
+use Rattle.dali_gear.specs.Row.{draws_needed, answers_of, heard_of}
+use Rattle.dali_arbiter.specs.declared.request.Request.{Request}
+use Rattle.dali_arbiter.specs.Bus.{Bus, total, next, collision}
+use Rattle.dali_script.specs.Records.{Records}
+use Rattle.dali_controller.specs.declared.orders.Input.{Input}
+use Rattle.dali_controller.specs.declared.orders.Order.{Order}
+use Rattle.dali_controller.specs.declared.orders.Due.{Due}
+use Rattle.dali_controller.specs.declared.orders.Due.TheVariants as due
+use Rattle.dali_controller.specs.Progress.{Progress, due_after}
+use Rattle.dali_events.specs.declared.event.Event.{Event}
+use Rattle.dali_events.specs.declared.event.Event.TheVariants as event
+use Rattle.dali_events.specs.Plan.{SitePlan}
+use Rattle.dali_events.specs.World.{World, Controller, controller_at, start}
+use Rattle.dali_events.specs.Happens.{happens}
+use Rattle.dali_events.specs.Allowed.{Allowed, IsUp, IsDue, IsDown, IsArc}
+use Rattle.dali_events.specs.Runs.{after, IsRun}
+use Rattle.dali_world.specs.declared.refusal.Refusal.{Refusal}
+use Rattle.dali_world.specs.declared.refusal.Refusal.TheVariants as refusal
+use Rattle.dali_world.specs.declared.trouble.Trouble.{Trouble}
+use Rattle.dali_world.specs.declared.trouble.Trouble.TheVariants as trouble
+use Rattle.dali_world.specs.declared.trouble.Report.{Report}
+use Rattle.dali_world.specs.declared.trouble.Report.TheVariants as report
+use Rattle.dali_world.specs.Troubles.{heard_under, nobody_at_all}
+use Rattle.dali_world.specs.Places.{MayAnswer, Agrees}
+use Rattle.dali_world.specs.Standing.{Standing, stand_of, machine_in, machines_at, machines_after}
+
+-- A SITE, as contracts see it: its plan, how many requests may wait, how many events its log has room for, and the log.
+-- Everything else follows from these.
+pub record Site : Type 0 where
+  pub plan : SitePlan
+  pub queue : ℕ
+  pub room : ℕ
+  pub log : List Event
+
+-- the world after its log
+abbrev pub world : Site → World
+world s = after s.plan s.queue s.log
+
+-- a site at its start, and with one event more
+abbrev pub opened_site : SitePlan → ℕ → ℕ → Site
+opened_site p queue room = record { plan = p; queue = queue; room = room; log = [] }
+
+abbrev pub logged : Site → Event → Site
+logged s e = record { plan = s.plan; queue = s.queue; room = s.room; log = s.log ++ e ∷ [] }
+
+-- ---------------------------------------------------------------- machines, and shares of the log
+
+-- the machines after a list of events
+abbrev pub machines_all : World → List (Option Progress) → List Event → List (Option Progress)
+machines_all w ms [] = ms
+machines_all w ms (e ∷ es) = machines_all (happens w e) (machines_after w ms e) es
+
+abbrev pub machines : Site → List (Option Progress)
+machines s = machines_all (start s.plan s.queue) (machines_at 0 s.plan.blocks) s.log
+
+-- the machine of controller c: none while it is down
+abbrev pub machine_at : Site → ℕ → Option Progress
+machine_at s c = machine_in (machines s) c
+
+-- whether an event is a step of controller c
+abbrev pub is_step_of : ℕ → Event → Bool
+is_step_of c (event.Acted d i o) = d == c
+is_step_of c (event.Offered d f) = d == c
+is_step_of c _ = false
+
+-- THE SHARE of controller c in a log: how many of its events are steps of c
+abbrev pub share_of : ℕ → List Event → ℕ
+share_of c [] = 0
+share_of c (e ∷ es) = (if is_step_of c e then 1 else 0) + share_of c es
+
+-- ---------------------------------------------------------------- what holds of the parts of a site
+
+pub record IsSite (s : Site) (standing : Standing) (shares : List ℕ) (capacity : ℕ) : Type 0 where
+  pub run : IsRun s.plan s.queue s.log
+  pub stands : standing ≡ stand_of (world s) (machines s)
+  pub counted : (c : ℕ) → c < 4 → slice_index_or shares c 0 ≡ share_of c s.log
+  pub four : length shares ≡ 4
+  pub gear_count : length (world s).gear ≡ s.plan.gear
+  pub controller_count : length (world s).controllers ≡ length s.plan.blocks
+  pub few_gear : s.plan.gear ≤ 128
+  pub few_controllers : length s.plan.blocks ≤ 4
+  pub fits : length s.log ≤ s.room
+  pub reserved : s.room ≤ capacity
+  pub most : s.room ≤ 65536
+
+-- ---------------------------------------------------------------- why a call is refused
+
+-- the log has no room for one more event; and no request more may wait
+abbrev pub IsFull : Site → Type 0
+IsFull s = length s.log ≡ s.room
+
+abbrev pub IsCrowded : Site → Type 0
+IsCrowded s = total (world s).bus ≡ (world s).bus.capacity
+
+abbrev pub HasRoom : Site → Type 0
+HasRoom s = length s.log < s.room
+
+-- controller c is not there, or is down
+abbrev pub IsBarred : Site → ℕ → Refusal → Type 0
+IsBarred s c refusal.UnknownController = length s.plan.blocks ≤ c
+IsBarred s c refusal.ControllerDown = (c < length s.plan.blocks) × ((controller_at (world s) c).up ≡ false)
+IsBarred s c _ = ⊥
+
+abbrev pub IsActRefused : Site → ℕ → Input → Refusal → Type 0
+IsActRefused s c i refusal.NotDue = IsUp (world s) c × (IsDue (controller_at (world s) c) i → ⊥)
+IsActRefused s c i refusal.QueueFull = IsUp (world s) c × IsDue (controller_at (world s) c) i × IsCrowded s
+IsActRefused s c i refusal.LogFull = IsUp (world s) c × IsDue (controller_at (world s) c) i × (IsCrowded s → ⊥) × IsFull s
+IsActRefused s c i e = IsBarred s c e
+
+abbrev pub IsArcRefused : Site → ℕ → Forward → Refusal → Type 0
+IsArcRefused s c f refusal.NotArc = IsUp (world s) c × (IsArc f → ⊥)
+IsArcRefused s c f refusal.QueueFull = IsUp (world s) c × IsArc f × IsCrowded s
+IsArcRefused s c f refusal.LogFull = IsUp (world s) c × IsArc f × (IsCrowded s → ⊥) × IsFull s
+IsArcRefused s c f e = IsBarred s c e
+
+abbrev pub IsDownRefused : Site → ℕ → Refusal → Type 0
+IsDownRefused s c refusal.LogFull = IsUp (world s) c × IsFull s
+IsDownRefused s c e = IsBarred s c e
+
+-- records that are neither those that the controller keeps, nor those with the record that is outstanding
+abbrev pub Disagrees : Site → ℕ → Records → Type 0
+Disagrees s c copy = (kept : Bool) → Agrees (controller_at (world s) c) copy kept → ⊥
+
+abbrev pub DoesAgree : Site → ℕ → Records → Type 0
+DoesAgree s c copy = (kept : Bool) × Agrees (controller_at (world s) c) copy kept
+
+abbrev pub IsUpRefused : Site → ℕ → Records → Refusal → Type 0
+IsUpRefused s c copy refusal.UnknownController = length s.plan.blocks ≤ c
+IsUpRefused s c copy refusal.ControllerUp = IsUp (world s) c
+IsUpRefused s c copy refusal.StoreDisagrees = IsDown (world s) c × Disagrees s c copy
+IsUpRefused s c copy refusal.LogFull = IsDown (world s) c × DoesAgree s c copy × IsFull s
+IsUpRefused s c copy refusal.NoMemory = IsDown (world s) c × DoesAgree s c copy × HasRoom s
+IsUpRefused s c copy _ = ⊥
+
+abbrev pub IsGearRefused : Site → ℕ → Refusal → Type 0
+IsGearRefused s g refusal.UnknownGear = s.plan.gear ≤ g
+IsGearRefused s g refusal.LogFull = (g < s.plan.gear) × IsFull s
+IsGearRefused s g _ = ⊥
+
+-- ---------------------------------------------------------------- a controller acts
+
+-- What a controller that acted has: the number of its step, counted from 1.
+pub record Received : Type 0 where
+  pub controller : ℕ
+  pub input : Input
+  pub order : Order
+  pub number : ℕ
+
+-- THE ANSWERS of a controller that acts: an order, and the receipt of its event; or a refusal, which changes nothing.
+pub record HasActed (s : Site) (c : ℕ) (i : Input) (r : Received) (new : Site) : Type 0 where
+  pub allowed : Allowed (world s) (event.Acted c i r.order)
+  pub room : (IsCrowded s → ⊥) × HasRoom s
+  pub ordered : MayAnswer (machine_at s c) i r.order
+  pub logged : new ≡ logged s (event.Acted c i r.order)
+  pub controller : r.controller ≡ c
+  pub input : r.input ≡ i
+  pub number : r.number ≡ share_of c new.log
+
+-- ---------------------------------------------------------------- the next frame
+
+-- the gear that take it
+abbrev pub reach_under : Trouble → Reach
+reach_under (trouble.Destroyed set) = Only set
+reach_under trouble.Collision = Only nobody_at_all
+reach_under _ = Everyone
+
+-- the numbers that they will draw are there
+abbrev pub IsSpent : Site → Request → Trouble → Type 0
+IsSpent s r t = length (world s).left < draws_needed (reach_under t) (command_of r.frame) 0 (world s).gear
+
+-- the request that is next, if one is
+abbrev pub next_request : Site → Option Request
+next_request s = next (world s).bus
+
+-- a frame is sent where nothing or its answers are disturbed
+abbrev pub IsSendable : Trouble → Type 0
+IsSendable (trouble.Destroyed set) = ⊥
+IsSendable trouble.Collision = ⊥
+IsSendable _ = Unit {0}
+
+-- WHAT CAME of request r, which was next, under a trouble: a report, and an event that is allowed
+abbrev pub Becomes : Site → Request → Trouble → Report → Site → Type 0
+Becomes s r t (report.Sent c f h) new = IsSendable t × (c ≡ r.sender) × (f ≡ r.frame)
+    × (h ≡ heard_under t (heard_of (answers_of Everyone (command_of r.frame) 0 (world s).gear)))
+    × Allowed (world s) (event.Sent c f h) × (new ≡ logged s (event.Sent c f h))
+Becomes s r t (report.Destroyed c f) new = (c ≡ r.sender) × (f ≡ r.frame)
+    × ((set : GearSet) × ((t ≡ trouble.Destroyed set) ⊎ ((t ≡ trouble.Collision) × (set ≡ nobody_at_all) × (collision (world s).bus.lists ≡ None)))
+      × Allowed (world s) (event.Destroyed c f set) × (new ≡ logged s (event.Destroyed c f set)))
+Becomes s r t (report.Collided c f d g) new = (t ≡ trouble.Collision) × (c ≡ r.sender) × (f ≡ r.frame)
+    × ((q : Request) × (collision (world s).bus.lists ≡ Some q) × (d ≡ q.sender) × (g ≡ q.frame))
+    × Allowed (world s) (event.Collided c f d g) × (new ≡ logged s (event.Collided c f d g))
+Becomes s r t report.Idle new = ⊥
+
+abbrev pub Pumps : Site → Trouble → Report → Site → Type 0
+Pumps s t report.Idle new = (next_request s ≡ None) × (new ≡ s)
+Pumps s t x new = (r : Request) × (next_request s ≡ Some r) × (IsSpent s r t → ⊥) × HasRoom s × Becomes s r t x new
+
+abbrev pub IsPumpRefused : Site → Trouble → Refusal → Type 0
+IsPumpRefused s t refusal.DrawsSpent = (r : Request) × (next_request s ≡ Some r) × IsSpent s r t
+IsPumpRefused s t refusal.LogFull = (r : Request) × (next_request s ≡ Some r) × (IsSpent s r t → ⊥) × IsFull s
+IsPumpRefused s t _ = ⊥
+
+-- ---------------------------------------------------------------- readers
+
+-- what is due for a controller: nothing while it is down
+abbrev pub due_of : Controller → Due
+due_of k = if k.up then due_after k.last else due.Nothing
