@@ -3,12 +3,16 @@
 #![tactic(auto)]
 
 mod fitted;
+mod receipt;
 mod refusal;
 mod seat;
+mod site;
 mod standing;
 mod trouble;
 
+pub use receipt::Receipt;
 pub use refusal::Refusal;
+pub use site::SiteState;
 pub use trouble::{Report, Trouble};
 
 #[cfg(test)]

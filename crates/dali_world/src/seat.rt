@@ -8,10 +8,12 @@ ghost use Rattle.dali_controller.specs.declared.orders.Input.TheVariants as inpu
 ghost use Rattle.dali_events.specs.Happens.{told_sent, told_destroyed, told_lapsed, entry, is_arc, outstanding_after};
 ghost use Rattle.dali_events.specs.Allowed.{IsDue, HasOutstanding};
 ghost use Rattle.dali_controller.specs.Orders.{after};
+ghost use Rattle.dali_world.specs.Site.{due_of};
 ghost use Rattle.dali_world.specs.Places.{MayAnswer, Waits, kept_told, left_told, MayKeep};
 
 use crate::refusal::Refusal;
 use dali_controller::{Due, Input, Machine, Order};
+use dali_enrol::Table;
 use dali_frame::{Answer, Forward, Random24, Short};
 use dali_script::{Block, Kept, Record, Trace};
 use std::alloc::Global;
@@ -184,6 +186,34 @@ impl Seat {
         ensures { result ≡ self.now.controller.told }
     {
         self.told
+    }
+
+    /// Whether the controller is up.
+    pub(crate) fn is_up(&self) -> bool
+        ensures { result ≡ self.now.controller.up }
+    {
+        self.machine.is_some()
+    }
+
+    /// What is due for the controller: nothing while it is down.
+    pub(crate) fn due(&self) -> Due
+        ensures { result ≡ due_of self.now.controller }
+    {
+        match &self.machine {
+            Some(machine) => machine.due(),
+            None => Due::Nothing,
+        }
+    }
+
+    /// The gear that its machine has enrolled.
+    pub(crate) fn table(&self) -> Option<&Table>
+        ensures { MatchOption result (self.now.controller.up ≡ false)
+            (λ table. (self.now.controller.up ≡ true) × (table.now ≡ roster_of self.now.controller.records)) }
+    {
+        match &self.machine {
+            Some(machine) => Some(machine.table()),
+            None => None,
+        }
     }
 
     /// The records that the controller keeps.

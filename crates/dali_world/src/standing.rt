@@ -4,13 +4,14 @@ ghost use Rattle.dali_gear.specs.declared.row.Reach.TheVariants.{Everyone, Only}
 ghost use Rattle.dali_gear.specs.ControlGear.{expired, quieted};
 ghost use Rattle.dali_gear.specs.Row.{draws_needed, answers_of, heard_of, stored_of};
 ghost use Rattle.dali_arbiter.specs.Bus.{next, owns, total, lapsed, request_of, offer_refusal, collision};
-ghost use Rattle.dali_controller.specs.Progress.{frame_put};
+ghost use Rattle.dali_controller.specs.Progress.{frame_put, roster_of};
 ghost use Rattle.dali_events.specs.declared.event.Event.TheVariants as event;
 ghost use Rattle.dali_events.specs.World.{start};
 ghost use Rattle.dali_events.specs.Happens.{entry, is_arc, keeps_bus, gives_up, put_after, powered, told_sent, told_destroyed};
 ghost use Rattle.dali_events.specs.Allowed.{IsArc, IsDue};
 ghost use Rattle.dali_world.specs.Fitted.{changed_at};
 ghost use Rattle.dali_world.specs.Standing.{seats_from};
+ghost use Rattle.dali_world.specs.Site.{due_of};
 ghost use Rattle.dali_world.specs.Places.{MayAnswer, Agrees, trace_of, told_at};
 ghost use Rattle.dali_world.specs.Troubles.{heard_under};
 ghost use Rattle.dali_world.specs.Settled.{IsAccepted, IsHearing};
@@ -75,6 +76,76 @@ impl Standing {
             trace: Trace::new(),
             seats,
         })
+    }
+
+    /// How many controllers the site has.
+    pub(crate) fn controllers(&self) -> usize
+        ensures { result ≡ length self.now.controllers }
+    {
+        self.seats.len()
+    }
+
+    /// Whether a controller is up.
+    pub(crate) fn is_up(&self, c: u8) -> bool
+        requires { c < length self.now.controllers }
+        ensures { result ≡ (controller_on self.now c).up }
+    {
+        self.seats[c as usize].is_up()
+    }
+
+    /// What the bus has told a controller, and it has not acted on.
+    pub(crate) fn told(&self, c: u8) -> Option<Input>
+        requires { c < length self.now.controllers }
+        ensures { result ≡ (controller_on self.now c).told }
+    {
+        self.seats[c as usize].next()
+    }
+
+    /// What is due for a controller: nothing while it is down.
+    pub(crate) fn due(&self, c: u8) -> Due
+        requires { c < length self.now.controllers }
+        ensures { result ≡ due_of (controller_on self.now c) }
+    {
+        self.seats[c as usize].due()
+    }
+
+    /// The records that a controller keeps.
+    pub(crate) fn kept(&self, c: u8) -> &Kept
+        requires { c < length self.now.controllers }
+        ensures { result.now ≡ (controller_on self.now c).records }
+    {
+        self.seats[c as usize].kept()
+    }
+
+    /// The gear that a controller has enrolled, while it is up.
+    pub(crate) fn table(&self, c: u8) -> Option<&Table>
+        requires { c < length self.now.controllers }
+        ensures { MatchOption result ((controller_on self.now c).up ≡ false)
+            (λ table. ((controller_on self.now c).up ≡ true) × (table.now ≡ roster_of (controller_on self.now c).records)) }
+    {
+        self.seats[c as usize].table()
+    }
+
+    /// The gear, in order of their number.
+    pub(crate) fn gear(&self) -> &[Gear]
+        ensures { result.now ≡ self.now.gear }
+    {
+        self.fitted.gear()
+    }
+
+    /// Who owns the bus.
+    pub(crate) fn owner(&self) -> Option<u8>
+        ensures { result ≡ self.now.bus.owner }
+    {
+        self.arbiter.owner()
+    }
+
+    /// Whether no request more may wait.
+    pub(crate) fn is_crowded(&self) -> bool
+        ensures crowded { result ≡ true → total self.now.bus ≡ self.now.bus.capacity }
+        ensures room { result ≡ false → total self.now.bus < self.now.bus.capacity }
+    {
+        self.arbiter.len() == self.arbiter.capacity()
     }
 
     /// Whether the controller may act on this input.
