@@ -1,4 +1,4 @@
-use Rattle.std.proofs.Common.{◌≡◌, ℕ, ◌+◌, ◌<◌, ◌≤◌, ◌⊎◌, inl, inr, Bool, true, false, not, List, [], ◌∷◌, ◌++◌, refl, sym, ap, subst, ◌∙◌, arith, length, length-set, get_or, Option, Some, None, Result, Ok, Err, OnOk, OnErr}
+use Rattle.std.proofs.Common.{◌≡◌, ℕ, ◌+◌, ◌<◌, ◌≤◌, ◌⊎◌, inl, inr, Bool, true, false, not, List, [], ◌∷◌, ◌++◌, refl, sym, ap, subst, ◌∙◌, arith, length, length-set, get_or, Option, Some, None, Result, Ok, Err, OnOk, OnErr, IfSome, ◌↔◌}
 use Rattle.std.specs.Prelude.{◌&&◌, ◌==◌, if◌then◌else◌}
 use Rattle.std.proofs.lemmas.List.{get_or_read_under, set-get_or, length-map}
 use Rattle.dali_frame.specs.declared.frames.Forward.{Forward}
@@ -22,20 +22,23 @@ use Rattle.dali_events.specs.declared.event.Event.{Event}
 use Rattle.dali_events.specs.declared.event.Event.TheVariants as event
 use Rattle.dali_events.specs.World.{World, Controller}
 use Rattle.dali_events.specs.Happens.{happens, entry, gives_up, put_after, is_arc, told_sent, told_destroyed, told_lapsed, sent_by}
-use Rattle.dali_events.specs.Allowed.{Allowed, Hears, MaySend, IsDue, IsArc, HasOutstanding}
+use Rattle.dali_events.specs.Allowed.{Allowed, IsUp, Hears, MaySend, IsDue, IsArc, HasOutstanding}
 use Rattle.dali_world.specs.Fitted.{Fitted, taken_at}
 use Rattle.dali_world.specs.Places.{Place, IsTied, MayAnswer, acted_at, told_at, down_at, up_at, trace_of}
-use Rattle.dali_world.specs.Standing.{Seated, place_in, place_at, world_of, with_place, running_in, goes_on_in, owner_lapsed, has_acted, has_offered, has_sent, has_lost, has_collided, has_lapsed, has_gone_down, has_come_up, empty_place, Standing, flat, stand_of, controller_on, machine_on, machines_after, Moves, IsMove}
+use Rattle.dali_world.specs.Standing.{Seated, place_in, place_at, world_of, with_place, running_in, goes_on_in, owner_lapsed, has_acted, has_offered, has_sent, has_lost, has_collided, has_lapsed, has_gone_down, has_come_up, empty_place, Standing, flat, stand_of, controller_on, machine_on, machines_after, Moves, MayBeSent, IsMove}
 use Rattle.dali_world.specs.Settled.{IsAccepted, IsHearing, Settled}
 use Rattle.dali_world.specs.declared.refusal.Refusal.{Refusal}
 use Rattle.dali_world.specs.declared.trouble.Trouble.{Trouble}
 use Rattle.dali_world.specs.declared.trouble.Trouble.TheVariants as trouble
 use Rattle.dali_world.specs.Troubles.{heard_under, nobody_at_all}
-use Rattle.dali_world.proofs.Moves.{MaySendAt, controller_in, machine_of, up_there, place_here, place_elsewhere, moves_acted, moves_offered, moves_sent, moves_lost, moves_collided, moves_lapsed, moves_down, moves_up}
+use Rattle.dali_world.proofs.Moves.{MaySendAt, is_up, controller_in, machine_of, up_there, place_here, place_elsewhere, moves_acted, moves_offered, moves_sent, moves_lost, moves_collided, moves_lapsed, moves_down, moves_up}
+use Rattle.dali_special.specs.declared.command.Command.TheVariants.{Arc}
+use Rattle.dali_special.proofs.Table.{arc_of}
+use Rattle.dali_controller.specs.Progress.{Progress}
 use Rattle.dali_events.proofs.Growing.{plain_hearing}
 use Rattle.dali_events.proofs.Sending.{lawful_of}
 use Rattle.dali_world.proofs.Placing.{running_is}
-use Rattle.dali_world.proofs.Settling.{IsNextAt, next_at, owner_put, is_collision, arc_tells, may_ask, accepted, settled_acted, settled_offered, settled_sent, settled_lost, settled_collided, settled_lapsed, settled_down, settled_up}
+use Rattle.dali_world.proofs.Settling.{IsNextAt, next_at, owner_put, is_collision, is_arc_of, arc_tells, may_ask, accepted, settled_acted, settled_offered, settled_sent, settled_lost, settled_collided, settled_lapsed, settled_down, settled_up}
 
 -- WHAT A CALL DID, from what its parts did: the event moves what stood, and what stands is settled.
 pub record IsDone (was : Standing) (e : Event) (new : Seated) : Type 0 where
@@ -343,3 +346,20 @@ pub up_moves : (res : Result (Unit {0}) Refusal) (s : Seated) (was : Standing) (
     → OnOk res (Moves was (event.Up c kept) (flat (record { fitted = s.fitted; bus = s.bus; trace = s.trace; seats = with_place s.seats c seat })))
 up_moves (Ok x) s was c kept at seat view settled there down has read seat_is = (up_done s was c kept at seat view settled there down has read seat_is).moves
 up_moves (Err e) s was c kept at seat view settled there down has read seat_is = tt
+
+-- ---------------------------------------------------------------- the request that is next may be sent
+
+pub may_be_sent : (s : Seated) (was : Standing) (r : Request) → flat s ≡ was → Settled s → next was.bus ≡ Some r → MayBeSent was r
+may_be_sent s was r view settled first w ms same =
+    let n = next_at s r settled (next_here s was r view first) in
+    subst (λ (v : World). IsUp v r.sender × MaySend v r.sender r.frame) (drawn_in s was w ms view same) (is_up s r.sender w.drawn n.up, n.may w.drawn) where
+  drawn_in : (s : Seated) (was : Standing) (w : World) (ms : List (Option Progress)) → flat s ≡ was → was ≡ stand_of w ms → world_of s w.drawn ≡ w
+  drawn_in s was w ms view same = ap (λ (t : Standing). with_draws t w.drawn) (view ∙ same)
+
+pub first_may_be_sent : (s : Seated) (was : Standing) (o : Option Request) → flat s ≡ was → Settled s → o ≡ next was.bus → IfSome o (MayBeSent was)
+first_may_be_sent s was None view settled is = tt
+first_may_be_sent s was (Some r) view settled is = may_be_sent s was r view settled (sym is)
+
+-- direct arc power by its command
+pub arc_power : (f : Forward) → (is_arc (command_of f) ≡ true) ↔ IsArc f
+arc_power f = (λ e. let g = is_arc_of (command_of f) e in g.1 ∙ ap Arc (arc_of f g.0 g.1).0, λ arc. rw arc refl)

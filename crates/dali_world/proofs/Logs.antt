@@ -1,4 +1,4 @@
-use Rattle.std.proofs.Common.{◌≡◌, ℕ, ◌+◌, ◌<◌, ◌≤◌, Bool, true, false, List, [], ◌∷◌, ◌++◌, refl, sym, ap, subst, ◌∙◌, arith, length, length-append, length-set, map, set, get_or, get_or-set_same, get_or-set_other, nat_eq, Option, Some, None}
+use Rattle.std.proofs.Common.{◌≡◌, ℕ, ◌+◌, ◌<◌, ◌≤◌, ◌⊎◌, inl, inr, Bool, true, false, List, [], ◌∷◌, ◌++◌, refl, sym, ap, subst, ◌∙◌, arith, length, length-append, length-set, map, set, get_or, get_or-set_same, get_or-set_other, nat_eq, Option, Some, None}
 use Rattle.std.specs.Prelude.{◌==◌, if◌then◌else◌, zero, suc}
 use Rattle.std.proofs.lemmas.Bool.Decides.{nat_tests}
 use Rattle.std.proofs.lemmas.List.{length-map, length-replicate}
@@ -11,13 +11,25 @@ use Rattle.dali_events.specs.declared.event.Event.TheVariants as event
 use Rattle.dali_events.specs.Plan.{SitePlan, IsPlan}
 use Rattle.dali_events.specs.World.{World, Controller, controller_at, start}
 use Rattle.dali_events.specs.Happens.{happens}
-use Rattle.dali_events.specs.Allowed.{Allowed}
+use Rattle.dali_events.specs.Allowed.{Allowed, IsUp, MaySend}
 use Rattle.dali_events.specs.Runs.{after, after_all, AllAllowed, IsRun}
 use Rattle.dali_events.proofs.Growing.{after_more, run_more}
 use Rattle.dali_events.proofs.Controllers.{controllers_count}
-use Rattle.dali_world.specs.Standing.{Standing, stand_of, machines_at, machines_after, Moves}
-use Rattle.dali_world.proofs.Room.{gear_count}
-use Rattle.dali_world.specs.Site.{Site, world, logged, machines_all, machines, is_step_of, share_of, IsSite, opened_site}
+use Rattle.dali_world.specs.Standing.{Standing, stand_of, machines_at, machines_after, machine_on, Moves, MayBeSent}
+use Rattle.dali_world.proofs.Room.{gear_count, gifts_fit_after}
+use Rattle.dali_frame.specs.declared.frames.Answer.TheVariants.{Silence}
+use Rattle.dali_special.specs.Command.{command_of}
+use Rattle.dali_gear.specs.declared.row.GearSet.{GearSet}
+use Rattle.dali_gear.specs.declared.row.Reach.{Reach}
+use Rattle.dali_gear.specs.declared.row.Reach.TheVariants.{Everyone, Only}
+use Rattle.dali_gear.specs.Row.{draws_needed, stored_of}
+use Rattle.dali_arbiter.specs.declared.request.Request.{Request}
+use Rattle.dali_arbiter.specs.Bus.{total, collision}
+use Rattle.dali_world.specs.Places.{MayAnswer}
+use Rattle.dali_world.specs.Site.{Site, world, logged, machines_all, machines, machine_at, is_step_of, share_of, IsSite, opened_site, HasRoom, IsCrowded, Logs, Received, HasActed, IsSpent, IsSendable}
+use Rattle.dali_world.specs.Troubles.{reach_under, nobody_at_all}
+use Rattle.dali_world.specs.declared.trouble.Trouble.{Trouble}
+use Rattle.dali_world.specs.declared.trouble.Trouble.TheVariants as trouble
 
 -- A LOG GROWS BY ONE EVENT, and all that is read from it follows.
 
@@ -111,3 +123,108 @@ opens p queue room capacity standing shares plan few_gear few_controllers reserv
   zeroes (suc (suc zero)) = refl
   zeroes (suc (suc (suc zero))) = refl
   zeroes (suc (suc (suc (suc c)))) = refl
+
+-- ---------------------------------------------------------------- what a call did to a site
+
+-- `was` is the site as its caller sees it, and s the same by its parts
+pub site_logs : (s was : Site) (old new : Standing) (shares : List ℕ) (room : ℕ) (log' : List Event) (e : Event) → s ≡ was → IsSite s old shares room → HasRoom was → Moves old e new
+    → log' ≡ s.log ++ e ∷ [] → Logs was e (record { plan = s.plan; queue = s.queue; room = s.room; log = log' })
+site_logs s was old new shares room log' e view site free moves log_is =
+    subst (λ (w : Site). Logs w e (record { plan = s.plan; queue = s.queue; room = s.room; log = log' })) view (record {
+      allowed = allowed_in s old new shares room e site moves;
+      room = subst (λ (w : Site). HasRoom w) (sym view) free;
+      logged = ap (λ (l : List Event). record { plan = s.plan; queue = s.queue; room = s.room; log = l }) log_is;
+    })
+
+pub site_goes_on : (s was : Site) (old new : Standing) (shares : List ℕ) (room room' : ℕ) (log' : List Event) (e : Event) → s ≡ was → IsSite s old shares room → HasRoom was → Moves old e new
+    → log' ≡ s.log ++ e ∷ [] → room' ≡ room → ((c : ℕ) → is_step_of c e ≡ false) → IsSite (record { plan = s.plan; queue = s.queue; room = s.room; log = log' }) new shares room'
+site_goes_on s was old new shares room room' log' e view site free moves log_is room_is nobodys =
+    goes_on s old new shares shares room room' log' e site moves (subst (λ (w : Site). HasRoom w) (sym view) free) log_is room_is (uncounted shares e site.four nobodys)
+
+-- a step of controller d
+pub step_goes_on : (s was : Site) (old new : Standing) (shares shares' : List ℕ) (room room' : ℕ) (log' : List Event) (e : Event) (d : ℕ) → s ≡ was → IsSite s old shares room → HasRoom was → Moves old e new
+    → log' ≡ s.log ++ e ∷ [] → room' ≡ room → d < 4 → shares' ≡ set shares d (get_or shares d 0 + 1) → ((c : ℕ) → is_step_of c e ≡ (d == c))
+    → IsSite (record { plan = s.plan; queue = s.queue; room = s.room; log = log' }) new shares' room'
+step_goes_on s was old new shares shares' room room' log' e d view site free moves log_is room_is there shares_is step =
+    goes_on s old new shares shares' room room' log' e site moves (subst (λ (w : Site). HasRoom w) (sym view) free) log_is room_is (counted_step shares shares' e d site.four there shares_is step)
+
+pub step_few : (s was : Site) (old : Standing) (shares : List ℕ) (room d : ℕ) → s ≡ was → IsSite s old shares room → HasRoom was → d < 4 → get_or shares d 0 < 65536
+step_few s was old shares room d view site free there =
+    let fits = share_fits d s.log in
+    let here : HasRoom s = subst (λ (w : Site). HasRoom w) (sym view) free in
+    let most = site.most in
+    rw (site.counted d there) (omega arith)
+
+pub step_number : (s : Site) (old : Standing) (shares : List ℕ) (room d number : ℕ) (log' : List Event) (e : Event) → IsSite s old shares room → d < 4 → number ≡ get_or shares d 0 + 1
+    → log' ≡ s.log ++ e ∷ [] → is_step_of d e ≡ true → number ≡ share_of d log'
+step_number s old shares room d number log' e site there is log_is step =
+    is ∙ ap (λ n. n + 1) (site.counted d there) ∙ sym (ap (share_of d) log_is ∙ share_more d s.log e ∙ ap (λ (b : Bool). share_of d s.log + (if b then 1 else 0)) step)
+
+self_same : (c : ℕ) → (c == c) ≡ true
+self_same c = grind (arith, nat_tests)
+
+pub not_crowded : (s was : Site) (old : Standing) (shares : List ℕ) (room : ℕ) → s ≡ was → IsSite s old shares room → total old.bus < old.bus.capacity → IsCrowded was → ⊥
+not_crowded s was old shares room view site free crowded =
+    let here : IsCrowded s = subst (λ (w : Site). IsCrowded w) (sym view) crowded in
+    let less : total (world s).bus < (world s).bus.capacity = subst (λ (t : Standing). total t.bus < t.bus.capacity) site.stands free in
+    omega arith
+
+pub act_site : (s was : Site) (old new : Standing) (shares shares' : List ℕ) (room number c : ℕ) (i : Input) (o : Order) (r : Received) (log' : List Event) → s ≡ was → IsSite s old shares room
+    → total old.bus < old.bus.capacity → HasRoom was → Moves old (event.Acted c i o) new → MayAnswer (machine_on old c) i o → log' ≡ s.log ++ event.Acted c i o ∷ [] → c < 4
+    → number ≡ get_or shares c 0 + 1 → r ≡ record { controller = c; input = i; order = o; number = number }
+    → HasActed was c i r (record { plan = s.plan; queue = s.queue; room = s.room; log = log' })
+act_site s was old new shares shares' room number c i o r log' view site quiet free moves answer log_is there number_is r_is =
+    rw r_is (record {
+      logs = (site_logs s was old new shares room log' (event.Acted c i o) view site free moves log_is, not_crowded s was old shares room view site quiet);
+      ordered = subst (λ (w : Site). MayAnswer (machine_at w c) i o) view (subst (λ (t : Standing). MayAnswer (machine_on t c) i o) site.stands answer);
+      controller = refl;
+      input = refl;
+      number = step_number s old shares room c number log' (event.Acted c i o) site there number_is log_is (self_same c);
+    })
+
+-- ---------------------------------------------------------------- gifts have room
+
+draws_there : (s : Site) (r : Request) (t : Trouble) → (IsSpent s r t → ⊥) → draws_needed (reach_under t) (command_of r.frame) 0 (world s).gear ≤ length (world s).left
+draws_there s r t enough = grind (arith, enough)
+
+everyone : (t : Trouble) → IsSendable t → reach_under t ≡ Everyone
+everyone trouble.None is = refl
+everyone trouble.AnswerLost is = refl
+everyone trouble.Noise is = refl
+everyone (trouble.Destroyed set) is = elim is [ ]
+everyone trouble.Collision is = elim is [ ]
+
+abbrev HasGiftRoom : Standing → Reach → Request → Type 0
+HasGiftRoom old reach r = length (old.gifts ++ stored_of reach (command_of r.frame) 0 old.gear) ≤ length old.gear
+
+pub sent_room : (s was : Site) (old : Standing) (shares : List ℕ) (room : ℕ) (r : Request) (t : Trouble) → s ≡ was → IsSite s old shares room → IsUp (world was) r.sender × MaySend (world was) r.sender r.frame
+    → (IsSpent was r t → ⊥) → IsSendable t → HasGiftRoom old Everyone r
+sent_room s was old shares room r t view site may enough sendable =
+    let enough_s : IsSpent s r t → ⊥ = subst (λ (w : Site). IsSpent w r t → ⊥) (sym view) enough in
+    let may_s = subst (λ (w : Site). IsUp (world w) r.sender × MaySend (world w) r.sender r.frame) (sym view) may in
+    let draws : draws_needed Everyone (command_of r.frame) 0 (world s).gear ≤ length (world s).left =
+      subst (λ reach. draws_needed reach (command_of r.frame) 0 (world s).gear ≤ length (world s).left) (everyone t sendable) (draws_there s r t enough_s) in
+    subst (λ (o : Standing). HasGiftRoom o Everyone r) (sym site.stands)
+    (gifts_fit_after s.plan s.queue s.log (event.Sent r.sender r.frame Silence) site.run (record { up = may_s.0; may = may_s.1; draws = draws; heard = tt }))
+
+pub lost_room : (s was : Site) (old : Standing) (shares : List ℕ) (room : ℕ) (r : Request) (set : GearSet) → s ≡ was → IsSite s old shares room → IsUp (world was) r.sender × MaySend (world was) r.sender r.frame
+    → (IsSpent was r (trouble.Destroyed set) → ⊥) → HasGiftRoom old (Only set) r
+lost_room s was old shares room r set view site may enough =
+    let enough_s : IsSpent s r (trouble.Destroyed set) → ⊥ = subst (λ (w : Site). IsSpent w r (trouble.Destroyed set) → ⊥) (sym view) enough in
+    let may_s = subst (λ (w : Site). IsUp (world w) r.sender × MaySend (world w) r.sender r.frame) (sym view) may in
+    subst (λ (o : Standing). HasGiftRoom o (Only set) r) (sym site.stands)
+    (gifts_fit_after s.plan s.queue s.log (event.Destroyed r.sender r.frame set) site.run (record { up = may_s.0; may = may_s.1; draws = draws_there s r (trouble.Destroyed set) enough_s }))
+
+-- the request that is next may be sent
+pub request_may : (s was : Site) (old : Standing) (shares : List ℕ) (room : ℕ) (r : Request) → s ≡ was → IsSite s old shares room → MayBeSent old r → IsUp (world was) r.sender × MaySend (world was) r.sender r.frame
+request_may s was old shares room r view site may =
+    subst (λ (w : Site). IsUp (world w) r.sender × MaySend (world w) r.sender r.frame) view (may (world s) (machines s) site.stands)
+
+pub world_lists : (s was : Site) (old : Standing) (shares : List ℕ) (room : ℕ) (q : Request) → s ≡ was → IsSite s old shares room → collision old.bus.lists ≡ Some q → collision (world was).bus.lists ≡ Some q
+world_lists s was old shares room q view site is =
+    subst (λ (w : Site). collision (world w).bus.lists ≡ Some q) view (subst (λ (t : Standing). collision t.bus.lists ≡ Some q) site.stands is)
+
+pub sendable_of : (t : Trouble) → (t ≡ trouble.None) ⊎ ((t ≡ trouble.AnswerLost) ⊎ (t ≡ trouble.Noise)) → IsSendable t
+sendable_of t (inl e) = rw e tt
+sendable_of t (inr (inl e)) = rw e tt
+sendable_of t (inr (inr e)) = rw e tt

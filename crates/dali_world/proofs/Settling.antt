@@ -113,7 +113,7 @@ apart_sends t k None p f told last placed = absurd (let no : k.last ≡ None = p
 apart_sends t k (Some m) p f told last placed =
     let known = subst (λ o. IsApart k m (Some (Put p f)) o) told (subst (λ l. IsApart k m l k.told) last placed) in known.2
 
-is_arc_of : (x : Command) → is_arc x ≡ true → (g : Forward) × (x ≡ Arc g)
+pub is_arc_of : (x : Command) → is_arc x ≡ true → (g : Forward) × (x ≡ Arc g)
 is_arc_of (Arc g) e = (g, refl)
 is_arc_of Terminate e = absurd (cc)
 is_arc_of (Initialise target) e = absurd (cc)

@@ -27,7 +27,7 @@ use Rattle.dali_world.specs.declared.trouble.Trouble.{Trouble}
 use Rattle.dali_world.specs.declared.trouble.Trouble.TheVariants as trouble
 use Rattle.dali_world.specs.declared.trouble.Report.{Report}
 use Rattle.dali_world.specs.declared.trouble.Report.TheVariants as report
-use Rattle.dali_world.specs.Troubles.{heard_under, nobody_at_all}
+use Rattle.dali_world.specs.Troubles.{heard_under, reach_under, nobody_at_all}
 use Rattle.dali_world.specs.Places.{MayAnswer, Agrees}
 use Rattle.dali_world.specs.Standing.{Standing, stand_of, machine_in, machines_at, machines_after}
 
@@ -144,6 +144,22 @@ IsGearRefused s g refusal.UnknownGear = s.plan.gear ≤ g
 IsGearRefused s g refusal.LogFull = (g < s.plan.gear) × IsFull s
 IsGearRefused s g _ = ⊥
 
+-- ---------------------------------------------------------------- one event more
+
+-- A CALL THAT IS ACCEPTED adds one event, which is allowed in the world of the site.
+pub record Logs (s : Site) (e : Event) (new : Site) : Type 0 where
+  pub allowed : Allowed (world s) e
+  pub room : HasRoom s
+  pub logged : new ≡ logged s e
+
+-- a controller came up with a copy that agrees with what the site remembers
+abbrev pub IsUpWith : Site → ℕ → Records → Site → Type 0
+IsUpWith s c copy new = (kept : Bool) × Agrees (controller_at (world s) c) copy kept × Logs s (event.Up c kept) new
+
+-- and one that also asks for room among the requests
+abbrev pub LogsRequest : Site → Event → Site → Type 0
+LogsRequest s e new = Logs s e new × (IsCrowded s → ⊥)
+
 -- ---------------------------------------------------------------- a controller acts
 
 -- What a controller that acted has: the number of its step, counted from 1.
@@ -155,21 +171,13 @@ pub record Received : Type 0 where
 
 -- THE ANSWERS of a controller that acts: an order, and the receipt of its event; or a refusal, which changes nothing.
 pub record HasActed (s : Site) (c : ℕ) (i : Input) (r : Received) (new : Site) : Type 0 where
-  pub allowed : Allowed (world s) (event.Acted c i r.order)
-  pub room : (IsCrowded s → ⊥) × HasRoom s
+  pub logs : LogsRequest s (event.Acted c i r.order) new
   pub ordered : MayAnswer (machine_at s c) i r.order
-  pub logged : new ≡ logged s (event.Acted c i r.order)
   pub controller : r.controller ≡ c
   pub input : r.input ≡ i
   pub number : r.number ≡ share_of c new.log
 
 -- ---------------------------------------------------------------- the next frame
-
--- the gear that take it
-abbrev pub reach_under : Trouble → Reach
-reach_under (trouble.Destroyed set) = Only set
-reach_under trouble.Collision = Only nobody_at_all
-reach_under _ = Everyone
 
 -- the numbers that they will draw are there
 abbrev pub IsSpent : Site → Request → Trouble → Type 0
@@ -189,18 +197,18 @@ IsSendable _ = Unit {0}
 abbrev pub Becomes : Site → Request → Trouble → Report → Site → Type 0
 Becomes s r t (report.Sent c f h) new = IsSendable t × (c ≡ r.sender) × (f ≡ r.frame)
     × (h ≡ heard_under t (heard_of (answers_of Everyone (command_of r.frame) 0 (world s).gear)))
-    × Allowed (world s) (event.Sent c f h) × (new ≡ logged s (event.Sent c f h))
+    × Logs s (event.Sent c f h) new
 Becomes s r t (report.Destroyed c f) new = (c ≡ r.sender) × (f ≡ r.frame)
     × ((set : GearSet) × ((t ≡ trouble.Destroyed set) ⊎ ((t ≡ trouble.Collision) × (set ≡ nobody_at_all) × (collision (world s).bus.lists ≡ None)))
-      × Allowed (world s) (event.Destroyed c f set) × (new ≡ logged s (event.Destroyed c f set)))
+      × Logs s (event.Destroyed c f set) new)
 Becomes s r t (report.Collided c f d g) new = (t ≡ trouble.Collision) × (c ≡ r.sender) × (f ≡ r.frame)
     × ((q : Request) × (collision (world s).bus.lists ≡ Some q) × (d ≡ q.sender) × (g ≡ q.frame))
-    × Allowed (world s) (event.Collided c f d g) × (new ≡ logged s (event.Collided c f d g))
+    × Logs s (event.Collided c f d g) new
 Becomes s r t report.Idle new = ⊥
 
 abbrev pub Pumps : Site → Trouble → Report → Site → Type 0
 Pumps s t report.Idle new = (next_request s ≡ None) × (new ≡ s)
-Pumps s t x new = (r : Request) × (next_request s ≡ Some r) × (IsSpent s r t → ⊥) × HasRoom s × Becomes s r t x new
+Pumps s t x new = (r : Request) × (next_request s ≡ Some r) × (IsSpent s r t → ⊥) × Becomes s r t x new
 
 abbrev pub IsPumpRefused : Site → Trouble → Refusal → Type 0
 IsPumpRefused s t refusal.DrawsSpent = (r : Request) × (next_request s ≡ Some r) × IsSpent s r t

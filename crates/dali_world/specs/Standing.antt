@@ -6,6 +6,7 @@ use Rattle.dali_special.specs.Command.{command_of}
 use Rattle.dali_gear.specs.declared.row.GearSet.{GearSet}
 use Rattle.dali_gear.specs.declared.row.Reach.TheVariants.{Everyone, Only}
 use Rattle.dali_gear.specs.ControlGear.{ControlGear}
+use Rattle.dali_arbiter.specs.declared.request.Request.{Request}
 use Rattle.dali_arbiter.specs.Bus.{Bus, owns, idle, request_of, offered, destroyed, collided, lapsed, silenced}
 use Rattle.dali_script.specs.declared.block.Block.{Block}
 use Rattle.dali_script.specs.declared.trace.Entry.{Entry}
@@ -20,7 +21,7 @@ use Rattle.dali_events.specs.declared.event.Event.TheVariants as event
 use Rattle.dali_events.specs.Plan.{SitePlan}
 use Rattle.dali_events.specs.World.{World, Controller, controller_at, nobody}
 use Rattle.dali_events.specs.Happens.{happens, entry, gives_up, bus_acted, sent_by, told_sent, told_destroyed, told_lapsed, come_up}
-use Rattle.dali_events.specs.Allowed.{Allowed}
+use Rattle.dali_events.specs.Allowed.{Allowed, IsUp, MaySend}
 use Rattle.dali_world.specs.Fitted.{Fitted, fitted_at, taken_at}
 use Rattle.dali_world.specs.Places.{Place, begun_at, acted_at, down_at, up_at, told_at}
 
@@ -193,6 +194,10 @@ has_come_up s c kept = record { fitted = s.fitted; bus = s.bus; trace = s.trace;
 -- and of the machines.
 abbrev pub Moves : Standing → Event → Standing → Type 0
 Moves s e new = (w : World) (ms : List (Option Progress)) → s ≡ stand_of w ms → Allowed w e × (new ≡ stand_of (happens w e) (machines_after w ms e))
+
+-- a request that may be sent, in each world that stands so
+abbrev pub MayBeSent : Standing → Request → Type 0
+MayBeSent s r = (w : World) (ms : List (Option Progress)) → s ≡ stand_of w ms → IsUp w r.sender × MaySend w r.sender r.frame
 
 -- the same of places: whatever numbers were drawn
 pub record IsMove (s : Seated) (e : Event) (new : Seated) : Type 0 where

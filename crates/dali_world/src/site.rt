@@ -1,20 +1,23 @@
-ghost use Rattle.std.specs.Prelude.{◌≡◌, ℕ, ◌+◌, ◌<◌, ◌≤◌, length, true, false, Some, None, OnOk, IfOk, OnErr, IfErr, IsTrue, slice_index_or, slice_set};
+ghost use Rattle.std.specs.Prelude.{◌≡◌, ℕ, ◌+◌, ◌<◌, ◌≤◌, length, true, false, Some, None, OnOk, IfOk, OnErr, IfErr, IsTrue, ◌↔◌, ◌++◌, ◌∷◌, [], vec_len, MatchOption, slice_index_or, slice_set};
+ghost use Rattle.std.specs.Vec.{vec_capacity};
 ghost use Rattle.dali_events.specs.declared.event.Event.TheVariants as event;
 ghost use Rattle.dali_events.specs.World.{gear_at, controller_at};
-ghost use Rattle.dali_events.specs.Allowed.{Allowed, IsUp, IsDown};
+ghost use Rattle.dali_events.specs.Allowed.{IsUp, MaySend, IsArc};
+ghost use Rattle.dali_controller.specs.Progress.{roster_of};
+ghost use Rattle.dali_world.specs.declared.trouble.Trouble.TheVariants as trouble;
 ghost use Rattle.dali_world.specs.declared.refusal.Refusal.TheVariants as refusal;
 
 use crate::receipt::Receipt;
 use crate::refusal::Refusal;
-use crate::standing::Standing;
+use crate::standing::{Standing, is_arc_power};
 use crate::trouble::{Report, Trouble};
+use dali_arbiter::Request;
 use dali_controller::{Due, Input};
 use dali_enrol::Table;
 use dali_events::{Event, Plan};
 use dali_frame::Forward;
-use dali_gear::{Gear, GearSet, Reach};
+use dali_gear::{Gear, GearSet};
 use dali_script::Kept;
-use dali_special::Command;
 use std::alloc::Global;
 use std::marker::Model;
 
@@ -44,7 +47,7 @@ impl Model for SiteState {
 }
 
 impl SiteState {
-    ghost use Rattle.dali_world.specs.Site.{Site, world, opened_site, logged, machine_at, share_of, HasActed, IsActRefused, IsArcRefused, IsDownRefused, IsUpRefused, IsGearRefused, IsBarred, IsFull, IsCrowded, HasRoom, Pumps, IsPumpRefused, due_of, next_request};
+    ghost use Rattle.dali_world.specs.Site.{Site, world, opened_site, logged, machine_at, share_of, HasActed, IsActRefused, IsArcRefused, IsDownRefused, IsUpRefused, IsGearRefused, IsBarred, IsFull, IsCrowded, HasRoom, Pumps, IsPumpRefused, due_of, next_request, Logs, LogsRequest, IsUpWith, IsSpent, IsSendable, Becomes};
 
     /// A site of this plan, on which nothing happened yet. All controllers are up, and keep nothing.
     ///
@@ -96,10 +99,300 @@ impl SiteState {
         }
         let order = self.standing.act(c, input);
         let ordered = order;
-        self.log
-            .push_reserved(Event::Acted(c, input, ordered));
+        append(&mut self.log, &Event::Acted(c, input, ordered));
         let number = count(&mut self.shares, c);
         Ok(Receipt::new(c, input, order, number))
+    }
+
+    /// A controller asks to send a frame of direct arc power. Its machine hears nothing of it.
+    ///
+    /// Refusals, in this order: 1 UnknownController, 2 ControllerDown, 4 NotArc, 7 QueueFull, 8 LogFull.
+    pub fn arc(&mut self, c: u8, frame: Forward) -> Result<(), Refusal>
+        ensures offered { OnOk result (LogsRequest self.old (event.Offered c frame) self.new) }
+        ensures refused { IfErr result (λ e. IsArcRefused self.old c frame e) }
+        ensures unchanged { OnErr result (self.new ≡ self.old) }
+    {
+        self.check_up(c)?;
+        if !is_arc_power(frame) {
+            return Err(Refusal::NotArc);
+        }
+        if self.standing.is_crowded() {
+            return Err(Refusal::QueueFull);
+        }
+        if self.is_full() {
+            return Err(Refusal::LogFull);
+        }
+        self.standing.offer(c, frame);
+        append(&mut self.log, &Event::Offered(c, frame));
+        count(&mut self.shares, c);
+        Ok(())
+    }
+
+    /// The request that is next comes on the bus, if one is; a trouble may disturb it. The gear that have power and that the
+    /// frame reaches take it, in order of their number, and draw the plan's next numbers.
+    ///
+    /// Without a request it answers `Idle` before any refusal, and logs nothing. Refusals, in this order: 6 DrawsSpent, 8 LogFull.
+    pub fn pump(&mut self, trouble: Trouble) -> Result<Report, Refusal>
+        ensures pumped { IfOk result (λ report. Pumps self.old trouble report self.new) }
+        ensures refused { IfErr result (λ e. IsPumpRefused self.old trouble e) }
+        ensures unchanged { OnErr result (self.new ≡ self.old) }
+    {
+        let Some(request) = self.standing.next_request() else {
+            return Ok(Report::Idle);
+        };
+        if self.standing.is_spent(request.frame, trouble.reach()) {
+            return Err(Refusal::DrawsSpent);
+        }
+        if self.is_full() {
+            return Err(Refusal::LogFull);
+        }
+        match trouble {
+            Trouble::Destroyed(set) => Ok(self.destroy(request, set)),
+            Trouble::Collision => Ok(self.collide(request)),
+            Trouble::None | Trouble::AnswerLost | Trouble::Noise => Ok(self.send(request, trouble)),
+        }
+    }
+
+    /// The owner loses the bus, and is told so in place of what it has not acted on. Answers who it was, if anybody.
+    ///
+    /// Refusal: 8 LogFull.
+    pub fn lapse(&mut self) -> Result<Option<u8>, Refusal>
+        ensures lapsed { IfOk result (λ owner. (owner ≡ (world self.old).bus.owner) × Logs self.old event.Lapsed self.new) }
+        ensures refused { IfErr result (λ e. (e ≡ refusal.LogFull) × IsFull self.old) }
+        ensures unchanged { OnErr result (self.new ≡ self.old) }
+    {
+        if self.is_full() {
+            return Err(Refusal::LogFull);
+        }
+        let owner = self.standing.lapse();
+        append(&mut self.log, &Event::Lapsed);
+        Ok(owner)
+    }
+
+    /// The bus is quiet for so long that half of a send-twice pair is forgotten.
+    ///
+    /// Refusal: 8 LogFull.
+    pub fn quiet(&mut self) -> Result<(), Refusal>
+        ensures quiet { OnOk result (Logs self.old event.Quiet self.new) }
+        ensures refused { IfErr result (λ e. (e ≡ refusal.LogFull) × IsFull self.old) }
+        ensures unchanged { OnErr result (self.new ≡ self.old) }
+    {
+        if self.is_full() {
+            return Err(Refusal::LogFull);
+        }
+        self.standing.quiet();
+        append(&mut self.log, &Event::Quiet);
+        Ok(())
+    }
+
+    /// A gear's power comes (true) or goes.
+    ///
+    /// Refusals, in this order: 1 UnknownGear, 8 LogFull.
+    pub fn power(&mut self, number: u32, on: bool) -> Result<(), Refusal>
+        ensures powered { OnOk result (Logs self.old (event.Power number on) self.new) }
+        ensures refused { IfErr result (λ e. IsGearRefused self.old number e) }
+        ensures unchanged { OnErr result (self.new ≡ self.old) }
+    {
+        self.check_gear(number)?;
+        self.standing.power(number, on);
+        append(&mut self.log, &Event::Power(number, on));
+        Ok(())
+    }
+
+    /// The 15 minutes of a gear's initialisation are over.
+    ///
+    /// Refusals, in this order: 1 UnknownGear, 8 LogFull.
+    pub fn expire(&mut self, number: u32) -> Result<(), Refusal>
+        ensures expired { OnOk result (Logs self.old (event.Expired number) self.new) }
+        ensures refused { IfErr result (λ e. IsGearRefused self.old number e) }
+        ensures unchanged { OnErr result (self.new ≡ self.old) }
+    {
+        self.check_gear(number)?;
+        self.standing.expire(number);
+        append(&mut self.log, &Event::Expired(number));
+        Ok(())
+    }
+
+    /// A controller goes down: its machine, its requests and its ownership go. What it keeps stays remembered, and so does the
+    /// record that is outstanding.
+    ///
+    /// Refusals, in this order: 1 UnknownController, 2 ControllerDown, 8 LogFull.
+    pub fn down(&mut self, c: u8) -> Result<(), Refusal>
+        ensures down { OnOk result (Logs self.old (event.Down c) self.new) }
+        ensures refused { IfErr result (λ e. IsDownRefused self.old c e) }
+        ensures unchanged { OnErr result (self.new ≡ self.old) }
+    {
+        self.check_up(c)?;
+        if self.is_full() {
+            return Err(Refusal::LogFull);
+        }
+        self.standing.down(c);
+        append(&mut self.log, &Event::Down(c));
+        Ok(())
+    }
+
+    /// A controller comes up with a copy of its records: those that it kept, or these with the one that was outstanding. Its
+    /// machine starts anew.
+    ///
+    /// Refusals, in this order: 1 UnknownController, 2 ControllerUp, 5 StoreDisagrees, 8 LogFull, 9 NoMemory.
+    pub fn up(&mut self, alloc: Global, c: u8, copy: &Kept) -> Result<(), Refusal>
+        ensures up { OnOk result (IsUpWith self.old c copy.now self.new) }
+        ensures refused { IfErr result (λ e. IsUpRefused self.old c copy.now e) }
+        ensures unchanged { OnErr result (self.new ≡ self.old) }
+    {
+        if (c as usize) >= self.standing.controllers() {
+            return Err(Refusal::UnknownController);
+        }
+        if self.standing.is_up(c) {
+            return Err(Refusal::ControllerUp);
+        }
+        let Some(kept) = self.standing.agreement(c, copy) else {
+            return Err(Refusal::StoreDisagrees);
+        };
+        if self.is_full() {
+            return Err(Refusal::LogFull);
+        }
+        self.standing.up(alloc, c, copy, kept)?;
+        append(&mut self.log, &Event::Up(c, kept));
+        Ok(())
+    }
+
+    /// The plan.
+    pub fn plan(&self) -> &Plan
+        ensures { result.now ≡ self.now.plan }
+    {
+        &self.plan
+    }
+
+    /// All that happened, oldest first.
+    pub fn log(&self) -> &[Event]
+        ensures { result.now ≡ self.now.log }
+    {
+        &self.log
+    }
+
+    /// What the bus has told a controller, and it has not acted on; or Start, where it has not started. None while it is down.
+    pub fn next(&self, c: u8) -> Option<Input>
+        requires { c < length self.now.plan.blocks }
+        ensures { result ≡ (controller_at (world self.now) c).told }
+    {
+        self.standing.told(c)
+    }
+
+    /// What is due for a controller: Nothing while it is down.
+    pub fn due(&self, c: u8) -> Due
+        requires { c < length self.now.plan.blocks }
+        ensures { result ≡ due_of (controller_at (world self.now) c) }
+    {
+        self.standing.due(c)
+    }
+
+    /// A gear.
+    pub fn gear(&self, number: u32) -> &Gear
+        requires { number < self.now.plan.gear }
+        ensures { result.now ≡ gear_at (world self.now) number }
+    {
+        &self.standing.gear()[number as usize]
+    }
+
+    /// The records that a controller keeps.
+    pub fn kept(&self, c: u8) -> &Kept
+        requires { c < length self.now.plan.blocks }
+        ensures { result.now ≡ (controller_at (world self.now) c).records }
+    {
+        self.standing.kept(c)
+    }
+
+    /// The gear that a controller has enrolled: None while it is down.
+    pub fn table(&self, c: u8) -> Option<&Table>
+        requires { c < length self.now.plan.blocks }
+        ensures { MatchOption result ((controller_at (world self.now) c).up ≡ false)
+            (λ table. ((controller_at (world self.now) c).up ≡ true) × (table.now ≡ roster_of (controller_at (world self.now) c).records)) }
+    {
+        self.standing.table(c)
+    }
+
+    /// Who owns the bus.
+    pub fn owner(&self) -> Option<u8>
+        ensures { result ≡ (world self.now).bus.owner }
+    {
+        self.standing.owner()
+    }
+
+    /// Whether no request is next.
+    pub fn idle(&self) -> bool
+        ensures { IsTrue result ↔ (next_request self.now ≡ None) }
+    {
+        self.standing.next_request().is_none()
+    }
+
+    /// The request that is next is sent.
+    fn send(&mut self, request: Request, trouble: Trouble) -> Report
+        requires next { next_request self.old ≡ Some request }
+        requires may { IsUp (world self.old) request.sender × MaySend (world self.old) request.sender request.frame }
+        requires draws { IsSpent self.old request trouble → ⊥ }
+        requires room { HasRoom self.old }
+        requires sendable { IsSendable trouble }
+        ensures { Becomes self.old request trouble result self.new }
+    {
+        let c = request.sender;
+        let frame = request.frame;
+        let heard = self.standing.send(request, trouble);
+        append(&mut self.log, &Event::Sent(c, frame, heard));
+        Report::Sent(c, frame, heard)
+    }
+
+    /// The request that is next is destroyed.
+    fn destroy(&mut self, request: Request, set: GearSet) -> Report
+        requires next { next_request self.old ≡ Some request }
+        requires may { IsUp (world self.old) request.sender × MaySend (world self.old) request.sender request.frame }
+        requires draws { IsSpent self.old request (trouble.Destroyed set) → ⊥ }
+        requires room { HasRoom self.old }
+        ensures { Becomes self.old request (trouble.Destroyed set) result self.new }
+    {
+        let c = request.sender;
+        let frame = request.frame;
+        self.standing.destroy(request, set);
+        append(&mut self.log, &Event::Destroyed(c, frame, set));
+        Report::Destroyed(c, frame)
+    }
+
+    /// The request that is next collides, if another one is sent with it; else it is destroyed.
+    fn collide(&mut self, request: Request) -> Report
+        requires next { next_request self.old ≡ Some request }
+        requires may { IsUp (world self.old) request.sender × MaySend (world self.old) request.sender request.frame }
+        requires draws { IsSpent self.old request trouble.Collision → ⊥ }
+        requires room { HasRoom self.old }
+        ensures { Becomes self.old request trouble.Collision result self.new }
+    {
+        let c = request.sender;
+        let frame = request.frame;
+        match self.standing.collide(request) {
+            Some(other) => {
+                let d = other.sender;
+                let rival = other.frame;
+                append(&mut self.log, &Event::Collided(c, frame, d, rival));
+                Report::Collided(c, frame, d, rival)
+            }
+            None => {
+                append(&mut self.log, &Event::Destroyed(c, frame, GearSet(0)));
+                Report::Destroyed(c, frame)
+            }
+        }
+    }
+
+    /// A gear of this number is there, and the log has room for one more event.
+    fn check_gear(&self, number: u32) -> Result<(), Refusal>
+        ensures ok { OnOk result ((number < length (world self.now).gear) × HasRoom self.now) }
+        ensures refused { IfErr result (λ e. IsGearRefused self.now number e) }
+    {
+        if number >= self.plan.gear() {
+            return Err(Refusal::UnknownGear);
+        }
+        if self.is_full() {
+            return Err(Refusal::LogFull);
+        }
+        Ok(())
     }
 
     /// Whether the log has no room for one more event.
@@ -123,6 +416,15 @@ impl SiteState {
         }
         Ok(())
     }
+}
+
+/// Puts one item more at the end of a list that has room for it.
+fn append<T: Copy>(list: &mut Vec<T>, item: &T)
+    requires { vec_len list.old < vec_capacity list.old }
+    ensures items { list.new.items ≡ list.old.items ++ item.now ∷ [] }
+    ensures capacity { vec_capacity list.new ≡ vec_capacity list.old }
+{
+    list.push_reserved(*item);
 }
 
 /// Counts one step more of a controller. Answers how many it has taken.

@@ -1,4 +1,4 @@
-ghost use Rattle.std.specs.Prelude.{◌≡◌, ◌↔◌, ◌++◌, ◌∷◌, [], ℕ, ◌<◌, ◌≤◌, List, length, map, true, false, Some, None, IfOk, IfErr, OnOk, OnErr, IsTrue, Bool, MatchOption, if◌then◌else◌};
+ghost use Rattle.std.specs.Prelude.{◌≡◌, ◌↔◌, ◌++◌, ◌∷◌, [], ℕ, ◌<◌, ◌≤◌, List, length, map, true, false, Some, None, IfSome, IfOk, IfErr, OnOk, OnErr, IsTrue, Bool, MatchOption, if◌then◌else◌};
 ghost use Rattle.dali_special.specs.Command.{command_of};
 ghost use Rattle.dali_gear.specs.declared.row.Reach.TheVariants.{Everyone, Only};
 ghost use Rattle.dali_gear.specs.ControlGear.{expired, quieted};
@@ -55,7 +55,7 @@ impl Model for Standing {
 }
 
 impl Standing {
-    ghost use Rattle.dali_world.specs.Standing.{Standing, stand_of, machines_at, controller_on, machine_on, Moves};
+    ghost use Rattle.dali_world.specs.Standing.{Standing, stand_of, machines_at, controller_on, machine_on, Moves, MayBeSent};
 
     /// What stands on a site of this plan at its start. It takes all the memory that it will need until a controller comes up
     /// anew. `queue` requests may wait.
@@ -186,7 +186,8 @@ impl Standing {
 
     /// The request that is next, if one is.
     pub(crate) fn next_request(&self) -> Option<Request>
-        ensures { result ≡ next self.now.bus }
+        ensures next { result ≡ next self.now.bus }
+        ensures may { IfSome result (MayBeSent self.now) }
     {
         self.arbiter.pick()
     }
@@ -415,6 +416,13 @@ fn is_arc(frame: Forward) -> bool
     ensures { result ≡ is_arc (command_of frame) }
 {
     matches!(Command::read(frame), Command::Arc(_))
+}
+
+/// Whether a frame is direct arc power.
+pub(crate) fn is_arc_power(frame: Forward) -> bool
+    ensures { IsTrue result ↔ IsArc frame }
+{
+    is_arc(frame)
 }
 
 /// The sender of a frame is told what was heard. `running` are the frames of its transaction, with this one.

@@ -1,7 +1,7 @@
 ghost use Rattle.std.specs.Prelude.{◌≡◌};
 
 use dali_frame::{Answer, Forward};
-use dali_gear::GearSet;
+use dali_gear::{GearSet, Reach};
 
 /// What disturbs the next frame on the bus.
 #[derive(Clone, Copy, Debug, PartialEq, Eq, Hash)]
@@ -32,7 +32,18 @@ pub enum Report {
 }
 
 impl Trouble {
-    ghost use Rattle.dali_world.specs.Troubles.{heard_under};
+    ghost use Rattle.dali_world.specs.Troubles.{heard_under, reach_under};
+
+    /// Which gear a frame reaches.
+    pub fn reach(self) -> Reach
+        ensures { result ≡ reach_under self }
+    {
+        match self {
+            Trouble::None | Trouble::AnswerLost | Trouble::Noise => Reach::Everyone,
+            Trouble::Destroyed(set) => Reach::Only(set),
+            Trouble::Collision => Reach::Only(GearSet(0)),
+        }
+    }
 
     /// What is heard after a frame that is sent, where `plain` would be heard without trouble.
     pub fn heard(self, plain: Answer) -> Answer

@@ -1,0 +1,18 @@
+use Rattle.std.proofs.Common.{rules, refl}
+use Rattle.dali_world.proofs.Logs.{request_may, sendable_of}
+use Rattle.dali_world.proofs.site.SiteState.pump.Goals as goal
+
+pub destroy-requires-clause-may : goal.destroy-requires-clause-may
+destroy-requires-clause-may c = request_may _ _ _ _ _ c.in-Some.request c.self.view_is c.self.invariant (rw c.in-Some.is at c.next_request.ensures.may)
+
+pub collide-requires-clause-may : goal.collide-requires-clause-may
+collide-requires-clause-may c = request_may _ _ _ _ _ c.in-Some.request c.self.view_is c.self.invariant (rw c.in-Some.is at c.next_request.ensures.may)
+
+pub send-requires : goal.send-requires
+send-requires c = record {
+  next = search rules;
+  may = request_may _ _ _ _ _ c.in-Some.request c.self.view_is c.self.invariant (rw c.in-Some.is at c.next_request.ensures.may);
+  draws = search rules;
+  room = c.if-is_full.ensures.room refl;
+  sendable = sendable_of c.args.trouble c.in-None.is;
+}
