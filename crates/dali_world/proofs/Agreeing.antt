@@ -16,9 +16,9 @@ use Rattle.dali_events.specs.Allowed.{IsDue}
 use Rattle.dali_events.specs.Runs.{after, IsRun}
 use Rattle.dali_events.specs.Promises.{HasFound, FindingsAgree}
 use Rattle.dali_events.proofs.Agreeing.{findings_agree_in}
-use Rattle.dali_world.specs.Places.{IsRunning}
-use Rattle.dali_world.specs.Settled.{IsPlacedBy}
-use Rattle.dali_world.proofs.Acts.{start_first, IsOfBus, IsPut, bus_put, committed_last, told_accepted, placed_start, placed_commit, later_some, bus_kept, found_told}
+use Rattle.dali_standing.specs.Places.{IsRunning}
+use Rattle.dali_standing.specs.Settled.{IsPlacedBy}
+use Rattle.dali_standing.proofs.Acts.{start_first, IsOfBus, IsPut, bus_put, committed_last, told_accepted, placed_start, placed_commit, later_some, bus_kept, found_told}
 
 -- NO MACHINE OF A SITE HALTS WITH A CONFLICT.
 

@@ -1,11 +1,3 @@
-mod Ties
-mod Rows
-mod Acts
-mod Moves
-mod Placing
-mod Queues
-mod Settling
-mod Done
-mod Room
-mod Agreeing
-mod Logs
+pub mod Room
+pub mod Agreeing
+pub mod Logs

@@ -15,7 +15,7 @@ use Rattle.dali_events.specs.Allowed.{Allowed, IsUp, MaySend}
 use Rattle.dali_events.specs.Runs.{after, after_all, AllAllowed, IsRun}
 use Rattle.dali_events.proofs.Growing.{after_more, run_more}
 use Rattle.dali_events.proofs.Controllers.{controllers_count}
-use Rattle.dali_world.specs.Standing.{Standing, stand_of, machines_at, machines_after, machine_on, Moves, MayBeSent}
+use Rattle.dali_standing.specs.Standing.{Standing, stand_of, machines_at, machines_after, machine_on, Moves, MayBeSent}
 use Rattle.dali_world.proofs.Room.{gear_count, gifts_fit_after}
 use Rattle.dali_frame.specs.declared.frames.Answer.TheVariants.{Silence}
 use Rattle.dali_special.specs.Command.{command_of}
@@ -25,11 +25,11 @@ use Rattle.dali_gear.specs.declared.row.Reach.TheVariants.{Everyone, Only}
 use Rattle.dali_gear.specs.Row.{draws_needed, stored_of}
 use Rattle.dali_arbiter.specs.declared.request.Request.{Request}
 use Rattle.dali_arbiter.specs.Bus.{total, collision}
-use Rattle.dali_world.specs.Places.{MayAnswer}
+use Rattle.dali_standing.specs.Places.{MayAnswer}
 use Rattle.dali_world.specs.Site.{Site, world, logged, machines_all, machines, machine_at, is_step_of, share_of, IsSite, opened_site, HasRoom, IsCrowded, Logs, Received, HasActed, IsSpent, IsSendable}
-use Rattle.dali_world.specs.Troubles.{reach_under, nobody_at_all}
-use Rattle.dali_world.specs.declared.trouble.Trouble.{Trouble}
-use Rattle.dali_world.specs.declared.trouble.Trouble.TheVariants as trouble
+use Rattle.dali_standing.specs.Troubles.{reach_under, nobody_at_all}
+use Rattle.dali_standing.specs.declared.trouble.Trouble.{Trouble}
+use Rattle.dali_standing.specs.declared.trouble.Trouble.TheVariants as trouble
 
 -- A LOG GROWS BY ONE EVENT, and all that is read from it follows.
 

@@ -1,7 +1,1 @@
-pub mod Refusals
-pub mod Troubles
-pub mod Places
-pub mod Fitted
-pub mod Standing
-pub mod Settled
 pub mod Site

@@ -11,25 +11,23 @@ use Rattle.dali_arbiter.specs.Bus.{Bus, total, next, collision}
 use Rattle.dali_script.specs.Records.{Records}
 use Rattle.dali_controller.specs.declared.orders.Input.{Input}
 use Rattle.dali_controller.specs.declared.orders.Order.{Order}
-use Rattle.dali_controller.specs.declared.orders.Due.{Due}
-use Rattle.dali_controller.specs.declared.orders.Due.TheVariants as due
-use Rattle.dali_controller.specs.Progress.{Progress, due_after}
+use Rattle.dali_controller.specs.Progress.{Progress}
 use Rattle.dali_events.specs.declared.event.Event.{Event}
 use Rattle.dali_events.specs.declared.event.Event.TheVariants as event
 use Rattle.dali_events.specs.Plan.{SitePlan}
-use Rattle.dali_events.specs.World.{World, Controller, controller_at, start}
+use Rattle.dali_events.specs.World.{World, controller_at, start}
 use Rattle.dali_events.specs.Happens.{happens}
 use Rattle.dali_events.specs.Allowed.{Allowed, IsUp, IsDue, IsDown, IsArc}
 use Rattle.dali_events.specs.Runs.{after, IsRun}
-use Rattle.dali_world.specs.declared.refusal.Refusal.{Refusal}
-use Rattle.dali_world.specs.declared.refusal.Refusal.TheVariants as refusal
-use Rattle.dali_world.specs.declared.trouble.Trouble.{Trouble}
-use Rattle.dali_world.specs.declared.trouble.Trouble.TheVariants as trouble
-use Rattle.dali_world.specs.declared.trouble.Report.{Report}
-use Rattle.dali_world.specs.declared.trouble.Report.TheVariants as report
-use Rattle.dali_world.specs.Troubles.{heard_under, reach_under, nobody_at_all}
-use Rattle.dali_world.specs.Places.{MayAnswer, Agrees}
-use Rattle.dali_world.specs.Standing.{Standing, stand_of, machine_in, machines_at, machines_after}
+use Rattle.dali_standing.specs.declared.refusal.Refusal.{Refusal}
+use Rattle.dali_standing.specs.declared.refusal.Refusal.TheVariants as refusal
+use Rattle.dali_standing.specs.declared.trouble.Trouble.{Trouble}
+use Rattle.dali_standing.specs.declared.trouble.Trouble.TheVariants as trouble
+use Rattle.dali_standing.specs.declared.trouble.Report.{Report}
+use Rattle.dali_standing.specs.declared.trouble.Report.TheVariants as report
+use Rattle.dali_standing.specs.Troubles.{heard_under, reach_under, nobody_at_all}
+use Rattle.dali_standing.specs.Places.{MayAnswer, Agrees}
+use Rattle.dali_standing.specs.Standing.{Standing, stand_of, machine_in, machines_at, machines_after}
 
 -- A SITE, as contracts see it: its plan, how many requests may wait, how many events its log has room for, and the log.
 -- Everything else follows from these.
@@ -214,9 +212,3 @@ abbrev pub IsPumpRefused : Site → Trouble → Refusal → Type 0
 IsPumpRefused s t refusal.DrawsSpent = (r : Request) × (next_request s ≡ Some r) × IsSpent s r t
 IsPumpRefused s t refusal.LogFull = (r : Request) × (next_request s ≡ Some r) × (IsSpent s r t → ⊥) × IsFull s
 IsPumpRefused s t _ = ⊥
-
--- ---------------------------------------------------------------- readers
-
--- what is due for a controller: nothing while it is down
-abbrev pub due_of : Controller → Due
-due_of k = if k.up then due_after k.last else due.Nothing

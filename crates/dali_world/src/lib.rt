@@ -1,19 +1,19 @@
-//! A site: gear and controllers on one bus. So far it has what a site is made of: a controller's place, with its machine
-//! and what it keeps, and the gear, with the numbers that they draw and the addresses that they were given.
+//! A site: gear and controllers on one bus, and a log of all that happens on it.
+//!
+//! `SiteState` has one call for each event. What a site is follows from its plan and its log alone, by the definitions of
+//! `dali_events`: the world after the log. Each accepted call adds one event, which is allowed in that world; a refusal
+//! changes nothing.
+//!
+//! The calls are of four kinds. Controllers: `act`, `arc`, `down`, `up`. The bus: `pump`, `lapse`, `quiet`. Gear: `power`,
+//! `expire`. Readers: `next` and `due` say what a controller may act on, and `idle` whether a request waits for `pump`; `log`,
+//! `gear`, `kept`, `table`, `owner` and `plan` change nothing.
 #![tactic(auto)]
 
-mod fitted;
 mod receipt;
-mod refusal;
-mod seat;
 mod site;
-mod standing;
-mod trouble;
 
+pub use dali_events::{CONTROLLER_LIMIT, DRAW_LIMIT, Event, GEAR_LIMIT, GearSet, Plan, PlanError, laws};
+pub use dali_standing::{Refusal, Report, Trouble};
 pub use receipt::Receipt;
-pub use refusal::Refusal;
 pub use site::SiteState;
-pub use trouble::{Report, Trouble};
 
-#[cfg(test)]
-mod tests;

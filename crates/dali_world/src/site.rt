@@ -4,13 +4,10 @@ ghost use Rattle.dali_events.specs.declared.event.Event.TheVariants as event;
 ghost use Rattle.dali_events.specs.World.{gear_at, controller_at};
 ghost use Rattle.dali_events.specs.Allowed.{IsUp, MaySend, IsArc};
 ghost use Rattle.dali_controller.specs.Progress.{roster_of};
-ghost use Rattle.dali_world.specs.declared.trouble.Trouble.TheVariants as trouble;
-ghost use Rattle.dali_world.specs.declared.refusal.Refusal.TheVariants as refusal;
+ghost use Rattle.dali_standing.specs.declared.trouble.Trouble.TheVariants as trouble;
+ghost use Rattle.dali_standing.specs.declared.refusal.Refusal.TheVariants as refusal;
 
 use crate::receipt::Receipt;
-use crate::refusal::Refusal;
-use crate::standing::{Standing, is_arc_power};
-use crate::trouble::{Report, Trouble};
 use dali_arbiter::Request;
 use dali_controller::{Due, Input};
 use dali_enrol::Table;
@@ -18,6 +15,7 @@ use dali_events::{Event, Plan};
 use dali_frame::Forward;
 use dali_gear::{Gear, GearSet};
 use dali_script::Kept;
+use dali_standing::{Refusal, Report, Standing, Trouble, is_arc_power};
 use std::alloc::Global;
 use std::marker::Model;
 
@@ -47,7 +45,8 @@ impl Model for SiteState {
 }
 
 impl SiteState {
-    ghost use Rattle.dali_world.specs.Site.{Site, world, opened_site, logged, machine_at, share_of, HasActed, IsActRefused, IsArcRefused, IsDownRefused, IsUpRefused, IsGearRefused, IsBarred, IsFull, IsCrowded, HasRoom, Pumps, IsPumpRefused, due_of, next_request, Logs, LogsRequest, IsUpWith, IsSpent, IsSendable, Becomes};
+    ghost use Rattle.dali_standing.specs.Places.{due_of};
+    ghost use Rattle.dali_world.specs.Site.{Site, world, opened_site, logged, machine_at, share_of, HasActed, IsActRefused, IsArcRefused, IsDownRefused, IsUpRefused, IsGearRefused, IsBarred, IsFull, IsCrowded, HasRoom, Pumps, IsPumpRefused, next_request, Logs, LogsRequest, IsUpWith, IsSpent, IsSendable, Becomes};
 
     /// A site of this plan, on which nothing happened yet. All controllers are up, and keep nothing.
     ///

@@ -1,0 +1,8 @@
+mod Ties
+mod Rows
+pub mod Acts
+mod Moves
+mod Placing
+mod Queues
+mod Settling
+mod Done

@@ -1,0 +1,6 @@
+use Rattle.dali_standing.proofs.Done.{offer_done}
+use Rattle.dali_standing.proofs.standing.Standing.offer.Goals as goal
+
+pub invariant_of-self : goal.invariant_of-self
+invariant_of-self c =
+    (offer_done _ _ c.args.c c.args.frame _ c.self.view_is c.self.invariant c.requires.up c.requires.arc (rw c.arc_priority.ensures at c.in-Ok.ensures.put)).settled

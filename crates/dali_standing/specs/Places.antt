@@ -1,0 +1,115 @@
+use Rattle.std.specs.Prelude.{◌≡◌, ℕ, Bool, true, List, [], Option, Some, None, if◌then◌else◌}
+use Rattle.std.specs.Option.{option_map}
+use Rattle.dali_script.specs.declared.block.Block.{Block}
+use Rattle.dali_script.specs.declared.trace.Entry.{Entry}
+use Rattle.dali_script.specs.declared.records.Record.{Record}
+use Rattle.dali_script.specs.Records.{Records, Fits, IsFresh, without_records}
+use Rattle.dali_script.specs.Findings.{later, finding_of}
+use Rattle.dali_controller.specs.declared.orders.Input.{Input}
+use Rattle.dali_controller.specs.declared.orders.Input.TheVariants as input
+use Rattle.dali_controller.specs.declared.orders.Order.{Order}
+use Rattle.dali_controller.specs.declared.orders.Order.TheVariants.{Put, Commit, Done, Halt}
+use Rattle.dali_controller.specs.declared.orders.Due.{Due}
+use Rattle.dali_controller.specs.declared.orders.Due.TheVariants as due
+use Rattle.dali_controller.specs.Progress.{Progress, at_first, due_after, accepts, told}
+use Rattle.dali_controller.specs.Orders.{IsAnswered, after}
+use Rattle.dali_events.specs.World.{Controller, begun}
+use Rattle.dali_events.specs.Allowed.{HasOutstanding}
+use Rattle.dali_events.specs.Happens.{with_outstanding, acted, gone_down, come_up}
+
+-- A CONTROLLER'S PLACE on a site: the controller as the site's world has it; and its machine, while it is up.
+pub record Place : Type 0 where
+  pub controller : Controller
+  pub machine : Option Progress
+
+-- ---------------------------------------------------------------- how the two go together
+
+-- the machine once it has heard what it was told
+abbrev pub informed_by : Progress → Option Input → Progress
+informed_by m None = m
+informed_by m (Some i) = told m i
+
+-- what is told is what the machine waits for
+abbrev pub IsTold : Option Order → Option Input → Type 0
+IsTold last None = Unit {0}
+IsTold last (Some i) = accepts (due_after last) i ≡ true
+
+-- A record is outstanding from its Commit on, and may be kept then; none is while the machine waits for something else,
+-- but one may have been left over where the machine has ended.
+abbrev pub IsOutstanding : Records → Option Order → Option Record → Type 0
+IsOutstanding k (Some (Commit x)) outstanding = (outstanding ≡ Some x) × Fits k.block x × IsFresh k x
+IsOutstanding k (Some (Done e)) outstanding = Unit {0}
+IsOutstanding k (Some (Halt f)) outstanding = Unit {0}
+IsOutstanding k (Some (Put p f)) outstanding = outstanding ≡ None
+IsOutstanding k None outstanding = outstanding ≡ None
+
+-- The finding of the running transaction, if it has one, is the last finding of the controller. The controller finds when
+-- a frame is sent, the machine when it acts on what was heard; where the bus lapses between the two it never does.
+abbrev pub IsFound : Controller → Progress → Type 0
+IsFound k m = later k.finding (finding_of (informed_by m k.told).trace) ≡ k.finding
+
+pub record IsRunning (k : Controller) (m : Progress) : Type 0 where
+  pub kept : m.kept ≡ k.records
+  pub last : m.last ≡ k.last
+  pub told : IsTold k.last k.told
+  pub outstanding : IsOutstanding k.records k.last k.outstanding
+  pub found : IsFound k m
+
+abbrev pub IsTied : Controller → Option Progress → Type 0
+IsTied k None = (k.told ≡ None) × (k.finding ≡ None) × (k.last ≡ None)
+IsTied k (Some m) = IsRunning k m
+
+-- ---------------------------------------------------------------- what happens to a place
+
+abbrev pub begun_at : ℕ → Block → Place
+begun_at id b = record { controller = begun b; machine = Some (at_first id (without_records b)) }
+
+abbrev pub acted_at : Place → Input → Order → Place
+acted_at p i o = record { controller = acted p.controller i o; machine = option_map (λ m. after m i o) p.machine }
+
+abbrev pub down_at : Place → Place
+down_at p = record { controller = gone_down p.controller; machine = None }
+
+-- the records that it comes up with, with the outstanding one or without it
+abbrev pub up_at : ℕ → Bool → Place → Place
+up_at id kept p = record { controller = come_up kept p.controller; machine = Some (at_first id (come_up kept p.controller).records) }
+
+abbrev pub told_at : (Controller → Controller) → Place → Place
+told_at change p = record { controller = change p.controller; machine = p.machine }
+
+-- an order that the machine, if there is one, may give
+abbrev pub MayAnswer : Option Progress → Input → Order → Type 0
+MayAnswer None i o = ⊥
+MayAnswer (Some m) i o = IsAnswered m i o
+
+-- the frames of the machine's running transaction
+abbrev pub trace_of : Option Progress → List Entry
+trace_of None = []
+trace_of (Some m) = m.trace
+
+-- what is kept after an input, and what stays outstanding
+abbrev pub kept_told : Records → Option Record → Input → Records
+kept_told k outstanding input.Committed = with_outstanding k outstanding
+kept_told k outstanding _ = k
+
+abbrev pub left_told : Option Record → Input → Option Record
+left_told outstanding input.Committed = None
+left_told outstanding _ = outstanding
+
+-- a record that is outstanding may be kept
+abbrev pub MayKeep : Records → Option Record → Input → Type 0
+MayKeep k (Some x) input.Committed = Fits k.block x × IsFresh k x
+MayKeep k _ _ = Unit {0}
+
+-- STORES THAT AGREE with what a site remembers: the kept records, or these with the outstanding one.
+abbrev pub Agrees : Controller → Records → Bool → Type 0
+Agrees k copy kept = HasOutstanding k kept × (copy ≡ (come_up kept k).records)
+
+-- the machine is there, and waits for this input
+abbrev pub Waits : Option Progress → Input → Type 0
+Waits None i = ⊥
+Waits (Some m) i = accepts (due_after m.last) i ≡ true
+
+-- what is due for a controller: nothing while it is down
+abbrev pub due_of : Controller → Due
+due_of k = if k.up then due_after k.last else due.Nothing

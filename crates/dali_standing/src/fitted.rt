@@ -1,0 +1,190 @@
+ghost use Rattle.std.specs.Prelude.{◌≡◌, ◌↔◌, ◌+◌, ◌<◌, ◌≤◌, ◌++◌, ℕ, List, [], length, map, replicate, drop, IfOk, IfErr, IsTrue, vec_len, slice_index_or};
+ghost use Rattle.std.specs.Vec.{vec_capacity};
+ghost use Rattle.dali_special.specs.Command.{command_of};
+ghost use Rattle.dali_gear.specs.ControlGear.{fresh, expired, quieted};
+ghost use Rattle.dali_gear.specs.Row.{draws_needed, answers_of, heard_of, stored, stored_of};
+ghost use Rattle.dali_events.specs.Plan.{SitePlan};
+ghost use Rattle.dali_events.specs.World.{changed_gear};
+ghost use Rattle.dali_events.specs.Happens.{powered};
+ghost use Rattle.dali_standing.specs.Fitted.{gift_of};
+ghost use Rattle.dali_standing.specs.declared.refusal.Refusal.TheVariants as refusal;
+
+use crate::refusal::Refusal;
+use dali_events::Plan;
+use dali_frame::{Answer, Forward, Random24, Short};
+use dali_gear::{Gear, InitialisationState, Reach, row};
+use dali_special::Command;
+use std::alloc::Global;
+use std::marker::Model;
+
+/// The gear of a site, with the numbers that they draw and the short addresses that they were given.
+#[derive(Drop)]
+pub(crate) struct FittedGear {
+    gear: Vec<Gear>,
+    draws: Vec<Random24>,
+    used: usize,
+    gifts: Vec<(u32, Short)>,
+}
+
+impl Model for FittedGear {
+    ghost use Rattle.std.specs.Prelude.{◌≤◌, ◌<◌, drop, length, All};
+    ghost use Rattle.std.specs.Vec.{vec_capacity};
+    ghost use Rattle.dali_gear.specs.ControlGear.{MASK};
+    ghost use Rattle.dali_standing.specs.Fitted.{Fitted};
+
+    ghost Value = { Fitted };
+
+    ghost view = { λ f. record { gear = f.gear.items; left = drop f.used f.draws.items; gifts = f.gifts.items } };
+
+    ghost invariant = { λ f. (length f.gear.items ≤ 128) × (f.used ≤ length f.draws.items) × (length f.draws.items ≤ 1024)
+        × All (λ r. r < MASK) f.draws.items × (length f.gear.items ≤ vec_capacity f.gifts) };
+}
+
+impl FittedGear {
+    ghost use Rattle.dali_standing.specs.Fitted.{Fitted, fitted_at, taken_at, changed_at};
+
+    /// The gear of a plan, from the factory. It takes all the memory that it will need.
+    pub(crate) fn new(alloc: Global, plan: &Plan) -> Result<FittedGear, Refusal>
+        ensures ok { IfOk result (λ f. f ≡ fitted_at plan.now) }
+        ensures err { IfErr result (λ e. e ≡ refusal.NoMemory) }
+    {
+        let gear = from_factory(alloc, plan.gear())?;
+        let Ok(draws) = Vec::from_slice(alloc, plan.draws()) else {
+            return Err(Refusal::NoMemory);
+        };
+        let Ok(gifts) = Vec::with_capacity(alloc, gear.len()) else {
+            return Err(Refusal::NoMemory);
+        };
+        Ok(FittedGear {
+            gear,
+            draws,
+            used: 0,
+            gifts,
+        })
+    }
+
+    /// Whether the gear that the frame reaches would draw more numbers than are left.
+    pub(crate) fn is_spent(&self, frame: Forward, reach: Reach) -> bool
+        ensures { IsTrue result ↔ (length self.now.left < draws_needed reach (command_of frame) 0 self.now.gear) }
+    {
+        self.draws.len() - self.used < row::draws_needed(&self.gear, frame, reach)
+    }
+
+    /// The gear that the frame reaches take it. Answers what is heard where nothing disturbs the backward frames.
+    pub(crate) fn take(&mut self, frame: Forward, reach: Reach) -> Answer
+        requires draws { draws_needed reach (command_of frame) 0 self.old.gear ≤ length self.old.left }
+        requires room { length (self.old.gifts ++ stored_of reach (command_of frame) 0 self.old.gear) ≤ length self.old.gear }
+        ensures state { self.new ≡ taken_at reach (command_of frame) self.old }
+        ensures answer { result ≡ heard_of (answers_of reach (command_of frame) 0 self.old.gear) }
+    {
+        note_gifts(&mut self.gifts, &self.gear, frame, reach);
+        let heard = row::take(&mut self.gear, frame, reach, &self.draws[self.used..]);
+        self.used += heard.drawn;
+        heard.answer
+    }
+
+    /// A gear's power comes or goes.
+    pub(crate) fn power(&mut self, number: u32, on: bool)
+        requires { number < length self.old.gear }
+        ensures { self.new ≡ changed_at (changed_gear self.old.gear number (powered on)) self.old }
+    {
+        let gear = &mut self.gear[number as usize];
+        if on {
+            gear.power_on();
+        } else {
+            gear.power_off();
+        }
+    }
+
+    /// The 15 minutes of a gear's initialisation are over.
+    pub(crate) fn expire(&mut self, number: u32)
+        requires { number < length self.old.gear }
+        ensures { self.new ≡ changed_at (changed_gear self.old.gear number expired) self.old }
+    {
+        let gear = &mut self.gear[number as usize];
+        gear.expire();
+    }
+
+    /// So much time passes without a frame that half pairs are forgotten.
+    pub(crate) fn quiet(&mut self)
+        ensures { self.new ≡ changed_at (map quieted self.old.gear) self.old }
+    {
+        quiet(&mut self.gear);
+    }
+
+    /// All gear, in order of their number.
+    pub(crate) fn gear(&self) -> &[Gear]
+        ensures { result.now ≡ self.now.gear }
+    {
+        &self.gear
+    }
+
+    /// Which gear stored which short address, in the order of the frames.
+    pub(crate) fn gifts(&self) -> &[(u32, Short)]
+        ensures { result.now ≡ self.now.gifts }
+    {
+        &self.gifts
+    }
+}
+
+/// So many gear from the factory.
+fn from_factory(alloc: Global, count: u32) -> Result<Vec<Gear>, Refusal>
+    ensures ok { IfOk result (λ gear. gear.items ≡ replicate count fresh) }
+    ensures len { IfOk result (λ gear. length gear.items ≡ count) }
+    ensures err { IfErr result (λ e. e ≡ refusal.NoMemory) }
+{
+    let Ok(mut gear) = Vec::with_capacity(alloc, count as usize) else {
+        return Err(Refusal::NoMemory);
+    };
+    for _i in 0..count {
+        gear.push_reserved(Gear::new());
+    }
+    Ok(gear)
+}
+
+fn quiet(gear: &mut [Gear])
+    ensures { gear.new ≡ map quieted gear.old }
+{
+    for one in gear.iter_mut() {
+        one.quiet();
+    }
+}
+
+/// The short address that a gear with power stores at this command.
+fn stored(gear: &Gear, command: &Command) -> Option<Short>
+    ensures { result ≡ stored command.now gear.now }
+{
+    match *command {
+        Command::Program(Some(short))
+            if gear.state() != InitialisationState::Disabled
+                && gear.random() == gear.search().value() => { Some(short) }
+        _ => None,
+    }
+}
+
+/// The short address that gear `number` stores at this command, if it takes it.
+fn gift(gear: &Gear, number: usize, command: &Command, reach: Reach) -> Option<Short>
+    requires { number < 128 }
+    ensures { result ≡ gift_of reach command.now number gear.now }
+{
+    if gear.is_powered() && reach.includes(number) {
+        stored(gear, command)
+    } else {
+        None
+    }
+}
+
+/// Notes which gear will store which short address at this frame.
+fn note_gifts(gifts: &mut Vec<(u32, Short)>, gear: &[Gear], frame: Forward, reach: Reach)
+    requires few { length gear.now ≤ 128 }
+    requires room { length (gifts.old.items ++ stored_of reach (command_of frame) 0 gear.now) ≤ vec_capacity gifts.old }
+    ensures gifts { gifts.new.items ≡ gifts.old.items ++ stored_of reach (command_of frame) 0 gear.now }
+    ensures capacity { vec_capacity gifts.new ≡ vec_capacity gifts.old }
+{
+    let command = Command::read(frame);
+    for (number, one) in gear.iter().enumerate() {
+        if let Some(short) = gift(one, number, &command, reach) {
+            gifts.push_reserved((number as u32, short));
+        }
+    }
+}

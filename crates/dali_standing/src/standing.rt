@@ -1,0 +1,448 @@
+ghost use Rattle.std.specs.Prelude.{◌≡◌, ◌↔◌, ◌++◌, ◌∷◌, [], ℕ, ◌<◌, ◌≤◌, List, length, map, true, false, Some, None, IfSome, IfOk, IfErr, OnOk, OnErr, IsTrue, Bool, MatchOption, if◌then◌else◌};
+ghost use Rattle.dali_special.specs.Command.{command_of};
+ghost use Rattle.dali_gear.specs.declared.row.Reach.TheVariants.{Everyone, Only};
+ghost use Rattle.dali_gear.specs.ControlGear.{expired, quieted};
+ghost use Rattle.dali_gear.specs.Row.{draws_needed, answers_of, heard_of, stored_of};
+ghost use Rattle.dali_arbiter.specs.Bus.{next, owns, total, lapsed, request_of, offer_refusal, collision};
+ghost use Rattle.dali_controller.specs.Progress.{frame_put, roster_of};
+ghost use Rattle.dali_events.specs.declared.event.Event.TheVariants as event;
+ghost use Rattle.dali_events.specs.World.{start};
+ghost use Rattle.dali_events.specs.Happens.{entry, is_arc, keeps_bus, gives_up, put_after, powered, told_sent, told_destroyed};
+ghost use Rattle.dali_events.specs.Allowed.{IsArc, IsDue};
+ghost use Rattle.dali_standing.specs.Fitted.{changed_at};
+ghost use Rattle.dali_standing.specs.Standing.{seats_from};
+ghost use Rattle.dali_standing.specs.Places.{due_of};
+ghost use Rattle.dali_standing.specs.Places.{MayAnswer, Agrees, trace_of, told_at};
+ghost use Rattle.dali_standing.specs.Troubles.{heard_under};
+ghost use Rattle.dali_standing.specs.Settled.{IsAccepted, IsHearing};
+ghost use Rattle.dali_standing.specs.Troubles.{nobody_at_all};
+ghost use Rattle.dali_standing.specs.declared.refusal.Refusal.TheVariants as refusal;
+
+use crate::fitted::FittedGear;
+use crate::refusal::Refusal;
+use crate::seat::Seat;
+use crate::trouble::Trouble;
+use dali_arbiter::{Arbiter, Request};
+use dali_controller::{Due, Input, Order};
+use dali_enrol::Table;
+use dali_events::Plan;
+use dali_frame::{Answer, Forward, Priority, Short};
+use dali_gear::{Gear, GearSet, Reach};
+use dali_script::{Block, Kept, Trace};
+use dali_special::Command;
+use std::alloc::Global;
+use std::marker::Model;
+
+/// What stands on a site at one moment: its gear, the requests that wait for its bus, the frames of the running
+/// transaction, and a place for each controller.
+#[derive(Drop)]
+pub struct Standing {
+    fitted: FittedGear,
+    arbiter: Arbiter,
+    trace: Trace,
+    seats: Vec<Seat>,
+}
+
+impl Model for Standing {
+    ghost use Rattle.dali_standing.specs.Standing.{Standing, flat, place_in};
+    ghost use Rattle.dali_standing.specs.Settled.{IsSettled};
+
+    ghost Value = { Standing };
+
+    ghost view = { λ s. flat (record { fitted = s.fitted; bus = s.arbiter; trace = s.trace; seats = s.seats.items }) };
+
+    ghost invariant = { λ s. IsSettled s.arbiter s.trace (place_in s.seats.items) };
+}
+
+impl Standing {
+    ghost use Rattle.dali_standing.specs.Standing.{Standing, stand_of, machines_at, controller_on, machine_on, Moves, MayBeSent};
+
+    /// What stands on a site of this plan at its start. It takes all the memory that it will need until a controller comes up
+    /// anew. `queue` requests may wait.
+    pub fn new(alloc: Global, plan: &Plan, queue: usize) -> Result<Standing, Refusal>
+        requires least { 1 ≤ queue }
+        requires most { queue ≤ 1024 }
+        ensures ok { IfOk result (λ s. s ≡ stand_of (start plan.now queue) (machines_at 0 plan.now.blocks)) }
+        ensures err { IfErr result (λ e. e ≡ refusal.NoMemory) }
+    {
+        let fitted = FittedGear::new(alloc, plan)?;
+        let Ok(arbiter) = Arbiter::new(alloc, queue) else {
+            return Err(Refusal::NoMemory);
+        };
+        let seats = seats(alloc, plan.blocks())?;
+        Ok(Standing {
+            fitted,
+            arbiter,
+            trace: Trace::new(),
+            seats,
+        })
+    }
+
+    /// How many controllers the site has.
+    pub fn controllers(&self) -> usize
+        ensures { result ≡ length self.now.controllers }
+    {
+        self.seats.len()
+    }
+
+    /// Whether a controller is up.
+    pub fn is_up(&self, c: u8) -> bool
+        requires { c < length self.now.controllers }
+        ensures { result ≡ (controller_on self.now c).up }
+    {
+        self.seats[c as usize].is_up()
+    }
+
+    /// What the bus has told a controller, and it has not acted on.
+    pub fn told(&self, c: u8) -> Option<Input>
+        requires { c < length self.now.controllers }
+        ensures { result ≡ (controller_on self.now c).told }
+    {
+        self.seats[c as usize].next()
+    }
+
+    /// What is due for a controller: nothing while it is down.
+    pub fn due(&self, c: u8) -> Due
+        requires { c < length self.now.controllers }
+        ensures { result ≡ due_of (controller_on self.now c) }
+    {
+        self.seats[c as usize].due()
+    }
+
+    /// The records that a controller keeps.
+    pub fn kept(&self, c: u8) -> &Kept
+        requires { c < length self.now.controllers }
+        ensures { result.now ≡ (controller_on self.now c).records }
+    {
+        self.seats[c as usize].kept()
+    }
+
+    /// The gear that a controller has enrolled, while it is up.
+    pub fn table(&self, c: u8) -> Option<&Table>
+        requires { c < length self.now.controllers }
+        ensures { MatchOption result ((controller_on self.now c).up ≡ false)
+            (λ table. ((controller_on self.now c).up ≡ true) × (table.now ≡ roster_of (controller_on self.now c).records)) }
+    {
+        self.seats[c as usize].table()
+    }
+
+    /// The gear, in order of their number.
+    pub fn gear(&self) -> &[Gear]
+        ensures { result.now ≡ self.now.gear }
+    {
+        self.fitted.gear()
+    }
+
+    /// Who owns the bus.
+    pub fn owner(&self) -> Option<u8>
+        ensures { result ≡ self.now.bus.owner }
+    {
+        self.arbiter.owner()
+    }
+
+    /// Whether no request more may wait.
+    pub fn is_crowded(&self) -> bool
+        ensures crowded { result ≡ true → total self.now.bus ≡ self.now.bus.capacity }
+        ensures room { result ≡ false → total self.now.bus < self.now.bus.capacity }
+    {
+        self.arbiter.len() == self.arbiter.capacity()
+    }
+
+    /// Whether the controller may act on this input.
+    pub fn may_act(&self, c: u8, input: Input) -> bool
+        requires { c < length self.now.controllers }
+        ensures { IsTrue result ↔ IsDue (controller_on self.now c) input }
+    {
+        self.seats[c as usize].may_act(input)
+    }
+
+    /// A controller acts on an input. What it orders on the bus waits there from now on.
+    pub fn act(&mut self, c: u8, input: Input) -> Order
+        requires up { (controller_on self.old c).up ≡ true }
+        requires due { IsDue (controller_on self.old c) input }
+        requires room { total self.old.bus < self.old.bus.capacity }
+        ensures answer { MayAnswer (machine_on self.old c) input result }
+        ensures moves { Moves self.old (event.Acted c input result) self.new }
+    {
+        let seat = &mut self.seats[c as usize];
+        let order = seat.act(input);
+        give_up(&mut self.arbiter, &mut self.trace, c, &order);
+        request(&mut self.arbiter, c, &order);
+        order
+    }
+
+    /// A controller asks to send an arc power frame.
+    pub fn offer(&mut self, c: u8, frame: Forward)
+        requires up { (controller_on self.old c).up ≡ true }
+        requires arc { IsArc frame }
+        requires room { total self.old.bus < self.old.bus.capacity }
+        ensures { Moves self.old (event.Offered c frame) self.new }
+    {
+        match self.arbiter.offer(c, arc_priority(), frame) {
+            Ok(()) => {}
+            Err(_) => unreachable!(),
+        }
+    }
+
+    /// The request that is next, if one is.
+    pub fn next_request(&self) -> Option<Request>
+        ensures next { result ≡ next self.now.bus }
+        ensures may { IfSome result (MayBeSent self.now) }
+    {
+        self.arbiter.pick()
+    }
+
+    /// Whether the gear that a frame reaches would draw more numbers than are left.
+    pub fn is_spent(&self, frame: Forward, reach: Reach) -> bool
+        ensures { IsTrue result ↔ (length self.now.left < draws_needed reach (command_of frame) 0 self.now.gear) }
+    {
+        self.fitted.is_spent(frame, reach)
+    }
+
+    /// The request that is next is sent. Answers what was heard.
+    pub fn send(&mut self, request: Request, trouble: Trouble) -> Answer
+        requires next { next self.old.bus ≡ Some request }
+        requires draws { draws_needed Everyone (command_of request.frame) 0 self.old.gear ≤ length self.old.left }
+        requires room { length (self.old.gifts ++ stored_of Everyone (command_of request.frame) 0 self.old.gear) ≤ length self.old.gear }
+        ensures heard { result ≡ heard_under trouble (heard_of (answers_of Everyone (command_of request.frame) 0 self.old.gear)) }
+        ensures moves { Moves self.old (event.Sent request.sender request.frame result) self.new }
+    {
+        let plain = self.fitted.take(request.frame, Reach::Everyone);
+        let heard = trouble.heard(plain);
+        let owned = owns(&self.arbiter, request.sender);
+        keep_if(&mut self.trace, owned);
+        self.trace.push(request.frame, heard);
+        let seat = &mut self.seats[request.sender as usize];
+        hear(seat, request.frame, heard, &self.trace);
+        let more = !self.trace.complete(seat.kept());
+        keep_if(&mut self.trace, more);
+        self.arbiter.sent(more);
+        heard
+    }
+
+    /// The request that is next is destroyed on the bus. The powered gear of the set take its frame all the same.
+    pub fn destroy(&mut self, request: Request, set: GearSet)
+        requires next { next self.old.bus ≡ Some request }
+        requires draws { draws_needed (Only set) (command_of request.frame) 0 self.old.gear ≤ length self.old.left }
+        requires room { length (self.old.gifts ++ stored_of (Only set) (command_of request.frame) 0 self.old.gear) ≤ length self.old.gear }
+        ensures { Moves self.old (event.Destroyed request.sender request.frame set) self.new }
+    {
+        self.fitted.take(request.frame, Reach::Only(set));
+        self.arbiter.destroyed();
+        self.trace = Trace::new();
+        let seat = &mut self.seats[request.sender as usize];
+        lose(seat, request.frame);
+    }
+
+    /// The request that is next collides with the one behind it in its list, where another controller has put that there;
+    /// else it is destroyed, and no gear takes its frame. Answers the other request.
+    pub fn collide(&mut self, request: Request) -> Option<Request>
+        requires next { next self.old.bus ≡ Some request }
+        requires draws { draws_needed (Only nobody_at_all) (command_of request.frame) 0 self.old.gear ≤ length self.old.left }
+        requires room { length (self.old.gifts ++ stored_of (Only nobody_at_all) (command_of request.frame) 0 self.old.gear) ≤ length self.old.gear }
+        ensures other { result ≡ collision self.old.bus.lists }
+        ensures moves { MatchOption result (Moves self.old (event.Destroyed request.sender request.frame nobody_at_all) self.new)
+            (λ q. Moves self.old (event.Collided request.sender request.frame q.sender q.frame) self.new) }
+    {
+        let other = self.arbiter.collided();
+        self.trace = Trace::new();
+        let seat = &mut self.seats[request.sender as usize];
+        lose(seat, request.frame);
+        match &other {
+            Some(second) => {
+                let seat = &mut self.seats[second.sender as usize];
+                lose(seat, second.frame);
+            }
+            None => {
+                self.fitted.take(request.frame, Reach::Only(GearSet(0)));
+            }
+        }
+        other
+    }
+
+    /// The owner, if there is one, loses the bus. Answers who it was.
+    pub fn lapse(&mut self) -> Option<u8>
+        ensures owner { result ≡ self.old.bus.owner }
+        ensures moves { Moves self.old event.Lapsed self.new }
+    {
+        let owner = self.arbiter.lapse();
+        self.trace = Trace::new();
+        if let Some(c) = owner {
+            let seat = &mut self.seats[c as usize];
+            seat.lapse();
+        }
+        owner
+    }
+
+    /// The bus is quiet for so long that half pairs are forgotten.
+    pub fn quiet(&mut self)
+        ensures { Moves self.old event.Quiet self.new }
+    {
+        self.fitted.quiet();
+    }
+
+    /// A gear's power comes or goes.
+    pub fn power(&mut self, number: u32, on: bool)
+        requires { number < length self.old.gear }
+        ensures { Moves self.old (event.Power number on) self.new }
+    {
+        self.fitted.power(number, on);
+    }
+
+    /// The 15 minutes of a gear's initialisation are over.
+    pub fn expire(&mut self, number: u32)
+        requires { number < length self.old.gear }
+        ensures { Moves self.old (event.Expired number) self.new }
+    {
+        self.fitted.expire(number);
+    }
+
+    /// A controller goes down. Its requests leave, and its ownership ends.
+    pub fn down(&mut self, c: u8)
+        requires { (controller_on self.old c).up ≡ true }
+        ensures { Moves self.old (event.Down c) self.new }
+    {
+        let owned = owns(&self.arbiter, c);
+        keep_if(&mut self.trace, !owned);
+        self.arbiter.silence(c);
+        let seat = &mut self.seats[c as usize];
+        seat.down();
+    }
+
+    /// Whether a copy of records is what the controller keeps, without the outstanding record (false) or with it (true).
+    pub fn agreement(&self, c: u8, copy: &Kept) -> Option<bool>
+        requires { c < length self.now.controllers }
+        ensures { MatchOption result
+            ((kept : Bool) → Agrees (controller_on self.now c) copy.now kept → ⊥)
+            (λ kept. Agrees (controller_on self.now c) copy.now kept) }
+    {
+        self.seats[c as usize].agreement(copy)
+    }
+
+    /// A controller comes up with a copy of what it keeps; `kept` is whether the outstanding record is among it.
+    pub fn up(
+        &mut self,
+        alloc: Global,
+        c: u8,
+        copy: &Kept,
+        kept: bool,
+    ) -> Result<(), Refusal>
+        requires known { c < length self.old.controllers }
+        requires down { (controller_on self.old c).up ≡ false }
+        requires agrees { Agrees (controller_on self.old c) copy.now kept }
+        ensures ok { OnOk result (Moves self.old (event.Up c kept) self.new) }
+        ensures err { OnErr result (self.new ≡ self.old) }
+        ensures memory { IfErr result (λ e. e ≡ refusal.NoMemory) }
+    {
+        let seat = &mut self.seats[c as usize];
+        seat.up(alloc, c, copy, kept)
+    }
+}
+
+/// The places of controllers with these blocks, before their start.
+fn seats(alloc: Global, blocks: &[Block]) -> Result<Vec<Seat>, Refusal>
+    requires { length blocks.now ≤ 4 }
+    ensures ok { IfOk result (λ seats. seats.items ≡ seats_from 0 blocks.now) }
+    ensures err { IfErr result (λ e. e ≡ refusal.NoMemory) }
+{
+    let Ok(mut seats) = Vec::with_capacity(alloc, blocks.len()) else {
+        return Err(Refusal::NoMemory);
+    };
+    for (c, block) in blocks.iter().enumerate() {
+        let seat = Seat::new(alloc, c as u8, *block)?;
+        seats.push_reserved(seat);
+    }
+    Ok(seats)
+}
+
+/// Whether a controller owns the bus.
+fn owns(arbiter: &Arbiter, c: u8) -> bool
+    ensures { result ≡ owns arbiter.now.owner c }
+{
+    arbiter.owner() == Some(c)
+}
+
+/// Keeps the frames of a transaction, or forgets them.
+fn keep_if(trace: &mut Trace, goes_on: bool)
+    ensures { trace.new ≡ (if goes_on then trace.old else []) }
+{
+    if !goes_on {
+        *trace = Trace::new();
+    }
+}
+
+/// Whether a controller that owns the bus keeps it with this order.
+fn keeps_bus(order: &Order) -> bool
+    ensures { result ≡ keeps_bus order.now }
+{
+    match order {
+        Order::Put(priority, _) => priority.number() == 1,
+        _ => false,
+    }
+}
+
+/// The owner gives up the bus with any order but a later frame of its transaction.
+fn give_up(arbiter: &mut Arbiter, trace: &mut Trace, c: u8, order: &Order)
+    ensures bus { arbiter.new ≡ (if gives_up arbiter.old c order.now then lapsed arbiter.old else arbiter.old) }
+    ensures trace { trace.new ≡ (if gives_up arbiter.old c order.now then [] else trace.old) }
+{
+    if owns(arbiter, c) && !keeps_bus(order) {
+        arbiter.lapse();
+        *trace = Trace::new();
+    }
+}
+
+/// A frame that is ordered waits for the bus.
+fn request(arbiter: &mut Arbiter, c: u8, order: &Order)
+    requires { IsAccepted arbiter.old c order.now }
+    ensures { arbiter.new ≡ put_after arbiter.old c order.now }
+{
+    if let Order::Put(priority, frame) = order {
+        match arbiter.offer(c, *priority, *frame) {
+            Ok(()) => {}
+            Err(_) => unreachable!(),
+        }
+    }
+}
+
+fn arc_priority() -> Priority
+    ensures { result ≡ 2 }
+{
+    Priority::of(2).unwrap()
+}
+
+/// Whether a frame is direct arc power, of which a controller is told nothing.
+fn is_arc(frame: Forward) -> bool
+    ensures { result ≡ is_arc (command_of frame) }
+{
+    matches!(Command::read(frame), Command::Arc(_))
+}
+
+/// Whether a frame is direct arc power.
+pub fn is_arc_power(frame: Forward) -> bool
+    ensures { IsTrue result ↔ IsArc frame }
+{
+    is_arc(frame)
+}
+
+/// The sender of a frame is told what was heard. `running` are the frames of its transaction, with this one.
+#[tactic(auto, using(crate::proofs::Settling::arc_tells))]
+fn hear(seat: &mut Seat, frame: Forward, heard: Answer, running: &Trace)
+    requires { IsHearing seat.old frame heard running.now }
+    ensures { seat.new ≡ told_at (told_sent (trace_of seat.old.machine) frame heard) seat.old }
+{
+    if !is_arc(frame) {
+        seat.hear(frame, heard, running);
+    }
+}
+
+/// The sender of a frame is told that it was destroyed.
+#[tactic(auto, using(crate::proofs::Settling::arc_loses))]
+fn lose(seat: &mut Seat, frame: Forward)
+    requires { is_arc (command_of frame) ≡ false → frame_put seat.old.controller.last ≡ Some frame }
+    ensures { seat.new ≡ told_at (told_destroyed frame) seat.old }
+{
+    if !is_arc(frame) {
+        seat.lose(frame);
+    }
+}

@@ -1,0 +1,58 @@
+ghost use Rattle.std.specs.Prelude.{◌≡◌};
+
+use dali_frame::{Answer, Forward};
+use dali_gear::{GearSet, Reach};
+
+/// What disturbs the next frame on the bus.
+#[derive(Clone, Copy, Debug, PartialEq, Eq, Hash)]
+pub enum Trouble {
+    /// Nothing.
+    None,
+    /// No backward frame is heard.
+    AnswerLost,
+    /// The backward frames are heard as damaged.
+    Noise,
+    /// The frame is destroyed; these gear take it all the same.
+    Destroyed(GearSet),
+    /// The frame collides with one that another controller sends at the same priority; no gear takes either.
+    Collision,
+}
+
+/// What came of the next frame.
+#[derive(Clone, Copy, Debug, PartialEq, Eq, Hash)]
+pub enum Report {
+    /// No request was next.
+    Idle,
+    /// The controller's frame was sent, and this was heard.
+    Sent(u8, Forward, Answer),
+    /// The controller's frame was destroyed.
+    Destroyed(u8, Forward),
+    /// The frames of two controllers collided.
+    Collided(u8, Forward, u8, Forward),
+}
+
+impl Trouble {
+    ghost use Rattle.dali_standing.specs.Troubles.{heard_under, reach_under};
+
+    /// Which gear a frame reaches.
+    pub fn reach(self) -> Reach
+        ensures { result ≡ reach_under self }
+    {
+        match self {
+            Trouble::None | Trouble::AnswerLost | Trouble::Noise => Reach::Everyone,
+            Trouble::Destroyed(set) => Reach::Only(set),
+            Trouble::Collision => Reach::Only(GearSet(0)),
+        }
+    }
+
+    /// What is heard after a frame that is sent, where `plain` would be heard without trouble.
+    pub fn heard(self, plain: Answer) -> Answer
+        ensures { result ≡ heard_under self plain }
+    {
+        match self {
+            Trouble::AnswerLost => Answer::Silence,
+            Trouble::Noise => Answer::Damaged,
+            Trouble::None | Trouble::Destroyed(_) | Trouble::Collision => plain,
+        }
+    }
+}

@@ -1,5 +1,0 @@
-use Rattle.dali_world.proofs.Done.{first_may_be_sent}
-use Rattle.dali_world.proofs.standing.Standing.next_request.Goals as goal
-
-pub returns-clause-may : goal.returns-clause-may
-returns-clause-may c = first_may_be_sent _ _ c.pick.result c.self.view_is c.self.invariant (rw (← c.self.view_is) c.pick.ensures.next)

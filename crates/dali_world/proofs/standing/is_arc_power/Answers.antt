@@ -1,5 +1,0 @@
-use Rattle.dali_world.proofs.Done.{arc_power}
-use Rattle.dali_world.proofs.standing.is_arc_power.Goals as goal
-
-pub returns : goal.returns
-returns c = rw c.is_arc.ensures (arc_power c.args.frame)
