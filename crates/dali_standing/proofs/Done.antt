@@ -24,9 +24,9 @@ use Rattle.dali_events.specs.World.{World, Controller}
 use Rattle.dali_events.specs.Happens.{happens, entry, gives_up, put_after, is_arc, told_sent, told_destroyed, told_lapsed, sent_by}
 use Rattle.dali_events.specs.Allowed.{Allowed, IsUp, Hears, MaySend, IsDue, IsArc, HasOutstanding}
 use Rattle.dali_standing.specs.Fitted.{Fitted, taken_at}
-use Rattle.dali_standing.specs.Places.{Place, IsTied, MayAnswer, acted_at, told_at, down_at, up_at, trace_of}
+use Rattle.dali_standing.specs.Places.{Place, IsRunning, IsTied, MayAnswer, acted_at, told_at, down_at, up_at, trace_of}
 use Rattle.dali_standing.specs.Standing.{Seated, place_in, place_at, world_of, with_place, running_in, goes_on_in, owner_lapsed, has_acted, has_offered, has_sent, has_lost, has_collided, has_lapsed, has_gone_down, has_come_up, empty_place, Standing, flat, stand_of, controller_on, machine_on, machines_after, Moves, MayBeSent, IsMove}
-use Rattle.dali_standing.specs.Settled.{IsAccepted, IsHearing, Settled}
+use Rattle.dali_standing.specs.Settled.{IsAccepted, IsHearing, IsPlacedBy, IsPlacedOn, Settled}
 use Rattle.dali_standing.specs.declared.refusal.Refusal.{Refusal}
 use Rattle.dali_standing.specs.declared.trouble.Trouble.{Trouble}
 use Rattle.dali_standing.specs.declared.trouble.Trouble.TheVariants as trouble
@@ -363,3 +363,16 @@ first_may_be_sent s was (Some r) view settled is = may_be_sent s was r view sett
 -- direct arc power by its command
 pub arc_power : (f : Forward) → (is_arc (command_of f) ≡ true) ↔ IsArc f
 arc_power f = (λ e. let g = is_arc_of (command_of f) e in g.1 ∙ ap Arc (arc_of f g.0 g.1).0, λ arc. rw arc refl)
+
+-- ---------------------------------------------------------------- a controller that acted, before it did
+
+pub was_placed : (s : Seated) (was : Standing) (c : ℕ) (at : Place) → flat s ≡ was → Settled s → (controller_on was c).up ≡ true → at ≡ get_or s.seats c at → IsTied at.controller at.machine → IsPlacedOn was c
+was_placed s was c at view settled up read tied m machine =
+    let here : (place_at s c).controller.up ≡ true = subst (λ (k : Controller). k.up ≡ true) (on_place s was c view) up in
+    let is : at ≡ place_at s c = place_read s.seats c at read (up_there s.seats c here) in
+    let has : (place_at s c).machine ≡ Some m = sym (on_machine s was c view) ∙ machine in
+    let tied_here : IsRunning (place_at s c).controller m = subst (λ o. IsTied (place_at s c).controller o) has (subst (λ (p : Place). IsTied p.controller p.machine) is tied) in
+    let placed : IsPlacedBy (owns s.bus.owner c) s.trace (place_at s c).controller (Some m) = subst (λ o. IsPlacedBy (owns s.bus.owner c) s.trace (place_at s c).controller o) has (settled.places c) in
+    let both : IsRunning (controller_on was c) m × IsPlacedBy (owns s.bus.owner c) s.trace (controller_on was c) (Some m) =
+      subst (λ (k : Controller). IsRunning k m × IsPlacedBy (owns s.bus.owner c) s.trace k (Some m)) (sym (on_place s was c view)) (tied_here, placed) in
+    subst (λ (w : Standing). IsRunning (controller_on was c) m × IsPlacedBy (owns w.bus.owner c) w.trace (controller_on was c) (Some m)) view both

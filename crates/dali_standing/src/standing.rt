@@ -14,7 +14,7 @@ ghost use Rattle.dali_standing.specs.Standing.{seats_from};
 ghost use Rattle.dali_standing.specs.Places.{due_of};
 ghost use Rattle.dali_standing.specs.Places.{MayAnswer, Agrees, trace_of, told_at};
 ghost use Rattle.dali_standing.specs.Troubles.{heard_under};
-ghost use Rattle.dali_standing.specs.Settled.{IsAccepted, IsHearing};
+ghost use Rattle.dali_standing.specs.Settled.{IsAccepted, IsHearing, IsPlacedOn};
 ghost use Rattle.dali_standing.specs.Troubles.{nobody_at_all};
 ghost use Rattle.dali_standing.specs.declared.refusal.Refusal.TheVariants as refusal;
 
@@ -133,6 +133,13 @@ impl Standing {
         self.fitted.gear()
     }
 
+    /// Which gear stored which short address, in the order of the frames.
+    pub fn gifts(&self) -> &[(u32, Short)]
+        ensures { result.now ≡ self.now.gifts }
+    {
+        self.fitted.gifts()
+    }
+
     /// Who owns the bus.
     pub fn owner(&self) -> Option<u8>
         ensures { result ≡ self.now.bus.owner }
@@ -163,6 +170,7 @@ impl Standing {
         requires room { total self.old.bus < self.old.bus.capacity }
         ensures answer { MayAnswer (machine_on self.old c) input result }
         ensures moves { Moves self.old (event.Acted c input result) self.new }
+        ensures placed { IsPlacedOn self.old c }
     {
         let seat = &mut self.seats[c as usize];
         let order = seat.act(input);

@@ -1,7 +1,7 @@
 use Rattle.std.proofs.Common.{◌≡◌, ℕ, ◌+◌, ◌<◌, ◌≤◌, ◌⊎◌, inl, inr, Bool, true, false, List, [], ◌∷◌, ◌++◌, refl, sym, ap, subst, ◌∙◌, arith, length, length-append, length-set, map, set, get_or, get_or-set_same, get_or-set_other, nat_eq, Option, Some, None}
 use Rattle.std.specs.Prelude.{◌==◌, if◌then◌else◌, zero, suc}
 use Rattle.std.proofs.lemmas.Bool.Decides.{nat_tests}
-use Rattle.std.proofs.lemmas.List.{length-map, length-replicate}
+use Rattle.std.proofs.lemmas.List.{length-map, length-replicate, append-nil}
 use Rattle.dali_frame.specs.declared.frames.Forward.{Forward}
 use Rattle.dali_controller.specs.declared.orders.Input.{Input}
 use Rattle.dali_controller.specs.declared.orders.Order.{Order}
@@ -11,11 +11,14 @@ use Rattle.dali_events.specs.declared.event.Event.TheVariants as event
 use Rattle.dali_events.specs.Plan.{SitePlan, IsPlan}
 use Rattle.dali_events.specs.World.{World, Controller, controller_at, start}
 use Rattle.dali_events.specs.Happens.{happens}
-use Rattle.dali_events.specs.Allowed.{Allowed, IsUp, MaySend}
-use Rattle.dali_events.specs.Runs.{after, after_all, AllAllowed, IsRun}
+use Rattle.dali_events.specs.Allowed.{Allowed, IsUp, IsDue, MaySend}
+use Rattle.dali_events.specs.Runs.{after, after_all, AllAllowed, IsRun, IsSafe}
 use Rattle.dali_events.proofs.Growing.{after_more, run_more}
 use Rattle.dali_events.proofs.Controllers.{controllers_count}
-use Rattle.dali_standing.specs.Standing.{Standing, stand_of, machines_at, machines_after, machine_on, Moves, MayBeSent}
+use Rattle.dali_events.proofs.Safe.{safe_history, safe, holds_after}
+use Rattle.dali_events.proofs.Agreeing.{tables_agree_in}
+use Rattle.dali_events.specs.Promises.{TablesAgree}
+use Rattle.dali_standing.specs.Standing.{Standing, stand_of, machines_at, machines_after, machine_on, controller_on, Moves, MayBeSent}
 use Rattle.dali_world.proofs.Room.{gear_count, gifts_fit_after}
 use Rattle.dali_frame.specs.declared.frames.Answer.TheVariants.{Silence}
 use Rattle.dali_special.specs.Command.{command_of}
@@ -24,8 +27,12 @@ use Rattle.dali_gear.specs.declared.row.Reach.{Reach}
 use Rattle.dali_gear.specs.declared.row.Reach.TheVariants.{Everyone, Only}
 use Rattle.dali_gear.specs.Row.{draws_needed, stored_of}
 use Rattle.dali_arbiter.specs.declared.request.Request.{Request}
-use Rattle.dali_arbiter.specs.Bus.{total, collision}
-use Rattle.dali_standing.specs.Places.{MayAnswer}
+use Rattle.dali_arbiter.specs.Bus.{owns, total, collision}
+use Rattle.dali_standing.specs.Places.{MayAnswer, IsRunning}
+use Rattle.dali_standing.specs.Settled.{IsPlacedBy, IsPlacedOn}
+use Rattle.dali_world.proofs.Agreeing.{no_conflict}
+use Rattle.dali_controller.specs.declared.orders.Order.TheVariants.{Halt}
+use Rattle.dali_controller.specs.declared.orders.Fault.TheVariants as fault
 use Rattle.dali_world.specs.Site.{Site, world, logged, machines_all, machines, machine_at, is_step_of, share_of, IsSite, opened_site, HasRoom, IsCrowded, Logs, Received, HasActed, IsSpent, IsSendable}
 use Rattle.dali_standing.specs.Troubles.{reach_under, nobody_at_all}
 use Rattle.dali_standing.specs.declared.trouble.Trouble.{Trouble}
@@ -84,7 +91,8 @@ pub goes_on : (s : Site) (old new : Standing) (shares shares' : List ℕ) (room 
 goes_on s old new shares shares' room room' log' e site moves free log_is room_is counted =
     subst (λ (l : List Event). IsSite (record { plan = s.plan; queue = s.queue; room = s.room; log = l }) new shares' room') (sym log_is)
     (subst (λ n. IsSite (logged s e) new shares' n) (sym room_is) (record {
-      run = run_more s.plan s.queue s.log e site.run (allowed_in s old new shares room e site moves);
+      run = grown_run;
+      safe = safe_history s.plan s.queue (s.log ++ e ∷ []) grown_run;
       stands = (moves (world s) (machines s) site.stands).1 ∙ ap (λ (w : World). stand_of w (machines_after (world s) (machines s) e)) (sym grown)
         ∙ ap (stand_of (world (logged s e))) (sym (machines_more (start s.plan s.queue) (machines_at 0 s.plan.blocks) s.log e));
       counted = λ c there. counted.1 c there ∙ ap (λ n. n + (if is_step_of c e then 1 else 0)) (site.counted c there) ∙ sym (share_more c s.log e);
@@ -97,6 +105,8 @@ goes_on s old new shares shares' room room' log' e site moves free log_is room_i
       reserved = site.reserved;
       most = site.most;
     })) where
+  grown_run : IsRun s.plan s.queue (s.log ++ e ∷ [])
+  grown_run = run_more s.plan s.queue s.log e site.run (allowed_in s old new shares room e site moves)
   grown : world (logged s e) ≡ happens (world s) e
   grown = after_more (start s.plan s.queue) s.log e
 
@@ -106,6 +116,7 @@ pub opens : (p : SitePlan) (queue room capacity : ℕ) (standing : Standing) (sh
     → standing ≡ stand_of (start p queue) (machines_at 0 p.blocks) → shares ≡ 0 ∷ 0 ∷ 0 ∷ 0 ∷ [] → IsSite (opened_site p queue room) standing shares capacity
 opens p queue room capacity standing shares plan few_gear few_controllers reserved most is none = record {
   run = record { plan = plan; allowed = tt };
+  safe = safe_history p queue [] (record { plan = plan; allowed = tt });
   stands = is;
   counted = λ c there. rw none (zeroes c);
   four = rw none refl;
@@ -228,3 +239,26 @@ pub sendable_of : (t : Trouble) → (t ≡ trouble.None) ⊎ ((t ≡ trouble.Ans
 sendable_of t (inl e) = rw e tt
 sendable_of t (inr (inl e)) = rw e tt
 sendable_of t (inr (inr e)) = rw e tt
+
+-- ---------------------------------------------------------------- no machine halts with a conflict
+
+pub never_conflicts : (s was : Site) (old : Standing) (shares : List ℕ) (room c : ℕ) (i : Input) → s ≡ was → IsSite s old shares room → c < length was.plan.blocks → IsDue (controller_on old c) i
+    → IsPlacedOn old c → MayAnswer (machine_on old c) i (Halt fault.Conflict) → ⊥
+never_conflicts s was old shares room c i view site there due placed answer = go (machine_on old c) refl answer where
+  there_s : c < length (world s).controllers
+  there_s = subst (λ n. c < n) (sym site.controller_count) (subst (λ (w : Site). c < length w.plan.blocks) (sym view) there)
+  is : controller_on old c ≡ controller_at (world s) c
+  is = ap (λ (t : Standing). controller_on t c) site.stands
+  go : (m : Option Progress) → machine_on old c ≡ m → MayAnswer m i (Halt fault.Conflict) → ⊥
+  go None has answer = elim answer [ ]
+  go (Some m) has answer =
+      let known = subst (λ (k : Controller). IsRunning k m × IsPlacedBy (owns old.bus.owner c) old.trace k (Some m)) is (placed m has) in
+      no_conflict s.plan s.queue s.log c m i (owns old.bus.owner c) old.trace site.run there_s (subst (λ (k : Controller). IsDue k i) is due) known.0 known.1 answer
+
+-- ---------------------------------------------------------------- the promise, of the world now
+
+pub safe_now : (p : SitePlan) (queue : ℕ) (log : List Event) → IsRun p queue log → IsSafe (after p queue log)
+safe_now p queue log run = safe p (after p queue log) (holds_after p queue log run)
+
+pub agreeing_now : (p : SitePlan) (queue : ℕ) (log : List Event) → IsRun p queue log → TablesAgree (after p queue log)
+agreeing_now p queue log run = tables_agree_in p queue log [] (subst (λ (l : List Event). IsRun p queue l) (sym (append-nil log)) run)

@@ -1,4 +1,5 @@
-use Rattle.std.specs.Prelude.{◌≡◌, ℕ, ◌+◌, ◌<◌, ◌≤◌, ◌⊎◌, Bool, true, false, List, [], ◌∷◌, ◌++◌, length, slice_index_or, Option, Some, None, ◌==◌, if◌then◌else◌}
+use Rattle.std.specs.Prelude.{◌≡◌, ℕ, ◌+◌, ◌<◌, ◌≤◌, ◌⊎◌, Bool, true, false, List, [], ◌∷◌, ◌++◌, length, slice_index_or, Option, Some, None, ◌==◌, if◌then◌else◌, IfOk, IfErr, OnErr}
+use Rattle.std.proofs.Common.{Result}
 use Rattle.dali_frame.specs.declared.frames.Forward.{Forward}
 use Rattle.dali_frame.specs.declared.frames.Answer.{Answer}
 use Rattle.dali_special.specs.Command.{command_of}
@@ -18,7 +19,7 @@ use Rattle.dali_events.specs.Plan.{SitePlan}
 use Rattle.dali_events.specs.World.{World, controller_at, start}
 use Rattle.dali_events.specs.Happens.{happens}
 use Rattle.dali_events.specs.Allowed.{Allowed, IsUp, IsDue, IsDown, IsArc}
-use Rattle.dali_events.specs.Runs.{after, IsRun}
+use Rattle.dali_events.specs.Runs.{after, IsRun, IsSafeHistory}
 use Rattle.dali_standing.specs.declared.refusal.Refusal.{Refusal}
 use Rattle.dali_standing.specs.declared.refusal.Refusal.TheVariants as refusal
 use Rattle.dali_standing.specs.declared.trouble.Trouble.{Trouble}
@@ -73,10 +74,18 @@ abbrev pub share_of : ℕ → List Event → ℕ
 share_of c [] = 0
 share_of c (e ∷ es) = (if is_step_of c e then 1 else 0) + share_of c es
 
+-- ---------------------------------------------------------------- the promise
+
+-- THE PROMISE, of a site in hand: its log is a run of the definitions, and its history is safe.
+pub record IsSound (s : Site) : Type 0 where
+  pub run : IsRun s.plan s.queue s.log
+  pub safe : IsSafeHistory s.plan s.queue s.log
+
 -- ---------------------------------------------------------------- what holds of the parts of a site
 
 pub record IsSite (s : Site) (standing : Standing) (shares : List ℕ) (capacity : ℕ) : Type 0 where
   pub run : IsRun s.plan s.queue s.log
+  pub safe : IsSafeHistory s.plan s.queue s.log
   pub stands : standing ≡ stand_of (world s) (machines s)
   pub counted : (c : ℕ) → c < 4 → slice_index_or shares c 0 ≡ share_of c s.log
   pub four : length shares ≡ 4
@@ -174,6 +183,10 @@ pub record HasActed (s : Site) (c : ℕ) (i : Input) (r : Received) (new : Site)
   pub controller : r.controller ≡ c
   pub input : r.input ≡ i
   pub number : r.number ≡ share_of c new.log
+
+-- all that `act` answers, in one closed relation, which the layers above pass on
+unfoldable pub Acts : Site → ℕ → Input → Result Received Refusal → Site → Type 0
+Acts s c i result new = IfOk result (λ r. HasActed s c i r new) × IfErr result (IsActRefused s c i) × OnErr result (new ≡ s)
 
 -- ---------------------------------------------------------------- the next frame
 

@@ -1,8 +1,13 @@
-ghost use Rattle.std.specs.Prelude.{◌≡◌, ℕ, ◌+◌, ◌<◌, ◌≤◌, length, true, false, Some, None, OnOk, IfOk, OnErr, IfErr, IsTrue, ◌↔◌, ◌++◌, ◌∷◌, [], vec_len, MatchOption, slice_index_or, slice_set};
+ghost use Rattle.std.specs.Prelude.{◌≡◌, ℕ, ◌+◌, ◌<◌, ◌≤◌, length, map, true, false, Some, None, OnOk, IfOk, OnErr, IfErr, IsTrue, ◌↔◌, ◌++◌, ◌∷◌, [], vec_len, MatchOption, slice_index_or, slice_set};
 ghost use Rattle.std.specs.Vec.{vec_capacity};
 ghost use Rattle.dali_events.specs.declared.event.Event.TheVariants as event;
 ghost use Rattle.dali_events.specs.World.{gear_at, controller_at};
 ghost use Rattle.dali_events.specs.Allowed.{IsUp, MaySend, IsArc};
+ghost use Rattle.dali_events.specs.Runs.{IsRun, IsSafe, IsSafeHistory};
+ghost use Rattle.dali_events.specs.Promises.{TablesAgree};
+ghost use Rattle.dali_script.specs.Records.{IsOnce};
+ghost use Rattle.dali_controller.specs.declared.orders.Order.TheVariants as order;
+ghost use Rattle.dali_controller.specs.declared.orders.Fault.TheVariants as fault;
 ghost use Rattle.dali_controller.specs.Progress.{roster_of};
 ghost use Rattle.dali_standing.specs.declared.trouble.Trouble.TheVariants as trouble;
 ghost use Rattle.dali_standing.specs.declared.refusal.Refusal.TheVariants as refusal;
@@ -12,7 +17,7 @@ use dali_arbiter::Request;
 use dali_controller::{Due, Input};
 use dali_enrol::Table;
 use dali_events::{Event, Plan};
-use dali_frame::Forward;
+use dali_frame::{Forward, Short};
 use dali_gear::{Gear, GearSet};
 use dali_script::Kept;
 use dali_standing::{Refusal, Report, Standing, Trouble, is_arc_power};
@@ -46,7 +51,7 @@ impl Model for SiteState {
 
 impl SiteState {
     ghost use Rattle.dali_standing.specs.Places.{due_of};
-    ghost use Rattle.dali_world.specs.Site.{Site, world, opened_site, logged, machine_at, share_of, HasActed, IsActRefused, IsArcRefused, IsDownRefused, IsUpRefused, IsGearRefused, IsBarred, IsFull, IsCrowded, HasRoom, Pumps, IsPumpRefused, next_request, Logs, LogsRequest, IsUpWith, IsSpent, IsSendable, Becomes};
+    ghost use Rattle.dali_world.specs.Site.{Site, world, opened_site, logged, machine_at, share_of, IsSound, Acts, IsArcRefused, IsDownRefused, IsUpRefused, IsGearRefused, IsBarred, IsFull, IsCrowded, HasRoom, Pumps, IsPumpRefused, next_request, Logs, LogsRequest, IsUpWith, IsSpent, IsSendable, Becomes};
 
     /// A site of this plan, on which nothing happened yet. All controllers are up, and keep nothing.
     ///
@@ -80,12 +85,19 @@ impl SiteState {
     /// A controller acts on an input: on what `next` says, or on the outcome of its Commit where `due` is Store. Its frame
     /// waits for the bus from now on.
     ///
+    /// It never orders `Halt(Conflict)`: a finding and an entry of a table are both true of the gear for good.
+    ///
     /// Refusals, in this order: 1 UnknownController, 2 ControllerDown, 3 NotDue, 7 QueueFull (whatever it would order), 8 LogFull.
+    #[tactic(auto, unfolding(crate::specs::Site::Acts))]
     pub fn act(&mut self, c: u8, input: Input) -> Result<Receipt, Refusal>
-        ensures acted { IfOk result (λ receipt. HasActed self.old c input receipt self.new) }
-        ensures refused { IfErr result (λ e. IsActRefused self.old c input e) }
+        ensures sound { IsSound self.old }
+        ensures answer { Acts self.old c input result self.new }
+        ensures step { IfOk result (λ receipt. (c < 4) × (self.new ≡ logged self.old (event.Acted c input receipt.order))) }
+        ensures receipt { IfOk result (λ receipt. (receipt.controller ≡ c) × (receipt.input ≡ input) × (receipt.number ≡ share_of c self.old.log + 1)) }
+        ensures agreed { IfOk result (λ receipt. receipt.order ≡ order.Halt fault.Conflict → ⊥) }
         ensures unchanged { OnErr result (self.new ≡ self.old) }
     {
+        let _log = &self.log;
         self.check_up(c)?;
         if !self.standing.may_act(c, input) {
             return Err(Refusal::NotDue);
@@ -309,6 +321,29 @@ impl SiteState {
             (λ table. ((controller_at (world self.now) c).up ≡ true) × (table.now ≡ roster_of (controller_at (world self.now) c).records)) }
     {
         self.standing.table(c)
+    }
+
+    /// Which gear stored which short address, in the order of the frames: a gear at most once, and an address at most once.
+    pub fn gifts(&self) -> &[(u32, Short)]
+        ensures gifts { result.now ≡ (world self.now).gifts }
+        ensures gear_once { IsOnce (map (λ gift. gift.0) result.now) }
+        ensures address_once { IsOnce (map (λ gift. gift.1) result.now) }
+    {
+        self.standing.gifts()
+    }
+
+    /// THE PROMISE, of this site. Calling it costs nothing; what it says is said of the whole log.
+    ///
+    /// At each moment of the log no two gear hold one short address; a gear that was given one keeps it, with its random address,
+    /// ever after; and every record of enrolment that a controller keeps names the gear that holds that address, so no two tables
+    /// disagree. `dali_events` has the words: `IsSafeHistory`, with `IsSafe` and `KeepsRandom`.
+    pub fn is_safe(&self)
+        ensures run { IsRun self.now.plan self.now.queue self.now.log }
+        ensures safe { IsSafeHistory self.now.plan self.now.queue self.now.log }
+        ensures now { IsSafe (world self.now) }
+        ensures agree { TablesAgree (world self.now) }
+    {
+        let _log = &self.log;
     }
 
     /// Who owns the bus.

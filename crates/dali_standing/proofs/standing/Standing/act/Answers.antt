@@ -1,5 +1,5 @@
 use Rattle.std.proofs.Common.{◌≡◌, refl}
-use Rattle.dali_standing.proofs.Done.{act_accepts, act_done, act_answers}
+use Rattle.dali_standing.proofs.Done.{act_accepts, act_done, act_answers, was_placed}
 use Rattle.dali_standing.proofs.standing.Standing.act.Goals as goal
 
 pub request-requires : goal.request-requires
@@ -20,3 +20,6 @@ pub returns-clause-moves : goal.returns-clause-moves
 returns-clause-moves c =
     (act_done _ _ c.args.c c.args.input c.act-order.result _ _ _ _ _ c.self.view_is c.self.invariant c.requires.up c.requires.due
     c.index_mut-seat.ensures.value c.act-order.ensures.tied c.act-order.ensures.answer c.act-order.ensures.state c.give_up.ensures.bus c.give_up.ensures.trace c.request.ensures).moves
+
+pub returns-clause-placed : goal.returns-clause-placed
+returns-clause-placed c = was_placed _ _ c.args.c _ c.self.view_is c.self.invariant c.requires.up c.index_mut-seat.ensures.value c.act-order.ensures.tied

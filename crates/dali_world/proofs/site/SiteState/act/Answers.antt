@@ -1,6 +1,12 @@
-use Rattle.std.proofs.Common.{refl, ◌<◌, ◌≤◌, arith}
+use Rattle.std.proofs.Common.{rules, ◌≡◌, refl, sym, ap, subst, ◌∙◌, ◌<◌, ◌≤◌, arith}
+use Rattle.dali_controller.specs.declared.orders.Order.TheVariants.{Halt}
+use Rattle.dali_controller.specs.declared.orders.Fault.TheVariants as fault
+use Rattle.dali_events.specs.Allowed.{IsDue}
+use Rattle.dali_standing.specs.Places.{MayAnswer}
+use Rattle.dali_standing.specs.Standing.{controller_on, machine_on}
+use Rattle.dali_world.specs.Site.{Received}
 use Rattle.dali_events.specs.declared.event.Event.TheVariants as event
-use Rattle.dali_world.proofs.Logs.{step_few, step_goes_on, act_site}
+use Rattle.dali_world.proofs.Logs.{step_few, step_goes_on, act_site, never_conflicts}
 use Rattle.dali_world.proofs.site.SiteState.act.Goals as goal
 
 pub count-number-requires-clause-few : goal.count-number-requires-clause-few
@@ -16,10 +22,19 @@ invariant_of-self c =
     step_goes_on _ _ _ _ _ _ _ _ _ (event.Acted c.args.c c.args.input c.act-order.result) c.args.c c.self.view_is c.self.invariant (c.if-is_full.ensures.room refl)
     c.act-order.ensures.moves c.append.ensures.items c.append.ensures.capacity four c.count-number.ensures.shares (λ d. refl)
 
-pub returns-clause-acted : goal.returns-clause-acted
-returns-clause-acted c =
+pub returns-clause-answer : goal.returns-clause-answer
+unfolding Rattle.dali_world.specs.Site.Acts
+returns-clause-answer c =
     let up = c.in_ok-check_up.ensures.ok in
     let four : c.args.c < 4 = let there = up.1 in let few = up.2 in omega arith in
-    act_site _ _ _ _ _ c.count-number.new.shares _ c.count-number.result c.args.c c.args.input c.act-order.result c.new.result _ c.self.view_is c.self.invariant
+    (act_site _ _ _ _ _ c.count-number.new.shares _ c.count-number.result c.args.c c.args.input c.act-order.result c.new.result _ c.self.view_is c.self.invariant
     (c.if-is_crowded.ensures.room refl) (c.if-is_full.ensures.room refl) c.act-order.ensures.moves c.act-order.ensures.answer c.append.ensures.items four
-    c.count-number.ensures.number c.new.ensures
+    c.count-number.ensures.number c.new.ensures, tt, tt)
+
+pub returns-clause-agreed : goal.returns-clause-agreed
+returns-clause-agreed c halts =
+    let up = c.in_ok-check_up.ensures.ok in
+    let due : IsDue (controller_on c.self.inside.standing c.args.c) c.args.input = search rules in
+    let order : c.act-order.result ≡ Halt fault.Conflict = sym (ap (λ (r : Received). r.order) c.new.ensures) ∙ halts in
+    never_conflicts _ _ _ _ _ c.args.c c.args.input c.self.view_is c.self.invariant up.1 due c.act-order.ensures.placed
+    (subst (λ o. MayAnswer (machine_on c.self.inside.standing c.args.c) c.args.input o) order c.act-order.ensures.answer)

@@ -1,0 +1,8 @@
+use Rattle.dali_world.proofs.Logs.{safe_now, agreeing_now}
+use Rattle.dali_world.proofs.site.SiteState.is_safe.Goals as goal
+
+pub returns-clause-now : goal.returns-clause-now
+returns-clause-now c = rw (← c.self.view_is) (safe_now _ _ _ c.self.invariant.run)
+
+pub returns-clause-agree : goal.returns-clause-agree
+returns-clause-agree c = rw (← c.self.view_is) (agreeing_now _ _ _ c.self.invariant.run)
