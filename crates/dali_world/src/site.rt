@@ -200,7 +200,7 @@ impl SiteState {
     ///
     /// Refusals, in this order: 1 UnknownGear, 8 LogFull.
     pub fn power(&mut self, number: u32, on: bool) -> Result<(), Refusal>
-        ensures powered { OnOk result (Logs self.old (event.Power number on) self.new) }
+        ensures powered { OnOk result ((number < self.old.plan.gear) × Logs self.old (event.Power number on) self.new) }
         ensures refused { IfErr result (λ e. IsGearRefused self.old number e) }
         ensures unchanged { OnErr result (self.new ≡ self.old) }
     {
@@ -214,7 +214,7 @@ impl SiteState {
     ///
     /// Refusals, in this order: 1 UnknownGear, 8 LogFull.
     pub fn expire(&mut self, number: u32) -> Result<(), Refusal>
-        ensures expired { OnOk result (Logs self.old (event.Expired number) self.new) }
+        ensures expired { OnOk result ((number < self.old.plan.gear) × Logs self.old (event.Expired number) self.new) }
         ensures refused { IfErr result (λ e. IsGearRefused self.old number e) }
         ensures unchanged { OnErr result (self.new ≡ self.old) }
     {
@@ -417,7 +417,7 @@ impl SiteState {
 
     /// A gear of this number is there, and the log has room for one more event.
     fn check_gear(&self, number: u32) -> Result<(), Refusal>
-        ensures ok { OnOk result ((number < length (world self.now).gear) × HasRoom self.now) }
+        ensures ok { OnOk result ((number < length (world self.now).gear) × HasRoom self.now × (number < self.now.plan.gear)) }
         ensures refused { IfErr result (λ e. IsGearRefused self.now number e) }
     {
         if number >= self.plan.gear() {
