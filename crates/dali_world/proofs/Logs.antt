@@ -68,17 +68,18 @@ uncounted shares e four none = (four, λ c there. rw (none c) (omega arith))
 pub counted_step : (shares new : List ℕ) (e : Event) (d : ℕ) → length shares ≡ 4 → d < 4 → new ≡ set shares d (get_or shares d 0 + 1) → ((c : ℕ) → is_step_of c e ≡ (d == c)) → IsCounted shares e new
 counted_step shares new e d four there is step =
     (ap length is ∙ length-set shares d _ ∙ four, λ c in_four. subst (λ (xs : List ℕ). get_or xs c 0 ≡ get_or shares c 0 + (if is_step_of c e then 1 else 0)) (sym is) (rw (step c) (go c (nat_eq c d) refl))) where
-  here : d < length shares
-  here = subst (λ n. d < n) (sym four) there
-  go : (c : ℕ) (b : Bool) → nat_eq c d ≡ b → get_or (set shares d (get_or shares d 0 + 1)) c 0 ≡ get_or shares c 0 + (if d == c then 1 else 0)
-  go c true e =
-      let same : d ≡ c = grind (arith, nat_tests) in
-      subst (λ n. get_or (set shares d (get_or shares d 0 + 1)) n 0 ≡ get_or shares n 0 + (if d == n then 1 else 0)) same
-      (get_or-set_same shares d _ 0 here ∙ let yes : (d == d) ≡ true = grind (arith, nat_tests) in rw yes refl)
-  go c false e =
-      let other : c ≡ d → ⊥ = grind (arith, nat_tests) in
-      let no : (d == c) ≡ false = grind (arith, nat_tests) in
-      get_or-set_other shares d c _ 0 other ∙ rw no (omega arith)
+      here : d < length shares
+      here = subst (λ n. d < n) (sym four) there
+
+      go : (c : ℕ) (b : Bool) → nat_eq c d ≡ b → get_or (set shares d (get_or shares d 0 + 1)) c 0 ≡ get_or shares c 0 + (if d == c then 1 else 0)
+      go c true e =
+          let same : d ≡ c = grind (arith, nat_tests) in
+          subst (λ n. get_or (set shares d (get_or shares d 0 + 1)) n 0 ≡ get_or shares n 0 + (if d == n then 1 else 0)) same
+          (get_or-set_same shares d _ 0 here ∙ let yes : (d == d) ≡ true = grind (arith, nat_tests) in rw yes refl)
+      go c false e =
+          let other : c ≡ d → ⊥ = grind (arith, nat_tests) in
+          let no : (d == c) ≡ false = grind (arith, nat_tests) in
+          get_or-set_other shares d c _ 0 other ∙ rw no (omega arith)
 
 -- ---------------------------------------------------------------- one event more
 
@@ -94,7 +95,7 @@ goes_on s old new shares shares' room room' log' e site moves free log_is room_i
       run = grown_run;
       safe = safe_history s.plan s.queue (s.log ++ e ∷ []) grown_run;
       stands = (moves (world s) (machines s) site.stands).1 ∙ ap (λ (w : World). stand_of w (machines_after (world s) (machines s) e)) (sym grown)
-        ∙ ap (stand_of (world (logged s e))) (sym (machines_more (start s.plan s.queue) (machines_at 0 s.plan.blocks) s.log e));
+          ∙ ap (stand_of (world (logged s e))) (sym (machines_more (start s.plan s.queue) (machines_at 0 s.plan.blocks) s.log e));
       counted = λ c there. counted.1 c there ∙ ap (λ n. n + (if is_step_of c e then 1 else 0)) (site.counted c there) ∙ sym (share_more c s.log e);
       four = counted.0;
       gear_count = ap (λ (w : World). length w.gear) grown ∙ gear_count (world s) e ∙ site.gear_count;
@@ -105,10 +106,11 @@ goes_on s old new shares shares' room room' log' e site moves free log_is room_i
       reserved = site.reserved;
       most = site.most;
     })) where
-  grown_run : IsRun s.plan s.queue (s.log ++ e ∷ [])
-  grown_run = run_more s.plan s.queue s.log e site.run (allowed_in s old new shares room e site moves)
-  grown : world (logged s e) ≡ happens (world s) e
-  grown = after_more (start s.plan s.queue) s.log e
+      grown_run : IsRun s.plan s.queue (s.log ++ e ∷ [])
+      grown_run = run_more s.plan s.queue s.log e site.run (allowed_in s old new shares room e site moves)
+
+      grown : world (logged s e) ≡ happens (world s) e
+      grown = after_more (start s.plan s.queue) s.log e
 
 -- ---------------------------------------------------------------- the start
 
@@ -214,7 +216,7 @@ sent_room s was old shares room r t view site may enough sendable =
     let enough_s : IsSpent s r t → ⊥ = subst (λ (w : Site). IsSpent w r t → ⊥) (sym view) enough in
     let may_s = subst (λ (w : Site). IsUp (world w) r.sender × MaySend (world w) r.sender r.frame) (sym view) may in
     let draws : draws_needed Everyone (command_of r.frame) 0 (world s).gear ≤ length (world s).left =
-      subst (λ reach. draws_needed reach (command_of r.frame) 0 (world s).gear ≤ length (world s).left) (everyone t sendable) (draws_there s r t enough_s) in
+    subst (λ reach. draws_needed reach (command_of r.frame) 0 (world s).gear ≤ length (world s).left) (everyone t sendable) (draws_there s r t enough_s) in
     subst (λ (o : Standing). HasGiftRoom o Everyone r) (sym site.stands)
     (gifts_fit_after s.plan s.queue s.log (event.Sent r.sender r.frame Silence) site.run (record { up = may_s.0; may = may_s.1; draws = draws; heard = tt }))
 
@@ -247,8 +249,10 @@ pub never_conflicts : (s was : Site) (old : Standing) (shares : List ℕ) (room 
 never_conflicts s was old shares room c i view site there due placed answer = go (machine_on old c) refl answer where
   there_s : c < length (world s).controllers
   there_s = subst (λ n. c < n) (sym site.controller_count) (subst (λ (w : Site). c < length w.plan.blocks) (sym view) there)
+
   is : controller_on old c ≡ controller_at (world s) c
   is = ap (λ (t : Standing). controller_on t c) site.stands
+
   go : (m : Option Progress) → machine_on old c ≡ m → MayAnswer m i (Halt fault.Conflict) → ⊥
   go None has answer = elim answer [ ]
   go (Some m) has answer =

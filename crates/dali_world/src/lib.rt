@@ -12,8 +12,12 @@
 mod receipt;
 mod site;
 
-pub use dali_events::{CONTROLLER_LIMIT, DRAW_LIMIT, Event, GEAR_LIMIT, GearSet, Plan, PlanError, laws};
+pub use dali_events::{
+    CONTROLLER_LIMIT, DRAW_LIMIT, Event, GEAR_LIMIT, GearSet, Plan, PlanError, laws,
+};
 pub use dali_standing::{Refusal, Report, Trouble};
 pub use receipt::Receipt;
 pub use site::SiteState;
 
+#[cfg(test)]
+mod tests;

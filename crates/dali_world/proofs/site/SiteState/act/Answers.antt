@@ -26,10 +26,13 @@ pub returns-clause-answer : goal.returns-clause-answer
 unfolding Rattle.dali_world.specs.Site.Acts
 returns-clause-answer c =
     let up = c.in_ok-check_up.ensures.ok in
-    let four : c.args.c < 4 = let there = up.1 in let few = up.2 in omega arith in
-    (act_site _ _ _ _ _ c.count-number.new.shares _ c.count-number.result c.args.c c.args.input c.act-order.result c.new.result _ c.self.view_is c.self.invariant
-    (c.if-is_crowded.ensures.room refl) (c.if-is_full.ensures.room refl) c.act-order.ensures.moves c.act-order.ensures.answer c.append.ensures.items four
-    c.count-number.ensures.number c.new.ensures, tt, tt)
+    let four : c.args.c < 4 = let there = up.1 in let few = up.2 in omega arith in (
+      act_site _ _ _ _ _ c.count-number.new.shares _ c.count-number.result c.args.c c.args.input c.act-order.result c.new.result _ c.self.view_is c.self.invariant
+          (c.if-is_crowded.ensures.room refl) (c.if-is_full.ensures.room refl) c.act-order.ensures.moves c.act-order.ensures.answer c.append.ensures.items four
+          c.count-number.ensures.number c.new.ensures,
+      tt,
+      tt,
+    )
 
 pub returns-clause-agreed : goal.returns-clause-agreed
 returns-clause-agreed c halts =

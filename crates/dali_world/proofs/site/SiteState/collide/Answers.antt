@@ -21,7 +21,11 @@ invariant_of-self-in-None c =
     (rw c.in-None.is at c.collide.ensures.moves) c.append-in-None.ensures.items c.append-in-None.ensures.capacity (λ d. refl)
 
 pub returns-in-Some : goal.returns-in-Some
-returns-in-Some c =
-    (refl, refl, refl, (c.in-Some.other, world_lists _ _ _ _ _ c.in-Some.other c.self.view_is c.self.invariant (sym c.collide.ensures.other ∙ c.in-Some.is), refl, refl),
-    site_logs _ _ _ _ _ _ _ (event.Collided c.args.request.sender c.args.request.frame c.in-Some.other.sender c.in-Some.other.frame) c.self.view_is c.self.invariant c.requires.room
-    (rw c.in-Some.is at c.collide.ensures.moves) c.append.ensures.items)
+returns-in-Some c = (
+  refl,
+  refl,
+  refl,
+  (c.in-Some.other, world_lists _ _ _ _ _ c.in-Some.other c.self.view_is c.self.invariant (sym c.collide.ensures.other ∙ c.in-Some.is), refl, refl),
+  site_logs _ _ _ _ _ _ _ (event.Collided c.args.request.sender c.args.request.frame c.in-Some.other.sender c.in-Some.other.frame) c.self.view_is c.self.invariant c.requires.room
+      (rw c.in-Some.is at c.collide.ensures.moves) c.append.ensures.items,
+)

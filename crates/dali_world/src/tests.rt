@@ -1,0 +1,5 @@
+//! A site's calls, and rounds of a whole commissioning.
+
+mod rounds;
+mod script;
+mod site;
