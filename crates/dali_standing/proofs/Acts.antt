@@ -1,16 +1,15 @@
-use Rattle.std.proofs.Common.{◌≡◌, ℕ, ◌<◌, ◌⊎◌, inl, inr, Bool, true, false, not, List, [], ◌∷◌, ◌++◌, refl, sym, ap, subst, ◌∙◌, arith, Option, Some, None}
-use Rattle.std.specs.Prelude.{◌&&◌, ◌==◌, if◌then◌else◌}
+use Rattle.std.proofs.Common.{◌≡◌, ℕ, ◌<◌, ◌⊎◌, inl, inr, Bool, true, false, List, [], ◌∷◌, ◌++◌, refl, sym, ap, subst, ◌∙◌, arith, Option, Some, None}
 use Rattle.std.proofs.lemmas.Bool.Decides.{nat_tests}
 use Rattle.dali_frame.specs.declared.frames.Forward.{Forward}
 use Rattle.dali_frame.specs.declared.frames.Answer.{Answer}
 use Rattle.dali_special.specs.declared.command.Command.{Command}
 use Rattle.dali_special.specs.declared.command.Command.TheVariants.{Terminate, Initialise, Randomise, Compare, Withdraw, SearchHigh, SearchMiddle, SearchLow, Program, Verify, QueryShort, Arc, Other}
 use Rattle.dali_special.specs.Command.{command_of}
-use Rattle.dali_arbiter.specs.Bus.{Bus, owns, request_of, offered, lapsed}
+use Rattle.dali_arbiter.specs.Bus.{owns}
 use Rattle.dali_script.specs.declared.trace.Entry.{Entry}
 use Rattle.dali_script.specs.declared.records.Record.{Record}
 use Rattle.dali_script.specs.declared.records.Record.TheVariants.{Reserve, Enrol}
-use Rattle.dali_script.specs.Records.{Assignment, Records, InBlock, MASK24, IsFresh, Fits, with_record}
+use Rattle.dali_script.specs.Records.{Assignment, Records, InBlock, MASK24, IsFresh}
 use Rattle.dali_script.specs.Findings.{finding_of, later}
 use Rattle.dali_script.specs.Scripts.{Lawful, IsFirst}
 use Rattle.dali_script.specs.Stages.{stage_of, may_follow}
@@ -19,14 +18,13 @@ use Rattle.dali_controller.specs.declared.orders.Input.{Input}
 use Rattle.dali_controller.specs.declared.orders.Input.TheVariants as input
 use Rattle.dali_controller.specs.declared.orders.Order.{Order}
 use Rattle.dali_controller.specs.declared.orders.Order.TheVariants.{Put, Commit, Done, Halt}
-use Rattle.dali_controller.specs.declared.orders.Fault.TheVariants as fault
-use Rattle.dali_controller.specs.Progress.{Progress, told, due_after, accepts, frame_put, heard}
-use Rattle.dali_controller.specs.Orders.{IsOrdered, IsAnswered, IsAllowed, IsAddressing, ordered, after, trace_by}
+use Rattle.dali_controller.specs.Progress.{Progress, told, due_after, accepts}
+use Rattle.dali_controller.specs.Orders.{IsOrdered, IsAnswered, IsAllowed, IsAddressing, ordered, after}
 use Rattle.dali_events.specs.World.{World, Controller}
-use Rattle.dali_events.specs.Happens.{entry, informed, acted, gives_up, keeps_bus, bus_acted, put_after, with_outstanding, is_arc}
+use Rattle.dali_events.specs.Happens.{entry, informed, is_arc}
 use Rattle.dali_events.specs.Allowed.{IsDue, IsCommit, MayOrder}
-use Rattle.dali_standing.specs.Places.{Place, IsRunning, IsTold, IsOutstanding, IsFound, informed_by, IsTied, MayAnswer, acted_at}
-use Rattle.dali_standing.specs.Settled.{IsOwning, IsApart, IsPlacedBy, IsPlaced}
+use Rattle.dali_standing.specs.Places.{IsRunning, IsTold, IsOutstanding, IsFound, informed_by}
+use Rattle.dali_standing.specs.Settled.{IsOwning, IsApart, IsPlacedBy}
 
 -- WHAT A CONTROLLER ORDERS, the table of events allows.
 
@@ -124,8 +122,8 @@ owns_heard w c k m t p f h told_h last placed is g some may = go (owns w.bus.own
   go : (b : Bool) → owns w.bus.owner c ≡ b → (w.bus.owner ≡ Some c) × (t.trace ≡ w.trace)
   go true e = (owner_is w.bus.owner c e, is ∙ sym ((placed_heard (owns w.bus.owner c) w.trace k m p f h told_h last placed).0 e))
   go false e = absurd (over k.records.block k.records.reserved (stage_of t.trace) _
-    (subst (λ u. may_follow k.records.block k.records.reserved (stage_of u) ≡ false) (sym is) ((placed_heard (owns w.bus.owner c) w.trace k m p f h told_h last placed).1 e))
-    (follows_lawful k.records.block k.records.reserved t.trace g may))
+      (subst (λ u. may_follow k.records.block k.records.reserved (stage_of u) ≡ false) (sym is) ((placed_heard (owns w.bus.owner c) w.trace k m p f h told_h last placed).1 e))
+      (follows_lawful k.records.block k.records.reserved t.trace g may))
 
 -- ---------------------------------------------------------------- what may be ordered
 
@@ -226,7 +224,7 @@ abbrev pub IsLeft : World → ℕ → Controller → Progress → Order → Type
 IsLeft w c k m (Put p f) =
     (is_arc (command_of f) ≡ false)
     × (((p ≡ 1) × (w.bus.owner ≡ Some c) × (w.trace ≡ m.trace) × Lawful k.records.block k.records.reserved w.trace f)
-      ⊎ ((p ≡ 3) × (m.trace ≡ []) × IsFirst f))
+    ⊎ ((p ≡ 3) × (m.trace ≡ []) × IsFirst f))
 IsLeft w c k m (Commit x) = m.trace ≡ []
 IsLeft w c k m (Done e) = Unit {0}
 IsLeft w c k m (Halt why) = Unit {0}

@@ -1,23 +1,21 @@
-use Rattle.std.proofs.Common.{◌≡◌, ℕ, ◌+◌, ◌<◌, ◌≤◌, ◌⊎◌, inl, inr, Bool, true, false, not, List, [], ◌∷◌, ◌++◌, refl, sym, ap, subst, ◌∙◌, arith, length, length-set, get_or, Option, Some, None, Result, Ok, Err, OnOk, OnErr, IfSome, ◌↔◌}
-use Rattle.std.specs.Prelude.{◌&&◌, ◌==◌, if◌then◌else◌}
+use Rattle.std.proofs.Common.{◌≡◌, ℕ, ◌<◌, ◌≤◌, ◌⊎◌, inl, inr, Bool, true, false, not, List, [], ◌∷◌, ◌++◌, refl, sym, ap, subst, ◌∙◌, length, length-set, get_or, Option, Some, None, Result, Ok, Err, OnOk, OnErr, IfSome, ◌↔◌}
+use Rattle.std.specs.Prelude.{if◌then◌else◌}
 use Rattle.std.proofs.lemmas.List.{get_or_read_under, set-get_or, length-map}
 use Rattle.dali_frame.specs.declared.frames.Forward.{Forward}
 use Rattle.dali_frame.specs.declared.frames.Answer.{Answer}
 use Rattle.dali_special.specs.Command.{command_of}
 use Rattle.dali_gear.specs.declared.row.GearSet.{GearSet}
 use Rattle.dali_gear.specs.declared.row.Reach.TheVariants.{Everyone, Only}
-use Rattle.dali_gear.specs.ControlGear.{expired, quieted}
 use Rattle.dali_gear.specs.Row.{answers_of, draws_needed, heard_of}
 use Rattle.dali_arbiter.specs.declared.request.Request.{Request}
-use Rattle.dali_arbiter.specs.Bus.{Bus, owns, total, next, request_of, offer_refusal, lapsed, offered, sent, destroyed, collided, collision, silenced}
+use Rattle.dali_arbiter.specs.Bus.{Bus, owns, total, next, request_of, lapsed, offered, sent, destroyed, collided, collision, silenced}
 use Rattle.dali_script.specs.declared.trace.Entry.{Entry}
 use Rattle.dali_script.specs.Scripts.{IsLawful, IsFirst}
 use Rattle.dali_script.specs.Stages.{stage_of, may_follow}
 use Rattle.dali_controller.specs.declared.orders.Input.{Input}
 use Rattle.dali_controller.specs.declared.orders.Order.{Order}
 use Rattle.dali_controller.specs.declared.orders.Order.TheVariants.{Put}
-use Rattle.dali_controller.specs.Progress.{due_after, frame_put}
-use Rattle.dali_controller.specs.declared.orders.Due.TheVariants as due
+use Rattle.dali_controller.specs.Progress.{frame_put}
 use Rattle.dali_events.specs.declared.event.Event.{Event}
 use Rattle.dali_events.specs.declared.event.Event.TheVariants as event
 use Rattle.dali_events.specs.World.{World, Controller}
@@ -25,20 +23,20 @@ use Rattle.dali_events.specs.Happens.{happens, entry, gives_up, put_after, is_ar
 use Rattle.dali_events.specs.Allowed.{Allowed, IsUp, Hears, MaySend, IsDue, IsArc, HasOutstanding}
 use Rattle.dali_standing.specs.Fitted.{Fitted, taken_at}
 use Rattle.dali_standing.specs.Places.{Place, IsRunning, IsTied, MayAnswer, acted_at, told_at, down_at, up_at, trace_of}
-use Rattle.dali_standing.specs.Standing.{Seated, place_in, place_at, world_of, with_place, running_in, goes_on_in, owner_lapsed, has_acted, has_offered, has_sent, has_lost, has_collided, has_lapsed, has_gone_down, has_come_up, empty_place, Standing, flat, stand_of, controller_on, machine_on, machines_after, Moves, MayBeSent, IsMove}
+use Rattle.dali_standing.specs.Standing.{Seated, place_in, place_at, world_of, with_place, running_in, goes_on_in, has_acted, has_offered, has_sent, has_lost, has_collided, has_lapsed, has_gone_down, has_come_up, empty_place, Standing, flat, stand_of, controller_on, machine_on, machines_after, Moves, MayBeSent, IsMove}
 use Rattle.dali_standing.specs.Settled.{IsAccepted, IsHearing, IsPlacedBy, IsPlacedOn, Settled}
 use Rattle.dali_standing.specs.declared.refusal.Refusal.{Refusal}
 use Rattle.dali_standing.specs.declared.trouble.Trouble.{Trouble}
 use Rattle.dali_standing.specs.declared.trouble.Trouble.TheVariants as trouble
 use Rattle.dali_standing.specs.Troubles.{heard_under, nobody_at_all}
-use Rattle.dali_standing.proofs.Moves.{MaySendAt, is_up, controller_in, machine_of, up_there, place_here, place_elsewhere, moves_acted, moves_offered, moves_sent, moves_lost, moves_collided, moves_lapsed, moves_down, moves_up}
+use Rattle.dali_standing.proofs.Moves.{MaySendAt, is_up, controller_in, machine_of, up_there, place_elsewhere, moves_acted, moves_offered, moves_sent, moves_lost, moves_collided, moves_lapsed, moves_down, moves_up}
 use Rattle.dali_special.specs.declared.command.Command.TheVariants.{Arc}
 use Rattle.dali_special.proofs.Table.{arc_of}
 use Rattle.dali_controller.specs.Progress.{Progress}
 use Rattle.dali_events.proofs.Growing.{plain_hearing}
 use Rattle.dali_events.proofs.Sending.{lawful_of}
 use Rattle.dali_standing.proofs.Placing.{running_is}
-use Rattle.dali_standing.proofs.Settling.{IsNextAt, next_at, owner_put, is_collision, is_arc_of, arc_tells, may_ask, accepted, settled_acted, settled_offered, settled_sent, settled_lost, settled_collided, settled_lapsed, settled_down, settled_up}
+use Rattle.dali_standing.proofs.Settling.{next_at, owner_put, is_collision, is_arc_of, arc_tells, may_ask, accepted, settled_acted, settled_offered, settled_sent, settled_lost, settled_collided, settled_lapsed, settled_down, settled_up}
 
 -- WHAT A CALL DID, from what its parts did: the event moves what stood, and what stands is settled.
 pub record IsDone (was : Standing) (e : Event) (new : Seated) : Type 0 where
@@ -57,16 +55,16 @@ pub moved : (s : Seated) (e : Event) (new : Seated) → IsMove s e new → Moves
 moved s e new is w ms same =
     let gone = go (flat s) same is.allowed (λ drawn. is.world drawn) (λ drawn. is.machines drawn) in
     gone where
-  go : (f : Standing) → f ≡ stand_of w ms → ((drawn : List (ℕ × ℕ)) → Allowed (with_draws f drawn) e)
-      → ((drawn : List (ℕ × ℕ)) → with_draws (flat new) (happens (with_draws f drawn) e).drawn ≡ happens (with_draws f drawn) e)
-      → ((drawn : List (ℕ × ℕ)) → (flat new).machines ≡ machines_after (with_draws f drawn) f.machines e)
-      → Allowed w e × (flat new ≡ stand_of (happens w e) (machines_after w ms e))
-  go f same allowed world machines =
-      let allowed_w : Allowed w e = subst (λ (g : Standing). Allowed (with_draws g w.drawn) e) same (allowed w.drawn) in
-      let world_w : with_draws (flat new) (happens w e).drawn ≡ happens w e =
-        subst (λ (g : Standing). with_draws (flat new) (happens (with_draws g w.drawn) e).drawn ≡ happens (with_draws g w.drawn) e) same (world w.drawn) in
-      let machines_w : (flat new).machines ≡ machines_after w ms e = subst (λ (g : Standing). (flat new).machines ≡ machines_after (with_draws g w.drawn) g.machines e) same (machines w.drawn) in
-      (allowed_w, ap (λ (v : World). stand_of v (flat new).machines) world_w ∙ ap (stand_of (happens w e)) machines_w)
+      go : (f : Standing) → f ≡ stand_of w ms → ((drawn : List (ℕ × ℕ)) → Allowed (with_draws f drawn) e)
+          → ((drawn : List (ℕ × ℕ)) → with_draws (flat new) (happens (with_draws f drawn) e).drawn ≡ happens (with_draws f drawn) e)
+          → ((drawn : List (ℕ × ℕ)) → (flat new).machines ≡ machines_after (with_draws f drawn) f.machines e)
+          → Allowed w e × (flat new ≡ stand_of (happens w e) (machines_after w ms e))
+      go f same allowed world machines =
+          let allowed_w : Allowed w e = subst (λ (g : Standing). Allowed (with_draws g w.drawn) e) same (allowed w.drawn) in
+          let world_w : with_draws (flat new) (happens w e).drawn ≡ happens w e =
+          subst (λ (g : Standing). with_draws (flat new) (happens (with_draws g w.drawn) e).drawn ≡ happens (with_draws g w.drawn) e) same (world w.drawn) in
+          let machines_w : (flat new).machines ≡ machines_after w ms e = subst (λ (g : Standing). (flat new).machines ≡ machines_after (with_draws g w.drawn) g.machines e) same (machines w.drawn) in
+          (allowed_w, ap (λ (v : World). stand_of v (flat new).machines) world_w ∙ ap (stand_of (happens w e)) machines_w)
 
 -- the controller of a place, and its machine
 pub on_place : (s : Seated) (was : Standing) (c : ℕ) → flat s ≡ was → controller_on was c ≡ (place_at s c).controller
@@ -90,8 +88,8 @@ act_accepts s was c i o at bus view settled up due room read tied answer bus_is 
     let is : at ≡ place_at s c = place_read s.seats c at read (up_there s.seats c here) in
     subst (λ (b : Bus). IsAccepted b c o) (sym bus_is)
     (accepted s.bus c o (subst (λ (w : Standing). total w.bus < w.bus.capacity) (sym view) room)
-      (may_ask (world_of s []) c (place_at s c) i o (subst (λ (k : Controller). IsDue k i) (on_place s was c view) due)
-        (subst (λ (p : Place). IsTied p.controller p.machine) is tied) (subst (λ (p : Place). MayAnswer p.machine i o) is answer) (settled.places c)))
+    (may_ask (world_of s []) c (place_at s c) i o (subst (λ (k : Controller). IsDue k i) (on_place s was c view) due)
+    (subst (λ (p : Place). IsTied p.controller p.machine) is tied) (subst (λ (p : Place). MayAnswer p.machine i o) is answer) (settled.places c)))
 
 pub act_done : (s : Seated) (was : Standing) (c : ℕ) (i : Input) (o : Order) (at seat : Place) (bus bus' : Bus) (trace : List Entry) → flat s ≡ was → Settled s
     → (controller_on was c).up ≡ true → IsDue (controller_on was c) i
@@ -106,11 +104,11 @@ act_done s was c i o at seat bus bus' trace view settled up due read tied answer
     let answer_here = subst (λ (p : Place). MayAnswer p.machine i o) is answer in
     subst (λ (w : Standing). IsDone w (event.Acted c i o) (record { fitted = s.fitted; bus = bus'; trace = trace; seats = with_place s.seats c seat })) view
     (done_as (flat s) (event.Acted c i o) (has_acted s c i o) _
-      (rw (bus'_is, bus_is, trace_is, seat_is) (ap (λ (p : Place). record { fitted = s.fitted; bus = put_after (if gives_up s.bus c o then lapsed s.bus else s.bus) c o; trace = (if gives_up s.bus c o then [] else s.trace); seats = with_place s.seats c (acted_at p i o) }) is))
-      (record {
-        moves = moved s _ _ (moves_acted s c i o here due_here tied_here answer_here (settled.places c));
-        settled = settled_acted s c i o settled here due_here tied_here answer_here;
-      }))
+    (rw (bus'_is, bus_is, trace_is, seat_is) (ap (λ (p : Place). record { fitted = s.fitted; bus = put_after (if gives_up s.bus c o then lapsed s.bus else s.bus) c o; trace = (if gives_up s.bus c o then [] else s.trace); seats = with_place s.seats c (acted_at p i o) }) is))
+    (record {
+      moves = moved s _ _ (moves_acted s c i o here due_here tied_here answer_here (settled.places c));
+      settled = settled_acted s c i o settled here due_here tied_here answer_here;
+    }))
 
 pub act_answers : (s : Seated) (was : Standing) (c : ℕ) (i : Input) (o : Order) (at : Place) → flat s ≡ was → (controller_on was c).up ≡ true
     → at ≡ get_or s.seats c at → MayAnswer at.machine i o → MayAnswer (machine_on was c) i o
@@ -156,10 +154,13 @@ sender_hears s was r at h t u view settled first read t_is u_is scripted =
     let is : at ≡ place_at s r.sender = place_read s.seats r.sender at read (up_there s.seats r.sender n.up) in
     let known : (frame_put (place_at s r.sender).controller.last ≡ Some r.frame) × ((place_at s r.sender).controller.told ≡ None) × (u ≡ trace_of (place_at s r.sender).machine ++ entry r.frame h ∷ []) = go n.kind in
     subst (λ (p : Place). (frame_put p.controller.last ≡ Some r.frame) × (p.controller.told ≡ None) × (u ≡ trace_of p.machine ++ entry r.frame h ∷ [])) (sym is) known where
-  go : IsKind s r → (frame_put (place_at s r.sender).controller.last ≡ Some r.frame) × ((place_at s r.sender).controller.told ≡ None) × (u ≡ trace_of (place_at s r.sender).machine ++ entry r.frame h ∷ [])
-  go (inl k) = (rw k.2 refl, k.1,
-    u_is ∙ ap (λ v. v ++ entry r.frame h ∷ []) (t_is ∙ running_is (owns s.bus.owner r.sender) s.trace (place_at s r.sender) r.priority r.frame k.1 k.2 (settled.places r.sender)))
-  go (inr k) = absurd (let no = k.0 in cc)
+      go : IsKind s r → (frame_put (place_at s r.sender).controller.last ≡ Some r.frame) × ((place_at s r.sender).controller.told ≡ None) × (u ≡ trace_of (place_at s r.sender).machine ++ entry r.frame h ∷ [])
+      go (inl k) = (
+        rw k.2 refl,
+        k.1,
+        u_is ∙ ap (λ v. v ++ entry r.frame h ∷ []) (t_is ∙ running_is (owns s.bus.owner r.sender) s.trace (place_at s r.sender) r.priority r.frame k.1 k.2 (settled.places r.sender)),
+      )
+      go (inr k) = absurd (let no = k.0 in cc)
 
 pub sender_loses : (s : Seated) (was : Standing) (r : Request) (at : Place) → flat s ≡ was → Settled s → next was.bus ≡ Some r → at ≡ get_or s.seats r.sender at
     → is_arc (command_of r.frame) ≡ false → frame_put at.controller.last ≡ Some r.frame
@@ -167,9 +168,9 @@ sender_loses s was r at view settled first read scripted =
     let n = next_at s r settled (next_here s was r view first) in
     let is : at ≡ place_at s r.sender = place_read s.seats r.sender at read (up_there s.seats r.sender n.up) in
     subst (λ (p : Place). frame_put p.controller.last ≡ Some r.frame) (sym is) (go n.kind) where
-  go : IsKind s r → frame_put (place_at s r.sender).controller.last ≡ Some r.frame
-  go (inl k) = rw k.2 refl
-  go (inr k) = absurd (let no = k.0 in cc)
+      go : IsKind s r → frame_put (place_at s r.sender).controller.last ≡ Some r.frame
+      go (inl k) = rw k.2 refl
+      go (inr k) = absurd (let no = k.0 in cc)
 
 -- what is told does not hang on whose trace it is called
 told_running : (s : Seated) (r : Request) (h : Answer) → Settled s → next s.bus ≡ Some r
@@ -199,15 +200,15 @@ send_done s was r h at seat fitted bus t u v done view settled first draws heard
     let n = next_at s r settled here in
     let is : at ≡ place_at s r.sender = place_read s.seats r.sender at read (up_there s.seats r.sender n.up) in
     let seat_so : seat ≡ told_at (told_sent (running_in s r.sender) r.frame h) (place_at s r.sender) =
-      seat_is ∙ ap (λ (p : Place). told_at (told_sent (trace_of p.machine) r.frame h) p) is ∙ told_running s r h settled here in
+    seat_is ∙ ap (λ (p : Place). told_at (told_sent (trace_of p.machine) r.frame h) p) is ∙ told_running s r h settled here in
     let u_so : u ≡ running_in s r.sender ++ entry r.frame h ∷ [] = u_is ∙ ap (λ x. x ++ entry r.frame h ∷ []) t_is in
     let more_so : not done ≡ goes_on_in s r.sender (running_in s r.sender ++ entry r.frame h ∷ []) = not_not (goes_on_in s r.sender (running_in s r.sender ++ entry r.frame h ∷ [])) done
-      (done_is ∙ ap (λ (p : Place). not (may_follow p.controller.records.block p.controller.records.reserved (stage_of u))) seat_so ∙ ap (λ x. not (goes_on_in s r.sender x)) u_so) in
+    (done_is ∙ ap (λ (p : Place). not (may_follow p.controller.records.block p.controller.records.reserved (stage_of u))) seat_so ∙ ap (λ x. not (goes_on_in s r.sender x)) u_so) in
     let draws_here = subst (λ (w : Standing). draws_needed Everyone (command_of r.frame) 0 w.gear ≤ length w.left) (sym view) draws in
     subst (λ (w : Standing). IsDone w (event.Sent r.sender r.frame h) (record { fitted = fitted; bus = bus; trace = v; seats = with_place s.seats r.sender seat })) view
     (done_as (flat s) (event.Sent r.sender r.frame h) (has_sent s r.sender r.frame h) _
-      (rw (fitted_is, bus_is ∙ sent_is s.bus r (not done) here, v_is, u_so, seat_so, more_so) refl)
-      (record { moves = moved s _ _ (moves_sent s r.sender r.frame h n.up n.may draws_here heard); settled = settled_sent s r h settled here }))
+    (rw (fitted_is, bus_is ∙ sent_is s.bus r (not done) here, v_is, u_so, seat_so, more_so) refl)
+    (record { moves = moved s _ _ (moves_sent s r.sender r.frame h n.up n.may draws_here heard); settled = settled_sent s r h settled here }))
 
 pub destroy_done : (s : Seated) (was : Standing) (r : Request) (set : GearSet) (at seat : Place) (fitted : Fitted) (bus : Bus) (t : List Entry) → flat s ≡ was → Settled s → next was.bus ≡ Some r
     → draws_needed (Only set) (command_of r.frame) 0 was.gear ≤ length was.left
@@ -221,7 +222,7 @@ destroy_done s was r set at seat fitted bus t view settled first draws read fitt
     let draws_here = subst (λ (w : Standing). draws_needed (Only set) (command_of r.frame) 0 w.gear ≤ length w.left) (sym view) draws in
     subst (λ (w : Standing). IsDone w (event.Destroyed r.sender r.frame set) (record { fitted = fitted; bus = bus; trace = t; seats = with_place s.seats r.sender seat })) view
     (done_as (flat s) (event.Destroyed r.sender r.frame set) (has_lost s r.sender r.frame set) _ (rw (fitted_is, bus_is, t_is, seat_so) refl)
-      (record { moves = moved s _ _ (moves_lost s r.sender r.frame set n.up n.may draws_here); settled = settled_lost s r set settled here }))
+    (record { moves = moved s _ _ (moves_lost s r.sender r.frame set n.up n.may draws_here); settled = settled_lost s r set settled here }))
 
 -- what is heard under a trouble may be heard
 pub may_hear : (answers : List ℕ) (what : Trouble) (plain h : Answer) → plain ≡ heard_of answers → h ≡ heard_under what plain → Hears answers h
@@ -283,17 +284,17 @@ collide_done s was r q at seat at' seat' bus t view settled first both read seat
     let lost : Seated = has_lost s r.sender r.frame nobody_at_all in
     let seats_so : with_place s.seats r.sender seat ≡ lost.seats = first_lost s was r at seat view settled first read seat_is in
     let at'_so : at' ≡ place_at lost q.sender =
-      place_read lost.seats q.sender at' (subst (λ (ps : List Place). at' ≡ get_or ps q.sender at') seats_so read') (up_there lost.seats q.sender k.second.up) in
+    place_read lost.seats q.sender at' (subst (λ (ps : List Place). at' ≡ get_or ps q.sender at') seats_so read') (up_there lost.seats q.sender k.second.up) in
     let seat'_so : seat' ≡ told_at (told_destroyed q.frame) (place_at lost q.sender) = seat'_is ∙ ap (λ (p : Place). told_at (told_destroyed q.frame) p) at'_so in
     let there : q.sender < length s.seats = rival_there s was r q view settled first both in
     let up_q : (place_at s q.sender).controller.up ≡ true =
-      subst (λ (p : Place). p.controller.up ≡ true) (place_elsewhere s.seats r.sender q.sender (told_at (told_destroyed r.frame) (place_at s r.sender)) (λ e. k.apart (sym e))) k.second.up in
+    subst (λ (p : Place). p.controller.up ≡ true) (place_elsewhere s.seats r.sender q.sender (told_at (told_destroyed r.frame) (place_at s r.sender)) (λ e. k.apart (sym e))) k.second.up in
     subst (λ (w : Standing). IsDone w (event.Collided r.sender r.frame q.sender q.frame) (record { fitted = s.fitted; bus = bus; trace = t; seats = with_place (with_place s.seats r.sender seat) q.sender seat' })) view
     (done_as (flat s) (event.Collided r.sender r.frame q.sender q.frame) (has_collided s r.sender r.frame q.sender q.frame) _ (rw (bus_is, t_is, seats_so, seat'_so) refl)
-      (record {
-        moves = moved s _ _ (moves_collided s r.sender r.frame q.sender q.frame k.free k.apart k.first.up up_q (first_frame s r k.free k.first.may) (first_frame lost q refl k.second.may));
-        settled = settled_collided s r q settled here both;
-      }))
+    (record {
+      moves = moved s _ _ (moves_collided s r.sender r.frame q.sender q.frame k.free k.apart k.first.up up_q (first_frame s r k.free k.first.may) (first_frame lost q refl k.second.may));
+      settled = settled_collided s r q settled here both;
+    }))
 
 -- ---------------------------------------------------------------- the owner loses the bus, controllers go down and come up
 
@@ -303,7 +304,7 @@ lapse_done s was c at seat bus t view settled own read seat_is bus_is t_is =
     let is : at ≡ place_at s c = place_read s.seats c at read (up_there s.seats c (owner_put s c settled own).0) in
     subst (λ (w : Standing). IsDone w event.Lapsed (record { fitted = s.fitted; bus = bus; trace = t; seats = with_place s.seats c seat })) view
     (done_as (flat s) event.Lapsed (has_lapsed s) _ (rw (bus_is, t_is, seat_is, own) (ap (λ (p : Place). record { fitted = s.fitted; bus = lapsed s.bus; trace = []; seats = with_place s.seats c (told_at told_lapsed p) }) is))
-      (record { moves = moved s _ _ (moves_lapsed s); settled = settled_lapsed s settled }))
+    (record { moves = moved s _ _ (moves_lapsed s); settled = settled_lapsed s settled }))
 
 not_if : (b c : Bool) (t : List Entry) → b ≡ c → (if not b then t else []) ≡ (if c then [] else t)
 not_if true c t e = rw (← e) refl
@@ -317,8 +318,8 @@ down_done s was c at seat bus t owned view settled up owned_is read seat_is bus_
     let is : at ≡ place_at s c = place_read s.seats c at read (up_there s.seats c here) in
     subst (λ (w : Standing). IsDone w (event.Down c) (record { fitted = s.fitted; bus = bus; trace = t; seats = with_place s.seats c seat })) view
     (done_as (flat s) (event.Down c) (has_gone_down s c) _
-      (rw (bus_is, t_is ∙ not_if owned (owns s.bus.owner c) s.trace owned_is, seat_is) (ap (λ (p : Place). record { fitted = s.fitted; bus = silenced s.bus c; trace = (if owns s.bus.owner c then [] else s.trace); seats = with_place s.seats c (down_at p) }) is))
-      (record { moves = moved s _ _ (moves_down s c here); settled = settled_down s c settled here }))
+    (rw (bus_is, t_is ∙ not_if owned (owns s.bus.owner c) s.trace owned_is, seat_is) (ap (λ (p : Place). record { fitted = s.fitted; bus = silenced s.bus c; trace = (if owns s.bus.owner c then [] else s.trace); seats = with_place s.seats c (down_at p) }) is))
+    (record { moves = moved s _ _ (moves_down s c here); settled = settled_down s c settled here }))
 
 pub up_done : (s : Seated) (was : Standing) (c : ℕ) (kept : Bool) (at seat : Place) → flat s ≡ was → Settled s → c < length was.controllers → (controller_on was c).up ≡ false → HasOutstanding (controller_on was c) kept
     → at ≡ get_or s.seats c at → seat ≡ up_at c kept at → IsDone was (event.Up c kept) (record { fitted = s.fitted; bus = s.bus; trace = s.trace; seats = with_place s.seats c seat })
@@ -329,8 +330,8 @@ up_done s was c kept at seat view settled there down has read seat_is =
     let is : at ≡ place_at s c = place_read s.seats c at read there_s in
     subst (λ (w : Standing). IsDone w (event.Up c kept) (record { fitted = s.fitted; bus = s.bus; trace = s.trace; seats = with_place s.seats c seat })) view
     (done_as (flat s) (event.Up c kept) (has_come_up s c kept) _
-      (rw seat_is (ap (λ (p : Place). record { fitted = s.fitted; bus = s.bus; trace = s.trace; seats = with_place s.seats c (up_at c kept p) }) is))
-      (record { moves = moved s _ _ (moves_up s c kept there_s down_s has_s); settled = settled_up s c kept settled there_s down_s }))
+    (rw seat_is (ap (λ (p : Place). record { fitted = s.fitted; bus = s.bus; trace = s.trace; seats = with_place s.seats c (up_at c kept p) }) is))
+    (record { moves = moved s _ _ (moves_up s c kept there_s down_s has_s); settled = settled_up s c kept settled there_s down_s }))
 
 -- a seat that came up, or was refused
 pub up_settles : (res : Result (Unit {0}) Refusal) (s : Seated) (was : Standing) (c : ℕ) (kept : Bool) (at seat : Place) → flat s ≡ was → Settled s → c < length was.controllers → (controller_on was c).up ≡ false
@@ -353,8 +354,8 @@ pub may_be_sent : (s : Seated) (was : Standing) (r : Request) → flat s ≡ was
 may_be_sent s was r view settled first w ms same =
     let n = next_at s r settled (next_here s was r view first) in
     subst (λ (v : World). IsUp v r.sender × MaySend v r.sender r.frame) (drawn_in s was w ms view same) (is_up s r.sender w.drawn n.up, n.may w.drawn) where
-  drawn_in : (s : Seated) (was : Standing) (w : World) (ms : List (Option Progress)) → flat s ≡ was → was ≡ stand_of w ms → world_of s w.drawn ≡ w
-  drawn_in s was w ms view same = ap (λ (t : Standing). with_draws t w.drawn) (view ∙ same)
+      drawn_in : (s : Seated) (was : Standing) (w : World) (ms : List (Option Progress)) → flat s ≡ was → was ≡ stand_of w ms → world_of s w.drawn ≡ w
+      drawn_in s was w ms view same = ap (λ (t : Standing). with_draws t w.drawn) (view ∙ same)
 
 pub first_may_be_sent : (s : Seated) (was : Standing) (o : Option Request) → flat s ≡ was → Settled s → o ≡ next was.bus → IfSome o (MayBeSent was)
 first_may_be_sent s was None view settled is = tt
@@ -374,5 +375,5 @@ was_placed s was c at view settled up read tied m machine =
     let tied_here : IsRunning (place_at s c).controller m = subst (λ o. IsTied (place_at s c).controller o) has (subst (λ (p : Place). IsTied p.controller p.machine) is tied) in
     let placed : IsPlacedBy (owns s.bus.owner c) s.trace (place_at s c).controller (Some m) = subst (λ o. IsPlacedBy (owns s.bus.owner c) s.trace (place_at s c).controller o) has (settled.places c) in
     let both : IsRunning (controller_on was c) m × IsPlacedBy (owns s.bus.owner c) s.trace (controller_on was c) (Some m) =
-      subst (λ (k : Controller). IsRunning k m × IsPlacedBy (owns s.bus.owner c) s.trace k (Some m)) (sym (on_place s was c view)) (tied_here, placed) in
+    subst (λ (k : Controller). IsRunning k m × IsPlacedBy (owns s.bus.owner c) s.trace k (Some m)) (sym (on_place s was c view)) (tied_here, placed) in
     subst (λ (w : Standing). IsRunning (controller_on was c) m × IsPlacedBy (owns w.bus.owner c) w.trace (controller_on was c) (Some m)) view both

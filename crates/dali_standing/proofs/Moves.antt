@@ -1,7 +1,7 @@
-use Rattle.std.proofs.Common.{◌≡◌, ℕ, ◌+◌, ◌<◌, ◌≤◌, ◌⊎◌, inl, inr, Bool, true, false, not, List, [], ◌∷◌, ◌++◌, refl, sym, ap, subst, ◌∙◌, arith, length, map, get_or, set, get_or-set_same, get_or-set_other, Option, Some, None}
-use Rattle.std.specs.Prelude.{◌&&◌, ◌==◌, if◌then◌else◌, zero, suc}
+use Rattle.std.proofs.Common.{◌≡◌, ℕ, ◌+◌, ◌<◌, ◌≤◌, Bool, true, false, List, [], ◌∷◌, refl, sym, ap, subst, ◌∙◌, arith, length, map, get_or, set, get_or-set_same, get_or-set_other, Option, Some, None}
+use Rattle.std.specs.Prelude.{zero, suc}
 use Rattle.std.specs.Option.{option_map}
-use Rattle.std.proofs.lemmas.List.{map-set, length-map}
+use Rattle.std.proofs.lemmas.List.{length-map}
 use Rattle.dali_frame.specs.declared.frames.Forward.{Forward}
 use Rattle.dali_frame.specs.declared.frames.Answer.{Answer}
 use Rattle.dali_special.specs.Command.{command_of}
@@ -9,25 +9,22 @@ use Rattle.dali_gear.specs.declared.row.GearSet.{GearSet}
 use Rattle.dali_gear.specs.declared.row.Reach.TheVariants.{Everyone, Only}
 use Rattle.dali_gear.specs.ControlGear.{expired, quieted}
 use Rattle.dali_gear.specs.Row.{answers_of, draws_needed}
-use Rattle.dali_arbiter.specs.Bus.{Bus, owns}
+use Rattle.dali_arbiter.specs.Bus.{owns}
 use Rattle.dali_script.specs.declared.block.Block.{Block}
-use Rattle.dali_script.specs.declared.trace.Entry.{Entry}
 use Rattle.dali_script.specs.Records.{without_records}
 use Rattle.dali_events.specs.Plan.{SitePlan}
 use Rattle.dali_script.specs.Scripts.{IsFirst}
-use Rattle.dali_script.specs.Stages.{stage_of, may_follow}
 use Rattle.dali_controller.specs.declared.orders.Input.{Input}
 use Rattle.dali_controller.specs.declared.orders.Order.{Order}
 use Rattle.dali_controller.specs.Progress.{Progress, at_first}
 use Rattle.dali_controller.specs.Orders.{after}
-use Rattle.dali_events.specs.declared.event.Event.{Event}
 use Rattle.dali_events.specs.declared.event.Event.TheVariants as event
-use Rattle.dali_events.specs.World.{World, Controller, controller_at, nobody, changed, changed_gear, begun, start}
-use Rattle.dali_events.specs.Happens.{happens, entry, informed, acted, running, goes_on, sent_by, told_sent, told_destroyed, told_lapsed, owner_told, powered, gone_down, come_up}
-use Rattle.dali_events.specs.Allowed.{Allowed, Hears, IsUp, IsDue, IsArc, HasDraws, MaySend, MayOrder, IsActed, IsSent, IsDestroyed, IsCollided, IsDown, HasOutstanding}
-use Rattle.dali_standing.specs.Fitted.{Fitted, taken_at, changed_at}
+use Rattle.dali_events.specs.World.{World, Controller, nobody, changed, changed_gear, begun, start}
+use Rattle.dali_events.specs.Happens.{happens, informed, acted, told_sent, told_destroyed, told_lapsed, owner_told, powered, gone_down, come_up}
+use Rattle.dali_events.specs.Allowed.{Hears, IsUp, IsDue, IsArc, MaySend, MayOrder, HasOutstanding}
+use Rattle.dali_standing.specs.Fitted.{changed_at}
 use Rattle.dali_standing.specs.Places.{Place, IsTied, MayAnswer, acted_at, down_at, up_at, told_at}
-use Rattle.dali_standing.specs.Standing.{Seated, empty_place, place_in, place_at, controllers_of, machines_of, world_of, machine_in, machines_after, with_place, running_in, goes_on_in, has_acted, has_offered, has_sent, has_lost, has_collided, owner_lapsed, has_lapsed, with_gear, has_gone_down, has_come_up, IsMove, flat, stand_of, seats_from, seated_at, machines_at}
+use Rattle.dali_standing.specs.Standing.{Seated, empty_place, place_in, place_at, controllers_of, machines_of, world_of, machine_in, with_place, running_in, has_acted, has_offered, has_sent, has_lost, has_collided, owner_lapsed, has_lapsed, with_gear, has_gone_down, has_come_up, IsMove, flat, stand_of, seats_from, seated_at, machines_at}
 use Rattle.dali_standing.specs.Settled.{IsPlaced}
 use Rattle.dali_standing.proofs.Acts.{may_order}
 
@@ -201,10 +198,13 @@ moves_down s c up = record {
 pub moves_up : (s : Seated) (c : ℕ) (kept : Bool) → c < length s.seats → (place_at s c).controller.up ≡ false → HasOutstanding (place_at s c).controller kept
     → IsMove s (event.Up c kept) (has_come_up s c kept)
 moves_up s c kept there down has = record {
-  allowed = λ drawn. (record {
-    known = subst (λ n. c < n) (sym (length-map s.seats (λ p. p.controller))) there;
-    down = subst (λ (k : Controller). k.up ≡ false) (sym (controller_in s.seats c)) down;
-  }, subst (λ (k : Controller). HasOutstanding k kept) (sym (controller_in s.seats c)) has);
+  allowed = λ drawn. (
+    record {
+      known = subst (λ n. c < n) (sym (length-map s.seats (λ p. p.controller))) there;
+      down = subst (λ (k : Controller). k.up ≡ false) (sym (controller_in s.seats c)) down;
+    },
+    subst (λ (k : Controller). HasOutstanding k kept) (sym (controller_in s.seats c)) has,
+  );
   world = λ drawn. rw (changed_is s.seats c (come_up kept) (up_at c kept (place_at s c)) refl) refl;
   machines = λ drawn. machines_set s.seats c (up_at c kept (place_at s c)) ∙ ap (λ (k : Controller). set (machines_of s.seats) c (Some (at_first c (come_up kept k).records))) (sym (controller_in s.seats c));
 }

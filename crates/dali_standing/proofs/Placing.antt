@@ -1,14 +1,11 @@
-use Rattle.std.proofs.Common.{◌≡◌, ℕ, ◌+◌, ◌<◌, ◌≤◌, ◌⊎◌, inl, inr, Bool, true, false, not, List, [], ◌∷◌, ◌++◌, refl, sym, ap, subst, ◌∙◌, arith, length, Option, Some, None}
-use Rattle.std.specs.Prelude.{◌&&◌, ◌==◌, if◌then◌else◌}
+use Rattle.std.proofs.Common.{◌≡◌, ℕ, ◌⊎◌, inl, inr, Bool, true, false, not, List, [], ◌∷◌, ◌++◌, refl, sym, ap, subst, arith, Option, Some, None}
+use Rattle.std.specs.Prelude.{◌&&◌, if◌then◌else◌}
 use Rattle.std.proofs.lemmas.Bool.Decides.{nat_tests}
 use Rattle.dali_frame.specs.declared.frames.Forward.{Forward}
 use Rattle.dali_frame.specs.declared.frames.Answer.{Answer}
-use Rattle.dali_special.specs.declared.command.Command.{Command}
-use Rattle.dali_special.specs.declared.command.Command.TheVariants.{Arc}
 use Rattle.dali_special.specs.Command.{command_of}
 use Rattle.dali_arbiter.specs.Bus.{Bus, owns, lapsed}
 use Rattle.dali_script.specs.declared.trace.Entry.{Entry}
-use Rattle.dali_script.specs.Scripts.{Lawful, IsFirst}
 use Rattle.dali_script.specs.Stages.{stage_of, may_follow}
 use Rattle.dali_controller.specs.declared.orders.Input.{Input}
 use Rattle.dali_controller.specs.declared.orders.Input.TheVariants as input
@@ -17,7 +14,7 @@ use Rattle.dali_controller.specs.declared.orders.Order.TheVariants.{Put, Commit,
 use Rattle.dali_controller.specs.Progress.{Progress}
 use Rattle.dali_controller.specs.Orders.{after}
 use Rattle.dali_events.specs.World.{World, Controller}
-use Rattle.dali_events.specs.Happens.{entry, informed, acted, gives_up, keeps_bus, bus_acted, told_sent, told_destroyed, told_lapsed, is_arc}
+use Rattle.dali_events.specs.Happens.{entry, informed, acted, gives_up, keeps_bus, bus_acted, told_sent, is_arc}
 use Rattle.dali_events.specs.Allowed.{IsDue}
 use Rattle.dali_standing.specs.Places.{Place, IsTied, MayAnswer, acted_at, told_at, down_at, up_at, trace_of}
 use Rattle.dali_standing.specs.Settled.{IsOwning, IsApart, IsPlacedBy, IsPlaced}
@@ -52,6 +49,7 @@ left_bus b c o e = go o e (owns b.owner c) refl where
   freed_or : (x : Bool) → owns b.owner c ≡ x → owns (if x && true then lapsed b else b).owner c ≡ false
   freed_or true own = refl
   freed_or false own = own
+
   go : (o : Order) → keeps_bus o ≡ false → (x : Bool) → owns b.owner c ≡ x → owns (bus_acted b c o).owner c ≡ false
   go (Put p f) e x own = rw (e, own) (freed_or x own)
   go (Commit y) e x own = rw own (freed_or x own)
@@ -81,6 +79,7 @@ owner_acted b c o = go o where
   freed : (x : Bool) → (if x then lapsed b else b).owner ≡ (if x then None else b.owner)
   freed true = refl
   freed false = refl
+
   go : (o' : Order) → (bus_acted b c o').owner ≡ (if gives_up b c o' then None else b.owner)
   go (Put p f) = freed (gives_up b c (Put p f))
   go (Commit y) = freed (gives_up b c (Commit y))
@@ -98,9 +97,9 @@ IsOthers o t o' t' d = ((owns o' d ≡ owns o d) × (t' ≡ t)) ⊎ ((owns o d �
 pub acted_other : (b : Bus) (t : List Entry) (c d : ℕ) (o : Order) → (d ≡ c → ⊥) → IsOthers b.owner t (bus_acted b c o).owner (if gives_up b c o then [] else t) d
 acted_other b t c d o other =
     subst (λ q. IsOthers b.owner t q (if gives_up b c o then [] else t) d) (sym (owner_acted b c o)) (go (gives_up b c o) (λ e. owner_is b.owner c (first_holds (owns b.owner c) (not (keeps_bus o)) e))) where
-  go : (x : Bool) → (x ≡ true → b.owner ≡ Some c) → IsOthers b.owner t (if x then None else b.owner) (if x then [] else t) d
-  go true own = inr (other_owns b.owner c d other (own refl), refl)
-  go false own = inl (refl, refl)
+      go : (x : Bool) → (x ≡ true → b.owner ≡ Some c) → IsOthers b.owner t (if x then None else b.owner) (if x then [] else t) d
+      go true own = inr (other_owns b.owner c d other (own refl), refl)
+      go false own = inl (refl, refl)
 
 -- ---------------------------------------------------------------- frames
 
@@ -141,12 +140,13 @@ pub placed_told : (t u : List Entry) (b : Bool) (p p' : Place) (q : ℕ) (f : Fo
     → p'.controller.told ≡ Some i → (i ≡ input.Destroyed) ⊎ (i ≡ input.Lapsed) → IsPlaced false u p'
 placed_told t u b p p' q f i placed last same_m same_l told which =
     subst (λ m. IsPlacedBy false u p'.controller m) (sym same_m) (go p.machine (machine_there b t p (Put q f) last placed)) where
-  over : (m : Progress) → (i ≡ input.Destroyed) ⊎ (i ≡ input.Lapsed) → IsApart p'.controller m (Some (Put q f)) (Some i)
-  over m (inl e) = rw e tt
-  over m (inr e) = rw e tt
-  go : (m : Option Progress) → (m ≡ None → ⊥) → IsPlacedBy false u p'.controller m
-  go None there = absurd (there refl)
-  go (Some m) there = rw (same_l, last, told) (over m which)
+      over : (m : Progress) → (i ≡ input.Destroyed) ⊎ (i ≡ input.Lapsed) → IsApart p'.controller m (Some (Put q f)) (Some i)
+      over m (inl e) = rw e tt
+      over m (inr e) = rw e tt
+
+      go : (m : Option Progress) → (m ≡ None → ⊥) → IsPlacedBy false u p'.controller m
+      go None there = absurd (there refl)
+      go (Some m) there = rw (same_l, last, told) (over m which)
 
 -- a controller that went down, or came up
 pub placed_down : (u : List Entry) (p : Place) → IsPlaced false u (down_at p)

@@ -84,6 +84,7 @@ picked_other test r n [] fails = refl
 picked_other test r n (l ∷ lists) fails = go (r.priority == n) (picked_other test r (n + 1) lists fails) where
   last : filter test (l ++ r ∷ []) ≡ filter test l
   last = filter-append test l (r ∷ []) ∙ rw fails (append-nil (filter test l))
+
   go : (b : Bool) → picked test (put_last r (n + 1) lists) ≡ picked test lists
       → filter test (if b then l ++ r ∷ [] else l) ++ picked test (put_last r (n + 1) lists) ≡ filter test l ++ picked test lists
   go true later = rw (last, later) refl
@@ -106,6 +107,7 @@ picked_added test r n (l ∷ lists) none holds least most =
     (λ other. picked_added test r (n + 1) lists (none_right (filter test l) (picked test lists) none) holds (omega (arith, other)) (omega arith)) where
       here : filter test l ≡ []
       here = none_left (filter test l) (picked test lists) none
+
       go : (r.priority ≡ n) ⊎ (r.priority ≡ n → ⊥) → ((r.priority ≡ n → ⊥) → picked test (put_last r (n + 1) lists) ≡ r ∷ [])
           → filter test (if r.priority == n then l ++ r ∷ [] else l) ++ picked test (put_last r (n + 1) lists) ≡ r ∷ []
       go (inl is) later =
@@ -210,6 +212,7 @@ taken_free rest place r served first = record {
 } where
   is : is_arc (command_of r.frame) ≡ false → awaited r.sender (place r.sender).controller ≡ r ∷ picked (is_scripted r.sender) (without_first rest)
   is scripted = sym (served.1 r.sender) ∙ taken_own (is_scripted r.sender) rest r first (scripted_own r.sender r refl scripted)
+
   short : is_arc (command_of r.frame) ≡ false → picked (is_scripted r.sender) (without_first rest) ≡ []
   short scripted =
       (awaited_one r.sender (place r.sender).controller.told (place r.sender).controller.last r (picked (is_scripted r.sender) (without_first rest)) (sym (is scripted))).0
@@ -346,6 +349,7 @@ module _ (lists : List (List Request)) (owner : Option ℕ) (place place' : ℕ 
     own : Gone owner place place' r → picked (is_scripted r.sender) left.rest ≡ awaited r.sender (place' r.sender).controller
     own (inl g) = left.own g.0 ∙ sym g.1
     own (inr g) = left.arc g.0 g.2 ∙ moved place place' r.sender g.1
+
     go : (d : ℕ) → (d ≡ r.sender) ⊎ (d ≡ r.sender → ⊥) → picked (is_scripted d) left.rest ≡ awaited d (place' d).controller
     go d (inl e) = subst (λ n. picked (is_scripted n) left.rest ≡ awaited n (place' n).controller) (sym e) (own gone)
     go d (inr other) = left.others d other ∙ moved place place' d (elsewhere d other)
@@ -410,6 +414,7 @@ module _ (lists : List (List Request)) (place place' : ℕ → Place) (r q : Req
       (gone_after (λ e. collision_apart lists r q first second (sym e)) other_gone) where
         before : IsServed (without_first lists) None between
         before = left_first lists None place between r (taken_is lists None place r served first) between_other (gone_before gone)
+
         go : (d : ℕ) → (d ≡ q.sender → ⊥) → (d ≡ r.sender) ⊎ (d ≡ r.sender → ⊥) → place' d ≡ between d
         go d other (inl is) = sym (between_own d is)
         go d other (inr apart) = elsewhere d apart other ∙ sym (between_other d apart)
@@ -522,8 +527,10 @@ module _ (place place' : ℕ → Place) (c : ℕ) (f : Forward) where
   put_owned (first ∷ rest) served elsewhere none new = (now, λ d. ap (picked (is_scripted d)) beyond ∙ served.1 d ∙ go d (decided d c)) where
     now : first ++ request_of c 1 f ∷ [] ≡ awaited c (place' c).controller
     now = let e : first ≡ [] = served.0 ∙ none in rw e (sym new)
+
     beyond : put_last (request_of c 1 f) 2 rest ≡ rest
     beyond = put_beyond (request_of c 1 f) 2 rest (omega arith)
+
     go : (d : ℕ) → (d ≡ c) ⊎ (d ≡ c → ⊥) → (if c == d then [] else awaited d (place d).controller) ≡ (if c == d then [] else awaited d (place' d).controller)
     go d (inl e) =
         let test : (c == d) ≡ true = rw e (same_test c) in
@@ -538,8 +545,10 @@ module _ (place place' : ℕ → Place) (c : ℕ) (f : Forward) where
       (served.0 ∙ owners_elsewhere owner place place' c apart elsewhere, λ d. go d (decided d c)) where
         nothing : picked (is_scripted c) rest ≡ []
         nothing = served.1 c ∙ rest_free (owns owner c) (awaited c (place c).controller) apart ∙ none
+
         added : picked (is_scripted c) (put_last (request_of c 3 f) 2 rest) ≡ request_of c 3 f ∷ []
         added = picked_added (is_scripted c) (request_of c 3 f) 2 rest nothing (scripted_own c (request_of c 3 f) refl scripted) (omega arith) (omega arith)
+
         go : (d : ℕ) → (d ≡ c) ⊎ (d ≡ c → ⊥)
             → picked (is_scripted d) (put_last (request_of c 3 f) 2 rest) ≡ (if owns owner d then [] else awaited d (place' d).controller)
         go d (inl e) =
@@ -565,8 +574,8 @@ module _ (b : Bus) (place place' : ℕ → Place) (c : ℕ) (served : IsServed b
       → IsServed (bus_acted b c (Put 1 f)).lists (bus_acted b c (Put 1 f)).owner place'
   acted_owned f owned new = rw owned (subst (λ o. IsServed (put_last (request_of c 1 f) 1 b.lists) o place') (sym owner)
       (put_owned place place' c f b.lists (subst (λ o. IsServed b.lists o place) owner served) elsewhere none new)) where
-    owner : b.owner ≡ Some c
-    owner = owned_is b.owner c owned
+        owner : b.owner ≡ Some c
+        owner = owned_is b.owner c owned
 
   acted_third : (f : Forward) → length b.lists ≡ 5 → is_arc (command_of f) ≡ false → awaited c (place' c).controller ≡ request_of c 3 f ∷ []
       → IsServed (bus_acted b c (Put 3 f)).lists (bus_acted b c (Put 3 f)).owner place'
@@ -619,6 +628,7 @@ five_acted b c o five = go o (before (gives_up b c o)) where
   before : (t : Bool) → length (if t then lapsed b else b).lists ≡ 5
   before true = five_lapsed b five
   before false = five
+
   go : (x : Order) → length (if gives_up b c o then lapsed b else b).lists ≡ 5 → length (put_after (if gives_up b c o then lapsed b else b) c x).lists ≡ 5
   go (Put p f) is = five_offered (if gives_up b c o then lapsed b else b) (request_of c p f) is
   go (Commit x) is = is
@@ -717,6 +727,7 @@ up_acted b place c o all is = go o (before (gives_up b c o)) where
   before : (t : Bool) → AreUp (if t then lapsed b else b).lists place
   before true = up_lapsed b place all
   before false = all
+
   go : (x : Order) → AreUp (if gives_up b c o then lapsed b else b).lists place → AreUp (put_after (if gives_up b c o then lapsed b else b) c x).lists place
   go (Put p f) then_all = up_offered (if gives_up b c o then lapsed b else b) place (request_of c p f) then_all is
   go (Commit x) then_all = then_all
@@ -734,6 +745,7 @@ pub up_collided : (b : Bus) (place : ℕ → Place) → AreUp b.lists place → 
 up_collided b place all = go (is_some (collision b.lists)) where
   once : AreUp (without_first b.lists) place
   once = all_without (UpAt place) b.lists all
+
   go : (t : Bool) → AreUp (freed (if t then taken (taken b) else taken b)).lists place
   go true = all_emptied (UpAt place) (without_first (without_first b.lists)) (all_without (UpAt place) (without_first b.lists) once)
   go false = all_emptied (UpAt place) (without_first b.lists) once
@@ -743,6 +755,7 @@ pub up_silenced : (b : Bus) (place place' : ℕ → Place) (c : ℕ) → AreUp b
 up_silenced b place place' c all elsewhere = go (owns b.owner c) where
   others : AreUp (map (without_sender c) b.lists) place'
   others = all_muted (UpAt place) (UpAt place') c b.lists (λ r other is. subst (λ p. p.controller.up ≡ true) (sym (elsewhere r.sender other)) is) all
+
   go : (t : Bool) → AreUp (if t then freed (muted b c) else muted b c).lists place'
   go true = all_emptied (UpAt place') (map (without_sender c) b.lists) others
   go false = others

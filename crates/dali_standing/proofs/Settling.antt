@@ -1,5 +1,5 @@
-use Rattle.std.proofs.Common.{◌≡◌, ℕ, ◌+◌, ◌<◌, ◌≤◌, ◌⊎◌, inl, inr, Bool, true, false, not, List, [], ◌∷◌, ◌++◌, refl, sym, ap, subst, ◌∙◌, arith, length, nat_eq, sum_by, is_some, Option, Some, None}
-use Rattle.std.specs.Prelude.{◌&&◌, ◌==◌, if◌then◌else◌, zero, suc}
+use Rattle.std.proofs.Common.{◌≡◌, ℕ, ◌+◌, ◌<◌, ◌≤◌, ◌⊎◌, inl, inr, Bool, true, false, List, [], ◌∷◌, ◌++◌, refl, sym, ap, subst, ◌∙◌, arith, length, nat_eq, sum_by, is_some, Option, Some, None}
+use Rattle.std.specs.Prelude.{◌==◌, if◌then◌else◌, zero, suc}
 use Rattle.std.proofs.lemmas.Bool.Decides.{nat_tests}
 use Rattle.std.proofs.lemmas.List.Sums.{sum_by-cons}
 use Rattle.dali_frame.specs.declared.frames.Forward.{Forward}
@@ -26,11 +26,11 @@ use Rattle.dali_controller.specs.declared.orders.Order.TheVariants.{Put, Commit,
 use Rattle.dali_controller.specs.Progress.{Progress}
 use Rattle.dali_controller.specs.Orders.{after}
 use Rattle.dali_events.specs.World.{World, Controller}
-use Rattle.dali_events.specs.Happens.{entry, informed, acted, gives_up, keeps_bus, bus_acted, is_arc, told_sent, told_destroyed, told_lapsed, sent_by}
+use Rattle.dali_events.specs.Happens.{entry, informed, gives_up, bus_acted, is_arc, told_sent, told_destroyed, told_lapsed, sent_by}
 use Rattle.dali_events.specs.Allowed.{IsDue, IsCommit, IsArc}
 use Rattle.dali_standing.specs.Places.{Place, IsTied, MayAnswer, acted_at, told_at, down_at, up_at, begun_at}
 use Rattle.dali_standing.specs.Standing.{Seated, place_in, place_at, world_of, with_place, running_in, goes_on_in, owner_lapsed, has_acted, has_offered, has_sent, has_lost, has_collided, has_lapsed, has_gone_down, has_come_up, seated_at, seats_from, empty_place}
-use Rattle.dali_standing.specs.Settled.{IsOwning, IsApart, IsPlacedBy, IsPlaced, awaited, awaited_by, IsServed, AreUp, IsSettled, IsAccepted, Settled}
+use Rattle.dali_standing.specs.Settled.{IsOwning, IsApart, IsPlacedBy, IsPlaced, awaited, awaited_by, IsServed, IsSettled, IsAccepted, Settled}
 use Rattle.dali_standing.proofs.Acts.{IsLeft, may_order, owner_owns, owner_is, other_owns, committed_last}
 use Rattle.dali_standing.proofs.Moves.{MaySendAt, controller_in, place_here, place_elsewhere, up_there}
 use Rattle.dali_standing.proofs.Placing.{kept_bus, IsOthers, placed_apart, placed_other, placed_acted, acted_other, placed_sent, placed_told}
@@ -148,6 +148,7 @@ free_next : (s : Seated) (r : Request) → Settled s → next s.bus ≡ Some r �
 free_next s r settled first free = go (is_arc (command_of r.frame)) refl where
   none_owns : (d : ℕ) → owns s.bus.owner d ≡ false
   none_owns d = rw free refl
+
   go : (b : Bool) → is_arc (command_of r.frame) ≡ b → IsNextAt s r
   go true arc = record {
     up = next_up s.bus (place_in s.seats) r settled.up first;
@@ -267,11 +268,11 @@ settled_acted s c i o settled up due tied answer =
       five = five_acted s.bus c o settled.five;
       running = running_changed s.seats c p there (settled.running c ∙ sym (mapped_running (place_at s c).machine (λ m. after m i o))) settled.running;
       places = places_changed s.seats c p s.bus.owner (bus_acted s.bus c o).owner s.trace (if gives_up s.bus c o then [] else s.trace) there
-        (placed_acted (world_of s []) c (place_at s c) i o due tied answer (settled.places c)) (λ d other. acted_other s.bus s.trace c d o other) settled.places;
+          (placed_acted (world_of s []) c (place_at s c) i o due tied answer (settled.places c)) (λ d other. acted_other s.bus s.trace c d o other) settled.places;
       served = served_acted s.bus (place_in s.seats) (place_in (with_place s.seats c p)) c o settled.five settled.served (elsewhere_changed s.seats c p)
-        (due_awaits c (place_at s c).controller i due) (ap (λ (q : Place). awaited c q.controller) (place_here s.seats c p there)) asks;
+          (due_awaits c (place_at s c).controller i due) (ap (λ (q : Place). awaited c q.controller) (place_here s.seats c p there)) asks;
       up = up_more (bus_acted s.bus c o).lists (place_in s.seats) (place_in (with_place s.seats c p)) (up_changed s.seats c p there up)
-        (up_acted s.bus (place_in s.seats) c o settled.up up);
+          (up_acted s.bus (place_in s.seats) c o settled.up up);
     }
 
 -- ---------------------------------------------------------------- requests and frames
@@ -294,8 +295,10 @@ gone_sender : (s : Seated) (r : Request) (p : Place) → IsNextAt s r → (is_ar
 gone_sender s r p n scripted arc = go n.kind where
   there : r.sender < length s.seats
   there = up_there s.seats r.sender n.up
+
   here : place_in (with_place s.seats r.sender p) r.sender ≡ p
   here = place_here s.seats r.sender p there
+
   go : ((is_arc (command_of r.frame) ≡ false) × ((place_at s r.sender).controller.told ≡ None) × ((place_at s r.sender).controller.last ≡ Some (Put r.priority r.frame)))
       ⊎ ((is_arc (command_of r.frame) ≡ true) × (s.bus.owner ≡ None)) → Gone s.bus.owner (place_in s.seats) (place_in (with_place s.seats r.sender p)) r
   go (inl k) = inl (k.0, ap (λ (q : Place). awaited r.sender q.controller) here ∙ scripted k.0)
@@ -308,14 +311,14 @@ others_after s r n false t u d other = inr (n.owner d other, refl)
 
 sent_here : (s : Seated) (r : Request) (h : Answer) (n : IsNextAt s r) → IsPlaced (owns s.bus.owner r.sender) s.trace (place_at s r.sender)
     → IsPlaced (owns (if goes_on_in s r.sender (running_in s r.sender ++ entry r.frame h ∷ []) then Some r.sender else None) r.sender)
-      (if goes_on_in s r.sender (running_in s r.sender ++ entry r.frame h ∷ []) then running_in s r.sender ++ entry r.frame h ∷ [] else [])
-      (told_at (told_sent (running_in s r.sender) r.frame h) (place_at s r.sender))
+    (if goes_on_in s r.sender (running_in s r.sender ++ entry r.frame h ∷ []) then running_in s r.sender ++ entry r.frame h ∷ [] else [])
+    (told_at (told_sent (running_in s r.sender) r.frame h) (place_at s r.sender))
 sent_here s r h n placed = go n.kind where
   go : ((is_arc (command_of r.frame) ≡ false) × ((place_at s r.sender).controller.told ≡ None) × ((place_at s r.sender).controller.last ≡ Some (Put r.priority r.frame)))
       ⊎ ((is_arc (command_of r.frame) ≡ true) × (s.bus.owner ≡ None))
       → IsPlaced (owns (if goes_on_in s r.sender (running_in s r.sender ++ entry r.frame h ∷ []) then Some r.sender else None) r.sender)
-        (if goes_on_in s r.sender (running_in s r.sender ++ entry r.frame h ∷ []) then running_in s r.sender ++ entry r.frame h ∷ [] else [])
-        (told_at (told_sent (running_in s r.sender) r.frame h) (place_at s r.sender))
+      (if goes_on_in s r.sender (running_in s r.sender ++ entry r.frame h ∷ []) then running_in s r.sender ++ entry r.frame h ∷ [] else [])
+      (told_at (told_sent (running_in s r.sender) r.frame h) (place_at s r.sender))
   go (inl k) = placed_sent s.bus.owner r.sender s.trace (place_at s r.sender) r.priority r.frame h (goes_on_in s r.sender (running_in s r.sender ++ entry r.frame h ∷ [])) k.0 k.1 k.2 placed refl
   go (inr k) =
       let over : goes_on_in s r.sender (running_in s r.sender ++ entry r.frame h ∷ []) ≡ false = arc_ends s r h k.0 k.1 in
@@ -332,12 +335,12 @@ settled_sent s r h settled first =
       five = five_sent s.bus r.sender more settled.five;
       running = running_changed s.seats r.sender p there (settled.running r.sender) settled.running;
       places = places_changed s.seats r.sender p s.bus.owner (if more then Some r.sender else None) s.trace (if more then running_in s r.sender ++ entry r.frame h ∷ [] else []) there
-        (sent_here s r h n (settled.places r.sender)) (λ d other. others_after s r n more s.trace (if more then running_in s r.sender ++ entry r.frame h ∷ [] else []) d other) settled.places;
+          (sent_here s r h n (settled.places r.sender)) (λ d other. others_after s r n more s.trace (if more then running_in s r.sender ++ entry r.frame h ∷ [] else []) d other) settled.places;
       served = served_sent s.bus (place_in s.seats) (place_in (with_place s.seats r.sender p)) r more settled.served first (elsewhere_changed s.seats r.sender p)
-        (gone_sender s r p n (λ scripted. told_awaits r.sender p.controller.told p.controller.last (input.Heard h) (rw scripted refl)) (λ arc. arc_tells (running_in s r.sender) r.frame h (place_at s r.sender) arc))
-        (arc_more s r h n);
+          (gone_sender s r p n (λ scripted. told_awaits r.sender p.controller.told p.controller.last (input.Heard h) (rw scripted refl)) (λ arc. arc_tells (running_in s r.sender) r.frame h (place_at s r.sender) arc))
+          (arc_more s r h n);
       up = up_more (sent_by s.bus r.sender more).lists (place_in s.seats) (place_in (with_place s.seats r.sender p)) (up_changed s.seats r.sender p there n.up)
-        (up_sent s.bus (place_in s.seats) r.sender more settled.up);
+          (up_sent s.bus (place_in s.seats) r.sender more settled.up);
     }
 
 lost_here : (s : Seated) (r : Request) (n : IsNextAt s r) → IsPlaced (owns s.bus.owner r.sender) s.trace (place_at s r.sender)
@@ -346,9 +349,9 @@ lost_here s r n placed = go n.kind where
   go : ((is_arc (command_of r.frame) ≡ false) × ((place_at s r.sender).controller.told ≡ None) × ((place_at s r.sender).controller.last ≡ Some (Put r.priority r.frame)))
       ⊎ ((is_arc (command_of r.frame) ≡ true) × (s.bus.owner ≡ None)) → IsPlaced false [] (told_at (told_destroyed r.frame) (place_at s r.sender))
   go (inl k) = placed_told s.trace [] (owns s.bus.owner r.sender) (place_at s r.sender) (told_at (told_destroyed r.frame) (place_at s r.sender)) r.priority r.frame input.Destroyed placed k.2 refl refl
-    (rw k.0 refl) (inl refl)
+      (rw k.0 refl) (inl refl)
   go (inr k) = subst (λ (q : Place). IsPlaced false [] q) (sym (arc_loses r.frame (place_at s r.sender) k.0))
-    (placed_apart s.trace [] (place_at s r.sender) (subst (λ o. IsPlaced (owns o r.sender) s.trace (place_at s r.sender)) k.1 placed))
+      (placed_apart s.trace [] (place_at s r.sender) (subst (λ o. IsPlaced (owns o r.sender) s.trace (place_at s r.sender)) k.1 placed))
 
 pub settled_lost : (s : Seated) (r : Request) (set : GearSet) → Settled s → next s.bus ≡ Some r → Settled (has_lost s r.sender r.frame set)
 settled_lost s r set settled first =
@@ -359,11 +362,11 @@ settled_lost s r set settled first =
       five = five_destroyed s.bus settled.five;
       running = running_changed s.seats r.sender p there (settled.running r.sender) settled.running;
       places = places_changed s.seats r.sender p s.bus.owner None s.trace [] there (lost_here s r n (settled.places r.sender))
-        (λ d other. others_after s r n false s.trace [] d other) settled.places;
+          (λ d other. others_after s r n false s.trace [] d other) settled.places;
       served = served_destroyed s.bus (place_in s.seats) (place_in (with_place s.seats r.sender p)) r settled.served first (elsewhere_changed s.seats r.sender p)
-        (gone_sender s r p n (λ scripted. told_awaits r.sender p.controller.told p.controller.last input.Destroyed (rw scripted refl)) (λ arc. arc_loses r.frame (place_at s r.sender) arc));
+          (gone_sender s r p n (λ scripted. told_awaits r.sender p.controller.told p.controller.last input.Destroyed (rw scripted refl)) (λ arc. arc_loses r.frame (place_at s r.sender) arc));
       up = up_more (destroyed s.bus).lists (place_in s.seats) (place_in (with_place s.seats r.sender p)) (up_changed s.seats r.sender p there n.up)
-        (up_destroyed s.bus (place_in s.seats) settled.up);
+          (up_destroyed s.bus (place_in s.seats) settled.up);
     }
 
 -- ---------------------------------------------------------------- two frames collide
@@ -409,7 +412,7 @@ pub settled_collided : (s : Seated) (r q : Request) → Settled s → next s.bus
 settled_collided s r q settled first both =
     let k : IsCollision s r q = is_collision s r q settled first both in
     let twice : Settled (has_lost (has_lost s r.sender r.frame nobody_at_all) q.sender q.frame nobody_at_all) =
-      settled_lost (has_lost s r.sender r.frame nobody_at_all) q nobody_at_all (settled_lost s r nobody_at_all settled first) k.then_next in
+    settled_lost (has_lost s r.sender r.frame nobody_at_all) q nobody_at_all (settled_lost s r nobody_at_all settled first) k.then_next in
     subst (λ (b : Bus). IsSettled b [] (place_in (has_collided s r.sender r.frame q.sender q.frame).seats)) (sym k.bus) twice
 
 -- ---------------------------------------------------------------- the owner loses the bus
@@ -431,9 +434,9 @@ pub owner_put : (s : Seated) (c : ℕ) → Settled s → s.bus.owner ≡ Some c
 owner_put s c settled own =
     let placed : IsPlaced true s.trace (place_at s c) = subst (λ b. IsPlaced b s.trace (place_at s c)) (owner_owns s.bus.owner c own) (settled.places c) in
     (settled.running c ∙ machine_some s.trace (place_at s c).controller (place_at s c).machine placed, owning_put s.trace (place_at s c) placed) where
-  machine_some : (t : List Entry) (k : Controller) (m : Option Progress) → IsPlacedBy true t k m → is_some m ≡ true
-  machine_some t k None placed = absurd (let no : true ≡ false = placed.0 in cc)
-  machine_some t k (Some m) placed = refl
+      machine_some : (t : List Entry) (k : Controller) (m : Option Progress) → IsPlacedBy true t k m → is_some m ≡ true
+      machine_some t k None placed = absurd (let no : true ≡ false = placed.0 in cc)
+      machine_some t k (Some m) placed = refl
 
 pub settled_lapsed : (s : Seated) → Settled s → Settled (has_lapsed s)
 settled_lapsed s settled = go s.bus.owner refl where
@@ -453,10 +456,10 @@ settled_lapsed s settled = go s.bus.owner refl where
         five = five_lapsed s.bus settled.five;
         running = running_changed s.seats c p there (settled.running c) settled.running;
         places = places_changed s.seats c p s.bus.owner None s.trace [] there
-          (placed_told s.trace [] (owns s.bus.owner c) (place_at s c) p put.1.0 put.1.1 input.Lapsed (settled.places c) put.1.2 refl refl refl (inr refl))
-          (λ d other. inr (other_owns s.bus.owner c d other own, refl)) settled.places;
+            (placed_told s.trace [] (owns s.bus.owner c) (place_at s c) p put.1.0 put.1.1 input.Lapsed (settled.places c) put.1.2 refl refl refl (inr refl))
+            (λ d other. inr (other_owns s.bus.owner c d other own, refl)) settled.places;
         served = served_lapsed s.bus (place_in s.seats) (place_in (with_place s.seats c p)) c settled.served own (elsewhere_changed s.seats c p)
-          (ap (λ (q : Place). awaited c q.controller) (place_here s.seats c p there));
+            (ap (λ (q : Place). awaited c q.controller) (place_here s.seats c p there));
         up = up_more (lapsed s.bus).lists (place_in s.seats) (place_in (with_place s.seats c p)) (up_changed s.seats c p there put.0) (up_lapsed s.bus (place_in s.seats) settled.up);
       }
 
@@ -482,9 +485,9 @@ settled_down s c settled up =
       five = five_silenced s.bus c settled.five;
       running = running_changed s.seats c p there refl settled.running;
       places = places_changed s.seats c p s.bus.owner (silenced s.bus c).owner s.trace (if owns s.bus.owner c then [] else s.trace) there
-        (rw (silenced_here s.bus c) (refl, refl)) (λ d other. silenced_others s.bus s.trace c d other) settled.places;
+          (rw (silenced_here s.bus c) (refl, refl)) (λ d other. silenced_others s.bus s.trace c d other) settled.places;
       served = served_silenced s.bus (place_in s.seats) (place_in (with_place s.seats c p)) c settled.served (elsewhere_changed s.seats c p)
-        (ap (λ (q : Place). awaited c q.controller) (place_here s.seats c p there));
+          (ap (λ (q : Place). awaited c q.controller) (place_here s.seats c p there));
       up = up_silenced s.bus (place_in s.seats) (place_in (with_place s.seats c p)) c settled.up (elsewhere_changed s.seats c p);
     }
 
@@ -494,6 +497,7 @@ down_rests s c settled down = go (place_at s c).machine refl (settled.places c) 
   none_awaits : (told : Option Input) → awaited_by c told None ≡ []
   none_awaits None = refl
   none_awaits (Some i) = refl
+
   go : (m : Option Progress) → (place_at s c).machine ≡ m → IsPlacedBy (owns s.bus.owner c) s.trace (place_at s c).controller m
       → (owns s.bus.owner c ≡ false) × (awaited c (place_at s c).controller ≡ [])
   go None is placed = (placed.0, rw placed.1 (none_awaits (place_at s c).controller.told))
@@ -508,7 +512,7 @@ settled_up s c kept settled there down =
       running = running_changed s.seats c p there refl settled.running;
       places = places_changed s.seats c p s.bus.owner s.bus.owner s.trace s.trace there (rw rests.0 refl) (λ d other. inl (refl, refl)) settled.places;
       served = served_same s.bus.lists s.bus.owner (place_in s.seats) (place_in (with_place s.seats c p)) c settled.served (elsewhere_changed s.seats c p)
-        (ap (λ (q : Place). awaited c q.controller) (place_here s.seats c p there) ∙ sym rests.1);
+          (ap (λ (q : Place). awaited c q.controller) (place_here s.seats c p there) ∙ sym rests.1);
       up = up_more s.bus.lists (place_in s.seats) (place_in (with_place s.seats c p)) (up_changed s.seats c p there refl) settled.up;
     }
 

@@ -1,4 +1,4 @@
-use Rattle.std.specs.Prelude.{◌≡◌, ℕ, ◌+◌, Bool, true, false, List, [], ◌∷◌, ◌++◌, length, map, slice_set, slice_index_or, Option, Some, None, if◌then◌else◌}
+use Rattle.std.specs.Prelude.{◌≡◌, ℕ, ◌+◌, Bool, List, [], ◌∷◌, ◌++◌, map, slice_set, slice_index_or, Option, Some, None, if◌then◌else◌}
 use Rattle.std.specs.Option.{option_map}
 use Rattle.dali_frame.specs.declared.frames.Forward.{Forward}
 use Rattle.dali_frame.specs.declared.frames.Answer.{Answer}
@@ -164,7 +164,7 @@ has_collided s c f d g = record {
   bus = collided s.bus;
   trace = [];
   seats = with_place (with_place s.seats c (told_at (told_destroyed f) (place_at s c))) d
-    (told_at (told_destroyed g) (place_in (with_place s.seats c (told_at (told_destroyed f) (place_at s c))) d));
+      (told_at (told_destroyed g) (place_in (with_place s.seats c (told_at (told_destroyed f) (place_at s c))) d));
 }
 
 abbrev pub owner_lapsed : List Place → Option ℕ → List Place

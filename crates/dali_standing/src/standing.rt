@@ -328,13 +328,7 @@ impl Standing {
     }
 
     /// A controller comes up with a copy of what it keeps; `kept` is whether the outstanding record is among it.
-    pub fn up(
-        &mut self,
-        alloc: Global,
-        c: u8,
-        copy: &Kept,
-        kept: bool,
-    ) -> Result<(), Refusal>
+    pub fn up(&mut self, alloc: Global, c: u8, copy: &Kept, kept: bool) -> Result<(), Refusal>
         requires known { c < length self.old.controllers }
         requires down { (controller_on self.old c).up ≡ false }
         requires agrees { Agrees (controller_on self.old c) copy.now kept }

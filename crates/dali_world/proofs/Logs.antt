@@ -1,8 +1,7 @@
-use Rattle.std.proofs.Common.{◌≡◌, ℕ, ◌+◌, ◌<◌, ◌≤◌, ◌⊎◌, inl, inr, Bool, true, false, List, [], ◌∷◌, ◌++◌, refl, sym, ap, subst, ◌∙◌, arith, length, length-append, length-set, map, set, get_or, get_or-set_same, get_or-set_other, nat_eq, Option, Some, None}
+use Rattle.std.proofs.Common.{◌≡◌, ℕ, ◌+◌, ◌<◌, ◌≤◌, ◌⊎◌, inl, inr, Bool, true, false, List, [], ◌∷◌, ◌++◌, refl, sym, ap, subst, ◌∙◌, arith, length, length-append, length-set, set, get_or, get_or-set_same, get_or-set_other, nat_eq, Option, Some, None}
 use Rattle.std.specs.Prelude.{◌==◌, if◌then◌else◌, zero, suc}
 use Rattle.std.proofs.lemmas.Bool.Decides.{nat_tests}
 use Rattle.std.proofs.lemmas.List.{length-map, length-replicate, append-nil}
-use Rattle.dali_frame.specs.declared.frames.Forward.{Forward}
 use Rattle.dali_controller.specs.declared.orders.Input.{Input}
 use Rattle.dali_controller.specs.declared.orders.Order.{Order}
 use Rattle.dali_controller.specs.Progress.{Progress}
@@ -12,7 +11,7 @@ use Rattle.dali_events.specs.Plan.{SitePlan, IsPlan}
 use Rattle.dali_events.specs.World.{World, Controller, controller_at, start}
 use Rattle.dali_events.specs.Happens.{happens}
 use Rattle.dali_events.specs.Allowed.{Allowed, IsUp, IsDue, MaySend}
-use Rattle.dali_events.specs.Runs.{after, after_all, AllAllowed, IsRun, IsSafe}
+use Rattle.dali_events.specs.Runs.{after, after_all, IsRun, IsSafe}
 use Rattle.dali_events.proofs.Growing.{after_more, run_more}
 use Rattle.dali_events.proofs.Controllers.{controllers_count}
 use Rattle.dali_events.proofs.Safe.{safe_history, safe, holds_after}
@@ -34,7 +33,7 @@ use Rattle.dali_world.proofs.Agreeing.{no_conflict}
 use Rattle.dali_controller.specs.declared.orders.Order.TheVariants.{Halt}
 use Rattle.dali_controller.specs.declared.orders.Fault.TheVariants as fault
 use Rattle.dali_world.specs.Site.{Site, world, logged, machines_all, machines, machine_at, is_step_of, share_of, IsSite, opened_site, HasRoom, IsCrowded, Logs, Received, HasActed, IsSpent, IsSendable}
-use Rattle.dali_standing.specs.Troubles.{reach_under, nobody_at_all}
+use Rattle.dali_standing.specs.Troubles.{reach_under}
 use Rattle.dali_standing.specs.declared.trouble.Trouble.{Trouble}
 use Rattle.dali_standing.specs.declared.trouble.Trouble.TheVariants as trouble
 

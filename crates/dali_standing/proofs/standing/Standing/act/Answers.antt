@@ -1,4 +1,3 @@
-use Rattle.std.proofs.Common.{◌≡◌, refl}
 use Rattle.dali_standing.proofs.Done.{act_accepts, act_done, act_answers, was_placed}
 use Rattle.dali_standing.proofs.standing.Standing.act.Goals as goal
 

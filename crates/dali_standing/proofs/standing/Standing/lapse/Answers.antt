@@ -1,4 +1,4 @@
-use Rattle.std.proofs.Common.{◌≡◌, ◌∙◌, sym, Some}
+use Rattle.std.proofs.Common.{◌∙◌, sym}
 use Rattle.dali_standing.proofs.Done.{lapse_done}
 use Rattle.dali_standing.proofs.standing.Standing.lapse.Goals as goal
 

@@ -1,4 +1,3 @@
-use Rattle.std.proofs.Common.{◌≡◌}
 use Rattle.dali_standing.proofs.Moves.{start_stands}
 use Rattle.dali_standing.proofs.Settling.{settled_start}
 use Rattle.dali_standing.proofs.standing.Standing.new.Goals as goal

@@ -1,6 +1,5 @@
 use Rattle.std.proofs.Common.{rules, ◌≡◌, ◌<◌, length, subst, sym}
-use Rattle.dali_events.specs.Happens.{entry}
-use Rattle.dali_standing.proofs.Done.{place_read, sender_there, frame_follows, sender_hears, may_hear, send_done}
+use Rattle.dali_standing.proofs.Done.{sender_there, frame_follows, sender_hears, may_hear, send_done}
 use Rattle.dali_standing.proofs.standing.Standing.send.Goals as goal
 
 pub push-requires : goal.push-requires

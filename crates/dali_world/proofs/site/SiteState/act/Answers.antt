@@ -1,4 +1,4 @@
-use Rattle.std.proofs.Common.{rules, ◌≡◌, refl, sym, ap, subst, ◌∙◌, ◌<◌, ◌≤◌, arith}
+use Rattle.std.proofs.Common.{rules, ◌≡◌, refl, sym, ap, subst, ◌∙◌, ◌<◌, arith}
 use Rattle.dali_controller.specs.declared.orders.Order.TheVariants.{Halt}
 use Rattle.dali_controller.specs.declared.orders.Fault.TheVariants as fault
 use Rattle.dali_events.specs.Allowed.{IsDue}

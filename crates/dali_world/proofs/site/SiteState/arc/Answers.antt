@@ -1,4 +1,4 @@
-use Rattle.std.proofs.Common.{refl, ◌<◌, ◌≤◌, arith}
+use Rattle.std.proofs.Common.{refl, ◌<◌, arith}
 use Rattle.dali_events.specs.declared.event.Event.TheVariants as event
 use Rattle.dali_world.proofs.Logs.{step_few, step_goes_on}
 use Rattle.dali_world.proofs.site.SiteState.arc.Goals as goal

@@ -1,4 +1,3 @@
-use Rattle.std.proofs.Common.{rules}
 use Rattle.dali_world.proofs.Logs.{safe_now}
 use Rattle.dali_world.proofs.site.SiteState.gifts.Goals as goal
 
