@@ -54,6 +54,6 @@ fn an_empty_bus_is_soon_done(rt: HostRuntime) -> Result<(), Fail> {
         1,
         &[(0, 3)],
         &[],
-        "power 0 off = ok\nevent = power 0 off\nrun = 10\nlast 0 = done all-found\ntable 0 = empty\ngear 0 = random FFFFFF short none\n",
+        "power 0 off = ok\nevent = power off 0\nrun = 10\nlast 0 = done all-found\ntable 0 = empty\ngear 0 = random FFFFFF short none\n",
     )
 }

@@ -149,17 +149,33 @@ fn report_text(alloc: Global, report: &Report) -> Result<String, Fail> {
 
 /// An event that is neither an act nor a frame.
 fn event_text(alloc: Global, event: &Event) -> Result<String, Fail> {
-    match event {
-        Event::Lapsed => word(alloc, "lapsed"),
-        Event::Quiet => word(alloc, "quiet"),
-        Event::Power(number, true) => Ok(format!(in alloc; "power {number} on")?),
-        Event::Power(number, false) => Ok(format!(in alloc; "power {number} off")?),
-        Event::Expired(number) => Ok(format!(in alloc; "expired {number}")?),
-        Event::Down(c) => Ok(format!(in alloc; "down {c}")?),
-        Event::Up(c, true) => Ok(format!(in alloc; "up {c} with its record")?),
-        Event::Up(c, false) => Ok(format!(in alloc; "up {c}")?),
-        _ => word(alloc, "another"),
+    let (name, number) = match event {
+        Event::Power(number, true) => ("power on", *number),
+        Event::Power(number, false) => ("power off", *number),
+        Event::Expired(number) => ("expired", *number),
+        Event::Down(c) => ("down", u32::from(*c)),
+        Event::Up(c, true) => ("up with its record", u32::from(*c)),
+        Event::Up(c, false) => ("up", u32::from(*c)),
+        Event::Lapsed => return word(alloc, "lapsed"),
+        Event::Quiet => return word(alloc, "quiet"),
+        _ => return word(alloc, "another"),
+    };
+    Ok(format!(in alloc; "{name} {number}")?)
+}
+
+/// Puts a word at the end of a text, with a space between.
+fn join(text: &mut String, next: &str) -> Result<(), Fail> {
+    if !text.is_empty() {
+        text.push_str(" ")?;
     }
+    text.push_str(next)?;
+    Ok(())
+}
+
+fn pair_text(alloc: Global, pair: &(Short, Random24)) -> Result<String, Fail> {
+    let address = pair.0.number();
+    let number = pair.1;
+    Ok(format!(in alloc; "{address}={number}")?)
 }
 
 /// Pairs, as `0=123456 1=654321`, or `empty`.
@@ -168,15 +184,16 @@ fn pairs_text(alloc: Global, pairs: &[(Short, Random24)]) -> Result<String, Fail
         return word(alloc, "empty");
     }
     let mut text = String::new(alloc);
-    for (address, number) in pairs {
-        if !text.is_empty() {
-            text.push_str(" ")?;
-        }
-        let address = address.number();
-        let pair = format!(in alloc; "{address}={number}")?;
-        text.push_str(pair.as_str())?;
+    for pair in pairs {
+        join(&mut text, pair_text(alloc, pair)?.as_str())?;
     }
     Ok(text)
+}
+
+fn gift_text(alloc: Global, gift: &(u32, Short)) -> Result<String, Fail> {
+    let number = gift.0;
+    let address = gift.1.number();
+    Ok(format!(in alloc; "{number}:{address}")?)
 }
 
 /// Gifts, as `0:5 1:6`, or `empty`.
@@ -185,13 +202,8 @@ fn gifts_text(alloc: Global, gifts: &[(u32, Short)]) -> Result<String, Fail> {
         return word(alloc, "empty");
     }
     let mut text = String::new(alloc);
-    for (number, address) in gifts {
-        if !text.is_empty() {
-            text.push_str(" ")?;
-        }
-        let address = address.number();
-        let gift = format!(in alloc; "{number}:{address}")?;
-        text.push_str(gift.as_str())?;
+    for gift in gifts {
+        join(&mut text, gift_text(alloc, gift)?.as_str())?;
     }
     Ok(text)
 }
@@ -215,10 +227,6 @@ fn site_of(
     }
     let plan = Plan::new(alloc, gear, blocks, draws)?;
     Ok(SiteState::new(alloc, plan, events, requests)?)
-}
-
-fn has_controller(site: &SiteState, c: u8) -> bool {
-    usize::from(c) < site.plan().blocks().len()
 }
 
 fn next_text(alloc: Global, site: &SiteState, c: u8) -> Result<String, Fail> {
@@ -300,21 +308,24 @@ fn owner_text(alloc: Global, owner: Option<u8>) -> Result<String, Fail> {
     }
 }
 
+fn frame_text(alloc: Global, frame: &Forward) -> Result<String, Fail> {
+    Ok(format!(in alloc; "{frame}")?)
+}
+
 /// The first frames that were sent.
-fn frames_text(alloc: Global, log: &[Event], many: usize) -> Result<String, Fail> {
+fn frames_text(alloc: Global, log: &[Event], many: u8) -> Result<String, Fail> {
     let mut text = String::new(alloc);
     let mut left = many;
     for event in log {
-        if left == 0 {
-            break;
-        }
-        if let Event::Sent(_, frame, _) = event {
-            let next = format!(in alloc; "{frame} ")?;
-            text.push_str(next.as_str())?;
-            left = left.wrapping_sub(1);
+        match event {
+            Event::Sent(_, frame, _) if left > 0 => {
+                join(&mut text, frame_text(alloc, frame)?.as_str())?;
+                left = left.wrapping_sub(1);
+            }
+            _ => {}
         }
     }
-    word(alloc, text.as_str().trim_end())
+    Ok(text)
 }
 
 /// The last order of a controller.
@@ -330,51 +341,77 @@ fn last_text(alloc: Global, log: &[Event], c: u8) -> Result<String, Fail> {
     Ok(text)
 }
 
+/// Adds what a site shows of a controller, and of its bus.
+fn show_controller(alloc: Global, site: &SiteState, c: u8, text: &mut String) -> Result<(), Fail> {
+    join(text, next_text(alloc, site, c)?.as_str())?;
+    join(text, due_text(alloc, site, c)?.as_str())?;
+    join(text, table_text(alloc, site, c)?.as_str())?;
+    join(text, kept_text(alloc, site, c)?.as_str())?;
+    join(text, owner_text(alloc, site.owner())?.as_str())
+}
+
+/// Adds what a site shows of a gear, and of its log.
+fn show_gear(alloc: Global, site: &SiteState, number: u32, text: &mut String) -> Result<(), Fail> {
+    join(text, gear_text(alloc, site, number)?.as_str())?;
+    join(text, state_text(alloc, site, number)?.as_str())?;
+    join(text, log_text(alloc, site)?.as_str())?;
+    join(text, idle_text(site))
+}
+
 /// All that a site shows.
 fn whole_text(alloc: Global, site: &SiteState) -> Result<String, Fail> {
-    let events = site.log().len();
-    let owner = owner_text(alloc, site.owner())?;
-    let idle = site.idle();
-    let mut text = format!(in alloc; "{events} {owner} {idle}")?;
-    for c in 0..4u8 {
-        if has_controller(site, c) {
-            let next = next_text(alloc, site, c)?;
-            let due = due_text(alloc, site, c)?;
-            let table = table_text(alloc, site, c)?;
-            let kept = kept_text(alloc, site, c)?;
-            text = format!(in alloc; "{text}\n{next} {due} {table} {kept}")?;
-        }
+    let mut text = String::new(alloc);
+    let mut c = 0u8;
+    for _ in site.plan().blocks() {
+        show_controller(alloc, site, c, &mut text)?;
+        c = c.wrapping_add(1);
     }
     for number in 0..site.plan().gear() {
-        let gear = gear_text(alloc, site, number)?;
-        let state = state_text(alloc, site, number)?;
-        text = format!(in alloc; "{text}\n{gear} {state}")?;
+        show_gear(alloc, site, number, &mut text)?;
     }
     Ok(text)
+}
+
+fn log_text(alloc: Global, site: &SiteState) -> Result<String, Fail> {
+    let events = site.log().len();
+    Ok(format!(in alloc; "{events}")?)
+}
+
+fn idle_text(site: &SiteState) -> &'static str {
+    if site.idle() { "yes" } else { "no" }
+}
+
+fn last_event_text(alloc: Global, site: &SiteState) -> Result<String, Fail> {
+    match site.log().last() {
+        Some(event) => event_text(alloc, event),
+        None => word(alloc, "none"),
+    }
 }
 
 /// What a line shows that changes nothing, if it does.
 fn shown(alloc: Global, site: &SiteState, call: &str) -> Result<Option<String>, Fail> {
     let (name, rest) = halves(call);
-    Ok(Some(match name {
-        "next" => next_text(alloc, site, rest.parse::<u8>()?)?,
-        "due" => due_text(alloc, site, rest.parse::<u8>()?)?,
-        "table" => table_text(alloc, site, rest.parse::<u8>()?)?,
-        "kept" => kept_text(alloc, site, rest.parse::<u8>()?)?,
-        "gear" => gear_text(alloc, site, rest.parse::<u32>()?)?,
-        "state" => state_text(alloc, site, rest.parse::<u32>()?)?,
-        "owner" => owner_text(alloc, site.owner())?,
-        "gifts" => gifts_text(alloc, site.gifts())?,
-        "idle" => word(alloc, if site.idle() { "yes" } else { "no" })?,
-        "log" => {
-            let events = site.log().len();
-            format!(in alloc; "{events}")?
-        }
-        "event" => event_text(alloc, site.log().last().ok_or("an event")?)?,
-        "frames" => frames_text(alloc, site.log(), rest.parse::<usize>()?)?,
-        "last" => last_text(alloc, site.log(), rest.parse::<u8>()?)?,
+    let number = match rest.parse::<u8>() {
+        Ok(number) => number,
+        Err(_) => 0,
+    };
+    let text = match name {
+        "next" => next_text(alloc, site, number),
+        "due" => due_text(alloc, site, number),
+        "table" => table_text(alloc, site, number),
+        "kept" => kept_text(alloc, site, number),
+        "gear" => gear_text(alloc, site, u32::from(number)),
+        "state" => state_text(alloc, site, u32::from(number)),
+        "owner" => owner_text(alloc, site.owner()),
+        "gifts" => gifts_text(alloc, site.gifts()),
+        "idle" => word(alloc, idle_text(site)),
+        "log" => log_text(alloc, site),
+        "event" => last_event_text(alloc, site),
+        "frames" => frames_text(alloc, site.log(), number),
+        "last" => last_text(alloc, site.log(), number),
         _ => return Ok(None),
-    }))
+    };
+    Ok(Some(text?))
 }
 
 /// The input that a controller may act on, if there is one. A record that it ordered is committed.
@@ -455,103 +492,140 @@ fn receipt_text(alloc: Global, receipt: &Receipt, whole: bool) -> Result<String,
     Ok(format!(in alloc; "{c}, {input}, {order}, {number}")?)
 }
 
-/// What a call that was accepted answers, where it says no more.
-fn ok(alloc: Global) -> Result<String, Fail> {
-    word(alloc, "ok")
+/// What a call answers that says no more than that it was accepted.
+fn done_text(alloc: Global, done: Result<(), Refusal>) -> Result<String, Fail> {
+    match done {
+        Ok(()) => word(alloc, "ok"),
+        Err(refusal) => refusal_text(alloc, refusal),
+    }
 }
 
-/// What a call that may change the site answers, if it is one.
-fn called(
+fn act(
     alloc: Global,
     site: &mut SiteState,
-    call: &str,
-) -> Result<Option<Result<String, Refusal>>, Fail> {
+    c: u8,
+    told: &str,
+    whole: bool,
+) -> Result<String, Fail> {
+    let input = input_of(alloc, told)?;
+    match site.act(c, input) {
+        Ok(receipt) => receipt_text(alloc, &receipt, whole),
+        Err(refusal) => refusal_text(alloc, refusal),
+    }
+}
+
+fn pump(alloc: Global, site: &mut SiteState, trouble: &str) -> Result<String, Fail> {
+    match site.pump(trouble_of(trouble)?) {
+        Ok(report) => report_text(alloc, &report),
+        Err(refusal) => refusal_text(alloc, refusal),
+    }
+}
+
+fn lapse(alloc: Global, site: &mut SiteState) -> Result<String, Fail> {
+    match site.lapse() {
+        Ok(owner) => owner_text(alloc, owner),
+        Err(refusal) => refusal_text(alloc, refusal),
+    }
+}
+
+fn arc(alloc: Global, site: &mut SiteState, c: u8, digits: &str) -> Result<String, Fail> {
+    let frame = frame_of(digits)?;
+    done_text(alloc, site.arc(c, frame))
+}
+
+fn up(alloc: Global, site: &mut SiteState, c: u8, records: &str) -> Result<String, Fail> {
+    let copy = copy_of(alloc, site, c, records)?;
+    done_text(alloc, site.up(alloc, c, &copy))
+}
+
+/// What a call answers that may change the site.
+fn called(alloc: Global, site: &mut SiteState, call: &str) -> Result<String, Fail> {
     let (name, rest) = halves(call);
     let (first, second) = halves(rest);
-    let answer = match name {
-        "act" | "receipt" => {
-            let input = input_of(alloc, second)?;
-            match site.act(first.parse::<u8>()?, input) {
-                Ok(receipt) => Ok(receipt_text(alloc, &receipt, name == "receipt")?),
-                Err(refusal) => Err(refusal),
-            }
-        }
-        "pump" => match site.pump(trouble_of(rest)?) {
-            Ok(report) => Ok(report_text(alloc, &report)?),
-            Err(refusal) => Err(refusal),
-        },
-        "lapse" => match site.lapse() {
-            Ok(owner) => Ok(owner_text(alloc, owner)?),
-            Err(refusal) => Err(refusal),
-        },
-        _ => match called_plain(alloc, site, call)? {
-            Some(Ok(())) => Ok(ok(alloc)?),
-            Some(Err(refusal)) => Err(refusal),
-            None => return Ok(None),
-        },
+    let number = match first.parse::<u8>() {
+        Ok(number) => number,
+        Err(_) => 0,
     };
-    Ok(Some(answer))
+    match name {
+        "act" => act(alloc, site, number, second, false),
+        "receipt" => act(alloc, site, number, second, true),
+        "pump" => pump(alloc, site, rest),
+        "lapse" => lapse(alloc, site),
+        "arc" => arc(alloc, site, number, second),
+        "quiet" => done_text(alloc, site.quiet()),
+        "power" => done_text(alloc, site.power(u32::from(number), second == "on")),
+        "expire" => done_text(alloc, site.expire(u32::from(number))),
+        "down" => done_text(alloc, site.down(number)),
+        "up" => up(alloc, site, number, second),
+        _ => Err(Fail::from("a call")),
+    }
 }
 
-/// The same for the calls that answer nothing.
-fn called_plain(
-    alloc: Global,
-    site: &mut SiteState,
-    call: &str,
-) -> Result<Option<Result<(), Refusal>>, Fail> {
-    let (name, rest) = halves(call);
-    let (first, second) = halves(rest);
-    Ok(Some(match name {
-        "arc" => site.arc(first.parse::<u8>()?, frame_of(second)?),
-        "quiet" => site.quiet(),
-        "power" => site.power(first.parse::<u32>()?, second == "on"),
-        "expire" => site.expire(first.parse::<u32>()?),
-        "down" => site.down(first.parse::<u8>()?),
-        "up" => {
-            let c = first.parse::<u8>()?;
-            let copy = copy_of(alloc, site, c, second)?;
-            site.up(alloc, c, &copy)
-        }
-        _ => return Ok(None),
-    }))
+fn agree<R: Abort>(rt: &R, seen: &str, want: &str, line: &str) {
+    assert_eq!(rt; seen, want, "after {line}");
 }
 
-/// What a line answers. A refusal and an idle pump leave all as it was, and other calls add one event to the log.
-fn answered<R: Abort + AllocGlobal>(
+/// What a call answers that may change the site. A refusal and an idle pump leave all as it was, and other calls add one
+/// event to the log.
+fn checked<R: Abort + AllocGlobal>(
     rt: &R,
     site: &mut SiteState,
     call: &str,
 ) -> Result<String, Fail> {
     let alloc = rt.alloc();
-    if let Some(text) = shown(alloc, site, call)? {
-        return Ok(text);
-    }
-    if let Some(kind) = call.strip_prefix("run") {
-        let frames = rounds(site, kind == " store")?;
-        return Ok(format!(in alloc; "{frames}")?);
-    }
     let before = whole_text(alloc, site)?;
     let events = site.log().len();
-    let is_idle = site.idle();
-    let answer = called(alloc, site, call)?.ok_or("a call")?;
+    let was_idle = site.idle();
+    let answer = called(alloc, site, call)?;
     site.is_safe();
-    let was_idle = match &answer {
-        Ok(text) => text.as_str() == "idle",
-        Err(_) => false,
-    };
-    if call.starts_with("pump") {
-        assert_eq!(rt; was_idle, is_idle);
-    }
-    if was_idle || answer.is_err() {
+    let is_idle = answer.as_str() == "idle";
+    assert!(rt; is_idle == (was_idle && call.starts_with("pump")));
+    if is_idle || answer.starts_with("refused") {
         let after = whole_text(alloc, site)?;
-        assert_eq!(rt; after.as_str(), before.as_str(), "after {call}");
+        agree(rt, after.as_str(), before.as_str(), call);
     } else {
-        assert_eq!(rt; site.log().len(), events.wrapping_add(1), "after {call}");
+        assert!(rt; site.log().len() == events.wrapping_add(1));
     }
-    match answer {
-        Ok(text) => Ok(text),
-        Err(refusal) => refusal_text(alloc, refusal),
+    Ok(answer)
+}
+
+fn run_text(alloc: Global, site: &mut SiteState, until_store: bool) -> Result<String, Fail> {
+    let frames = rounds(site, until_store)?;
+    Ok(format!(in alloc; "{frames}")?)
+}
+
+/// What a line answers.
+fn answered<R: Abort + AllocGlobal>(
+    rt: &R,
+    site: &mut SiteState,
+    call: &str,
+) -> Result<String, Fail> {
+    match call {
+        "run" => run_text(rt.alloc(), site, false),
+        "run store" => run_text(rt.alloc(), site, true),
+        _ => match shown(rt.alloc(), site, call)? {
+            Some(text) => Ok(text),
+            None => checked(rt, site, call),
+        },
     }
+}
+
+fn play_line<R: Abort + AllocGlobal>(rt: &R, site: &mut SiteState, line: &str) -> Result<(), Fail> {
+    let (call, want) = line.split_once(" = ").ok_or("a call and its answer")?;
+    let seen = answered(rt, site, call)?;
+    agree(rt, seen.as_str(), want, line);
+    Ok(())
+}
+
+fn play_lines<R: Abort + AllocGlobal>(
+    rt: &R,
+    site: &mut SiteState,
+    script: &str,
+) -> Result<(), Fail> {
+    for line in script.lines() {
+        play_line(rt, site, line)?;
+    }
+    Ok(())
 }
 
 /// Plays a script on a site with room for so many events and requests.
@@ -564,12 +638,7 @@ pub(super) fn play_in<R: Abort + AllocGlobal>(
     script: &str,
 ) -> Result<(), Fail> {
     let mut site = site_of(rt.alloc(), gear, blocks, draws, room)?;
-    for line in script.lines() {
-        let (call, want) = line.split_once(" = ").ok_or("a call and its answer")?;
-        let seen = answered(rt, &mut site, call)?;
-        assert_eq!(rt; seen.as_str(), want, "after {line}");
-    }
-    Ok(())
+    play_lines(rt, &mut site, script)
 }
 
 /// Plays a script on a site with room for 4,096 events and 16 requests.
@@ -581,4 +650,16 @@ pub(super) fn play<R: Abort + AllocGlobal>(
     script: &str,
 ) -> Result<(), Fail> {
     play_in(rt, gear, blocks, draws, (4096, 16), script)
+}
+
+/// Plays two scripts, one after the other, on a site with one gear and one controller, of the block 0 to 3.
+pub(super) fn play_both<R: Abort + AllocGlobal>(
+    rt: &R,
+    draws: &[u32],
+    first: &str,
+    second: &str,
+) -> Result<(), Fail> {
+    let mut site = site_of(rt.alloc(), 1, &[(0, 3)], draws, (4096, 16))?;
+    play_lines(rt, &mut site, first)?;
+    play_lines(rt, &mut site, second)
 }

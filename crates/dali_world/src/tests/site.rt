@@ -1,11 +1,19 @@
 //! The calls of a site one by one: what each answers, and what it refuses.
 
-use super::script::{play, play_in};
+use super::script::{play, play_both, play_in};
 use std::test::Fail;
 
 /// The opening of controller 0, up to its last frame, which is put.
 const OPENING: &str =
     "act 0 start = put 3 A100\npump = 0: sent A100 silence\nact 0 silence = put 1 A5FF\npump = 0: sent A5FF silence\nact 0 silence = put 1 A5FF\npump = 0: sent A5FF silence\nact 0 silence = put 1 A700\npump = 0: sent A700 silence\nact 0 silence = put 1 A700\n";
+
+/// A controller that has ordered its first record.
+const RESERVED: &str =
+    "run store = 109\nlast 0 = commit reserve 0 123456\ndue 0 = store\nkept 0 = reserved empty, enrolled empty\n";
+
+/// A gear that has taken the first frame of INITIALISE; the second is put.
+const HALF_PAIR: &str =
+    "act 0 start = put 3 A100\npump = 0: sent A100 silence\nact 0 silence = put 1 A5FF\npump = 0: sent A5FF silence\nstate 0 = disabled\nact 0 silence = put 1 A5FF\n";
 
 #[test]
 fn a_full_queue_refuses(rt: HostRuntime) -> Result<(), Fail> {
@@ -49,10 +57,12 @@ fn a_full_log_refuses(rt: HostRuntime) -> Result<(), Fail> {
 
 #[test]
 fn spent_draws_refuse(rt: HostRuntime) -> Result<(), Fail> {
-    let script = format!(in rt.alloc();
-        "{OPENING}pump = refused 6 DrawsSpent\npump = refused 6 DrawsSpent\npump lost = refused 6 DrawsSpent\npump noise = refused 6 DrawsSpent\npump taken = refused 6 DrawsSpent\npump = refused 6 DrawsSpent\npower 0 off = ok\npump = 0: sent A700 silence\n"
-    )?;
-    play(&rt, 1, &[(0, 3)], &[], script.as_str())
+    play_both(
+        &rt,
+        &[],
+        OPENING,
+        "pump = refused 6 DrawsSpent\npump = refused 6 DrawsSpent\npump lost = refused 6 DrawsSpent\npump noise = refused 6 DrawsSpent\npump taken = refused 6 DrawsSpent\npump = refused 6 DrawsSpent\npower 0 off = ok\npump = 0: sent A700 silence\n",
+    )
 }
 
 #[test]
@@ -90,29 +100,19 @@ fn what_is_not_due_is_refused(rt: HostRuntime) -> Result<(), Fail> {
 
 #[test]
 fn a_controller_comes_up_with_what_it_kept(rt: HostRuntime) -> Result<(), Fail> {
-    let reserved =
-        "run store = 109\nlast 0 = commit reserve 0 123456\ndue 0 = store\nkept 0 = reserved empty, enrolled empty\n";
-    let blocks = [(0, 3)];
-    let draws = [0x123456];
-    // The record is outstanding: the copy may have it, or not.
-    let script = format!(in rt.alloc();
-        "{reserved}down 0 = ok\nup 0 reserve 1 123456 = refused 5 StoreDisagrees\nup 0 enrol 0 123456 = refused 5 StoreDisagrees\nup 0 empty = ok\nevent = up 0\nkept 0 = reserved empty, enrolled empty\nnext 0 = start\n"
-    )?;
-    play(&rt, 1, &blocks, &draws, script.as_str())?;
-    let script = format!(in rt.alloc();
-        "{reserved}down 0 = ok\nup 0 reserve 0 123456 = ok\nevent = up 0 with its record\nkept 0 = reserved 0=123456, enrolled empty\nrun = 17\ntable 0 = 0=123456\n"
-    )?;
-    play(&rt, 1, &blocks, &draws, script.as_str())?;
-    // The record is kept: the copy must have it.
-    let script = format!(in rt.alloc();
-        "{reserved}act 0 committed = put 3 B112\nkept 0 = reserved 0=123456, enrolled empty\ndown 0 = ok\nup 0 empty = refused 5 StoreDisagrees\nup 0 reserve 0 654321 = refused 5 StoreDisagrees\nup 0 reserve 0 123456 = ok\nevent = up 0\n"
-    )?;
-    play(&rt, 1, &blocks, &draws, script.as_str())?;
-    // The record could not be kept.
-    let script = format!(in rt.alloc();
-        "{reserved}act 0 failed = halt store\ndue 0 = nothing\nkept 0 = reserved empty, enrolled empty\n"
-    )?;
-    play(&rt, 1, &blocks, &draws, script.as_str())
+    let endings = [
+        // The record is outstanding: the copy may have it, or not.
+        "down 0 = ok\nup 0 reserve 1 123456 = refused 5 StoreDisagrees\nup 0 enrol 0 123456 = refused 5 StoreDisagrees\nup 0 empty = ok\nevent = up 0\nkept 0 = reserved empty, enrolled empty\nnext 0 = start\n",
+        "down 0 = ok\nup 0 reserve 0 123456 = ok\nevent = up with its record 0\nkept 0 = reserved 0=123456, enrolled empty\nrun = 17\ntable 0 = 0=123456\n",
+        // The record is kept: the copy must have it.
+        "act 0 committed = put 3 B112\nkept 0 = reserved 0=123456, enrolled empty\ndown 0 = ok\nup 0 empty = refused 5 StoreDisagrees\nup 0 reserve 0 654321 = refused 5 StoreDisagrees\nup 0 reserve 0 123456 = ok\nevent = up 0\n",
+        // The record could not be kept.
+        "act 0 failed = halt store\ndue 0 = nothing\nkept 0 = reserved empty, enrolled empty\n",
+    ];
+    for ending in endings {
+        play_both(&rt, &[0x123456], RESERVED, ending)?;
+    }
+    Ok(())
 }
 
 #[test]
@@ -128,14 +128,13 @@ fn frames_collide_and_arc_power_goes_first(rt: HostRuntime) -> Result<(), Fail> 
 
 #[test]
 fn eight_lost_frames_give_up(rt: HostRuntime) -> Result<(), Fail> {
-    let again = "pump destroyed = 0: destroyed A100\nact 0 destroyed = put 3 A100\n".repeat(
-        rt.alloc(),
-        7,
-    )?;
-    let script = format!(in rt.alloc();
-        "act 0 start = put 3 A100\n{again}pump destroyed = 0: destroyed A100\nact 0 destroyed = done gave-up\ndue 0 = nothing\n"
-    )?;
-    play(&rt, 1, &[(0, 3)], &[], script.as_str())
+    play(
+        &rt,
+        1,
+        &[(0, 3)],
+        &[],
+        "act 0 start = put 3 A100\npump destroyed = 0: destroyed A100\nact 0 destroyed = put 3 A100\npump destroyed = 0: destroyed A100\nact 0 destroyed = put 3 A100\npump destroyed = 0: destroyed A100\nact 0 destroyed = put 3 A100\npump destroyed = 0: destroyed A100\nact 0 destroyed = put 3 A100\npump destroyed = 0: destroyed A100\nact 0 destroyed = put 3 A100\npump destroyed = 0: destroyed A100\nact 0 destroyed = put 3 A100\npump destroyed = 0: destroyed A100\nact 0 destroyed = put 3 A100\npump destroyed = 0: destroyed A100\nact 0 destroyed = done gave-up\ndue 0 = nothing\n",
+    )
 }
 
 #[test]
@@ -162,14 +161,9 @@ fn an_owner_loses_the_bus(rt: HostRuntime) -> Result<(), Fail> {
 
 #[test]
 fn a_pair_that_is_torn_leaves_gear_disabled(rt: HostRuntime) -> Result<(), Fail> {
-    let first =
-        "act 0 start = put 3 A100\npump = 0: sent A100 silence\nact 0 silence = put 1 A5FF\npump = 0: sent A5FF silence\nstate 0 = disabled\nact 0 silence = put 1 A5FF\n";
-    let script = format!(in rt.alloc();
-        "{first}quiet = ok\npump = 0: sent A5FF silence\nstate 0 = disabled\n"
-    )?;
-    play(&rt, 1, &[(0, 3)], &[], script.as_str())?;
-    let script = format!(in rt.alloc();
-        "{first}pump = 0: sent A5FF silence\nstate 0 = enabled\nexpire 0 = ok\nevent = expired 0\nstate 0 = disabled\n"
-    )?;
-    play(&rt, 1, &[(0, 3)], &[], script.as_str())
+    let torn = "quiet = ok\npump = 0: sent A5FF silence\nstate 0 = disabled\n";
+    play_both(&rt, &[], HALF_PAIR, torn)?;
+    let whole =
+        "pump = 0: sent A5FF silence\nstate 0 = enabled\nexpire 0 = ok\nevent = expired 0\nstate 0 = disabled\n";
+    play_both(&rt, &[], HALF_PAIR, whole)
 }
