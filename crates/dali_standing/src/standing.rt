@@ -11,11 +11,9 @@ ghost use Rattle.dali_events.specs.Happens.{entry, is_arc, keeps_bus, gives_up, 
 ghost use Rattle.dali_events.specs.Allowed.{IsArc, IsDue};
 ghost use Rattle.dali_standing.specs.Fitted.{changed_at};
 ghost use Rattle.dali_standing.specs.Standing.{seats_from};
-ghost use Rattle.dali_standing.specs.Places.{due_of};
-ghost use Rattle.dali_standing.specs.Places.{MayAnswer, Agrees, trace_of, told_at};
-ghost use Rattle.dali_standing.specs.Troubles.{heard_under};
+ghost use Rattle.dali_standing.specs.Places.{MayAnswer, Agrees, trace_of, told_at, due_of};
+ghost use Rattle.dali_standing.specs.Troubles.{heard_under, nobody_at_all};
 ghost use Rattle.dali_standing.specs.Settled.{IsAccepted, IsHearing, IsPlacedOn};
-ghost use Rattle.dali_standing.specs.Troubles.{nobody_at_all};
 ghost use Rattle.dali_standing.specs.declared.refusal.Refusal.TheVariants as refusal;
 
 use crate::fitted::FittedGear;

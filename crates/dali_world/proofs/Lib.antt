@@ -1,3 +1,4 @@
+pub mod Capacity
 pub mod Room
 pub mod Agreeing
 pub mod Logs

@@ -18,6 +18,7 @@ use Rattle.dali_events.proofs.Safe.{safe_history, safe, holds_after}
 use Rattle.dali_events.proofs.Agreeing.{tables_agree_in}
 use Rattle.dali_events.specs.Promises.{TablesAgree}
 use Rattle.dali_standing.specs.Standing.{Standing, stand_of, machines_at, machines_after, machine_on, controller_on, Moves, MayBeSent}
+use Rattle.dali_world.proofs.Capacity.{capacity_kept}
 use Rattle.dali_world.proofs.Room.{gear_count, gifts_fit_after}
 use Rattle.dali_frame.specs.declared.frames.Answer.TheVariants.{Silence}
 use Rattle.dali_special.specs.Command.{command_of}
@@ -99,6 +100,7 @@ goes_on s old new shares shares' room room' log' e site moves free log_is room_i
       four = counted.0;
       gear_count = ap (λ (w : World). length w.gear) grown ∙ gear_count (world s) e ∙ site.gear_count;
       controller_count = ap (λ (w : World). length w.controllers) grown ∙ controllers_count (world s) e ∙ site.controller_count;
+      queue = ap (λ (w : World). w.bus.capacity) grown ∙ capacity_kept (world s) e ∙ site.queue;
       few_gear = site.few_gear;
       few_controllers = site.few_controllers;
       fits = let count = length-append s.log (e ∷ []) in omega arith;
@@ -123,6 +125,7 @@ opens p queue room capacity standing shares plan few_gear few_controllers reserv
   four = rw none refl;
   gear_count = length-replicate p.gear _;
   controller_count = length-map p.blocks _;
+  queue = refl;
   few_gear = few_gear;
   few_controllers = few_controllers;
   fits = omega arith;
@@ -179,6 +182,7 @@ pub not_crowded : (s was : Site) (old : Standing) (shares : List ℕ) (room : �
 not_crowded s was old shares room view site free crowded =
     let here : IsCrowded s = subst (λ (w : Site). IsCrowded w) (sym view) crowded in
     let less : total (world s).bus < (world s).bus.capacity = subst (λ (t : Standing). total t.bus < t.bus.capacity) site.stands free in
+    let same = site.queue in
     omega arith
 
 pub act_site : (s was : Site) (old new : Standing) (shares shares' : List ℕ) (room number c : ℕ) (i : Input) (o : Order) (r : Received) (log' : List Event) → s ≡ was → IsSite s old shares room

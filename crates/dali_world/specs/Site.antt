@@ -89,6 +89,7 @@ pub record IsSite (s : Site) (standing : Standing) (shares : List ℕ) (capacity
   pub four : length shares ≡ 4
   pub gear_count : length (world s).gear ≡ s.plan.gear
   pub controller_count : length (world s).controllers ≡ length s.plan.blocks
+  pub queue : (world s).bus.capacity ≡ s.queue
   pub few_gear : s.plan.gear ≤ 128
   pub few_controllers : length s.plan.blocks ≤ 4
   pub fits : length s.log ≤ s.room
@@ -102,7 +103,7 @@ abbrev pub IsFull : Site → Type 0
 IsFull s = length s.log ≡ s.room
 
 abbrev pub IsCrowded : Site → Type 0
-IsCrowded s = total (world s).bus ≡ (world s).bus.capacity
+IsCrowded s = total (world s).bus ≡ s.queue
 
 abbrev pub HasRoom : Site → Type 0
 HasRoom s = length s.log < s.room

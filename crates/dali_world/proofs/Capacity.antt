@@ -1,0 +1,48 @@
+use Rattle.std.proofs.Common.{◌≡◌, ℕ, Bool, true, false, refl, is_some}
+use Rattle.std.specs.Prelude.{if◌then◌else◌}
+use Rattle.dali_arbiter.specs.Bus.{Bus, owns, lapsed, freed, muted, taken, collision, collided, silenced}
+use Rattle.dali_controller.specs.declared.orders.Order.{Order}
+use Rattle.dali_controller.specs.declared.orders.Order.TheVariants.{Put, Commit, Done, Halt}
+use Rattle.dali_events.specs.declared.event.Event.{Event}
+use Rattle.dali_events.specs.declared.event.Event.TheVariants as event
+use Rattle.dali_events.specs.World.{World}
+use Rattle.dali_events.specs.Happens.{happens, gives_up, bus_acted}
+
+-- AS MANY REQUESTS MAY WAIT as at the start, whatever happens.
+
+acted_capacity : (b : Bus) (c : ℕ) (o : Order) → (bus_acted b c o).capacity ≡ b.capacity
+acted_capacity b c o = go o where
+  freed_or : (x : Bool) → (if x then lapsed b else b).capacity ≡ b.capacity
+  freed_or true = refl
+  freed_or false = refl
+
+  go : (o' : Order) → (bus_acted b c o').capacity ≡ b.capacity
+  go (Put p f) = freed_or (gives_up b c (Put p f))
+  go (Commit x) = freed_or (gives_up b c (Commit x))
+  go (Done x) = freed_or (gives_up b c (Done x))
+  go (Halt x) = freed_or (gives_up b c (Halt x))
+
+collided_capacity : (b : Bus) → (collided b).capacity ≡ b.capacity
+collided_capacity b = go (is_some (collision b.lists)) where
+  go : (x : Bool) → (freed (if x then taken (taken b) else taken b)).capacity ≡ b.capacity
+  go true = refl
+  go false = refl
+
+silenced_capacity : (b : Bus) (c : ℕ) → (silenced b c).capacity ≡ b.capacity
+silenced_capacity b c = go (owns b.owner c) where
+  go : (x : Bool) → (if x then freed (muted b c) else muted b c).capacity ≡ b.capacity
+  go true = refl
+  go false = refl
+
+pub capacity_kept : (w : World) (e : Event) → (happens w e).bus.capacity ≡ w.bus.capacity
+capacity_kept w (event.Acted c i o) = acted_capacity w.bus c o
+capacity_kept w (event.Offered c f) = refl
+capacity_kept w (event.Sent c f h) = refl
+capacity_kept w (event.Destroyed c f set) = refl
+capacity_kept w (event.Collided c f d g) = collided_capacity w.bus
+capacity_kept w event.Lapsed = refl
+capacity_kept w event.Quiet = refl
+capacity_kept w (event.Power g on) = refl
+capacity_kept w (event.Expired g) = refl
+capacity_kept w (event.Down c) = silenced_capacity w.bus c
+capacity_kept w (event.Up c kept) = refl
