@@ -16,7 +16,8 @@ use Rattle.dali_events.proofs.Growing.{after_more, run_more}
 use Rattle.dali_events.proofs.Controllers.{controllers_count}
 use Rattle.dali_events.proofs.Safe.{safe_history, safe, holds_after}
 use Rattle.dali_events.proofs.Agreeing.{tables_agree_in}
-use Rattle.dali_events.specs.Promises.{TablesAgree}
+use Rattle.dali_events.proofs.Keeping.{records_kept}
+use Rattle.dali_events.specs.Promises.{TablesAgree, KeepsRecords}
 use Rattle.dali_standing.specs.Standing.{Standing, stand_of, machines_at, machines_after, machine_on, controller_on, Moves, MayBeSent}
 use Rattle.dali_world.proofs.Capacity.{capacity_kept}
 use Rattle.dali_world.proofs.Room.{gear_count, gifts_fit_after}
@@ -266,6 +267,9 @@ never_conflicts s was old shares room c i view site there due placed answer = go
 
 pub safe_now : (p : SitePlan) (queue : ℕ) (log : List Event) → IsRun p queue log → IsSafe (after p queue log)
 safe_now p queue log run = safe p (after p queue log) (holds_after p queue log run)
+
+pub records_now : (p : SitePlan) (queue : ℕ) (log : List Event) → IsRun p queue log → KeepsRecords p (after p queue log)
+records_now p queue log run = records_kept p queue log [] (subst (λ (l : List Event). IsRun p queue l) (sym (append-nil log)) run)
 
 pub agreeing_now : (p : SitePlan) (queue : ℕ) (log : List Event) → IsRun p queue log → TablesAgree (after p queue log)
 agreeing_now p queue log run = tables_agree_in p queue log [] (subst (λ (l : List Event). IsRun p queue l) (sym (append-nil log)) run)

@@ -4,7 +4,7 @@ ghost use Rattle.dali_events.specs.declared.event.Event.TheVariants as event;
 ghost use Rattle.dali_events.specs.World.{gear_at, controller_at};
 ghost use Rattle.dali_events.specs.Allowed.{IsUp, MaySend, IsArc};
 ghost use Rattle.dali_events.specs.Runs.{IsRun, IsSafe, IsSafeHistory};
-ghost use Rattle.dali_events.specs.Promises.{TablesAgree};
+ghost use Rattle.dali_events.specs.Promises.{TablesAgree, KeepsRecords};
 ghost use Rattle.dali_script.specs.Records.{IsOnce};
 ghost use Rattle.dali_controller.specs.declared.orders.Order.TheVariants as order;
 ghost use Rattle.dali_controller.specs.declared.orders.Fault.TheVariants as fault;
@@ -336,12 +336,15 @@ impl SiteState {
     ///
     /// At each moment of the log no two gear hold one short address; a gear that was given one keeps it, with its random address,
     /// ever after; and every record of enrolment that a controller keeps names the gear that holds that address, so no two tables
-    /// disagree. `dali_events` has the words: `IsSafeHistory`, with `IsSafe` and `KeepsRandom`.
+    /// disagree. `dali_events` has the words: `IsSafeHistory`, with `IsSafe` and `KeepsRandom`. Each controller of the plan is there, and
+    /// keeps records of its block.
     pub fn is_safe(&self)
         ensures run { IsRun self.now.plan self.now.queue self.now.log }
         ensures safe { IsSafeHistory self.now.plan self.now.queue self.now.log }
         ensures now { IsSafe (world self.now) }
         ensures agree { TablesAgree (world self.now) }
+        ensures records { KeepsRecords self.now.plan (world self.now) }
+        ensures controllers { length (world self.now).controllers ≡ length self.now.plan.blocks }
     {
         let _log = &self.log;
     }

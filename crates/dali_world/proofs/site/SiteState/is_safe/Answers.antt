@@ -1,4 +1,4 @@
-use Rattle.dali_world.proofs.Logs.{safe_now, agreeing_now}
+use Rattle.dali_world.proofs.Logs.{safe_now, agreeing_now, records_now}
 use Rattle.dali_world.proofs.site.SiteState.is_safe.Goals as goal
 
 pub returns-clause-now : goal.returns-clause-now
@@ -6,3 +6,6 @@ returns-clause-now c = rw (← c.self.view_is) (safe_now _ _ _ c.self.invariant.
 
 pub returns-clause-agree : goal.returns-clause-agree
 returns-clause-agree c = rw (← c.self.view_is) (agreeing_now _ _ _ c.self.invariant.run)
+
+pub returns-clause-records : goal.returns-clause-records
+returns-clause-records c = rw (← c.self.view_is) (records_now _ _ _ c.self.invariant.run)
