@@ -1,8 +1,10 @@
-use Rattle.std.proofs.Common.{◌≡◌, ◌≢◌, ℕ, zero, suc, ◌+◌, ◌<◌, ◌≤◌, Bool, true, false, List, [], ◌∷◌, length, get_or, take, drop, refl, sym, ap, ◌∙◌, arith, cond, add-one}
+use Rattle.std.proofs.Common.{◌≡◌, ◌≢◌, ℕ, zero, suc, ◌+◌, ◌<◌, ◌≤◌, Bool, true, false, List, [], ◌∷◌, length, get_or, take, drop, Option, None, refl, sym, ap, ◌∙◌, arith, cond, add-one}
 use Rattle.std.proofs.lemmas.Bool.Decides.{nat_tests}
 use Rattle.std.specs.Prelude.{◌==◌, if◌then◌else◌}
 use Rattle.std.specs.List.{onto_first, slice_split}
-use Rattle.dali_sim.specs.Lines.{lines_of, words_of}
+use Rattle.dali_sim.specs.Lines.{lines_of, parts_of}
+use Rattle.dali_sim.specs.Numbers.{block_of_parts}
+use Rattle.dali_sim.specs.SiteLine.{site_line_of}
 
 is_not : (b c : ℕ) → b ≢ c → (b == c) ≡ false
 is_not b c ne = grind (arith, nat_tests)
@@ -32,23 +34,36 @@ lines_none (b ∷ c ∷ bs) some before =
     let first : b ≢ 10 = before 0 (omega arith) in
     rw (is_not b 10 first, lines_none (c ∷ bs) (omega arith) (λ k below. before (suc k) (omega arith))) refl
 
--- the first word ends at the first space
-words_at_suc : (line : List ℕ) (n : ℕ) → n < length line → ((k : ℕ) → k < n → get_or line k 0 ≢ 32) → get_or line n 0 ≡ 32
-    → words_of line ≡ take n line ∷ words_of (drop (suc n) line)
-words_at_suc [] n here before found = absurd (omega arith)
-words_at_suc (b ∷ bs) zero here before found = rw (is_same b 32 found) refl
-words_at_suc (b ∷ bs) (suc n) here before found =
-    let first : b ≢ 32 = before 0 (omega arith) in
+-- the first part ends at the first mark
+parts_at_suc : (mark : ℕ) (text : List ℕ) (n : ℕ) → n < length text → ((k : ℕ) → k < n → get_or text k 0 ≢ mark) → get_or text n 0 ≡ mark
+    → parts_of mark text ≡ take n text ∷ parts_of mark (drop (suc n) text)
+parts_at_suc mark [] n here before found = absurd (omega arith)
+parts_at_suc mark (b ∷ bs) zero here before found = rw (is_same b mark found) refl
+parts_at_suc mark (b ∷ bs) (suc n) here before found =
+    let first : b ≢ mark = before 0 (omega arith) in
     let inside : n < length bs = omega arith in
-    rw (is_not b 32 first, words_at_suc bs n inside (λ k below. before (suc k) (omega arith)) found) refl
+    rw (is_not b mark first, parts_at_suc mark bs n inside (λ k below. before (suc k) (omega arith)) found) refl
 
-pub words_at : (line : List ℕ) (n : ℕ) → n < length line → ((k : ℕ) → k < n → get_or line k 0 ≢ 32) → get_or line n 0 ≡ 32
-    → words_of line ≡ take n line ∷ words_of (drop (n + 1) line)
-words_at line n here before found = rw add-one (words_at_suc line n here before found)
+pub parts_at : (mark : ℕ) (text : List ℕ) (n : ℕ) → n < length text → ((k : ℕ) → k < n → get_or text k 0 ≢ mark) → get_or text n 0 ≡ mark
+    → parts_of mark text ≡ take n text ∷ parts_of mark (drop (n + 1) text)
+parts_at mark text n here before found = rw add-one (parts_at_suc mark text n here before found)
 
--- where no space is left, the line is one word
-pub words_none : (line : List ℕ) → ((k : ℕ) → k < length line → get_or line k 0 ≢ 32) → words_of line ≡ line ∷ []
-words_none [] before = refl
-words_none (b ∷ bs) before =
-    let first : b ≢ 32 = before 0 (omega arith) in
-    rw (is_not b 32 first, words_none bs (λ k below. before (suc k) (omega arith))) refl
+-- where no mark is left, the text is one part
+pub parts_none : (mark : ℕ) (text : List ℕ) → ((k : ℕ) → k < length text → get_or text k 0 ≢ mark) → parts_of mark text ≡ text ∷ []
+parts_none mark [] before = refl
+parts_none mark (b ∷ bs) before =
+    let first : b ≢ mark = before 0 (omega arith) in
+    rw (is_not b mark first, parts_none mark bs (λ k below. before (suc k) (omega arith))) refl
+
+-- a list of another length is no block, and no line of a site
+pub no_block_below : (parts : List (List ℕ)) → length parts < 2 → None ≡ block_of_parts parts
+no_block_below [] few = refl
+no_block_below (first ∷ []) few = refl
+no_block_below (first ∷ second ∷ parts) few = absurd (omega arith)
+
+pub no_site_line_above : (words : List (List ℕ)) → 4 ≤ length words → None ≡ site_line_of words
+no_site_line_above [] many = absurd (omega arith)
+no_site_line_above (a ∷ []) many = absurd (omega arith)
+no_site_line_above (a ∷ b ∷ []) many = absurd (omega arith)
+no_site_line_above (a ∷ b ∷ c ∷ []) many = absurd (omega arith)
+no_site_line_above (a ∷ b ∷ c ∷ d ∷ words) many = refl

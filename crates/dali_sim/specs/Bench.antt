@@ -4,8 +4,8 @@ use Rattle.dali_special.specs.Command.{command_of}
 use Rattle.dali_gear.specs.declared.row.Reach.TheVariants.{Everyone}
 use Rattle.dali_gear.specs.ControlGear.{ControlGear, fresh, without_power, with_power, expired, quieted}
 use Rattle.dali_gear.specs.Row.{row_after, draws_needed}
-use Rattle.dali_sim.specs.declared.event.Event.{Event}
-use Rattle.dali_sim.specs.declared.event.Event.TheVariants.{Frame, Off, On, Expire, Quiet, Show}
+use Rattle.dali_sim.specs.declared.bench_line.BenchLine.{BenchLine}
+use Rattle.dali_sim.specs.declared.bench_line.BenchLine.TheVariants.{Frame, Off, On, Expire, Quiet, Show}
 
 -- a bench: its gear, and the numbers that are left to be drawn
 pub record World : Type 0 where
@@ -31,7 +31,7 @@ after_command w c = if is_enough w c then record { gear = row_after Everyone c 0
 abbrev pub with_gear : World → ℕ → (ControlGear → ControlGear) → World
 with_gear w g change = if nat_lt g (length w.gear) then record w { gear = slice_set w.gear g (change (slice_index_or w.gear g fresh)) } else w
 
-abbrev pub after : World → Event → World
+abbrev pub after : World → BenchLine → World
 after w (Frame frame) = after_command w (command_of frame)
 after w (Off g) = with_gear w g without_power
 after w (On g) = with_gear w g with_power

@@ -1,8 +1,14 @@
 pub mod Lines
-pub mod PlanError
 pub mod Numbers
-pub mod Event
+pub mod Heading
+pub mod BenchLine
+pub mod SiteLine
 pub mod Bench
-pub mod Report
+pub mod Installation
+pub mod Text
+pub mod BenchReport
+pub mod Calls
+pub mod Rounds
+pub mod SiteReport
 pub mod Replay
 pub mod ReplayFault

@@ -20,11 +20,15 @@ numbered_from n (line ∷ lines) = if is_skipped line then numbered_from (n + 1)
 abbrev pub numbered_after : ℕ → List ℕ → List (ℕ × List ℕ)
 numbered_after read rest = numbered_from (read + 1) (lines_of rest)
 
--- The words of a line stand between single spaces: two spaces make an empty word, which no form accepts.
-abbrev pub words_of : List ℕ → List (List ℕ)
-words_of line = slice_split (λ b. b == 32) line
+-- The parts of a text stand between single marks: two in a row make an empty part.
+abbrev pub parts_of : ℕ → List ℕ → List (List ℕ)
+parts_of mark text = slice_split (λ b. b == mark) text
 
--- the words of what follows a space, if anything does
-abbrev pub words_after : Option (List ℕ) → List (List ℕ)
-words_after None = []
-words_after (Some rest) = words_of rest
+-- the parts of what follows a mark, if anything does
+abbrev pub parts_after : ℕ → Option (List ℕ) → List (List ℕ)
+parts_after mark None = []
+parts_after mark (Some rest) = parts_of mark rest
+
+-- The words of a line stand between single spaces: no form accepts an empty word.
+abbrev pub words_of : List ℕ → List (List ℕ)
+words_of line = parts_of 32 line

@@ -5,46 +5,44 @@ ghost use Rattle.dali_special.specs.Command.{command_of};
 ghost use Rattle.dali_gear.specs.ControlGear.{without_power, with_power, expired, quieted};
 ghost use Rattle.dali_gear.specs.Row.{answers_of, heard_of};
 ghost use Rattle.dali_gear.specs.declared.row.Reach.TheVariants.{Everyone};
-ghost use Rattle.dali_sim.specs.PlanError.{refusal_of};
 
-use dali_frame::{Answer, Forward, Random24};
+use dali_frame::{Answer, Forward};
 use dali_gear::{Gear, Reach, row};
+use dali_world::Plan;
 use std::alloc::{AllocError, Global};
 use std::marker::Model;
 
 /// Gear on one bus, and the numbers that are left to be drawn.
 #[derive(Drop)]
 pub struct Bench {
+    plan: Plan,
     gear: Vec<Gear>,
-    draws: Vec<Random24>,
     drawn: usize,
 }
 
 impl Model for Bench {
-    ghost use Rattle.std.specs.Prelude.{◌≤◌, ◌<◌, drop, length, All};
-    ghost use Rattle.dali_gear.specs.ControlGear.{MASK};
+    ghost use Rattle.std.specs.Prelude.{◌≤◌, drop, length};
     ghost use Rattle.dali_sim.specs.Bench.{World};
 
     ghost Value = { World };
 
-    ghost view = { λ b. record { gear = b.gear.items; left = drop b.drawn b.draws.items } };
+    ghost view = { λ b. record { gear = b.gear.items; left = drop b.drawn b.plan.draws } };
 
-    ghost invariant = { λ b. (length b.gear.items ≤ 128) × (b.drawn ≤ length b.draws.items) × All (λ draw. draw < MASK) b.draws.items };
+    ghost invariant = { λ b. (length b.gear.items ≤ 128) × (b.drawn ≤ length b.plan.draws) };
 }
 
 impl Bench {
     ghost use Rattle.dali_sim.specs.Bench.{start, needed, is_enough, after_command, with_gear, after};
-    ghost use Rattle.dali_sim.specs.declared.event.Event.TheVariants.{Quiet};
+    ghost use Rattle.dali_sim.specs.declared.bench_line.BenchLine.TheVariants.{Quiet};
 
-    /// A bench of so many gear from the factory.
-    pub fn new(alloc: Global, gear: u32, draws: Vec<Random24>) -> Result<Bench, AllocError>
-        requires { refusal_of gear draws.items ≡ None }
-        ensures { IfOk result (λ bench. bench ≡ start gear draws.items) }
+    /// The gear of a plan, from the factory.
+    pub fn new(alloc: Global, plan: Plan) -> Result<Bench, AllocError>
+        ensures { IfOk result (λ bench. bench ≡ start plan.gear plan.draws) }
     {
-        let gear = vec![in alloc; Gear::new(); gear as usize]?;
+        let gear = vec![in alloc; Gear::new(); plan.gear() as usize]?;
         Ok(Bench {
+            plan,
             gear,
-            draws,
             drawn: 0,
         })
     }
@@ -62,7 +60,7 @@ impl Bench {
         ensures world { self.new ≡ after_command self.old (command_of frame) }
         ensures answer { result ≡ (if is_enough self.old (command_of frame) then Some (heard_of (answers_of Everyone (command_of frame) 0 self.old.gear)) else None) }
     {
-        let left = &self.draws[self.drawn..];
+        let left = &self.plan.draws()[self.drawn..];
         if row::draws_needed(&self.gear, frame, Reach::Everyone) > left.len() {
             return None;
         }

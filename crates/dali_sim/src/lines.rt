@@ -1,7 +1,7 @@
-//! An input's lines and their numbers, and the words of a line.
+//! An input's lines and their numbers, and the parts of a line: words between spaces, numbers between other marks.
 
 ghost use Rattle.std.specs.Prelude.{◌≡◌, ◌≢◌, ℕ, ◌+◌, ◌<◌, ◌≤◌, [], ◌∷◌, length, map, slice_index, IsTrue, ◌↔◌, true, IfSome, IfNone, MatchOption, option_map};
-ghost use Rattle.dali_sim.specs.Lines.{lines_of, is_skipped, numbered_after, words_of, words_after};
+ghost use Rattle.dali_sim.specs.Lines.{lines_of, is_skipped, numbered_after, parts_of, parts_after, words_of};
 
 use arrayvec::ArrayVec;
 
@@ -35,16 +35,33 @@ fn first_line(input: &[u8]) -> (&[u8], &[u8])
     (&input[..end], &input[end + 1..])
 }
 
-/// The first word, and what follows the space behind it, if there is one.
-pub fn cut(line: &[u8]) -> (&[u8], Option<&[u8]>)
-    ensures words { words_of line.now ≡ result.0.now ∷ words_after (option_map (λ rest. rest.now) result.1) }
-    ensures shorter { IfSome result.1 (λ rest. length rest.now < length line.now) }
+/// What stands before the first mark, and what follows the mark, if there is one.
+pub fn cut(text: &[u8], mark: u8) -> (&[u8], Option<&[u8]>)
+    ensures parts { parts_of mark text.now ≡ result.0.now ∷ parts_after mark (option_map (λ rest. rest.now) result.1) }
+    ensures shorter { IfSome result.1 (λ rest. length rest.now < length text.now) }
 {
-    let end = find(line, b' ');
-    if end == line.len() {
-        return (line, None);
+    let end = find(text, mark);
+    if end == text.len() {
+        return (text, None);
     }
-    (&line[..end], Some(&line[end + 1..]))
+    (&text[..end], Some(&text[end + 1..]))
+}
+
+/// The parts of a text of at most three, between marks.
+pub fn parts(text: &[u8], mark: u8) -> Option<ArrayVec<&[u8], 3>>
+    ensures many { IfNone result (3 < length (parts_of mark text.now)) }
+    ensures parts { IfSome result (λ parts. map (λ part. part.now) parts.items ≡ parts_of mark text.now) }
+{
+    let mut parts = ArrayVec::new();
+    let mut rest = Some(text);
+    while let Some(text) = rest {
+        let (part, more) = cut(text, mark);
+        if parts.try_push(part).is_err() {
+            return None;
+        }
+        rest = more;
+    }
+    Some(parts)
 }
 
 /// The words of a line of at most three.
@@ -52,16 +69,7 @@ pub fn words(line: &[u8]) -> Option<ArrayVec<&[u8], 3>>
     ensures many { IfNone result (3 < length (words_of line.now)) }
     ensures words { IfSome result (λ words. map (λ word. word.now) words.items ≡ words_of line.now) }
 {
-    let mut words = ArrayVec::new();
-    let mut rest = Some(line);
-    while let Some(line) = rest {
-        let (word, more) = cut(line);
-        if words.try_push(word).is_err() {
-            return None;
-        }
-        rest = more;
-    }
-    Some(words)
+    parts(line, b' ')
 }
 
 /// Whether a line asks for nothing: an empty line or a comment.

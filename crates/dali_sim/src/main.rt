@@ -1,15 +1,21 @@
-//! `dali_sim replay` reads a script of events on a bench of DALI control gear and reports what the gear do.
+//! `dali_sim replay` reads a script of what happens on a bench of DALI control gear, or on a site with application controllers, and
+//! reports what comes of it.
 #![tactic(auto)]
 
 mod bench;
-mod event;
+mod bench_line;
+mod bench_report;
+mod heading;
+mod installation;
 mod lines;
 mod numbers;
-mod plan;
 mod replay;
-mod report;
+mod rounds;
+mod site_line;
+mod site_report;
 #[cfg(test)]
 mod tests;
+mod text;
 
 use clap::Command;
 use clap::error::ErrorKind;

@@ -3,13 +3,18 @@
 ghost use Rattle.std.specs.Prelude.{◌≡◌, ℕ, ◌+◌, ◌<◌, ◌≤◌, ◌⊎◌, List, length, Some, None, Ok, Err, IfOk, IfErr, IfSome, MatchResult, IsErrOf};
 ghost use Rattle.std.specs.Io.KnownBytes.{Consumes};
 ghost use Rattle.dali_sim.specs.Lines.{lines_of, numbered_after};
-ghost use Rattle.dali_sim.specs.Replay.{PlansNot, Plays, Tells, played, planned, output_of};
+ghost use Rattle.dali_sim.specs.Bench.{start};
+ghost use Rattle.dali_sim.specs.Installation.{installed};
+ghost use Rattle.dali_sim.specs.Replay.{PlansNot, Plays, PlaysSite, Replays, Tells, played, planned, setting_of};
 
 use crate::bench::Bench;
-use crate::event::{bench_of, draws_of, event_of};
+use crate::bench_line::bench_line_of;
+use crate::heading::{draws_of, heading_of};
+use crate::installation::Installation;
 use crate::lines::{INPUT_LIMIT, Script};
-use crate::plan::{PlanError, refusal};
-use crate::report::report;
+use crate::site_line::site_line_of;
+use crate::{bench_report, site_report};
+use dali_world::{Plan, PlanError};
 use std::alloc::{AllocError, Global};
 use std::io::{Read, Write};
 use thiserror::Error;
@@ -79,17 +84,17 @@ fn read_input<R: Read>(alloc: Global, reader: &mut R) -> Result<Vec<u8>, ReplayF
     Err(ReplayFault::Read)
 }
 
-/// The plan: the first two lines.
-fn plan(alloc: Global, script: &mut Script) -> Result<Bench, ReplayFault>
+/// The first two lines: whether they set up a bench, and the plan.
+fn plan(alloc: Global, script: &mut Script) -> Result<(bool, Plan), ReplayFault>
     requires { script.old.read + length script.old.rest.now ≤ 1048576 }
-    ensures planned { IfOk result (λ bench. planned (script.old.read + length (lines_of script.old.rest.now) + 1) (numbered_after script.old.read script.old.rest.now) ≡ Ok (bench, numbered_after script.new.read script.new.rest.now)) }
+    ensures planned { IfOk result (λ setting. planned (script.old.read + length (lines_of script.old.rest.now) + 1) (numbered_after script.old.read script.old.rest.now) ≡ Ok (setting, numbered_after script.new.read script.new.rest.now)) }
     ensures refused { IfErr result (PlansNot (planned (script.old.read + length (lines_of script.old.rest.now) + 1) (numbered_after script.old.read script.old.rest.now))) }
     ensures range { script.new.read + length script.new.rest.now ≤ 1048576 }
 {
     let Some(line) = script.next() else {
         return Err(ReplayFault::BadLine(script.number() + 1));
     };
-    let Some(gear) = bench_of(line) else {
+    let Some(heading) = heading_of(alloc, line)? else {
         return Err(ReplayFault::BadLine(script.number()));
     };
     let Some(line) = script.next() else {
@@ -98,30 +103,56 @@ fn plan(alloc: Global, script: &mut Script) -> Result<Bench, ReplayFault>
     let Some(draws) = draws_of(alloc, line)? else {
         return Err(ReplayFault::BadLine(script.number()));
     };
-    if let Some(error) = refusal(gear, &draws) {
-        return Err(ReplayFault::BadPlan(error));
+    match Plan::new(alloc, heading.gear, &heading.blocks, &draws) {
+        Ok(plan) => Ok((heading.is_bench, plan)),
+        Err(PlanError::NoMemory) => Err(ReplayFault::Memory),
+        Err(error) => Err(ReplayFault::BadPlan(error)),
     }
-    Ok(Bench::new(alloc, gear, draws)?)
 }
 
-/// Plays the lines after the plan. Each report is written before the next line is taken.
-fn play<W: Write>(
+/// Plays the lines of a bench. Each report is written before the next line is taken.
+fn play_bench<W: Write>(
     alloc: Global,
     script: &mut Script,
     bench: &mut Bench,
     writer: &mut W,
 ) -> Result<(), ReplayFault>
     requires { script.old.read + length script.old.rest.now ≤ 1048576 }
-    ensures { Plays (W.contents writer.old) (W.contents writer.new) (played bench.old (numbered_after script.old.read script.old.rest.now)) result }
+    ensures { Plays (played bench.old (numbered_after script.old.read script.old.rest.now)) (W.contents writer.old) (W.contents writer.new) result }
 {
     let mut text = String::new(alloc);
     while let Some(line) = script.next() {
-        let Some(event) = event_of(line) else {
+        let Some(asked) = bench_line_of(line) else {
             return Err(ReplayFault::BadLine(script.number()));
         };
         text.clear();
-        report(&mut text, bench, event)?;
+        bench_report::report(&mut text, bench, asked)?;
         match writer.write_all(text.as_bytes()) {
+            Ok(()) => {}
+            Err(_) => return Err(ReplayFault::Write),
+        }
+    }
+    Ok(())
+}
+
+/// Plays the lines of a site. Each report is written before the next line is taken.
+fn play_site<W: Write>(
+    alloc: Global,
+    script: &mut Script,
+    installation: &mut Installation,
+    writer: &mut W,
+) -> Result<(), ReplayFault>
+    requires { script.old.read + length script.old.rest.now ≤ 1048576 }
+    ensures { PlaysSite installation.old (numbered_after script.old.read script.old.rest.now) (W.contents writer.old) (W.contents writer.new) result }
+{
+    let mut report = String::new(alloc);
+    while let Some(line) = script.next() {
+        let Some(asked) = site_line_of(line) else {
+            return Err(ReplayFault::BadLine(script.number()));
+        };
+        report.clear();
+        site_report::report(alloc, &mut report, installation, asked)?;
+        match writer.write_all(report.as_bytes()) {
             Ok(()) => {}
             Err(_) => return Err(ReplayFault::Write),
         }
@@ -132,27 +163,33 @@ fn play<W: Write>(
 /// Plays a whole input.
 fn replay<W: Write>(alloc: Global, input: &[u8], writer: &mut W) -> Result<(), ReplayFault>
     requires { length input.now ≤ 1048576 }
-    ensures { Plays (W.contents writer.old) (W.contents writer.new) (output_of input.now) result }
+    ensures { Replays (setting_of input.now) (W.contents writer.old) (W.contents writer.new) result }
 {
     let mut script = Script::new(input);
-    let mut bench = plan(alloc, &mut script)?;
-    play(alloc, &mut script, &mut bench, writer)
+    let (is_bench, plan) = plan(alloc, &mut script)?;
+    if is_bench {
+        let mut bench = Bench::new(alloc, plan)?;
+        play_bench(alloc, &mut script, &mut bench, writer)
+    } else {
+        let mut installation = Installation::new(alloc, plan)?;
+        play_site(alloc, &mut script, &mut installation, writer)
+    }
 }
 
-/// Reads a script and writes the reports of its events.
+/// Reads a script of a bench or a site, and writes the reports of its lines.
 ///
-/// What is written, where the answer is `Ok`, is exactly what the input asks for. At `BadLine` the reports up to that
-/// line are written, at `Memory` the first of the reports, and at `BadPlan` and `Read` nothing. At `Write` nothing is
-/// said of what went out.
+/// What is written, where the answer is `Ok`, is exactly what the input asks for: on a bench a function of the input; on a site the
+/// text of each line, in order, of the call that the line makes. At `BadLine` the reports up to that line are written, at `Memory`
+/// the first of the reports, and at `BadPlan` and `Read` nothing. At `Write` nothing is said of what went out.
 pub fn run_replay<R: Read, W: Write>(
     alloc: Global,
     reader: &mut R,
     writer: &mut W,
 ) -> Result<(), ReplayFault>
     // Of a reader that does not tell its bytes, some input is told.
-    ensures some { (input : List ℕ) × Tells (W.contents writer.old) (W.contents writer.new) (output_of input) result }
+    ensures some { (input : List ℕ) × Tells (setting_of input) (W.contents writer.old) (W.contents writer.new) result }
     ensures unread { IsErrOf result ReplayFault.Read → writer.new ≡ writer.old }
-    ensures told { IfSome (R.remaining reader.old) (λ input. Tells (W.contents writer.old) (W.contents writer.new) (output_of input) result) }
+    ensures told { IfSome (R.remaining reader.old) (λ input. Tells (setting_of input) (W.contents writer.old) (W.contents writer.new) result) }
     ensures long { IfSome (R.remaining reader.old) (λ input. 1048576 < length input → IfErr result (λ e. (e ≡ ReplayFault.Memory) ⊎ (e ≡ ReplayFault.Read))) }
 {
     let input = read_input(alloc, reader)?;

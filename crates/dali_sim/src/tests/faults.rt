@@ -1,8 +1,8 @@
 //! Bad lines, refused plans, and readers and writers that fail.
 
 use super::{check, played};
-use crate::plan::PlanError;
 use crate::replay::{ReplayFault, run_replay};
+use dali_world::PlanError;
 use std::io::{Error, ErrorKind, Read, Write};
 use std::test::Fail;
 

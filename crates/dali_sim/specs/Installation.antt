@@ -1,0 +1,158 @@
+use Rattle.std.specs.Prelude.{◌≡◌, ◌⊎◌, ℕ, ◌<◌, Bool, true, false, List, length, map, slice_set, slice_index_or, Option, Some, None, Result, Ok, Err, IfSome}
+use Rattle.dali_frame.specs.declared.frames.Forward.{Forward}
+use Rattle.dali_script.specs.declared.block.Block.{Block}
+use Rattle.dali_script.specs.declared.records.Record.{Record}
+use Rattle.dali_script.specs.Records.{Records, without_records, with_record, Fits, IsFresh}
+use Rattle.dali_controller.specs.declared.orders.Input.{Input}
+use Rattle.dali_controller.specs.declared.orders.Input.TheVariants as input
+use Rattle.dali_controller.specs.declared.orders.Order.{Order}
+use Rattle.dali_controller.specs.declared.orders.Due.{Due}
+use Rattle.dali_controller.specs.declared.orders.Due.TheVariants as due
+use Rattle.dali_controller.specs.Progress.{record_ordered}
+use Rattle.dali_events.specs.Plan.{SitePlan, no_block, block_at}
+use Rattle.dali_events.specs.World.{Controller, controller_at}
+use Rattle.dali_events.specs.declared.event.Event.TheVariants as event
+use Rattle.dali_standing.specs.Places.{due_of}
+use Rattle.dali_standing.specs.declared.refusal.Refusal.{Refusal}
+use Rattle.dali_standing.specs.declared.refusal.Refusal.TheVariants as refusal
+use Rattle.dali_standing.specs.declared.trouble.Trouble.{Trouble}
+use Rattle.dali_standing.specs.declared.trouble.Report.{Report}
+use Rattle.dali_world.specs.Site.{Site, Received, world, opened_site, IsBarred, IsActRefused, IsUpRefused, IsUpWith, HasActed, Pumps, IsPumpRefused}
+
+-- A CONTROLLER'S STORE: the records that it holds, and the record that was ordered and is still to be committed in it.
+pub record Store : Type 0 where
+  pub keep : Records
+  pub pending : Option Record
+
+-- AN INSTALLATION: a site, and a store for each of its controllers.
+pub record Installation : Type 0 where
+  pub site : Site
+  pub stores : List Store
+
+-- a store with nothing to commit
+abbrev pub settled : Records → Store
+settled k = record { keep = k; pending = None }
+
+abbrev pub no_store : Store
+no_store = settled (without_records no_block)
+
+abbrev pub empty_store : Block → Store
+empty_store b = settled (without_records b)
+
+-- of this plan, before anything happens: empty stores, room for 64 requests and 65,536 events
+abbrev pub installed : SitePlan → Installation
+installed p = record { site = opened_site p 64 65536; stores = map empty_store p.blocks }
+
+abbrev pub store_at : Installation → ℕ → Store
+store_at n c = slice_index_or n.stores c no_store
+
+-- with another site, or with another store of controller c
+abbrev pub on_site : Installation → Site → Installation
+on_site n s = record { site = s; stores = n.stores }
+
+abbrev pub with_store : Installation → ℕ → Store → Installation
+with_store n c x = record { site = n.site; stores = slice_set n.stores c x }
+
+-- controller c, as the world of the site has it
+abbrev pub controller : Installation → ℕ → Controller
+controller n c = controller_at (world n.site) c
+
+-- controller c is there, and is up
+abbrev pub IsUpAt : Installation → ℕ → Type 0
+IsUpAt n c = (c < length n.site.plan.blocks) × ((controller n c).up ≡ true)
+
+-- What holds of every installation: a store for each controller, of its block, and what is to be committed there fits it.
+pub record IsInstalled (n : Installation) : Type 0 where
+  pub count : length n.stores ≡ length n.site.plan.blocks
+  pub block : (c : ℕ) → c < length n.stores → (store_at n c).keep.block ≡ block_at n.site.plan c
+
+-- ---------------------------------------------------------------- commits
+
+-- A COMMIT of the record that is pending, and whether the store holds it afterwards. A record that is not new there is refused, and
+-- stays pending; with nothing pending the record was committed before.
+abbrev pub CommitsRecord : Records → Option Record → Bool → Store → Type 0
+CommitsRecord k None held s = (held ≡ true) × (s ≡ settled k)
+CommitsRecord k (Some x) true s = IsFresh k x × (s ≡ settled (with_record k x))
+CommitsRecord k (Some x) false s = (IsFresh k x → ⊥) × (s ≡ (record { keep = k; pending = Some x }))
+
+abbrev pub Commits : Store → Bool → Store → Type 0
+Commits was held s = CommitsRecord was.keep was.pending held s
+
+-- what the controller is told of it
+abbrev pub outcome : Bool → Input
+outcome true = input.Committed
+outcome false = input.CommitFailed
+
+-- ---------------------------------------------------------------- `go c`
+
+-- What `go` gives controller c to act on: the outcome of the commit that it waits for, which is made now unless it was made before;
+-- else what the bus has told it.
+abbrev pub IsGivenBy : Due → Installation → ℕ → Input → Installation → Type 0
+IsGivenBy due.Store n c i m = (held : Bool) × (i ≡ outcome held) × (s : Store) × Commits (store_at n c) held s × (m ≡ with_store n c s)
+IsGivenBy _ n c i m = ((controller n c).told ≡ Some i) × (m ≡ n)
+
+abbrev pub IsGiven : Installation → ℕ → Input → Installation → Type 0
+IsGiven n c i m = IsGivenBy (due_of (controller n c)) n c i m
+
+-- and where nothing is due
+abbrev pub HasNoneBy : Due → Controller → Type 0
+HasNoneBy due.Store k = ⊥
+HasNoneBy _ k = k.told ≡ None
+
+abbrev pub HasNone : Installation → ℕ → Type 0
+HasNone n c = HasNoneBy (due_of (controller n c)) (controller n c)
+
+-- The controller acts: the log has one event more, and a record that was ordered is pending in its store.
+pub record HasStepped (n : Installation) (c : ℕ) (i : Input) (o : Order) (m : Installation) : Type 0 where
+  pub receipt : Received
+  pub acted : HasActed n.site c i receipt m.site
+  pub order : receipt.order ≡ o
+  pub stores : m.stores ≡ slice_set n.stores c (record { keep = (store_at n c).keep; pending = record_ordered (Some o) })
+
+-- A refused `go`: there is no such controller, or it is down; nothing is due; or the site refuses. It changes nothing, but a commit
+-- that it made stays.
+abbrev pub IsGoRefused : Installation → ℕ → Refusal → Installation → Type 0
+IsGoRefused n c e m =
+    (IsBarred n.site c e × (m ≡ n))
+    ⊎ (IsUpAt n c × HasNone n c × (e ≡ refusal.NotDue) × (m ≡ n))
+    ⊎ (IsUpAt n c × (i : Input) × IsGiven n c i m × IsActRefused m.site c i e)
+
+abbrev pub Goes : Installation → ℕ → Result Order Refusal → Installation → Type 0
+Goes n c (Ok o) m = IsUpAt n c × (i : Input) × (given : Installation) × IsGiven n c i given × HasStepped given c i o m
+Goes n c (Err e) m = IsGoRefused n c e m
+
+-- ---------------------------------------------------------------- `store c`, `fail c`
+
+-- whether a commit is outstanding that was not made
+abbrev pub IsPendingBy : Due → Option Record → Type 0
+IsPendingBy due.Store (Some x) = Unit {0}
+IsPendingBy _ _ = ⊥
+
+abbrev pub IsPending : Installation → ℕ → Type 0
+IsPending n c = IsPendingBy (due_of (controller n c)) (store_at n c).pending
+
+-- `store` makes it; the site is not told
+abbrev pub Stores : Installation → ℕ → Result (Unit {0}) Refusal → Installation → Type 0
+Stores n c (Ok _) m = IsUpAt n c × IsPending n c × (held : Bool) × (s : Store) × Commits (store_at n c) held s × (m ≡ with_store n c s)
+Stores n c (Err refusal.NotDue) m = IsUpAt n c × (IsPending n c → ⊥) × (m ≡ n)
+Stores n c (Err e) m = IsBarred n.site c e × (m ≡ n)
+
+-- `fail` tells that the commit failed, and makes none
+abbrev pub Fails : Installation → ℕ → Result Order Refusal → Installation → Type 0
+Fails n c (Ok o) m = HasStepped n c input.CommitFailed o m
+Fails n c (Err e) m = IsActRefused n.site c input.CommitFailed e × (m ≡ n)
+
+-- ---------------------------------------------------------------- `up c`, and the calls that no store takes part in
+
+-- the controller comes up with what its store holds, and nothing is pending there
+abbrev pub ComesUp : Installation → ℕ → Result (Unit {0}) Refusal → Installation → Type 0
+ComesUp n c (Ok _) m = IsUpWith n.site c (store_at n c).keep m.site × (m.stores ≡ slice_set n.stores c (settled (store_at n c).keep))
+ComesUp n c (Err e) m = IsUpRefused n.site c (store_at n c).keep e × (m ≡ n)
+
+-- a call of the site, by what it does where it is accepted, and by its refusals
+abbrev pub Calls : {A : Type 0} → (A → Site → Type 0) → (Refusal → Type 0) → Installation → Result A Refusal → Installation → Type 0
+Calls Does IsRefused n (Ok a) m = Does a m.site × (m.stores ≡ n.stores)
+Calls Does IsRefused n (Err e) m = IsRefused e × (m ≡ n)
+
+abbrev pub PumpsOn : Installation → Trouble → Result Report Refusal → Installation → Type 0
+PumpsOn n t result m = Calls (Pumps n.site t) (IsPumpRefused n.site t) n result m
