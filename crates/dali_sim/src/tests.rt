@@ -1,7 +1,11 @@
 //! Whole runs over memory: what a script makes the program write, and how it ends.
 
 mod benches;
+mod every_step;
 mod faults;
+mod site_lines;
+mod site_refusals;
+mod sites;
 
 use crate::replay::{ReplayFault, run_replay};
 use std::alloc::Global;
@@ -27,5 +31,13 @@ fn check<R: Abort + AllocGlobal>(
     let (was, text) = played(rt.alloc(), input.as_bytes())?;
     assert_eq!(rt; text.as_str(), reports, "of {input:?}");
     assert_eq!(rt; was, end, "of {input:?}");
+    Ok(())
+}
+
+/// Appends a text so many times.
+fn push_times(text: &mut String, part: &str, times: u32) -> Result<(), Fail> {
+    for _ in 0..times {
+        text.push_str(part)?;
+    }
     Ok(())
 }

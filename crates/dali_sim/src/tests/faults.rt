@@ -28,7 +28,7 @@ fn bad_lines_have_their_number(rt: HostRuntime) -> Result<(), Fail> {
         ("bench 1 2\ndraws", 1),
         ("Bench 1\ndraws", 1),
         ("bench 1\r\ndraws", 1),
-        ("site 1 0-3\ndraws", 1),
+        ("sites 1 0-3\ndraws", 1),
         ("bench 500\ndraws 12", 2),
         ("bench 1\ndraw", 2),
         ("bench 1\ndraws ", 2),
@@ -132,6 +132,21 @@ fn faults_have_texts_and_statuses(rt: HostRuntime) -> Result<(), Fail> {
         (
             ReplayFault::BadPlan(PlanError::GearCount),
             "plan refused: GearCount",
+            1,
+        ),
+        (
+            ReplayFault::BadPlan(PlanError::ControllerCount),
+            "plan refused: ControllerCount",
+            1,
+        ),
+        (
+            ReplayFault::BadPlan(PlanError::BlockOrder),
+            "plan refused: BlockOrder",
+            1,
+        ),
+        (
+            ReplayFault::BadPlan(PlanError::BlockOverlap),
+            "plan refused: BlockOverlap",
             1,
         ),
         (
