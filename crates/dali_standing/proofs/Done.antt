@@ -23,7 +23,8 @@ use Rattle.dali_events.specs.Happens.{happens, entry, gives_up, put_after, is_ar
 use Rattle.dali_events.specs.Allowed.{Allowed, IsUp, Hears, MaySend, IsDue, IsArc, HasOutstanding}
 use Rattle.dali_standing.specs.Fitted.{Fitted, taken_at}
 use Rattle.dali_standing.specs.Places.{Place, IsRunning, IsTied, MayAnswer, acted_at, told_at, down_at, up_at, trace_of}
-use Rattle.dali_standing.specs.Standing.{Seated, place_in, place_at, world_of, with_place, running_in, goes_on_in, has_acted, has_offered, has_sent, has_lost, has_collided, has_lapsed, has_gone_down, has_come_up, empty_place, Standing, flat, stand_of, controller_on, machine_on, machines_after, Moves, MayBeSent, IsMove}
+use Rattle.dali_standing.specs.Standing.{Seated, place_in, empty_place, Standing, flat, stand_of, controller_on, machine_on, machines_after, Moves, MayBeSent}
+use Rattle.dali_standing.proofs.Seats.{place_at, world_of, with_place, running_in, goes_on_in, has_acted, has_offered, has_sent, has_lost, has_collided, has_lapsed, has_gone_down, has_come_up, IsMove}
 use Rattle.dali_standing.specs.Settled.{IsAccepted, IsHearing, IsPlacedBy, IsPlacedOn, Settled}
 use Rattle.dali_standing.specs.declared.refusal.Refusal.{Refusal}
 use Rattle.dali_standing.specs.declared.trouble.Trouble.{Trouble}

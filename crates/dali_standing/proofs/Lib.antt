@@ -1,6 +1,7 @@
 mod Ties
 mod Rows
 pub mod Acts
+mod Seats
 mod Moves
 mod Placing
 mod Queues

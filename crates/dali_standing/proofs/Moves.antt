@@ -24,7 +24,8 @@ use Rattle.dali_events.specs.Happens.{happens, informed, acted, told_sent, told_
 use Rattle.dali_events.specs.Allowed.{Hears, IsUp, IsDue, IsArc, MaySend, MayOrder, HasOutstanding}
 use Rattle.dali_standing.specs.Fitted.{changed_at}
 use Rattle.dali_standing.specs.Places.{Place, IsTied, MayAnswer, acted_at, down_at, up_at, told_at}
-use Rattle.dali_standing.specs.Standing.{Seated, empty_place, place_in, place_at, controllers_of, machines_of, world_of, machine_in, with_place, running_in, has_acted, has_offered, has_sent, has_lost, has_collided, owner_lapsed, has_lapsed, with_gear, has_gone_down, has_come_up, IsMove, flat, stand_of, seats_from, seated_at, machines_at}
+use Rattle.dali_standing.specs.Standing.{Seated, empty_place, place_in, controllers_of, machines_of, machine_in, flat, stand_of, seats_from, machines_at}
+use Rattle.dali_standing.proofs.Seats.{place_at, world_of, with_place, running_in, has_acted, has_offered, has_sent, has_lost, has_collided, owner_lapsed, has_lapsed, with_gear, has_gone_down, has_come_up, IsMove, seated_at}
 use Rattle.dali_standing.specs.Settled.{IsPlaced}
 use Rattle.dali_standing.proofs.Acts.{may_order}
 

@@ -29,7 +29,8 @@ use Rattle.dali_events.specs.World.{World, Controller}
 use Rattle.dali_events.specs.Happens.{entry, informed, gives_up, bus_acted, is_arc, told_sent, told_destroyed, told_lapsed, sent_by}
 use Rattle.dali_events.specs.Allowed.{IsDue, IsCommit, IsArc}
 use Rattle.dali_standing.specs.Places.{Place, IsTied, MayAnswer, acted_at, told_at, down_at, up_at, begun_at}
-use Rattle.dali_standing.specs.Standing.{Seated, place_in, place_at, world_of, with_place, running_in, goes_on_in, owner_lapsed, has_acted, has_offered, has_sent, has_lost, has_collided, has_lapsed, has_gone_down, has_come_up, seated_at, seats_from, empty_place}
+use Rattle.dali_standing.specs.Standing.{Seated, place_in, seats_from, empty_place}
+use Rattle.dali_standing.proofs.Seats.{place_at, world_of, with_place, running_in, goes_on_in, owner_lapsed, has_acted, has_offered, has_sent, has_lost, has_collided, has_lapsed, has_gone_down, has_come_up, seated_at}
 use Rattle.dali_standing.specs.Settled.{IsOwning, IsApart, IsPlacedBy, IsPlaced, awaited, awaited_by, IsServed, IsSettled, IsAccepted, Settled}
 use Rattle.dali_standing.proofs.Acts.{IsLeft, may_order, owner_owns, owner_is, other_owns, committed_last}
 use Rattle.dali_standing.proofs.Moves.{MaySendAt, controller_in, place_here, place_elsewhere, up_there}

@@ -1,29 +1,20 @@
-use Rattle.std.specs.Prelude.{◌≡◌, ℕ, ◌+◌, Bool, List, [], ◌∷◌, ◌++◌, map, slice_set, slice_index_or, Option, Some, None, if◌then◌else◌}
+use Rattle.std.specs.Prelude.{◌≡◌, ℕ, ◌+◌, List, [], ◌∷◌, map, slice_set, slice_index_or, Option, Some, None}
 use Rattle.std.specs.Option.{option_map}
-use Rattle.dali_frame.specs.declared.frames.Forward.{Forward}
-use Rattle.dali_frame.specs.declared.frames.Answer.{Answer}
-use Rattle.dali_special.specs.Command.{command_of}
-use Rattle.dali_gear.specs.declared.row.GearSet.{GearSet}
-use Rattle.dali_gear.specs.declared.row.Reach.TheVariants.{Everyone, Only}
 use Rattle.dali_gear.specs.ControlGear.{ControlGear}
 use Rattle.dali_arbiter.specs.declared.request.Request.{Request}
-use Rattle.dali_arbiter.specs.Bus.{Bus, owns, idle, request_of, offered, destroyed, collided, lapsed, silenced}
+use Rattle.dali_arbiter.specs.Bus.{Bus}
 use Rattle.dali_script.specs.declared.block.Block.{Block}
 use Rattle.dali_script.specs.declared.trace.Entry.{Entry}
 use Rattle.dali_script.specs.Records.{without_records}
-use Rattle.dali_script.specs.Stages.{stage_of, may_follow}
-use Rattle.dali_controller.specs.declared.orders.Input.{Input}
-use Rattle.dali_controller.specs.declared.orders.Order.{Order}
 use Rattle.dali_controller.specs.Progress.{Progress, at_first}
 use Rattle.dali_controller.specs.Orders.{after}
 use Rattle.dali_events.specs.declared.event.Event.{Event}
 use Rattle.dali_events.specs.declared.event.Event.TheVariants as event
-use Rattle.dali_events.specs.Plan.{SitePlan}
 use Rattle.dali_events.specs.World.{World, Controller, controller_at, nobody}
-use Rattle.dali_events.specs.Happens.{happens, entry, gives_up, bus_acted, sent_by, told_sent, told_destroyed, told_lapsed, come_up}
+use Rattle.dali_events.specs.Happens.{happens, come_up}
 use Rattle.dali_events.specs.Allowed.{Allowed, IsUp, MaySend}
-use Rattle.dali_standing.specs.Fitted.{Fitted, fitted_at, taken_at}
-use Rattle.dali_standing.specs.Places.{Place, begun_at, acted_at, down_at, up_at, told_at}
+use Rattle.dali_standing.specs.Fitted.{Fitted}
+use Rattle.dali_standing.specs.Places.{Place, begun_at}
 
 -- WHAT STANDS on a site at one moment: a world without the history of draws, and with the machines of the controllers.
 pub record Standing : Type 0 where
@@ -60,9 +51,6 @@ empty_place = record { controller = nobody; machine = None }
 abbrev pub place_in : List Place → ℕ → Place
 place_in seats c = slice_index_or seats c empty_place
 
-abbrev pub place_at : Seated → ℕ → Place
-place_at s c = place_in s.seats c
-
 abbrev pub controllers_of : List Place → List Controller
 controllers_of seats = map (λ p. p.controller) seats
 
@@ -78,18 +66,6 @@ flat s = record {
   controllers = controllers_of s.seats;
   machines = machines_of s.seats;
   left = s.fitted.left;
-  gifts = s.fitted.gifts;
-}
-
--- the world in which these numbers were drawn
-abbrev pub world_of : Seated → List (ℕ × ℕ) → World
-world_of s drawn = record {
-  gear = s.fitted.gear;
-  bus = s.bus;
-  trace = s.trace;
-  controllers = controllers_of s.seats;
-  left = s.fitted.left;
-  drawn = drawn;
   gifts = s.fitted.gifts;
 }
 
@@ -116,78 +92,6 @@ abbrev pub seats_from : ℕ → List Block → List Place
 seats_from c [] = []
 seats_from c (b ∷ bs) = begun_at c b ∷ seats_from (c + 1) bs
 
--- ---------------------------------------------------------------- what happens to it
-
-abbrev pub seated_at : SitePlan → ℕ → Seated
-seated_at p capacity = record { fitted = fitted_at p; bus = idle capacity; trace = []; seats = seats_from 0 p.blocks }
-
-abbrev pub with_place : List Place → ℕ → Place → List Place
-with_place seats c p = slice_set seats c p
-
--- the frames of the transaction that a frame of controller c goes on with
-abbrev pub running_in : Seated → ℕ → List Entry
-running_in s c = if owns s.bus.owner c then s.trace else []
-
-abbrev pub goes_on_in : Seated → ℕ → List Entry → Bool
-goes_on_in s c t = may_follow (place_at s c).controller.records.block (place_at s c).controller.records.reserved (stage_of t)
-
-abbrev pub has_acted : Seated → ℕ → Input → Order → Seated
-has_acted s c i o = record {
-  fitted = s.fitted;
-  bus = bus_acted s.bus c o;
-  trace = (if gives_up s.bus c o then [] else s.trace);
-  seats = with_place s.seats c (acted_at (place_at s c) i o);
-}
-
-abbrev pub has_offered : Seated → ℕ → Forward → Seated
-has_offered s c f = record { fitted = s.fitted; bus = offered s.bus (request_of c 2 f); trace = s.trace; seats = s.seats }
-
-abbrev pub has_sent : Seated → ℕ → Forward → Answer → Seated
-has_sent s c f h = record {
-  fitted = taken_at Everyone (command_of f) s.fitted;
-  bus = sent_by s.bus c (goes_on_in s c (running_in s c ++ entry f h ∷ []));
-  trace = (if goes_on_in s c (running_in s c ++ entry f h ∷ []) then running_in s c ++ entry f h ∷ [] else []);
-  seats = with_place s.seats c (told_at (told_sent (running_in s c) f h) (place_at s c));
-}
-
-abbrev pub has_lost : Seated → ℕ → Forward → GearSet → Seated
-has_lost s c f set = record {
-  fitted = taken_at (Only set) (command_of f) s.fitted;
-  bus = destroyed s.bus;
-  trace = [];
-  seats = with_place s.seats c (told_at (told_destroyed f) (place_at s c));
-}
-
-abbrev pub has_collided : Seated → ℕ → Forward → ℕ → Forward → Seated
-has_collided s c f d g = record {
-  fitted = s.fitted;
-  bus = collided s.bus;
-  trace = [];
-  seats = with_place (with_place s.seats c (told_at (told_destroyed f) (place_at s c))) d
-      (told_at (told_destroyed g) (place_in (with_place s.seats c (told_at (told_destroyed f) (place_at s c))) d));
-}
-
-abbrev pub owner_lapsed : List Place → Option ℕ → List Place
-owner_lapsed seats None = seats
-owner_lapsed seats (Some c) = with_place seats c (told_at told_lapsed (place_in seats c))
-
-abbrev pub has_lapsed : Seated → Seated
-has_lapsed s = record { fitted = s.fitted; bus = lapsed s.bus; trace = []; seats = owner_lapsed s.seats s.bus.owner }
-
-abbrev pub with_gear : Seated → Fitted → Seated
-with_gear s fitted = record { fitted = fitted; bus = s.bus; trace = s.trace; seats = s.seats }
-
-abbrev pub has_gone_down : Seated → ℕ → Seated
-has_gone_down s c = record {
-  fitted = s.fitted;
-  bus = silenced s.bus c;
-  trace = (if owns s.bus.owner c then [] else s.trace);
-  seats = with_place s.seats c (down_at (place_at s c));
-}
-
-abbrev pub has_come_up : Seated → ℕ → Bool → Seated
-has_come_up s c kept = record { fitted = s.fitted; bus = s.bus; trace = s.trace; seats = with_place s.seats c (up_at c kept (place_at s c)) }
-
 -- ---------------------------------------------------------------- one event more
 
 -- WHAT AN EVENT MOVES: in each world that stands so it is allowed, and it leads to what the definitions say of the world
@@ -198,9 +102,3 @@ Moves s e new = (w : World) (ms : List (Option Progress)) → s ≡ stand_of w m
 -- a request that may be sent, in each world that stands so
 abbrev pub MayBeSent : Standing → Request → Type 0
 MayBeSent s r = (w : World) (ms : List (Option Progress)) → s ≡ stand_of w ms → IsUp w r.sender × MaySend w r.sender r.frame
-
--- the same of places: whatever numbers were drawn
-pub record IsMove (s : Seated) (e : Event) (new : Seated) : Type 0 where
-  pub allowed : (drawn : List (ℕ × ℕ)) → Allowed (world_of s drawn) e
-  pub world : (drawn : List (ℕ × ℕ)) → world_of new (happens (world_of s drawn) e).drawn ≡ happens (world_of s drawn) e
-  pub machines : (drawn : List (ℕ × ℕ)) → machines_of new.seats ≡ machines_after (world_of s drawn) (machines_of s.seats) e
