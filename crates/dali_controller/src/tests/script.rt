@@ -113,7 +113,7 @@ fn record_of(text: &str) -> Result<Record, Fail> {
 fn input_of(alloc: Global, word: &str) -> Result<Input, Fail> {
     Ok(match word {
         "start" => Input::Start,
-        "destroyed" | "taken" => Input::Destroyed,
+        "destroyed" => Input::Destroyed,
         "lapsed" => Input::Lapsed,
         "committed" => Input::Committed,
         "failed" => Input::CommitFailed,
@@ -193,113 +193,192 @@ fn frame_of(order: Order) -> Result<Forward, Fail> {
     }
 }
 
-/// Takes this many steps, in which nothing but frames is ordered: every COMPARE is answered YES, and all else with
-/// silence. Answers the last order.
-fn skipped(machine: &mut Machine, was: Order, frames: u32) -> Result<Order, Fail> {
-    let mut order = was;
-    for _ in 0..frames {
-        let answer = if frame_of(order)?.address_byte == COMPARE {
-            Answer::Byte(0xFF)
-        } else {
-            Answer::Silence
-        };
-        order = machine.step(Input::Heard(answer))?;
-    }
-    let _ = frame_of(order)?;
-    Ok(order)
-}
-
-/// The gear answers this many frames, and records that are ordered on the way are kept. Answers the last order.
-fn answered(
-    machine: &mut Machine,
-    gear: &mut Gear,
-    was: Order,
-    frames: u32,
-) -> Result<Order, Fail> {
-    let mut order = was;
-    for _ in 0..frames {
-        if let Order::Commit(_) = order {
-            order = machine.step(Input::Committed)?;
-        }
-        let heard = gear.takes(frame_of(order)?);
-        order = machine.step(Input::Heard(heard))?;
-    }
-    Ok(order)
-}
-
-/// A machine on a bus with one gear.
+/// A machine on a bus with one gear, and what it ordered last.
 #[derive(Drop)]
 struct Site {
+    block: (u8, u8),
     machine: Machine,
     gear: Gear,
+    order: Order,
 }
 
 impl Site {
-    /// What a line shows that tells the machine nothing.
-    fn shown(&self, alloc: Global, word: &str) -> Result<Option<String>, Fail> {
-        if word == "table" {
-            return Ok(Some(table_text(alloc, &self.machine)?));
-        }
-        if word == "gear" {
-            return Ok(Some(self.gear.text(alloc)?));
-        }
-        Ok(None)
+    fn new(alloc: Global, block: (u8, u8), records: &str) -> Result<Site, Fail> {
+        Ok(Site {
+            block,
+            machine: machine(alloc, block, records)?,
+            gear: Gear::new(),
+            order: Order::Halt(Fault::Store),
+        })
     }
 
-    /// The next order after one, or none where nothing is due.
-    fn ordered(&mut self, alloc: Global, was: Order, word: &str) -> Result<Option<Order>, Fail> {
-        if let Some(frames) = word.strip_prefix("skip ") {
-            let frames = frames.parse::<u32>()?;
-            return Ok(Some(skipped(&mut self.machine, was, frames)?));
+    /// Whether the input was due, and an order was given.
+    fn stepped(&mut self, input: Input) -> bool {
+        match self.machine.step(input) {
+            Ok(order) => {
+                self.order = order;
+                true
+            }
+            Err(_) => false,
         }
-        if let Some(frames) = word.strip_prefix("gear ") {
-            let frames = frames.parse::<u32>()?;
-            return Ok(Some(answered(&mut self.machine, &mut self.gear, was, frames)?));
+    }
+
+    /// An input that must be due.
+    fn must_step(&mut self, input: Input) -> Result<(), Fail> {
+        if self.stepped(input) {
+            Ok(())
+        } else {
+            Err(Fail::from("an input that is due"))
         }
-        if word == "taken" {
-            let _ = self.gear.takes(frame_of(was)?);
+    }
+
+    /// Another machine takes the place of the first, and is started.
+    fn again(&mut self, alloc: Global, records: &str) -> Result<bool, Fail> {
+        self.machine = machine(alloc, self.block, records)?;
+        Ok(self.stepped(Input::Start))
+    }
+
+    /// The gear takes the frame that was ordered.
+    fn taken(&mut self) -> Result<bool, Fail> {
+        let _ = self.gear.takes(frame_of(self.order)?);
+        Ok(self.stepped(Input::Destroyed))
+    }
+
+    /// Takes this many steps, in which nothing but frames is ordered: every COMPARE is answered YES, and all else with
+    /// silence.
+    fn skip(&mut self, frames: u32) -> Result<bool, Fail> {
+        for _ in 0..frames {
+            let answer = if frame_of(self.order)?.address_byte == COMPARE {
+                Answer::Byte(0xFF)
+            } else {
+                Answer::Silence
+            };
+            self.must_step(Input::Heard(answer))?;
         }
-        match self.machine.step(input_of(alloc, word)?) {
-            Ok(order) => Ok(Some(order)),
-            Err(_) => Ok(None),
+        let _ = frame_of(self.order)?;
+        Ok(true)
+    }
+
+    /// The gear answers this many frames, and records that are ordered on the way are kept.
+    fn answer(&mut self, frames: u32) -> Result<bool, Fail> {
+        for _ in 0..frames {
+            if let Order::Commit(_) = self.order {
+                self.must_step(Input::Committed)?;
+            }
+            let heard = self.gear.takes(frame_of(self.order)?);
+            self.must_step(Input::Heard(heard))?;
+        }
+        Ok(true)
+    }
+
+    /// Whether an order was given after a line's first half.
+    fn ordered(&mut self, alloc: Global, word: &str) -> Result<bool, Fail> {
+        let (name, rest) = word.split_once(' ').unwrap_or((word, ""));
+        match name {
+            "skip" => self.skip(rest.parse::<u32>()?),
+            "gear" => self.answer(rest.parse::<u32>()?),
+            "again" => self.again(alloc, rest),
+            "taken" => self.taken(),
+            _ => Ok(self.stepped(input_of(alloc, word)?)),
+        }
+    }
+
+    fn ordered_text(&mut self, alloc: Global, word: &str) -> Result<String, Fail> {
+        if self.ordered(alloc, word)? {
+            order_text(alloc, &self.order)
+        } else {
+            Ok(String::from_str(alloc, "not due")?)
+        }
+    }
+
+    /// What a line's second half must be.
+    fn shown(&mut self, alloc: Global, word: &str) -> Result<String, Fail> {
+        match word {
+            "table" => table_text(alloc, &self.machine),
+            "gear" => self.gear.text(alloc),
+            _ => self.ordered_text(alloc, word),
         }
     }
 }
 
-/// Plays a script with a machine of a block, with these records.
+fn agree<R: Abort>(rt: &R, seen: &str, want: &str, line: &str) {
+    assert_eq!(rt; seen, want, "after {line}");
+}
+
+fn play_line<R: Abort + AllocGlobal>(rt: &R, site: &mut Site, line: &str) -> Result<(), Fail> {
+    let (word, want) = line.split_once(": ").ok_or("a word and what it shows")?;
+    let seen = site.shown(rt.alloc(), word)?;
+    agree(rt, seen.as_str(), want, line);
+    Ok(())
+}
+
+fn play_lines<R: Abort + AllocGlobal>(rt: &R, site: &mut Site, script: &str) -> Result<(), Fail> {
+    for line in script.lines() {
+        play_line(rt, site, line)?;
+    }
+    Ok(())
+}
+
+fn play_parts<R: Abort + AllocGlobal>(rt: &R, site: &mut Site, parts: &[&str]) -> Result<(), Fail> {
+    for part in parts {
+        play_lines(rt, site, part)?;
+    }
+    Ok(())
+}
+
+/// Plays the parts of a script, one after the other, with a machine of a block, with these records.
 pub(super) fn play<R: Abort + AllocGlobal>(
     rt: &R,
     block: (u8, u8),
     records: &str,
-    script: &str,
+    parts: &[&str],
 ) -> Result<(), Fail> {
-    let alloc = rt.alloc();
-    let mut site = Site {
-        machine: machine(alloc, block, records)?,
-        gear: Gear::new(),
-    };
-    let mut order = Order::Halt(Fault::Store);
-    for line in script.lines() {
-        let (word, want) = line.split_once(": ").ok_or("a word and what it shows")?;
-        if let Some(seen) = site.shown(alloc, word)? {
-            assert_eq!(rt; seen.as_str(), want, "after {line}");
-            continue;
-        }
-        let word = match word.strip_prefix("again ") {
-            Some(records) => {
-                site.machine = machine(alloc, block, records)?;
-                "start"
-            }
-            None => word,
-        };
-        match site.ordered(alloc, order, word)? {
-            Some(next) => {
-                order = next;
-                let text = order_text(alloc, &next)?;
-                assert_eq!(rt; text.as_str(), want, "after {line}");
-            }
-            None => assert_eq!(rt; "not due", want, "after {line}"),
-        }
+    let mut site = Site::new(rt.alloc(), block, records)?;
+    play_parts(rt, &mut site, parts)
+}
+
+fn play_ending<R: Abort + AllocGlobal>(
+    rt: &R,
+    records: &str,
+    before: &[&str],
+    ending: &str,
+) -> Result<(), Fail> {
+    let mut site = Site::new(rt.alloc(), (0, 3), records)?;
+    play_parts(rt, &mut site, before)?;
+    play_lines(rt, &mut site, ending)
+}
+
+/// Plays the parts of a script once before each of these endings, with a machine of the block 0 to 3.
+pub(super) fn play_each<R: Abort + AllocGlobal>(
+    rt: &R,
+    records: &str,
+    before: &[&str],
+    endings: &[&str],
+) -> Result<(), Fail> {
+    for ending in endings {
+        play_ending(rt, records, before, ending)?;
+    }
+    Ok(())
+}
+
+/// A line that tells of a lost frame, and what follows it.
+fn loss(alloc: Global, lost: &str, after: &str) -> Result<String, Fail> {
+    Ok(format!(in alloc; "{lost}: {after}")?)
+}
+
+/// After each of these lines, such an ending.
+fn play_fronts<R: Abort + AllocGlobal>(
+    rt: &R,
+    records: &str,
+    before: &str,
+    lines: &str,
+    ending: &str,
+) -> Result<(), Fail> {
+    let mut script = String::from_str(rt.alloc(), before)?;
+    for line in lines.lines() {
+        script.push_str(line)?;
+        script.push_str("\n")?;
+        play(rt, (0, 3), records, &[script.as_str(), ending])?;
     }
     Ok(())
 }
@@ -312,14 +391,8 @@ pub(super) fn play_lost<R: Abort + AllocGlobal>(
     lines: &str,
     after: &str,
 ) -> Result<(), Fail> {
-    let alloc = rt.alloc();
-    for lost in ["destroyed", "lapsed"] {
-        let mut script = String::from_str(alloc, before)?;
-        for line in lines.lines() {
-            script = format!(in alloc; "{script}{line}\n")?;
-            let whole = format!(in alloc; "{script}{lost}: {after}")?;
-            play(rt, (0, 3), records, whole.as_str())?;
-        }
-    }
-    Ok(())
+    let destroyed = loss(rt.alloc(), "destroyed", after)?;
+    play_fronts(rt, records, before, lines, destroyed.as_str())?;
+    let lapsed = loss(rt.alloc(), "lapsed", after)?;
+    play_fronts(rt, records, before, lines, lapsed.as_str())
 }
