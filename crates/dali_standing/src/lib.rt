@@ -14,6 +14,3 @@ mod trouble;
 pub use refusal::Refusal;
 pub use standing::{Standing, is_arc_power};
 pub use trouble::{Report, Trouble};
-
-#[cfg(test)]
-mod tests;

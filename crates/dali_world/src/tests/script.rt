@@ -652,6 +652,16 @@ pub(super) fn play<R: Abort + AllocGlobal>(
     play_in(rt, gear, blocks, draws, (4096, 16), script)
 }
 
+fn play_two<R: Abort + AllocGlobal>(
+    rt: &R,
+    site: &mut SiteState,
+    first: &str,
+    second: &str,
+) -> Result<(), Fail> {
+    play_lines(rt, site, first)?;
+    play_lines(rt, site, second)
+}
+
 /// Plays two scripts, one after the other, on a site with one gear and one controller, of the block 0 to 3.
 pub(super) fn play_both<R: Abort + AllocGlobal>(
     rt: &R,
@@ -660,6 +670,16 @@ pub(super) fn play_both<R: Abort + AllocGlobal>(
     second: &str,
 ) -> Result<(), Fail> {
     let mut site = site_of(rt.alloc(), 1, &[(0, 3)], draws, (4096, 16))?;
-    play_lines(rt, &mut site, first)?;
-    play_lines(rt, &mut site, second)
+    play_two(rt, &mut site, first, second)
+}
+
+/// The text of a refusal.
+pub(super) fn refuses<R: Abort + AllocGlobal>(
+    rt: &R,
+    refusal: Refusal,
+    want: &str,
+) -> Result<(), Fail> {
+    let seen = refusal_text(rt.alloc(), refusal)?;
+    agree(rt, seen.as_str(), want, "a refusal");
+    Ok(())
 }

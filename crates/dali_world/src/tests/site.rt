@@ -1,6 +1,8 @@
 //! The calls of a site one by one: what each answers, and what it refuses.
 
-use super::script::{play, play_both, play_in};
+use super::script::{play, play_both, play_in, refuses};
+use crate::{Refusal, Report, Trouble};
+use dali_frame::{Answer, Forward};
 use std::test::Fail;
 
 /// The opening of controller 0, up to its last frame, which is put.
@@ -166,4 +168,47 @@ fn a_pair_that_is_torn_leaves_gear_disabled(rt: HostRuntime) -> Result<(), Fail>
     let whole =
         "pump = 0: sent A5FF silence\nstate 0 = enabled\nexpire 0 = ok\nevent = expired 0\nstate 0 = disabled\n";
     play_both(&rt, &[], HALF_PAIR, whole)
+}
+
+#[test]
+fn gear_come_from_the_factory(rt: HostRuntime) -> Result<(), Fail> {
+    play(
+        &rt,
+        3,
+        &[(0, 3)],
+        &[0x123456],
+        "quiet = ok\ngear 0 = random FFFFFF short none\ngear 1 = random FFFFFF short none\ngear 2 = random FFFFFF short none\nstate 2 = disabled\ngifts = empty\npower 3 on = refused 1 UnknownGear\n",
+    )
+}
+
+#[test]
+fn a_controller_is_up_and_waits_for_its_start(rt: HostRuntime) -> Result<(), Fail> {
+    play(
+        &rt,
+        1,
+        &[(0, 3)],
+        &[],
+        "next 0 = start\nact 0 committed = refused 3 NotDue\ndown 0 = ok\nnext 0 = none\nup 0 empty = ok\nnext 0 = start\nact 0 start = put 3 A100\n",
+    )
+}
+
+#[test]
+fn refusals_have_their_numbers(rt: HostRuntime) -> Result<(), Fail> {
+    refuses(&rt, Refusal::UnknownGear, "refused 1 UnknownGear")?;
+    refuses(&rt, Refusal::ControllerUp, "refused 2 ControllerUp")?;
+    refuses(&rt, Refusal::NoMemory, "refused 9 NoMemory")
+}
+
+#[test]
+fn an_answer_is_lost(rt: HostRuntime) {
+    assert_eq!(rt; Trouble::AnswerLost.heard(Answer::Byte(3)), Answer::Silence);
+}
+
+#[test]
+fn an_idle_bus_destroys_nothing(rt: HostRuntime) {
+    let terminate = Forward {
+        address_byte: 0xA1,
+        opcode_byte: 0,
+    };
+    assert!(rt; Report::Idle != Report::Destroyed(0, terminate));
 }
