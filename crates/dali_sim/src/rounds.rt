@@ -21,14 +21,18 @@ pub enum Round {
 }
 
 /// A controller's turn in a round, and whether it went; `None` where it was refused.
-fn take_turn(text: &mut String, n: &mut Installation, c: u8) -> Result<Option<bool>, AllocError>
-    requires { c < length n.old.site.plan.blocks }
-    ensures { IfOk result (λ went. Writes (string_bytes text.old) (string_bytes text.new) (λ more. IsTurn n.old c went more n.new)) }
+fn take_turn(
+    text: &mut String,
+    installation: &mut Installation,
+    c: u8,
+) -> Result<Option<bool>, AllocError>
+    requires { c < length installation.old.site.plan.blocks }
+    ensures { IfOk result (λ went. Writes (string_bytes text.old) (string_bytes text.new) (λ more. IsTurn installation.old c went more installation.new)) }
 {
-    if !n.has_turn(c) {
+    if !installation.has_turn(c) {
         return Ok(Some(false));
     }
-    match n.go(u32::from(c)) {
+    match installation.go(u32::from(c)) {
         Ok(order) => {
             push_kept(text, u32::from(c), order)?;
             Ok(Some(true))
@@ -42,12 +46,12 @@ fn take_turn(text: &mut String, n: &mut Installation, c: u8) -> Result<Option<bo
 
 /// The turns of all controllers, in order of their numbers, and whether one of them went; `None` where a turn was refused, which
 /// is the last then.
-fn turns(text: &mut String, n: &mut Installation) -> Result<Option<bool>, AllocError>
-    ensures { IfOk result (λ acted. Writes (string_bytes text.old) (string_bytes text.new) (λ more. AreTurns n.old acted more n.new)) }
+fn turns(text: &mut String, installation: &mut Installation) -> Result<Option<bool>, AllocError>
+    ensures { IfOk result (λ acted. Writes (string_bytes text.old) (string_bytes text.new) (λ more. AreTurns installation.old acted more installation.new)) }
 {
     let mut acted = false;
-    for c in 0..n.controllers() {
-        let Some(went) = take_turn(text, n, c)? else {
+    for c in 0..installation.controllers() {
+        let Some(went) = take_turn(text, installation, c)? else {
             return Ok(None);
         };
         acted |= went;
@@ -76,13 +80,13 @@ fn came_of(acted: bool, report: Report) -> Round
 }
 
 /// One round.
-fn play_round(text: &mut String, n: &mut Installation) -> Result<Round, AllocError>
-    ensures { IfOk result (λ round. Writes (string_bytes text.old) (string_bytes text.new) (λ more. IsRoundOf n.old round more n.new)) }
+fn play_round(text: &mut String, installation: &mut Installation) -> Result<Round, AllocError>
+    ensures { IfOk result (λ round. Writes (string_bytes text.old) (string_bytes text.new) (λ more. IsRoundOf installation.old round more installation.new)) }
 {
-    let Some(acted) = turns(text, n)? else {
+    let Some(acted) = turns(text, installation)? else {
         return Ok(Round::Refused);
     };
-    match n.pump(Trouble::None) {
+    match installation.pump(Trouble::None) {
         Ok(report) => Ok(came_of(acted, report)),
         Err(error) => {
             push_refused(text, error)?;
@@ -99,13 +103,13 @@ fn count(sent: bool) -> u32
 }
 
 /// Up to so many rounds; how many frames they sent.
-fn rounds(text: &mut String, n: &mut Installation, limit: u32) -> Result<u32, AllocError>
-    ensures { IfOk result (λ frames. Writes (string_bytes text.old) (string_bytes text.new) (λ more. Ran limit n.old frames more n.new)) }
+fn rounds(text: &mut String, installation: &mut Installation, limit: u32) -> Result<u32, AllocError>
+    ensures { IfOk result (λ frames. Writes (string_bytes text.old) (string_bytes text.new) (λ more. Ran limit installation.old frames more installation.new)) }
 {
     let mut played = 0;
     let mut frames = 0;
     while played < limit {
-        match play_round(text, n)? {
+        match play_round(text, installation)? {
             Round::Played(sent) => frames += count(sent),
             Round::Over => return Ok(frames),
             Round::Refused => return Ok(frames),
@@ -116,9 +120,9 @@ fn rounds(text: &mut String, n: &mut Installation, limit: u32) -> Result<u32, Al
 }
 
 /// `run n`: up to so many rounds, and the report of them.
-pub fn run(text: &mut String, n: &mut Installation, limit: u32) -> Result<(), AllocError>
-    ensures { OnOk result (Writes (string_bytes text.old) (string_bytes text.new) (λ more. Runs limit n.old more n.new)) }
+pub fn run(text: &mut String, installation: &mut Installation, limit: u32) -> Result<(), AllocError>
+    ensures { OnOk result (Writes (string_bytes text.old) (string_bytes text.new) (λ more. Runs limit installation.old more installation.new)) }
 {
-    let frames = rounds(text, n, limit)?;
+    let frames = rounds(text, installation, limit)?;
     push_ran(text, frames)
 }

@@ -73,55 +73,55 @@ fn push_asked(
 }
 
 /// The state of all gear, in order of their numbers.
-fn push_gear_lines(text: &mut String, n: &Installation) -> Result<(), AllocError>
-    ensures { OnOk result (string_bytes text.new ≡ string_bytes text.old ++ gear_lines (world n.now.site) n.now.site.plan.gear) }
+fn push_gear_lines(text: &mut String, installation: &Installation) -> Result<(), AllocError>
+    ensures { OnOk result (string_bytes text.new ≡ string_bytes text.old ++ gear_lines (world installation.now.site) installation.now.site.plan.gear) }
 {
-    for number in 0..n.gear_count() {
-        push_gear(text, number as usize, n.gear(number))?;
+    for number in 0..installation.gear_count() {
+        push_gear(text, number as usize, installation.gear(number))?;
     }
     Ok(())
 }
 
 /// The tables of all controllers, in order of their numbers.
-fn push_table_lines(text: &mut String, n: &Installation) -> Result<(), AllocError>
-    ensures { OnOk result (string_bytes text.new ≡ string_bytes text.old ++ table_lines (world n.now.site) (length n.now.site.plan.blocks)) }
+fn push_table_lines(text: &mut String, installation: &Installation) -> Result<(), AllocError>
+    ensures { OnOk result (string_bytes text.new ≡ string_bytes text.old ++ table_lines (world installation.now.site) (length installation.now.site.plan.blocks)) }
 {
-    for c in 0..n.controllers() {
-        push_table(text, c, n.enrolled(c))?;
+    for c in 0..installation.controllers() {
+        push_table(text, c, installation.enrolled(c))?;
     }
     Ok(())
 }
 
 /// `show`: the state of all gear, and the tables.
-fn show(text: &mut String, n: &Installation) -> Result<(), AllocError>
-    ensures { OnOk result (string_bytes text.new ≡ string_bytes text.old ++ site_text n.now.site) }
+fn show(text: &mut String, installation: &Installation) -> Result<(), AllocError>
+    ensures { OnOk result (string_bytes text.new ≡ string_bytes text.old ++ site_text installation.now.site) }
 {
-    push_gear_lines(text, n)?;
-    push_table_lines(text, n)
+    push_gear_lines(text, installation)?;
+    push_table_lines(text, installation)
 }
 
 /// Plays a line on a site, and appends the report of it.
 pub fn report(
     alloc: Global,
     text: &mut String,
-    n: &mut Installation,
+    installation: &mut Installation,
     line: SiteLine,
 ) -> Result<(), AllocError>
-    ensures { OnOk result (Writes (string_bytes text.old) (string_bytes text.new) (λ more. Says n.old line more n.new)) }
+    ensures { OnOk result (Writes (string_bytes text.old) (string_bytes text.new) (λ more. Says installation.old line more installation.new)) }
 {
     match line {
-        SiteLine::Go(c) => push_step(text, c, n.go(c)),
-        SiteLine::Store(c) => push_done(text, n.store(c)),
-        SiteLine::Fail(c) => push_step(text, c, n.fail(c)),
-        SiteLine::Pump(trouble) => push_pumped(text, n.pump(trouble)),
-        SiteLine::Lapse => push_lapsed(text, n.lapse()),
-        SiteLine::Arc(c, frame) => push_asked(text, c, frame, n.arc(c, frame)),
-        SiteLine::Down(c) => push_done(text, n.down(c)),
-        SiteLine::Up(c) => push_done(text, n.up(alloc, c)?),
-        SiteLine::Run(limit) => run(text, n, limit),
-        SiteLine::Power(g, on) => push_done(text, n.power(g, on)),
-        SiteLine::Expire(g) => push_done(text, n.expire(g)),
-        SiteLine::Quiet => push_done(text, n.quiet()),
-        SiteLine::Show => show(text, n),
+        SiteLine::Go(c) => push_step(text, c, installation.go(c)),
+        SiteLine::Store(c) => push_done(text, installation.store(c)),
+        SiteLine::Fail(c) => push_step(text, c, installation.fail(c)),
+        SiteLine::Pump(trouble) => push_pumped(text, installation.pump(trouble)),
+        SiteLine::Lapse => push_lapsed(text, installation.lapse()),
+        SiteLine::Arc(c, frame) => push_asked(text, c, frame, installation.arc(c, frame)),
+        SiteLine::Down(c) => push_done(text, installation.down(c)),
+        SiteLine::Up(c) => push_done(text, installation.up(alloc, c)?),
+        SiteLine::Run(limit) => run(text, installation, limit),
+        SiteLine::Power(g, on) => push_done(text, installation.power(g, on)),
+        SiteLine::Expire(g) => push_done(text, installation.expire(g)),
+        SiteLine::Quiet => push_done(text, installation.quiet()),
+        SiteLine::Show => show(text, installation),
     }
 }

@@ -5,7 +5,7 @@ use Rattle.dali_sim.proofs.rounds.rounds.Given as goal
 
 abbrev pub invariant-loop-played : goal.invariant-loop-played
 invariant-loop-played l = record {
-  rounds : Writes (string_bytes l.fn.text) (string_bytes l.text) (λ more. Rounds l.fn.n l.played l.frames more l.n);
+  rounds : Writes (string_bytes l.fn.text) (string_bytes l.text) (λ more. Rounds l.fn.installation l.played l.frames more l.installation);
   few : l.frames ≤ l.played;
   most : l.played ≤ l.limit;
 }
