@@ -4,6 +4,7 @@ use super::{check, played};
 use crate::replay::{ReplayFault, run_replay};
 use dali_world::PlanError;
 use std::io::{Error, ErrorKind, Read, Write};
+use std::process::Abort;
 use std::test::Fail;
 
 #[test]
@@ -289,15 +290,15 @@ impl Write for FailingWriter {
     }
 }
 
-#[test]
-fn each_error_of_the_writer_is_a_fault(rt: HostRuntime) -> Result<(), Fail> {
+/// A script of three reports, each of whose writes fails in turn.
+fn check_each_write<R: Abort + AllocGlobal>(rt: &R, script: &[u8]) -> Result<(), Fail> {
     for fails_at in 0..3 {
-        let mut reader = SCRIPT;
+        let mut reader = script;
         let mut writer = FailingWriter { calls: 0, fails_at };
         let end = run_replay(rt.alloc(), &mut reader, &mut writer);
         assert_eq!(rt; end, Err(ReplayFault::Write));
     }
-    let mut reader = SCRIPT;
+    let mut reader = script;
     let mut writer = FailingWriter {
         calls: 0,
         fails_at: 3,
@@ -306,4 +307,10 @@ fn each_error_of_the_writer_is_a_fault(rt: HostRuntime) -> Result<(), Fail> {
     assert_eq!(rt; end, Ok(()));
     assert_eq!(rt; writer.calls, 3);
     Ok(())
+}
+
+#[test]
+fn each_error_of_the_writer_is_a_fault(rt: HostRuntime) -> Result<(), Fail> {
+    check_each_write(&rt, SCRIPT)?;
+    check_each_write(&rt, b"site 1 0-3\ndraws 123456\ngo 0\nrun 1000\nshow\n")
 }

@@ -395,7 +395,7 @@ fn plans_of_sites_are_refused_in_order(rt: HostRuntime) -> Result<(), Fail> {
         ("site 1 255-255\ndraws", PlanError::BlockOrder),
         ("site 1 0-255\ndraws", PlanError::BlockOrder),
         ("site 1 0-3 3-5 9-8\ndraws FFFFFF", PlanError::BlockOrder),
-        ("site 1 0-3 3-5\ndraws", PlanError::BlockOverlap),
+        ("site 2 0-3 3-5\ndraws", PlanError::BlockOverlap),
         ("site 1 3-5 0-3\ndraws", PlanError::BlockOverlap),
         ("site 1 0-63 5-5\ndraws FFFFFF", PlanError::BlockOverlap),
         (
