@@ -1,10 +1,10 @@
-use Rattle.std.proofs.Common.{◌≡◌, ℕ, ◌<◌, ◌⊎◌, inl, inr, Bool, true, false, List, length, set, get_or, Option, Some, None, Result, Ok, Err, refl, sym, ap, subst, ◌∙◌, length-set, get_or-set_same, get_or-set_other, nat_eq}
-use Rattle.std.proofs.lemmas.List.{get_or_read_under}
-use Rattle.std.specs.Prelude.{IfSome, IfOk, IfErr, OnErr, slice_set, slice_index_or}
+use Rattle.std.proofs.Common.{◌≡◌, ℕ, ◌<◌, inl, inr, List, length, set, get_or, Option, Some, None, Result, Ok, Err, refl, sym, ap, subst, ◌∙◌}
+use Rattle.std.proofs.lemmas.List.{get_or_read_under, set-get_or}
+use Rattle.std.specs.Prelude.{IfSome, IfOk, IfErr, OnErr}
 use Rattle.dali_script.specs.declared.block.Block.{Block}
 use Rattle.dali_script.specs.declared.records.Record.{Record}
 use Rattle.dali_script.specs.declared.records.Record.TheVariants.{Reserve, Enrol}
-use Rattle.dali_script.specs.Records.{Records, InBlock, Fits, with_record}
+use Rattle.dali_script.specs.Records.{Records, InBlock, Fits}
 use Rattle.dali_controller.specs.declared.orders.Input.{Input}
 use Rattle.dali_controller.specs.declared.orders.Input.TheVariants as input
 use Rattle.dali_controller.specs.declared.orders.Order.{Order}
@@ -13,16 +13,15 @@ use Rattle.dali_controller.specs.declared.orders.Due.{Due}
 use Rattle.dali_controller.specs.declared.orders.Due.TheVariants as due
 use Rattle.dali_controller.specs.Progress.{record_ordered}
 use Rattle.dali_events.specs.declared.event.Event.TheVariants as event
-use Rattle.dali_events.specs.Plan.{SitePlan, block_at}
+use Rattle.dali_events.specs.Plan.{block_at}
 use Rattle.dali_events.specs.World.{World, Controller, controller_at}
 use Rattle.dali_events.specs.Happens.{informed, with_outstanding, kept_after}
 use Rattle.dali_events.specs.Allowed.{Allowed, MayCommit, MayOrder}
 use Rattle.dali_events.specs.Promises.{KeepsRecords}
 use Rattle.dali_standing.specs.declared.refusal.Refusal.{Refusal}
-use Rattle.dali_standing.specs.declared.refusal.Refusal.TheVariants as refusal
 use Rattle.dali_standing.specs.Places.{due_of}
-use Rattle.dali_world.specs.Site.{Site, Received, world, Acts, HasActed, IsActRefused, IsBarred}
-use Rattle.dali_sim.specs.Installation.{Store, Installation, no_store, store_at, with_store, controller, IsUpAt, IsInstalled, Commits, outcome, IsGivenBy, IsGiven, HasNone, HasStepped, Goes}
+use Rattle.dali_world.specs.Site.{Site, Received, world, Acts, HasActed, IsActRefused, IsUpRefused}
+use Rattle.dali_sim.specs.Installation.{Store, Installation, no_store, store_at, controller, IsUpAt, IsInstalled, IsGivenBy, IsGiven, HasStepped, Goes}
 
 -- ---------------------------------------------------------------- what `act` says
 
@@ -68,11 +67,6 @@ fits_ordered s c i r t b o keeps acted is same =
 
 -- ---------------------------------------------------------------- `go`
 
-pub given_store : (n : Installation) (c : ℕ) (held : Bool) (i : Input) (was s : Store) (m : Installation) → due.Store ≡ due_of (controller n c) → was ≡ store_at n c
-    → Commits was held s → i ≡ outcome held → m ≡ with_store n c s → IsGiven n c i m
-given_store n c held i was s m due same commits told is =
-    rw (← due) (held, told, s, subst (λ (x : Store). Commits x held s) same commits, is)
-
 -- the site's answer is the answer of `go`
 answers : (n given m : Installation) (c : ℕ) (i : Input) (result : Result Order Refusal) → IsUpAt n c → IsGiven n c i given
     → IfOk result (λ o. HasStepped given c i o m) → IfErr result (λ e. IsActRefused given.site c i e) → OnErr result (m ≡ given) → Goes n c result m
@@ -99,6 +93,16 @@ block_read n c x inst read there =
     let here : c < length n.stores = rw (inst.count) there in
     rw (store_read n c x read here) (inst.block c here)
 
+-- a refused `up` leaves the store as it was read
+pub up_refused : (n : Installation) (c d : ℕ) (t : Site) (copy : Records) (was mid : Store) (e : Refusal) → d ≡ c → IsUpRefused n.site d copy e → copy ≡ was.keep → mid ≡ was
+    → was ≡ store_at n d → t ≡ n.site → IsUpRefused n.site c (store_at n c).keep e × ((record { site = t; stores = set n.stores d mid }) ≡ n)
+up_refused n c d t copy was mid e number refused kept same read site =
+    let held : copy ≡ (store_at n d).keep = kept ∙ ap (λ (y : Store). y.keep) read in
+    let back : set n.stores d mid ≡ n.stores = ap (λ (y : Store). set n.stores d y) (same ∙ read) ∙ set-get_or n.stores d no_store in (
+      subst (λ (k : ℕ). IsUpRefused n.site k (store_at n k).keep e) number (subst (λ (k : Records). IsUpRefused n.site d k e) held refused),
+      ap (λ (x : Site). record { site = x; stores = set n.stores d mid }) site ∙ ap (λ (ss : List Store). record { site = n.site; stores = ss }) back,
+    )
+
 -- a step, from its parts
 pub stepped_of : (n m : Installation) (c : ℕ) (i : Input) (r : Received) (o p : Order) (was x : Store) → HasActed n.site c i r m.site → o ≡ r.order → p ≡ r.order → was ≡ store_at n c
     → x ≡ (record { keep = was.keep; pending = record_ordered (Some p) }) → m.stores ≡ set n.stores c x → HasStepped n c i o m
@@ -113,7 +117,7 @@ stepped_of n m c i r o p was x acted same also read next stores = record {
 -- ---------------------------------------------------------------- the plan stays
 
 given_plan : (k : Due) (n m : Installation) (c : ℕ) (i : Input) → IsGivenBy k n c i m → m.site ≡ n.site
-given_plan due.Store n m c i is = rw (is.4) refl
+given_plan due.Store n m c i is = rw (is.1) refl
 given_plan due.Start n m c i is = rw (is.1) refl
 given_plan due.Bus n m c i is = rw (is.1) refl
 given_plan due.Nothing n m c i is = rw (is.1) refl

@@ -3,6 +3,7 @@ pub mod NumberLemmas
 pub mod MapLemmas
 pub mod BenchLemmas
 pub mod TextLemmas
+pub mod InStepLemmas
 pub mod InstallationLemmas
 pub mod RoundLemmas
 pub mod ReplayLemmas

@@ -1,8 +1,7 @@
-use Rattle.std.specs.Prelude.{◌≡◌, ◌⊎◌, ℕ, ◌<◌, Bool, true, false, List, length, map, slice_set, slice_index_or, Option, Some, None, Result, Ok, Err, IfSome}
-use Rattle.dali_frame.specs.declared.frames.Forward.{Forward}
+use Rattle.std.specs.Prelude.{◌≡◌, ◌⊎◌, ℕ, ◌<◌, true, List, length, map, slice_set, slice_index_or, Option, Some, None, Result, Ok, Err}
 use Rattle.dali_script.specs.declared.block.Block.{Block}
 use Rattle.dali_script.specs.declared.records.Record.{Record}
-use Rattle.dali_script.specs.Records.{Records, without_records, with_record, Fits, IsFresh}
+use Rattle.dali_script.specs.Records.{Records, without_records}
 use Rattle.dali_controller.specs.declared.orders.Input.{Input}
 use Rattle.dali_controller.specs.declared.orders.Input.TheVariants as input
 use Rattle.dali_controller.specs.declared.orders.Order.{Order}
@@ -11,7 +10,8 @@ use Rattle.dali_controller.specs.declared.orders.Due.TheVariants as due
 use Rattle.dali_controller.specs.Progress.{record_ordered}
 use Rattle.dali_events.specs.Plan.{SitePlan, no_block, block_at}
 use Rattle.dali_events.specs.World.{Controller, controller_at}
-use Rattle.dali_events.specs.declared.event.Event.TheVariants as event
+use Rattle.dali_events.specs.Happens.{with_outstanding}
+use Rattle.dali_events.specs.Allowed.{IsCommit}
 use Rattle.dali_standing.specs.Places.{due_of}
 use Rattle.dali_standing.specs.declared.refusal.Refusal.{Refusal}
 use Rattle.dali_standing.specs.declared.refusal.Refusal.TheVariants as refusal
@@ -61,34 +61,38 @@ controller n c = controller_at (world n.site) c
 abbrev pub IsUpAt : Installation → ℕ → Type 0
 IsUpAt n c = (c < length n.site.plan.blocks) × ((controller n c).up ≡ true)
 
--- What holds of every installation: a store for each controller, of its block, and what is to be committed there fits it.
+-- A STORE IS IN STEP with its controller. A record that is still to be committed is the one that is outstanding, and the store holds
+-- what the site remembers. With none, it holds that with the outstanding record, if there is one; or without it, where no commit is
+-- waited for.
+abbrev pub IsInStepBy : Option Record → Records → Controller → Type 0
+IsInStepBy (Some x) held k = (k.outstanding ≡ Some x) × (held ≡ k.records)
+IsInStepBy None held k = (held ≡ with_outstanding k.records k.outstanding) ⊎ ((IsCommit k.last → ⊥) × (held ≡ k.records))
+
+abbrev pub IsInStep : Controller → Store → Type 0
+IsInStep k s = IsInStepBy s.pending s.keep k
+
+-- What holds of every installation: a store for each controller, of its block, and in step with it.
 pub record IsInstalled (n : Installation) : Type 0 where
   pub count : length n.stores ≡ length n.site.plan.blocks
   pub block : (c : ℕ) → c < length n.stores → (store_at n c).keep.block ≡ block_at n.site.plan c
+  pub in_step : (c : ℕ) → c < length (world n.site).controllers → IsInStep (controller n c) (store_at n c)
 
 -- ---------------------------------------------------------------- commits
 
--- A COMMIT of the record that is pending, and whether the store holds it afterwards. A record that is not new there is refused, and
--- stays pending; with nothing pending the record was committed before.
-abbrev pub CommitsRecord : Records → Option Record → Bool → Store → Type 0
-CommitsRecord k None held s = (held ≡ true) × (s ≡ settled k)
-CommitsRecord k (Some x) true s = IsFresh k x × (s ≡ settled (with_record k x))
-CommitsRecord k (Some x) false s = (IsFresh k x → ⊥) × (s ≡ (record { keep = k; pending = Some x }))
+-- A COMMIT: the store holds the record that was pending, and nothing is pending. It is never refused.
+abbrev pub committed : Store → Store
+committed s = settled (with_outstanding s.keep s.pending)
 
-abbrev pub Commits : Store → Bool → Store → Type 0
-Commits was held s = CommitsRecord was.keep was.pending held s
-
--- what the controller is told of it
-abbrev pub outcome : Bool → Input
-outcome true = input.Committed
-outcome false = input.CommitFailed
+-- where a controller waits for its store, Committed is told of a commit that was made
+abbrev pub IsMade : Input → Due → Option Record → Type 0
+IsMade i d pending = i ≡ input.Committed → d ≡ due.Store → pending ≡ None
 
 -- ---------------------------------------------------------------- `go c`
 
--- What `go` gives controller c to act on: the outcome of the commit that it waits for, which is made now unless it was made before;
--- else what the bus has told it.
+-- What `go` gives controller c to act on: Committed where it waits for its commit, which is made now unless it was made before; else
+-- what the bus has told it.
 abbrev pub IsGivenBy : Due → Installation → ℕ → Input → Installation → Type 0
-IsGivenBy due.Store n c i m = (held : Bool) × (i ≡ outcome held) × (s : Store) × Commits (store_at n c) held s × (m ≡ with_store n c s)
+IsGivenBy due.Store n c i m = (i ≡ input.Committed) × (m ≡ with_store n c (committed (store_at n c)))
 IsGivenBy _ n c i m = ((controller n c).told ≡ Some i) × (m ≡ n)
 
 abbrev pub IsGiven : Installation → ℕ → Input → Installation → Type 0
@@ -133,7 +137,7 @@ IsPending n c = IsPendingBy (due_of (controller n c)) (store_at n c).pending
 
 -- `store` makes it; the site is not told
 abbrev pub Stores : Installation → ℕ → Result (Unit {0}) Refusal → Installation → Type 0
-Stores n c (Ok _) m = IsUpAt n c × IsPending n c × (held : Bool) × (s : Store) × Commits (store_at n c) held s × (m ≡ with_store n c s)
+Stores n c (Ok _) m = IsUpAt n c × IsPending n c × (m ≡ with_store n c (committed (store_at n c)))
 Stores n c (Err refusal.NotDue) m = IsUpAt n c × (IsPending n c → ⊥) × (m ≡ n)
 Stores n c (Err e) m = IsBarred n.site c e × (m ≡ n)
 

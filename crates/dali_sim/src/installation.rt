@@ -1,12 +1,13 @@
 //! A site with a store in memory for each of its controllers.
 
 ghost use Rattle.std.specs.Prelude.{◌≡◌, ◌<◌, ◌≤◌, length, map, slice_index_or, slice_set, Some, IfOk, IfErr, IfSome, MatchOption, IsTrue, ◌↔◌, OnErr, IfNone, is_some};
-ghost use Rattle.dali_script.specs.Records.{Fits};
+ghost use Rattle.dali_script.specs.Records.{Fits, IsFresh};
 ghost use Rattle.dali_controller.specs.Progress.{record_ordered};
 ghost use Rattle.dali_events.specs.World.{gear_at};
 ghost use Rattle.dali_events.specs.declared.event.Event.TheVariants as event;
+ghost use Rattle.dali_standing.specs.Places.{due_of};
 ghost use Rattle.dali_world.specs.Site.{world, IsArcRefused, IsDownRefused, IsGearRefused, IsActRefused, IsBarred};
-ghost use Rattle.dali_sim.specs.Installation.{installed, empty_store, settled, store_at, controller, IsUpAt, Commits, outcome, IsGiven, HasNone, HasStepped, Goes, IsPending, Stores, Fails, ComesUp, Calls, PumpsOn};
+ghost use Rattle.dali_sim.specs.Installation.{installed, empty_store, settled, store_at, controller, IsUpAt, committed, with_store, IsMade, IsGiven, HasNone, HasStepped, Goes, IsPending, Stores, Fails, ComesUp, Calls, PumpsOn};
 ghost use Rattle.dali_sim.specs.Calls.{Befalls, Requests, Lapses, IsLogFull, BefallsGear};
 ghost use Rattle.dali_standing.specs.declared.refusal.Refusal.TheVariants as refusal;
 ghost use Rattle.dali_sim.specs.Rounds.{has_turn};
@@ -66,18 +67,17 @@ impl Store {
         self.pending.is_some()
     }
 
-    /// Commits the record that is pending, if one is. Whether the store holds it then.
-    fn commit(&mut self) -> bool
-        ensures { Commits self.old result self.new }
+    /// Commits the record that is pending, if one is.
+    fn commit(&mut self)
+        requires { IfSome self.old.pending (IsFresh self.old.keep) }
+        ensures { self.new ≡ committed self.old }
     {
         let Some(record) = self.pending else {
-            return true;
+            return;
         };
-        let held = self.keep.commit(record).is_ok();
-        if held {
+        if self.keep.commit(record).is_ok() {
             self.pending = None;
         }
-        held
     }
 
     /// Nothing is pending but the record of this order, if it is one.
@@ -107,17 +107,6 @@ impl Store {
             return Err(AllocError);
         };
         Ok(copy)
-    }
-}
-
-/// What a controller is told of its commit.
-fn outcome(held: bool) -> Input
-    ensures { result ≡ outcome held }
-{
-    if held {
-        Input::Committed
-    } else {
-        Input::CommitFailed
     }
 }
 
@@ -185,7 +174,7 @@ impl Installation {
         if !self.is_pending(c) {
             return Err(Refusal::NotDue);
         }
-        self.stores[c as usize].commit();
+        self.commit(c);
         Ok(())
     }
 
@@ -365,6 +354,15 @@ impl Installation {
         }
     }
 
+    /// The commit that is pending in a controller's store, if one is, is made.
+    fn commit(&mut self, c: u8)
+        requires { c < length self.old.site.plan.blocks }
+        ensures { self.new ≡ with_store self.old c (committed (store_at self.old c)) }
+    {
+        self.site.is_safe();
+        self.stores[c as usize].commit();
+    }
+
     /// What is due for a controller, if anything; where it waits for a commit, that is made.
     fn given(&mut self, c: u8) -> Option<Input>
         requires { c < length self.old.site.plan.blocks }
@@ -373,14 +371,18 @@ impl Installation {
         ensures site { self.new.site ≡ self.old.site }
     {
         match self.site.due(c) {
-            Due::Store => Some(outcome(self.stores[c as usize].commit())),
+            Due::Store => {
+                self.commit(c);
+                Some(Input::Committed)
+            }
             Due::Start | Due::Bus | Due::Nothing => self.site.next(c),
         }
     }
 
     /// The controller acts on an input. A record that it orders is pending from now on.
     fn act(&mut self, c: u8, input: Input) -> Result<Order, Refusal>
-        requires { c < length self.old.site.plan.blocks }
+        requires known { c < length self.old.site.plan.blocks }
+        requires made { IsMade input (due_of (controller self.old c)) (store_at self.old c).pending }
         ensures stepped { IfOk result (λ order. HasStepped self.old c input order self.new) }
         ensures refused { IfErr result (λ e. IsActRefused self.old.site c input e) }
         ensures unchanged { OnErr result (self.new ≡ self.old) }
