@@ -1,4 +1,4 @@
-use Rattle.std.proofs.Common.{◌≡◌, ℕ, zero, suc, ◌<◌, ◌⊎◌, inl, inr, List, [], ◌∷◌, length, get_or, take, drop, refl, arith}
+use Rattle.std.proofs.Common.{ℕ, zero, suc, ◌<◌, inl, inr, List, [], ◌∷◌, length, get_or, take, drop, refl, arith}
 use Rattle.dali_script.specs.Records.{Has, MASK24}
 
 has_take : (n : ℕ) (xs : List ℕ) (r : ℕ) → Has (take n xs) r → Has xs r

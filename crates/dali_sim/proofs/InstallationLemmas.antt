@@ -19,9 +19,10 @@ use Rattle.dali_events.specs.Happens.{informed, with_outstanding, kept_after}
 use Rattle.dali_events.specs.Allowed.{Allowed, MayCommit, MayOrder}
 use Rattle.dali_events.specs.Promises.{KeepsRecords}
 use Rattle.dali_standing.specs.declared.refusal.Refusal.{Refusal}
+use Rattle.dali_standing.specs.declared.refusal.Refusal.TheVariants as refusal
 use Rattle.dali_standing.specs.Places.{due_of}
 use Rattle.dali_world.specs.Site.{Site, Received, world, Acts, HasActed, IsActRefused, IsUpRefused}
-use Rattle.dali_sim.specs.Installation.{Store, Installation, no_store, store_at, controller, IsUpAt, IsInstalled, IsGivenBy, IsGiven, HasStepped, Goes}
+use Rattle.dali_sim.specs.Installation.{Store, Installation, no_store, store_at, controller, IsUpAt, IsInstalled, IsGivenBy, IsGiven, HasStepped, Goes, ComesUp}
 
 -- ---------------------------------------------------------------- what `act` says
 
@@ -102,6 +103,20 @@ up_refused n c d t copy was mid e number refused kept same read site =
       subst (λ (k : ℕ). IsUpRefused n.site k (store_at n k).keep e) number (subst (λ (k : Records). IsUpRefused n.site d k e) held refused),
       ap (λ (x : Site). record { site = x; stores = set n.stores d mid }) site ∙ ap (λ (ss : List Store). record { site = n.site; stores = ss }) back,
     )
+
+-- and want of memory is none of its answers
+pub comes_up_refused : (n : Installation) (c : ℕ) (e : Refusal) (m : Installation) → (e ≡ refusal.NoMemory → ⊥) → IsUpRefused n.site c (store_at n c).keep e × (m ≡ n) → ComesUp n c (Err e) m
+comes_up_refused n c refusal.UnknownController m not is = is
+comes_up_refused n c refusal.UnknownGear m not is = is
+comes_up_refused n c refusal.ControllerDown m not is = is
+comes_up_refused n c refusal.ControllerUp m not is = is
+comes_up_refused n c refusal.NotDue m not is = is
+comes_up_refused n c refusal.NotArc m not is = is
+comes_up_refused n c refusal.StoreDisagrees m not is = is
+comes_up_refused n c refusal.DrawsSpent m not is = is
+comes_up_refused n c refusal.QueueFull m not is = is
+comes_up_refused n c refusal.LogFull m not is = is
+comes_up_refused n c refusal.NoMemory m not is = absurd (not refl)
 
 -- a step, from its parts
 pub stepped_of : (n m : Installation) (c : ℕ) (i : Input) (r : Received) (o p : Order) (was x : Store) → HasActed n.site c i r m.site → o ≡ r.order → p ≡ r.order → was ≡ store_at n c

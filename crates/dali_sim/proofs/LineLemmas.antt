@@ -1,7 +1,6 @@
-use Rattle.std.proofs.Common.{◌≡◌, ◌≢◌, ℕ, zero, suc, ◌+◌, ◌<◌, ◌≤◌, Bool, true, false, List, [], ◌∷◌, length, get_or, take, drop, Option, None, refl, sym, ap, ◌∙◌, arith, cond, add-one}
+use Rattle.std.proofs.Common.{◌≡◌, ◌≢◌, ℕ, zero, suc, ◌+◌, ◌<◌, ◌≤◌, true, false, List, [], ◌∷◌, length, get_or, take, drop, None, refl, arith, add-one}
 use Rattle.std.proofs.lemmas.Bool.Decides.{nat_tests}
-use Rattle.std.specs.Prelude.{◌==◌, if◌then◌else◌}
-use Rattle.std.specs.List.{onto_first, slice_split}
+use Rattle.std.specs.Prelude.{◌==◌}
 use Rattle.dali_sim.specs.Lines.{lines_of, parts_of}
 use Rattle.dali_sim.specs.Numbers.{block_of_parts}
 use Rattle.dali_sim.specs.SiteLine.{site_line_of}

@@ -1,4 +1,4 @@
-use Rattle.std.proofs.Common.{◌≡◌, ℕ, ◌+◌, ◌<◌, List, [], ◌∷◌, ◌++◌, length, get_or, set, take, drop, map, refl, sym, ap, ◌∙◌}
+use Rattle.std.proofs.Common.{◌≡◌, ℕ, ◌+◌, ◌<◌, List, ◌++◌, length, get_or, set, take, drop, map}
 use Rattle.std.proofs.lemmas.List.{take_more_set}
 use mathlib.Core.List.{append_assoc}
 use Rattle.dali_gear.proofs.RowLemmas.{next_is}

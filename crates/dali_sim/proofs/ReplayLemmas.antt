@@ -1,4 +1,4 @@
-use Rattle.std.proofs.Common.{◌≡◌, ℕ, List, [], ◌∷◌, ◌++◌, Option, Some, None, Result, Ok, Err, ◌+◌, length, refl, sym, ap, subst, ◌∙◌, Bool, true, false, ◌⊎◌, inl, inr}
+use Rattle.std.proofs.Common.{◌≡◌, ℕ, List, [], ◌∷◌, ◌++◌, Option, Some, None, Result, Ok, Err, refl, sym, ap, subst, ◌∙◌, Bool, true, false, ◌⊎◌, inl, inr}
 use mathlib.Core.List.{append_assoc}
 use Rattle.std.specs.Prelude.{IfSome, IsErrOf}
 use Rattle.std.proofs.lemmas.List.{append-nil}
@@ -11,14 +11,13 @@ use Rattle.dali_sim.specs.declared.replay.ReplayFault.TheVariants.{BadLine, BadP
 use Rattle.dali_sim.specs.declared.bench_line.BenchLine.{BenchLine}
 use Rattle.dali_sim.specs.declared.site_line.SiteLine.{SiteLine}
 use Rattle.dali_sim.specs.Lines.{words_of}
-use Rattle.dali_sim.specs.Heading.{Heading}
 use Rattle.dali_sim.specs.BenchLine.{bench_line_of}
 use Rattle.dali_sim.specs.SiteLine.{site_line_of}
 use Rattle.dali_sim.specs.Bench.{World, start, after}
 use Rattle.dali_sim.specs.BenchReport.{report}
 use Rattle.dali_sim.specs.Installation.{Installation, installed}
 use Rattle.dali_sim.specs.SiteReport.{Says}
-use Rattle.dali_sim.specs.Replay.{NumberedLines, End, Refused, Setting, Output, Plays, PlaysSite, PlaysSetting, PlansNot, Replays, Tells, Chain, HavePlayed, IsBadAt, nothing, playing, played, set_up, setting_of}
+use Rattle.dali_sim.specs.Replay.{NumberedLines, End, Setting, Output, Plays, PlaysSite, PlaysSetting, PlansNot, Replays, Tells, Chain, HavePlayed, IsBadAt, played, setting_of}
 
 -- ---------------------------------------------------------------- texts
 

@@ -1,9 +1,8 @@
-use Rattle.std.proofs.Common.{◌≡◌, ℕ, zero, suc, ◌+◌, ◌<◌, ◌≤◌, ◌⊎◌, inl, inr, Bool, true, false, List, [], ◌∷◌, ◌++◌, length, Option, Some, None, Result, Ok, Err, refl, sym, ap, subst, ◌∙◌, add-one, arith}
+use Rattle.std.proofs.Common.{◌≡◌, ℕ, suc, ◌+◌, ◌<◌, ◌≤◌, inl, inr, Bool, true, false, List, [], ◌++◌, Option, Some, None, Ok, Err, refl, sym, ap, subst, ◌∙◌, add-one, arith}
 use Rattle.std.specs.Prelude.{if◌then◌else◌, ◌||◌}
 use mathlib.Core.List.{append_assoc}
 use Rattle.std.proofs.lemmas.List.{append-nil}
 use Rattle.dali_controller.specs.declared.orders.Order.{Order}
-use Rattle.dali_events.specs.Plan.{SitePlan}
 use Rattle.dali_standing.specs.declared.refusal.Refusal.{Refusal}
 use Rattle.dali_standing.specs.declared.trouble.Trouble.TheVariants as trouble
 use Rattle.dali_standing.specs.declared.trouble.Report.{Report}
@@ -11,7 +10,7 @@ use Rattle.dali_standing.specs.declared.trouble.Report.TheVariants as report
 use Rattle.dali_sim.specs.declared.rounds.Round.{Round}
 use Rattle.dali_sim.specs.declared.rounds.Round.TheVariants as round
 use Rattle.dali_sim.specs.Installation.{Installation, controller, Goes, PumpsOn}
-use Rattle.dali_sim.specs.Rounds.{has_turn, IsTurn, Turns, controllers, IsTurnRefused, AreTurns, came_of, IsRound, IsBusRefused, IsRoundOf, Rounds, Ends, Ran, Runs}
+use Rattle.dali_sim.specs.Rounds.{has_turn, IsTurn, Turns, controllers, AreTurns, came_of, IsRound, IsRoundOf, Rounds, Ends, Ran, Runs}
 use Rattle.dali_sim.specs.Text.{Writes, kept_text, refused_text, ran_text}
 use Rattle.dali_sim.proofs.InstallationLemmas.{goes_plan}
 

@@ -151,6 +151,7 @@ Fails n c (Err e) m = IsActRefused n.site c input.CommitFailed e × (m ≡ n)
 -- the controller comes up with what its store holds, and nothing is pending there
 abbrev pub ComesUp : Installation → ℕ → Result (Unit {0}) Refusal → Installation → Type 0
 ComesUp n c (Ok _) m = IsUpWith n.site c (store_at n c).keep m.site × (m.stores ≡ slice_set n.stores c (settled (store_at n c).keep))
+ComesUp n c (Err refusal.NoMemory) m = ⊥
 ComesUp n c (Err e) m = IsUpRefused n.site c (store_at n c).keep e × (m ≡ n)
 
 -- a call of the site, by what it does where it is accepted, and by its refusals

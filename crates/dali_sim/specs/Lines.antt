@@ -1,4 +1,4 @@
-use Rattle.std.specs.Prelude.{ℕ, ◌+◌, List, [], ◌∷◌, Bool, true, false, Option, Some, None, ◌==◌, if◌then◌else◌}
+use Rattle.std.specs.Prelude.{ℕ, ◌+◌, List, [], ◌∷◌, Bool, true, Option, Some, None, ◌==◌, if◌then◌else◌}
 use Rattle.std.specs.List.{onto_first, slice_split}
 
 -- The lines of an input: each ends at its line feed, which the last line may lack.

@@ -1,4 +1,4 @@
-use Rattle.std.specs.Prelude.{ℕ, ◌^◌, List, [], ◌∷◌, Bool, true, false, not, Option, Some, None, ◌==◌, ◌&&◌, nat_le, bit_or, bytes_eq, codes, if◌then◌else◌, option_map, option_and_then}
+use Rattle.std.specs.Prelude.{ℕ, ◌^◌, List, [], ◌∷◌, Bool, false, not, Option, Some, None, ◌==◌, ◌&&◌, nat_le, bit_or, bytes_eq, codes, if◌then◌else◌, option_map, option_and_then}
 use Rattle.std.specs.Str.{all_ascii_digits}
 use Rattle.std.specs.Str.Parse.{digits_value}
 use Rattle.dali_frame.specs.Hex.{random_of}

@@ -1,5 +1,4 @@
-use Rattle.std.specs.Prelude.{◌≡◌, ℕ, zero, suc, ◌<◌, List, [], ◌++◌, length, Option, Result, Ok, Err}
-use Rattle.dali_frame.specs.declared.frames.Forward.{Forward}
+use Rattle.std.specs.Prelude.{◌≡◌, ℕ, zero, suc, List, [], ◌++◌, length, Result}
 use Rattle.dali_events.specs.declared.event.Event.TheVariants as event
 use Rattle.dali_events.specs.World.{World, gear_at, controller_at}
 use Rattle.dali_standing.specs.declared.refusal.Refusal.{Refusal}

@@ -1,6 +1,6 @@
 //! A site with a store in memory for each of its controllers.
 
-ghost use Rattle.std.specs.Prelude.{◌≡◌, ◌<◌, ◌≤◌, length, map, slice_index_or, slice_set, Some, IfOk, IfErr, IfSome, MatchOption, IsTrue, ◌↔◌, OnErr, IfNone, is_some};
+ghost use Rattle.std.specs.Prelude.{false, ◌≡◌, ◌<◌, ◌≤◌, length, map, slice_index_or, slice_set, Some, IfOk, IfErr, IfSome, MatchOption, IsTrue, ◌↔◌, OnErr, IfNone, is_some};
 ghost use Rattle.dali_script.specs.Records.{Fits, IsFresh};
 ghost use Rattle.dali_controller.specs.Progress.{record_ordered};
 ghost use Rattle.dali_events.specs.World.{gear_at};
@@ -119,6 +119,25 @@ fn stores_of(alloc: Global, blocks: &[Block]) -> Result<Vec<Store>, AllocError>
         stores.push(Store::new(alloc, *block)?)?;
     }
     Ok(stores)
+}
+
+/// Whether a refusal is for want of memory.
+fn is_want(error: Refusal) -> bool
+    ensures { result ≡ false → error ≡ refusal.NoMemory → ⊥ }
+{
+    match error {
+        Refusal::NoMemory => true,
+        Refusal::UnknownController
+        | Refusal::UnknownGear
+        | Refusal::ControllerDown
+        | Refusal::ControllerUp
+        | Refusal::NotDue
+        | Refusal::NotArc
+        | Refusal::StoreDisagrees
+        | Refusal::DrawsSpent
+        | Refusal::QueueFull
+        | Refusal::LogFull => false,
+    }
 }
 
 /// A site, and a store for each of its controllers. Controllers are named by their numbers as lines give them, of any size.
@@ -245,8 +264,12 @@ impl Installation {
                 self.stores[c as usize].settle();
                 Ok(Ok(()))
             }
-            Err(Refusal::NoMemory) => Err(AllocError),
-            Err(error) => Ok(Err(error)),
+            Err(error) => {
+                if is_want(error) {
+                    return Err(AllocError);
+                }
+                Ok(Err(error))
+            }
         }
     }
 

@@ -1,5 +1,4 @@
-use Rattle.std.proofs.Common.{◌≡◌, ℕ, sym, true}
-use Rattle.dali_sim.specs.Numbers.{starts_plain}
+use Rattle.std.proofs.Common.{ℕ, sym}
 use Rattle.dali_sim.proofs.NumberLemmas.{number_some, number_large, number_err, number_no_text}
 use Rattle.dali_sim.proofs.numbers.number_of.Goals as goal
 

@@ -1,5 +1,5 @@
-use Rattle.std.proofs.Common.{◌≡◌, Ok, Err, sym, rules}
-use Rattle.dali_sim.specs.declared.replay.ReplayFault.TheVariants.{BadLine, Memory}
+use Rattle.std.proofs.Common.{◌≡◌, Err, sym, rules}
+use Rattle.dali_sim.specs.declared.replay.ReplayFault.TheVariants.{Memory}
 use Rattle.dali_sim.proofs.ReplayLemmas.{have_played_none, have_played_more, site_bad_line, site_done, site_memory}
 use Rattle.dali_sim.proofs.replay.play_site.Goals as goal
 

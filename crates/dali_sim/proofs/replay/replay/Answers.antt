@@ -1,4 +1,4 @@
-use Rattle.std.proofs.Common.{◌≡◌, Ok, Err, rules, zero-add, sym}
+use Rattle.std.proofs.Common.{◌≡◌, Err, rules, zero-add}
 use Rattle.dali_sim.specs.declared.replay.ReplayFault.TheVariants.{Memory}
 use Rattle.dali_sim.proofs.ReplayLemmas.{replays_no_plan, replays_bench, replays_site, replays_want}
 use Rattle.dali_sim.proofs.replay.replay.Goals as goal

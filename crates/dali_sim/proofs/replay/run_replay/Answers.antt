@@ -1,5 +1,4 @@
 use Rattle.std.proofs.Common.{◌≡◌, Err, rules}
-use Rattle.dali_sim.specs.Replay.{setting_of, Tells}
 use Rattle.dali_sim.proofs.ReplayLemmas.{tells_of_replays, tells_some, tells_unread, never_read}
 use Rattle.dali_sim.proofs.replay.run_replay.Goals as goal
 

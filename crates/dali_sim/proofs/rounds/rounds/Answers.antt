@@ -1,4 +1,4 @@
-use Rattle.std.proofs.Common.{◌+◌, arith}
+use Rattle.std.proofs.Common.{arith}
 use Rattle.dali_sim.proofs.RoundLemmas.{rounds_more, counts_one, ran_over, ran_refused}
 use Rattle.dali_sim.proofs.rounds.rounds.Goals as goal
 

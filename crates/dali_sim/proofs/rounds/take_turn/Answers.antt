@@ -1,4 +1,4 @@
-use Rattle.std.proofs.Common.{◌≡◌, true, sym, ◌∙◌}
+use Rattle.std.proofs.Common.{sym, ◌∙◌}
 use Rattle.dali_sim.proofs.RoundLemmas.{turn_refused}
 use Rattle.dali_sim.proofs.rounds.take_turn.Goals as goal
 

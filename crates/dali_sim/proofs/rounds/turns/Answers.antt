@@ -1,5 +1,4 @@
-use Rattle.std.proofs.Common.{◌≡◌, ◌<◌, length, ap, refl, sym, ◌∙◌, ◌≤◌, arith}
-use Rattle.dali_events.specs.Plan.{SitePlan}
+use Rattle.std.proofs.Common.{◌≡◌, ◌<◌, length, ◌∙◌, arith}
 use Rattle.dali_sim.proofs.RoundLemmas.{so_far_none, so_far_more, so_far_refused, so_far_all}
 use Rattle.dali_sim.proofs.rounds.turns.Goals as goal
 

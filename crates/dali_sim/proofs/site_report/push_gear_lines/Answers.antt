@@ -1,4 +1,4 @@
-use Rattle.std.proofs.Common.{◌≡◌, add-one, rules}
+use Rattle.std.proofs.Common.{add-one}
 use Rattle.dali_sim.proofs.TextLemmas.{line_more}
 use Rattle.dali_sim.proofs.site_report.push_gear_lines.Goals as goal
 

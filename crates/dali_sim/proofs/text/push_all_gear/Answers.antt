@@ -1,6 +1,5 @@
-use Rattle.std.proofs.Common.{◌≡◌, ◌++◌, ◌<◌, length, get_or, arith}
+use Rattle.std.proofs.Common.{◌<◌, length, arith}
 use Rattle.std.specs.Prelude.{string_bytes}
-use Rattle.dali_sim.specs.Text.{gear_text}
 use Rattle.dali_sim.proofs.TextLemmas.{gear_texts_more}
 use Rattle.dali_sim.proofs.text.push_all_gear.Goals as goal
 

@@ -1,4 +1,4 @@
-use Rattle.std.proofs.Common.{◌≡◌, subst, sym, ℕ, List}
+use Rattle.std.proofs.Common.{subst, ℕ, List}
 use Rattle.dali_script.specs.Records.{Has}
 use Rattle.dali_sim.proofs.BenchLemmas.{left_below}
 use Rattle.dali_sim.proofs.bench.Bench.send.Goals as goal

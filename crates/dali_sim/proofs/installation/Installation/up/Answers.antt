@@ -1,6 +1,6 @@
 use Rattle.std.proofs.Common.{◌<◌, length}
 use Rattle.dali_sim.specs.Installation.{Installation}
-use Rattle.dali_sim.proofs.InstallationLemmas.{store_read, stores_there, up_refused}
+use Rattle.dali_sim.proofs.InstallationLemmas.{store_read, stores_there, up_refused, comes_up_refused}
 use Rattle.dali_sim.proofs.InStepLemmas.{up_installed}
 use Rattle.dali_sim.proofs.installation.Installation.up.Goals as goal
 
@@ -16,6 +16,6 @@ pub returns : goal.returns
 returns c =
     let n : Installation = record { site = c.self.inside.site; stores = c.self.inside.stores.items } in
     let there : c.in-Ok.c < length n.stores = stores_there n c.in-Ok.c c.self.invariant (rw (c.in-Ok.ensures.known.0) (rw (← c.self.view_is) at c.in-Ok.ensures.known.1)) in
-    rw (← c.self.view_is) (up_refused n c.args.c c.in-Ok.c c.up.new.self c.in_ok-copy.copy c.index_mut.result.now c.read.new.self c.in-Err-up.error
+    comes_up_refused c.args.self.now c.args.c c.in-Err-up.error _ (c.is_want.ensures c.if-is_want.false) (rw (← c.self.view_is) (up_refused n c.args.c c.in-Ok.c c.up.new.self c.in_ok-copy.copy c.index_mut.result.now c.read.new.self c.in-Err-up.error
     c.in-Ok.ensures.known.0 c.in-Err-up.ensures.refused c.in_ok-copy.ensures.copy c.read.ensures.same
-    (store_read n c.in-Ok.c c.index_mut.result.now c.index_mut.ensures.value there) c.in-Err-up.ensures.unchanged)
+    (store_read n c.in-Ok.c c.index_mut.result.now c.index_mut.ensures.value there) c.in-Err-up.ensures.unchanged))
