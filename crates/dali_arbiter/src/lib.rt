@@ -15,6 +15,3 @@ mod waiting;
 pub use arbiter::Arbiter;
 pub use refusals::{NewError, OfferError};
 pub use request::Request;
-
-#[cfg(test)]
-mod tests;

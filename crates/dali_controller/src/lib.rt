@@ -15,6 +15,3 @@ mod work;
 pub use error::{MachineError, StepError};
 pub use machine::Machine;
 pub use orders::{Due, End, Fault, Input, Order};
-
-#[cfg(test)]
-mod tests;

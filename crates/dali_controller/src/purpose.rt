@@ -5,7 +5,7 @@ use dali_frame::SearchAddress;
 use dali_special::Command;
 
 /// What the running transaction is for. How far it is, its trace says.
-#[derive(Clone, Copy, Debug, PartialEq, Eq, Hash)]
+#[derive(Clone, Copy)]
 pub(crate) enum Purpose {
     /// To let all gear without short address draw a random address.
     Opening,

@@ -6,6 +6,3 @@ mod table;
 
 pub use error::TableError;
 pub use table::Table;
-
-#[cfg(test)]
-mod tests;

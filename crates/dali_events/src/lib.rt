@@ -11,6 +11,3 @@ mod plan;
 pub use dali_gear::GearSet;
 pub use event::Event;
 pub use plan::{CONTROLLER_LIMIT, DRAW_LIMIT, GEAR_LIMIT, Plan, PlanError};
-
-#[cfg(test)]
-mod tests;

@@ -12,6 +12,3 @@ mod numbers;
 pub use frames::{Answer, Forward};
 pub use hex::HexError;
 pub use numbers::{Priority, Random24, SearchAddress, Short};
-
-#[cfg(test)]
-mod tests;

@@ -11,6 +11,3 @@ mod state;
 pub use gear::{Effect, Gear};
 pub use row::{GearSet, Heard, Reach};
 pub use state::InitialisationState;
-
-#[cfg(test)]
-mod tests;

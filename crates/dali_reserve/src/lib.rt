@@ -9,6 +9,3 @@ mod memory;
 pub use error::KeepError;
 pub use keep::Keep;
 pub use memory::MemoryKeep;
-
-#[cfg(test)]
-mod tests;

@@ -16,6 +16,3 @@ pub use kept::Kept;
 pub use records::{AddError, MakeError, Record};
 pub use stage::Stage;
 pub use trace::{Entry, Trace};
-
-#[cfg(test)]
-mod tests;

@@ -10,6 +10,3 @@ mod step;
 
 pub use search::Search;
 pub use step::Step;
-
-#[cfg(test)]
-mod tests;

@@ -2,24 +2,9 @@
 //! reports what comes of it.
 #![tactic(auto)]
 
-mod bench;
-mod bench_line;
-mod bench_report;
-mod heading;
-mod installation;
-mod lines;
-mod numbers;
-mod replay;
-mod rounds;
-mod site_line;
-mod site_report;
-#[cfg(test)]
-mod tests;
-mod text;
-
 use clap::Command;
 use clap::error::ErrorKind;
-use replay::{ReplayFault, run_replay};
+use dali_replay::{ReplayFault, run_replay};
 use std::alloc::Global;
 use std::io;
 use std::io::{BufWriter, Write};

@@ -7,6 +7,3 @@ mod command;
 pub mod laws;
 
 pub use command::{Command, Target};
-
-#[cfg(test)]
-mod tests;

@@ -18,6 +18,3 @@ pub use dali_events::{
 pub use dali_standing::{Refusal, Report, Trouble};
 pub use receipt::Receipt;
 pub use site::SiteState;
-
-#[cfg(test)]
-mod tests;

@@ -1,0 +1,147 @@
+use Rattle.std.proofs.Common.{◌≡◌, ℕ, ◌<◌, inl, inr, List, length, set, get_or, Option, Some, None, Result, Ok, Err, refl, sym, ap, subst, ◌∙◌}
+use Rattle.std.proofs.lemmas.List.{get_or_read_under, set-get_or}
+use Rattle.std.specs.Prelude.{IfSome, IfOk, IfErr, OnErr}
+use Rattle.dali_script.specs.declared.block.Block.{Block}
+use Rattle.dali_script.specs.declared.records.Record.{Record}
+use Rattle.dali_script.specs.declared.records.Record.TheVariants.{Reserve, Enrol}
+use Rattle.dali_script.specs.Records.{Records, InBlock, Fits}
+use Rattle.dali_controller.specs.declared.orders.Input.{Input}
+use Rattle.dali_controller.specs.declared.orders.Input.TheVariants as input
+use Rattle.dali_controller.specs.declared.orders.Order.{Order}
+use Rattle.dali_controller.specs.declared.orders.Order.TheVariants.{Put, Commit, Done, Halt}
+use Rattle.dali_controller.specs.declared.orders.Due.{Due}
+use Rattle.dali_controller.specs.declared.orders.Due.TheVariants as due
+use Rattle.dali_controller.specs.Progress.{record_ordered}
+use Rattle.dali_events.specs.declared.event.Event.TheVariants as event
+use Rattle.dali_events.specs.Plan.{block_at}
+use Rattle.dali_events.specs.World.{World, Controller, controller_at}
+use Rattle.dali_events.specs.Happens.{informed, with_outstanding, kept_after}
+use Rattle.dali_events.specs.Allowed.{Allowed, MayCommit, MayOrder}
+use Rattle.dali_events.specs.Promises.{KeepsRecords}
+use Rattle.dali_standing.specs.declared.refusal.Refusal.{Refusal}
+use Rattle.dali_standing.specs.declared.refusal.Refusal.TheVariants as refusal
+use Rattle.dali_standing.specs.Places.{due_of}
+use Rattle.dali_world.specs.Site.{Site, Received, world, Acts, HasActed, IsActRefused, IsUpRefused}
+use Rattle.dali_replay.specs.Installation.{Store, Installation, no_store, store_at, controller, IsUpAt, IsInstalled, IsGivenBy, IsGiven, HasStepped, Goes, ComesUp}
+
+-- ---------------------------------------------------------------- what `act` says
+
+pub acted_of : (s : Site) (c : ℕ) (i : Input) (r : Received) (t : Site) (result : Result Received Refusal) → result ≡ Ok r → Acts s c i result t → HasActed s c i r t
+unfolding Acts
+acted_of s c i r t result is acts = (subst (λ (x : Result Received Refusal). IfOk x (λ y. HasActed s c i y t)) is acts.0)
+
+pub refused_of : (s : Site) (c : ℕ) (i : Input) (e : Refusal) (t : Site) (result : Result Received Refusal) → result ≡ Err e → Acts s c i result t → IsActRefused s c i e
+unfolding Acts
+refused_of s c i e t result is acts = (subst (λ (x : Result Received Refusal). IfErr x (IsActRefused s c i)) is acts.1)
+
+-- ---------------------------------------------------------------- a record that was ordered fits its store
+
+with_outstanding_block : (k : Records) (x : Option Record) → (with_outstanding k x).block ≡ k.block
+with_outstanding_block k None = refl
+with_outstanding_block k (Some (Reserve a r)) = refl
+with_outstanding_block k (Some (Enrol a r)) = refl
+
+kept_block : (k : Controller) (i : Input) → (kept_after k i).block ≡ k.records.block
+kept_block k input.Committed = with_outstanding_block k.records k.outstanding
+kept_block k input.Start = refl
+kept_block k (input.Heard h) = refl
+kept_block k input.Destroyed = refl
+kept_block k input.Lapsed = refl
+kept_block k input.CommitFailed = refl
+
+fits_commit : (k : Controller) (b : Block) (x : Record) → k.records.block ≡ b → MayCommit k x → Fits b x
+fits_commit k b (Reserve a r) is may = (subst (λ (c : Block). InBlock c a) is may.0, may.1)
+fits_commit k b (Enrol a r) is may = may.1
+
+fits_order : (w : World) (c : ℕ) (k : Controller) (b : Block) (o : Order) → k.records.block ≡ b → MayOrder w c k o → IfSome (record_ordered (Some o)) (Fits b)
+fits_order w c k b (Put p f) is may = tt
+fits_order w c k b (Commit x) is may = fits_commit k b x is may.1
+fits_order w c k b (Done e) is may = tt
+fits_order w c k b (Halt e) is may = tt
+
+pub fits_ordered : (s : Site) (c : ℕ) (i : Input) (r : Received) (t : Site) (b : Block) (o : Order) → KeepsRecords s.plan (world s) → HasActed s c i r t → b ≡ block_at s.plan c → o ≡ r.order
+    → IfSome (record_ordered (Some o)) (Fits b)
+fits_ordered s c i r t b o keeps acted is same =
+    let allowed : Allowed (world s) (event.Acted c i r.order) = acted.logs.0.allowed in
+    let block : (controller_at (world s) c).records.block ≡ b = keeps.block c allowed.up.known ∙ sym is in
+    rw same (fits_order (world s) c (informed (controller_at (world s) c) i) b r.order (kept_block (controller_at (world s) c) i ∙ block) allowed.order)
+
+-- ---------------------------------------------------------------- `go`
+
+-- the site's answer is the answer of `go`
+answers : (n given m : Installation) (c : ℕ) (i : Input) (result : Result Order Refusal) → IsUpAt n c → IsGiven n c i given
+    → IfOk result (λ o. HasStepped given c i o m) → IfErr result (λ e. IsActRefused given.site c i e) → OnErr result (m ≡ given) → Goes n c result m
+answers n given m c i (Ok o) up is stepped refused same = (up, i, given, is, stepped)
+answers n given m c i (Err e) up is stepped refused same =
+    rw same (inr (inr (up, i, is, refused)))
+
+pub goes : (n given m : Installation) (c d : ℕ) (i : Input) (result : Result Order Refusal) → d ≡ c → IsUpAt n c → IsGiven n d i given
+    → IfOk result (λ o. HasStepped given d i o m) → IfErr result (λ e. IsActRefused given.site d i e) → OnErr result (m ≡ given) → Goes n c result m
+goes n given m c d i result number up is stepped refused same =
+    subst (λ (k : ℕ). Goes n k result m) number
+    (answers n given m d i result (subst (λ (k : ℕ). IsUpAt n k) (sym number) up) is stepped refused same)
+
+-- the store of a controller, as it is read
+pub store_read : (n : Installation) (c : ℕ) (x : Store) → x ≡ get_or n.stores c x → c < length n.stores → x ≡ store_at n c
+store_read n c x read there = get_or_read_under n.stores c (length n.stores) x no_store read there refl
+
+pub stores_there : (n : Installation) (c : ℕ) → IsInstalled n → c < length n.site.plan.blocks → c < length n.stores
+stores_there n c inst there = rw (inst.count) there
+
+-- and its block
+pub block_read : (n : Installation) (c : ℕ) (x : Store) → IsInstalled n → x ≡ get_or n.stores c x → c < length n.site.plan.blocks → x.keep.block ≡ block_at n.site.plan c
+block_read n c x inst read there =
+    let here : c < length n.stores = rw (inst.count) there in
+    rw (store_read n c x read here) (inst.block c here)
+
+-- a refused `up` leaves the store as it was read
+pub up_refused : (n : Installation) (c d : ℕ) (t : Site) (copy : Records) (was mid : Store) (e : Refusal) → d ≡ c → IsUpRefused n.site d copy e → copy ≡ was.keep → mid ≡ was
+    → was ≡ store_at n d → t ≡ n.site → IsUpRefused n.site c (store_at n c).keep e × ((record { site = t; stores = set n.stores d mid }) ≡ n)
+up_refused n c d t copy was mid e number refused kept same read site =
+    let held : copy ≡ (store_at n d).keep = kept ∙ ap (λ (y : Store). y.keep) read in
+    let back : set n.stores d mid ≡ n.stores = ap (λ (y : Store). set n.stores d y) (same ∙ read) ∙ set-get_or n.stores d no_store in (
+      subst (λ (k : ℕ). IsUpRefused n.site k (store_at n k).keep e) number (subst (λ (k : Records). IsUpRefused n.site d k e) held refused),
+      ap (λ (x : Site). record { site = x; stores = set n.stores d mid }) site ∙ ap (λ (ss : List Store). record { site = n.site; stores = ss }) back,
+    )
+
+-- and want of memory is none of its answers
+pub comes_up_refused : (n : Installation) (c : ℕ) (e : Refusal) (m : Installation) → (e ≡ refusal.NoMemory → ⊥) → IsUpRefused n.site c (store_at n c).keep e × (m ≡ n) → ComesUp n c (Err e) m
+comes_up_refused n c refusal.UnknownController m not is = is
+comes_up_refused n c refusal.UnknownGear m not is = is
+comes_up_refused n c refusal.ControllerDown m not is = is
+comes_up_refused n c refusal.ControllerUp m not is = is
+comes_up_refused n c refusal.NotDue m not is = is
+comes_up_refused n c refusal.NotArc m not is = is
+comes_up_refused n c refusal.StoreDisagrees m not is = is
+comes_up_refused n c refusal.DrawsSpent m not is = is
+comes_up_refused n c refusal.QueueFull m not is = is
+comes_up_refused n c refusal.LogFull m not is = is
+comes_up_refused n c refusal.NoMemory m not is = absurd (not refl)
+
+-- a step, from its parts
+pub stepped_of : (n m : Installation) (c : ℕ) (i : Input) (r : Received) (o p : Order) (was x : Store) → HasActed n.site c i r m.site → o ≡ r.order → p ≡ r.order → was ≡ store_at n c
+    → x ≡ (record { keep = was.keep; pending = record_ordered (Some p) }) → m.stores ≡ set n.stores c x → HasStepped n c i o m
+stepped_of n m c i r o p was x acted same also read next stores = record {
+  receipt = r;
+  acted = acted;
+  order = sym same;
+  stores = stores ∙ ap (λ (y : Store). set n.stores c y) (next ∙ ap (λ (y : Store). record { keep = y.keep; pending = record_ordered (Some p) }) read
+      ∙ ap (λ (q : Order). record { keep = (store_at n c).keep; pending = record_ordered (Some q) }) (also ∙ sym same));
+}
+
+-- ---------------------------------------------------------------- the plan stays
+
+given_plan : (k : Due) (n m : Installation) (c : ℕ) (i : Input) → IsGivenBy k n c i m → m.site ≡ n.site
+given_plan due.Store n m c i is = rw (is.1) refl
+given_plan due.Start n m c i is = rw (is.1) refl
+given_plan due.Bus n m c i is = rw (is.1) refl
+given_plan due.Nothing n m c i is = rw (is.1) refl
+
+stepped_plan : (n m : Installation) (c : ℕ) (i : Input) (o : Order) → HasStepped n c i o m → m.site.plan ≡ n.site.plan
+stepped_plan n m c i o step = ap (λ (s : Site). s.plan) step.acted.logs.0.logged
+
+pub goes_plan : (n m : Installation) (c : ℕ) (result : Result Order Refusal) → Goes n c result m → m.site.plan ≡ n.site.plan
+goes_plan n m c (Ok o) is = stepped_plan is.2 m c is.1 o is.4 ∙ ap (λ (s : Site). s.plan) (given_plan (due_of (controller n c)) n is.2 c is.1 is.3)
+goes_plan n m c (Err e) (inl is) = rw (is.1) refl
+goes_plan n m c (Err e) (inr (inl is)) = rw (is.3) refl
+goes_plan n m c (Err e) (inr (inr is)) = ap (λ (s : Site). s.plan) (given_plan (due_of (controller n c)) n m c is.1 is.2)

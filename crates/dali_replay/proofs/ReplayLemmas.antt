@@ -1,0 +1,196 @@
+use Rattle.std.proofs.Common.{◌≡◌, ℕ, List, [], ◌∷◌, ◌++◌, Option, Some, None, Result, Ok, Err, refl, sym, ap, subst, ◌∙◌, Bool, true, false, ◌⊎◌, inl, inr}
+use mathlib.Core.List.{append_assoc}
+use Rattle.std.specs.Prelude.{IfSome, IsErrOf}
+use Rattle.std.proofs.lemmas.List.{append-nil}
+use Rattle.std.specs.Io.KnownBytes.{Appends, Keeps}
+use Rattle.dali_events.specs.declared.plan.PlanError.{PlanError}
+use Rattle.dali_events.specs.declared.plan.PlanError.TheVariants as plan_error
+use Rattle.dali_events.specs.Plan.{SitePlan, refusal_of, IsRefusal}
+use Rattle.dali_replay.specs.declared.replay.ReplayFault.{ReplayFault}
+use Rattle.dali_replay.specs.declared.replay.ReplayFault.TheVariants.{BadLine, BadPlan, Memory, Read, Write}
+use Rattle.dali_replay.specs.declared.bench_line.BenchLine.{BenchLine}
+use Rattle.dali_replay.specs.declared.site_line.SiteLine.{SiteLine}
+use Rattle.dali_replay.specs.Lines.{words_of}
+use Rattle.dali_replay.specs.BenchLine.{bench_line_of}
+use Rattle.dali_replay.specs.SiteLine.{site_line_of}
+use Rattle.dali_replay.specs.Bench.{World, start, after}
+use Rattle.dali_replay.specs.BenchReport.{report}
+use Rattle.dali_replay.specs.Installation.{Installation, installed}
+use Rattle.dali_replay.specs.SiteReport.{Says}
+use Rattle.dali_replay.specs.Replay.{NumberedLines, End, Setting, Output, Plays, PlaysSite, PlaysSetting, PlansNot, Replays, Tells, Chain, HavePlayed, IsBadAt, played, setting_of}
+
+-- ---------------------------------------------------------------- texts
+
+pub appends_none : (a : Option (List ℕ)) → Appends a a []
+appends_none None = tt
+appends_none (Some xs) = sym (append-nil xs)
+
+pub appends_more : (a b c : Option (List ℕ)) (xs ys : List ℕ) → Appends a b xs → Appends b c ys → Appends a c (xs ++ ys)
+appends_more None b c xs ys first second = tt
+appends_more (Some us) None c xs ys first second = absurd first
+appends_more (Some us) (Some vs) None xs ys first second = absurd second
+appends_more (Some us) (Some vs) (Some ws) xs ys first second =
+    second ∙ ap (λ zs. zs ++ ys) first ∙ append_assoc us xs ys
+
+-- ---------------------------------------------------------------- benches
+
+-- whatever playing the rest leaves behind, playing the whole does
+abbrev pub Leads : Output → Option (List ℕ) → Option (List ℕ) → Output → Type 0
+Leads whole a b rest = (c : Option (List ℕ)) (r : Result (Unit {0}) ReplayFault) → Plays rest b c r → Plays whole a c r
+
+-- a text, and then what playing the rest wrote
+plays_more : (a b c : Option (List ℕ)) (text : List ℕ) (more : Output) (r : Result (Unit {0}) ReplayFault)
+    → Appends a b text → Plays more b c r → Plays (record { text = text ++ more.text; end = more.end }) a c r
+plays_more a b c text more (Ok x) first second = (second.0, appends_more a b c text more.text first second.1)
+plays_more a b c text more (Err (BadLine n)) first second = (second.0, appends_more a b c text more.text first second.1)
+plays_more a b c text more (Err (BadPlan e)) first second = (second.0, appends_more a b c text more.text first second.1)
+plays_more a b c text more (Err Memory) first second =
+    (text ++ second.0, second.1, append_assoc text second.0 second.1 ∙ ap (λ xs. text ++ xs) second.2, appends_more a b c text second.0 first second.3)
+plays_more a b c text more (Err Read) first second = absurd second
+plays_more a b c text more (Err Write) first second = tt
+
+-- one line was played
+pub plays_line : (w : World) (lines rest : NumberedLines) (n : ℕ) (line : List ℕ) (asked : BenchLine) (a b c : Option (List ℕ)) (r : Result (Unit {0}) ReplayFault)
+    → lines ≡ (n, line) ∷ rest → bench_line_of (words_of line) ≡ Some asked → Appends a b (report w asked)
+    → Plays (played (after w asked) rest) b c r → Plays (played w lines) a c r
+plays_line w lines rest n line asked a b c r next reads wrote more =
+    rw (next, reads) (plays_more a b c (report w asked) (played (after w asked) rest) r wrote more)
+
+-- the next line is a bad line
+pub plays_bad_line : (w : World) (lines rest : NumberedLines) (n : ℕ) (line : List ℕ) (a : Option (List ℕ))
+    → lines ≡ (n, line) ∷ rest → bench_line_of (words_of line) ≡ None → Plays {A = Unit {0}} (played w lines) a a (Err (BadLine n))
+plays_bad_line w lines rest n line a next reads = rw (next, reads) (refl, appends_none a)
+
+-- no line is left
+pub plays_done : (w : World) (lines : NumberedLines) (a : Option (List ℕ)) → lines ≡ [] → Plays {A = Unit {0}} (played w lines) a a (Ok tt)
+plays_done w lines a done = rw done (refl, appends_none a)
+
+-- memory ran out before the next text
+pub plays_memory : (a : Option (List ℕ)) (o : Output) (r : Result (Unit {0}) ReplayFault) → r ≡ Err Memory → Plays o a a r
+plays_memory a o r is = subst (λ (s : Result (Unit {0}) ReplayFault). Plays o a a s) (sym is) ([], o.text, refl, appends_none a)
+
+-- ---------------------------------------------------------------- sites
+
+-- one line more at the end of a chain
+chain_more : (n u m : Installation) (front : NumberedLines) (line : ℕ × List ℕ) (asked : SiteLine) (text more : List ℕ)
+    → Chain n front text u → site_line_of (words_of line.1) ≡ Some asked → Says u asked more m → Chain n (front ++ line ∷ []) (text ++ more) m
+chain_more n u m [] line asked text more played reads says =
+    (asked, more, m, [], reads, subst (λ (x : Installation). Says x asked more m) played.1 says, (refl, refl), ap (λ xs. xs ++ more) played.0 ∙ sym (append-nil more))
+chain_more n u m (first ∷ front) line asked text more played reads says = (
+  played.0,
+  played.1,
+  played.2,
+  played.3 ++ more,
+  played.4,
+  played.5,
+  chain_more played.2 u m front line asked played.3 more played.6 reads says,
+  ap (λ xs. xs ++ more) played.7 ∙ append_assoc played.1 played.3 more,
+)
+
+-- nothing was played yet
+pub have_played_none : (n : Installation) (lines : NumberedLines) (a : Option (List ℕ)) → HavePlayed n lines lines n a a
+have_played_none n lines a = record { front = []; text = []; split = refl; chain = (refl, refl); wrote = appends_none a }
+
+-- one line more was played
+pub have_played_more : (n u m : Installation) (lines left rest : NumberedLines) (k : ℕ) (line : List ℕ) (asked : SiteLine) (more : List ℕ) (a b c : Option (List ℕ))
+    → HavePlayed n lines left u a b → left ≡ (k, line) ∷ rest → site_line_of (words_of line) ≡ Some asked → Says u asked more m → Appends b c more
+    → HavePlayed n lines rest m a c
+have_played_more n u m lines left rest k line asked more a b c before next reads says wrote = record {
+  front = before.front ++ (k, line) ∷ [];
+  text = before.text ++ more;
+  split = before.split ∙ ap (λ xs. before.front ++ xs) next ∙ sym (append_assoc before.front ((k, line) ∷ []) rest);
+  chain = chain_more n u m before.front (k, line) asked before.text more before.chain reads says;
+  wrote = appends_more a b c before.text more before.wrote wrote;
+}
+
+pub site_bad_line : (n u : Installation) (lines left rest : NumberedLines) (k : ℕ) (line : List ℕ) (a b : Option (List ℕ))
+    → HavePlayed n lines left u a b → left ≡ (k, line) ∷ rest → site_line_of (words_of line) ≡ None → PlaysSite {A = Unit {0}} n lines a b (Err (BadLine k))
+site_bad_line n u lines left rest k line a b before next reads =
+    (u, left, subst (λ (xs : NumberedLines). IsBadAt k xs) (sym next) (refl, reads), before)
+
+pub site_done : (n u : Installation) (lines left : NumberedLines) (a b : Option (List ℕ)) → HavePlayed n lines left u a b → left ≡ [] → PlaysSite {A = Unit {0}} n lines a b (Ok tt)
+site_done n u lines left a b before done = (u, subst (λ (xs : NumberedLines). HavePlayed n lines xs u a b) done before)
+
+pub site_memory : (n u : Installation) (lines left : NumberedLines) (a b : Option (List ℕ)) (r : Result (Unit {0}) ReplayFault)
+    → HavePlayed n lines left u a b → r ≡ Err Memory → PlaysSite n lines a b r
+site_memory n u lines left a b r before is = subst (λ (s : Result (Unit {0}) ReplayFault). PlaysSite n lines a b s) (sym is) (u, left, before)
+
+-- ---------------------------------------------------------------- whole inputs
+
+-- what a refusal of the plan says, where it is not want of memory
+pub plan_refused : (gear : ℕ) (blocks : List (ℕ × ℕ)) (draws : List ℕ) (e : PlanError) → IsRefusal gear blocks draws e → (e ≡ plan_error.NoMemory → ⊥)
+    → refusal_of gear blocks draws ≡ Some e
+plan_refused gear blocks draws plan_error.NoMemory is not = absurd (not refl)
+plan_refused gear blocks draws plan_error.GearCount is not = is
+plan_refused gear blocks draws plan_error.ControllerCount is not = is
+plan_refused gear blocks draws plan_error.BlockOrder is not = is
+plan_refused gear blocks draws plan_error.BlockOverlap is not = is
+plan_refused gear blocks draws plan_error.DrawTooLarge is not = is
+plan_refused gear blocks draws plan_error.DrawTwice is not = is
+
+-- memory ran out before the first text
+setting_memory : (B : Type 0) (a : Option (List ℕ)) (is_bench : Bool) (p : SitePlan) (lines : NumberedLines) → PlaysSetting {A = B} is_bench p lines a a (Err Memory)
+setting_memory B a true p lines = ([], (played (start p.gear p.draws) lines).text, refl, appends_none a)
+setting_memory B a false p lines = (installed p, lines, have_played_none (installed p) lines a)
+
+pub replays_memory : (B : Type 0) (a : Option (List ℕ)) (s : Result (Setting × NumberedLines) End) → Replays {A = B} s a a (Err Memory)
+replays_memory B a (Err end) = ([], [], refl, appends_none a)
+replays_memory B a (Ok s) = setting_memory B a s.0.0 s.0.1 s.1
+
+-- a plan that is not made
+pub replays_no_plan : (B : Type 0) (a : Option (List ℕ)) (s : Result (Setting × NumberedLines) End) (e : ReplayFault) → PlansNot s e → Replays {A = B} s a a (Err e)
+replays_no_plan B a s (BadLine n) not = rw not (refl, appends_none a)
+replays_no_plan B a s (BadPlan e) not = rw not (refl, appends_none a)
+replays_no_plan B a s Memory not = replays_memory B a s
+replays_no_plan B a s Read not = absurd not
+replays_no_plan B a s Write not = absurd not
+
+-- what playing says, where the lines set up a bench or a site
+pub replays_bench : (a c : Option (List ℕ)) (s : Result (Setting × NumberedLines) End) (is_bench : Bool) (p : SitePlan) (lines : NumberedLines) (w : World) (r : Result (Unit {0}) ReplayFault)
+    → s ≡ Ok ((is_bench, p), lines) → is_bench ≡ true → w ≡ start p.gear p.draws → Plays (played w lines) a c r → Replays s a c r
+replays_bench a c s is_bench p lines w r is bench begun plays = rw (is, bench, ← begun) plays
+
+pub replays_site : (a c : Option (List ℕ)) (s : Result (Setting × NumberedLines) End) (is_bench : Bool) (p : SitePlan) (lines : NumberedLines) (n : Installation) (r : Result (Unit {0}) ReplayFault)
+    → s ≡ Ok ((is_bench, p), lines) → is_bench ≡ false → n ≡ installed p → PlaysSite n lines a c r → Replays s a c r
+replays_site a c s is_bench p lines n r is site begun plays = rw (is, site, ← begun) plays
+
+-- memory was wanting
+pub replays_want : (a : Option (List ℕ)) (s : Result (Setting × NumberedLines) End) (r : Result (Unit {0}) ReplayFault) → r ≡ Err Memory → Replays s a a r
+replays_want a s r is = subst (λ (x : Result (Unit {0}) ReplayFault). Replays s a a x) (sym is) (replays_memory (Unit {0}) a s)
+
+-- what a run over the bytes says is what the whole run says
+replays_never_read : (s : Result (Setting × NumberedLines) End) (old new : Option (List ℕ)) → Replays {A = Unit {0}} s old new (Err Read) → ⊥
+replays_never_read (Err end) old new h = h
+replays_never_read (Ok s) old new h = go s.0.0 h where
+  go : (is_bench : Bool) → PlaysSetting {A = Unit {0}} is_bench s.0.1 s.1 old new (Err Read) → ⊥
+  go true h' = h'
+  go false h' = h'
+
+pub never_read : (s : Result (Setting × NumberedLines) End) (old new : Option (List ℕ)) (r : Result (Unit {0}) ReplayFault) → Replays s old new r → IsErrOf r Read → ⊥
+never_read s old new r h is = replays_never_read s old new (subst (λ (x : Result (Unit {0}) ReplayFault). Replays s old new x) is h)
+
+pub tells_of_replays : (s : Result (Setting × NumberedLines) End) (old new : Option (List ℕ)) (r : Result (Unit {0}) ReplayFault) → Replays s old new r → Tells s old new r
+tells_of_replays s old new (Ok x) h = h
+tells_of_replays s old new (Err (BadLine n)) h = h
+tells_of_replays s old new (Err (BadPlan e)) h = h
+tells_of_replays s old new (Err Memory) h = h
+tells_of_replays s old new (Err Read) h = absurd (replays_never_read s old new h)
+tells_of_replays s old new (Err Write) h = tt
+
+-- what is told of the bytes that were read is told of the bytes that the reader tells
+pub tells_some : (left : Option (List ℕ)) (input : List ℕ) (Is : List ℕ → Type 0) → IfSome left (λ bytes. bytes ≡ input) → Is input → IfSome left Is
+tells_some None input Is is h = tt
+tells_some (Some bytes) input Is is h = subst Is (sym is) h
+
+-- the input was not read
+keeps_same : (a : Option (List ℕ)) → Keeps a a
+keeps_same None = tt
+keeps_same (Some xs) = refl
+
+tells_fault : (a : Option (List ℕ)) (input : List ℕ) (e : ReplayFault) → (e ≡ Memory) ⊎ (e ≡ Read) → Tells {A = Unit {0}} (setting_of input) a a (Err e)
+tells_fault a input e (inl is) = rw is (replays_memory (Unit {0}) a (setting_of input))
+tells_fault a input e (inr is) = rw is (keeps_same a)
+
+pub tells_unread : (left a : Option (List ℕ)) (e : ReplayFault) (r : Result (Unit {0}) ReplayFault) → r ≡ Err e → (e ≡ Memory) ⊎ (e ≡ Read) → IfSome left (λ input. Tells (setting_of input) a a r)
+tells_unread None a e r is fault = tt
+tells_unread (Some input) a e r is fault = rw is (tells_fault a input e fault)

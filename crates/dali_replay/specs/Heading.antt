@@ -1,0 +1,45 @@
+use Rattle.std.specs.Prelude.{ℕ, List, [], ◌∷◌, length, Bool, true, false, Option, Some, None, ◌&&◌, bytes_eq, codes, nat_le, if◌then◌else◌, option_map, option_and_then}
+use Rattle.dali_replay.specs.declared.heading.Heading as code
+use Rattle.dali_replay.specs.Numbers.{number_of, randoms_of, blocks_of}
+
+-- THE FIRST LINE: a bench of so many gear, or a site of so many gear and with a block for each controller. A bench is planned as a
+-- site of one controller, which does nothing.
+pub record Heading : Type 0 where
+  pub is_bench : Bool
+  pub gear : ℕ
+  pub blocks : List (ℕ × ℕ)
+
+-- what the code has of the first line, with its blocks as a list
+abbrev pub shown : code.Heading → Heading
+shown h = record { is_bench = h.is_bench; gear = h.gear; blocks = h.blocks.items }
+
+abbrev pub bench_heading : ℕ → Heading
+bench_heading gear = record { is_bench = true; gear = gear; blocks = (0, 0) ∷ [] }
+
+abbrev pub site_heading : ℕ → List (ℕ × ℕ) → Heading
+site_heading gear blocks = record { is_bench = false; gear = gear; blocks = blocks }
+
+-- `bench N`
+abbrev pub bench_of : List (List ℕ) → Option ℕ
+bench_of (name ∷ word ∷ []) = if bytes_eq name (codes "bench") then number_of word else None
+bench_of _ = None
+
+-- `site N BLOCK..`
+abbrev pub site_from : Option ℕ → Option (List (ℕ × ℕ)) → Option Heading
+site_from gear blocks = option_and_then (λ n. option_map (site_heading n) blocks) gear
+
+abbrev pub site_of : List (List ℕ) → Option Heading
+site_of (name ∷ word ∷ words) = if bytes_eq name (codes "site") then site_from (number_of word) (blocks_of words) else None
+site_of _ = None
+
+abbrev pub or_site : Option ℕ → Option Heading → Option Heading
+or_site (Some gear) site = Some (bench_heading gear)
+or_site None site = site
+
+abbrev pub heading_of : List (List ℕ) → Option Heading
+heading_of words = or_site (bench_of words) (site_of words)
+
+-- THE SECOND LINE: `draws HHHHHH ..`, at most 1,024 of them
+abbrev pub draws_of : List (List ℕ) → Option (List ℕ)
+draws_of [] = None
+draws_of (name ∷ words) = if bytes_eq name (codes "draws") && nat_le (length words) 1024 then randoms_of words else None

@@ -1,0 +1,73 @@
+use Rattle.std.specs.Prelude.{ℕ, List, [], ◌∷◌, true, false, Option, Some, None, bytes_eq, codes, if◌then◌else◌, option_map, option_and_then}
+use Rattle.std.specs.Result.{result_ok}
+use Rattle.dali_frame.specs.Hex.{forward_of}
+use Rattle.dali_frame.specs.declared.frames.Forward.{Forward}
+use Rattle.dali_standing.specs.declared.trouble.Trouble.{Trouble}
+use Rattle.dali_standing.specs.declared.trouble.Trouble.TheVariants as trouble
+use Rattle.dali_replay.specs.declared.site_line.SiteLine.{SiteLine}
+use Rattle.dali_replay.specs.declared.site_line.SiteLine.TheVariants.{Go, Store, Fail, Pump, Lapse, Arc, Down, Up, Run, Power, Expire, Quiet, Show}
+use Rattle.dali_replay.specs.Numbers.{number_of, set_of}
+
+-- the lines of one word
+abbrev pub alone_of : List ℕ → Option SiteLine
+alone_of name =
+    if bytes_eq name (codes "pump") then Some (Pump trouble.None)
+    else if bytes_eq name (codes "lapse") then Some Lapse
+    else if bytes_eq name (codes "quiet") then Some Quiet
+    else if bytes_eq name (codes "show") then Some Show
+    else None
+
+-- `pump WORD`
+abbrev pub trouble_of : List ℕ → Option Trouble
+trouble_of word =
+    if bytes_eq word (codes "lost") then Some trouble.AnswerLost
+    else if bytes_eq word (codes "noise") then Some trouble.Noise
+    else if bytes_eq word (codes "collision") then Some trouble.Collision
+    else None
+
+-- the lines of a name and a number: of a controller, and the others
+abbrev pub controller_line_of : List ℕ → ℕ → Option SiteLine
+controller_line_of name c =
+    if bytes_eq name (codes "go") then Some (Go c)
+    else if bytes_eq name (codes "store") then Some (Store c)
+    else if bytes_eq name (codes "fail") then Some (Fail c)
+    else if bytes_eq name (codes "down") then Some (Down c)
+    else if bytes_eq name (codes "up") then Some (Up c)
+    else None
+
+abbrev pub numbered_line_of : List ℕ → ℕ → Option SiteLine
+numbered_line_of name n =
+    if bytes_eq name (codes "off") then Some (Power n false)
+    else if bytes_eq name (codes "on") then Some (Power n true)
+    else if bytes_eq name (codes "expire") then Some (Expire n)
+    else if bytes_eq name (codes "run") then Some (Run n)
+    else controller_line_of name n
+
+abbrev pub one_word_of : List ℕ → List ℕ → Option SiteLine
+one_word_of name word =
+    if bytes_eq name (codes "pump") then option_map (λ t. Pump t) (trouble_of word)
+    else option_and_then (numbered_line_of name) (number_of word)
+
+-- `arc c HHHH`
+abbrev pub arc_of : Option ℕ → Option Forward → Option SiteLine
+arc_of (Some c) (Some f) = Some (Arc c f)
+arc_of None _ = None
+arc_of (Some c) None = None
+
+-- `pump destroyed L`
+abbrev pub destroyed_of : List ℕ → List ℕ → Option SiteLine
+destroyed_of word set = if bytes_eq word (codes "destroyed") then option_map (λ set. Pump (trouble.Destroyed (record { 0 = set }))) (set_of set) else None
+
+-- the lines of a name and two more words
+abbrev pub two_words_of : List ℕ → List ℕ → List ℕ → Option SiteLine
+two_words_of name first second =
+    if bytes_eq name (codes "arc") then arc_of (number_of first) (result_ok (forward_of second))
+    else if bytes_eq name (codes "pump") then destroyed_of first second
+    else None
+
+-- what a line of these words asks for on a site
+abbrev pub site_line_of : List (List ℕ) → Option SiteLine
+site_line_of (name ∷ []) = alone_of name
+site_line_of (name ∷ word ∷ []) = one_word_of name word
+site_line_of (name ∷ first ∷ second ∷ []) = two_words_of name first second
+site_line_of _ = None

@@ -1,0 +1,71 @@
+//! What a line asks for on a bench.
+
+ghost use Rattle.std.specs.Prelude.{◌≡◌, map};
+ghost use Rattle.dali_replay.specs.Lines.{words_of};
+ghost use Rattle.dali_replay.specs.BenchLine.{alone_of, one_word_of, bench_line_of};
+
+use crate::lines::words;
+use crate::numbers::number_of;
+use dali_frame::Forward;
+
+/// A line of a bench, after the two of its plan.
+#[derive(Clone, Copy)]
+pub enum BenchLine {
+    /// `frame HHHH`: all powered gear take the frame, in order of their number.
+    Frame(Forward),
+    /// `off g`: gear g loses its power.
+    Off(u32),
+    /// `on g`: the power of gear g comes back.
+    On(u32),
+    /// `expire g`: the 15 minutes of gear g's initialisation are over.
+    Expire(u32),
+    /// `quiet`: half pairs are forgotten.
+    Quiet,
+    /// `show`: the state of all gear.
+    Show,
+}
+
+fn alone(name: &[u8]) -> Option<BenchLine>
+    ensures { result ≡ alone_of name.now }
+{
+    if name == b"show".as_slice() {
+        Some(BenchLine::Show)
+    } else if name == b"quiet".as_slice() {
+        Some(BenchLine::Quiet)
+    } else {
+        None
+    }
+}
+
+fn one_word(name: &[u8], word: &[u8]) -> Option<BenchLine>
+    ensures { result ≡ one_word_of name.now word.now }
+{
+    if name == b"frame".as_slice() {
+        Some(BenchLine::Frame(Forward::read_hex(word).ok()?))
+    } else if name == b"off".as_slice() {
+        Some(BenchLine::Off(number_of(word)?))
+    } else if name == b"on".as_slice() {
+        Some(BenchLine::On(number_of(word)?))
+    } else if name == b"expire".as_slice() {
+        Some(BenchLine::Expire(number_of(word)?))
+    } else {
+        None
+    }
+}
+
+fn of_words(words: &[&[u8]]) -> Option<BenchLine>
+    ensures { result ≡ bench_line_of (map (λ word. word.now) words.now) }
+{
+    match words {
+        [name] => alone(name),
+        [name, word] => one_word(name, word),
+        _ => None,
+    }
+}
+
+/// What a line asks for on a bench; `None` where it is a bad line.
+pub fn bench_line_of(line: &[u8]) -> Option<BenchLine>
+    ensures { result ≡ bench_line_of (words_of line.now) }
+{
+    of_words(words(line)?.as_slice())
+}

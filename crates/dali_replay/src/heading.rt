@@ -1,0 +1,119 @@
+//! The first two lines: what is set up, and the numbers that its gear will draw.
+
+ghost use Rattle.std.specs.Prelude.{◌≡◌, ◌≤◌, length, map, IfOk, IfSome, option_map};
+ghost use Rattle.dali_replay.specs.Lines.{words_of, parts_after};
+ghost use Rattle.dali_replay.specs.Numbers.{blocks_of, randoms_of};
+ghost use Rattle.dali_replay.specs.Heading.{bench_of, site_of, heading_of, draws_of, shown};
+
+use crate::lines::{cut, words};
+use crate::numbers::{block_of, number_of};
+use dali_frame::Random24;
+use dali_world::DRAW_LIMIT;
+use std::alloc::{AllocError, Global};
+
+/// What the first line sets up: gear, and a block of short addresses for each controller.
+#[derive(Drop)]
+pub struct Heading {
+    /// A bench has gear alone; it is planned as a site of one controller, which does nothing.
+    pub is_bench: bool,
+    /// How many gear there are, at most 1,000,000.
+    pub gear: u32,
+    /// The first and the last address of each controller's block, each at most 255.
+    pub blocks: Vec<(u8, u8)>,
+}
+
+fn bench_of_words(words: &[&[u8]]) -> Option<u32>
+    ensures { result ≡ bench_of (map (λ word. word.now) words.now) }
+{
+    match words {
+        [name, word] if *name == b"bench".as_slice() => number_of(word),
+        _ => None,
+    }
+}
+
+/// The number of gear in the line `bench N`; `None` where it is another line.
+fn bench_of(line: &[u8]) -> Option<u32>
+    ensures { result ≡ bench_of (words_of line.now) }
+{
+    bench_of_words(words(line)?.as_slice())
+}
+
+/// The blocks of a list of words, which begins after a space, if there is one; `None` where a word is no block.
+fn blocks_of(alloc: Global, words: Option<&[u8]>) -> Result<Option<Vec<(u8, u8)>>, AllocError>
+    ensures { IfOk result (λ blocks. option_map (λ blocks. blocks.items) blocks ≡ blocks_of (parts_after 32 (option_map (λ text. text.now) words.entry))) }
+{
+    let mut blocks = Vec::new(alloc);
+    let mut rest = words;
+    while let Some(list) = rest {
+        let (word, more) = cut(list, b' ');
+        let Some(block) = block_of(word) else {
+            return Ok(None);
+        };
+        blocks.push(block)?;
+        rest = more;
+    }
+    Ok(Some(blocks))
+}
+
+/// What the line `site N BLOCK..` sets up; `None` where it is another line.
+fn site_of(alloc: Global, line: &[u8]) -> Result<Option<Heading>, AllocError>
+    ensures { IfOk result (λ heading. option_map shown heading ≡ site_of (words_of line.now)) }
+{
+    let (name, Some(rest)) = cut(line, b' ') else {
+        return Ok(None);
+    };
+    if name != b"site".as_slice() {
+        return Ok(None);
+    }
+    let (word, list) = cut(rest, b' ');
+    let Some(gear) = number_of(word) else {
+        return Ok(None);
+    };
+    let Some(blocks) = blocks_of(alloc, list)? else {
+        return Ok(None);
+    };
+    Ok(Some(Heading {
+        is_bench: false,
+        gear,
+        blocks,
+    }))
+}
+
+/// What the first line sets up; `None` where it is a bad line.
+pub fn heading_of(alloc: Global, line: &[u8]) -> Result<Option<Heading>, AllocError>
+    ensures { IfOk result (λ heading. option_map shown heading ≡ heading_of (words_of line.now)) }
+{
+    if let Some(gear) = bench_of(line) {
+        let blocks = vec![in alloc; (0, 0); 1]?;
+        return Ok(Some(Heading {
+            is_bench: true,
+            gear,
+            blocks,
+        }));
+    }
+    site_of(alloc, line)
+}
+
+/// The numbers in the line `draws HHHHHH ..`, at most 1,024; `None` where it is a bad line.
+pub fn draws_of(alloc: Global, line: &[u8]) -> Result<Option<Vec<u32>>, AllocError>
+    ensures draws { IfOk result (λ draws. option_map (λ draws. draws.items) draws ≡ draws_of (words_of line.now)) }
+    ensures few { IfOk result (λ draws. IfSome draws (λ draws. length draws.items ≤ 1024)) }
+{
+    let (name, mut rest) = cut(line, b' ');
+    if name != b"draws".as_slice() {
+        return Ok(None);
+    }
+    let mut draws = Vec::new(alloc);
+    while let Some(line) = rest {
+        let (word, more) = cut(line, b' ');
+        let Some(draw) = Random24::read_hex(word) else {
+            return Ok(None);
+        };
+        if draws.len() == DRAW_LIMIT {
+            return Ok(None);
+        }
+        draws.push(draw.value())?;
+        rest = more;
+    }
+    Ok(Some(draws))
+}

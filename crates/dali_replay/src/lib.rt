@@ -1,0 +1,18 @@
+//! `replay`: a script of what happens on a bench of DALI control gear, or on a site with application controllers, is read, and what
+//! comes of each line is reported.
+#![tactic(auto)]
+
+mod bench;
+mod bench_line;
+mod bench_report;
+mod heading;
+mod installation;
+mod lines;
+mod numbers;
+mod replay;
+mod rounds;
+mod site_line;
+mod site_report;
+mod text;
+
+pub use replay::{ReplayFault, run_replay};

@@ -1,0 +1,97 @@
+//! Decimal numbers, blocks of short addresses, and sets of gear.
+
+ghost use Rattle.std.specs.Prelude.{◌≡◌, map, option_map};
+ghost use Rattle.dali_replay.specs.Numbers.{number_of, number_to, starts_plain, block_of, block_of_parts, set_of};
+
+use crate::lines::{cut, parts};
+use dali_world::GearSet;
+use std::str;
+
+/// The largest number that a line may name.
+const LARGEST: u32 = 1_000_000;
+
+/// Whether a word begins as a number does: without a sign, and without a zero before other digits.
+fn starts_plain(word: &[u8]) -> bool
+    ensures { result ≡ starts_plain word.now }
+{
+    match word {
+        [] => false,
+        [first] => *first != b'+',
+        [first, ..] => *first != b'+' && *first != b'0',
+    }
+}
+
+/// The decimal number that a word is: digits alone, without a leading zero, at most 1,000,000.
+pub fn number_of(word: &[u8]) -> Option<u32>
+    ensures { result ≡ number_of word.now }
+{
+    if !starts_plain(word) {
+        return None;
+    }
+    let Ok(text) = str::from_utf8(word) else {
+        return None;
+    };
+    let Ok(number) = text.parse::<u32>() else {
+        return None;
+    };
+    if number <= LARGEST {
+        Some(number)
+    } else {
+        None
+    }
+}
+
+/// A number of at most 255.
+fn byte_of(word: &[u8]) -> Option<u8>
+    ensures { result ≡ number_to 255 word.now }
+{
+    let number = number_of(word)?;
+    if number > 255 {
+        return None;
+    }
+    Some(number as u8)
+}
+
+fn block_of_parts(parts: &[&[u8]]) -> Option<(u8, u8)>
+    ensures { result ≡ block_of_parts (map (λ part. part.now) parts.now) }
+{
+    match parts {
+        [first, last] => Some((byte_of(first)?, byte_of(last)?)),
+        _ => None,
+    }
+}
+
+/// A block `a-b`: the numbers of its first and its last address, each at most 255.
+pub fn block_of(word: &[u8]) -> Option<(u8, u8)>
+    ensures { result ≡ block_of word.now }
+{
+    block_of_parts(parts(word, b'-')?.as_slice())
+}
+
+/// A number of a gear, at most 127.
+fn gear_number(word: &[u8]) -> Option<u32>
+    ensures { result ≡ number_to 127 word.now }
+{
+    let number = number_of(word)?;
+    if number > 127 {
+        return None;
+    }
+    Some(number)
+}
+
+/// A set of gear: `-`, or their numbers with commas. A number that stands twice counts once.
+pub fn set_of(word: &[u8]) -> Option<GearSet>
+    ensures { option_map (λ set. set.0) result ≡ set_of word.now }
+{
+    let mut set = 0u128;
+    if word == b"-".as_slice() {
+        return Some(GearSet(set));
+    }
+    let mut rest = Some(word);
+    while let Some(list) = rest {
+        let (number, more) = cut(list, b',');
+        set |= 1 << gear_number(number)?;
+        rest = more;
+    }
+    Some(GearSet(set))
+}

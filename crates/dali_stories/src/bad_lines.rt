@@ -1,0 +1,465 @@
+//! What is a bad line: of both kinds of script, of a bench, and of a site.
+
+use super::story::{are_bad, ends, played, plays};
+use dali_replay::ReplayFault;
+use std::process::Abort;
+use std::test::Fail;
+
+#[test]
+fn a_script_needs_its_first_two_lines(rt: HostRuntime) -> Result<(), Fail> {
+    for (input, number) in [
+        ("", 1),
+        ("\n\n", 3),
+        ("bench 1", 2),
+        ("bench 1\n", 2),
+        ("bench 1\n\n", 3),
+        ("site 1 0-3", 2),
+        ("site 1 0-3\n", 2),
+        ("site 1 0-3\n\n# draws\n", 4),
+        ("draws\nbench 1", 1),
+    ] {
+        ends(&rt, input, "", Err(ReplayFault::BadLine(number)))?;
+    }
+    Ok(())
+}
+
+#[test]
+fn the_first_line_says_what_is_set_up(rt: HostRuntime) -> Result<(), Fail> {
+    are_bad(
+        &rt,
+        "",
+        "",
+        &[
+            "bench",
+            "bench 1 ",
+            "bench 01",
+            "bench +1",
+            "bench -1",
+            "bench 1000001",
+            "bench 99999999999999999999",
+            "bench x",
+            "bench  1",
+            " bench 1",
+            "bench 1 2",
+            "Bench 1",
+            "bench 1\r",
+            "sites 1 0-3",
+        ],
+    )
+}
+
+#[test]
+fn numbers_of_a_bench_have_six_digits(rt: HostRuntime) -> Result<(), Fail> {
+    are_bad(
+        &rt,
+        "bench 1\n",
+        "",
+        &[
+            "draw",
+            "draws ",
+            "draws 12345",
+            "draws 1234567",
+            "draws 12345G",
+            "draws 123456  654321",
+            "draws 123456 ",
+        ],
+    )
+}
+
+#[test]
+fn lines_of_a_bench_have_their_words(rt: HostRuntime) -> Result<(), Fail> {
+    are_bad(
+        &rt,
+        "bench 1\ndraws\nframe A900\n",
+        "A900 silence\n",
+        &[
+            "frame",
+            "frame A1",
+            "frame 12345",
+            "frame A1G0",
+            "frame A100 ",
+            "frame  A100",
+            "frame A100 A100",
+            "frames A100",
+            "Frame A100",
+            "frame A100\r",
+            "off",
+            "off 01",
+            "off -1",
+            "off +1",
+            "off 1000001",
+            "off 0 0",
+            "on",
+            "on x",
+            "expire",
+            "expire 1,",
+            "quiet 0",
+            "quiet ",
+            "show 0",
+            "show ",
+            " show",
+            "shows",
+            "draws",
+            "bench 1",
+            "go 0",
+            "go",
+            "pump",
+            "lapse",
+            "run 1",
+            "\t",
+        ],
+    )
+}
+
+#[test]
+fn lines_of_a_site_are_bad_on_a_bench(rt: HostRuntime) -> Result<(), Fail> {
+    are_bad(
+        &rt,
+        "bench 1\ndraws\nquiet\n",
+        "ok\n",
+        &[
+            "go 0",
+            "store 0",
+            "fail 0",
+            "pump",
+            "pump lost",
+            "pump noise",
+            "pump collision",
+            "pump destroyed -",
+            "pump destroyed 0",
+            "lapse",
+            "arc 0 FE80",
+            "down 0",
+            "up 0",
+            "run 1",
+        ],
+    )
+}
+
+#[test]
+fn a_site_needs_a_number_of_gear(rt: HostRuntime) -> Result<(), Fail> {
+    are_bad(
+        &rt,
+        "",
+        "",
+        &[
+            "site",
+            "site ",
+            "site x",
+            "site 0-3",
+            "site 01 0-3",
+            "site +1 0-3",
+            "site -1 0-3",
+            "site 1000001 0-3",
+            "site 99999999999999999999 0-3",
+            "site  1 0-3",
+            " site 1 0-3",
+            "site\t1 0-3",
+            "Site 1 0-3",
+            "sites 1 0-3",
+            "bench 1 0-3",
+            "\tsite 1 0-3",
+        ],
+    )
+}
+
+#[test]
+fn a_block_is_two_numbers(rt: HostRuntime) -> Result<(), Fail> {
+    are_bad(
+        &rt,
+        "",
+        "",
+        &[
+            "site 1 ",
+            "site 1 0",
+            "site 1 -",
+            "site 1 0-",
+            "site 1 -3",
+            "site 1 0--3",
+            "site 1 0-3-5",
+            "site 1 0-3-",
+            "site 1 00-3",
+            "site 1 0-03",
+            "site 1 +0-3",
+            "site 1 0-+3",
+            "site 1 0-256",
+            "site 1 256-0",
+            "site 1 0-1000000",
+            "site 1 0-99999999999999999999",
+            "site 1 a-b",
+            "site 1 0,3",
+            "site 1 0-3,4-7",
+            "site 1 0-3 ",
+            "site 1 0-3  4-7",
+            "site 1  0-3",
+            "site 1 0 -3",
+            "site 1 0-3\t4-7",
+            "site 1 0-3\t",
+            "site 1 0-3\r",
+            "site 1 0-3 4-7 8-",
+        ],
+    )
+}
+
+#[test]
+fn numbers_of_a_site_have_six_digits(rt: HostRuntime) -> Result<(), Fail> {
+    are_bad(
+        &rt,
+        "site 1 0-3\n",
+        "",
+        &[
+            "draw",
+            "draws ",
+            "draws 12345",
+            "draws 1234567",
+            "draws 12345G",
+            "draws +12345",
+            "draws 123456 ",
+            "draws 123456  654321",
+            "draws  123456",
+            "draws 123456,654321",
+            "draws\t123456",
+            "draws 123456\r",
+            " draws",
+            "Draws",
+            "run 1",
+            "site 1 0-3",
+        ],
+    )
+}
+
+#[test]
+fn lines_of_one_word_have_no_more(rt: HostRuntime) -> Result<(), Fail> {
+    are_bad(
+        &rt,
+        "site 2 0-3 4-7\ndraws\nquiet\n",
+        "ok\n",
+        &[
+            "lapse ", "lapse 0", "lapse -", "lapses", "lapse\r", "lapse\t", " lapse", "Lapse",
+            "quiet ", "quiet 0", "quiet -", "quiets", "quiet\r", "quiet\t", " quiet", "Quiet",
+            "show ", "show 0", "show -", "shows", "show\r", "show\t", " show", "Show",
+        ],
+    )
+}
+
+#[test]
+fn a_pump_has_one_of_four_troubles(rt: HostRuntime) -> Result<(), Fail> {
+    are_bad(
+        &rt,
+        "site 2 0-3 4-7\ndraws\nquiet\n",
+        "ok\n",
+        &[
+            "pump ",
+            "pump\t",
+            "pump\r",
+            " pump",
+            "Pump",
+            "pumps",
+            "pump 0",
+            "pump -",
+            "pump none",
+            "pump  lost",
+            "pump lost ",
+            "pump lost 0",
+            "pump lost -",
+            "pump losts",
+            "pump Lost",
+            "pump noise ",
+            "pump noise 0",
+            "pump noise -",
+            "pump collision ",
+            "pump collision 0",
+            "pump collision -",
+            "pump lost noise",
+            "pump destroyed",
+            "pump destroy 0",
+        ],
+    )
+}
+
+#[test]
+fn a_set_of_gear_is_numbers_with_commas(rt: HostRuntime) -> Result<(), Fail> {
+    are_bad(
+        &rt,
+        "site 2 0-3 4-7\ndraws\nquiet\n",
+        "ok\n",
+        &[
+            "pump destroyed ",
+            "pump destroyed  0",
+            "pump destroyed 0 ",
+            "pump destroyed 0 1",
+            "pump destroyed 0, 1",
+            "pump destroyed - -",
+            "pump destroyed -0",
+            "pump destroyed 0-",
+            "pump destroyed 0-1",
+            "pump destroyed -,0",
+            "pump destroyed 0,-",
+            "pump destroyed ,",
+            "pump destroyed ,0",
+            "pump destroyed 0,",
+            "pump destroyed 0,,1",
+            "pump destroyed 0,1,",
+            "pump destroyed 128",
+            "pump destroyed 0,128",
+            "pump destroyed 255",
+            "pump destroyed 1000001",
+            "pump destroyed 340282366920938463463374607431768211456",
+            "pump destroyed 00",
+            "pump destroyed 0,01",
+            "pump destroyed +0",
+            "pump destroyed 0,+1",
+            "pump destroyed x",
+            "pump destroyed 0,x",
+            "pump destroyed 0\t",
+            "pump destroyed 0\r",
+            "pump destroyed 0;1",
+        ],
+    )
+}
+
+#[test]
+fn arc_power_has_a_controller_and_a_frame(rt: HostRuntime) -> Result<(), Fail> {
+    are_bad(
+        &rt,
+        "site 2 0-3 4-7\ndraws\nquiet\n",
+        "ok\n",
+        &[
+            "arc",
+            "arc ",
+            "arc 0",
+            "arc 0 ",
+            "arc FE80",
+            "arc FE80 0",
+            "arc 0 FE8",
+            "arc 0 FE800",
+            "arc 0 FE8G",
+            "arc 0 FE80 ",
+            "arc 0  FE80",
+            "arc  0 FE80",
+            "arc 0 FE80 FE80",
+            "arc 0 FE 80",
+            "arc 00 FE80",
+            "arc +0 FE80",
+            "arc -1 FE80",
+            "arc x FE80",
+            "arc 1000001 FE80",
+            "arc 0\tFE80",
+            "arc 0 FE80\r",
+            " arc 0 FE80",
+            "arcs 0 FE80",
+            "Arc 0 FE80",
+        ],
+    )
+}
+
+#[test]
+fn lines_of_a_bench_and_of_a_plan_are_bad_on_a_site(rt: HostRuntime) -> Result<(), Fail> {
+    are_bad(
+        &rt,
+        "site 2 0-3 4-7\ndraws\nquiet\n",
+        "ok\n",
+        &[
+            "frame A900",
+            "frame",
+            "bench 1",
+            "site 1 0-3",
+            "draws",
+            "draws 123456",
+            " ",
+            "\t",
+            "GO 0",
+            "go 0 # first",
+            "go 0#",
+            "start 0",
+        ],
+    )
+}
+
+/// What may not stand behind the name of a line with one number.
+const BAD_ENDS: [&str; 24] = [
+    "",
+    " ",
+    " 0 ",
+    " 0 0",
+    "  0",
+    " 00",
+    " 01",
+    " +0",
+    " -0",
+    " -1",
+    " x",
+    " 0x0",
+    " 1.0",
+    " 1000001",
+    " 4294967296",
+    " 99999999999999999999",
+    " 0,1",
+    " -",
+    " 0\t",
+    "\t0",
+    " 0\r",
+    " 0 FE80",
+    "s 0",
+    "0",
+];
+
+/// A line of this name has one number behind it, and nothing else.
+fn has_one_number<R: Abort + AllocGlobal>(rt: &R, name: &str) -> Result<(), Fail> {
+    let alloc = rt.alloc();
+    let before = "site 2 0-3 4-7\ndraws\nquiet\n";
+    for end in BAD_ENDS {
+        let line = format!(in alloc; "{name}{end}")?;
+        are_bad(rt, before, "ok\n", &[line.as_str()])?;
+    }
+    let line = format!(in alloc; " {name} 0")?;
+    are_bad(rt, before, "ok\n", &[line.as_str()])
+}
+
+#[test]
+fn lines_with_a_number_have_that_number_alone(rt: HostRuntime) -> Result<(), Fail> {
+    for name in [
+        "go", "store", "fail", "down", "up", "run", "off", "on", "expire",
+    ] {
+        has_one_number(&rt, name)?;
+    }
+    Ok(())
+}
+
+#[test]
+fn skipped_lines_are_counted(rt: HostRuntime) -> Result<(), Fail> {
+    let script = "# a site\n\nsite 1 0-3\ndraws\n\n# quiet\nquiet\ngo\n";
+    ends(&rt, script, "ok\n", Err(ReplayFault::BadLine(8)))
+}
+
+#[test]
+fn bytes_that_are_no_text_are_a_bad_line_but_in_a_comment(rt: HostRuntime) -> Result<(), Fail> {
+    let (end, text) = played(rt.alloc(), b"bench 1\ndraws\n# \xFF\nquiet\nshow\xFF\n")?;
+    assert_eq!(rt;
+        (end, text.as_str()),
+        (Err(ReplayFault::BadLine(5)), "ok\n")
+    );
+    let script = b"site 1 0-3\ndraws\n# \xFF\nquiet\nshow\xFF\nquiet\n";
+    let (end, text) = played(rt.alloc(), script)?;
+    assert_eq!(rt;
+        (end, text.as_str()),
+        (Err(ReplayFault::BadLine(5)), "ok\n")
+    );
+    Ok(())
+}
+
+#[test]
+fn the_largest_numbers_are_read(rt: HostRuntime) -> Result<(), Fail> {
+    plays(
+        &rt,
+        "site 1 0-3
+         draws
+         go 1000000 > refused 1 UnknownController
+         off 1000000 > refused 1 UnknownGear
+         pump destroyed 127 > idle
+         pump destroyed 0,127,126 > idle
+         off 0 > ok
+         run 1000000 > 0: done all-found
+         > ran 10",
+    )
+}

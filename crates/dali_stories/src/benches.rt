@@ -1,0 +1,303 @@
+//! Benches of gear, by the standard's rules and this project's profile.
+
+use super::story::{ends, played, plays, plays_parts};
+use dali_replay::ReplayFault;
+use std::test::Fail;
+
+#[test]
+fn a_pair_is_broken_by_another_frame(rt: HostRuntime) -> Result<(), Fail> {
+    plays(
+        &rt,
+        "bench 1
+         draws 123456
+         frame A5FF > A5FF silence
+         frame A5FF > A5FF silence
+         frame A700 > A700 silence
+         frame FE80 > FE80 silence
+         frame A700 > A700 silence
+         show > gear 0 on enabled FFFFFF FFFFFF -
+         frame A700 > A700 silence
+         show > gear 0 on enabled 123456 FFFFFF -",
+    )
+}
+
+#[test]
+fn gear_that_never_drew_a_number_is_found_under_the_mask(rt: HostRuntime) -> Result<(), Fail> {
+    plays(
+        &rt,
+        "bench 1
+         draws
+         frame A5FF > A5FF silence
+         frame A5FF > A5FF silence
+         frame A900 > A900 byte FF
+         frame B5FE > B5FE silence
+         frame A900 > A900 silence",
+    )?;
+    plays(
+        &rt,
+        "bench 2
+         draws
+         frame A5FF > A5FF silence
+         frame A5FF > A5FF silence
+         frame A900 > A900 damaged
+         frame B5FE > B5FE silence
+         frame A900 > A900 silence",
+    )
+}
+
+#[test]
+fn a_pair_is_forgotten_when_the_bus_is_quiet(rt: HostRuntime) -> Result<(), Fail> {
+    plays(
+        &rt,
+        "bench 1
+         draws
+         frame A5FF > A5FF silence
+         quiet > ok
+         frame A5FF > A5FF silence
+         show > gear 0 on disabled FFFFFF FFFFFF -
+         frame A5FF > A5FF silence
+         show > gear 0 on enabled FFFFFF FFFFFF -
+         expire 0 > ok
+         show > gear 0 on disabled FFFFFF FFFFFF -",
+    )
+}
+
+#[test]
+fn a_short_address_is_programmed_by_hand(rt: HostRuntime) -> Result<(), Fail> {
+    // QUERY SHORT ADDRESS hears MASK before, the address after; VERIFY SHORT ADDRESS is YES for it alone.
+    plays(
+        &rt,
+        "bench 1
+         draws 123456
+         frame A5FF > A5FF silence
+         frame A5FF > A5FF silence
+         frame A700 > A700 silence
+         frame A700 > A700 silence
+         frame B112 > B112 silence
+         frame B334 > B334 silence
+         frame B556 > B556 silence
+         frame BB00 > BB00 byte FF
+         frame B70B > B70B silence
+         frame BB00 > BB00 byte 0B
+         frame B90B > B90B byte FF
+         frame B90D > B90D silence
+         frame B9FF > B9FF silence
+         frame AB00 > AB00 silence
+         frame A900 > A900 silence
+         frame BB00 > BB00 byte 0B
+         show > gear 0 on withdrawn 123456 123456 5",
+    )
+}
+
+#[test]
+fn an_erased_address_is_gone_and_a_malformed_byte_changes_nothing(
+    rt: HostRuntime,
+) -> Result<(), Fail> {
+    plays(
+        &rt,
+        "bench 1
+         draws
+         frame A500 > A500 silence
+         frame A500 > A500 silence
+         frame B70B > B70B silence
+         frame B702 > B702 silence
+         frame B781 > B781 silence
+         show > gear 0 on enabled FFFFFF FFFFFF 5
+         frame B7FF > B7FF silence
+         show > gear 0 on enabled FFFFFF FFFFFF -",
+    )
+}
+
+#[test]
+fn disabled_gear_ignore_the_initialisation(rt: HostRuntime) -> Result<(), Fail> {
+    // While DISABLED: no search address, no number drawn, no address stored, no withdrawal, no answer.
+    plays(
+        &rt,
+        "bench 1
+         draws 123456
+         frame B112 > B112 silence
+         frame B334 > B334 silence
+         frame B556 > B556 silence
+         frame A700 > A700 silence
+         frame A700 > A700 silence
+         frame B70B > B70B silence
+         frame AB00 > AB00 silence
+         frame A900 > A900 silence
+         frame BB00 > BB00 silence
+         frame B90B > B90B silence
+         show > gear 0 on disabled FFFFFF FFFFFF -",
+    )
+}
+
+#[test]
+fn terminate_ends_the_initialisation(rt: HostRuntime) -> Result<(), Fail> {
+    plays(
+        &rt,
+        "bench 1
+         draws
+         frame A5FF > A5FF silence
+         frame A5FF > A5FF silence
+         frame A101 > A101 silence
+         show > gear 0 on enabled FFFFFF FFFFFF -
+         frame A100 > A100 silence
+         show > gear 0 on disabled FFFFFF FFFFFF -",
+    )
+}
+
+/// Gear 0 has address 5 and gear 1 none, and no initialisation runs.
+const ONE_ADDRESS: &str = "bench 2
+                           draws 000001 000002
+                           frame A500 > A500 silence
+                           frame A500 > A500 silence
+                           frame A700 > A700 silence
+                           frame A700 > A700 silence
+                           frame B100 > B100 silence
+                           frame B300 > B300 silence
+                           frame B501 > B501 silence
+                           frame B70B > B70B silence
+                           frame A100 > A100 silence";
+
+#[test]
+fn initialise_speaks_to_some_gear(rt: HostRuntime) -> Result<(), Fail> {
+    // For gear without address, for 5, for 6, for none by a malformed byte, and for all.
+    let rows = [
+        ("frame A5FF > A5FF silence", "disabled", "enabled"),
+        ("frame A50B > A50B silence", "enabled", "disabled"),
+        ("frame A50D > A50D silence", "disabled", "disabled"),
+        ("frame A502 > A502 silence", "disabled", "disabled"),
+        ("frame A500 > A500 silence", "enabled", "enabled"),
+    ];
+    for (initialise, first, second) in rows {
+        let shown = format!(in rt.alloc();
+            "show > gear 0 on {first} 000001 000001 5
+             > gear 1 on {second} 000002 000001 -"
+        )?;
+        plays_parts(
+            &rt,
+            &[(ONE_ADDRESS, 1), (initialise, 2), (shown.as_str(), 1)],
+        )?;
+    }
+    Ok(())
+}
+
+#[test]
+fn a_withdrawn_gear_is_enabled_again(rt: HostRuntime) -> Result<(), Fail> {
+    plays(
+        &rt,
+        "bench 1
+         draws
+         frame A500 > A500 silence
+         frame A500 > A500 silence
+         frame AB00 > AB00 silence
+         show > gear 0 on withdrawn FFFFFF FFFFFF -
+         frame A500 > A500 silence
+         frame A500 > A500 silence
+         show > gear 0 on enabled FFFFFF FFFFFF -",
+    )
+}
+
+#[test]
+fn a_third_equal_frame_begins_a_new_pair(rt: HostRuntime) -> Result<(), Fail> {
+    // The third RANDOMISE is the first of a pair, so the fourth draws again.
+    plays(
+        &rt,
+        "bench 1
+         draws 000001 000002
+         frame A5FF > A5FF silence
+         frame A5FF > A5FF silence
+         frame A700 > A700 silence
+         frame A700 > A700 silence
+         frame A700 > A700 silence
+         show > gear 0 on enabled 000001 FFFFFF -
+         frame A700 > A700 silence
+         show > gear 0 on enabled 000002 FFFFFF -",
+    )
+}
+
+#[test]
+fn power_brings_back_the_addresses_alone(rt: HostRuntime) -> Result<(), Fail> {
+    plays(
+        &rt,
+        "bench 1
+         draws 123456
+         frame A5FF > A5FF silence
+         frame A5FF > A5FF silence
+         frame A700 > A700 silence
+         frame A700 > A700 silence
+         frame B112 > B112 silence
+         frame B334 > B334 silence
+         frame B556 > B556 silence
+         frame B70B > B70B silence
+         frame A700 > A700 silence
+         off 0 > ok
+         frame A700 > A700 silence
+         show > gear 0 off enabled 123456 123456 5
+         on 0 > ok
+         show > gear 0 on disabled 123456 FFFFFF 5
+         frame A5FF > A5FF silence
+         frame A700 > A700 silence
+         frame A5FF > A5FF silence
+         on 0 > ok
+         frame A5FF > A5FF silence
+         show > gear 0 on disabled 123456 FFFFFF 5",
+    )
+}
+
+#[test]
+fn unknown_gear_is_refused(rt: HostRuntime) -> Result<(), Fail> {
+    plays(
+        &rt,
+        "bench 1
+         draws
+         off 1 > refused 1 UnknownGear
+         on 1 > refused 1 UnknownGear
+         expire 128 > refused 1 UnknownGear
+         off 1000000 > refused 1 UnknownGear
+         show > gear 0 on disabled FFFFFF FFFFFF -",
+    )
+}
+
+#[test]
+fn spent_draws_change_nothing(rt: HostRuntime) -> Result<(), Fail> {
+    // Two gear, one number: no gear takes the frame, at each repeat.
+    plays(
+        &rt,
+        "bench 2
+         draws 123456
+         frame A5FF > A5FF silence
+         frame A5FF > A5FF silence
+         frame A700 > A700 silence
+         frame A700 > refused 6 DrawsSpent
+         frame A700 > refused 6 DrawsSpent
+         show > gear 0 on enabled FFFFFF FFFFFF -
+         > gear 1 on enabled FFFFFF FFFFFF -
+         off 1 > ok
+         frame A700 > A700 silence
+         show > gear 0 on enabled 123456 FFFFFF -
+         > gear 1 off enabled FFFFFF FFFFFF -",
+    )
+}
+
+#[test]
+fn a_bench_has_up_to_128_gear(rt: HostRuntime) -> Result<(), Fail> {
+    let (end, text) = played(rt.alloc(), b"bench 128\ndraws\nshow\nframe A900\n")?;
+    assert_eq!(rt; end, Ok(()));
+    let lines = text.lines().count();
+    assert_eq!(rt; lines, 129);
+    let last = text.lines().last();
+    assert_eq!(rt; last, Some("A900 silence"));
+    assert!(rt;
+        text.as_str()
+            .contains("gear 127 on disabled FFFFFF FFFFFF -\n")
+    );
+    Ok(())
+}
+
+#[test]
+fn comments_and_empty_lines_are_skipped_and_counted(rt: HostRuntime) -> Result<(), Fail> {
+    let script = "# a comment\n\nbench 1\n#draws\ndraws\n\nframe A900\n# end";
+    ends(&rt, script, "A900 silence\n", Ok(()))?;
+    let script = "# a comment\n\nbench 1\n#draws\ndraws\n\nframe A900\n# next\nframe\n";
+    let bad = Err(ReplayFault::BadLine(9));
+    ends(&rt, script, "A900 silence\n", bad)
+}

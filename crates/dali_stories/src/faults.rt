@@ -1,0 +1,176 @@
+//! Faults: their texts and statuses, and readers and writers that fail.
+
+use super::story::played;
+use dali_replay::{ReplayFault, run_replay};
+use dali_world::PlanError;
+use std::io::{Error, ErrorKind, Read, Write};
+use std::process::Abort;
+use std::test::Fail;
+
+/// A fault has this text and this status.
+fn says<R: Abort + AllocGlobal>(
+    rt: &R,
+    fault: ReplayFault,
+    text: &str,
+    status: u8,
+) -> Result<(), Fail> {
+    let shown = fault.to_string(rt.alloc())?;
+    assert_eq!(rt; (shown.as_str(), fault.status()), (text, status));
+    Ok(())
+}
+
+/// The fault of a refused plan has this text.
+fn refused<R: Abort + AllocGlobal>(rt: &R, error: PlanError, text: &str) -> Result<(), Fail> {
+    says(rt, ReplayFault::BadPlan(error), text, 1)
+}
+
+#[test]
+fn refused_plans_have_texts(rt: HostRuntime) -> Result<(), Fail> {
+    refused(&rt, PlanError::GearCount, "plan refused: GearCount")?;
+    refused(
+        &rt,
+        PlanError::ControllerCount,
+        "plan refused: ControllerCount",
+    )?;
+    refused(&rt, PlanError::BlockOrder, "plan refused: BlockOrder")?;
+    refused(&rt, PlanError::BlockOverlap, "plan refused: BlockOverlap")?;
+    refused(&rt, PlanError::DrawTooLarge, "plan refused: DrawTooLarge")?;
+    refused(&rt, PlanError::DrawTwice, "plan refused: DrawTwice")
+}
+
+#[test]
+fn faults_have_texts_and_statuses(rt: HostRuntime) -> Result<(), Fail> {
+    says(&rt, ReplayFault::BadLine(3), "line 3: bad line", 1)?;
+    says(&rt, ReplayFault::Memory, "out of memory", 3)?;
+    says(&rt, ReplayFault::Read, "the input cannot be read", 3)?;
+    says(&rt, ReplayFault::Write, "the output cannot be written", 3)
+}
+
+#[test]
+fn an_input_of_the_limit_is_read_and_one_byte_more_is_not(rt: HostRuntime) -> Result<(), Fail> {
+    let alloc = rt.alloc();
+    let mut input = Vec::from_slice(alloc, b"bench 1\ndraws\nshow\n#")?;
+    for _ in input.len()..1_048_576 {
+        input.push(b'x')?;
+    }
+    let (end, text) = played(alloc, &input)?;
+    assert_eq!(rt; end, Ok(()));
+    assert_eq!(rt; text.as_str(), "gear 0 on disabled FFFFFF FFFFFF -\n");
+    input.push(b'x')?;
+    let (end, text) = played(alloc, &input)?;
+    assert_eq!(rt; end, Err(ReplayFault::Read));
+    assert_eq!(rt; text.as_str(), "");
+    Ok(())
+}
+
+/// A reader that gives the same bytes again and again.
+#[derive(Drop)]
+struct Endless;
+
+impl Read for Endless {
+    fn read(&mut self, buf: &mut [u8]) -> std::io::Result<usize> {
+        for byte in buf.iter_mut() {
+            *byte = b'#';
+        }
+        Ok(buf.len())
+    }
+}
+
+#[test]
+fn a_reader_without_end_is_a_fault(rt: HostRuntime) -> Result<(), Fail> {
+    let mut written = Vec::new(rt.alloc());
+    let end = run_replay(rt.alloc(), &mut Endless, &mut written);
+    assert_eq!(rt; end, Err(ReplayFault::Read));
+    assert_eq!(rt; written.len(), 0);
+    Ok(())
+}
+
+const SCRIPT: &[u8] = b"bench 1\ndraws\nframe A900\nquiet\nshow\n";
+
+/// A reader of the script, a byte at a time, that fails at one call.
+#[derive(Drop)]
+struct FailingReader {
+    given: usize,
+    fails_at: usize,
+    kind: ErrorKind,
+}
+
+impl Read for FailingReader {
+    fn read(&mut self, buf: &mut [u8]) -> std::io::Result<usize> {
+        if self.given == self.fails_at {
+            return Err(Error::from(self.kind));
+        }
+        match (buf.first_mut(), SCRIPT.get(self.given)) {
+            (Some(place), Some(byte)) => {
+                *place = *byte;
+                self.given = self.given.wrapping_add(1);
+                Ok(1)
+            }
+            _ => Ok(0),
+        }
+    }
+}
+
+#[test]
+fn each_error_of_the_reader_is_a_fault(rt: HostRuntime) -> Result<(), Fail> {
+    for fails_at in 0..=SCRIPT.len() {
+        for kind in [ErrorKind::Other, ErrorKind::Interrupted] {
+            let mut reader = FailingReader {
+                given: 0,
+                fails_at,
+                kind,
+            };
+            let mut written = Vec::new(rt.alloc());
+            let end = run_replay(rt.alloc(), &mut reader, &mut written);
+            assert_eq!(rt; end, Err(ReplayFault::Read));
+            assert_eq!(rt; written.len(), 0);
+        }
+    }
+    Ok(())
+}
+
+/// A writer that fails at one call.
+#[derive(Drop)]
+struct FailingWriter {
+    calls: usize,
+    fails_at: usize,
+}
+
+impl Write for FailingWriter {
+    fn write(&mut self, buf: &[u8]) -> std::io::Result<usize> {
+        if self.calls == self.fails_at {
+            return Err(Error::from(ErrorKind::Other));
+        }
+        self.calls = self.calls.wrapping_add(1);
+        Ok(buf.len())
+    }
+
+    fn flush(&mut self) -> std::io::Result<()> {
+        Ok(())
+    }
+}
+
+/// A script of three reports, each of whose writes fails in turn.
+fn check_each_write<R: Abort + AllocGlobal>(rt: &R, script: &[u8]) -> Result<(), Fail> {
+    for fails_at in 0..3 {
+        let mut reader = script;
+        let mut writer = FailingWriter { calls: 0, fails_at };
+        let end = run_replay(rt.alloc(), &mut reader, &mut writer);
+        assert_eq!(rt; end, Err(ReplayFault::Write));
+    }
+    let mut reader = script;
+    let mut writer = FailingWriter {
+        calls: 0,
+        fails_at: 3,
+    };
+    let end = run_replay(rt.alloc(), &mut reader, &mut writer);
+    assert_eq!(rt; end, Ok(()));
+    assert_eq!(rt; writer.calls, 3);
+    Ok(())
+}
+
+#[test]
+fn each_error_of_the_writer_is_a_fault(rt: HostRuntime) -> Result<(), Fail> {
+    check_each_write(&rt, SCRIPT)?;
+    check_each_write(&rt, b"site 1 0-3\ndraws 123456\ngo 0\nrun 1000\nshow\n")
+}

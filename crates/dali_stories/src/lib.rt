@@ -1,0 +1,21 @@
+//! Tests of `replay` by stories: whole scripts, each line with what it reports.
+//!
+//! They stand in a crate of their own, so that `dali_replay` is not proved once more for its tests.
+#![tactic(auto)]
+
+#[cfg(test)]
+mod bad_lines;
+#[cfg(test)]
+mod benches;
+#[cfg(test)]
+mod every_step;
+#[cfg(test)]
+mod faults;
+#[cfg(test)]
+mod plans;
+#[cfg(test)]
+mod refusals;
+#[cfg(test)]
+mod sites;
+#[cfg(test)]
+mod story;

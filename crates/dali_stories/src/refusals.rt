@@ -1,0 +1,558 @@
+//! What a site refuses: each refusal that a line can report, which comes first where two causes hold, and what is
+//! left of it.
+
+use super::story::{plays, plays_parts};
+use std::test::Fail;
+
+#[test]
+fn a_controller_that_is_not_there_is_unknown(rt: HostRuntime) -> Result<(), Fail> {
+    plays(
+        &rt,
+        "site 1 0-3 4-7
+         draws
+         go 2 > refused 1 UnknownController
+         store 2 > refused 1 UnknownController
+         fail 2 > refused 1 UnknownController
+         arc 2 FE80 > refused 1 UnknownController
+         arc 2 A100 > refused 1 UnknownController
+         down 2 > refused 1 UnknownController
+         up 2 > refused 1 UnknownController
+         go 4 > refused 1 UnknownController
+         go 255 > refused 1 UnknownController
+         go 256 > refused 1 UnknownController
+         up 257 > refused 1 UnknownController
+         go 1000000 > refused 1 UnknownController
+         show > gear 0 on disabled FFFFFF FFFFFF -
+         > table 0:
+         > table 1:",
+    )
+}
+
+#[test]
+fn gear_that_is_not_there_is_unknown(rt: HostRuntime) -> Result<(), Fail> {
+    plays(
+        &rt,
+        "site 2 0-3
+         draws
+         off 2 > refused 1 UnknownGear
+         on 2 > refused 1 UnknownGear
+         expire 2 > refused 1 UnknownGear
+         off 128 > refused 1 UnknownGear
+         on 255 > refused 1 UnknownGear
+         expire 256 > refused 1 UnknownGear
+         off 257 > refused 1 UnknownGear
+         off 1000000 > refused 1 UnknownGear
+         show > gear 0 on disabled FFFFFF FFFFFF -
+         > gear 1 on disabled FFFFFF FFFFFF -
+         > table 0:",
+    )
+}
+
+#[test]
+fn a_controller_that_is_down_does_nothing(rt: HostRuntime) -> Result<(), Fail> {
+    plays(
+        &rt,
+        "site 1 0-3 4-7
+         draws 123456
+         down 0 > ok
+         go 0 > refused 2 ControllerDown
+         store 0 > refused 2 ControllerDown
+         fail 0 > refused 2 ControllerDown
+         arc 0 FE80 > refused 2 ControllerDown
+         arc 0 A100 > refused 2 ControllerDown
+         down 0 > refused 2 ControllerDown
+         pump > idle
+         go 1 > 1: put 3 A100
+         up 0 > ok
+         go 0 > 0: put 3 A100",
+    )
+}
+
+#[test]
+fn a_controller_that_is_up_does_not_come_up(rt: HostRuntime) -> Result<(), Fail> {
+    plays(
+        &rt,
+        "site 1 0-3
+         draws 123456
+         up 0 > refused 2 ControllerUp
+         go 0 > 0: put 3 A100
+         up 0 > refused 2 ControllerUp
+         down 0 > ok
+         up 0 > ok
+         up 0 > refused 2 ControllerUp
+         go 0 > 0: put 3 A100",
+    )
+}
+
+#[test]
+fn what_is_not_due_is_refused(rt: HostRuntime) -> Result<(), Fail> {
+    // At the start, while a frame is outstanding, when it was heard, at the commit of a record that the store has, and
+    // after the end.
+    plays(
+        &rt,
+        "site 1 0-3
+         draws 123456
+         store 0 > refused 3 NotDue
+         fail 0 > refused 3 NotDue
+         go 0 > 0: put 3 A100
+         go 0 > refused 3 NotDue
+         store 0 > refused 3 NotDue
+         fail 0 > refused 3 NotDue
+         pump > 0: sent A100 silence
+         store 0 > refused 3 NotDue
+         fail 0 > refused 3 NotDue
+         go 0 > 0: put 1 A5FF
+         go 0 > refused 3 NotDue
+         run 109 > 0: commit reserve 0 123456
+         > ran 108
+         store 0 > ok
+         store 0 > refused 3 NotDue
+         go 0 > 0: put 3 B112
+         store 0 > refused 3 NotDue
+         run 1000 > 0: commit enrol 0 123456
+         > 0: done all-found
+         > ran 12
+         go 0 > refused 3 NotDue
+         store 0 > refused 3 NotDue
+         fail 0 > refused 3 NotDue
+         pump > idle",
+    )
+}
+
+#[test]
+fn nothing_is_due_after_a_halt(rt: HostRuntime) -> Result<(), Fail> {
+    // A controller that has halted may still ask for arc power.
+    plays(
+        &rt,
+        "site 1 0-3
+         draws 123456
+         run 110 > 0: commit reserve 0 123456
+         > ran 109
+         fail 0 > 0: halt store
+         go 0 > refused 3 NotDue
+         store 0 > refused 3 NotDue
+         fail 0 > refused 3 NotDue
+         pump > idle
+         run 5 > ran 0
+         arc 0 FE80 > 0: put 2 FE80
+         pump > 0: sent FE80 silence
+         down 0 > ok",
+    )
+}
+
+#[test]
+fn after_a_lapse_its_owner_is_told_that_alone(rt: HostRuntime) -> Result<(), Fail> {
+    plays(
+        &rt,
+        "site 1 0-3
+         draws 123456
+         run 3 > ran 3
+         lapse > lapse 0
+         store 0 > refused 3 NotDue
+         fail 0 > refused 3 NotDue
+         lapse > lapse -
+         go 0 > 0: put 3 A100
+         go 0 > refused 3 NotDue
+         pump > 0: sent A100 silence
+         go 0 > 0: put 1 A5FF",
+    )
+}
+
+#[test]
+fn only_arc_power_may_be_asked_for(rt: HostRuntime) -> Result<(), Fail> {
+    plays(
+        &rt,
+        "site 1 0-3
+         draws
+         arc 0 A100 > refused 4 NotArc
+         arc 0 A5FF > refused 4 NotArc
+         arc 0 01C2 > refused 4 NotArc
+         arc 0 FFFF > refused 4 NotArc
+         arc 0 0100 > refused 4 NotArc
+         arc 0 FE80 > 0: put 2 FE80
+         arc 0 0000 > 0: put 2 0000
+         arc 0 AAAA > 0: put 2 AAAA",
+    )
+}
+
+#[test]
+fn a_full_queue_is_refused_last_but_the_log(rt: HostRuntime) -> Result<(), Fail> {
+    // An unknown controller, one that is down, what is not due and what is no arc power come before the full queue.
+    plays_parts(
+        &rt,
+        &[
+            (
+                "site 1 0-3 4-7
+                 draws
+                 down 1 > ok",
+                1,
+            ),
+            ("arc 0 FE80 > 0: put 2 FE80", 64),
+            (
+                "go 0 > refused 7 QueueFull
+                 arc 0 FE80 > refused 7 QueueFull
+                 arc 0 A100 > refused 4 NotArc
+                 fail 0 > refused 3 NotDue
+                 store 0 > refused 3 NotDue
+                 go 1 > refused 2 ControllerDown
+                 arc 1 FE80 > refused 2 ControllerDown
+                 go 2 > refused 1 UnknownController
+                 run 3 > refused 7 QueueFull
+                 > ran 0
+                 pump > 0: sent FE80 silence
+                 go 0 > 0: put 3 A100
+                 go 0 > refused 3 NotDue
+                 arc 0 FE80 > refused 7 QueueFull",
+                1,
+            ),
+        ],
+    )
+}
+
+#[test]
+fn a_go_that_is_refused_for_the_queue_leaves_its_commit_made(rt: HostRuntime) -> Result<(), Fail> {
+    // The store has the record, so that `store` finds nothing due; the next `go` makes no second commit.
+    plays_parts(
+        &rt,
+        &[
+            (
+                "site 1 0-3
+                 draws 123456
+                 run 110 > 0: commit reserve 0 123456
+                 > ran 109",
+                1,
+            ),
+            ("arc 0 FE80 > 0: put 2 FE80", 64),
+            (
+                "go 0 > refused 7 QueueFull
+                 store 0 > refused 3 NotDue
+                 fail 0 > refused 7 QueueFull
+                 go 0 > refused 7 QueueFull
+                 pump > 0: sent FE80 silence
+                 go 0 > 0: put 3 B112
+                 run 1000 > 0: commit enrol 0 123456
+                 > 0: done all-found
+                 > ran 75",
+                1,
+            ),
+        ],
+    )
+}
+
+#[test]
+fn a_controller_that_halts_after_a_refused_go_takes_up_its_record(
+    rt: HostRuntime,
+) -> Result<(), Fail> {
+    plays_parts(
+        &rt,
+        &[
+            (
+                "site 1 0-3
+                 draws 123456
+                 run 110 > 0: commit reserve 0 123456
+                 > ran 109",
+                1,
+            ),
+            ("arc 0 FE80 > 0: put 2 FE80", 64),
+            (
+                "go 0 > refused 7 QueueFull
+                 pump > 0: sent FE80 silence
+                 fail 0 > 0: halt store
+                 down 0 > ok
+                 up 0 > ok
+                 run 1000 > 0: commit enrol 0 123456
+                 > 0: done all-found
+                 > ran 17",
+                1,
+            ),
+        ],
+    )
+}
+
+#[test]
+fn a_controller_that_goes_down_after_a_refused_go_takes_up_its_record(
+    rt: HostRuntime,
+) -> Result<(), Fail> {
+    plays_parts(
+        &rt,
+        &[
+            (
+                "site 1 0-3
+                 draws 123456
+                 run 110 > 0: commit reserve 0 123456
+                 > ran 109",
+                1,
+            ),
+            ("arc 0 FE80 > 0: put 2 FE80", 64),
+            (
+                "go 0 > refused 7 QueueFull
+                 down 0 > ok
+                 up 0 > ok
+                 run 1000 > 0: commit enrol 0 123456
+                 > 0: done all-found
+                 > ran 17
+                 show > gear 0 on disabled 123456 123456 0
+                 > table 0: 0=123456",
+                1,
+            ),
+        ],
+    )
+}
+
+#[test]
+fn a_fail_that_is_refused_for_the_queue_makes_no_commit(rt: HostRuntime) -> Result<(), Fail> {
+    plays_parts(
+        &rt,
+        &[
+            (
+                "site 1 0-3
+                 draws 123456 654321
+                 run 110 > 0: commit reserve 0 123456
+                 > ran 109",
+                1,
+            ),
+            ("arc 0 FE80 > 0: put 2 FE80", 64),
+            (
+                "fail 0 > refused 7 QueueFull
+                 down 0 > ok
+                 up 0 > ok
+                 run 1000 > 0: commit reserve 0 654321
+                 > 0: commit enrol 0 654321
+                 > 0: done all-found
+                 > ran 121
+                 show > gear 0 on disabled 654321 FFFFFE 0
+                 > table 0: 0=654321",
+                1,
+            ),
+        ],
+    )
+}
+
+#[test]
+fn a_run_that_is_refused_for_the_queue_leaves_its_commit_made(rt: HostRuntime) -> Result<(), Fail> {
+    plays_parts(
+        &rt,
+        &[
+            (
+                "site 1 0-3
+                 draws 123456
+                 run 110 > 0: commit reserve 0 123456
+                 > ran 109",
+                1,
+            ),
+            ("arc 0 FE80 > 0: put 2 FE80", 64),
+            (
+                "run 1000 > refused 7 QueueFull
+                 > ran 0
+                 store 0 > refused 3 NotDue
+                 pump > 0: sent FE80 silence
+                 run 1000 > 0: commit enrol 0 123456
+                 > 0: done all-found
+                 > ran 75
+                 show > gear 0 on disabled 123456 FFFFFE 0
+                 > table 0: 0=123456",
+                1,
+            ),
+        ],
+    )
+}
+
+#[test]
+fn a_full_log_takes_no_event(rt: HostRuntime) -> Result<(), Fail> {
+    // The log has room for 65,536 events. Each other cause comes before the full log, and an idle pump is no event.
+    plays_parts(
+        &rt,
+        &[
+            (
+                "site 2 0-3 4-7
+                 draws 123456
+                 down 1 > ok",
+                1,
+            ),
+            ("quiet > ok", 65_535),
+            (
+                "quiet > refused 8 LogFull
+                 go 0 > refused 8 LogFull
+                 arc 0 FE80 > refused 8 LogFull
+                 lapse > refused 8 LogFull
+                 off 0 > refused 8 LogFull
+                 on 0 > refused 8 LogFull
+                 expire 0 > refused 8 LogFull
+                 down 0 > refused 8 LogFull
+                 up 1 > refused 8 LogFull
+                 pump > idle
+                 run 5 > refused 8 LogFull
+                 > ran 0
+                 go 2 > refused 1 UnknownController
+                 go 1 > refused 2 ControllerDown
+                 fail 0 > refused 3 NotDue
+                 store 0 > refused 3 NotDue
+                 arc 0 A100 > refused 4 NotArc
+                 up 0 > refused 2 ControllerUp
+                 down 1 > refused 2 ControllerDown
+                 up 2 > refused 1 UnknownController
+                 off 2 > refused 1 UnknownGear
+                 expire 2 > refused 1 UnknownGear
+                 show > gear 0 on disabled FFFFFF FFFFFF -
+                 > gear 1 on disabled FFFFFF FFFFFF -
+                 > table 0:
+                 > table 1:",
+                1,
+            ),
+        ],
+    )
+}
+
+#[test]
+fn a_full_log_sends_no_frame(rt: HostRuntime) -> Result<(), Fail> {
+    plays_parts(
+        &rt,
+        &[
+            (
+                "site 1 0-3
+                 draws 123456
+                 go 0 > 0: put 3 A100",
+                1,
+            ),
+            ("quiet > ok", 65_535),
+            (
+                "pump > refused 8 LogFull
+                 pump lost > refused 8 LogFull
+                 pump noise > refused 8 LogFull
+                 pump collision > refused 8 LogFull
+                 pump destroyed 0 > refused 8 LogFull
+                 go 0 > refused 3 NotDue
+                 lapse > refused 8 LogFull
+                 show > gear 0 on disabled FFFFFF FFFFFF -
+                 > table 0:",
+                1,
+            ),
+        ],
+    )
+}
+
+#[test]
+fn the_last_event_of_a_log_is_taken(rt: HostRuntime) -> Result<(), Fail> {
+    plays_parts(
+        &rt,
+        &[
+            (
+                "site 1 0-3
+                 draws 123456
+                 go 0 > 0: put 3 A100",
+                1,
+            ),
+            ("quiet > ok", 65_534),
+            (
+                "pump > 0: sent A100 silence
+                 go 0 > refused 8 LogFull
+                 pump > idle
+                 run 1000 > refused 8 LogFull
+                 > ran 0",
+                1,
+            ),
+        ],
+    )
+}
+
+#[test]
+fn spent_draws_come_before_a_full_log(rt: HostRuntime) -> Result<(), Fail> {
+    plays_parts(
+        &rt,
+        &[
+            (
+                "site 1 0-3
+                 draws
+                 run 1000 > refused 6 DrawsSpent
+                 > ran 4",
+                1,
+            ),
+            ("on 0 > ok", 65_527),
+            (
+                "pump > refused 6 DrawsSpent
+                 pump destroyed 0 > refused 6 DrawsSpent
+                 pump destroyed - > refused 8 LogFull
+                 pump collision > refused 8 LogFull
+                 on 0 > refused 8 LogFull",
+                1,
+            ),
+        ],
+    )
+}
+
+#[test]
+fn a_full_queue_comes_before_a_full_log(rt: HostRuntime) -> Result<(), Fail> {
+    plays_parts(
+        &rt,
+        &[
+            (
+                "site 1 0-3
+                 draws",
+                1,
+            ),
+            ("arc 0 FE80 > 0: put 2 FE80", 64),
+            ("quiet > ok", 65_472),
+            (
+                "quiet > refused 8 LogFull
+                 go 0 > refused 7 QueueFull
+                 arc 0 FE80 > refused 7 QueueFull
+                 arc 0 A100 > refused 4 NotArc
+                 fail 0 > refused 3 NotDue
+                 pump > refused 8 LogFull
+                 run 1 > refused 7 QueueFull
+                 > ran 0",
+                1,
+            ),
+        ],
+    )
+}
+
+#[test]
+fn a_go_that_is_refused_for_the_log_leaves_its_commit_made(rt: HostRuntime) -> Result<(), Fail> {
+    plays_parts(
+        &rt,
+        &[
+            (
+                "site 1 0-3
+                 draws 123456
+                 run 110 > 0: commit reserve 0 123456
+                 > ran 109",
+                1,
+            ),
+            ("quiet > ok", 65_317),
+            (
+                "go 0 > refused 8 LogFull
+                 store 0 > refused 3 NotDue
+                 fail 0 > refused 8 LogFull
+                 down 0 > refused 8 LogFull
+                 go 0 > refused 8 LogFull",
+                1,
+            ),
+        ],
+    )
+}
+
+#[test]
+fn a_fail_that_is_refused_for_the_log_makes_no_commit(rt: HostRuntime) -> Result<(), Fail> {
+    // A commit in the store is no event: `store` works though the log is full.
+    plays_parts(
+        &rt,
+        &[
+            (
+                "site 1 0-3
+                 draws 123456
+                 run 110 > 0: commit reserve 0 123456
+                 > ran 109",
+                1,
+            ),
+            ("quiet > ok", 65_317),
+            (
+                "fail 0 > refused 8 LogFull
+                 store 0 > ok
+                 store 0 > refused 3 NotDue
+                 go 0 > refused 8 LogFull",
+                1,
+            ),
+        ],
+    )
+}

@@ -1,0 +1,114 @@
+//! Gear, alone and in a row, through the start-up and the search of IEC 62386-102:2014.
+
+ghost use Rattle.std.specs.Prelude.{◌<◌, ◌↔◌, IsTrue, All};
+
+use super::values::{frame, random, same};
+use dali_frame::{Answer, Random24, SearchAddress, Short};
+use dali_gear::{Gear, GearSet, InitialisationState, Reach, row};
+use dali_special::{Command, Target};
+use std::process::Abort;
+use std::test::Fail;
+
+/// A gear takes each of these frames, and may draw this number.
+fn take_all<R: Abort>(
+    rt: &R,
+    gear: &mut Gear,
+    frames: &[&[u8; 4]],
+    draw: Random24,
+) -> Result<(), Fail> {
+    for text in frames {
+        assert!(rt; draw.value() < 0xFFFFFF);
+        gear.take(frame(*text)?, draw);
+    }
+    Ok(())
+}
+
+#[test]
+fn one_gear_is_addressed(rt: HostRuntime) -> Result<(), Fail> {
+    let mut gear = Gear::new();
+    let draw = Random24::of(0x123456).ok_or("a random address")?;
+    take_all(&rt, &mut gear, &[b"A5FF", b"A5FF", b"A700"], draw)?;
+    let randomise = frame(b"A700")?;
+    same(&rt, &gear.would_draw(&randomise), &true);
+    same(&rt, &gear.half_pair(), &Some(Command::Randomise));
+    let effect = gear.take(randomise, draw);
+    same(&rt, &(effect.answer, effect.drew), &(None, true));
+    take_all(&rt, &mut gear, &[b"B112", b"B334", b"B556", b"B70B"], draw)?;
+    same(&rt, &(gear.short(), gear.random()), &(Short::of(5), draw));
+    same(&rt, &gear.search(), &SearchAddress::of(draw));
+    same(&rt, &gear.state(), &InitialisationState::Enabled);
+    let query = frame(b"BB00")?;
+    same(&rt, &gear.take(query, draw).answer, &Some(0x0B));
+
+    gear.power_off();
+    same(&rt, &gear.is_powered(), &false);
+    gear.power_on();
+    same(&rt, &gear.state(), &InitialisationState::Disabled);
+    same(&rt, &gear.search(), &SearchAddress::MASK);
+    same(&rt, &(gear.short(), gear.random()), &(Short::of(5), draw));
+    Ok(())
+}
+
+/// A frame comes to a row of gear that may draw these numbers: what is heard, and how many were drawn.
+fn hear<R: Abort>(
+    rt: &R,
+    gear: &mut [Gear],
+    text: &[u8; 4],
+    reach: Reach,
+    draws: &[Random24],
+) -> Result<(Answer, usize), Fail> {
+    let frame = frame(text)?;
+    assert!(rt; gear.len() <= 128);
+    assert!(rt; are_drawable(draws));
+    assert!(rt; row::draws_needed(gear, frame, reach) <= draws.len());
+    let heard = row::take(gear, frame, reach, draws);
+    Ok((heard.answer, heard.drawn))
+}
+
+/// Whether gear may draw each of these numbers.
+fn are_drawable(draws: &[Random24]) -> bool
+    ensures { IsTrue result ↔ All (λ draw. draw < 0xFFFFFF) draws.now }
+{
+    draws.iter().all(|draw| draw.value() < 0xFFFFFF)
+}
+
+#[test]
+fn gear_of_a_row_draw_in_order(rt: HostRuntime) -> Result<(), Fail> {
+    let mut gear = [Gear::new(), Gear::new()];
+    let gear = &mut gear[..];
+    let draws = [random(0x000001)?, random(0x000002)?];
+    for (text, drawn) in [(b"A5FF", 0), (b"A5FF", 0), (b"A700", 0), (b"A700", 2)] {
+        let heard = hear(&rt, gear, text, Reach::Everyone, &draws)?;
+        same(&rt, &heard, &(Answer::Silence, drawn));
+    }
+    same(&rt, &gear.first().map(|one| one.random()), &Some(draws[0]));
+    same(&rt, &gear.last().map(|one| one.random()), &Some(draws[1]));
+    Ok(())
+}
+
+/// What a row of gear answers to COMPARE, where no number is left to be drawn.
+fn compared<R: Abort>(rt: &R, gear: &mut [Gear]) -> Result<Answer, Fail> {
+    let (answer, _) = hear(rt, gear, b"A900", Reach::Everyone, &[])?;
+    Ok(answer)
+}
+
+#[test]
+fn some_gear_of_a_row_take_a_frame(rt: HostRuntime) -> Result<(), Fail> {
+    let mut gear = [Gear::new(), Gear::new(), Gear::new()];
+    let gear = &mut gear[..];
+    hear(&rt, gear, b"A5FF", Reach::Everyone, &[])?;
+    hear(&rt, gear, b"A5FF", Reach::Only(GearSet(0b101)), &[])?;
+    assert!(rt; gear.len() == 3);
+    let initialise = Command::Initialise(Target::Unaddressed);
+    same(&rt, &gear[1].half_pair(), &Some(initialise));
+    gear[1].quiet();
+    same(&rt, &gear[1].half_pair(), &None);
+    same(&rt, &compared(&rt, gear)?, &Answer::Damaged);
+    assert!(rt; gear.len() == 3);
+    gear[0].expire();
+    same(&rt, &compared(&rt, gear)?, &Answer::Byte(0xFF));
+    assert!(rt; gear.len() == 3);
+    gear[2].power_off();
+    same(&rt, &compared(&rt, gear)?, &Answer::Silence);
+    Ok(())
+}

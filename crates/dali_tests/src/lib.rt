@@ -1,0 +1,32 @@
+//! Tests of the parts, from frames to the site, through their public calls: worked values from the standard, and what no contract
+//! says. They prove nothing of the parts, and stand in one crate so that no part is proved once more for its tests.
+//!
+//! Whole commissionings are told as scripts, in `dali_stories`.
+#![tactic(auto)]
+
+#[cfg(test)]
+mod arbiter;
+#[cfg(test)]
+mod command;
+#[cfg(test)]
+mod frame;
+#[cfg(test)]
+mod gear;
+#[cfg(test)]
+mod machine;
+#[cfg(test)]
+mod plan;
+#[cfg(test)]
+mod records;
+#[cfg(test)]
+mod search;
+#[cfg(test)]
+mod site;
+#[cfg(test)]
+mod store;
+#[cfg(test)]
+mod table;
+#[cfg(test)]
+mod transaction;
+#[cfg(test)]
+mod values;

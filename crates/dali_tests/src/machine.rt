@@ -1,0 +1,465 @@
+//! The machine's moments: what it orders after each thing that it may be told, also what no true bus tells.
+
+use super::values::Ordered::{Commit, Done, Halt, NotDue, Put};
+use super::values::Pair::{Enrol, Reserve};
+use super::values::{Ordered, Pair, are_pairs, kept_of, same};
+use dali_controller::{End, Fault, Input, Machine, MachineError, StepError};
+use dali_frame::Answer;
+use std::alloc::Global;
+use std::process::Abort;
+use std::test::Fail;
+
+const SILENCE: Input = Input::Heard(Answer::Silence);
+
+const DAMAGED: Input = Input::Heard(Answer::Damaged);
+
+const YES: Input = Input::Heard(Answer::Byte(0xFF));
+
+/// What the machine is told, and what it orders then.
+type Moment = (Input, Ordered);
+
+/// An opening.
+const OPENING: [Moment; 5] = [
+    (Input::Start, Put(3, 0xA100)),
+    (SILENCE, Put(1, 0xA5FF)),
+    (SILENCE, Put(1, 0xA5FF)),
+    (SILENCE, Put(1, 0xA700)),
+    (SILENCE, Put(1, 0xA700)),
+];
+
+/// The first probe of a search.
+const PROBE: [Moment; 4] = [
+    (SILENCE, Put(3, 0xB1FF)),
+    (SILENCE, Put(1, 0xB3FF)),
+    (SILENCE, Put(1, 0xB5FE)),
+    (SILENCE, Put(1, 0xA900)),
+];
+
+/// How many frames an opening and a search of 25 probes have.
+const SEARCHED: u32 = 105;
+
+/// The search hears YES to its last COMPARE, as to all others: a visit of 000000.
+const FOUND: [Moment; 4] = [
+    (YES, Put(3, 0xB100)),
+    (SILENCE, Put(1, 0xB300)),
+    (SILENCE, Put(1, 0xB500)),
+    (SILENCE, Put(1, 0xBB00)),
+];
+
+/// A start with 0 or 1 reserved for 123456: a visit.
+const VISIT: [Moment; 4] = [
+    (Input::Start, Put(3, 0xB112)),
+    (SILENCE, Put(1, 0xB334)),
+    (SILENCE, Put(1, 0xB556)),
+    (SILENCE, Put(1, 0xBB00)),
+];
+
+/// The gear of a visit has no address. It is given 0, which is reserved for it.
+const GIVEN: [Moment; 3] = [
+    (YES, Put(1, 0xB701)),
+    (SILENCE, Put(1, 0xBB00)),
+    (Input::Heard(Answer::Byte(0x01)), Put(1, 0xAB00)),
+];
+
+/// What is heard is this byte.
+fn byte(byte: u8) -> Input {
+    Input::Heard(Answer::Byte(byte))
+}
+
+/// A machine of a block, with these records.
+fn machine_of(alloc: Global, bounds: (u8, u8), records: &[Pair]) -> Result<Machine, Fail> {
+    let kept = kept_of(alloc, bounds, records)?;
+    Ok(Machine::new(alloc, 0, kept.block(), &kept)?)
+}
+
+/// What the machine orders when it is told this.
+fn ordered(machine: &mut Machine, told: Input) -> Ordered {
+    match machine.step(told) {
+        Ok(order) => Ordered::of(order),
+        Err(StepError::NotDue) => NotDue,
+    }
+}
+
+/// The machine is told this, and orders that.
+fn steps<R: Abort>(rt: &R, machine: &mut Machine, told: Input, wanted: Ordered) {
+    same(rt, &ordered(machine, told), &wanted);
+}
+
+/// The machine starts, and sends so many frames. Each COMPARE is answered YES, and nothing else.
+fn searches<R: Abort>(rt: &R, machine: &mut Machine, frames: u32) {
+    let mut input = Input::Start;
+    for _ in 0..frames {
+        let order = ordered(machine, input);
+        assert!(rt; matches!(order, Put(..)));
+        input = if order == Put(1, 0xA900) {
+            YES
+        } else {
+            SILENCE
+        };
+    }
+}
+
+/// One part of what it is told after the other.
+fn goes_on<R: Abort>(rt: &R, machine: &mut Machine, parts: &[&[Moment]]) {
+    for part in parts {
+        for (told, wanted) in *part {
+            steps(rt, machine, *told, *wanted);
+        }
+    }
+}
+
+/// A machine of a block, with these records, is told one part after the other, behind so many frames of a search.
+fn plays<R: Abort + AllocGlobal>(
+    rt: &R,
+    bounds: (u8, u8),
+    records: &[Pair],
+    searched: u32,
+    parts: &[&[Moment]],
+) -> Result<(), Fail> {
+    let mut machine = machine_of(rt.alloc(), bounds, records)?;
+    searches(rt, &mut machine, searched);
+    goes_on(rt, &mut machine, parts);
+    Ok(())
+}
+
+#[test]
+fn an_empty_bus_is_all_found(rt: HostRuntime) -> Result<(), Fail> {
+    let before = [(SILENCE, NotDue)];
+    let waiting = [(Input::Start, NotDue), (Input::Committed, NotDue)];
+    let after = [
+        (SILENCE, Put(3, 0xA100)),
+        (SILENCE, Done(End::AllFound)),
+        (Input::Start, NotDue),
+        (SILENCE, NotDue),
+        (Input::Destroyed, NotDue),
+        (Input::Lapsed, NotDue),
+        (Input::Committed, NotDue),
+        (Input::CommitFailed, NotDue),
+    ];
+    plays(
+        &rt,
+        (0, 3),
+        &[],
+        0,
+        &[&before, &OPENING, &waiting, &PROBE, &after],
+    )
+}
+
+#[test]
+fn all_but_silence_is_a_yes(rt: HostRuntime) -> Result<(), Fail> {
+    for heard in [YES, DAMAGED, byte(0x02)] {
+        let next = [(heard, Put(3, 0xB17F))];
+        plays(&rt, (0, 3), &[], 0, &[&OPENING, &PROBE, &next])?;
+    }
+    Ok(())
+}
+
+#[test]
+fn the_eighth_lost_frame_in_a_row_gives_up(rt: HostRuntime) -> Result<(), Fail> {
+    let opening = (Input::Destroyed, Put(3, 0xA100));
+    let probe = (Input::Lapsed, Put(3, 0xB1FF));
+    // A whole opening between: the count begins anew.
+    let parts = [
+        &OPENING[..1],
+        &[opening; 7],
+        &OPENING[1..],
+        &PROBE[..1],
+        &[probe; 7],
+        &[(Input::Lapsed, Done(End::GaveUp)), (SILENCE, NotDue)],
+    ];
+    plays(&rt, (0, 3), &[], 0, &parts)
+}
+
+#[test]
+fn destroyed_and_lapsed_frames_count_alike(rt: HostRuntime) -> Result<(), Fail> {
+    let pair = [
+        (Input::Destroyed, Put(3, 0xA100)),
+        (Input::Lapsed, Put(3, 0xA100)),
+    ];
+    let last = [
+        (Input::Destroyed, Put(3, 0xA100)),
+        (Input::Destroyed, Done(End::GaveUp)),
+    ];
+    plays(
+        &rt,
+        (0, 3),
+        &[],
+        0,
+        &[&OPENING[..1], &pair, &pair, &pair, &last],
+    )
+}
+
+/// Gear without address is given the least address that is free: this one, by this frame and this answer.
+fn gives<R: Abort + AllocGlobal>(
+    rt: &R,
+    first: u8,
+    records: &[Pair],
+    address: u8,
+    program: u16,
+    code: u8,
+) -> Result<(), Fail> {
+    let given = [
+        (YES, Commit(Reserve(address, 0x000000))),
+        (SILENCE, NotDue),
+        (Input::Committed, Put(3, 0xB100)),
+        (SILENCE, Put(1, 0xB300)),
+        (SILENCE, Put(1, 0xB500)),
+        (SILENCE, Put(1, 0xBB00)),
+        (YES, Put(1, program)),
+        (SILENCE, Put(1, 0xBB00)),
+        (byte(code), Put(1, 0xAB00)),
+        (SILENCE, Commit(Enrol(address, 0x000000))),
+        (Input::Committed, Put(3, 0xB1FF)),
+    ];
+    plays(rt, (first, 3), records, SEARCHED, &[&FOUND, &given])
+}
+
+#[test]
+fn gear_without_address_is_given_the_least_free_one(rt: HostRuntime) -> Result<(), Fail> {
+    gives(&rt, 0, &[], 0, 0xB701, 0x01)?;
+    let records = [Reserve(1, 0x123456), Enrol(1, 0x123456)];
+    gives(&rt, 1, &records, 2, 0xB705, 0x05)
+}
+
+#[test]
+fn a_full_block_closes(rt: HostRuntime) -> Result<(), Fail> {
+    let records = [Reserve(7, 0x123456), Enrol(7, 0x123456)];
+    let closed = [(YES, Put(3, 0xA100)), (SILENCE, Done(End::BlockFull))];
+    plays(&rt, (7, 7), &records, SEARCHED, &[&FOUND, &closed])
+}
+
+/// With 0 reserved for 123456, the machine visits that gear at its start; then it is told this.
+fn visits<R: Abort + AllocGlobal>(rt: &R, parts: &[&[Moment]]) -> Result<(), Fail> {
+    let mut machine = machine_of(rt.alloc(), (0, 3), &[Reserve(0, 0x123456)])?;
+    goes_on(rt, &mut machine, &[&VISIT]);
+    goes_on(rt, &mut machine, parts);
+    Ok(())
+}
+
+#[test]
+fn the_first_query_decides_a_visit(rt: HostRuntime) -> Result<(), Fail> {
+    let named = [
+        (byte(0x05), Put(1, 0xAB00)),
+        (SILENCE, Commit(Enrol(2, 0x123456))),
+        (Input::Committed, Put(3, 0xA100)),
+    ];
+    visits(&rt, &[&named])?;
+    let given = [
+        (SILENCE, Commit(Enrol(0, 0x123456))),
+        (Input::Committed, Put(3, 0xA100)),
+    ];
+    visits(&rt, &[&GIVEN, &given])
+}
+
+/// An unclear answer ends a visit: one of the start goes on to the opening, one of a search to another search.
+#[test]
+fn an_unclear_answer_ends_a_visit(rt: HostRuntime) -> Result<(), Fail> {
+    for heard in [SILENCE, DAMAGED, byte(0x02), byte(0x81)] {
+        visits(&rt, &[&[(heard, Put(3, 0xA100))]])?;
+        let next = [(heard, Put(3, 0xB1FF))];
+        plays(&rt, (0, 3), &[], SEARCHED, &[&FOUND, &next])?;
+    }
+    Ok(())
+}
+
+#[test]
+fn the_second_query_confirms_the_address_alone(rt: HostRuntime) -> Result<(), Fail> {
+    for heard in [SILENCE, DAMAGED, YES, byte(0x02), byte(0x03)] {
+        visits(&rt, &[&GIVEN[..2], &[(heard, Put(3, 0xA100))]])?;
+    }
+    Ok(())
+}
+
+/// Behind each frame of a transaction that frame is lost: the same transaction begins again.
+fn begins_again<R: Abort + AllocGlobal>(
+    rt: &R,
+    records: &[Pair],
+    before: &[Moment],
+    transaction: &[Moment],
+    again: &[Ordered; 2],
+) -> Result<(), Fail> {
+    for sent in 1..=transaction.len() {
+        for lost in [Input::Destroyed, Input::Lapsed] {
+            let next = [(lost, again[0]), (SILENCE, again[1])];
+            plays(
+                rt,
+                (0, 3),
+                records,
+                0,
+                &[before, &transaction[..sent], &next],
+            )?;
+        }
+    }
+    Ok(())
+}
+
+#[test]
+fn a_lost_frame_begins_an_opening_again(rt: HostRuntime) -> Result<(), Fail> {
+    begins_again(&rt, &[], &[], &OPENING, &[Put(3, 0xA100), Put(1, 0xA5FF)])
+}
+
+#[test]
+fn a_lost_frame_begins_a_probe_again(rt: HostRuntime) -> Result<(), Fail> {
+    begins_again(
+        &rt,
+        &[],
+        &OPENING,
+        &PROBE,
+        &[Put(3, 0xB1FF), Put(1, 0xB3FF)],
+    )
+}
+
+#[test]
+fn a_lost_frame_begins_a_visit_again(rt: HostRuntime) -> Result<(), Fail> {
+    let records = [Reserve(0, 0x123456)];
+    let again = [Put(3, 0xB112), Put(1, 0xB334)];
+    begins_again(&rt, &records, &[], &VISIT, &again)?;
+    begins_again(&rt, &records, &VISIT, &GIVEN, &again)
+}
+
+#[test]
+fn a_lost_frame_begins_a_close_again(rt: HostRuntime) -> Result<(), Fail> {
+    let close = [(SILENCE, Put(3, 0xA100))];
+    for lost in [Input::Destroyed, Input::Lapsed] {
+        let next = [(lost, Put(3, 0xA100)), (SILENCE, Done(End::AllFound))];
+        plays(&rt, (0, 3), &[], 0, &[&OPENING, &PROBE, &close, &next])?;
+    }
+    Ok(())
+}
+
+#[test]
+fn a_failed_commit_halts(rt: HostRuntime) -> Result<(), Fail> {
+    let enrolling = [
+        (byte(0x05), Put(1, 0xAB00)),
+        (SILENCE, Commit(Enrol(2, 0x123456))),
+        (Input::CommitFailed, Halt(Fault::Store)),
+        (Input::Committed, NotDue),
+    ];
+    visits(&rt, &[&enrolling])?;
+    let reserving = [
+        (YES, Commit(Reserve(0, 0x000000))),
+        (Input::CommitFailed, Halt(Fault::Store)),
+        (Input::Start, NotDue),
+    ];
+    plays(&rt, (0, 3), &[], SEARCHED, &[&FOUND, &reserving])
+}
+
+#[test]
+fn unfinished_reservations_are_visited_by_address(rt: HostRuntime) -> Result<(), Fail> {
+    let records = [
+        Reserve(3, 0x000003),
+        Reserve(1, 0x000001),
+        Reserve(2, 0x000002),
+        Enrol(2, 0x000002),
+    ];
+    let visits = [
+        (Input::Start, Put(3, 0xB100)),
+        (SILENCE, Put(1, 0xB300)),
+        (SILENCE, Put(1, 0xB501)),
+        (SILENCE, Put(1, 0xBB00)),
+        (SILENCE, Put(3, 0xB100)),
+        (SILENCE, Put(1, 0xB300)),
+        (SILENCE, Put(1, 0xB503)),
+        (SILENCE, Put(1, 0xBB00)),
+        (SILENCE, Put(3, 0xA100)),
+    ];
+    plays(&rt, (0, 3), &records, 0, &[&visits])
+}
+
+/// The machine goes on, and then its table has these entries.
+fn has_after<R: Abort>(rt: &R, machine: &mut Machine, moments: &[Moment], wanted: &[(u8, u32)]) {
+    goes_on(rt, machine, &[moments]);
+    are_pairs(rt, machine.table().entries(), wanted);
+}
+
+/// The first of two visits hears another address than the reserved one: it is enrolled as it was heard. The second is
+/// given its own.
+#[test]
+fn visits_enrol_what_they_hear(rt: HostRuntime) -> Result<(), Fail> {
+    let records = [
+        Reserve(3, 0x000003),
+        Reserve(1, 0xABCDEF),
+        Reserve(0, 0x000001),
+        Enrol(0, 0x000001),
+    ];
+    let first = [
+        (Input::Start, Put(3, 0xB1AB)),
+        (SILENCE, Put(1, 0xB3CD)),
+        (SILENCE, Put(1, 0xB5EF)),
+        (SILENCE, Put(1, 0xBB00)),
+        (byte(0x0B), Put(1, 0xAB00)),
+        (SILENCE, Commit(Enrol(5, 0xABCDEF))),
+    ];
+    let second = [
+        (SILENCE, Put(1, 0xB300)),
+        (SILENCE, Put(1, 0xB503)),
+        (SILENCE, Put(1, 0xBB00)),
+        (YES, Put(1, 0xB707)),
+        (SILENCE, Put(1, 0xBB00)),
+        (byte(0x07), Put(1, 0xAB00)),
+        (SILENCE, Commit(Enrol(3, 0x000003))),
+    ];
+    let [begun, told, opened] = [(0, 0x000001), (5, 0xABCDEF), (3, 0x000003)];
+    let mut machine = machine_of(rt.alloc(), (0, 3), &records)?;
+    has_after(&rt, &mut machine, &first, &[begun]);
+    let committed = [(Input::Committed, Put(3, 0xB100))];
+    has_after(&rt, &mut machine, &committed, &[begun, told]);
+    has_after(&rt, &mut machine, &second, &[begun, told]);
+    let committed = [(Input::Committed, Put(3, 0xA100))];
+    has_after(&rt, &mut machine, &committed, &[begun, told, opened]);
+    Ok(())
+}
+
+/// A visit at the start, with 1 reserved for 123456, hears this address, where another gear is enrolled.
+fn settles<R: Abort + AllocGlobal>(
+    rt: &R,
+    enrolled: Pair,
+    code: u8,
+    wanted: Ordered,
+) -> Result<(), Fail> {
+    let records = [Reserve(1, 0x123456), enrolled];
+    let named = [(byte(code), Put(1, 0xAB00)), (SILENCE, wanted)];
+    plays(rt, (0, 3), &records, 0, &[&VISIT, &named])
+}
+
+#[test]
+fn a_finding_is_settled_against_the_table(rt: HostRuntime) -> Result<(), Fail> {
+    // The table has another number for the address; or nothing of both.
+    settles(&rt, Enrol(0, 0x654321), 0x01, Halt(Fault::Conflict))?;
+    settles(&rt, Enrol(5, 0x654321), 0x0B, Halt(Fault::Conflict))?;
+    settles(&rt, Enrol(5, 0x654321), 0x07, Commit(Enrol(3, 0x123456)))
+}
+
+/// With its own address the search goes on. With another one the machine halts.
+#[test]
+fn a_gear_that_is_enrolled_is_found_again(rt: HostRuntime) -> Result<(), Fail> {
+    let records = [Enrol(2, 0x000000)];
+    let own = [(byte(0x05), Put(1, 0xAB00)), (SILENCE, Put(3, 0xB1FF))];
+    plays(&rt, (0, 3), &records, SEARCHED, &[&FOUND, &own])?;
+    let another = [
+        (byte(0x03), Put(1, 0xAB00)),
+        (SILENCE, Halt(Fault::Conflict)),
+        (SILENCE, NotDue),
+        (Input::Start, NotDue),
+    ];
+    plays(&rt, (0, 3), &records, SEARCHED, &[&FOUND, &another])
+}
+
+/// An opening, and sixteen times a search of 25 probes and a visit, 104 frames. A silent visit of the start does not count.
+#[test]
+fn sixteen_silent_searches_give_up(rt: HostRuntime) -> Result<(), Fail> {
+    let close = [(SILENCE, Put(3, 0xA100)), (SILENCE, Done(End::GaveUp))];
+    plays(&rt, (0, 3), &[], 5 + 16 * 104, &[&close])?;
+    let records = [Reserve(0, 0x123456)];
+    plays(&rt, (0, 3), &records, 4 + 5 + 16 * 104, &[&close])
+}
+
+#[test]
+fn refusals_have_numbers(rt: HostRuntime) -> Result<(), Fail> {
+    let machine = machine_of(rt.alloc(), (0, 3), &[Enrol(2, 0x123456)])?;
+    same(&rt, &machine.id(), &0);
+    are_pairs(&rt, machine.table().entries(), &[(2, 0x123456)]);
+    let numbers = [StepError::NotDue.number(), MachineError::NoMemory.number()];
+    same(&rt, &numbers, &[1, 2]);
+    Ok(())
+}

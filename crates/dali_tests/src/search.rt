@@ -1,0 +1,70 @@
+//! The search for the least random address.
+
+use super::values::{random, same};
+use dali_search::{Search, Step};
+use std::process::Abort;
+use std::test::Fail;
+
+/// What a search over a set of numbers ends with, after how many probes.
+fn end_of(members: &[u32]) -> Option<(Step, usize)> {
+    let mut search = Search::new();
+    for probes in 1..30 {
+        let probe = search.probe().value();
+        let step = search.answer(members.iter().any(|member| *member <= probe));
+        if step != Step::Again {
+            return Some((step, probes));
+        }
+    }
+    None
+}
+
+/// A search over 0xFFFFFE and this number finds the number, by so many probes.
+fn finds<R: Abort>(rt: &R, number: u32, probes: usize) -> Result<(), Fail> {
+    let found = Step::Found(random(number)?);
+    same(rt, &end_of(&[0xFFFFFE, number]), &Some((found, probes)));
+    Ok(())
+}
+
+#[test]
+fn searches_end_with_the_least_member(rt: HostRuntime) -> Result<(), Fail> {
+    finds(&rt, 0x000000, 25)?;
+    finds(&rt, 0x000001, 25)?;
+    finds(&rt, 0x123456, 25)?;
+    finds(&rt, 0x7FFFFF, 25)?;
+    finds(&rt, 0x800000, 25)?;
+    finds(&rt, 0xFFFFFD, 25)?;
+    finds(&rt, 0xFFFFFE, 24)
+}
+
+#[test]
+fn a_search_over_nobody_has_one_probe(rt: HostRuntime) {
+    same(&rt, &end_of(&[]), &Some((Step::Nobody, 1)));
+}
+
+/// The search asks these numbers, each with its answer.
+fn asks<R: Abort>(rt: &R, search: &mut Search, probes: &[(u32, bool)], wanted: Step) {
+    for (probe, yes) in probes {
+        same(rt, &search.probe().value(), probe);
+        same(rt, &search.answer(*yes), &wanted);
+    }
+}
+
+#[test]
+fn probes_halve_what_is_left(rt: HostRuntime) {
+    let probes = [
+        (0xFFFFFE, true),
+        (0x7FFFFF, false),
+        (0xBFFFFF, true),
+        (0x9FFFFF, true),
+        (0x8FFFFF, false),
+        (0x97FFFF, false),
+        (0x9BFFFF, true),
+    ];
+    asks(&rt, &mut Search::new(), &probes, Step::Again);
+}
+
+#[test]
+fn an_end_comes_again(rt: HostRuntime) {
+    let probes = [(0xFFFFFE, false), (0xFFFFFE, true), (0xFFFFFE, false)];
+    asks(&rt, &mut Search::new(), &probes, Step::Nobody);
+}

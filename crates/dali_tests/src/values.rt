@@ -1,0 +1,125 @@
+//! Values by their numbers, and the one assertion that compares two of them.
+//!
+//! Orders and records are compared by their numbers, and frames are told by theirs, so that a test has few calls that may fail.
+
+use dali_controller::{End, Fault, Order};
+use dali_frame::{Forward, Random24, Short};
+use dali_script::{Block, Kept, Record};
+use std::alloc::Global;
+use std::fmt::Debug;
+use std::process::Abort;
+use std::test::Fail;
+
+/// What a call answered is what was wanted.
+pub fn same<T: PartialEq + Debug>(rt: &impl Abort, was: &T, wanted: &T) {
+    assert_eq!(rt; was, wanted);
+}
+
+pub fn short(number: u8) -> Result<Short, Fail> {
+    Ok(Short::of(number).ok_or("a short address")?)
+}
+
+pub fn random(number: u32) -> Result<Random24, Fail> {
+    Ok(Random24::of(number).ok_or("a random address")?)
+}
+
+/// The frame of these two bytes.
+pub fn forward(bytes: u16) -> Forward {
+    let [address_byte, opcode_byte] = bytes.to_be_bytes();
+    Forward {
+        address_byte,
+        opcode_byte,
+    }
+}
+
+/// The two bytes of a frame.
+pub fn bytes_of(frame: Forward) -> u16 {
+    u16::from_be_bytes([frame.address_byte, frame.opcode_byte])
+}
+
+/// The frame of four digits.
+pub fn frame(text: &[u8]) -> Result<Forward, Fail> {
+    Ok(Forward::read_hex(text)?)
+}
+
+pub fn block(first: u8, last: u8) -> Result<Block, Fail> {
+    Ok(Block {
+        first: short(first)?,
+        last: short(last)?,
+    })
+}
+
+/// A record, by the numbers of its addresses.
+#[derive(Clone, Copy, Debug, PartialEq, Eq)]
+pub enum Pair {
+    Reserve(u8, u32),
+    Enrol(u8, u32),
+}
+
+impl Pair {
+    pub fn record(self) -> Result<Record, Fail> {
+        match self {
+            Pair::Reserve(address, number) => {
+                Ok(Record::Reserve(short(address)?, random(number)?))
+            }
+            Pair::Enrol(address, number) => Ok(Record::Enrol(short(address)?, random(number)?)),
+        }
+    }
+
+    pub fn of(record: Record) -> Pair {
+        match record {
+            Record::Reserve(address, number) => Pair::Reserve(address.number(), number.value()),
+            Record::Enrol(address, number) => Pair::Enrol(address.number(), number.value()),
+        }
+    }
+}
+
+/// Adds a record that must fit.
+fn add(kept: &mut Kept, pair: Pair) -> Result<(), Fail> {
+    let added = pair.record()?;
+    if !kept.fits(&added) {
+        return Err(Fail::from("a record that fits"));
+    }
+    kept.add(added)?;
+    Ok(())
+}
+
+/// The records of a controller with this block.
+pub fn kept_of(alloc: Global, bounds: (u8, u8), records: &[Pair]) -> Result<Kept, Fail> {
+    let mut kept = Kept::new(alloc, block(bounds.0, bounds.1)?)?;
+    for pair in records {
+        add(&mut kept, *pair)?;
+    }
+    Ok(kept)
+}
+
+/// An order, by its numbers.
+#[derive(Clone, Copy, Debug, PartialEq, Eq)]
+pub enum Ordered {
+    /// A frame, at a priority.
+    Put(u8, u16),
+    Commit(Pair),
+    Done(End),
+    Halt(Fault),
+    /// None: the input was not due.
+    NotDue,
+}
+
+impl Ordered {
+    pub fn of(order: Order) -> Ordered {
+        match order {
+            Order::Put(priority, frame) => Ordered::Put(priority.number(), bytes_of(frame)),
+            Order::Commit(record) => Ordered::Commit(Pair::of(record)),
+            Order::Done(end) => Ordered::Done(end),
+            Order::Halt(fault) => Ordered::Halt(fault),
+        }
+    }
+}
+
+/// These pairs of a short and a random address are these numbers, in this order.
+pub fn are_pairs(rt: &impl Abort, pairs: &[(Short, Random24)], wanted: &[(u8, u32)]) {
+    assert!(rt; pairs.len() == wanted.len());
+    for (pair, numbers) in pairs.iter().zip(wanted) {
+        same(rt, &(pair.0.number(), pair.1.value()), numbers);
+    }
+}
