@@ -8,14 +8,20 @@ mod bad_lines;
 #[cfg(test)]
 mod benches;
 #[cfg(test)]
+mod commissionings;
+#[cfg(test)]
 mod every_step;
 #[cfg(test)]
 mod faults;
+#[cfg(test)]
+mod giving_up;
 #[cfg(test)]
 mod plans;
 #[cfg(test)]
 mod refusals;
 #[cfg(test)]
-mod sites;
+mod restarts;
 #[cfg(test)]
 mod story;
+#[cfg(test)]
+mod troubles;

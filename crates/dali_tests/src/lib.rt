@@ -1,5 +1,6 @@
-//! Tests of the parts, from frames to the site, through their public calls: worked values from the standard, and what no contract
-//! says. They prove nothing of the parts, and stand in one crate so that no part is proved once more for its tests.
+//! Tests of the parts, from frames to the site, through their public calls: worked values from the standard, and
+//! what no contract says. They prove nothing of the parts, and stand in one crate so that no part is proved once
+//! more for its tests.
 //!
 //! Whole commissionings are told as scripts, in `dali_stories`.
 #![tactic(auto)]

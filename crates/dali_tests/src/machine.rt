@@ -445,7 +445,8 @@ fn a_gear_that_is_enrolled_is_found_again(rt: HostRuntime) -> Result<(), Fail> {
     plays(&rt, (0, 3), &records, SEARCHED, &[&FOUND, &another])
 }
 
-/// An opening, and sixteen times a search of 25 probes and a visit, 104 frames. A silent visit of the start does not count.
+/// An opening, and sixteen times a search of 25 probes and a visit, 104 frames. A silent visit of the start does
+/// not count.
 #[test]
 fn sixteen_silent_searches_give_up(rt: HostRuntime) -> Result<(), Fail> {
     let close = [(SILENCE, Put(3, 0xA100)), (SILENCE, Done(End::GaveUp))];

@@ -1,8 +1,8 @@
-//! The calls of a site: what a script of `replay` cannot say. Those are small queues and logs, receipts, the log itself,
-//! gifts, and a controller that comes up with other records than its own.
+//! The calls of a site: what a script of `replay` cannot say. Those are small queues and logs, receipts, the log
+//! itself, gifts, and a controller that comes up with other records than its own.
 //!
-//! What a test does with its site stands in a function of its own, which only borrows the site: that is proved in a tenth of the
-//! time.
+//! What a test does with its site stands in a function of its own, which only borrows the site: that is proved in a
+//! tenth of the time.
 
 use super::values::Ordered::{Commit, Done, Halt, Put};
 use super::values::Pair::{Enrol, Reserve};
@@ -277,8 +277,8 @@ fn due_of(site: &SiteState) -> Option<Input> {
     }
 }
 
-/// Controller 0 acts and the bus has its turn, until it orders this. The site is safe all along. Answers how many frames
-/// were sent.
+/// Controller 0 acts and the bus has its turn, until it orders this. The site is safe all along. Answers how many
+/// frames were sent.
 fn run_until(site: &mut SiteState, wanted: Ordered) -> Option<u32> {
     let mut frames = 0u32;
     for _ in 0..1000 {

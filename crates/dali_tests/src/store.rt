@@ -21,8 +21,8 @@ fn read_and_commit<K: Keep>(
     ensures sound { K.is_sound keep.old → K.is_up keep.new → K.is_sound keep.new }
     ensures list { K.is_sound keep.old → K.is_up keep.new → (xs : List Record) → K.holds keep.old xs
         → K.holds keep.new xs ⊎ K.holds keep.new (xs ++ added ∷ []) }
-    ensures committed { IfOk result (λ answer. OnOk answer (K.is_sound keep.old → K.is_up keep.new → (xs : List Record) → K.holds keep.old xs
-        → K.holds keep.new (xs ++ added ∷ []))) }
+    ensures committed { IfOk result (λ answer. OnOk answer (K.is_sound keep.old → K.is_up keep.new
+        → (xs : List Record) → K.holds keep.old xs → K.holds keep.new (xs ++ added ∷ []))) }
     ensures read { IfOk result (λ answer. OnOk answer (K.must_read keep.new ≡ false)) }
 {
     let kept = keep.read(alloc)?;

@@ -1,7 +1,7 @@
 //! The transactions that a controller may send, position by position.
 //!
-//! A trace is written as frames, each with what was heard after it where that is not silence: `B10A B3BC B5DE BB00=09`. A byte is
-//! two digits, and `??` is a damaged answer.
+//! A trace is written as frames, each with what was heard after it where that is not silence: `B10A B3BC B5DE
+//! BB00=09`. A byte is two digits, and `??` is a damaged answer.
 
 use super::values::Pair::Reserve;
 use super::values::{frame, kept_of, random, same, short};

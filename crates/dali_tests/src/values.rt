@@ -1,6 +1,7 @@
 //! Values by their numbers, and the one assertion that compares two of them.
 //!
-//! Orders and records are compared by their numbers, and frames are told by theirs, so that a test has few calls that may fail.
+//! Orders and records are compared by their numbers, and frames are told by theirs, so that a test has few calls
+//! that may fail.
 
 use dali_controller::{End, Fault, Order};
 use dali_frame::{Forward, Random24, Short};

@@ -1,0 +1,192 @@
+//! When a controller gives up: transactions that are lost and searches that lead to nobody, in a row.
+
+use super::story::{plays, plays_parts};
+use std::test::Fail;
+
+#[test]
+fn the_eighth_destroyed_frame_ends_the_commissioning(rt: HostRuntime) -> Result<(), Fail> {
+    plays(
+        &rt,
+        "site 1 0-3
+         draws
+         go 0 > 0: put 3 A100
+         pump destroyed - > 0: destroyed A100
+         go 0 > 0: put 3 A100
+         pump destroyed - > 0: destroyed A100
+         go 0 > 0: put 3 A100
+         pump destroyed - > 0: destroyed A100
+         go 0 > 0: put 3 A100
+         pump destroyed - > 0: destroyed A100
+         go 0 > 0: put 3 A100
+         pump destroyed - > 0: destroyed A100
+         go 0 > 0: put 3 A100
+         pump destroyed - > 0: destroyed A100
+         go 0 > 0: put 3 A100
+         pump destroyed - > 0: destroyed A100
+         go 0 > 0: put 3 A100
+         pump destroyed - > 0: destroyed A100
+         go 0 > 0: done gave-up",
+    )
+}
+
+#[test]
+fn an_answer_by_noise_sends_the_search_where_nobody_is(rt: HostRuntime) -> Result<(), Fail> {
+    // On an empty bus the damaged answer to the first COMPARE is YES: the search ends at FFFFFE, and the visit
+    // is silent.
+    plays(
+        &rt,
+        "site 1 0-3
+         draws 123456
+         off 0 > ok
+         run 8 > ran 8
+         go 0 > 0: put 1 A900
+         pump noise > 0: sent A900 damaged
+         run 1000 > 0: done all-found
+         > ran 101",
+    )
+}
+
+#[test]
+fn a_second_query_without_answer_is_a_silent_search(rt: HostRuntime) -> Result<(), Fail> {
+    // The gear has its address, which the next visit hears.
+    plays(
+        &rt,
+        "site 1 0-3
+         draws 123456
+         run 115 > 0: commit reserve 0 123456
+         > ran 114
+         go 0 > 0: put 1 BB00
+         pump lost > 0: sent BB00 silence
+         go 0 > 0: put 3 B1FF
+         run 1000 > 0: commit enrol 0 123456
+         > 0: done all-found
+         > ran 110",
+    )
+}
+
+/// A search where nobody is: noise answers its first COMPARE, and it ends at FFFFFE.
+const SILENT_SEARCH: &str = "run 3 > ran 3
+                             go 0 > 0: put 1 A900
+                             pump noise > 0: sent A900 damaged
+                             run 96 > ran 96";
+
+#[test]
+fn the_sixteenth_silent_search_gives_up(rt: HostRuntime) -> Result<(), Fail> {
+    plays_parts(
+        &rt,
+        &[
+            (
+                "site 1 0-3
+                 draws
+                 off 0 > ok
+                 run 5 > ran 5",
+                1,
+            ),
+            (SILENT_SEARCH, 16),
+            (
+                "run 1000 > 0: done gave-up
+                 > ran 1",
+                1,
+            ),
+        ],
+    )
+}
+
+#[test]
+fn visits_of_the_start_are_no_silent_searches(rt: HostRuntime) -> Result<(), Fail> {
+    // The restarted controller visits 123456, for which it has reserved an address, and hears nobody. Were that visit
+    // counted, the commissioning would give up at the fifteenth silent search after it.
+    plays_parts(
+        &rt,
+        &[
+            (
+                "site 1 0-3
+                 draws 123456
+                 run 110 > 0: commit reserve 0 123456
+                 > ran 109
+                 store 0 > ok
+                 off 0 > ok
+                 down 0 > ok
+                 up 0 > ok
+                 run 9 > ran 9",
+                1,
+            ),
+            (SILENT_SEARCH, 16),
+            (
+                "run 1000 > 0: done gave-up
+                 > ran 1",
+                1,
+            ),
+        ],
+    )
+}
+
+/// A search whose answer to QUERY SHORT ADDRESS is lost.
+const UNHEARD_SEARCH: &str = "run 103 > ran 103
+                              go 0 > 0: put 1 BB00
+                              pump lost > 0: sent BB00 silence";
+
+#[test]
+fn silent_searches_are_counted_anew_after_a_find(rt: HostRuntime) -> Result<(), Fail> {
+    // Fifteen of them before each of two gear is enrolled.
+    plays_parts(
+        &rt,
+        &[
+            (
+                "site 2 0-3
+                 draws 123456 654321
+                 run 5 > ran 5",
+                1,
+            ),
+            (UNHEARD_SEARCH, 15),
+            (
+                "run 113 > 0: commit reserve 0 123456
+                 > 0: commit enrol 0 123456
+                 > ran 111",
+                1,
+            ),
+            (UNHEARD_SEARCH, 15),
+            (
+                "run 1000 > 0: commit reserve 1 654321
+                 > 0: commit enrol 1 654321
+                 > 0: done all-found
+                 > ran 116",
+                1,
+            ),
+        ],
+    )
+}
+
+#[test]
+fn tries_are_counted_anew_after_a_transaction(rt: HostRuntime) -> Result<(), Fail> {
+    // Seven destroyed frames before the opening and seven before the first probe. Were the tries not counted
+    // anew, the first of the second seven would end the commissioning.
+    plays_parts(
+        &rt,
+        &[
+            (
+                "site 1 0-3
+                 draws 123456",
+                1,
+            ),
+            (
+                "go 0 > 0: put 3 A100
+                 pump destroyed - > 0: destroyed A100",
+                7,
+            ),
+            ("run 5 > ran 5", 1),
+            (
+                "go 0 > 0: put 3 B1FF
+                 pump destroyed - > 0: destroyed B1FF",
+                7,
+            ),
+            (
+                "run 1000 > 0: commit reserve 0 123456
+                 > 0: commit enrol 0 123456
+                 > 0: done all-found
+                 > ran 116",
+                1,
+            ),
+        ],
+    )
+}

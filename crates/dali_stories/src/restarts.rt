@@ -1,0 +1,149 @@
+//! Controllers that go down and come up, and records that are kept, or not, before they do.
+
+use super::story::plays;
+use std::test::Fail;
+
+#[test]
+fn a_commit_before_a_restart_is_gone_on_from(rt: HostRuntime) -> Result<(), Fail> {
+    // The record is in the store, and the controller is not told before it goes down.
+    plays(
+        &rt,
+        "site 1 0-3
+         draws 123456 654321
+         run 110 > 0: commit reserve 0 123456
+         > ran 109
+         store 0 > ok
+         down 0 > ok
+         up 0 > ok
+         run 1000 > 0: commit enrol 0 123456
+         > 0: done all-found
+         > ran 17
+         show > gear 0 on disabled 123456 123456 0
+         > table 0: 0=123456",
+    )
+}
+
+#[test]
+fn a_controller_that_comes_up_is_at_its_start(rt: HostRuntime) -> Result<(), Fail> {
+    plays(
+        &rt,
+        "site 1 0-3
+         draws 123456
+         store 0 > refused 3 NotDue
+         go 4 > refused 1 UnknownController
+         down 0 > ok
+         go 0 > refused 2 ControllerDown
+         up 0 > ok
+         go 0 > 0: put 3 A100",
+    )
+}
+
+#[test]
+fn a_failed_commit_halts_and_a_restart_begins_anew(rt: HostRuntime) -> Result<(), Fail> {
+    // The gear, which has no address yet, draws 654321 at the second opening.
+    plays(
+        &rt,
+        "site 1 0-3
+         draws 123456 654321
+         run 110 > 0: commit reserve 0 123456
+         > ran 109
+         fail 0 > 0: halt store
+         down 0 > ok
+         up 0 > ok
+         run 1000 > 0: commit reserve 0 654321
+         > 0: commit enrol 0 654321
+         > 0: done all-found
+         > ran 121",
+    )
+}
+
+#[test]
+fn a_record_that_was_kept_is_gone_on_from_after_a_halt(rt: HostRuntime) -> Result<(), Fail> {
+    plays(
+        &rt,
+        "site 1 0-3
+         draws 123456
+         run 110 > 0: commit reserve 0 123456
+         > ran 109
+         store 0 > ok
+         fail 0 > 0: halt store
+         down 0 > ok
+         up 0 > ok
+         run 1000 > 0: commit enrol 0 123456
+         > 0: done all-found
+         > ran 17",
+    )
+}
+
+#[test]
+fn a_table_has_an_entry_once_its_controller_is_told(rt: HostRuntime) -> Result<(), Fail> {
+    // The enrolment is in the store before the controller goes down, and in the table when it comes up.
+    plays(
+        &rt,
+        "site 1 0-3
+         draws 123456
+         run 118 > 0: commit reserve 0 123456
+         > 0: commit enrol 0 123456
+         > ran 116
+         show > gear 0 on withdrawn 123456 123456 0
+         > table 0:
+         store 0 > ok
+         show > gear 0 on withdrawn 123456 123456 0
+         > table 0:
+         down 0 > ok
+         show > gear 0 on withdrawn 123456 123456 0
+         > table 0:
+         up 0 > ok
+         show > gear 0 on withdrawn 123456 123456 0
+         > table 0: 0=123456
+         run 1000 > 0: done all-found
+         > ran 10
+         show > gear 0 on disabled 123456 123456 0
+         > table 0: 0=123456",
+    )
+}
+
+#[test]
+fn a_frame_that_waits_when_its_controller_goes_down_is_never_sent(
+    rt: HostRuntime,
+) -> Result<(), Fail> {
+    plays(
+        &rt,
+        "site 1 0-3 4-7
+         draws 123456 654321
+         go 0 > 0: put 3 A100
+         go 1 > 1: put 3 A100
+         down 0 > ok
+         pump > 1: sent A100 silence
+         arc 1 FE80 > 1: put 2 FE80
+         down 1 > ok
+         pump > idle
+         up 0 > ok
+         go 0 > 0: put 3 A100
+         pump > 0: sent A100 silence
+         down 0 > ok
+         up 1 > ok
+         go 1 > 1: put 3 A100
+         go 1 > refused 3 NotDue
+         pump > 1: sent A100 silence",
+    )
+}
+
+#[test]
+fn a_controller_that_goes_down_gives_up_the_bus(rt: HostRuntime) -> Result<(), Fail> {
+    plays(
+        &rt,
+        "site 1 0-3 4-7
+         draws 123456 654321
+         go 0 > 0: put 3 A100
+         pump > 0: sent A100 silence
+         go 1 > 1: put 3 A100
+         pump > idle
+         go 0 > 0: put 1 A5FF
+         down 0 > ok
+         pump > 1: sent A100 silence
+         lapse > lapse 1
+         up 0 > ok
+         lapse > lapse -",
+    )
+}
