@@ -32,7 +32,7 @@ pub enum ReplayFault {
     #[error("out of memory")]
     Memory,
     /// The input cannot be read, or is longer than 1,048,576 bytes. Nothing is written.
-    #[error("the input cannot be read")]
+    #[error("the input cannot be read, or is longer than 1,048,576 bytes")]
     Read,
     /// The output cannot be written.
     #[error("the output cannot be written")]

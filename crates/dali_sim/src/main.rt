@@ -42,20 +42,33 @@ fn replay_streams<R: Print + Input + AllocGlobal>(rt: &R) -> Result<(), ReplayFa
     }
 }
 
+/// The words of the command line, or `None` where one of them is not UTF-8.
+fn words<R: AllocGlobal + Env>(rt: &R) -> io::Result<Option<Vec<String>>> {
+    match std::env::args(rt) {
+        Ok(words) => Ok(Some(words.collect(rt.alloc())?)),
+        Err(error) if error.kind() == io::ErrorKind::InvalidData => Ok(None),
+        Err(error) => Err(error),
+    }
+}
+
+/// What was said on standard error changes no status, also where it could not be said.
 fn run<R: Print + Eprint + Input + AllocGlobal + Env>(rt: &R) -> io::Result<ExitCode> {
-    let words: Vec<String> = std::env::args(rt)?.collect(rt.alloc())?;
+    let Some(words) = words(rt)? else {
+        let _ = eprintln!(rt; "error: an argument is not UTF-8");
+        return Ok(ExitCode::from(BAD_COMMAND_LINE));
+    };
     if let Err(error) = command(rt.alloc())?.try_get_matches_from(words.as_slice()) {
-        error.print(rt)?;
+        let printed = error.print(rt);
         return Ok(match error.kind() {
-            ErrorKind::DisplayHelp => ExitCode::SUCCESS,
-            ErrorKind::OutOfMemory => ExitCode::from(REFUSED),
+            ErrorKind::DisplayHelp if printed.is_ok() => ExitCode::SUCCESS,
+            ErrorKind::DisplayHelp | ErrorKind::OutOfMemory => ExitCode::from(REFUSED),
             _ => ExitCode::from(BAD_COMMAND_LINE),
         });
     }
     match replay_streams(rt) {
         Ok(()) => Ok(ExitCode::SUCCESS),
         Err(fault) => {
-            eprintln!(rt; "replay: {fault}")?;
+            let _ = eprintln!(rt; "replay: {fault}");
             Ok(ExitCode::from(fault.status()))
         }
     }

@@ -42,7 +42,8 @@ fn refused_plans_have_texts(rt: HostRuntime) -> Result<(), Fail> {
 fn faults_have_texts_and_statuses(rt: HostRuntime) -> Result<(), Fail> {
     says(&rt, ReplayFault::BadLine(3), "line 3: bad line", 1)?;
     says(&rt, ReplayFault::Memory, "out of memory", 3)?;
-    says(&rt, ReplayFault::Read, "the input cannot be read", 3)?;
+    let read = "the input cannot be read, or is longer than 1,048,576 bytes";
+    says(&rt, ReplayFault::Read, read, 3)?;
     says(&rt, ReplayFault::Write, "the output cannot be written", 3)
 }
 
