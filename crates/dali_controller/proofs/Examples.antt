@@ -5,12 +5,13 @@ use Rattle.dali_special.specs.Command.{frame}
 use Rattle.dali_script.specs.declared.stage.Stage.TheVariants.{Probed, Inconclusive, Withdrawn}
 use Rattle.dali_script.specs.Records.{Records}
 use Rattle.dali_script.specs.Stages.{stage_of}
-use Rattle.dali_controller.specs.declared.orders.Input.{Input}
-use Rattle.dali_controller.specs.declared.orders.Input.TheVariants as input
-use Rattle.dali_controller.specs.declared.orders.Order.TheVariants.{Put, Done}
-use Rattle.dali_controller.specs.declared.orders.End.{End}
-use Rattle.dali_controller.specs.declared.orders.End.TheVariants.{AllFound}
-use Rattle.dali_controller.specs.Progress.{Progress, at_first, due_after, accepts, lost, silent_after}
+use Rattle.dali_orders.specs.declared.orders.Input.{Input}
+use Rattle.dali_orders.specs.declared.orders.Input.TheVariants as input
+use Rattle.dali_orders.specs.declared.orders.Order.TheVariants.{Put, Done}
+use Rattle.dali_orders.specs.declared.orders.End.{End}
+use Rattle.dali_orders.specs.declared.orders.End.TheVariants.{AllFound}
+use Rattle.dali_orders.specs.Due.{due_after, accepts}
+use Rattle.dali_controller.specs.Progress.{Progress, at_first, lost, silent_after}
 use Rattle.dali_controller.specs.Orders.{closing_by}
 
 -- WORKED EXAMPLES of the definitions.

@@ -9,13 +9,11 @@ use Rattle.dali_script.specs.declared.stage.Stage.TheVariants.{Opened, Inconclus
 use Rattle.dali_script.specs.Records.{Assignment, Records, with_record}
 use Rattle.dali_script.specs.Findings.{later, finding_of}
 use Rattle.dali_script.specs.Stages.{stage_of, may_follow}
-use Rattle.dali_controller.specs.declared.orders.Input.{Input}
-use Rattle.dali_controller.specs.declared.orders.Input.TheVariants as input
-use Rattle.dali_controller.specs.declared.orders.Order.{Order}
-use Rattle.dali_controller.specs.declared.orders.Order.TheVariants.{Put, Commit, Done, Halt}
-use Rattle.dali_controller.specs.declared.orders.End.{End}
-use Rattle.dali_controller.specs.declared.orders.Due.{Due}
-use Rattle.dali_controller.specs.declared.orders.Due.TheVariants as due
+use Rattle.dali_orders.specs.declared.orders.Input.{Input}
+use Rattle.dali_orders.specs.declared.orders.Input.TheVariants as input
+use Rattle.dali_orders.specs.declared.orders.Order.{Order}
+use Rattle.dali_orders.specs.declared.orders.End.{End}
+use Rattle.dali_orders.specs.Due.{frame_put, record_ordered}
 
 -- What contracts see of a machine: its number; what it keeps; the running transaction; its last finding; its last order;
 -- how often the transaction was lost; how many searches in a row led to no gear; whether an opening was complete since the
@@ -38,33 +36,6 @@ at_first id k = record { id = id; kept = k; trace = []; finding = None; last = N
 -- the table is the enrolments
 abbrev pub roster_of : Records → Roster
 roster_of k = record { block = k.block; entries = k.enrolled }
-
--- WHAT IS DUE, by the last order.
-abbrev pub due_after : Option Order → Due
-due_after None = due.Start
-due_after (Some (Put p f)) = due.Bus
-due_after (Some (Commit x)) = due.Store
-due_after (Some (Done e)) = due.Nothing
-due_after (Some (Halt w)) = due.Nothing
-
--- the inputs that are accepted
-abbrev pub accepts : Due → Input → Bool
-accepts due.Start input.Start = true
-accepts due.Bus (input.Heard h) = true
-accepts due.Bus input.Destroyed = true
-accepts due.Bus input.Lapsed = true
-accepts due.Store input.Committed = true
-accepts due.Store input.CommitFailed = true
-accepts _ _ = false
-
--- the frame or the record that is outstanding
-abbrev pub frame_put : Option Order → Option Forward
-frame_put (Some (Put p f)) = Some f
-frame_put _ = None
-
-abbrev pub record_ordered : Option Order → Option Record
-record_ordered (Some (Commit x)) = Some x
-record_ordered _ = None
 
 -- WHAT AN INPUT TELLS.
 

@@ -7,11 +7,10 @@ mod entries;
 mod error;
 mod machine;
 mod moments;
-mod orders;
 mod purpose;
 mod unfinished;
 mod work;
 
+pub use dali_orders::{Due, End, Fault, Input, Order};
 pub use error::{MachineError, StepError};
 pub use machine::Machine;
-pub use orders::{Due, End, Fault, Input, Order};

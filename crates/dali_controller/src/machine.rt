@@ -1,10 +1,12 @@
-ghost use Rattle.std.specs.Prelude.{◌≡◌, ◌↔◌, true, IsOk, IfOk, OnErr};
-ghost use Rattle.dali_controller.specs.Progress.{at_first, due_after, accepts, roster_of};
+ghost use Rattle.std.specs.Prelude.{◌≡◌, ◌↔◌, true, Some, IsOk, IfOk, OnErr, IfSome};
+ghost use Rattle.dali_script.specs.Records.{Fits};
+ghost use Rattle.dali_orders.specs.Due.{due_after, accepts, record_ordered};
+ghost use Rattle.dali_controller.specs.Progress.{at_first, roster_of};
 ghost use Rattle.dali_controller.specs.Orders.{IsAnswered, after};
 
 use crate::entries::table_of;
 use crate::error::{MachineError, StepError};
-use crate::orders::{Due, Input, Order};
+use dali_orders::{Due, Input, Order};
 use crate::purpose::Purpose;
 use crate::work::Work;
 use dali_enrol::Table;
@@ -79,6 +81,8 @@ impl Machine {
         ensures not_due { OnErr result (self.new ≡ self.old) }
         ensures order { IfOk result (λ order. IsAnswered self.old input order) }
         ensures state { IfOk result (λ order. self.new ≡ after self.old input order) }
+        ensures block { self.new.kept.block ≡ self.old.kept.block }
+        ensures fits { IfOk result (λ order. IfSome (record_ordered (Some order)) (Fits self.old.kept.block)) }
     {
         match (self.work.last, input) {
             (None, Input::Start) => Ok(self.work.start()),

@@ -5,12 +5,13 @@ ghost use Rattle.dali_script.specs.declared.stage.Stage.TheVariants as stage;
 ghost use Rattle.dali_script.specs.Records.{Fits, IsFresh, HasAddress, HasNumber, MASK24, with_record};
 ghost use Rattle.dali_enrol.specs.Roster.{with_entry};
 ghost use Rattle.dali_search.specs.declared.step.Step.TheVariants as search;
-ghost use Rattle.dali_controller.specs.declared.orders.Input.TheVariants as input;
-ghost use Rattle.dali_controller.specs.declared.orders.Order.TheVariants as order;
-ghost use Rattle.dali_controller.specs.Progress.{lost, frame_put, record_ordered, roster_of};
+ghost use Rattle.dali_orders.specs.declared.orders.Input.TheVariants as input;
+ghost use Rattle.dali_orders.specs.declared.orders.Order.TheVariants as order;
+ghost use Rattle.dali_orders.specs.Due.{frame_put, record_ordered};
+ghost use Rattle.dali_controller.specs.Progress.{lost, roster_of};
 
 use crate::entries::enter;
-use crate::orders::{End, Fault, Order};
+use dali_orders::{End, Fault, Order};
 use crate::purpose::Purpose;
 use crate::unfinished::next_unfinished;
 use crate::work::Work;

@@ -1,6 +1,6 @@
 ghost use Rattle.std.specs.Prelude.{◌≡◌};
 
-use crate::orders::End;
+use dali_orders::End;
 use dali_frame::SearchAddress;
 use dali_special::Command;
 

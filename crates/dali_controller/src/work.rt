@@ -3,13 +3,14 @@ ghost use Rattle.dali_script.specs.declared.stage.Stage.TheVariants.{Free};
 ghost use Rattle.dali_script.specs.Findings.{later, finding_of};
 ghost use Rattle.dali_script.specs.Records.{Fits, IsFresh};
 ghost use Rattle.dali_script.specs.Stages.{stage_of};
-ghost use Rattle.dali_controller.specs.declared.orders.Input.TheVariants as input;
-ghost use Rattle.dali_controller.specs.declared.orders.Order.TheVariants as order;
+ghost use Rattle.dali_orders.specs.declared.orders.Input.TheVariants as input;
+ghost use Rattle.dali_orders.specs.declared.orders.Order.TheVariants as order;
 ghost use Rattle.dali_controller.specs.declared.purpose.Purpose.TheVariants as purpose;
-ghost use Rattle.dali_controller.specs.Progress.{told, frame_put, is_complete, tries_after, silent_after, opened_after, roster_of};
+ghost use Rattle.dali_orders.specs.Due.{frame_put};
+ghost use Rattle.dali_controller.specs.Progress.{told, is_complete, tries_after, silent_after, opened_after, roster_of};
 ghost use Rattle.dali_controller.specs.Orders.{ordered, FIRST, LATER};
 
-use crate::orders::{End, Fault, Order};
+use dali_orders::{End, Fault, Order};
 use crate::purpose::Purpose;
 use dali_enrol::Table;
 use dali_frame::{Answer, Forward, Priority, Random24, SearchAddress, Short};

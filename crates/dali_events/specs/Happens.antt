@@ -15,10 +15,10 @@ use Rattle.dali_script.specs.declared.records.Record.{Record}
 use Rattle.dali_script.specs.Records.{Records, with_record}
 use Rattle.dali_script.specs.Findings.{searched, found_by, later}
 use Rattle.dali_script.specs.Stages.{stage_of, may_follow}
-use Rattle.dali_controller.specs.declared.orders.Input.{Input}
-use Rattle.dali_controller.specs.declared.orders.Input.TheVariants as input
-use Rattle.dali_controller.specs.declared.orders.Order.{Order}
-use Rattle.dali_controller.specs.declared.orders.Order.TheVariants.{Put, Commit}
+use Rattle.dali_orders.specs.declared.orders.Input.{Input}
+use Rattle.dali_orders.specs.declared.orders.Input.TheVariants as input
+use Rattle.dali_orders.specs.declared.orders.Order.{Order}
+use Rattle.dali_orders.specs.declared.orders.Order.TheVariants.{Put, Commit}
 use Rattle.dali_events.specs.declared.event.Event.{Event}
 use Rattle.dali_events.specs.declared.event.Event.TheVariants as event
 use Rattle.dali_events.specs.World.{Controller, World, controller_at, changed_gear, changed}

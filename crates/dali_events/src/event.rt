@@ -1,4 +1,4 @@
-use dali_controller::{Input, Order};
+use dali_orders::{Input, Order};
 use dali_frame::{Answer, Forward};
 use dali_gear::GearSet;
 

@@ -1,7 +1,7 @@
 use Rattle.std.specs.Prelude.{◌≡◌, ◌⊎◌, ℕ, zero, suc, ◌+◌, ◌<◌, Bool, true, false, List, [], ◌++◌, length, Option, Some, None, Ok, Err, is_some, ◌||◌, if◌then◌else◌}
-use Rattle.dali_controller.specs.declared.orders.Order.{Order}
-use Rattle.dali_controller.specs.declared.orders.Due.{Due}
-use Rattle.dali_controller.specs.declared.orders.Due.TheVariants as due
+use Rattle.dali_orders.specs.declared.orders.Order.{Order}
+use Rattle.dali_orders.specs.declared.orders.Due.{Due}
+use Rattle.dali_orders.specs.declared.orders.Due.TheVariants as due
 use Rattle.dali_events.specs.World.{Controller}
 use Rattle.dali_standing.specs.Places.{due_of}
 use Rattle.dali_standing.specs.declared.refusal.Refusal.{Refusal}

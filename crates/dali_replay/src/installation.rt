@@ -2,7 +2,7 @@
 
 ghost use Rattle.std.specs.Prelude.{false, ◌≡◌, ◌<◌, ◌≤◌, length, map, slice_index_or, slice_set, Some, IfOk, IfErr, IfSome, MatchOption, IsTrue, ◌↔◌, OnErr, IfNone, is_some};
 ghost use Rattle.dali_script.specs.Records.{Fits, IsFresh};
-ghost use Rattle.dali_controller.specs.Progress.{record_ordered};
+ghost use Rattle.dali_orders.specs.Due.{record_ordered};
 ghost use Rattle.dali_events.specs.World.{gear_at};
 ghost use Rattle.dali_events.specs.declared.event.Event.TheVariants as event;
 ghost use Rattle.dali_standing.specs.Places.{due_of};
@@ -12,7 +12,7 @@ ghost use Rattle.dali_replay.specs.Calls.{Befalls, Requests, Lapses, IsLogFull, 
 ghost use Rattle.dali_standing.specs.declared.refusal.Refusal.TheVariants as refusal;
 ghost use Rattle.dali_replay.specs.Rounds.{has_turn};
 
-use dali_controller::{Due, Input, Order};
+use dali_orders::{Due, Input, Order};
 use dali_frame::{Forward, Random24, Short};
 use dali_gear::Gear;
 use dali_reserve::{Keep, MemoryKeep};

@@ -8,9 +8,9 @@ use Rattle.dali_frame.specs.declared.frames.Forward.{Forward}
 use Rattle.dali_special.specs.Command.{command_of}
 use Rattle.dali_arbiter.specs.declared.request.Request.{Request}
 use Rattle.dali_arbiter.specs.Bus.{Bus, owns, request_of, idle, offered, put_last, freed, first_emptied, lapsed, without_first, taken, next, first_waiting, collision, rival, collided, destroyed, silenced, muted, without_sender}
-use Rattle.dali_controller.specs.declared.orders.Input.{Input}
-use Rattle.dali_controller.specs.declared.orders.Order.{Order}
-use Rattle.dali_controller.specs.declared.orders.Order.TheVariants.{Put, Commit, Done, Halt}
+use Rattle.dali_orders.specs.declared.orders.Input.{Input}
+use Rattle.dali_orders.specs.declared.orders.Order.{Order}
+use Rattle.dali_orders.specs.declared.orders.Order.TheVariants.{Put, Commit, Done, Halt}
 use Rattle.dali_events.specs.Happens.{bus_acted, gives_up, put_after, sent_by, is_arc}
 use Rattle.dali_standing.specs.Places.{Place}
 use Rattle.dali_standing.specs.Settled.{is_scripted, picked, awaited_by, awaited, owners_request, IsServed, AreUp}

@@ -19,10 +19,10 @@ use Rattle.dali_script.specs.Records.{Records}
 use Rattle.dali_script.specs.Scripts.{Lawful, IsFirst}
 use Rattle.dali_script.specs.Stages.{stage_of, may_follow}
 use Rattle.dali_script.proofs.Transactions.{first_by, stage_more, stage_none}
-use Rattle.dali_controller.specs.declared.orders.Input.{Input}
-use Rattle.dali_controller.specs.declared.orders.Input.TheVariants as input
-use Rattle.dali_controller.specs.declared.orders.Order.{Order}
-use Rattle.dali_controller.specs.declared.orders.Order.TheVariants.{Put, Commit, Done, Halt}
+use Rattle.dali_orders.specs.declared.orders.Input.{Input}
+use Rattle.dali_orders.specs.declared.orders.Input.TheVariants as input
+use Rattle.dali_orders.specs.declared.orders.Order.{Order}
+use Rattle.dali_orders.specs.declared.orders.Order.TheVariants.{Put, Commit, Done, Halt}
 use Rattle.dali_controller.specs.Progress.{Progress}
 use Rattle.dali_controller.specs.Orders.{after}
 use Rattle.dali_events.specs.World.{World, Controller}

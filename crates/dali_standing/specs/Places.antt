@@ -5,13 +5,14 @@ use Rattle.dali_script.specs.declared.trace.Entry.{Entry}
 use Rattle.dali_script.specs.declared.records.Record.{Record}
 use Rattle.dali_script.specs.Records.{Records, Fits, IsFresh, without_records}
 use Rattle.dali_script.specs.Findings.{later, finding_of}
-use Rattle.dali_controller.specs.declared.orders.Input.{Input}
-use Rattle.dali_controller.specs.declared.orders.Input.TheVariants as input
-use Rattle.dali_controller.specs.declared.orders.Order.{Order}
-use Rattle.dali_controller.specs.declared.orders.Order.TheVariants.{Put, Commit, Done, Halt}
-use Rattle.dali_controller.specs.declared.orders.Due.{Due}
-use Rattle.dali_controller.specs.declared.orders.Due.TheVariants as due
-use Rattle.dali_controller.specs.Progress.{Progress, at_first, due_after, accepts, told}
+use Rattle.dali_orders.specs.declared.orders.Input.{Input}
+use Rattle.dali_orders.specs.declared.orders.Input.TheVariants as input
+use Rattle.dali_orders.specs.declared.orders.Order.{Order}
+use Rattle.dali_orders.specs.declared.orders.Order.TheVariants.{Put, Commit, Done, Halt}
+use Rattle.dali_orders.specs.declared.orders.Due.{Due}
+use Rattle.dali_orders.specs.declared.orders.Due.TheVariants as due
+use Rattle.dali_orders.specs.Due.{due_after, accepts}
+use Rattle.dali_controller.specs.Progress.{Progress, at_first, told}
 use Rattle.dali_controller.specs.Orders.{IsAnswered, after}
 use Rattle.dali_events.specs.World.{Controller, begun}
 use Rattle.dali_events.specs.Allowed.{HasOutstanding}

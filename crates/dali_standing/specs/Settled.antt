@@ -8,11 +8,12 @@ use Rattle.dali_arbiter.specs.Bus.{Bus, owns, request_of, offer_refusal}
 use Rattle.dali_script.specs.declared.trace.Entry.{Entry}
 use Rattle.dali_script.specs.Scripts.{Lawful, IsFirst}
 use Rattle.dali_script.specs.Stages.{stage_of, may_follow}
-use Rattle.dali_controller.specs.declared.orders.Input.{Input}
-use Rattle.dali_controller.specs.declared.orders.Input.TheVariants as input
-use Rattle.dali_controller.specs.declared.orders.Order.{Order}
-use Rattle.dali_controller.specs.declared.orders.Order.TheVariants.{Put, Commit, Done, Halt}
-use Rattle.dali_controller.specs.Progress.{Progress, frame_put}
+use Rattle.dali_orders.specs.declared.orders.Input.{Input}
+use Rattle.dali_orders.specs.declared.orders.Input.TheVariants as input
+use Rattle.dali_orders.specs.declared.orders.Order.{Order}
+use Rattle.dali_orders.specs.declared.orders.Order.TheVariants.{Put, Commit, Done, Halt}
+use Rattle.dali_orders.specs.Due.{frame_put}
+use Rattle.dali_controller.specs.Progress.{Progress}
 use Rattle.dali_events.specs.World.{Controller}
 use Rattle.dali_events.specs.Happens.{entry, is_arc}
 use Rattle.dali_standing.specs.Places.{Place, trace_of, IsRunning}

@@ -2,9 +2,10 @@ ghost use Rattle.std.specs.Prelude.{◌≡◌, ◌↔◌, ◌++◌, ◌∷◌, [
 ghost use Rattle.dali_special.specs.Command.{command_of};
 ghost use Rattle.dali_script.specs.Findings.{later};
 ghost use Rattle.dali_script.specs.Records.{with_record};
-ghost use Rattle.dali_controller.specs.Progress.{due_after, accepts, frame_put, roster_of};
-ghost use Rattle.dali_controller.specs.declared.orders.Due.TheVariants as due;
-ghost use Rattle.dali_controller.specs.declared.orders.Input.TheVariants as input;
+ghost use Rattle.dali_orders.specs.Due.{due_after, accepts, frame_put};
+ghost use Rattle.dali_controller.specs.Progress.{roster_of};
+ghost use Rattle.dali_orders.specs.declared.orders.Due.TheVariants as due;
+ghost use Rattle.dali_orders.specs.declared.orders.Input.TheVariants as input;
 ghost use Rattle.dali_events.specs.Happens.{told_sent, told_destroyed, told_lapsed, entry, is_arc, outstanding_after};
 ghost use Rattle.dali_events.specs.Allowed.{IsDue, HasOutstanding};
 ghost use Rattle.dali_controller.specs.Orders.{after};
@@ -12,7 +13,8 @@ ghost use Rattle.dali_standing.specs.Places.{due_of};
 ghost use Rattle.dali_standing.specs.Places.{MayAnswer, Waits, kept_told, left_told, MayKeep};
 
 use crate::refusal::Refusal;
-use dali_controller::{Due, Input, Machine, Order};
+use dali_controller::Machine;
+use dali_orders::{Due, Input, Order};
 use dali_enrol::Table;
 use dali_frame::{Answer, Forward, Random24, Short};
 use dali_script::{Block, Kept, Record, Trace};

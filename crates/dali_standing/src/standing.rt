@@ -4,7 +4,8 @@ ghost use Rattle.dali_gear.specs.declared.row.Reach.TheVariants.{Everyone, Only}
 ghost use Rattle.dali_gear.specs.ControlGear.{expired, quieted};
 ghost use Rattle.dali_gear.specs.Row.{draws_needed, answers_of, heard_of, stored_of};
 ghost use Rattle.dali_arbiter.specs.Bus.{next, owns, total, lapsed, request_of, offer_refusal, collision};
-ghost use Rattle.dali_controller.specs.Progress.{frame_put, roster_of};
+ghost use Rattle.dali_orders.specs.Due.{frame_put};
+ghost use Rattle.dali_controller.specs.Progress.{roster_of};
 ghost use Rattle.dali_events.specs.declared.event.Event.TheVariants as event;
 ghost use Rattle.dali_events.specs.World.{start};
 ghost use Rattle.dali_events.specs.Happens.{entry, is_arc, keeps_bus, gives_up, put_after, powered, told_sent, told_destroyed};
@@ -21,7 +22,7 @@ use crate::refusal::Refusal;
 use crate::seat::Seat;
 use crate::trouble::Trouble;
 use dali_arbiter::{Arbiter, Request};
-use dali_controller::{Due, Input, Order};
+use dali_orders::{Due, Input, Order};
 use dali_enrol::Table;
 use dali_events::Plan;
 use dali_frame::{Answer, Forward, Priority, Short};

@@ -3,7 +3,8 @@
 use super::values::Ordered::{Commit, Done, Halt, NotDue, Put};
 use super::values::Pair::{Enrol, Reserve};
 use super::values::{Ordered, Pair, are_pairs, kept_of, same};
-use dali_controller::{End, Fault, Input, Machine, MachineError, StepError};
+use dali_controller::{Machine, MachineError, StepError};
+use dali_orders::{End, Fault, Input};
 use dali_frame::Answer;
 use std::alloc::Global;
 use std::process::Abort;

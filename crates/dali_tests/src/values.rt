@@ -3,7 +3,7 @@
 //! Orders and records are compared by their numbers, and frames are told by theirs, so that a test has few calls
 //! that may fail.
 
-use dali_controller::{End, Fault, Order};
+use dali_orders::{End, Fault, Order};
 use dali_frame::{Forward, Random24, Short};
 use dali_script::{Block, Kept, Record};
 use std::alloc::Global;

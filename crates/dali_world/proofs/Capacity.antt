@@ -1,8 +1,8 @@
 use Rattle.std.proofs.Common.{◌≡◌, ℕ, Bool, true, false, refl, is_some}
 use Rattle.std.specs.Prelude.{if◌then◌else◌}
 use Rattle.dali_arbiter.specs.Bus.{Bus, owns, lapsed, freed, muted, taken, collision, collided, silenced}
-use Rattle.dali_controller.specs.declared.orders.Order.{Order}
-use Rattle.dali_controller.specs.declared.orders.Order.TheVariants.{Put, Commit, Done, Halt}
+use Rattle.dali_orders.specs.declared.orders.Order.{Order}
+use Rattle.dali_orders.specs.declared.orders.Order.TheVariants.{Put, Commit, Done, Halt}
 use Rattle.dali_events.specs.declared.event.Event.{Event}
 use Rattle.dali_events.specs.declared.event.Event.TheVariants as event
 use Rattle.dali_events.specs.World.{World}

@@ -6,15 +6,15 @@ ghost use Rattle.dali_events.specs.Allowed.{IsUp, MaySend, IsArc};
 ghost use Rattle.dali_events.specs.Runs.{IsRun, IsSafe, IsSafeHistory};
 ghost use Rattle.dali_events.specs.Promises.{TablesAgree, KeepsRecords};
 ghost use Rattle.dali_script.specs.Records.{IsOnce};
-ghost use Rattle.dali_controller.specs.declared.orders.Order.TheVariants as order;
-ghost use Rattle.dali_controller.specs.declared.orders.Fault.TheVariants as fault;
+ghost use Rattle.dali_orders.specs.declared.orders.Order.TheVariants as order;
+ghost use Rattle.dali_orders.specs.declared.orders.Fault.TheVariants as fault;
 ghost use Rattle.dali_controller.specs.Progress.{roster_of};
 ghost use Rattle.dali_standing.specs.declared.trouble.Trouble.TheVariants as trouble;
 ghost use Rattle.dali_standing.specs.declared.refusal.Refusal.TheVariants as refusal;
 
 use crate::receipt::Receipt;
 use dali_arbiter::Request;
-use dali_controller::{Due, Input};
+use dali_orders::{Due, Input};
 use dali_enrol::Table;
 use dali_events::{Event, Plan};
 use dali_frame::{Forward, Short};

@@ -1,0 +1,36 @@
+use Rattle.std.specs.Prelude.{Bool, true, false, Option, Some, None}
+use Rattle.dali_frame.specs.declared.frames.Forward.{Forward}
+use Rattle.dali_script.specs.declared.records.Record.{Record}
+use Rattle.dali_orders.specs.declared.orders.Input.{Input}
+use Rattle.dali_orders.specs.declared.orders.Input.TheVariants as input
+use Rattle.dali_orders.specs.declared.orders.Order.{Order}
+use Rattle.dali_orders.specs.declared.orders.Order.TheVariants.{Put, Commit, Done, Halt}
+use Rattle.dali_orders.specs.declared.orders.Due.{Due}
+use Rattle.dali_orders.specs.declared.orders.Due.TheVariants as due
+
+-- WHAT IS DUE, by the last order.
+abbrev pub due_after : Option Order → Due
+due_after None = due.Start
+due_after (Some (Put p f)) = due.Bus
+due_after (Some (Commit x)) = due.Store
+due_after (Some (Done e)) = due.Nothing
+due_after (Some (Halt w)) = due.Nothing
+
+-- the inputs that are accepted
+abbrev pub accepts : Due → Input → Bool
+accepts due.Start input.Start = true
+accepts due.Bus (input.Heard h) = true
+accepts due.Bus input.Destroyed = true
+accepts due.Bus input.Lapsed = true
+accepts due.Store input.Committed = true
+accepts due.Store input.CommitFailed = true
+accepts _ _ = false
+
+-- the frame or the record that is outstanding
+abbrev pub frame_put : Option Order → Option Forward
+frame_put (Some (Put p f)) = Some f
+frame_put _ = None
+
+abbrev pub record_ordered : Option Order → Option Record
+record_ordered (Some (Commit x)) = Some x
+record_ordered _ = None
