@@ -95,7 +95,7 @@ impl Arbiter {
         }
     }
 
-    /// The next request was sent: it leaves.
+    /// The next request was sent: it leaves. There must be one: `pick` showed it.
     ///
     /// With `more` frames of its transaction to come, its sender owns the bus from now on; else nobody does, and the
     /// list of priority 1 is emptied.
@@ -112,6 +112,7 @@ impl Arbiter {
     }
 
     /// The next request was destroyed on the bus: it leaves, nobody owns the bus, and the list of priority 1 is emptied.
+    /// There must be one: `pick` showed it.
     pub fn destroyed(&mut self)
         requires { IsSome (next self.old) }
         ensures { self.new ≡ destroyed self.old }
@@ -121,7 +122,7 @@ impl Arbiter {
     }
 
     /// The next request collided: as `destroyed`; where the request behind it in its list has another sender, that
-    /// one leaves too and is answered.
+    /// one leaves too and is answered: its sender is to be told too. There must be a next request: `pick` showed it.
     pub fn collided(&mut self) -> Option<Request>
         requires { IsSome (next self.old) }
         ensures other { result ≡ collision self.old.lists }

@@ -6,7 +6,7 @@ use std::alloc::AllocError;
 use thiserror::Error;
 
 /// Why there is no arbiter. The numbers never change.
-#[derive(Clone, Copy, Debug, PartialEq, Eq, Hash, Error)]
+#[derive(Clone, Copy, Debug, PartialEq, Eq, Error)]
 pub enum NewError {
     /// 1: there is no memory for the requests.
     #[error("out of memory")]
@@ -37,7 +37,7 @@ impl From<AllocError> for NewError {
 }
 
 /// Why a request may not wait. The numbers never change.
-#[derive(Clone, Copy, Debug, PartialEq, Eq, Hash, Error)]
+#[derive(Clone, Copy, Debug, PartialEq, Eq, Error)]
 pub enum OfferError {
     /// 1: as many requests wait as may.
     #[error("the queue is full")]

@@ -1,7 +1,7 @@
 use dali_frame::{Forward, Priority};
 
 /// One forward frame that waits for the bus.
-#[derive(Clone, Copy, Debug, PartialEq, Eq, Hash)]
+#[derive(Clone, Copy, Debug, PartialEq, Eq)]
 pub struct Request {
     /// The number of the application controller that sends it.
     pub sender: u8,

@@ -5,7 +5,8 @@ use Rattle.dali_frame.specs.declared.frames.Answer.{Answer}
 use Rattle.dali_frame.specs.declared.frames.Answer.TheVariants.{Silence, Byte, Damaged}
 use Rattle.dali_frame.specs.declared.numbers.SearchAddress.{SearchAddress}
 use Rattle.dali_frame.specs.Short.{short_of}
-use Rattle.dali_frame.specs.Random.{value_of}
+use Rattle.dali_frame.specs.Random.{value_of, MASK24}
+use Rattle.dali_frame.specs.Priority.{FIRST, LATER}
 use Rattle.dali_special.specs.declared.command.Command.{Command}
 use Rattle.dali_special.specs.declared.command.Command.TheVariants.{Terminate, Program, Arc}
 use Rattle.dali_special.specs.Command.{MASK, command_of, frame_of, IsSpelled}
@@ -16,7 +17,7 @@ use Rattle.dali_script.specs.declared.records.Record.{Record}
 use Rattle.dali_script.specs.declared.records.Record.TheVariants.{Reserve, Enrol}
 use Rattle.dali_script.specs.declared.stage.Stage.{Stage}
 use Rattle.dali_script.specs.declared.stage.Stage.TheVariants.{Free, Terminated, InitialisedOnce, Initialised, RandomisedOnce, Opened, HighSent, MiddleSent, NumberSent, Found, Unnamed, Inconclusive, Programmed, Confirmed, Withdrawn}
-use Rattle.dali_script.specs.Records.{IsKept, IsOnce, with_record, HasAddress, Records, Assignment, Has, HasNumber, Fits, IsFresh, MASK24}
+use Rattle.dali_script.specs.Records.{IsKept, IsOnce, with_record, HasAddress, Records, Assignment, Has, HasNumber, Fits, IsFresh}
 use Rattle.dali_script.specs.Scripts.{MayGive, Lawful}
 use Rattle.dali_script.specs.Findings.{later, finding_of}
 use Rattle.dali_script.specs.Stages.{finding_at, stage_of, next_stage, queried, named, verified, answered, Follows, begins_opening, begins_search, initialises_once, initialises, randomises_once, randomises, sets_middle, sets_low, compares, queries_number, withdraws_found, programs, queries_given, withdraws_given}
@@ -35,7 +36,7 @@ use Rattle.dali_controller.specs.declared.purpose.Purpose.TheVariants.{Opening, 
 use Rattle.dali_controller.specs.declared.work.Work.{Work}
 use Rattle.dali_orders.specs.Due.{frame_put}
 use Rattle.dali_controller.specs.Progress.{lost, Progress, roster_of, opened_after, silent_after, tries_after}
-use Rattle.dali_controller.specs.Orders.{Contradicts, FIRST, LATER, closing_by, Cause, IsBegun, AfterMask, IsOrdered, ordered, end_at}
+use Rattle.dali_controller.specs.Orders.{Contradicts, closing_by, Cause, IsBegun, AfterMask, IsOrdered, ordered, end_at}
 use Rattle.dali_controller.specs.Moments.{FoundAt, IsBetween, Closes, closing_of, seen, first_of, asks, IsSearching, Sends, Arrived, Knows, KnowsAt, IsCalm, CalmAt, IsReady, IsSending, Pending, IsFine, IsHeard, Turns, Begins, IsNext}
 
 -- THE COMMANDS OF A TRANSACTION. A first command may begin one.

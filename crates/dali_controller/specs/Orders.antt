@@ -3,6 +3,7 @@ use Rattle.dali_frame.specs.declared.frames.Forward.{Forward}
 use Rattle.dali_frame.specs.declared.frames.Answer.TheVariants.{Silence}
 use Rattle.dali_frame.specs.declared.numbers.SearchAddress.{SearchAddress}
 use Rattle.dali_frame.specs.Random.{value_of}
+use Rattle.dali_frame.specs.Priority.{FIRST, LATER}
 use Rattle.dali_special.specs.declared.command.Command.TheVariants.{Terminate, Program, Arc}
 use Rattle.dali_special.specs.Command.{command_of, frame_of}
 use Rattle.dali_script.specs.declared.records.Record.{Record}
@@ -24,13 +25,6 @@ use Rattle.dali_orders.specs.declared.orders.Fault.TheVariants as fault
 use Rattle.dali_controller.specs.Progress.{Progress, told}
 
 -- WHAT AN ORDER DOES, to a machine that was told an input.
-
--- the priorities of a transaction's first frame, and of its later ones (this project's profile)
-abbrev pub FIRST : ℕ
-FIRST = 3
-
-abbrev pub LATER : ℕ
-LATER = 1
 
 abbrev pub is_terminate : Forward → Bool
 is_terminate f = (f.address_byte == 0xA1) && (f.opcode_byte == 0)

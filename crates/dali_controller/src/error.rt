@@ -4,7 +4,7 @@ ghost use Rattle.dali_controller.specs.Refusals.{step_number_of, machine_number_
 use thiserror::Error;
 
 /// Why a machine does not take an input. The number never changes.
-#[derive(Clone, Copy, Debug, PartialEq, Eq, Hash, Error)]
+#[derive(Clone, Copy, Debug, PartialEq, Eq, Error)]
 pub enum StepError {
     /// 1: the machine waits for something else.
     #[error("not due")]
@@ -23,7 +23,7 @@ impl StepError {
 }
 
 /// Why there is no machine. The number never changes.
-#[derive(Clone, Copy, Debug, PartialEq, Eq, Hash, Error)]
+#[derive(Clone, Copy, Debug, PartialEq, Eq, Error)]
 pub enum MachineError {
     /// 2: memory ran out.
     #[error("out of memory")]

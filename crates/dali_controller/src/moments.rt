@@ -1,8 +1,8 @@
 ghost use Rattle.std.specs.Prelude.{◌≡◌, ◌<◌, true, false, Some, None};
-ghost use Rattle.dali_frame.specs.Random.{value_of};
+ghost use Rattle.dali_frame.specs.Random.{value_of, MASK24};
 ghost use Rattle.dali_frame.specs.declared.frames.Answer.TheVariants.{Silence};
 ghost use Rattle.dali_script.specs.declared.stage.Stage.TheVariants as stage;
-ghost use Rattle.dali_script.specs.Records.{Fits, IsFresh, HasAddress, HasNumber, MASK24, with_record};
+ghost use Rattle.dali_script.specs.Records.{Fits, IsFresh, HasAddress, HasNumber, with_record};
 ghost use Rattle.dali_enrol.specs.Roster.{with_entry};
 ghost use Rattle.dali_search.specs.declared.step.Step.TheVariants as search;
 ghost use Rattle.dali_orders.specs.declared.orders.Input.TheVariants as input;

@@ -1,5 +1,6 @@
 ghost use Rattle.std.specs.Prelude.{◌<◌, IfSome};
-ghost use Rattle.dali_script.specs.Records.{HasNumber, MASK24};
+ghost use Rattle.dali_frame.specs.Random.{MASK24};
+ghost use Rattle.dali_script.specs.Records.{HasNumber};
 
 use dali_enrol::Table;
 use dali_frame::{Random24, Short};

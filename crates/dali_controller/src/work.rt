@@ -1,4 +1,5 @@
 ghost use Rattle.std.specs.Prelude.{◌≡◌, ◌+◌, ◌<◌, ◌≤◌, Some};
+ghost use Rattle.dali_frame.specs.Priority.{FIRST, LATER};
 ghost use Rattle.dali_script.specs.declared.stage.Stage.TheVariants.{Free};
 ghost use Rattle.dali_script.specs.Findings.{later, finding_of};
 ghost use Rattle.dali_script.specs.Records.{Fits, IsFresh};
@@ -8,7 +9,7 @@ ghost use Rattle.dali_orders.specs.declared.orders.Order.TheVariants as order;
 ghost use Rattle.dali_controller.specs.declared.purpose.Purpose.TheVariants as purpose;
 ghost use Rattle.dali_orders.specs.Due.{frame_put};
 ghost use Rattle.dali_controller.specs.Progress.{told, is_complete, tries_after, silent_after, opened_after, roster_of};
-ghost use Rattle.dali_controller.specs.Orders.{ordered, FIRST, LATER};
+ghost use Rattle.dali_controller.specs.Orders.{ordered};
 
 use dali_orders::{End, Fault, Order};
 use crate::purpose::Purpose;
@@ -36,18 +37,6 @@ pub(crate) struct Work {
     pub number: SearchAddress,
     /// In the visits before the opening, the first short address that was not looked at.
     pub from: u8,
-}
-
-fn first_priority() -> Priority
-    ensures { result ≡ FIRST }
-{
-    Priority::of(3).unwrap()
-}
-
-fn later_priority() -> Priority
-    ensures { result ≡ LATER }
-{
-    Priority::of(1).unwrap()
 }
 
 impl Work {
@@ -124,7 +113,7 @@ impl Work {
         ensures next { IsNext (seen self.old) result (seen self.new) }
         ensures fine { IsFine self.new }
     {
-        let priority = later_priority();
+        let priority = Priority::LATER;
         let frame = command.write();
         self.last = Some(Order::Put(priority, frame));
         Order::Put(priority, frame)
@@ -140,7 +129,7 @@ impl Work {
         self.trace = Trace::new();
         self.purpose = purpose;
         self.number = number;
-        let priority = first_priority();
+        let priority = Priority::FIRST;
         let frame = purpose.first(number).write();
         self.last = Some(Order::Put(priority, frame));
         Order::Put(priority, frame)

@@ -4,7 +4,7 @@ ghost use Rattle.dali_enrol.specs.Refusals.{number_of};
 use thiserror::Error;
 
 /// Why there is no table, or why a table takes no entry. The numbers never change.
-#[derive(Clone, Copy, Debug, PartialEq, Eq, Hash, Error)]
+#[derive(Clone, Copy, Debug, PartialEq, Eq, Error)]
 pub enum TableError {
     /// 1: an entry has the short address.
     #[error("the short address has an entry")]

@@ -4,14 +4,13 @@ use Rattle.std.proofs.lemmas.Bool.Decides.{nat_tests}
 use Rattle.dali_frame.specs.declared.frames.Forward.{Forward}
 use Rattle.dali_frame.specs.declared.frames.Answer.{Answer}
 use Rattle.dali_frame.specs.declared.numbers.SearchAddress.{SearchAddress}
-use Rattle.dali_frame.specs.Random.{value_of}
+use Rattle.dali_frame.specs.Random.{value_of, MASK24}
 use Rattle.dali_special.specs.declared.command.Command.{Command}
 use Rattle.dali_special.specs.declared.command.Command.TheVariants.{Terminate, Randomise, Compare}
 use Rattle.dali_special.specs.Command.{command_of}
 use Rattle.dali_gear.specs.declared.state.InitialisationState.TheVariants.{Enabled}
 use Rattle.dali_gear.specs.declared.row.Reach.{Reach}
 use Rattle.dali_gear.specs.declared.row.Reach.TheVariants.{Everyone, Only}
-use Rattle.dali_gear.specs.ControlGear as gear
 use Rattle.dali_gear.specs.ControlGear.{ControlGear, fresh, YES, is_active, is_enabled, would_draw, taken, answer, short_after}
 use Rattle.dali_gear.specs.Row.{takes, row_after, drawn_of, draws_needed, answers_of}
 use Rattle.dali_arbiter.specs.Bus.{owns}
@@ -114,7 +113,7 @@ ready_moved ds k g _ (stays off) draws on = absurd (let there : takes Everyone k
 ready_moved ds k g _ (goes r there drew) draws on = λ none. draws on none none
 
 ready_drawn : (gs : List ControlGear) (left : List ℕ) → draws_needed Everyone Randomise 0 gs ≤ length left → OpensAll stage.RandomisedOnce gs
-    → ((x : ℕ × ℕ) → Has (drawn_of Everyone Randomise 0 gs left) x → x.1 < gear.MASK) → ReadyAll (row_after Everyone Randomise 0 gs left)
+    → ((x : ℕ × ℕ) → Has (drawn_of Everyone Randomise 0 gs left) x → x.1 < MASK24) → ReadyAll (row_after Everyone Randomise 0 gs left)
 ready_drawn gs left enough opens below i in_row =
     let there : i < length gs = subst (λ n. i < n) (row_length Everyone Randomise 0 gs left) in_row in
     ready_moved (drawn_of Everyone Randomise 0 gs left) i (get_or gs i fresh) (get_or (row_after Everyone Randomise 0 gs left) i fresh) (moves_at Everyone Randomise gs left i there) (λ on none. at there on none) where
@@ -126,13 +125,13 @@ ready_drawn gs left enough opens below i in_row =
           subst Ready (sym d.2) (drawn_ready (get_or gs i fresh) d.0 open_it (below (i, d.0) d.1))
 
 ready_last : (c : Command) (gs : List ControlGear) (left : List ℕ) → c ≡ Randomise → draws_needed Everyone c 0 gs ≤ length left → OpensAll stage.RandomisedOnce gs
-    → ((x : ℕ × ℕ) → Has (drawn_of Everyone c 0 gs left) x → x.1 < gear.MASK) → ReadyAll (row_after Everyone c 0 gs left)
+    → ((x : ℕ × ℕ) → Has (drawn_of Everyone c 0 gs left) x → x.1 < MASK24) → ReadyAll (row_after Everyone c 0 gs left)
 ready_last c gs left is enough opens below =
     subst (λ d. ReadyAll (row_after Everyone d 0 gs left)) (sym is)
     (ready_drawn gs left (subst (λ d. draws_needed Everyone d 0 gs ≤ length left) is enough) opens (λ x h. below x (subst (λ d. Has (drawn_of Everyone d 0 gs left) x) (sym is) h)))
 
 -- the numbers that a frame draws are below FFFFFF
-below_of : (p : SitePlan) → IsPlan p → (w : World) (e : Event) (more : List (ℕ × ℕ)) → Draws p.draws w.gear w.drawn w.left → (happens w e).drawn ≡ w.drawn ++ more → (x : ℕ × ℕ) → Has more x → x.1 < gear.MASK
+below_of : (p : SitePlan) → IsPlan p → (w : World) (e : Event) (more : List (ℕ × ℕ)) → Draws p.draws w.gear w.drawn w.left → (happens w e).drawn ≡ w.drawn ++ more → (x : ℕ × ℕ) → Has more x → x.1 < MASK24
 below_of p plan w e more d is x h =
     (are_drawn p (happens w e) plan (draws_step p w e d)).below x.0 x.1 (subst (λ ds. Has ds x) (sym is) (has_right w.drawn more x h))
 
@@ -145,16 +144,16 @@ ready_opened p plan w c f h here draws complete opens =
 
 -- it stays ready
 ready_taken_one : (b : Block) (xs : List Assignment) (s : Stage) (c : Command) (reach : Reach) (ds : List (ℕ × ℕ)) (k : ℕ) (g g' : ControlGear) → Follows b xs s c → (c ≡ Terminate → ⊥)
-    → ((x : ℕ × ℕ) → Has ds x → x.1 < gear.MASK) → (g.powered ≡ true → Knows s g) → (g.powered ≡ true → Ready g) → Moved reach c ds k g g' → g'.powered ≡ true → Ready g'
+    → ((x : ℕ × ℕ) → Has ds x → x.1 < MASK24) → (g.powered ≡ true → Knows s g) → (g.powered ≡ true → Ready g) → Moved reach c ds k g g' → g'.powered ≡ true → Ready g'
 ready_taken_one b xs s c reach ds k g _ follows calm below knows ready (stays off) on = ready on
 ready_taken_one b xs s c reach ds k g _ follows calm below knows ready (goes r there drew) on =
     ready_step b xs s c g r follows calm (λ w. go (drew w)) (knows on) (ready on) where
-      go : (r ≡ g.random) ⊎ Has ds (k, r) → (r ≡ g.random) ⊎ (r < gear.MASK)
+      go : (r ≡ g.random) ⊎ Has ds (k, r) → (r ≡ g.random) ⊎ (r < MASK24)
       go (inl e) = inl e
       go (inr h) = inr (below (k, r) h)
 
 ready_taken : (w : World) (c : ℕ) (f : Forward) (reach : Reach) → MaySend w c f → IsKnown w → (command_of f ≡ Terminate → ⊥)
-    → ((x : ℕ × ℕ) → Has (drawn_of reach (command_of f) 0 w.gear w.left) x → x.1 < gear.MASK) → ReadyAll w.gear → ReadyAll (row_after reach (command_of f) 0 w.gear w.left)
+    → ((x : ℕ × ℕ) → Has (drawn_of reach (command_of f) 0 w.gear w.left) x → x.1 < MASK24) → ReadyAll w.gear → ReadyAll (row_after reach (command_of f) 0 w.gear w.left)
 ready_taken w c f reach may known calm below ready i in_row =
     let there : i < length w.gear = subst (λ n. i < n) (row_length reach (command_of f) 0 w.gear w.left) in_row in
     ready_taken_one (controller_at w c).records.block (controller_at w c).records.reserved (stage_of (running w c)) (command_of f) reach (drawn_of reach (command_of f) 0 w.gear w.left) i (gear_at w i)
@@ -181,13 +180,13 @@ ready_all p plan w (e ∷ es) all calm known draws ready =
     ready_all p plan (happens w e) es all.1 calm.1 (known_step w e all.0 known) (draws_step p w e draws) (ready_event p plan w e all.0 calm.0 known draws ready)
 
 -- THE COMPARE: a ready gear would have answered it
-ready_answers : (g : ControlGear) (r : SearchAddress) → g.state ≡ Enabled → g.random < gear.MASK → g.search ≡ r → value_of r ≡ HIGHEST → answer Compare g ≡ Some YES
+ready_answers : (g : ControlGear) (r : SearchAddress) → g.state ≡ Enabled → g.random < MASK24 → g.search ≡ r → value_of r ≡ HIGHEST → answer Compare g ≡ Some YES
 ready_answers g r enabled below search highest =
     let value : value_of g.search ≡ HIGHEST = ap value_of search ∙ highest in
     let test : nat_le g.random (value_of g.search) ≡ true = less g.random (value_of g.search) below value in
     rw (enabled, test) refl
   where
-    less : (m n : ℕ) → m < gear.MASK → n ≡ HIGHEST → nat_le m n ≡ true
+    less : (m n : ℕ) → m < MASK24 → n ≡ HIGHEST → nat_le m n ≡ true
     less m n h e =
         let at : n ≡ 0xFFFFFE = e in
         let under : m < 0xFFFFFF = h in

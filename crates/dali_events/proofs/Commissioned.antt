@@ -3,11 +3,12 @@ use Rattle.dali_frame.specs.declared.frames.Forward.{Forward}
 use Rattle.dali_frame.specs.declared.frames.Answer.{Answer}
 use Rattle.dali_frame.specs.declared.frames.Answer.TheVariants.{Silence, Byte}
 use Rattle.dali_frame.specs.declared.numbers.SearchAddress.{SearchAddress}
+use Rattle.dali_frame.specs.Random.{MASK24}
 use Rattle.dali_special.specs.Command.{command_of, frame}
 use Rattle.dali_script.specs.declared.block.Block.{Block}
 use Rattle.dali_script.specs.declared.trace.Entry.{Entry}
 use Rattle.dali_script.specs.declared.records.Record.TheVariants.{Reserve}
-use Rattle.dali_script.specs.Records.{Has, InBlock, MASK24}
+use Rattle.dali_script.specs.Records.{Has, InBlock}
 use Rattle.dali_script.specs.Scripts.{Open, Probe, Look, Give, MayGive}
 use Rattle.dali_script.specs.Stages.{stage_of}
 use Rattle.dali_orders.specs.declared.orders.Input.TheVariants as input

@@ -1,11 +1,12 @@
 use Rattle.std.proofs.Common.{◌≡◌, ℕ, ◌<◌, ◌⊎◌, inl, inr, Bool, true, false, List, [], ◌∷◌, ◌++◌, refl, sym, subst, length, map, append_assoc, get_or, None}
 use Rattle.std.proofs.lemmas.List.{map-append, length-replicate, get_or-replicate}
 use Rattle.std.specs.Prelude.{if◌then◌else◌}
+use Rattle.dali_frame.specs.Random.{MASK24}
 use Rattle.dali_special.specs.declared.command.Command.{Command}
 use Rattle.dali_special.specs.Command.{command_of}
 use Rattle.dali_gear.specs.declared.row.Reach.{Reach}
 use Rattle.dali_gear.specs.declared.row.Reach.TheVariants.{Everyone, Only}
-use Rattle.dali_gear.specs.ControlGear.{ControlGear, MASK, fresh, would_draw, expired, quieted}
+use Rattle.dali_gear.specs.ControlGear.{ControlGear, fresh, would_draw, expired, quieted}
 use Rattle.dali_gear.specs.Row.{row_after, row_left, drawn_of}
 use Rattle.dali_script.specs.Records.{Has, IsOnce}
 use Rattle.dali_events.specs.declared.event.Event.{Event}
@@ -19,7 +20,7 @@ use Rattle.dali_events.proofs.Takes.{Moved, stays, goes, moves_at, row_length, n
 
 -- gear k has no random address, or drew it
 abbrev pub HasDrawn : List (ℕ × ℕ) → ℕ → ControlGear → Type 0
-HasDrawn ds k g = (g.random ≡ MASK) ⊎ Has ds (k, g.random)
+HasDrawn ds k g = (g.random ≡ MASK24) ⊎ Has ds (k, g.random)
 
 -- WHAT HOLDS OF THE DRAWS, whatever happens
 pub record Draws (plan : List ℕ) (gs : List ControlGear) (ds : List (ℕ × ℕ)) (left : List ℕ) : Type 0 where
@@ -33,11 +34,11 @@ drawn_more ds es k g (inr h) = inr (has_left ds es (k, g.random) h)
 drawn_moved : (reach : Reach) (c : Command) (ds es : List (ℕ × ℕ)) (k : ℕ) (g h : ControlGear) → HasDrawn ds k g → Moved reach c es k g h → HasDrawn (ds ++ es) k h
 drawn_moved reach c ds es k g _ had (stays e) = drawn_more ds es k g had
 drawn_moved reach c ds es k g _ had (goes r e drew) = go (would_draw c g) refl where
-  from : (r ≡ g.random) ⊎ Has es (k, r) → (r ≡ MASK) ⊎ Has (ds ++ es) (k, r)
-  from (inl s) = subst (λ n. (n ≡ MASK) ⊎ Has (ds ++ es) (k, n)) (sym s) (drawn_more ds es k g had)
+  from : (r ≡ g.random) ⊎ Has es (k, r) → (r ≡ MASK24) ⊎ Has (ds ++ es) (k, r)
+  from (inl s) = subst (λ n. (n ≡ MASK24) ⊎ Has (ds ++ es) (k, n)) (sym s) (drawn_more ds es k g had)
   from (inr h) = inr (has_right ds es (k, r) h)
 
-  go : (b : Bool) → would_draw c g ≡ b → ((if b then r else g.random) ≡ MASK) ⊎ Has (ds ++ es) (k, if b then r else g.random)
+  go : (b : Bool) → would_draw c g ≡ b → ((if b then r else g.random) ≡ MASK24) ⊎ Has (ds ++ es) (k, if b then r else g.random)
   go true w = from (drew w)
   go false w = drawn_more ds es k g had
 

@@ -4,14 +4,13 @@ use Rattle.dali_frame.specs.declared.frames.Answer.{Answer}
 use Rattle.dali_frame.specs.declared.frames.Answer.TheVariants.{Silence, Byte, Damaged}
 use Rattle.dali_frame.specs.declared.numbers.SearchAddress.{SearchAddress}
 use Rattle.dali_frame.specs.Short.{short_of}
-use Rattle.dali_frame.specs.Random.{value_of}
+use Rattle.dali_frame.specs.Random.{value_of, MASK24}
 use Rattle.dali_special.specs.declared.command.Target.TheVariants.{Unaddressed}
 use Rattle.dali_special.specs.declared.command.Command.{Command}
 use Rattle.dali_special.specs.declared.command.Command.TheVariants.{Terminate, Initialise, Randomise, Withdraw, Program, QueryShort}
 use Rattle.dali_special.specs.Command.{MASK}
 use Rattle.dali_gear.specs.declared.state.InitialisationState.TheVariants.{Enabled, Withdrawn}
 use Rattle.dali_gear.specs.declared.row.Reach.{Reach}
-use Rattle.dali_gear.specs.ControlGear as gear
 use Rattle.dali_gear.specs.ControlGear.{ControlGear, fresh, is_active, is_enabled, is_found, is_second, concerns, would_draw, taken, state_after, random_after, short_after, half_after}
 use Rattle.dali_gear.specs.Row.{takes, left_after, row_after, drawn_one, drawn_of, draws_needed}
 use Rattle.dali_script.specs.declared.block.Block.{Block}
@@ -128,22 +127,22 @@ opens_step b xs _ _ h g x (withdraws_given r a may) k none = tt
 
 -- READY: a gear without short address that was opened to a search takes part in it, and has drawn a number
 abbrev pub Ready : ControlGear → Type 0
-Ready g = g.short ≡ None → (g.state ≡ Enabled) × (g.random < gear.MASK)
+Ready g = g.short ≡ None → (g.state ≡ Enabled) × (g.random < MASK24)
 
 pub draws_ready : (g : ControlGear) → (g.half ≡ Some Randomise) × (g.state ≡ Enabled) → would_draw Randomise g ≡ true
 draws_ready g k = rw (k.0, k.1) refl
 
-pub drawn_ready : (g : ControlGear) (r : ℕ) → (g.half ≡ Some Randomise) × (g.state ≡ Enabled) → r < gear.MASK → Ready (taken Randomise r g)
+pub drawn_ready : (g : ControlGear) (r : ℕ) → (g.half ≡ Some Randomise) × (g.state ≡ Enabled) → r < MASK24 → Ready (taken Randomise r g)
 drawn_ready g r k below = λ none. (k.1, rw (draws_ready g k) below)
 
 -- a frame that is no TERMINATE leaves it ready
-randomised_ready : (g : ControlGear) (r : ℕ) → (would_draw Randomise g ≡ true → (r ≡ g.random) ⊎ (r < gear.MASK)) → Ready g → Ready (taken Randomise r g)
+randomised_ready : (g : ControlGear) (r : ℕ) → (would_draw Randomise g ≡ true → (r ≡ g.random) ⊎ (r < MASK24)) → Ready g → Ready (taken Randomise r g)
 randomised_ready g r drew k = λ none. ((k none).0, go (would_draw Randomise g) refl (k none).1) where
-  go : (b : Bool) → would_draw Randomise g ≡ b → g.random < gear.MASK → (if b then r else g.random) < gear.MASK
+  go : (b : Bool) → would_draw Randomise g ≡ b → g.random < MASK24 → (if b then r else g.random) < MASK24
   go false e below = below
   go true e below = from (drew e) where
-    from : (r ≡ g.random) ⊎ (r < gear.MASK) → r < gear.MASK
-    from (inl same) = subst (λ n. n < gear.MASK) (sym same) below
+    from : (r ≡ g.random) ⊎ (r < MASK24) → r < MASK24
+    from (inl same) = subst (λ n. n < MASK24) (sym same) below
     from (inr h) = h
 
 initialised_ready : (g : ControlGear) → Ready g → g.short ≡ None → state_after (Initialise Unaddressed) g ≡ Enabled
@@ -169,14 +168,14 @@ withdrawn_ready g r a knows k none = go (is_enabled g.state && is_found g) refl 
       let short : g.short ≡ Some a = (knows active).1 (found_random g r (knows active).0 found) in
       absurd (cc)
 
-programmed_ready : (g : ControlGear) (a : ℕ) → Ready g → short_after (Program (Some a)) g ≡ None → (g.state ≡ Enabled) × (g.random < gear.MASK)
+programmed_ready : (g : ControlGear) (a : ℕ) → Ready g → short_after (Program (Some a)) g ≡ None → (g.state ≡ Enabled) × (g.random < MASK24)
 programmed_ready g a k none = go (is_active g.state && is_found g) none where
-  go : (b : Bool) → (if b then Some a else g.short) ≡ None → (g.state ≡ Enabled) × (g.random < gear.MASK)
+  go : (b : Bool) → (if b then Some a else g.short) ≡ None → (g.state ≡ Enabled) × (g.random < MASK24)
   go true e = absurd (cc)
   go false e = k e
 
 pub ready_step : (b : Block) (xs : List Assignment) (s : Stage) (c : Command) (g : ControlGear) (r : ℕ)
-    → Follows b xs s c → (c ≡ Terminate → ⊥) → (would_draw c g ≡ true → (r ≡ g.random) ⊎ (r < gear.MASK)) → Knows s g → Ready g → Ready (taken c r g)
+    → Follows b xs s c → (c ≡ Terminate → ⊥) → (would_draw c g ≡ true → (r ≡ g.random) ⊎ (r < MASK24)) → Knows s g → Ready g → Ready (taken c r g)
 ready_step b xs _ _ g r begins_opening calm drew knows k = absurd (calm refl)
 ready_step b xs _ _ g r initialises_once calm drew knows k = λ none. (initialised_ready g k none, (k none).1)
 ready_step b xs _ _ g r initialises calm drew knows k = λ none. (initialised_ready g k none, (k none).1)

@@ -2,7 +2,8 @@ use Rattle.std.proofs.Common.{◌≡◌, ℕ, zero, suc, ◌<◌, ◌≤◌, Boo
 use Rattle.std.proofs.lemmas.Bool.Decides.{nat_tests}
 use Rattle.std.specs.Prelude.{◌==◌, ◌||◌, nat_lt, if◌then◌else◌}
 use Rattle.std.specs.List.{list_any}
-use Rattle.dali_script.specs.Records.{Has, IsOnce, InBlock, MASK24}
+use Rattle.dali_frame.specs.Random.{MASK24}
+use Rattle.dali_script.specs.Records.{Has, IsOnce, InBlock}
 use Rattle.dali_events.specs.declared.plan.PlanError.TheVariants.{GearCount, ControllerCount, BlockOrder, BlockOverlap, DrawTooLarge, DrawTwice}
 use Rattle.dali_events.specs.Plan.{any_pair, is_misordered, overlap, refusal_of, block_of, plan_of, no_block, IsPlan}
 

@@ -3,6 +3,8 @@ use Rattle.std.specs.List.{AllByRecursion}
 use Rattle.dali_frame.specs.declared.frames.Forward.{Forward}
 use Rattle.dali_frame.specs.declared.frames.Answer.{Answer}
 use Rattle.dali_frame.specs.declared.frames.Answer.TheVariants.{Silence, Byte, Damaged}
+use Rattle.dali_frame.specs.Random.{MASK24}
+use Rattle.dali_frame.specs.Priority.{FIRST, LATER}
 use Rattle.dali_special.specs.declared.command.Command.TheVariants.{Arc}
 use Rattle.dali_special.specs.Command.{command_of}
 use Rattle.dali_gear.specs.declared.row.GearSet.{GearSet}
@@ -11,7 +13,7 @@ use Rattle.dali_gear.specs.declared.row.Reach.TheVariants.{Everyone, Only}
 use Rattle.dali_gear.specs.Row.{draws_needed, answers_of}
 use Rattle.dali_script.specs.declared.records.Record.{Record}
 use Rattle.dali_script.specs.declared.records.Record.TheVariants.{Reserve, Enrol}
-use Rattle.dali_script.specs.Records.{InBlock, MASK24, IsFresh}
+use Rattle.dali_script.specs.Records.{InBlock, IsFresh}
 use Rattle.dali_script.specs.Scripts.{Lawful, IsFirst}
 use Rattle.dali_orders.specs.declared.orders.Input.{Input}
 use Rattle.dali_orders.specs.declared.orders.Input.TheVariants as input
@@ -74,8 +76,8 @@ MayCommit k (Enrol b r) = (k.finding ≡ Some (b, r)) × (r < MASK24) × IsFresh
 -- a first frame at 3, and at 1 what may follow; Done and Halt always
 abbrev pub MayPut : World → ℕ → Controller → ℕ → Forward → Type 0
 MayPut w c k p f =
-    ((p ≡ 3) × IsFirst f)
-    ⊎ ((p ≡ 1) × (w.bus.owner ≡ Some c) × Lawful k.records.block k.records.reserved w.trace f)
+    ((p ≡ FIRST) × IsFirst f)
+    ⊎ ((p ≡ LATER) × (w.bus.owner ≡ Some c) × Lawful k.records.block k.records.reserved w.trace f)
 
 abbrev pub MayOrder : World → ℕ → Controller → Order → Type 0
 MayOrder w c k (Put p f) = MayPut w c k p f

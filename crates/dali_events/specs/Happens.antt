@@ -1,6 +1,7 @@
 use Rattle.std.specs.Prelude.{ℕ, Bool, true, false, not, List, [], ◌∷◌, ◌++◌, map, Option, Some, None, ◌==◌, ◌&&◌, if◌then◌else◌}
 use Rattle.dali_frame.specs.declared.frames.Forward.{Forward}
 use Rattle.dali_frame.specs.declared.frames.Answer.{Answer}
+use Rattle.dali_frame.specs.Priority.{LATER, ARC}
 use Rattle.dali_special.specs.declared.command.Command.{Command}
 use Rattle.dali_special.specs.declared.command.Command.TheVariants.{Arc}
 use Rattle.dali_special.specs.Command.{command_of}
@@ -62,7 +63,7 @@ acted k i o = record {
 
 -- an order other than a Put at 1 ends the ownership of its controller
 abbrev pub keeps_bus : Order → Bool
-keeps_bus (Put p f) = p == 1
+keeps_bus (Put p f) = p == LATER
 keeps_bus _ = false
 
 abbrev pub gives_up : Bus → ℕ → Order → Bool
@@ -91,7 +92,7 @@ after_acted w c i o = record {
 
 -- it goes last in list 2
 abbrev pub after_offered : World → ℕ → Forward → World
-after_offered w c f = record w { bus = offered w.bus (request_of c 2 f) }
+after_offered w c f = record w { bus = offered w.bus (request_of c ARC f) }
 
 -- ---------------------------------------------------------------- a frame is sent
 

@@ -1,7 +1,8 @@
 use Rattle.std.specs.Prelude.{◌≡◌, ℕ, ◌<◌, List, [], ◌∷◌, length, Bool, false, Option, Some, None, ◌==◌, ◌||◌, ◌&&◌, nat_lt, nat_le, map, slice_index_or, if◌then◌else◌}
 use Rattle.std.specs.List.{list_any}
+use Rattle.dali_frame.specs.Random.{MASK24}
 use Rattle.dali_script.specs.declared.block.Block.{Block}
-use Rattle.dali_script.specs.Records.{InBlock, IsOnce, MASK24, Has}
+use Rattle.dali_script.specs.Records.{InBlock, IsOnce, Has}
 use Rattle.dali_events.specs.declared.plan.PlanError.{PlanError}
 use Rattle.dali_events.specs.declared.plan.PlanError.TheVariants.{NoMemory, GearCount, ControllerCount, BlockOrder, BlockOverlap, DrawTooLarge, DrawTwice}
 

@@ -1,5 +1,5 @@
 use Rattle.std.specs.Prelude.{◌≡◌, ◌⊎◌, ◌↔◌, ℕ, ◌<◌, List, [], ◌∷◌, ◌++◌, length, map, Some}
-use Rattle.dali_gear.specs.ControlGear.{MASK}
+use Rattle.dali_frame.specs.Random.{MASK24}
 use Rattle.dali_script.specs.Records.{Assignment, Has, IsOnce}
 use Rattle.dali_events.specs.declared.event.Event.{Event}
 use Rattle.dali_events.specs.Plan.{SitePlan, IsPlan}
@@ -32,9 +32,9 @@ IsDrawer w g r = Has w.drawn (g, r)
 
 -- Each gear's random address is FFFFFF or was drawn by that gear; no number was drawn twice, and none is FFFFFF.
 pub record AreDrawn (w : World) : Type 0 where
-  pub random : (g : ℕ) → g < length w.gear → ((gear_at w g).random ≡ MASK) ⊎ IsDrawer w g (gear_at w g).random
+  pub random : (g : ℕ) → g < length w.gear → ((gear_at w g).random ≡ MASK24) ⊎ IsDrawer w g (gear_at w g).random
   pub once : IsOnce (map (λ draw. draw.1) w.drawn)
-  pub below : (g r : ℕ) → IsDrawer w g r → r < MASK
+  pub below : (g r : ℕ) → IsDrawer w g r → r < MASK24
 
 -- A SAFE WORLD. Gear g was given the short address a where (g, a) stands in the history of gifts.
 

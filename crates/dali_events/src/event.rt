@@ -5,7 +5,7 @@ use dali_gear::GearSet;
 /// What happened on a site. Each accepted call adds one event to its log.
 ///
 /// A controller is named by its number, 0 to 3, and a gear by its number, 0 to 127.
-#[derive(Clone, Copy, Debug, PartialEq, Eq, Hash)]
+#[derive(Clone, Copy, Debug, PartialEq, Eq)]
 pub enum Event {
     /// A controller acted on what it was told, and ordered something.
     Acted(u8, Input, Order),

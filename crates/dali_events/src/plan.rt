@@ -19,7 +19,7 @@ pub const DRAW_LIMIT: usize = 1024;
 
 /// Why a plan is refused. The numbers never change. The first cause that holds is answered, in the order of the
 /// variants, but want of memory comes last.
-#[derive(Clone, Copy, Debug, PartialEq, Eq, Hash, Error)]
+#[derive(Clone, Copy, Debug, PartialEq, Eq, Error)]
 pub enum PlanError {
     /// 1: there is too little memory.
     #[error("NoMemory")]

@@ -2,3 +2,4 @@ pub mod Short
 pub mod Random
 pub mod HexError
 pub mod Hex
+pub mod Priority

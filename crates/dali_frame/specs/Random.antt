@@ -1,6 +1,10 @@
 use Rattle.std.specs.Prelude.{ℕ, ◌+◌, ◌*◌, ◌/◌, ◌%◌}
 use Rattle.dali_frame.specs.declared.numbers.SearchAddress.{SearchAddress}
 
+-- MASK of a 24-bit address: no gear draws the random address FFFFFF (IEC 62386-102:2014, RANDOMISE)
+abbrev pub MASK24 : ℕ
+MASK24 = 0xFFFFFF
+
 -- the three bytes of a 24-bit address
 abbrev pub high_of : ℕ → ℕ
 high_of r = r / 65536

@@ -1,5 +1,5 @@
 /// A forward frame: 16 bits, sent by an application controller (IEC 62386-101:2014, forward frames).
-#[derive(Clone, Copy, Debug, PartialEq, Eq, Hash)]
+#[derive(Clone, Copy, Debug, PartialEq, Eq)]
 pub struct Forward {
     /// The byte sent first.
     pub address_byte: u8,
@@ -8,7 +8,7 @@ pub struct Forward {
 }
 
 /// What is heard after a forward frame (IEC 62386-101:2014, backward frames).
-#[derive(Clone, Copy, Debug, PartialEq, Eq, Hash)]
+#[derive(Clone, Copy, Debug, PartialEq, Eq)]
 pub enum Answer {
     /// No backward frame.
     Silence,

@@ -9,7 +9,7 @@ use std::fmt;
 use thiserror::Error;
 
 /// Why a text is no forward frame. The numbers never change.
-#[derive(Clone, Copy, Debug, PartialEq, Eq, Hash, Error)]
+#[derive(Clone, Copy, Debug, PartialEq, Eq, Error)]
 pub enum HexError {
     /// 1: the text does not have four characters.
     #[error("not four digits")]

@@ -150,7 +150,7 @@ impl Random24 {
 
 /// A search address: the three bytes that SEARCHADDRH, SEARCHADDRM and SEARCHADDRL set one at a time
 /// (IEC 62386-102:2014, search address).
-#[derive(Clone, Copy, Debug, PartialEq, Eq, Hash)]
+#[derive(Clone, Copy, Debug, PartialEq, Eq)]
 pub struct SearchAddress {
     /// Bits 23 to 16, set by SEARCHADDRH.
     pub high: u8,
@@ -195,7 +195,7 @@ impl SearchAddress {
 /// The priority of a request for the bus, 1 (highest) to 5 (IEC 62386-101:2014, priorities of transactions).
 ///
 /// Contracts see the number.
-#[derive(Clone, Copy, Debug, PartialEq, Eq, PartialOrd, Ord, Hash)]
+#[derive(Clone, Copy, Debug, PartialEq, Eq, PartialOrd, Ord)]
 pub struct Priority {
     number: u8,
 }
@@ -213,6 +213,15 @@ impl Model for Priority {
 }
 
 impl Priority {
+    /// The priority of a transaction's first frame, where it is no direct arc power.
+    pub const FIRST: Priority = Priority { number: 3 };
+
+    /// The priority of each later frame of a transaction, which its sender alone may use.
+    pub const LATER: Priority = Priority { number: 1 };
+
+    /// The priority of direct arc power.
+    pub const ARC: Priority = Priority { number: 2 };
+
     /// The priority of this number; `None` outside 1 to 5.
     pub fn of(number: u8) -> Option<Priority>
         ensures range { IsSome result ↔ ((1 ≤ number) × (number ≤ 5)) }

@@ -1,6 +1,6 @@
 use Rattle.std.specs.Prelude.{ℕ, Bool, true, false, Option, Some, None, ◌==◌, ◌&&◌, nat_le, if◌then◌else◌}
 use Rattle.dali_frame.specs.declared.numbers.SearchAddress.{SearchAddress}
-use Rattle.dali_frame.specs.Random.{value_of}
+use Rattle.dali_frame.specs.Random.{value_of, MASK24}
 use Rattle.dali_special.specs.declared.command.Target.{Target}
 use Rattle.dali_special.specs.declared.command.Target.TheVariants.{All, Addressed, Unaddressed}
 use Rattle.dali_special.specs.declared.command.Command.{Command}
@@ -18,10 +18,6 @@ pub record ControlGear : Type 0 where
   pub short : Option ℕ
   -- the first frame of a send-twice pair, where it was the last frame that the gear took
   pub half : Option Command
-
--- no address, as RANDOMISE never draws it
-abbrev pub MASK : ℕ
-MASK = 0xFFFFFF
 
 abbrev pub is_enabled : InitialisationState → Bool
 is_enabled Enabled = true
@@ -128,7 +124,7 @@ abbrev pub search_mask : SearchAddress
 search_mask = record { high = 0xFF; middle = 0xFF; low = 0xFF }
 
 abbrev pub fresh : ControlGear
-fresh = record { powered = true; state = Disabled; random = MASK; search = search_mask; short = None; half = None }
+fresh = record { powered = true; state = Disabled; random = MASK24; search = search_mask; short = None; half = None }
 
 abbrev pub without_power : ControlGear → ControlGear
 without_power g = record g { powered = false }

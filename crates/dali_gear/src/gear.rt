@@ -1,4 +1,5 @@
 ghost use Rattle.std.specs.Prelude.{◌≡◌, ◌<◌, IsTrue, Some, None, if◌then◌else◌};
+ghost use Rattle.dali_frame.specs.Random.{MASK24};
 ghost use Rattle.dali_special.specs.Command.{is_send_twice};
 
 use crate::state::InitialisationState;
@@ -30,7 +31,7 @@ fn half_pair(command: &Command, is_second: bool) -> Option<Command>
 }
 
 /// What a gear did with a frame.
-#[derive(Clone, Copy, Debug, PartialEq, Eq, Hash)]
+#[derive(Clone, Copy, Debug, PartialEq, Eq)]
 pub struct Effect {
     /// The backward frame that it answers, if any.
     pub answer: Option<u8>,
@@ -63,7 +64,7 @@ impl Model for Gear {
 
 impl Gear {
     ghost use Rattle.dali_special.specs.Command.{command_of};
-    ghost use Rattle.dali_gear.specs.ControlGear.{after_frame, answer_to, draws, fresh, without_power, with_power, expired, quieted, MASK, would_draw, is_active, is_found, answer, taken, concerns, is_second};
+    ghost use Rattle.dali_gear.specs.ControlGear.{after_frame, answer_to, draws, fresh, without_power, with_power, expired, quieted, would_draw, is_active, is_found, answer, taken, concerns, is_second};
 
     /// A gear from the factory: powered, DISABLED, with no address drawn or stored.
     pub fn new() -> Gear
@@ -79,9 +80,10 @@ impl Gear {
         }
     }
 
-    /// Takes a forward frame. `draw` is the number that it draws if the frame makes it draw one.
+    /// Takes a forward frame. `draw` is the number that it draws if the frame makes it draw one: then it must be below
+    /// `FFFFFF` (`would_draw` tells beforehand), else any number will do. A gear without power takes nothing.
     pub fn take(&mut self, frame: Forward, draw: Random24) -> Effect
-        requires { IsTrue (draws (command_of frame) self.old) → draw < MASK }
+        requires { IsTrue (draws (command_of frame) self.old) → draw < MASK24 }
         ensures gear { self.new ≡ after_frame (command_of frame) draw self.old }
         ensures answer { result.answer ≡ answer_to (command_of frame) self.old }
         ensures drew { result.drew ≡ draws (command_of frame) self.old }

@@ -1,19 +1,20 @@
 //! A row of gear on one bus: all that a frame reaches take it, in order of their number.
 
 ghost use Rattle.std.specs.Prelude.{◌≡◌, ◌<◌, ◌≤◌, ◌&&◌, length, All, IsTrue, None, if◌then◌else◌};
+ghost use Rattle.dali_frame.specs.Random.{MASK24};
 ghost use Rattle.dali_special.specs.Command.{command_of};
-ghost use Rattle.dali_gear.specs.ControlGear.{MASK, would_draw, answer};
+ghost use Rattle.dali_gear.specs.ControlGear.{would_draw, answer};
 ghost use Rattle.dali_gear.specs.Row.{reaches, row_after, answers_of, heard_of, draws_needed, one_after, joined_answer};
 
 use crate::gear::{Effect, Gear};
 use dali_frame::{Answer, Forward, Random24};
 
 /// Some of the gear of a row: gear g is the bit of value 2^g. A bit past the last gear has no effect.
-#[derive(Clone, Copy, Debug, PartialEq, Eq, Hash)]
+#[derive(Clone, Copy, Debug, PartialEq, Eq)]
 pub struct GearSet(pub u128);
 
 /// Which gear a frame reaches.
-#[derive(Clone, Copy, Debug, PartialEq, Eq, Hash)]
+#[derive(Clone, Copy, Debug, PartialEq, Eq)]
 pub enum Reach {
     /// All of them, as an undestroyed frame does.
     Everyone,
@@ -35,7 +36,7 @@ impl Reach {
 }
 
 /// What came of a frame.
-#[derive(Clone, Copy, Debug, PartialEq, Eq, Hash)]
+#[derive(Clone, Copy, Debug, PartialEq, Eq)]
 pub struct Heard {
     /// What is heard, where nothing disturbs the backward frames: two or more together are heard as `Damaged`
     /// (this project's profile).
@@ -44,7 +45,7 @@ pub struct Heard {
     pub drawn: usize,
 }
 
-/// How many numbers the gear would draw if this frame reached them now.
+/// How many numbers the gear, at most 128, would draw if this frame reached them now: so many `take` needs.
 pub fn draws_needed(gear: &[Gear], frame: Forward, reach: Reach) -> usize
     requires { length gear.now ≤ 128 }
     ensures { result ≡ draws_needed reach (command_of frame) 0 gear.now }
@@ -57,11 +58,12 @@ pub fn draws_needed(gear: &[Gear], frame: Forward, reach: Reach) -> usize
     needed
 }
 
-/// The gear that the frame reaches take it, in order of their number. Those that draw take the numbers in order.
+/// The gear that the frame reaches take it, in order of their number. Those that draw take the numbers in order: as
+/// many as `draws_needed` says must be there, each below `FFFFFF`. At most 128 gear.
 pub fn take(gear: &mut [Gear], frame: Forward, reach: Reach, draws: &[Random24]) -> Heard
     requires few { length gear.old ≤ 128 }
     requires enough { draws_needed reach (command_of frame) 0 gear.old ≤ length draws.now }
-    requires below_mask { All (λ r. r < MASK) draws.now }
+    requires below_mask { All (λ r. r < MASK24) draws.now }
     ensures gear { gear.new ≡ row_after reach (command_of frame) 0 gear.old draws.now }
     ensures drawn { result.drawn ≡ draws_needed reach (command_of frame) 0 gear.old }
     ensures answer { result.answer ≡ heard_of (answers_of reach (command_of frame) 0 gear.old) }
@@ -79,7 +81,7 @@ pub fn take(gear: &mut [Gear], frame: Forward, reach: Reach, draws: &[Random24])
 /// One gear of the row, which a frame reaches or not.
 fn take_one(gear: &mut Gear, frame: Forward, reached: bool, draws: &[Random24]) -> Effect
     requires enough { IsTrue ((gear.old.powered && reached) && would_draw (command_of frame) gear.old) → 0 < length draws.now }
-    requires below_mask { All (λ r. r < MASK) draws.now }
+    requires below_mask { All (λ r. r < MASK24) draws.now }
     ensures gear { gear.new ≡ one_after (gear.old.powered && reached) (command_of frame) draws.now gear.old }
     ensures answer { result.answer ≡ (if gear.old.powered && reached then answer (command_of frame) gear.old else None) }
     ensures drew { result.drew ≡ ((gear.old.powered && reached) && would_draw (command_of frame) gear.old) }

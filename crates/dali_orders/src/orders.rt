@@ -2,7 +2,7 @@ use dali_frame::{Answer, Forward, Priority};
 use dali_script::Record;
 
 /// What a machine is told.
-#[derive(Clone, Copy, Debug, PartialEq, Eq, Hash)]
+#[derive(Clone, Copy, Debug, PartialEq, Eq)]
 pub enum Input {
     /// To start, once, before all else.
     Start,
@@ -19,7 +19,7 @@ pub enum Input {
 }
 
 /// What a machine orders.
-#[derive(Clone, Copy, Debug, PartialEq, Eq, Hash)]
+#[derive(Clone, Copy, Debug, PartialEq, Eq)]
 pub enum Order {
     /// To send a frame at a priority: 3 for the first frame of a transaction, 1 for each later one.
     Put(Priority, Forward),
@@ -32,7 +32,7 @@ pub enum Order {
 }
 
 /// How a machine ends.
-#[derive(Clone, Copy, Debug, PartialEq, Eq, Hash)]
+#[derive(Clone, Copy, Debug, PartialEq, Eq)]
 pub enum End {
     /// No gear answers the search any more. It does not say that every gear has a short address: gear whose
     /// initialisation another controller has ended do not answer either.
@@ -44,7 +44,7 @@ pub enum End {
 }
 
 /// Why a machine cannot go on.
-#[derive(Clone, Copy, Debug, PartialEq, Eq, Hash)]
+#[derive(Clone, Copy, Debug, PartialEq, Eq)]
 pub enum Fault {
     /// A gear was found whose short address or random address the table has for another.
     Conflict,
@@ -53,7 +53,7 @@ pub enum Fault {
 }
 
 /// What a machine waits for.
-#[derive(Clone, Copy, Debug, PartialEq, Eq, Hash)]
+#[derive(Clone, Copy, Debug, PartialEq, Eq)]
 pub enum Due {
     /// To be started.
     Start,

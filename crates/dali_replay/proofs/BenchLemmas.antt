@@ -1,5 +1,6 @@
 use Rattle.std.proofs.Common.{ℕ, zero, suc, ◌<◌, inl, inr, List, [], ◌∷◌, length, get_or, take, drop, refl, arith}
-use Rattle.dali_script.specs.Records.{Has, MASK24}
+use Rattle.dali_frame.specs.Random.{MASK24}
+use Rattle.dali_script.specs.Records.{Has}
 
 has_take : (n : ℕ) (xs : List ℕ) (r : ℕ) → Has (take n xs) r → Has xs r
 has_take zero [] r has = has

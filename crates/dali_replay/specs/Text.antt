@@ -4,6 +4,7 @@ use Rattle.dali_frame.specs.declared.frames.Answer.{Answer}
 use Rattle.dali_frame.specs.declared.frames.Answer.TheVariants.{Silence, Byte, Damaged}
 use Rattle.dali_frame.specs.Hex.{forward_text, byte_text, random_text}
 use Rattle.dali_frame.specs.Random.{value_of}
+use Rattle.dali_frame.specs.Priority.{ARC}
 use Rattle.dali_gear.specs.declared.state.InitialisationState.{InitialisationState}
 use Rattle.dali_gear.specs.declared.state.InitialisationState.TheVariants.{Disabled, Enabled, Withdrawn}
 use Rattle.dali_gear.specs.ControlGear.{ControlGear}
@@ -132,7 +133,7 @@ kept_text c o = ordered_text c o
 
 -- `c: put 2 HHHH`
 abbrev pub offered_text : ℕ → Forward → List ℕ
-offered_text c f = decimal c ++ (codes ": " ++ (put_text 2 f ++ codes "\n"))
+offered_text c f = decimal c ++ (codes ": " ++ (put_text ARC f ++ codes "\n"))
 
 abbrev pub offered_of : ℕ → Forward → Unit {0} → List ℕ
 offered_of c f _ = offered_text c f

@@ -5,7 +5,7 @@ ghost use Rattle.std.specs.Prelude.{◌≡◌, ◌++◌, OnOk, string_bytes};
 ghost use Rattle.dali_replay.specs.Text.{answer_text, heard_text, power_text, state_text, short_text, condition_text, addresses_text, gear_text, gear_texts, ok_text, refusal_name, refused_text, assignment_text, commit_text, end_text, fault_text, put_text, order_text, ordered_text, kept_text, offered_text, destroyed_text, sent_text, report_text, collided_text, owner_text, lapse_text, ran_text, entry_text, entries_text, table_text};
 
 use dali_orders::{End, Fault, Order};
-use dali_frame::{Answer, Forward, Random24, Short};
+use dali_frame::{Answer, Forward, Priority, Random24, Short};
 use dali_gear::{Gear, InitialisationState};
 use dali_script::Record;
 use dali_world::{Refusal, Report};
@@ -221,7 +221,7 @@ pub fn push_offered(text: &mut String, c: u32, frame: Forward) -> Result<(), All
     ensures { OnOk result (string_bytes text.new ≡ string_bytes text.old ++ offered_text c frame) }
 {
     write!(text, "{c}: ")?;
-    push_put(text, 2, frame)?;
+    push_put(text, Priority::ARC.number(), frame)?;
     text.push_str("\n")
 }
 

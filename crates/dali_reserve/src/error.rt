@@ -4,7 +4,7 @@ ghost use Rattle.dali_reserve.specs.Refusals.{number_of};
 use thiserror::Error;
 
 /// Why a store doesn't answer its records, or doesn't take one. The numbers never change.
-#[derive(Clone, Copy, Debug, PartialEq, Eq, Hash, Error)]
+#[derive(Clone, Copy, Debug, PartialEq, Eq, Error)]
 pub enum KeepError {
     /// 1: memory ran out.
     #[error("out of memory")]

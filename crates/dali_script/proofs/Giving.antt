@@ -3,9 +3,9 @@ use Rattle.std.specs.Prelude.{◌==◌, ◌||◌, ◌&&◌, MatchOption, is_some
 use Rattle.std.specs.List.{list_any}
 use Rattle.std.proofs.lemmas.Bool.Decides.{nat_tests}
 use Rattle.dali_frame.specs.declared.numbers.SearchAddress.{SearchAddress}
-use Rattle.dali_frame.specs.Random.{value_of}
+use Rattle.dali_frame.specs.Random.{value_of, MASK24}
 use Rattle.dali_script.specs.declared.block.Block.{Block}
-use Rattle.dali_script.specs.Records.{Assignment, Has, IsOnce, numbers, HasAddress, HasNumber, InBlock, IsMap, MASK24}
+use Rattle.dali_script.specs.Records.{Assignment, Has, IsOnce, numbers, HasAddress, HasNumber, InBlock, IsMap}
 use Rattle.dali_script.specs.Scripts.{MayGive}
 use Rattle.dali_script.specs.Stages.{in_block, may_give, may_give_some}
 use Rattle.dali_script.proofs.Lists.{has_map}

@@ -2,10 +2,11 @@ use Rattle.std.proofs.Common.{◌≡◌, ℕ, ◌+◌, ◌<◌, ◌≤◌, ◌�
 use Rattle.std.specs.Prelude.{◌==◌, ◌||◌, ◌&&◌, OnOk, OnErr, if◌then◌else◌, zero, suc}
 use Rattle.std.specs.List.{list_any}
 use Rattle.std.proofs.lemmas.Bool.Decides.{nat_tests}
+use Rattle.dali_frame.specs.Random.{MASK24}
 use Rattle.dali_script.specs.declared.block.Block.{Block}
 use Rattle.dali_script.specs.declared.records.Record.{Record}
 use Rattle.dali_script.specs.declared.records.Record.TheVariants.{Reserve, Enrol}
-use Rattle.dali_script.specs.Records.{Records, IsKept, without_records, Fits, IsFresh, address_of, with_record, Assignment, Has, IsOnce, addresses, numbers, HasAddress, HasNumber, InBlock, IsMap, MASK24}
+use Rattle.dali_script.specs.Records.{Records, IsKept, without_records, Fits, IsFresh, address_of, with_record, Assignment, Has, IsOnce, addresses, numbers, HasAddress, HasNumber, InBlock, IsMap}
 
 -- a test over a list finds what stands in it
 pub has_by_test : (key : Assignment → ℕ) (xs : List Assignment) (a : ℕ) → list_any (λ p. key p == a) xs ≡ true → Has (map key xs) a

@@ -1,4 +1,5 @@
 use Rattle.std.specs.Prelude.{◌≡◌, ℕ, ◌<◌, ◌≤◌, ◌⊎◌, List, [], ◌∷◌, ◌++◌, map, length}
+use Rattle.dali_frame.specs.Random.{MASK24}
 use Rattle.dali_script.specs.declared.block.Block.{Block}
 use Rattle.dali_script.specs.declared.records.Record.{Record}
 use Rattle.dali_script.specs.declared.records.Record.TheVariants.{Reserve, Enrol}
@@ -41,10 +42,6 @@ HasNumber xs r = Has (numbers xs) r
 -- the short address lies in the block
 abbrev pub InBlock : Block → ℕ → Type 0
 InBlock b a = (b.first ≤ a) × (a ≤ b.last)
-
--- no gear draws the random address FFFFFF (IEC 62386-102:2014, RANDOMISE)
-abbrev pub MASK24 : ℕ
-MASK24 = 0xFFFFFF
 
 -- An ordered map of short addresses to random addresses that were drawn, both ways: each address once, each number once.
 pub record IsMap (xs : List Assignment) : Type 0 where

@@ -1,7 +1,7 @@
 use dali_frame::Short;
 
 /// The short addresses that one controller may give, `first` to `last`; empty where `first` is above `last`.
-#[derive(Clone, Copy, Debug, PartialEq, Eq, Hash)]
+#[derive(Clone, Copy, Debug, PartialEq, Eq)]
 pub struct Block {
     pub first: Short,
     pub last: Short,

@@ -1,7 +1,8 @@
 ghost use Rattle.std.specs.Prelude.{◌≡◌, ℕ, ◌+◌, [], ◌<◌, ◌≤◌, ◌↔◌, ◌==◌, ◌&&◌, nat_lt, ◌++◌, ◌∷◌, IsTrue, IsOk, OnOk, OnErr, IfOk, MatchOption, length, vec_len};
 ghost use Rattle.std.specs.List.{list_any};
 ghost use Rattle.std.specs.Vec.{vec_capacity};
-ghost use Rattle.dali_script.specs.Records.{Records, Has, HasAddress, HasNumber, IsMap, MASK24, IsLeastFree, IsFull};
+ghost use Rattle.dali_frame.specs.Random.{MASK24};
+ghost use Rattle.dali_script.specs.Records.{Records, Has, HasAddress, HasNumber, IsMap, IsLeastFree, IsFull};
 
 use crate::block::Block;
 use crate::records::{AddError, MakeError, Record};
@@ -105,7 +106,7 @@ impl Kept {
         self.block.first <= address && address <= self.block.last
     }
 
-    /// Adds a record as the last of its kind.
+    /// Adds a record as the last of its kind. It must fit, as `fits` tells: what comes from elsewhere is to be tested first.
     ///
     /// `AddressTaken` comes before `RandomTaken`; each speaks of records of the same kind alone.
     pub fn add(&mut self, added: Record) -> Result<(), AddError>

@@ -5,7 +5,7 @@ use dali_frame::{Random24, Short};
 use thiserror::Error;
 
 /// What a controller decides once and for all: a short address, and the random address of the gear that it is for.
-#[derive(Clone, Copy, Debug, PartialEq, Eq, Hash)]
+#[derive(Clone, Copy, Debug, PartialEq, Eq)]
 pub enum Record {
     /// The address is kept for the gear with this random address, and may be programmed into it alone.
     Reserve(Short, Random24),
@@ -14,7 +14,7 @@ pub enum Record {
 }
 
 /// Why there are no records. The number never changes.
-#[derive(Clone, Copy, Debug, PartialEq, Eq, Hash, Error)]
+#[derive(Clone, Copy, Debug, PartialEq, Eq, Error)]
 pub enum MakeError {
     /// 1: memory ran out.
     #[error("out of memory")]
@@ -33,7 +33,7 @@ impl MakeError {
 }
 
 /// Why a record is not added. The numbers never change.
-#[derive(Clone, Copy, Debug, PartialEq, Eq, Hash, Error)]
+#[derive(Clone, Copy, Debug, PartialEq, Eq, Error)]
 pub enum AddError {
     /// 3: a record of this kind has the short address.
     #[error("the short address has a record of this kind")]

@@ -10,7 +10,7 @@ use dali_special::Command;
 use std::marker::Model;
 
 /// One frame of a transaction, and what was heard after it.
-#[derive(Clone, Copy, Debug, PartialEq, Eq, Hash)]
+#[derive(Clone, Copy, Debug, PartialEq, Eq)]
 pub struct Entry {
     pub frame: Forward,
     pub heard: Answer,
@@ -80,7 +80,7 @@ impl Trace {
         self.stage.allows(kept, Command::read(frame))
     }
 
-    /// Adds a frame that was sent, and what was heard after it.
+    /// Adds a frame that was sent, and what was heard after it. The frame must be one that some records allow here.
     pub fn push(&mut self, frame: Forward, heard: Answer)
         requires { IsLawful self.old frame }
         ensures { self.new ≡ self.old ++ (record { frame = frame; heard = heard }) ∷ [] }

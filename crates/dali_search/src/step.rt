@@ -1,7 +1,7 @@
 use dali_frame::Random24;
 
 /// What an answer leads to.
-#[derive(Clone, Copy, Debug, PartialEq, Eq, Hash)]
+#[derive(Clone, Copy, Debug, PartialEq, Eq)]
 pub enum Step {
     /// The search goes on with another probe.
     Again,

@@ -4,7 +4,7 @@ ghost use Rattle.dali_special.specs.Command.{without_data_of, program_of, progra
 use dali_frame::{Forward, Short};
 
 /// The gear that an INITIALISE speaks to, by its data byte.
-#[derive(Clone, Copy, Debug, PartialEq, Eq, Hash)]
+#[derive(Clone, Copy, Debug, PartialEq, Eq)]
 pub enum Target {
     /// Data `00`: all gear.
     All,
@@ -15,7 +15,7 @@ pub enum Target {
 }
 
 /// An addressing command, or a frame that is none.
-#[derive(Clone, Copy, Debug, PartialEq, Eq, Hash)]
+#[derive(Clone, Copy, Debug, PartialEq, Eq)]
 pub enum Command {
     /// TERMINATE, `A1 00`: ends the initialisation of all gear.
     Terminate,

@@ -2,6 +2,7 @@ use Rattle.std.proofs.Common.{◌≡◌, ℕ, ◌<◌, ◌⊎◌, inl, inr, Bool
 use Rattle.std.proofs.lemmas.Bool.Decides.{nat_tests}
 use Rattle.dali_frame.specs.declared.frames.Forward.{Forward}
 use Rattle.dali_frame.specs.declared.frames.Answer.{Answer}
+use Rattle.dali_frame.specs.Random.{MASK24}
 use Rattle.dali_special.specs.declared.command.Command.{Command}
 use Rattle.dali_special.specs.declared.command.Command.TheVariants.{Terminate, Initialise, Randomise, Compare, Withdraw, SearchHigh, SearchMiddle, SearchLow, Program, Verify, QueryShort, Arc, Other}
 use Rattle.dali_special.specs.Command.{command_of}
@@ -9,7 +10,7 @@ use Rattle.dali_arbiter.specs.Bus.{owns}
 use Rattle.dali_script.specs.declared.trace.Entry.{Entry}
 use Rattle.dali_script.specs.declared.records.Record.{Record}
 use Rattle.dali_script.specs.declared.records.Record.TheVariants.{Reserve, Enrol}
-use Rattle.dali_script.specs.Records.{Assignment, Records, InBlock, MASK24, IsFresh}
+use Rattle.dali_script.specs.Records.{Assignment, Records, InBlock, IsFresh}
 use Rattle.dali_script.specs.Findings.{finding_of, later}
 use Rattle.dali_script.specs.Scripts.{Lawful, IsFirst}
 use Rattle.dali_script.specs.Stages.{stage_of, may_follow}

@@ -2,10 +2,11 @@ use Rattle.std.proofs.Common.{◌≡◌, ℕ, ◌+◌, ◌<◌, List, [], ◌∷
 use Rattle.std.specs.Prelude.{◌&&◌, if◌then◌else◌, zero, suc}
 use Rattle.std.proofs.lemmas.List.{drop-drop, drop_more, drop-set-lt, take_more_set, length-append, append-nil}
 use Rattle.std.proofs.Math.Seq.{take-length, drop-length}
+use Rattle.dali_frame.specs.Random.{MASK24}
 use mathlib.Core.List.{append_assoc}
 use Rattle.dali_special.specs.declared.command.Command.{Command}
 use Rattle.dali_gear.specs.declared.row.Reach.{Reach}
-use Rattle.dali_gear.specs.ControlGear.{ControlGear, MASK, quieted, would_draw}
+use Rattle.dali_gear.specs.ControlGear.{ControlGear, quieted, would_draw}
 use Rattle.dali_gear.specs.Row.{takes, left_after, row_left, row_after, draws_needed, stored_of}
 use Rattle.dali_script.specs.Records.{Has}
 use Rattle.dali_events.specs.Plan.{SitePlan, IsPlan}
@@ -62,8 +63,8 @@ below (x ∷ xs) m all zero d here = all x (inl refl)
 below (x ∷ xs) m all (suc k) d here = below xs m (λ r has. all r (inr has)) k d (omega arith)
 
 -- the numbers of a plan are below FFFFFF
-pub drawn_below : (p : SitePlan) (xs : List ℕ) → IsPlan p → xs ≡ p.draws → (k d : ℕ) → k < length xs → get_or xs k d < MASK
-drawn_below p xs plan is k d here = below xs MASK (λ r has. plan.draws_below r (subst (λ ys. Has ys r) is has)) k d here
+pub drawn_below : (p : SitePlan) (xs : List ℕ) → IsPlan p → xs ≡ p.draws → (k d : ℕ) → k < length xs → get_or xs k d < MASK24
+drawn_below p xs plan is k d here = below xs MASK24 (λ r has. plan.draws_below r (subst (λ ys. Has ys r) is has)) k d here
 
 -- a frame was taken: each part is what the definitions say
 pub taken_is : (reach : Reach) (x : Command) (was : Fitted) (gs after : List ControlGear) (draws : List ℕ) (used drawn : ℕ) (gifts more : List (ℕ × ℕ))

@@ -2,6 +2,7 @@ use Rattle.std.specs.Prelude.{◌≡◌, ℕ, Bool, true, false, not, List, [], 
 use Rattle.std.specs.List.{AllByRecursion}
 use Rattle.dali_frame.specs.declared.frames.Forward.{Forward}
 use Rattle.dali_frame.specs.declared.frames.Answer.{Answer}
+use Rattle.dali_frame.specs.Priority.{FIRST, LATER}
 use Rattle.dali_special.specs.Command.{command_of}
 use Rattle.dali_arbiter.specs.declared.request.Request.{Request}
 use Rattle.dali_arbiter.specs.Bus.{Bus, owns, request_of, offer_refusal}
@@ -27,7 +28,7 @@ use Rattle.dali_standing.specs.Standing.{Standing, Seated, place_in, controller_
 -- a controller that owns the bus: its frame waits, and follows the frames of its transaction; or it was told what was heard
 -- after its last one, and more may follow
 abbrev pub IsOwning : List Entry → Controller → Progress → Option Order → Option Input → Type 0
-IsOwning t k m (Some (Put p f)) None = (p ≡ 1) × (t ≡ m.trace) × Lawful k.records.block k.records.reserved t f × (is_arc (command_of f) ≡ false)
+IsOwning t k m (Some (Put p f)) None = (p ≡ LATER) × (t ≡ m.trace) × Lawful k.records.block k.records.reserved t f × (is_arc (command_of f) ≡ false)
 IsOwning t k m (Some (Put p f)) (Some (input.Heard h)) = t ≡ m.trace ++ entry f h ∷ []
 IsOwning t k m _ _ = ⊥
 
@@ -39,7 +40,7 @@ IsOver k m f _ = Unit {0}
 
 abbrev pub IsApart : Controller → Progress → Option Order → Option Input → Type 0
 IsApart k m None told = m.trace ≡ []
-IsApart k m (Some (Put p f)) None = (p ≡ 3) × (m.trace ≡ []) × IsFirst f
+IsApart k m (Some (Put p f)) None = (p ≡ FIRST) × (m.trace ≡ []) × IsFirst f
 IsApart k m (Some (Put p f)) (Some i) = IsOver k m f i
 IsApart k m (Some (Commit x)) told = m.trace ≡ []
 IsApart k m (Some (Done e)) told = Unit {0}

@@ -29,7 +29,7 @@ pub(crate) struct FittedGear {
 impl Model for FittedGear {
     ghost use Rattle.std.specs.Prelude.{◌≤◌, ◌<◌, drop, length, All};
     ghost use Rattle.std.specs.Vec.{vec_capacity};
-    ghost use Rattle.dali_gear.specs.ControlGear.{MASK};
+    ghost use Rattle.dali_frame.specs.Random.{MASK24};
     ghost use Rattle.dali_standing.specs.Fitted.{Fitted};
 
     ghost Value = { Fitted };
@@ -37,7 +37,7 @@ impl Model for FittedGear {
     ghost view = { λ f. record { gear = f.gear.items; left = drop f.used f.draws.items; gifts = f.gifts.items } };
 
     ghost invariant = { λ f. (length f.gear.items ≤ 128) × (f.used ≤ length f.draws.items) × (length f.draws.items ≤ 1024)
-        × All (λ r. r < MASK) f.draws.items × (length f.gear.items ≤ vec_capacity f.gifts) };
+        × All (λ r. r < MASK24) f.draws.items × (length f.gear.items ≤ vec_capacity f.gifts) };
 }
 
 impl FittedGear {

@@ -7,7 +7,7 @@ use thiserror::Error;
 ///
 /// The first cause that holds is answered, in the order of the numbers: a controller or a gear that is not there comes
 /// first, and want of memory last.
-#[derive(Clone, Copy, Debug, PartialEq, Eq, Hash, Error)]
+#[derive(Clone, Copy, Debug, PartialEq, Eq, Error)]
 pub enum Refusal {
     /// 1: the site has no controller of this number.
     #[error("UnknownController")]

@@ -34,6 +34,10 @@ use std::marker::Model;
 
 /// What stands on a site at one moment: its gear, the requests that wait for its bus, the frames of the running
 /// transaction, and a place for each controller.
+///
+/// Controllers and gear are named by their numbers, which must be there. The caller tests what its call asks for: `is_up` and
+/// `may_act` before `act`, `is_crowded` before `act` and `offer`, `next_request` and `is_spent` before a request is sent,
+/// destroyed or collides, `agreement` before `up`.
 #[derive(Drop)]
 pub struct Standing {
     fitted: FittedGear,
@@ -185,7 +189,7 @@ impl Standing {
         requires room { total self.old.bus < self.old.bus.capacity }
         ensures { Moves self.old (event.Offered c frame) self.new }
     {
-        match self.arbiter.offer(c, arc_priority(), frame) {
+        match self.arbiter.offer(c, Priority::ARC, frame) {
             Ok(()) => {}
             Err(_) => unreachable!(),
         }
@@ -377,7 +381,7 @@ fn keeps_bus(order: &Order) -> bool
     ensures { result ≡ keeps_bus order.now }
 {
     match order {
-        Order::Put(priority, _) => priority.number() == 1,
+        Order::Put(priority, _) => *priority == Priority::LATER,
         _ => false,
     }
 }
@@ -404,12 +408,6 @@ fn request(arbiter: &mut Arbiter, c: u8, order: &Order)
             Err(_) => unreachable!(),
         }
     }
-}
-
-fn arc_priority() -> Priority
-    ensures { result ≡ 2 }
-{
-    Priority::of(2).unwrap()
 }
 
 /// Whether a frame is direct arc power, of which a controller is told nothing.

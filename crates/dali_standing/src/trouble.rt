@@ -4,7 +4,7 @@ use dali_frame::{Answer, Forward};
 use dali_gear::{GearSet, Reach};
 
 /// What disturbs the next frame on the bus.
-#[derive(Clone, Copy, Debug, PartialEq, Eq, Hash)]
+#[derive(Clone, Copy, Debug, PartialEq, Eq)]
 pub enum Trouble {
     /// Nothing.
     None,
@@ -19,7 +19,7 @@ pub enum Trouble {
 }
 
 /// What came of the next frame.
-#[derive(Clone, Copy, Debug, PartialEq, Eq, Hash)]
+#[derive(Clone, Copy, Debug, PartialEq, Eq)]
 pub enum Report {
     /// No request was next.
     Idle,

@@ -3,10 +3,6 @@
 //! `SiteState` has one call for each event. What a site is follows from its plan and its log alone, by the definitions of
 //! `dali_events`: the world after the log. Each accepted call adds one event, which is allowed in that world; a refusal
 //! changes nothing.
-//!
-//! The calls are of four kinds. Controllers: `act`, `arc`, `down`, `up`. The bus: `pump`, `lapse`, `quiet`. Gear: `power`,
-//! `expire`. Readers: `next` and `due` say what a controller may act on, and `idle` whether a request waits for `pump`; `log`,
-//! `gear`, `kept`, `table`, `owner` and `plan` change nothing.
 #![tactic(auto)]
 
 mod receipt;

@@ -26,6 +26,13 @@ use std::marker::Model;
 
 /// A site: its gear, its bus and its controllers, with a log of all that happened on it.
 ///
+/// Its calls are of four kinds. Controllers: `act`, `arc`, `down`, `up`. The bus: `pump`, `lapse`, `quiet`. Gear: `power`,
+/// `expire`. Readers change nothing: `next` and `due` say what a controller may act on, `idle` whether a request waits for
+/// `pump`; `log`, `gear`, `kept`, `table`, `gifts`, `owner` and `plan` show what there is; `is_safe` says what is promised.
+///
+/// A site in use: each controller that has something due acts, then `pump`, and so on; where an act ordered a `Commit`, the
+/// record is stored and `Committed` acted on. Nothing promises that this ends: bound the loop.
+///
 /// Contracts see the plan, the two capacities and the log, from which everything else follows. Each accepted call adds one
 /// event to the log; a refusal changes nothing.
 #[derive(Drop)]
@@ -282,7 +289,8 @@ impl SiteState {
         &self.log
     }
 
-    /// What the bus has told a controller, and it has not acted on; or Start, where it has not started. None while it is down.
+    /// What the bus has told controller `c`, which must be there, and it has not acted on; or Start, where it has not started:
+    /// the input that `act` takes. None while it is down.
     pub fn next(&self, c: u8) -> Option<Input>
         requires { c < length self.now.plan.blocks }
         ensures { result ≡ (controller_at (world self.now) c).told }
@@ -290,7 +298,7 @@ impl SiteState {
         self.standing.told(c)
     }
 
-    /// What is due for a controller: Nothing while it is down.
+    /// What is due for controller `c`, which must be there: Nothing while it is down.
     pub fn due(&self, c: u8) -> Due
         requires { c < length self.now.plan.blocks }
         ensures { result ≡ due_of (controller_at (world self.now) c) }
@@ -298,7 +306,7 @@ impl SiteState {
         self.standing.due(c)
     }
 
-    /// A gear.
+    /// Gear `number`, which must be there.
     pub fn gear(&self, number: u32) -> &Gear
         requires { number < self.now.plan.gear }
         ensures { result.now ≡ gear_at (world self.now) number }
@@ -306,7 +314,7 @@ impl SiteState {
         &self.standing.gear()[number as usize]
     }
 
-    /// The records that a controller keeps.
+    /// The records that controller `c`, which must be there, keeps, whether it is up or down.
     pub fn kept(&self, c: u8) -> &Kept
         requires { c < length self.now.plan.blocks }
         ensures { result.now ≡ (controller_at (world self.now) c).records }
@@ -314,7 +322,7 @@ impl SiteState {
         self.standing.kept(c)
     }
 
-    /// The gear that a controller has enrolled: None while it is down.
+    /// The gear that controller `c`, which must be there, has enrolled: None while it is down.
     pub fn table(&self, c: u8) -> Option<&Table>
         requires { c < length self.now.plan.blocks }
         ensures { MatchOption result ((controller_at (world self.now) c).up ≡ false)

@@ -3,4 +3,4 @@ use Rattle.dali_standing.proofs.standing.Standing.offer.Goals as goal
 
 pub invariant_of-self : goal.invariant_of-self
 invariant_of-self c =
-    (offer_done _ _ c.args.c c.args.frame _ c.self.view_is c.self.invariant c.requires.up c.requires.arc (rw c.arc_priority.ensures at c.in-Ok.ensures.put)).settled
+    (offer_done _ _ c.args.c c.args.frame _ c.self.view_is c.self.invariant c.requires.up c.requires.arc c.in-Ok.ensures.put).settled
