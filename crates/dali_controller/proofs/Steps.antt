@@ -551,7 +551,7 @@ lost_next w t o new empty next = subst (λ u. IsNext (seen (record w { trace = u
 -- TO GIVE
 may_give : (k : Records) (r : SearchAddress) (a : ℕ) → IsKept k → Has k.reserved (a, value_of r) → MayGive k.block k.reserved r a
 may_give k r a m h = record {
-  drawn = m.reserved.drawn (value_of r) (has_map (λ q. q.1) k.reserved (a, value_of r) h);
+  drawn = m.reserved_drawn (value_of r) (has_map (λ q. q.1) k.reserved (a, value_of r) h);
   within = m.within a (has_map (λ q. q.0) k.reserved (a, value_of r) h);
   reserved_for = h;
 }
@@ -560,10 +560,6 @@ pub sends_program : (k : Records) (n r : SearchAddress) (p : Purpose) (a m : ℕ
 sends_program k n r p a m kept visiting is h =
     let there : Has k.reserved (a, value_of r) = subst (λ v. Has k.reserved (a, v)) is h in
     (visiting.0, visiting.1, (a, kept.reserved.short a (has_map (λ q. q.0) k.reserved (a, value_of r) there), may_give k r a kept there, refl))
-
--- a pair of a list
-pub number_here : (xs : List Assignment) (i : ℕ) (p : Assignment) → i < length xs → p ≡ get_or xs i p → HasNumber xs p.1
-number_here xs i p h is = has_map (λ q. q.1) xs p (subst (Has xs) (sym is) (has_at xs i p h))
 
 -- TO SETTLE
 entries_of : (w : Work) → w.table ≡ roster_of w.kept → w.table.entries ≡ w.kept.enrolled
@@ -641,9 +637,10 @@ enrols w r b m o new h none fresh is order state = record {
 }
 
 -- a number is reserved once its reservation is kept
-pub reserved_kept : (w new : Work) (a n m : ℕ) → new ≡ record w { kept = with_record w.kept (Reserve a n) } → m ≡ n → HasNumber new.kept.reserved m
-reserved_kept w new a n m is same =
-    subst (λ (x : Work). HasNumber x.kept.reserved m) (sym is) (subst (HasNumber (w.kept.reserved ++ (a, n) ∷ [])) (sym same) (has_map (λ q. q.1) (w.kept.reserved ++ (a, n) ∷ []) (a, n) (has_last w.kept.reserved (a, n))))
+pub reserved_kept : (w new : Work) (x : Record) (a n m : ℕ) → x ≡ Reserve a n → new ≡ record w { kept = with_record w.kept x } → m ≡ n → HasNumber new.kept.reserved m
+reserved_kept w new x a n m reserves is same =
+    let there : HasNumber (w.kept.reserved ++ (a, n) ∷ []) n = has_map (λ q. q.1) (w.kept.reserved ++ (a, n) ∷ []) (a, n) (has_last w.kept.reserved (a, n)) in
+    rw (is, reserves, same) there
 
 -- before the start
 pub fine_at_first : (w : Work) → w.table ≡ roster_of w.kept → w.trace ≡ [] → w.last ≡ None → w.tries ≡ 0 → w.silent ≡ 0 → w.opened ≡ false → w.purpose ≡ Opening → IsFine w

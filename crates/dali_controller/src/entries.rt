@@ -14,12 +14,11 @@ pub(crate) fn table_of(alloc: Global, block: Block, kept: &Kept) -> Result<Table
     requires { kept.now.block ≡ block }
     ensures { IfOk result (λ table. table ≡ roster_of kept.now) }
 {
-    // In the records each address stands once, and each number.
-    let _ = kept.block();
     let Ok(mut table) = Table::new(alloc, block) else {
         return Err(MachineError::NoMemory);
     };
     for entry in kept.enrolled() {
+        // In the records each address stands once, and each number.
         enter(&mut table, entry.0, entry.1);
     }
     Ok(table)

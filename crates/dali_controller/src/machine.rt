@@ -6,11 +6,11 @@ ghost use Rattle.dali_controller.specs.Orders.{IsAnswered, after};
 
 use crate::entries::table_of;
 use crate::error::{MachineError, StepError};
-use dali_orders::{Due, Input, Order};
 use crate::purpose::Purpose;
 use crate::work::Work;
 use dali_enrol::Table;
 use dali_frame::SearchAddress;
+use dali_orders::{Due, Input, Order};
 use dali_script::{Block, Kept, Trace};
 use dali_search::Search;
 use std::alloc::Global;
@@ -130,6 +130,27 @@ impl Machine {
             Some(Order::Commit(_)) => Due::Store,
             Some(Order::Done(_) | Order::Halt(_)) => Due::Nothing,
         }
+    }
+
+    /// What the machine ordered last.
+    pub fn last(&self) -> Option<Order>
+        ensures { result ≡ self.now.last }
+    {
+        self.work.last
+    }
+
+    /// The records that are kept.
+    pub fn kept(&self) -> &Kept
+        ensures { result.now ≡ self.now.kept }
+    {
+        &self.work.kept
+    }
+
+    /// The records that are kept. The machine is gone.
+    pub fn into_kept(self) -> Kept
+        ensures { result ≡ self.kept }
+    {
+        self.work.kept
     }
 
     /// The gear that are enrolled, with the block.

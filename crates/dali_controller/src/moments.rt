@@ -11,11 +11,11 @@ ghost use Rattle.dali_orders.specs.Due.{frame_put, record_ordered};
 ghost use Rattle.dali_controller.specs.Progress.{lost, roster_of};
 
 use crate::entries::enter;
-use dali_orders::{End, Fault, Order};
 use crate::purpose::Purpose;
 use crate::unfinished::next_unfinished;
 use crate::work::Work;
 use dali_frame::{Answer, Forward, Random24, SearchAddress, Short};
+use dali_orders::{End, Fault, Order};
 use dali_script::{Record, Stage, Trace};
 use dali_search::{Search, Step};
 use dali_special::{Command, Target};
@@ -153,37 +153,26 @@ impl Work {
     {
         match stage {
             Stage::Terminated => self.terminated(),
-            Stage::InitialisedOnce => {
-                self.put(
-                    Stage::InitialisedOnce,
-                    Command::Initialise(Target::Unaddressed),
-                )
-            }
-            Stage::Initialised => self.put(Stage::Initialised, Command::Randomise),
-            Stage::RandomisedOnce => self.put(Stage::RandomisedOnce, Command::Randomise),
+            Stage::InitialisedOnce => self.put(Command::Initialise(Target::Unaddressed)),
+            Stage::Initialised | Stage::RandomisedOnce => self.put(Command::Randomise),
             Stage::Opened => self.all_drawn(),
-            Stage::HighSent(high) => {
+            Stage::HighSent(_) => {
                 let middle = self.number.middle;
-                self.put(Stage::HighSent(high), Command::SearchMiddle(middle))
+                self.put(Command::SearchMiddle(middle))
             }
-            Stage::MiddleSent(high, middle) => {
+            Stage::MiddleSent(..) => {
                 let low = self.number.low;
-                self.put(Stage::MiddleSent(high, middle), Command::SearchLow(low))
+                self.put(Command::SearchLow(low))
             }
-            Stage::NumberSent(number) => {
+            Stage::NumberSent(_) => {
                 let asked = self.purpose.asks();
-                self.put(Stage::NumberSent(number), asked)
+                self.put(asked)
             }
             Stage::Probed(number, heard) => self.probed(number, heard),
-            Stage::Found(number, short) => self.put(Stage::Found(number, short), Command::Withdraw),
             Stage::Unnamed(number) => self.unnamed(number),
             Stage::Inconclusive(number, other) => self.silenced(number, other),
-            Stage::Programmed(number, short) => {
-                self.put(Stage::Programmed(number, short), Command::QueryShort)
-            }
-            Stage::Confirmed(number, short) => {
-                self.put(Stage::Confirmed(number, short), Command::Withdraw)
-            }
+            Stage::Programmed(..) => self.put(Command::QueryShort),
+            Stage::Found(..) | Stage::Confirmed(..) => self.put(Command::Withdraw),
             Stage::Withdrawn(number, short) => self.settle(number, short),
             Stage::Free | Stage::Over => unreachable!(),
         }
@@ -197,9 +186,7 @@ impl Work {
         ensures fine { IsFine self.new }
     {
         match self.purpose {
-            Purpose::Opening => {
-                self.put(Stage::Terminated, Command::Initialise(Target::Unaddressed))
-            }
+            Purpose::Opening => self.put(Command::Initialise(Target::Unaddressed)),
             Purpose::Closing(end) => self.done(end),
             Purpose::Probing | Purpose::Visiting => unreachable!(),
         }
@@ -236,10 +223,8 @@ impl Work {
         ensures next { IsNext (seen self.old) result (seen self.new) }
         ensures fine { IsFine self.new }
     {
-        // What is reserved lies in the block, and is for a number that gear draw.
-        let _ = self.kept.block();
         match self.kept.reserved_for(number.value()) {
-            Some(short) => self.put(Stage::Unnamed(number), Command::Program(Some(short))),
+            Some(short) => self.put(Command::Program(Some(short))),
             None => self.reserve(number),
         }
     }
@@ -316,13 +301,11 @@ impl Work {
         ensures step { IsStep (seen self.old) input.Committed result (seen self.new) }
         ensures fine { IsFine self.new }
     {
+        let kept = added;
+        self.keep(kept);
         match added {
-            Record::Reserve(short, number) => {
-                self.keep(Record::Reserve(short, number));
-                self.visit(SearchAddress::of(number))
-            }
+            Record::Reserve(_, number) => self.visit(SearchAddress::of(number)),
             Record::Enrol(short, number) => {
-                self.keep(Record::Enrol(short, number));
                 enter(&mut self.table, short, number);
                 self.go_on()
             }

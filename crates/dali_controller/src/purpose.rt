@@ -1,7 +1,7 @@
 ghost use Rattle.std.specs.Prelude.{◌≡◌};
 
-use dali_orders::End;
 use dali_frame::SearchAddress;
+use dali_orders::End;
 use dali_special::Command;
 
 /// What the running transaction is for. How far it is, its trace says.

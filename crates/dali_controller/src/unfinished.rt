@@ -12,34 +12,21 @@ pub(crate) fn next_unfinished(kept: &Kept, table: &Table, from: u8) -> Option<(u
     ensures reserved { IfSome result (λ next. HasNumber kept.now.reserved next.1) }
     ensures drawn { IfSome result (λ next. next.1 < MASK24) }
 {
-    // What is reserved is for numbers that gear draw.
-    let _ = kept.block();
     for address in from..64 {
-        if let Some(number) = unfinished_at(kept, table, address) {
+        if let Some(number) = unfinished_at(kept, table, Short::of(address)?) {
             return Some((address + 1, number));
         }
     }
     None
 }
 
-fn unfinished_at(kept: &Kept, table: &Table, address: u8) -> Option<Random24>
-    ensures { IfSome result (λ number. HasNumber kept.now.reserved number) }
+fn unfinished_at(kept: &Kept, table: &Table, address: Short) -> Option<Random24>
+    ensures reserved { IfSome result (λ number. HasNumber kept.now.reserved number) }
+    ensures drawn { IfSome result (λ number. number < MASK24) }
 {
-    let number = number_at(kept.reserved(), address)?;
+    let number = kept.number_reserved(address)?;
     match table.by_random(number) {
         Some(_) => None,
         None => Some(number),
     }
-}
-
-/// The random address of the pair with a short address.
-fn number_at(pairs: &[(Short, Random24)], address: u8) -> Option<Random24>
-    ensures { IfSome result (λ number. HasNumber pairs.now number) }
-{
-    for pair in pairs {
-        if pair.0.number() == address {
-            return Some(pair.1);
-        }
-    }
-    None
 }

@@ -11,10 +11,10 @@ ghost use Rattle.dali_orders.specs.Due.{frame_put};
 ghost use Rattle.dali_controller.specs.Progress.{told, is_complete, tries_after, silent_after, opened_after, roster_of};
 ghost use Rattle.dali_controller.specs.Orders.{ordered};
 
-use dali_orders::{End, Fault, Order};
 use crate::purpose::Purpose;
 use dali_enrol::Table;
 use dali_frame::{Answer, Forward, Priority, Random24, SearchAddress, Short};
+use dali_orders::{End, Fault, Order};
 use dali_script::{Kept, Record, Stage, Trace};
 use dali_search::Search;
 use dali_special::Command;
@@ -104,11 +104,11 @@ impl Work {
         self.trace.stage()
     }
 
-    /// Goes on with the running transaction, which is at this stage.
-    pub(crate) fn put(&mut self, _at: Stage, command: Command) -> Order
-        requires heard { IsHeard self.old _at }
-        requires sends { Sends self.old.kept self.old.number self.old.purpose _at command }
-        requires later { _at ≡ Free → ⊥ }
+    /// Goes on with the running transaction.
+    pub(crate) fn put(&mut self, command: Command) -> Order
+        requires heard { IsHeard self.old (stage_of self.old.trace) }
+        requires sends { Sends self.old.kept self.old.number self.old.purpose (stage_of self.old.trace) command }
+        requires later { stage_of self.old.trace ≡ Free → ⊥ }
 
         ensures next { IsNext (seen self.old) result (seen self.new) }
         ensures fine { IsFine self.new }

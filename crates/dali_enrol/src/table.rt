@@ -1,46 +1,40 @@
-ghost use Rattle.std.specs.Prelude.{◌≡◌, ℕ, ◌<◌, ◌≤◌, ◌↔◌, [], ◌∷◌, ◌++◌, Ok, Err, IsTrue, IsOk, IfOk, IfErr, OnOk, OnErr, MatchOption};
-ghost use Rattle.dali_script.specs.Records.{Has, HasAddress, HasNumber, InBlock};
+ghost use Rattle.std.specs.Prelude.{◌≡◌, ℕ, ◌≤◌, ◌↔◌, Err, IsTrue, IsOk, IfOk, IfErr, OnOk, OnErr, MatchOption};
+ghost use Rattle.dali_script.specs.Records.{Has, HasAddress, HasNumber, InBlock, IsMap};
 ghost use Rattle.dali_enrol.specs.declared.error.TableError.TheVariants.{AddressTaken, RandomTaken, NoMemory};
 
 use crate::error::TableError;
 use dali_frame::{Random24, Short};
-use dali_script::Block;
+use dali_script::{AddError, Assignments, Block};
 use std::alloc::Global;
 use std::marker::Model;
 
-/// Room for an entry of every short address.
-const ROOM: usize = 64;
-
 /// The gear that a controller has enrolled, and the block of short addresses that it gives.
 ///
-/// Contracts see the block, and the entries as a list of pairs, oldest first. An address stands once, and a number once.
+/// Contracts see the block, and the entries as a list of pairs, oldest first. An address stands once, and a number
+/// once.
 #[derive(Drop)]
 pub struct Table {
     block: Block,
-    entries: Vec<(Short, Random24)>,
+    entries: Assignments,
 }
 
 impl Model for Table {
-    ghost use Rattle.std.specs.Prelude.{◌≤◌};
-    ghost use Rattle.std.specs.Vec.{vec_capacity};
-    ghost use Rattle.dali_enrol.specs.Roster.{Roster, IsRoster};
+    ghost use Rattle.dali_enrol.specs.Roster.{Roster};
 
     ghost Value = { Roster };
 
-    ghost view = { λ t. record { block = t.block; entries = t.entries.items } };
-
-    ghost invariant = { λ t. IsRoster t.entries.items × (64 ≤ vec_capacity t.entries) };
+    ghost view = { λ t. record { block = t.block; entries = t.entries } };
 }
 
 impl Table {
-    ghost use Rattle.dali_enrol.specs.Roster.{Roster, IsRoster, at_first, with_entry};
+    ghost use Rattle.dali_enrol.specs.Roster.{at_first, with_entry};
 
     /// A table with no entries. It takes all the memory that the table will need.
     pub fn new(alloc: Global, block: Block) -> Result<Table, TableError>
         ensures empty { IfOk result (λ t. t ≡ at_first block) }
         ensures refusal { IfErr result (λ e. e ≡ NoMemory) }
     {
-        let Ok(entries) = Vec::with_capacity(alloc, ROOM) else {
+        let Ok(entries) = Assignments::new(alloc) else {
             return Err(TableError::NoMemory);
         };
         Ok(Table { block, entries })
@@ -56,9 +50,9 @@ impl Table {
     /// The entries, oldest first.
     pub fn entries(&self) -> &[(Short, Random24)]
         ensures value { result.now ≡ self.now.entries }
-        ensures once { IsRoster self.now.entries }
+        ensures once { IsMap self.now.entries }
     {
-        &self.entries
+        self.entries.pairs()
     }
 
     /// Adds an entry as the last one. It takes no memory.
@@ -73,15 +67,11 @@ impl Table {
         ensures ok { OnOk result (self.new ≡ with_entry self.old address number) }
         ensures err { OnErr result (self.new ≡ self.old) }
     {
-        if number_at(&self.entries, address).is_some() {
-            return Err(TableError::AddressTaken);
+        match self.entries.insert(address, number) {
+            Ok(()) => Ok(()),
+            Err(AddError::AddressTaken) => Err(TableError::AddressTaken),
+            Err(AddError::RandomTaken) => Err(TableError::RandomTaken),
         }
-        if address_for(&self.entries, number).is_some() {
-            return Err(TableError::RandomTaken);
-        }
-        // A further address is one of 64, so there is room for it.
-        let _ = self.entries.push((address, number));
-        Ok(())
     }
 
     /// The random address of the gear that was enrolled with a short address.
@@ -90,7 +80,7 @@ impl Table {
             (HasAddress self.now.entries address → ⊥)
             (λ number. Has self.now.entries (address, number)) }
     {
-        number_at(&self.entries, address)
+        self.entries.number_at(address)
     }
 
     /// The short address with which the gear of a random address was enrolled.
@@ -99,7 +89,7 @@ impl Table {
             (HasNumber self.now.entries number → ⊥)
             (λ address. Has self.now.entries (address, number)) }
     {
-        address_for(&self.entries, number)
+        self.entries.address_for(number)
     }
 
     /// Whether a short address lies in the block.
@@ -108,34 +98,4 @@ impl Table {
     {
         self.block.first <= address && address <= self.block.last
     }
-}
-
-/// The random address of the pair with a short address.
-fn number_at(entries: &[(Short, Random24)], address: Short) -> Option<Random24>
-    ensures found { MatchOption result
-        (HasAddress entries.now address → ⊥)
-        (λ number. Has entries.now (address, number)) }
-    ensures range { address < 64 }
-{
-    let wanted = address.number();
-    for entry in entries {
-        if entry.0.number() == wanted {
-            return Some(entry.1);
-        }
-    }
-    None
-}
-
-/// The short address of the pair with a random address.
-fn address_for(entries: &[(Short, Random24)], number: Random24) -> Option<Short>
-    ensures { MatchOption result
-        (HasNumber entries.now number → ⊥)
-        (λ address. Has entries.now (address, number)) }
-{
-    for entry in entries {
-        if entry.1 == number {
-            return Some(entry.0);
-        }
-    }
-    None
 }

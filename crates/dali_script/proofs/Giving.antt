@@ -5,7 +5,7 @@ use Rattle.std.proofs.lemmas.Bool.Decides.{nat_tests}
 use Rattle.dali_frame.specs.declared.numbers.SearchAddress.{SearchAddress}
 use Rattle.dali_frame.specs.Random.{value_of, MASK24}
 use Rattle.dali_script.specs.declared.block.Block.{Block}
-use Rattle.dali_script.specs.Records.{Assignment, Has, IsOnce, numbers, HasAddress, HasNumber, InBlock, IsMap}
+use Rattle.dali_script.specs.Records.{Assignment, Has, IsOnce, numbers, HasAddress, HasNumber, InBlock, IsMap, AllDrawn}
 use Rattle.dali_script.specs.Scripts.{MayGive}
 use Rattle.dali_script.specs.Stages.{in_block, may_give, may_give_some}
 use Rattle.dali_script.proofs.Lists.{has_map}
@@ -111,13 +111,13 @@ may_give_from b xs r a e =
         (low, high)
 
 -- over records that are kept, the reservation of a number says all of it
-pub give_some : (b : Block) (xs : List Assignment) (n c a : ℕ) → IsMap xs → ((d : ℕ) → HasAddress xs d → InBlock b d) → Has xs (c, n) → (c == a) ≡ may_give b xs n a
-give_some b xs n c a m within h = go (c == a) refl where
+pub give_some : (b : Block) (xs : List Assignment) (n c a : ℕ) → IsMap xs → AllDrawn xs → ((d : ℕ) → HasAddress xs d → InBlock b d) → Has xs (c, n) → (c == a) ≡ may_give b xs n a
+give_some b xs n c a m drawn within h = go (c == a) refl where
   go : (t : Bool) → (c == a) ≡ t → t ≡ may_give b xs n a
   go true is =
       let same : c ≡ a = grind (arith, nat_tests) in
       let here : Has xs (a, n) = subst (λ d. Has xs (d, n)) same h in
-      sym (both _ _ (both _ _ (below_by n MASK24 (m.drawn n (has_map (λ q. q.1) xs (a, n) here))) (in_block_by b a (within a (has_map (λ q. q.0) xs (a, n) here)))) (test_of_pair xs a n here))
+      sym (both _ _ (both _ _ (below_by n MASK24 (drawn n (has_map (λ q. q.1) xs (a, n) here))) (in_block_by b a (within a (has_map (λ q. q.0) xs (a, n) here)))) (test_of_pair xs a n here))
   go false is = sym (not_second _ _ (false_of_not _ (λ e.
       let same : c ≡ a = one_address xs c a n m.number_once h (pair_of_test xs a n e) in
       grind (arith, nat_tests))))
@@ -125,8 +125,8 @@ give_some b xs n c a m within h = go (c == a) refl where
 pub give_none : (b : Block) (xs : List Assignment) (n a : ℕ) → (HasNumber xs n → ⊥) → false ≡ may_give b xs n a
 give_none b xs n a none = sym (not_second _ _ (false_of_not _ (λ e. none (has_map (λ q. q.1) xs (a, n) (pair_of_test xs a n e)))))
 
-pub give_some_to : (b : Block) (xs : List Assignment) (n c : ℕ) → IsMap xs → ((d : ℕ) → HasAddress xs d → InBlock b d) → Has xs (c, n) → true ≡ may_give_some b xs n
-give_some_to b xs n c m within h = sym (both _ _ (below_by n MASK24 (m.drawn n (has_map (λ q. q.1) xs (c, n) h)))
+pub give_some_to : (b : Block) (xs : List Assignment) (n c : ℕ) → IsMap xs → AllDrawn xs → ((d : ℕ) → HasAddress xs d → InBlock b d) → Has xs (c, n) → true ≡ may_give_some b xs n
+give_some_to b xs n c m drawn within h = sym (both _ _ (below_by n MASK24 (drawn n (has_map (λ q. q.1) xs (c, n) h)))
     (any_by_member (λ p. in_block b p.0 && (p.1 == n)) xs (c, n) h (both _ _ (in_block_by b c (within c (has_map (λ q. q.0) xs (c, n) h))) (self n)))) where
       self : (k : ℕ) → (k == k) ≡ true
       self k = grind (arith, nat_tests)
@@ -141,10 +141,10 @@ give_to_none b xs n none = sym (not_second _ _ (false_of_not _ (λ e. from (memb
       same : (k : ℕ) → (k == n) ≡ true → k ≡ n
       same k t = grind (arith, nat_tests)
 
-pub goes_on_by : (b : Block) (xs : List Assignment) (n : ℕ) (o : Option ℕ) → IsMap xs → ((d : ℕ) → HasAddress xs d → InBlock b d)
+pub goes_on_by : (b : Block) (xs : List Assignment) (n : ℕ) (o : Option ℕ) → IsMap xs → AllDrawn xs → ((d : ℕ) → HasAddress xs d → InBlock b d)
     → MatchOption o (HasNumber xs n → ⊥) (λ c. Has xs (c, n)) → is_some o ≡ may_give_some b xs n
-goes_on_by b xs n None m within h = give_to_none b xs n h
-goes_on_by b xs n (Some c) m within h = give_some_to b xs n c m within h
+goes_on_by b xs n None m drawn within h = give_to_none b xs n h
+goes_on_by b xs n (Some c) m drawn within h = give_some_to b xs n c m drawn within h
 
 pub may_give_some_by : (b : Block) (xs : List Assignment) (r : SearchAddress) (a : ℕ) → MayGive b xs r a → may_give_some b xs (value_of r) ≡ true
 may_give_some_by b xs r a g = both _ _ (below_by (value_of r) MASK24 g.drawn)

@@ -1,6 +1,6 @@
-use Rattle.std.proofs.Common.{◌≡◌, ℕ, ◌+◌, ◌<◌, ◌≤◌, ◌⊎◌, inl, inr, Bool, true, false, List, [], ◌∷◌, ◌++◌, refl, sym, ap, subst, ◌∙◌, arith, length, length-append, map, get_or, drop, drop-cons, add-one, nat_eq, Decides, Result, Ok, Err}
-use Rattle.std.specs.Prelude.{◌==◌, ◌||◌, ◌&&◌, OnOk, OnErr, if◌then◌else◌, zero, suc}
-use Rattle.std.specs.List.{list_any}
+use Rattle.std.proofs.Common.{◌≡◌, ℕ, ◌+◌, ◌<◌, ◌≤◌, ◌⊎◌, inl, inr, Bool, true, false, Option, Some, None, List, [], ◌∷◌, ◌++◌, refl, sym, ap, subst, ◌∙◌, arith, length, length-append, map, get_or, nat_eq, Decides, Result, Ok, Err}
+use Rattle.std.specs.Prelude.{◌==◌, ◌&&◌, ◌↔◌, MatchOption, OnOk, OnErr, if◌then◌else◌, zero, suc}
+use Rattle.std.specs.Option.{is_some}
 use Rattle.std.proofs.lemmas.Bool.Decides.{nat_tests}
 use Rattle.dali_frame.specs.Random.{MASK24}
 use Rattle.dali_script.specs.declared.block.Block.{Block}
@@ -8,30 +8,7 @@ use Rattle.dali_script.specs.declared.records.Record.{Record}
 use Rattle.dali_script.specs.declared.records.Record.TheVariants.{Reserve, Enrol}
 use Rattle.dali_script.specs.Records.{Records, IsKept, without_records, Fits, IsFresh, address_of, with_record, Assignment, Has, IsOnce, addresses, numbers, HasAddress, HasNumber, InBlock, IsMap}
 
--- a test over a list finds what stands in it
-pub has_by_test : (key : Assignment → ℕ) (xs : List Assignment) (a : ℕ) → list_any (λ p. key p == a) xs ≡ true → Has (map key xs) a
-has_by_test key [] a e = absurd (cc)
-has_by_test key (p ∷ xs) a e = go (key p == a) refl e (has_by_test key xs a) where
-  go : (b : Bool) → (key p == a) ≡ b → (b || list_any (λ q. key q == a) xs) ≡ true → (list_any (λ q. key q == a) xs ≡ true → Has (map key xs) a)
-      → Has (map key (p ∷ xs)) a
-  go true is e' later = inl (let same : key p ≡ a = grind (arith, nat_tests) in same)
-  go false is e' later = inr (later e')
-
-pub has_not_by_test : (key : Assignment → ℕ) (xs : List Assignment) (a : ℕ) → list_any (λ p. key p == a) xs ≡ false → Has (map key xs) a → ⊥
-has_not_by_test key [] a e h = h
-has_not_by_test key (p ∷ xs) a e h = go (key p == a) refl e (has_not_by_test key xs a) h where
-  go : (b : Bool) → (key p == a) ≡ b → (b || list_any (λ q. key q == a) xs) ≡ false → (list_any (λ q. key q == a) xs ≡ false → Has (map key xs) a → ⊥)
-      → Has (map key (p ∷ xs)) a → ⊥
-  go true is e' later h' = cc
-  go false is e' later (inl same) = grind (arith, nat_tests)
-  go false is e' later (inr more) = later e' more
-
 -- membership and an append
-pub has_front : {A : Type 0} (xs ys : List A) (x : A) → Has xs x → Has (xs ++ ys) x
-has_front [] ys x h = elim h [ ]
-has_front (y ∷ xs) ys x (inl e) = inl e
-has_front (y ∷ xs) ys x (inr h) = inr (has_front xs ys x h)
-
 pub has_last : {A : Type 0} (xs : List A) (x : A) → Has (xs ++ x ∷ []) x
 has_last [] x = inl refl
 has_last (y ∷ xs) x = inr (has_last xs x)
@@ -124,50 +101,58 @@ pub length_map : {A B : Type 0} (f : A → B) (xs : List A) → length (map f xs
 length_map f [] = refl
 length_map f (x ∷ xs) = ap suc (length_map f xs)
 
+-- what holds of each address, or of each number, and of one more
+pub all_more : (key : Assignment → ℕ) (P : ℕ → Type 0) (xs : List Assignment) (p : Assignment) → ((n : ℕ) → Has (map key xs) n → P n) → P (key p)
+    → (n : ℕ) → Has (map key (xs ++ p ∷ [])) n → P n
+all_more key P xs p all one n h = go (has_cases (map key xs) (key p) n (subst (λ ys. Has ys n) (map_append key xs p) h)) where
+  go : Has (map key xs) n ⊎ (key p ≡ n) → P n
+  go (inl k) = all n k
+  go (inr e) = subst P e one
+
+-- also where it may not have been added
+pub all_after : {E : Type 0} (key : Assignment → ℕ) (P : ℕ → Type 0) (old new : List Assignment) (p : Assignment) (r : Result (Unit {0}) E) → ((n : ℕ) → Has (map key old) n → P n)
+    → P (key p) → OnOk r (new ≡ old ++ p ∷ []) → OnErr r (new ≡ old) → (n : ℕ) → Has (map key new) n → P n
+all_after key P old new p (Err e) all one ok err = subst (λ xs. (n : ℕ) → Has (map key xs) n → P n) (sym err) all
+all_after key P old new p (Ok u) all one ok err = subst (λ xs. (n : ℕ) → Has (map key xs) n → P n) (sym ok) (all_more key P old p all one)
+
 -- a map with one more pair
-pub map_more : (xs : List Assignment) (a r : ℕ) → IsMap xs → (HasAddress xs a → ⊥) → (HasNumber xs r → ⊥) → a < 64 → r < MASK24 → IsMap (xs ++ (a, r) ∷ [])
-map_more xs a r m no_address no_number small drawn =
+pub map_more : (xs : List Assignment) (a r : ℕ) → IsMap xs → (HasAddress xs a → ⊥) → (HasNumber xs r → ⊥) → a < 64 → IsMap (xs ++ (a, r) ∷ [])
+map_more xs a r m no_address no_number small =
     let there : addresses (xs ++ (a, r) ∷ []) ≡ addresses xs ++ a ∷ [] = map_append (λ p. p.0) xs (a, r) in
     let of : numbers (xs ++ (a, r) ∷ []) ≡ numbers xs ++ r ∷ [] = map_append (λ p. p.1) xs (a, r) in
     let once : IsOnce (addresses (xs ++ (a, r) ∷ [])) = subst IsOnce (sym there) (once_more (addresses xs) a m.address_once no_address) in
-    let short : (b : ℕ) → HasAddress (xs ++ (a, r) ∷ []) b → b < 64 = λ b h. short_of_cases b (has_cases (addresses xs) a b (subst (λ ys. Has ys b) there h)) in
+    let short : (b : ℕ) → HasAddress (xs ++ (a, r) ∷ []) b → b < 64 = all_more (λ p. p.0) (λ n. n < 64) xs (a, r) m.short small in
     record {
       address_once = once;
       number_once = subst IsOnce (sym of) (once_more (numbers xs) r m.number_once no_number);
       short = short;
-      drawn = λ q h. drawn_of_cases q (has_cases (numbers xs) r q (subst (λ ys. Has ys q) of h));
       room =
           let few_addresses : length (addresses (xs ++ (a, r) ∷ [])) ≤ 64 = few 64 (addresses (xs ++ (a, r) ∷ [])) once short in
           subst (λ n. n ≤ 64) (length_map (λ p. p.0) (xs ++ (a, r) ∷ [])) few_addresses;
     }
-  where
-    short_of_cases : (b : ℕ) → Has (addresses xs) b ⊎ (a ≡ b) → b < 64
-    short_of_cases b (inl h) = m.short b h
-    short_of_cases b (inr e) = subst (λ n. n < 64) e small
-
-    drawn_of_cases : (q : ℕ) → Has (numbers xs) q ⊎ (r ≡ q) → q < MASK24
-    drawn_of_cases q (inl h) = m.drawn q h
-    drawn_of_cases q (inr e) = subst (λ n. n < MASK24) e drawn
 
 -- so there is room for it
-pub room_before : (xs : List Assignment) (p : Assignment) → IsMap (xs ++ p ∷ []) → length xs < 64
-room_before xs p m =
-    let more : length (xs ++ p ∷ []) ≡ length xs + 1 = length_more xs p in
-    let room : length (xs ++ p ∷ []) ≤ 64 = m.room in
+pub room_more : (xs : List Assignment) (a r : ℕ) → IsMap xs → (HasAddress xs a → ⊥) → (HasNumber xs r → ⊥) → a < 64 → length xs < 64
+room_more xs a r m no_address no_number small =
+    let more : length (xs ++ (a, r) ∷ []) ≡ length xs + 1 = simp (length-append) in
+    let room : length (xs ++ (a, r) ∷ []) ≤ 64 = (map_more xs a r m no_address no_number small).room in
     omega arith
-  where
-    length_more : (ys : List Assignment) (q : Assignment) → length (ys ++ q ∷ []) ≡ length ys + 1
-    length_more ys q = simp (length-append)
 
--- the rest of a list, past a pair with another number
-pub number_later : (xs : List Assignment) (i n : ℕ) (d : Assignment) → i < length xs → ((get_or xs i d).1 ≡ n → ⊥) → HasNumber (drop i xs) n → HasNumber (drop (i + 1) xs) n
-number_later xs i n d h other has = go (subst (λ ys. HasNumber ys n) (drop-cons xs i d h) has) where
-  go : HasNumber (get_or xs i d ∷ drop (suc i) xs) n → HasNumber (drop (i + 1) xs) n
-  go (inl e) = absurd (other e)
-  go (inr more) = rw add-one more
-
+-- a pair that a search comes to
 pub pair_here : (xs : List Assignment) (i n : ℕ) (p : Assignment) → i < length xs → p ≡ get_or xs i p → p.1 ≡ n → Has xs (p.0, n)
 pair_here xs i n p h is same = subst (λ m. Has xs (p.0, m)) same (subst (λ q. Has xs q) (sym is) (has_at xs i p h))
+
+pub pair_there : (xs : List Assignment) (i a : ℕ) (p : Assignment) → i < length xs → p ≡ get_or xs i p → p.0 ≡ a → Has xs (a, p.1)
+pair_there xs i a p h is same = subst (λ m. Has xs (m, p.1)) same (subst (λ q. Has xs q) (sym is) (has_at xs i p h))
+
+-- what a search says of an address, and of a number
+pub address_found : (xs : List Assignment) (a : ℕ) (o : Option ℕ) → MatchOption o (HasAddress xs a → ⊥) (λ r. Has xs (a, r)) → (is_some o ≡ true) ↔ HasAddress xs a
+address_found xs a None none = (λ e. absurd (cc), λ h. absurd (none h))
+address_found xs a (Some r) here = (λ e. has_map (λ p. p.0) xs (a, r) here, λ h. refl)
+
+pub number_found : (xs : List Assignment) (r : ℕ) (o : Option ℕ) → MatchOption o (HasNumber xs r → ⊥) (λ a. Has xs (a, r)) → (is_some o ≡ true) ↔ HasNumber xs r
+number_found xs r None none = (λ e. absurd (cc), λ h. absurd (none h))
+number_found xs r (Some a) here = (λ e. has_map (λ p. p.1) xs (a, r) here, λ h. refl)
 
 -- two pairs are equal where their parts are
 pub pairs_decide : (p q : Assignment) → Decides (nat_eq p.0 q.0 && nat_eq p.1 q.1) (p ≡ q)
@@ -178,16 +163,6 @@ pairs_decide p q = (λ e. both p q (let first : p.0 ≡ q.0 = grind (arith, nat_
   self : (p : Assignment) → (nat_eq p.0 p.0 && nat_eq p.1 p.1) ≡ true
   self p = grind (arith, nat_tests)
 
--- what holds of a list's addresses and of one more, whether it was added or not
-pub within_after : {E : Type 0} (b : Block) (old new : List Assignment) (a n : ℕ) (r : Result (Unit {0}) E) → ((c : ℕ) → HasAddress old c → InBlock b c) → InBlock b a
-    → OnOk r (new ≡ old ++ (a, n) ∷ []) → OnErr r (new ≡ old) → (c : ℕ) → HasAddress new c → InBlock b c
-within_after b old new a n (Err e) within here ok err c h = within c (subst (λ xs. HasAddress xs c) err h)
-within_after b old new a n (Ok u) within here ok err c h =
-    go (has_cases (addresses old) a c (subst (λ xs. Has xs c) (map_append (λ p. p.0) old (a, n)) (subst (λ xs. HasAddress xs c) ok h))) where
-      go : Has (addresses old) c ⊎ (a ≡ c) → InBlock b c
-      go (inl k) = within c k
-      go (inr e) = subst (λ d. InBlock b d) e here
-
 -- one more address of the block is reserved
 pub reserved_more : (b : Block) (xs : List Assignment) (n : ℕ) → ((c : ℕ) → b.first ≤ c → c < n → HasAddress xs c) → HasAddress xs n
     → (c : ℕ) → b.first ≤ c → c < n + 1 → HasAddress xs c
@@ -197,19 +172,24 @@ reserved_more b xs n below here c low high = go (nat_eq c n) refl where
   go false is = below c low (grind (arith, nat_tests))
 
 -- RECORDS STAY KEPT
+pub map_none : IsMap []
+map_none = record { address_once = tt; number_once = tt; short = λ a h. absurd h; room = omega arith }
+
 pub kept_none : (b : Block) → IsKept (without_records b)
-kept_none b = record { reserved = map_none; enrolled = map_none; within = λ c h. absurd h } where
-  map_none : IsMap []
-  map_none = record { address_once = tt; number_once = tt; short = λ a h. absurd h; drawn = λ r h. absurd h; room = omega arith }
+kept_none b = record { reserved = map_none; enrolled = map_none; reserved_drawn = λ r h. absurd h; enrolled_drawn = λ r h. absurd h; within = λ c h. absurd h }
 
 pub kept_more : (k : Records) (x : Record) → IsKept k → Fits k.block x → address_of x < 64 → IsFresh k x → IsKept (with_record k x)
 kept_more k (Reserve a r) m fits small fresh = record {
-  reserved = map_more k.reserved a r m.reserved fresh.0 fresh.1 small fits.1;
+  reserved = map_more k.reserved a r m.reserved fresh.0 fresh.1 small;
   enrolled = m.enrolled;
-  within = λ c h. go c (has_cases (addresses k.reserved) a c (subst (λ ys. Has ys c) (map_append (λ p. p.0) k.reserved (a, r)) h));
-} where
-  go : (c : ℕ) → Has (addresses k.reserved) c ⊎ (a ≡ c) → InBlock k.block c
-  go c (inl h) = m.within c h
-  go c (inr e) = subst (λ d. InBlock k.block d) e fits.0
-kept_more k (Enrol a r) m fits small fresh =
-    record { reserved = m.reserved; enrolled = map_more k.enrolled a r m.enrolled fresh.0 fresh.1 small fits; within = m.within }
+  reserved_drawn = all_more (λ p. p.1) (λ n. n < MASK24) k.reserved (a, r) m.reserved_drawn fits.1;
+  enrolled_drawn = m.enrolled_drawn;
+  within = all_more (λ p. p.0) (InBlock k.block) k.reserved (a, r) m.within fits.0;
+}
+kept_more k (Enrol a r) m fits small fresh = record {
+  reserved = m.reserved;
+  enrolled = map_more k.enrolled a r m.enrolled fresh.0 fresh.1 small;
+  reserved_drawn = m.reserved_drawn;
+  enrolled_drawn = all_more (λ p. p.1) (λ n. n < MASK24) k.enrolled (a, r) m.enrolled_drawn fits;
+  within = m.within;
+}

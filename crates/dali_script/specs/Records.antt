@@ -8,7 +8,8 @@ use Rattle.dali_script.specs.declared.records.Record.TheVariants.{Reserve, Enrol
 abbrev pub Assignment : Type 0
 Assignment = ℕ × ℕ
 
--- What a controller keeps: its block of short addresses, and its reservations and enrolments, each in the order of their records.
+-- What a controller keeps: its block of short addresses, and its reservations and enrolments, each in the order of their
+-- records.
 pub record Records : Type 0 where
   pub block : Block
   pub reserved : List Assignment
@@ -43,18 +44,24 @@ HasNumber xs r = Has (numbers xs) r
 abbrev pub InBlock : Block → ℕ → Type 0
 InBlock b a = (b.first ≤ a) × (a ≤ b.last)
 
--- An ordered map of short addresses to random addresses that were drawn, both ways: each address once, each number once.
+-- An ordered map of short addresses to random addresses, both ways: each address once, each number once; there are 64
+-- addresses.
 pub record IsMap (xs : List Assignment) : Type 0 where
   pub address_once : IsOnce (addresses xs)
   pub number_once : IsOnce (numbers xs)
   pub short : (a : ℕ) → HasAddress xs a → a < 64
-  pub drawn : (r : ℕ) → HasNumber xs r → r < MASK24
   pub room : length xs ≤ 64
+
+-- the random addresses are ones that gear draw
+abbrev pub AllDrawn : List Assignment → Type 0
+AllDrawn xs = (r : ℕ) → HasNumber xs r → r < MASK24
 
 -- What holds of all records that are kept.
 pub record IsKept (k : Records) : Type 0 where
   pub reserved : IsMap k.reserved
   pub enrolled : IsMap k.enrolled
+  pub reserved_drawn : AllDrawn k.reserved
+  pub enrolled_drawn : AllDrawn k.enrolled
   pub within : (a : ℕ) → HasAddress k.reserved a → InBlock k.block a
 
 -- A record fits a block: a reserved address lies in it, and the number is one that gear draw.

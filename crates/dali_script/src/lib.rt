@@ -1,9 +1,10 @@
 //! Which transactions a controller may send while it commissions short addresses, and the records that it keeps meanwhile.
 //!
 //! A transaction is a front of one of six scripts ([`Trace`]); what a controller has reserved and enrolled is [`Kept`].
-//! Only `Kept::new` and `Kept::copy` take memory.
+//! Both lists of it are [`Assignments`]. Only `new` and `copy` of these two take memory.
 #![tactic(auto)]
 
+mod assignments;
 mod block;
 mod kept;
 pub mod laws;
@@ -11,6 +12,7 @@ mod records;
 mod stage;
 mod trace;
 
+pub use assignments::Assignments;
 pub use block::Block;
 pub use kept::Kept;
 pub use records::{AddError, MakeError, Record};

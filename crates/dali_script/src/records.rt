@@ -1,4 +1,5 @@
 ghost use Rattle.std.specs.Prelude.{◌≡◌};
+ghost use Rattle.dali_script.specs.Records.{address_of, random_of};
 ghost use Rattle.dali_script.specs.Refusals.{make_number_of, add_number_of};
 
 use dali_frame::{Random24, Short};
@@ -11,6 +12,26 @@ pub enum Record {
     Reserve(Short, Random24),
     /// The gear with this random address was found with this short address.
     Enrol(Short, Random24),
+}
+
+impl Record {
+    /// The short address.
+    pub fn address(self) -> Short
+        ensures { result ≡ address_of self }
+    {
+        match self {
+            Record::Reserve(address, _) | Record::Enrol(address, _) => address,
+        }
+    }
+
+    /// The random address of the gear that it is for.
+    pub fn random(self) -> Random24
+        ensures { result ≡ random_of self }
+    {
+        match self {
+            Record::Reserve(_, number) | Record::Enrol(_, number) => number,
+        }
+    }
 }
 
 /// Why there are no records. The number never changes.

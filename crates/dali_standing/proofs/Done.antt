@@ -22,7 +22,8 @@ use Rattle.dali_events.specs.World.{World, Controller}
 use Rattle.dali_events.specs.Happens.{happens, entry, gives_up, put_after, is_arc, told_sent, told_destroyed, told_lapsed, sent_by}
 use Rattle.dali_events.specs.Allowed.{Allowed, IsUp, Hears, MaySend, IsDue, IsArc, HasOutstanding}
 use Rattle.dali_standing.specs.Fitted.{Fitted, taken_at}
-use Rattle.dali_standing.specs.Places.{Place, IsRunning, IsTied, MayAnswer, acted_at, told_at, down_at, up_at, trace_of}
+use Rattle.dali_script.specs.Records.{Records}
+use Rattle.dali_standing.specs.Places.{Place, Agrees, IsRunning, IsTied, MayAnswer, acted_at, told_at, down_at, up_at, trace_of}
 use Rattle.dali_standing.specs.Standing.{Seated, place_in, empty_place, Standing, flat, stand_of, controller_on, machine_on, machines_after, Moves, MayBeSent}
 use Rattle.dali_standing.proofs.Seats.{place_at, world_of, with_place, running_in, goes_on_in, has_acted, has_offered, has_sent, has_lost, has_collided, has_lapsed, has_gone_down, has_come_up, IsMove}
 use Rattle.dali_standing.specs.Settled.{IsAccepted, IsHearing, IsPlacedBy, IsPlacedOn, Settled}
@@ -334,20 +335,30 @@ up_done s was c kept at seat view settled there down has read seat_is =
     (rw seat_is (ap (λ (p : Place). record { fitted = s.fitted; bus = s.bus; trace = s.trace; seats = with_place s.seats c (up_at c kept p) }) is))
     (record { moves = moved s _ _ (moves_up s c kept there_s down_s has_s); settled = settled_up s c kept settled there_s down_s }))
 
--- a seat that came up, or was refused
-pub up_settles : (res : Result (Unit {0}) Refusal) (s : Seated) (was : Standing) (c : ℕ) (kept : Bool) (at seat : Place) → flat s ≡ was → Settled s → c < length was.controllers → (controller_on was c).up ≡ false
-    → HasOutstanding (controller_on was c) kept → at ≡ get_or s.seats c at → OnOk res (seat ≡ up_at c kept at) → OnErr res (seat ≡ at)
+-- a seat that came up with what agrees, or was refused
+came_up : (res : Result (Unit {0}) Refusal) (s : Seated) (was : Standing) (c : ℕ) (copy : Records) (kept : Bool) (at seat : Place) → flat s ≡ was → c < length was.controllers → Agrees (controller_on was c) copy kept
+    → at ≡ get_or s.seats c at → OnOk res ((k : Bool) → Agrees at.controller copy k → seat ≡ up_at c k at) → OnOk res (seat ≡ up_at c kept at)
+came_up (Err e) s was c copy kept at seat view there agrees read ok = tt
+came_up (Ok x) s was c copy kept at seat view there agrees read ok =
+    let there_s : c < length s.seats = subst (λ n. c < n) (length-map s.seats (λ p. p.controller)) (subst (λ (w : Standing). c < length w.controllers) (sym view) there) in
+    let is : at ≡ place_at s c = place_read s.seats c at read there_s in
+    ok kept (subst (λ (p : Place). Agrees p.controller copy kept) (sym is) (subst (λ (k : Controller). Agrees k copy kept) (on_place s was c view) agrees))
+
+pub up_settles : (res : Result (Unit {0}) Refusal) (s : Seated) (was : Standing) (c : ℕ) (copy : Records) (kept : Bool) (at seat : Place) → flat s ≡ was → Settled s → c < length was.controllers → (controller_on was c).up ≡ false
+    → Agrees (controller_on was c) copy kept → at ≡ get_or s.seats c at → OnOk res ((k : Bool) → Agrees at.controller copy k → seat ≡ up_at c k at) → OnErr res (seat ≡ at)
     → Settled (record { fitted = s.fitted; bus = s.bus; trace = s.trace; seats = with_place s.seats c seat })
-up_settles (Ok x) s was c kept at seat view settled there down has read seat_is same = (up_done s was c kept at seat view settled there down has read seat_is).settled
-up_settles (Err e) s was c kept at seat view settled there down has read seat_is same =
+up_settles (Ok x) s was c copy kept at seat view settled there down agrees read ok same =
+    (up_done s was c kept at seat view settled there down agrees.0 read (came_up (Ok x) s was c copy kept at seat view there agrees read ok)).settled
+up_settles (Err e) s was c copy kept at seat view settled there down agrees read ok same =
     let unchanged : with_place s.seats c seat ≡ s.seats = ap (λ (p : Place). with_place s.seats c p) (same ∙ read) ∙ set-get_or s.seats c at in
     rw unchanged settled
 
-pub up_moves : (res : Result (Unit {0}) Refusal) (s : Seated) (was : Standing) (c : ℕ) (kept : Bool) (at seat : Place) → flat s ≡ was → Settled s → c < length was.controllers → (controller_on was c).up ≡ false
-    → HasOutstanding (controller_on was c) kept → at ≡ get_or s.seats c at → OnOk res (seat ≡ up_at c kept at)
+pub up_moves : (res : Result (Unit {0}) Refusal) (s : Seated) (was : Standing) (c : ℕ) (copy : Records) (kept : Bool) (at seat : Place) → flat s ≡ was → Settled s → c < length was.controllers → (controller_on was c).up ≡ false
+    → Agrees (controller_on was c) copy kept → at ≡ get_or s.seats c at → OnOk res ((k : Bool) → Agrees at.controller copy k → seat ≡ up_at c k at)
     → OnOk res (Moves was (event.Up c kept) (flat (record { fitted = s.fitted; bus = s.bus; trace = s.trace; seats = with_place s.seats c seat })))
-up_moves (Ok x) s was c kept at seat view settled there down has read seat_is = (up_done s was c kept at seat view settled there down has read seat_is).moves
-up_moves (Err e) s was c kept at seat view settled there down has read seat_is = tt
+up_moves (Ok x) s was c copy kept at seat view settled there down agrees read ok =
+    (up_done s was c kept at seat view settled there down agrees.0 read (came_up (Ok x) s was c copy kept at seat view there agrees read ok)).moves
+up_moves (Err e) s was c copy kept at seat view settled there down agrees read ok = tt
 
 -- ---------------------------------------------------------------- the request that is next may be sent
 

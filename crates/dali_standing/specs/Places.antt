@@ -1,9 +1,9 @@
-use Rattle.std.specs.Prelude.{◌≡◌, ℕ, Bool, true, List, [], Option, Some, None, if◌then◌else◌}
+use Rattle.std.specs.Prelude.{◌≡◌, ℕ, Bool, true, List, [], Option, Some, None, is_some, IsSome, if◌then◌else◌}
 use Rattle.std.specs.Option.{option_map}
 use Rattle.dali_script.specs.declared.block.Block.{Block}
 use Rattle.dali_script.specs.declared.trace.Entry.{Entry}
 use Rattle.dali_script.specs.declared.records.Record.{Record}
-use Rattle.dali_script.specs.Records.{Records, Fits, IsFresh, without_records}
+use Rattle.dali_script.specs.Records.{Assignment, Records, Fits, IsFresh, without_records}
 use Rattle.dali_script.specs.Findings.{later, finding_of}
 use Rattle.dali_orders.specs.declared.orders.Input.{Input}
 use Rattle.dali_orders.specs.declared.orders.Input.TheVariants as input
@@ -14,9 +14,9 @@ use Rattle.dali_orders.specs.declared.orders.Due.TheVariants as due
 use Rattle.dali_orders.specs.Due.{due_after, accepts}
 use Rattle.dali_controller.specs.Progress.{Progress, at_first, told}
 use Rattle.dali_controller.specs.Orders.{IsAnswered, after}
-use Rattle.dali_events.specs.World.{Controller, begun}
+use Rattle.dali_events.specs.World.{Controller, begun, nobody}
 use Rattle.dali_events.specs.Allowed.{HasOutstanding}
-use Rattle.dali_events.specs.Happens.{with_outstanding, acted, gone_down, come_up}
+use Rattle.dali_events.specs.Happens.{acted, gone_down, come_up}
 
 -- A CONTROLLER'S PLACE on a site: the controller as the site's world has it; and its machine, while it is up.
 pub record Place : Type 0 where
@@ -60,6 +60,40 @@ abbrev pub IsTied : Controller → Option Progress → Type 0
 IsTied k None = (k.told ≡ None) × (k.finding ≡ None) × (k.last ≡ None)
 IsTied k (Some m) = IsRunning k m
 
+-- ---------------------------------------------------------------- a place by its parts
+
+-- the records: the machine's while it is there, else those that stand beside it
+abbrev pub records_of : Option Progress → Option Records → Records
+records_of (Some m) beside = m.kept
+records_of None (Some k) = k
+records_of None None = nobody.records
+
+abbrev pub last_of : Option Progress → Option Order
+last_of (Some m) = m.last
+last_of None = None
+
+abbrev pub place_by : Option Progress → Option Records → Option Record → Option Assignment → Option Input → Place
+place_by machine beside outstanding finding told = record {
+  controller = record {
+    up = is_some machine;
+    records = records_of machine beside;
+    outstanding = outstanding;
+    finding = finding;
+    told = told;
+    last = last_of machine;
+  };
+  machine = machine;
+}
+
+-- the records stand once: beside the machine only where it is not there
+abbrev pub AreOnce : Option Progress → Option Records → Type 0
+AreOnce (Some m) beside = beside ≡ None
+AreOnce None beside = IsSome beside
+
+abbrev pub IsPlace : Option Progress → Option Records → Option Record → Option Assignment → Option Input → Type 0
+IsPlace machine beside outstanding finding told =
+    IsTied (place_by machine beside outstanding finding told).controller machine × AreOnce machine beside
+
 -- ---------------------------------------------------------------- what happens to a place
 
 abbrev pub begun_at : ℕ → Block → Place
@@ -88,19 +122,14 @@ abbrev pub trace_of : Option Progress → List Entry
 trace_of None = []
 trace_of (Some m) = m.trace
 
--- what is kept after an input, and what stays outstanding
-abbrev pub kept_told : Records → Option Record → Input → Records
-kept_told k outstanding input.Committed = with_outstanding k outstanding
-kept_told k outstanding _ = k
-
+-- a record that is committed is outstanding no longer
 abbrev pub left_told : Option Record → Input → Option Record
 left_told outstanding input.Committed = None
 left_told outstanding _ = outstanding
 
--- a record that is outstanding may be kept
-abbrev pub MayKeep : Records → Option Record → Input → Type 0
-MayKeep k (Some x) input.Committed = Fits k.block x × IsFresh k x
-MayKeep k _ _ = Unit {0}
+-- told that its frame was destroyed
+abbrev pub told_lost : Controller → Controller
+told_lost k = record k { told = Some input.Destroyed }
 
 -- STORES THAT AGREE with what a site remembers: the kept records, or these with the outstanding one.
 abbrev pub Agrees : Controller → Records → Bool → Type 0

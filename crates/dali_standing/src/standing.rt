@@ -22,11 +22,11 @@ use crate::refusal::Refusal;
 use crate::seat::Seat;
 use crate::trouble::Trouble;
 use dali_arbiter::{Arbiter, Request};
-use dali_orders::{Due, Input, Order};
 use dali_enrol::Table;
 use dali_events::Plan;
 use dali_frame::{Answer, Forward, Priority, Short};
 use dali_gear::{Gear, GearSet, Reach};
+use dali_orders::{Due, Input, Order};
 use dali_script::{Block, Kept, Trace};
 use dali_special::Command;
 use std::alloc::Global;
@@ -340,7 +340,7 @@ impl Standing {
         ensures memory { IfErr result (λ e. e ≡ refusal.NoMemory) }
     {
         let seat = &mut self.seats[c as usize];
-        seat.up(alloc, c, copy, kept)
+        seat.up(alloc, c, copy)
     }
 }
 
@@ -442,6 +442,6 @@ fn lose(seat: &mut Seat, frame: Forward)
     ensures { seat.new ≡ told_at (told_destroyed frame) seat.old }
 {
     if !is_arc(frame) {
-        seat.lose(frame);
+        seat.lose();
     }
 }

@@ -3,10 +3,10 @@ use Rattle.dali_controller.proofs.entries.table_of.Goals as goal
 
 pub enter-requires-clause-address : goal.enter-requires-clause-address
 enter-requires-clause-address c =
-    not_before (λ q. q.0) c.args.kept.now.enrolled c.loop-entry.entry-index c.entry-item.result c.loop-entry.table c.args.block c.block.ensures.kept.enrolled.address_once
-    (rw (← c.enrolled-entry-items.ensures) c.loop-entry-test.true) (rw (← c.enrolled-entry-items.ensures) c.entry-item.is) c.loop-entry.invariant
+    not_before (λ q. q.0) c.args.kept.now.enrolled c.loop-entry.entry-index c.entry-item.result c.loop-entry.table c.args.block c.enrolled-entry-items.ensures.kept.enrolled.address_once
+    (rw (← c.enrolled-entry-items.ensures.value) c.loop-entry-test.true) (rw (← c.enrolled-entry-items.ensures.value) c.entry-item.is) c.loop-entry.invariant
 
 pub enter-requires-clause-number : goal.enter-requires-clause-number
 enter-requires-clause-number c =
-    not_before (λ q. q.1) c.args.kept.now.enrolled c.loop-entry.entry-index c.entry-item.result c.loop-entry.table c.args.block c.block.ensures.kept.enrolled.number_once
-    (rw (← c.enrolled-entry-items.ensures) c.loop-entry-test.true) (rw (← c.enrolled-entry-items.ensures) c.entry-item.is) c.loop-entry.invariant
+    not_before (λ q. q.1) c.args.kept.now.enrolled c.loop-entry.entry-index c.entry-item.result c.loop-entry.table c.args.block c.enrolled-entry-items.ensures.kept.enrolled.number_once
+    (rw (← c.enrolled-entry-items.ensures.value) c.loop-entry-test.true) (rw (← c.enrolled-entry-items.ensures.value) c.entry-item.is) c.loop-entry.invariant

@@ -1,14 +1,31 @@
-use Rattle.dali_script.proofs.Lists.{within_after}
+use Rattle.std.proofs.Common.{◌<◌}
+use Rattle.dali_frame.specs.Random.{MASK24}
+use Rattle.dali_script.specs.Records.{InBlock}
+use Rattle.dali_script.proofs.Lists.{all_after}
 use Rattle.dali_script.proofs.kept.Kept.add.Goals as goal
 
 pub invariant_of-self : goal.invariant_of-self
 invariant_of-self c =
-    let fits = rw (← c.self.view_is, c.in-Reserve.is) at c.requires in (
-      record {
-        reserved = c.insert.ensures.map;
-        enrolled = c.self.invariant.0.enrolled;
-        within = within_after c.self.inside.block c.self.inside.reserved.items c.insert.new.pairs.items c.in-Reserve.address c.in-Reserve.number c.insert.result c.self.invariant.0.within fits.0 c.insert.ensures.ok c.insert.ensures.err;
-      },
-      c.insert.ensures.capacity,
-      c.self.invariant.2,
-    )
+    let k = c.self.inside in
+    let kept = c.self.invariant in
+    let fits = rw (← c.self.view_is, c.in-Reserve.is) at c.requires in
+    record {
+      reserved = c.insert.ensures.map;
+      enrolled = kept.enrolled;
+      reserved_drawn = all_after (λ p. p.1) (λ n. n < MASK24) k.reserved c.insert.new.self (c.in-Reserve.address, c.in-Reserve.number) c.insert.result kept.reserved_drawn fits.1 c.insert.ensures.ok c.insert.ensures.err;
+      enrolled_drawn = kept.enrolled_drawn;
+      within = all_after (λ p. p.0) (InBlock k.block) k.reserved c.insert.new.self (c.in-Reserve.address, c.in-Reserve.number) c.insert.result kept.within fits.0 c.insert.ensures.ok c.insert.ensures.err;
+    }
+
+pub invariant_of-self-in-Enrol : goal.invariant_of-self-in-Enrol
+invariant_of-self-in-Enrol c =
+    let k = c.self.inside in
+    let kept = c.self.invariant in
+    let fits = rw (← c.self.view_is, c.in-Enrol.is) at c.requires in
+    record {
+      reserved = kept.reserved;
+      enrolled = c.insert-in-Enrol.ensures.map;
+      reserved_drawn = kept.reserved_drawn;
+      enrolled_drawn = all_after (λ p. p.1) (λ n. n < MASK24) k.enrolled c.insert-in-Enrol.new.self (c.in-Enrol.address, c.in-Enrol.number) c.insert-in-Enrol.result kept.enrolled_drawn fits c.insert-in-Enrol.ensures.ok c.insert-in-Enrol.ensures.err;
+      within = kept.within;
+    }

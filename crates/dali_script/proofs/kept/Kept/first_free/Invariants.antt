@@ -3,4 +3,4 @@ use Rattle.dali_script.specs.Records.{HasAddress}
 use Rattle.dali_script.proofs.kept.Kept.first_free.Given as goal
 
 abbrev pub invariant-loop-number : goal.invariant-loop-number
-invariant-loop-number l = (c : ℕ) → l.self-inside.block.first ≤ c → c < l.number → HasAddress l.self-inside.reserved.items c
+invariant-loop-number l = (c : ℕ) → l.self-inside.block.first ≤ c → c < l.number → HasAddress l.self-inside.reserved c

@@ -1,9 +1,10 @@
 use Rattle.std.proofs.Common.{◌≡◌, arith}
 use Rattle.std.proofs.lemmas.Bool.Decides.{nat_tests}
 use Rattle.dali_script.proofs.Lists.{pair_here}
-use Rattle.dali_script.proofs.kept.address_for.Goals as goal
+use Rattle.dali_script.proofs.assignments.Assignments.address_for.Goals as goal
 
 pub returns-then-eq : goal.returns-then-eq
 returns-then-eq c =
     let same : c.pair-item.result.1 ≡ c.args.number = grind (arith, nat_tests) in
-    pair_here c.args.pairs.now _ c.args.number c.pair-item.result c.loop-pair-test.true c.pair-item.is same
+    rw (← c.self.view_is, ← c.deref-pair-items.ensures.value)
+    (pair_here c.deref-pair-items.result.now _ c.args.number c.pair-item.result c.loop-pair-test.true c.pair-item.is same)

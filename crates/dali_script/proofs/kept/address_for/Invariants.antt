@@ -1,6 +1,0 @@
-use Rattle.std.proofs.Common.{drop}
-use Rattle.dali_script.specs.Records.{HasNumber}
-use Rattle.dali_script.proofs.kept.address_for.Given as goal
-
-abbrev pub invariant-loop-pair : goal.invariant-loop-pair
-invariant-loop-pair l = HasNumber l.pairs l.number → HasNumber (drop l.pair-index l.pairs) l.number

@@ -1,0 +1,168 @@
+ghost use Rattle.std.specs.Prelude.{◌≡◌, ◌↔◌, ◌<◌, [], ◌∷◌, ◌++◌, IsTrue, IsOk, IfOk, OnOk, OnErr, MatchOption};
+ghost use Rattle.dali_script.specs.Records.{Has, HasAddress, HasNumber};
+
+use crate::records::{AddError, MakeError};
+use dali_frame::{Random24, Short};
+use std::alloc::Global;
+use std::marker::Model;
+
+/// Room for a pair of every short address.
+const ROOM: usize = 64;
+
+/// Short addresses, each with the random address that it is for, in the order in which they were added.
+///
+/// Contracts see the list of pairs. An address stands once, and a number once.
+#[derive(Drop)]
+pub struct Assignments {
+    pairs: Vec<(Short, Random24)>,
+}
+
+impl Model for Assignments {
+    ghost use Rattle.std.specs.Prelude.{◌≤◌, List};
+    ghost use Rattle.std.specs.Vec.{vec_capacity};
+    ghost use Rattle.dali_script.specs.Records.{Assignment, IsMap};
+
+    ghost Value = { List Assignment };
+
+    ghost view = { λ a. a.pairs.items };
+
+    ghost invariant = { λ a. IsMap a.pairs.items × (64 ≤ vec_capacity a.pairs) };
+}
+
+impl Assignments {
+    ghost use Rattle.dali_script.specs.Records.{IsMap};
+
+    /// No pairs. It takes all the memory that they will need.
+    pub fn new(alloc: Global) -> Result<Assignments, MakeError>
+        ensures { IfOk result (λ a. a ≡ []) }
+    {
+        let Ok(pairs) = Vec::with_capacity(alloc, ROOM) else {
+            return Err(MakeError::NoMemory);
+        };
+        Ok(Assignments { pairs })
+    }
+
+    /// The same pairs once more.
+    pub fn copy(&self, alloc: Global) -> Result<Assignments, MakeError>
+        ensures { IfOk result (λ a. a ≡ self.now) }
+    {
+        let Ok(mut pairs) = Vec::with_capacity(alloc, ROOM) else {
+            return Err(MakeError::NoMemory);
+        };
+        if pairs.extend_from_slice(&self.pairs).is_err() {
+            return Err(MakeError::NoMemory);
+        }
+        Ok(Assignments { pairs })
+    }
+
+    /// The pairs, oldest first.
+    pub fn pairs(&self) -> &[(Short, Random24)]
+        ensures value { result.now ≡ self.now }
+        ensures map { IsMap self.now }
+    {
+        &self.pairs
+    }
+
+    /// The random address of the pair with a short address.
+    pub fn number_at(&self, address: Short) -> Option<Random24>
+        ensures found { MatchOption result
+            (HasAddress self.now address → ⊥)
+            (λ number. Has self.now (address, number)) }
+        ensures short { address < 64 }
+    {
+        let wanted = address.number();
+        for pair in &self.pairs {
+            if pair.0.number() == wanted {
+                return Some(pair.1);
+            }
+        }
+        None
+    }
+
+    /// The short address of the pair with a random address.
+    pub fn address_for(&self, number: Random24) -> Option<Short>
+        ensures { MatchOption result
+            (HasNumber self.now number → ⊥)
+            (λ address. Has self.now (address, number)) }
+    {
+        for pair in &self.pairs {
+            if pair.1 == number {
+                return Some(pair.0);
+            }
+        }
+        None
+    }
+
+    /// Whether a pair has the short address.
+    pub fn has_address(&self, address: Short) -> bool
+        ensures value { IsTrue result ↔ HasAddress self.now address }
+        ensures short { address < 64 }
+    {
+        self.number_at(address).is_some()
+    }
+
+    /// Whether a pair has the random address.
+    pub fn has_number(&self, number: Random24) -> bool
+        ensures { IsTrue result ↔ HasNumber self.now number }
+    {
+        self.address_for(number).is_some()
+    }
+
+    /// Adds a pair as the last one. It takes no memory.
+    ///
+    /// `AddressTaken` comes before `RandomTaken`.
+    pub fn insert(&mut self, address: Short, number: Random24) -> Result<(), AddError>
+        ensures success { IsOk result
+            ↔ ((HasAddress self.old address → ⊥) × (HasNumber self.old number → ⊥)) }
+        ensures address_taken { (result ≡ Err AddError.AddressTaken) ↔ HasAddress self.old address }
+        ensures random_taken { (result ≡ Err AddError.RandomTaken)
+            ↔ ((HasAddress self.old address → ⊥) × HasNumber self.old number) }
+        ensures ok { OnOk result (self.new ≡ self.old ++ (address, number) ∷ []) }
+        ensures err { OnErr result (self.new ≡ self.old) }
+        ensures short { address < 64 }
+        ensures map { IsMap self.new }
+    {
+        if self.has_address(address) {
+            return Err(AddError::AddressTaken);
+        }
+        if self.has_number(number) {
+            return Err(AddError::RandomTaken);
+        }
+        // A further address is one of 64, so there is room for it.
+        self.pairs.push_reserved((address, number));
+        Ok(())
+    }
+
+    /// Whether both are the same pairs in the same order.
+    pub fn same(&self, other: &Assignments) -> bool
+        ensures { IsTrue result ↔ (self.now ≡ other.now) }
+    {
+        are_same(&self.pairs, &other.pairs)
+    }
+
+    /// Whether these are the other ones with this pair as the last one.
+    pub fn is_with(&self, other: &Assignments, last: (Short, Random24)) -> bool
+        ensures { IsTrue result ↔ (self.now ≡ other.now ++ last ∷ []) }
+    {
+        are_with(&self.pairs, &other.pairs, last)
+    }
+}
+
+fn are_same(pairs: &[(Short, Random24)], others: &[(Short, Random24)]) -> bool
+    ensures { IsTrue result ↔ (pairs.now ≡ others.now) }
+{
+    pairs == others
+}
+
+fn are_with(
+    pairs: &[(Short, Random24)],
+    others: &[(Short, Random24)],
+    last: (Short, Random24),
+) -> bool
+    ensures { IsTrue result ↔ (pairs.now ≡ others.now ++ last ∷ []) }
+{
+    match pairs.split_last() {
+        Some((end, front)) => *end == last && are_same(front, others),
+        None => false,
+    }
+}
