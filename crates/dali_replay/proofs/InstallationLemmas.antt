@@ -34,37 +34,10 @@ pub refused_of : (s : Site) (c : ℕ) (i : Input) (e : Refusal) (t : Site) (resu
 unfolding Acts
 refused_of s c i e t result is acts = (subst (λ (x : Result Received Refusal). IfErr x (IsActRefused s c i)) is acts.1)
 
--- ---------------------------------------------------------------- a record that was ordered fits its store
-
-with_outstanding_block : (k : Records) (x : Option Record) → (with_outstanding k x).block ≡ k.block
-with_outstanding_block k None = refl
-with_outstanding_block k (Some (Reserve a r)) = refl
-with_outstanding_block k (Some (Enrol a r)) = refl
-
-kept_block : (k : Controller) (i : Input) → (kept_after k i).block ≡ k.records.block
-kept_block k input.Committed = with_outstanding_block k.records k.outstanding
-kept_block k input.Start = refl
-kept_block k (input.Heard h) = refl
-kept_block k input.Destroyed = refl
-kept_block k input.Lapsed = refl
-kept_block k input.CommitFailed = refl
-
-fits_commit : (k : Controller) (b : Block) (x : Record) → k.records.block ≡ b → MayCommit k x → Fits b x
-fits_commit k b (Reserve a r) is may = (subst (λ (c : Block). InBlock c a) is may.0, may.1)
-fits_commit k b (Enrol a r) is may = may.1
-
-fits_order : (w : World) (c : ℕ) (k : Controller) (b : Block) (o : Order) → k.records.block ≡ b → MayOrder w c k o → IfSome (record_ordered (Some o)) (Fits b)
-fits_order w c k b (Put p f) is may = tt
-fits_order w c k b (Commit x) is may = fits_commit k b x is may.1
-fits_order w c k b (Done e) is may = tt
-fits_order w c k b (Halt e) is may = tt
-
-pub fits_ordered : (s : Site) (c : ℕ) (i : Input) (r : Received) (t : Site) (b : Block) (o : Order) → KeepsRecords s.plan (world s) → HasActed s c i r t → b ≡ block_at s.plan c → o ≡ r.order
+-- a record that was ordered fits its store, which is of the controller's block
+pub fits_store : (o p : Order) (b d : Block) → IfSome (record_ordered (Some p)) (Fits d) → o ≡ p → b ≡ d
     → IfSome (record_ordered (Some o)) (Fits b)
-fits_ordered s c i r t b o keeps acted is same =
-    let allowed : Allowed (world s) (event.Acted c i r.order) = acted.logs.0.allowed in
-    let block : (controller_at (world s) c).records.block ≡ b = keeps.block c allowed.up.known ∙ sym is in
-    rw same (fits_order (world s) c (informed (controller_at (world s) c) i) b r.order (kept_block (controller_at (world s) c) i ∙ block) allowed.order)
+fits_store o p b d fits same is = rw (same, is) fits
 
 -- ---------------------------------------------------------------- `go`
 

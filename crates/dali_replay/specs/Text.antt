@@ -18,10 +18,9 @@ use Rattle.dali_orders.specs.declared.orders.End.TheVariants.{AllFound, BlockFul
 use Rattle.dali_orders.specs.declared.orders.Fault.{Fault}
 use Rattle.dali_orders.specs.declared.orders.Fault.TheVariants.{Conflict, Store}
 use Rattle.dali_standing.specs.declared.refusal.Refusal.{Refusal}
-use Rattle.dali_standing.specs.declared.refusal.Refusal.TheVariants as refusal
 use Rattle.dali_standing.specs.declared.trouble.Report.{Report}
 use Rattle.dali_standing.specs.declared.trouble.Report.TheVariants as report
-use Rattle.dali_standing.specs.Refusals.{number_of}
+use Rattle.dali_standing.specs.Refusals.{number_of, name_of}
 
 -- THE TEXTS of reports, of benches and of sites. A report ends with a line feed.
 
@@ -69,22 +68,9 @@ gear_texts k (g ∷ gs) = gear_text k g ++ gear_texts (k + 1) gs
 
 -- ---------------------------------------------------------------- refusals
 
-abbrev pub refusal_name : Refusal → List ℕ
-refusal_name refusal.UnknownController = codes "UnknownController"
-refusal_name refusal.UnknownGear = codes "UnknownGear"
-refusal_name refusal.ControllerDown = codes "ControllerDown"
-refusal_name refusal.ControllerUp = codes "ControllerUp"
-refusal_name refusal.NotDue = codes "NotDue"
-refusal_name refusal.NotArc = codes "NotArc"
-refusal_name refusal.StoreDisagrees = codes "StoreDisagrees"
-refusal_name refusal.DrawsSpent = codes "DrawsSpent"
-refusal_name refusal.QueueFull = codes "QueueFull"
-refusal_name refusal.LogFull = codes "LogFull"
-refusal_name refusal.NoMemory = codes "NoMemory"
-
 -- `refused K NAME`
 abbrev pub refused_text : Refusal → List ℕ
-refused_text e = codes "refused " ++ (decimal (number_of e) ++ (codes " " ++ (refusal_name e ++ codes "\n")))
+refused_text e = codes "refused " ++ (decimal (number_of e) ++ (codes " " ++ (name_of e ++ codes "\n")))
 
 -- the text of a call that answers nothing
 abbrev pub ok_of : Unit {0} → List ℕ

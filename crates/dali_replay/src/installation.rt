@@ -382,6 +382,7 @@ impl Installation {
         requires { c < length self.old.site.plan.blocks }
         ensures { self.new ≡ with_store self.old c (committed (store_at self.old c)) }
     {
+        // What the site remembers as outstanding is fresh, so the store does not refuse it.
         self.site.is_safe();
         self.stores[c as usize].commit();
     }
@@ -410,7 +411,6 @@ impl Installation {
         ensures refused { IfErr result (λ e. IsActRefused self.old.site c input e) }
         ensures unchanged { OnErr result (self.new ≡ self.old) }
     {
-        self.site.is_safe();
         let receipt = self.site.act(c, input)?;
         self.stores[c as usize].await_commit(receipt.order());
         Ok(receipt.order())

@@ -2,7 +2,7 @@
 #![tactic(auto, using(std::proofs::lemmas::List::append_assoc, std::proofs::lemmas::Fmt::hex_byte))]
 
 ghost use Rattle.std.specs.Prelude.{◌≡◌, ◌++◌, OnOk, string_bytes};
-ghost use Rattle.dali_replay.specs.Text.{answer_text, heard_text, power_text, state_text, short_text, condition_text, addresses_text, gear_text, gear_texts, ok_text, refusal_name, refused_text, assignment_text, commit_text, end_text, fault_text, put_text, order_text, ordered_text, kept_text, offered_text, destroyed_text, sent_text, report_text, collided_text, owner_text, lapse_text, ran_text, entry_text, entries_text, table_text};
+ghost use Rattle.dali_replay.specs.Text.{answer_text, heard_text, power_text, state_text, short_text, condition_text, addresses_text, gear_text, gear_texts, ok_text, refused_text, assignment_text, commit_text, end_text, fault_text, put_text, order_text, ordered_text, kept_text, offered_text, destroyed_text, sent_text, report_text, collided_text, owner_text, lapse_text, ran_text, entry_text, entries_text, table_text};
 
 use dali_orders::{End, Fault, Order};
 use dali_frame::{Answer, Forward, Priority, Random24, Short};
@@ -102,31 +102,12 @@ pub fn push_all_gear(text: &mut String, gear: &[Gear]) -> Result<(), AllocError>
     Ok(())
 }
 
-fn refusal_name(error: Refusal) -> &'static str
-    ensures { result.now ≡ refusal_name error }
-{
-    match error {
-        Refusal::UnknownController => "UnknownController",
-        Refusal::UnknownGear => "UnknownGear",
-        Refusal::ControllerDown => "ControllerDown",
-        Refusal::ControllerUp => "ControllerUp",
-        Refusal::NotDue => "NotDue",
-        Refusal::NotArc => "NotArc",
-        Refusal::StoreDisagrees => "StoreDisagrees",
-        Refusal::DrawsSpent => "DrawsSpent",
-        Refusal::QueueFull => "QueueFull",
-        Refusal::LogFull => "LogFull",
-        Refusal::NoMemory => "NoMemory",
-    }
-}
-
 /// A refusal, with its number and its name.
 pub fn push_refused(text: &mut String, error: Refusal) -> Result<(), AllocError>
     ensures { OnOk result (string_bytes text.new ≡ string_bytes text.old ++ refused_text error) }
 {
     let number = error.number();
-    let name = refusal_name(error);
-    write!(text, "refused {number} {name}")?;
+    write!(text, "refused {number} {error}")?;
     text.push_str("\n")
 }
 

@@ -1,46 +1,36 @@
-ghost use Rattle.std.specs.Prelude.{◌≡◌};
-ghost use Rattle.dali_standing.specs.Refusals.{number_of};
+ghost use Rattle.std.specs.Prelude.{◌≡◌, Some};
+ghost use Rattle.dali_standing.specs.Refusals.{number_of, name_of};
 
-use thiserror::Error;
+use std::error::Error;
+use std::fmt;
 
 /// Why a call of a site is refused. The numbers never change.
 ///
 /// The first cause that holds is answered, in the order of the numbers: a controller or a gear that is not there comes
 /// first, and want of memory last.
-#[derive(Clone, Copy, Debug, PartialEq, Eq, Error)]
+#[derive(Clone, Copy, Debug, PartialEq, Eq)]
 pub enum Refusal {
     /// 1: the site has no controller of this number.
-    #[error("UnknownController")]
     UnknownController,
     /// 1: the site has no gear of this number.
-    #[error("UnknownGear")]
     UnknownGear,
     /// 2: the controller is down.
-    #[error("ControllerDown")]
     ControllerDown,
     /// 2: the controller is up.
-    #[error("ControllerUp")]
     ControllerUp,
     /// 3: the controller was not told this.
-    #[error("NotDue")]
     NotDue,
     /// 4: the frame is not direct arc power.
-    #[error("NotArc")]
     NotArc,
     /// 5: the records are not those that the controller keeps, and not those with the record that is outstanding.
-    #[error("StoreDisagrees")]
     StoreDisagrees,
     /// 6: the gear would draw more numbers than the plan has left.
-    #[error("DrawsSpent")]
     DrawsSpent,
     /// 7: no more requests may wait.
-    #[error("QueueFull")]
     QueueFull,
     /// 8: the log has no room for one more event.
-    #[error("LogFull")]
     LogFull,
     /// 9: there is too little memory.
-    #[error("NoMemory")]
     NoMemory,
 }
 
@@ -61,4 +51,33 @@ impl Refusal {
             Refusal::NoMemory => 9,
         }
     }
+
+    /// The refusal's name.
+    fn name(self) -> &'static str
+        ensures { result.now ≡ name_of self }
+    {
+        match self {
+            Refusal::UnknownController => "UnknownController",
+            Refusal::UnknownGear => "UnknownGear",
+            Refusal::ControllerDown => "ControllerDown",
+            Refusal::ControllerUp => "ControllerUp",
+            Refusal::NotDue => "NotDue",
+            Refusal::NotArc => "NotArc",
+            Refusal::StoreDisagrees => "StoreDisagrees",
+            Refusal::DrawsSpent => "DrawsSpent",
+            Refusal::QueueFull => "QueueFull",
+            Refusal::LogFull => "LogFull",
+            Refusal::NoMemory => "NoMemory",
+        }
+    }
 }
+
+impl fmt::Display for Refusal {
+    ghost output = { λ e. Some (name_of e) };
+
+    fn fmt<W: fmt::Write>(&self, f: &mut fmt::Formatter<W>) -> fmt::Result {
+        f.write_str(self.name())
+    }
+}
+
+impl Error for Refusal {}

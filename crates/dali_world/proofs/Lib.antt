@@ -2,3 +2,4 @@ pub mod Capacity
 pub mod Room
 pub mod Agreeing
 pub mod Logs
+mod Fitting

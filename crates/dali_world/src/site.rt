@@ -1,11 +1,13 @@
-ghost use Rattle.std.specs.Prelude.{◌≡◌, ℕ, ◌+◌, ◌<◌, ◌≤◌, length, map, true, false, Some, None, OnOk, IfOk, OnErr, IfErr, IsTrue, ◌↔◌, ◌++◌, ◌∷◌, [], vec_len, MatchOption, slice_index_or, slice_set};
+ghost use Rattle.std.specs.Prelude.{◌≡◌, ℕ, ◌+◌, ◌<◌, ◌≤◌, length, map, true, false, Some, None, OnOk, IfOk, OnErr, IfErr, IfSome, IsTrue, ◌↔◌, ◌++◌, ◌∷◌, [], vec_len, MatchOption, slice_index_or, slice_set};
 ghost use Rattle.std.specs.Vec.{vec_capacity};
 ghost use Rattle.dali_events.specs.declared.event.Event.TheVariants as event;
 ghost use Rattle.dali_events.specs.World.{gear_at, controller_at};
 ghost use Rattle.dali_events.specs.Allowed.{IsUp, MaySend, IsArc};
 ghost use Rattle.dali_events.specs.Runs.{IsRun, IsSafe, IsSafeHistory};
 ghost use Rattle.dali_events.specs.Promises.{TablesAgree, KeepsRecords};
-ghost use Rattle.dali_script.specs.Records.{IsOnce};
+ghost use Rattle.dali_script.specs.Records.{IsOnce, Fits};
+ghost use Rattle.dali_orders.specs.Due.{record_ordered};
+ghost use Rattle.dali_events.specs.Plan.{block_at};
 ghost use Rattle.dali_orders.specs.declared.orders.Order.TheVariants as order;
 ghost use Rattle.dali_orders.specs.declared.orders.Fault.TheVariants as fault;
 ghost use Rattle.dali_controller.specs.Progress.{roster_of};
@@ -92,7 +94,8 @@ impl SiteState {
     /// A controller acts on an input: on what `next` says, or on the outcome of its Commit where `due` is Store. Its frame
     /// waits for the bus from now on.
     ///
-    /// It never orders `Halt(Conflict)`: a finding and an entry of a table are both true of the gear for good.
+    /// It never orders `Halt(Conflict)`: a finding and an entry of a table are both true of the gear for good. A record that
+    /// it orders fits the block that the plan gives to the controller.
     ///
     /// Refusals, in this order: 1 UnknownController, 2 ControllerDown, 3 NotDue, 7 QueueFull (whatever it would order), 8 LogFull.
     #[tactic(auto, unfolding(crate::specs::Site::Acts))]
@@ -102,6 +105,7 @@ impl SiteState {
         ensures step { IfOk result (λ receipt. (c < 4) × (self.new ≡ logged self.old (event.Acted c input receipt.order))) }
         ensures receipt { IfOk result (λ receipt. (receipt.controller ≡ c) × (receipt.input ≡ input) × (receipt.number ≡ share_of c self.old.log + 1)) }
         ensures agreed { IfOk result (λ receipt. receipt.order ≡ order.Halt fault.Conflict → ⊥) }
+        ensures fits { IfOk result (λ receipt. IfSome (record_ordered (Some receipt.order)) (Fits (block_at self.old.plan c))) }
         ensures unchanged { OnErr result (self.new ≡ self.old) }
     {
         let _log = &self.log;

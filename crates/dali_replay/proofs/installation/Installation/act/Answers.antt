@@ -1,6 +1,6 @@
 use Rattle.std.proofs.Common.{◌≡◌, ◌<◌, length, Err, refl, rules}
 use Rattle.dali_replay.specs.Installation.{Installation}
-use Rattle.dali_replay.proofs.InstallationLemmas.{acted_of, refused_of, fits_ordered, block_read, store_read, stepped_of, stores_there}
+use Rattle.dali_replay.proofs.InstallationLemmas.{acted_of, refused_of, fits_store, block_read, store_read, stepped_of, stores_there}
 use Rattle.dali_replay.proofs.InStepLemmas.{act_installed}
 use Rattle.dali_replay.proofs.installation.Installation.act.Goals as goal
 
@@ -12,9 +12,8 @@ returns-in_err-receipt-clause-refused c =
 pub await_commit-requires : goal.await_commit-requires
 await_commit-requires c =
     let n : Installation = record { site = c.self.inside.site; stores = c.self.inside.stores.items } in
-    fits_ordered c.self.inside.site c.args.c c.args.input c.in_ok-receipt.receipt c.act.new.self _ _ c.is_safe.ensures.records
-    (acted_of _ _ _ _ _ _ refl c.in_ok-receipt.ensures.answer)
-    (block_read n c.args.c c.index_mut.result.now c.self.invariant c.index_mut.ensures.value (rw (← c.self.view_is) at c.requires.known)) c.order.ensures
+    fits_store _ _ _ _ c.in_ok-receipt.ensures.fits c.order.ensures
+    (block_read n c.args.c c.index_mut.result.now c.self.invariant c.index_mut.ensures.value (rw (← c.self.view_is) at c.requires.known))
 
 pub returns-clause-stepped : goal.returns-clause-stepped
 returns-clause-stepped c =

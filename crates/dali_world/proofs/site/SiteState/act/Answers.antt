@@ -6,7 +6,8 @@ use Rattle.dali_standing.specs.Places.{MayAnswer}
 use Rattle.dali_standing.specs.Standing.{controller_on, machine_on}
 use Rattle.dali_world.specs.Site.{Received}
 use Rattle.dali_events.specs.declared.event.Event.TheVariants as event
-use Rattle.dali_world.proofs.Logs.{step_few, step_goes_on, act_site, never_conflicts}
+use Rattle.dali_world.proofs.Logs.{step_few, step_goes_on, act_site, never_conflicts, records_now}
+use Rattle.dali_world.proofs.Fitting.{fits_acted}
 use Rattle.dali_world.proofs.site.SiteState.act.Goals as goal
 
 pub count-number-requires-clause-few : goal.count-number-requires-clause-few
@@ -41,3 +42,12 @@ returns-clause-agreed c halts =
     let order : c.act-order.result ≡ Halt fault.Conflict = sym (ap (λ (r : Received). r.order) c.new.ensures) ∙ halts in
     never_conflicts _ _ _ _ _ c.args.c c.args.input c.self.view_is c.self.invariant up.1 due c.act-order.ensures.placed
     (subst (λ o. MayAnswer (machine_on c.self.inside.standing c.args.c) c.args.input o) order c.act-order.ensures.answer)
+
+pub returns-clause-fits : goal.returns-clause-fits
+returns-clause-fits c =
+    let up = c.in_ok-check_up.ensures.ok in
+    let four : c.args.c < 4 = let there = up.1 in let few = up.2 in omega arith in
+    fits_acted _ _ _ _ _ (rw (← c.self.view_is) (records_now _ _ _ c.self.invariant.run))
+    (act_site _ _ _ _ _ c.count-number.new.shares _ c.count-number.result c.args.c c.args.input c.act-order.result c.new.result _ c.self.view_is c.self.invariant
+        (c.if-is_crowded.ensures.room refl) (c.if-is_full.ensures.room refl) c.act-order.ensures.moves c.act-order.ensures.answer c.append.ensures.items four
+        c.count-number.ensures.number c.new.ensures)
