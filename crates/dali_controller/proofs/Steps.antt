@@ -7,8 +7,9 @@ use Rattle.dali_frame.specs.declared.numbers.SearchAddress.{SearchAddress}
 use Rattle.dali_frame.specs.Short.{short_of}
 use Rattle.dali_frame.specs.Random.{value_of, MASK24}
 use Rattle.dali_frame.specs.Priority.{FIRST, LATER}
+use Rattle.dali_special.specs.declared.command.Target.TheVariants.{Unaddressed}
 use Rattle.dali_special.specs.declared.command.Command.{Command}
-use Rattle.dali_special.specs.declared.command.Command.TheVariants.{Terminate, Program, Arc}
+use Rattle.dali_special.specs.declared.command.Command.TheVariants.{Terminate, Initialise, Randomise, Withdraw, SearchMiddle, SearchLow, Program, QueryShort, Arc}
 use Rattle.dali_special.specs.Command.{MASK, command_of, frame_of, IsSpelled}
 use Rattle.dali_special.proofs.Table.{read_written}
 use Rattle.dali_script.specs.declared.block.Block.{Block}
@@ -20,8 +21,8 @@ use Rattle.dali_script.specs.declared.stage.Stage.TheVariants.{Free, Terminated,
 use Rattle.dali_script.specs.Records.{IsKept, IsOnce, with_record, HasAddress, Records, Assignment, Has, HasNumber, Fits, IsFresh}
 use Rattle.dali_script.specs.Scripts.{MayGive, Lawful}
 use Rattle.dali_script.specs.Findings.{later, finding_of}
-use Rattle.dali_script.specs.Stages.{finding_at, stage_of, next_stage, queried, named, verified, answered, Follows, begins_opening, begins_search, initialises_once, initialises, randomises_once, randomises, sets_middle, sets_low, compares, queries_number, withdraws_found, programs, queries_given, withdraws_given}
-use Rattle.dali_script.proofs.Transactions.{lawful_follows, stage_none, stage_more, finding_after}
+use Rattle.dali_script.specs.Stages.{finding_at, stage_of, next_stage, queried, named, verified, answered, Follows}
+use Rattle.dali_script.proofs.Transactions.{turn, gives, lawful_follows, stage_none, stage_more, finding_after}
 use Rattle.dali_enrol.specs.Roster.{Roster}
 use Rattle.dali_search.specs.declared.step.Step.TheVariants.{Again}
 use Rattle.dali_script.proofs.Lists.{has_map, has_at, has_last}
@@ -39,112 +40,34 @@ use Rattle.dali_controller.specs.Progress.{lost, Progress, roster_of, opened_aft
 use Rattle.dali_controller.specs.Orders.{Contradicts, closing_by, Cause, IsBegun, AfterMask, IsOrdered, ordered, end_at}
 use Rattle.dali_controller.specs.Moments.{FoundAt, IsBetween, Closes, closing_of, seen, first_of, asks, IsSearching, Sends, Arrived, Knows, KnowsAt, IsCalm, CalmAt, IsReady, IsSending, Pending, IsFine, IsHeard, Turns, Begins, IsNext}
 
--- THE COMMANDS OF A TRANSACTION. A first command may begin one.
-first_follows : (b : Block) (xs : List Assignment) (p : Purpose) (n : SearchAddress) (c : Command) → c ≡ first_of p n → Follows b xs Free c
-first_follows b xs Opening n c is = subst (Follows b xs Free) (sym is) begins_opening
-first_follows b xs (Closing e) n c is = subst (Follows b xs Free) (sym is) begins_opening
-first_follows b xs Probing n c is = subst (Follows b xs Free) (sym is) (begins_search n.high)
-first_follows b xs Visiting n c is = subst (Follows b xs Free) (sym is) (begins_search n.high)
+-- THE COMMANDS OF A TRANSACTION. A command that is sent at a stage may follow there and is read from its frame; it is no
+-- direct arc power; past the first one no close runs; and what is known where it leads to.
+record Goes (k : Records) (n : SearchAddress) (p : Purpose) (s : Stage) (c : Command) : Type 0 where
+  pub follows : Follows k.block k.reserved s c
+  pub spelled : IsSpelled c
+  pub addressing : (g : Forward) → c ≡ Arc g → ⊥
+  pub unclosed : (s ≡ Free → ⊥) → closing_of p ≡ None
+  pub arrives : (h : Answer) → Arrived k n p (next_stage s c h)
 
-asks_follows : (b : Block) (xs : List Assignment) (p : Purpose) (r : SearchAddress) (c : Command) → c ≡ asks p → Follows b xs (NumberSent r) c
-asks_follows b xs Opening r c is = subst (Follows b xs (NumberSent r)) (sym is) (queries_number r)
-asks_follows b xs (Closing e) r c is = subst (Follows b xs (NumberSent r)) (sym is) (queries_number r)
-asks_follows b xs Probing r c is = subst (Follows b xs (NumberSent r)) (sym is) (compares r)
-asks_follows b xs Visiting r c is = subst (Follows b xs (NumberSent r)) (sym is) (queries_number r)
+going : {k : Records} {n : SearchAddress} {p : Purpose} {s : Stage} {c : Command} → Follows k.block k.reserved s c → IsSpelled c → ((g : Forward) → c ≡ Arc g → ⊥) → ((s ≡ Free → ⊥) → closing_of p ≡ None)
+    → ((h : Answer) → Arrived k n p (next_stage s c h)) → Goes k n p s c
+going {k} {n} {p} {s} {c} follows spelled addressing unclosed arrives =
+    record { follows = follows; spelled = spelled; addressing = addressing; unclosed = unclosed; arrives = arrives }
 
--- what is sent at a stage may follow there
-pub sends_follow : (k : Records) (n : SearchAddress) (p : Purpose) (s : Stage) (c : Command) → Sends k n p s c → Follows k.block k.reserved s c
-sends_follow k n p Free c e = first_follows k.block k.reserved p n c e
-sends_follow k n p Terminated c e = subst (Follows k.block k.reserved Terminated) (sym e.1) initialises_once
-sends_follow k n p InitialisedOnce c e = subst (Follows k.block k.reserved InitialisedOnce) (sym e.1) initialises
-sends_follow k n p Initialised c e = subst (Follows k.block k.reserved Initialised) (sym e.1) randomises_once
-sends_follow k n p RandomisedOnce c e = subst (Follows k.block k.reserved RandomisedOnce) (sym e.1) randomises
-sends_follow k n p (HighSent high) c e = subst (Follows k.block k.reserved (HighSent high)) (sym e.2) (sets_middle high n.middle)
-sends_follow k n p (MiddleSent high middle) c e = subst (Follows k.block k.reserved (MiddleSent high middle)) (sym e.3) (sets_low high middle n.low)
-sends_follow k n p (NumberSent r) c e = asks_follows k.block k.reserved p r c e.2
-sends_follow k n p (Found r b) c e = subst (Follows k.block k.reserved (Found r b)) (sym e.2) (withdraws_found r b)
-sends_follow k n p (Unnamed r) c e = subst (Follows k.block k.reserved (Unnamed r)) (sym e.2.3) (programs r e.2.0 e.2.2)
-sends_follow k n p (Programmed r a) c e = subst (Follows k.block k.reserved (Programmed r a)) (sym e.3) (queries_given r a e.2)
-sends_follow k n p (Confirmed r a) c e = subst (Follows k.block k.reserved (Confirmed r a)) (sym e.3) (withdraws_given r a e.2)
-sends_follow k n p _ c e = absurd e
-
-first_spelled : (p : Purpose) (n : SearchAddress) → IsSpelled (first_of p n)
-first_spelled Opening n = tt
-first_spelled (Closing e) n = tt
-first_spelled Probing n = tt
-first_spelled Visiting n = tt
-
-asks_spelled : (p : Purpose) → IsSpelled (asks p)
-asks_spelled Opening = tt
-asks_spelled (Closing e) = tt
-asks_spelled Probing = tt
-asks_spelled Visiting = tt
-
--- and is read from its frame
-pub sends_spelled : (k : Records) (n : SearchAddress) (p : Purpose) (s : Stage) (c : Command) → Sends k n p s c → IsSpelled c
-sends_spelled k n p Free c e = subst IsSpelled (sym e) (first_spelled p n)
-sends_spelled k n p Terminated c e = subst IsSpelled (sym e.1) tt
-sends_spelled k n p InitialisedOnce c e = subst IsSpelled (sym e.1) tt
-sends_spelled k n p Initialised c e = subst IsSpelled (sym e.1) tt
-sends_spelled k n p RandomisedOnce c e = subst IsSpelled (sym e.1) tt
-sends_spelled k n p (HighSent high) c e = subst IsSpelled (sym e.2) tt
-sends_spelled k n p (MiddleSent high middle) c e = subst IsSpelled (sym e.3) tt
-sends_spelled k n p (NumberSent r) c e = subst IsSpelled (sym e.2) (asks_spelled p)
-sends_spelled k n p (Found r b) c e = subst IsSpelled (sym e.2) tt
-sends_spelled k n p (Unnamed r) c e = subst IsSpelled (sym e.2.3) e.2.1
-sends_spelled k n p (Programmed r a) c e = subst IsSpelled (sym e.3) tt
-sends_spelled k n p (Confirmed r a) c e = subst IsSpelled (sym e.3) tt
-sends_spelled k n p _ c e = absurd e
-
--- and is no direct arc power
-first_no_arc : (p : Purpose) (n : SearchAddress) (g : Forward) → first_of p n ≡ Arc g → ⊥
-first_no_arc Opening n g is = cc
-first_no_arc (Closing e) n g is = cc
-first_no_arc Probing n g is = cc
-first_no_arc Visiting n g is = cc
-
-asks_no_arc : (p : Purpose) (g : Forward) → asks p ≡ Arc g → ⊥
-asks_no_arc Opening g is = cc
-asks_no_arc (Closing e) g is = cc
-asks_no_arc Probing g is = cc
-asks_no_arc Visiting g is = cc
-
-sends_no_arc : (k : Records) (n : SearchAddress) (p : Purpose) (s : Stage) (c : Command) (g : Forward) → Sends k n p s c → c ≡ Arc g → ⊥
-sends_no_arc k n p Free c g e is = first_no_arc p n g (sym e ∙ is)
-sends_no_arc k n p Terminated c g e is = let x = e.1 in cc
-sends_no_arc k n p InitialisedOnce c g e is = let x = e.1 in cc
-sends_no_arc k n p Initialised c g e is = let x = e.1 in cc
-sends_no_arc k n p RandomisedOnce c g e is = let x = e.1 in cc
-sends_no_arc k n p (HighSent high) c g e is = let x = e.2 in cc
-sends_no_arc k n p (MiddleSent high middle) c g e is = let x = e.3 in cc
-sends_no_arc k n p (NumberSent r) c g e is = asks_no_arc p g (sym e.2 ∙ is)
-sends_no_arc k n p (Found r b) c g e is = let x = e.2 in cc
-sends_no_arc k n p (Unnamed r) c g e is = let x = e.2.3 in cc
-sends_no_arc k n p (Programmed r a) c g e is = let x = e.3 in cc
-sends_no_arc k n p (Confirmed r a) c g e is = let x = e.3 in cc
-sends_no_arc k n p _ c g e is = absurd e
-
--- WHERE IT LEADS TO.
-arrives_first : (k : Records) (n : SearchAddress) (p : Purpose) (h : Answer) → Arrived k n p (next_stage Free (first_of p n) h)
-arrives_first k n Opening h = inl refl
-arrives_first k n (Closing e) h = inr (e, refl)
-arrives_first k n Probing h = (tt, refl)
-arrives_first k n Visiting h = (tt, refl)
+goes_first : (k : Records) (n : SearchAddress) (p : Purpose) → Goes k n p Free (first_of p n)
+goes_first k n Opening = going (turn refl refl) tt (λ g x. cc) (λ later. refl) (λ h. inl refl)
+goes_first k n (Closing e) = going (turn refl refl) tt (λ g x. cc) (λ later. absurd (later refl)) (λ h. inr (e, refl))
+goes_first k n Probing = going (turn refl refl) tt (λ g x. cc) (λ later. refl) (λ h. (SearchMiddle n.middle, (tt, refl, refl)))
+goes_first k n Visiting = going (turn refl refl) tt (λ g x. cc) (λ later. refl) (λ h. (SearchMiddle n.middle, (tt, refl, refl)))
 
 arrives_queried : (k : Records) (n r : SearchAddress) (h : Answer) → r ≡ n → Arrived k n Visiting (queried r h)
 arrives_queried k n r Silence is = (refl, is)
 arrives_queried k n r Damaged is = (refl, is)
 arrives_queried k n r (Byte v) is = go (short_of v) (v == MASK) where
   go : (o : Option ℕ) (m : Bool) → Arrived k n Visiting (named r o m)
-  go (Some b) m = (refl, is)
+  go (Some b) m = (Withdraw, (refl, is, refl))
   go None true = (refl, is)
   go None false = (refl, is)
-
-arrives_asked : (k : Records) (n r : SearchAddress) (p : Purpose) (h : Answer) → IsSearching p → r ≡ n → Arrived k n p (next_stage (NumberSent r) (asks p) h)
-arrives_asked k n r Probing h searching is = (refl, is)
-arrives_asked k n r Visiting h searching is = arrives_queried k n r h is
-arrives_asked k n r Opening h searching is = absurd searching
-arrives_asked k n r (Closing e) h searching is = absurd searching
 
 arrives_verified : (k : Records) (n r : SearchAddress) (a : ℕ) (h : Answer) → r ≡ n → MayGive k.block k.reserved r a → Arrived k n Visiting (verified r a h)
 arrives_verified k n r a Silence is may = (refl, is)
@@ -154,25 +77,40 @@ arrives_verified k n r a (Byte v) is may = go (short_of v) where
   go None = (refl, is)
   go (Some b) = same (b == a) where
     same : (m : Bool) → Arrived k n Visiting (if m then Confirmed r a else Inconclusive r (Some b))
-    same true = (refl, is, may)
+    same true = (Withdraw, (refl, is, may, refl))
     same false = (refl, is)
 
-pub sends_arrive : (k : Records) (n : SearchAddress) (p : Purpose) (s : Stage) (c : Command) (h : Answer) → Sends k n p s c → Arrived k n p (next_stage s c h)
-sends_arrive k n p Free c h e = rw e (arrives_first k n p h)
-sends_arrive k n p Terminated c h e = rw e.1 e.0
-sends_arrive k n p InitialisedOnce c h e = rw e.1 e.0
-sends_arrive k n p Initialised c h e = rw e.1 e.0
-sends_arrive k n p RandomisedOnce c h e = rw e.1 e.0
-sends_arrive k n p (HighSent high) c h e = rw e.2 (e.0, e.1, refl)
-sends_arrive k n p (MiddleSent high middle) c h e = rw e.3 (e.0, whole n high middle e.1 e.2) where
-  whole : (n : SearchAddress) (high middle : ℕ) → n.high ≡ high → n.middle ≡ middle → record { high = high; middle = middle; low = n.low } ≡ n
-  whole n high middle one two = rw (← one, ← two) refl
-sends_arrive k n p (NumberSent r) c h e = rw e.2 (arrives_asked k n r p h e.0 e.1)
-sends_arrive k n p (Found r b) c h e = rw e.2 (e.0, e.1)
-sends_arrive k n p (Unnamed r) c h e = rw e.2.3 (e.0, e.1, e.2.2)
-sends_arrive k n p (Programmed r a) c h e = rw (e.3, e.0) (arrives_verified k n r a h e.1 e.2)
-sends_arrive k n p (Confirmed r a) c h e = rw e.3 (e.0, e.1)
-sends_arrive k n p _ c h e = absurd e
+goes_asks : (k : Records) (n r : SearchAddress) (p : Purpose) → IsSearching p → r ≡ n → Goes k n p (NumberSent r) (asks p)
+goes_asks k n r Probing searching is = going (turn refl refl) tt (λ g x. cc) (λ later. refl) (λ h. (refl, is))
+goes_asks k n r Visiting searching is = going (turn refl refl) tt (λ g x. cc) (λ later. refl) (λ h. arrives_queried k n r h is)
+goes_asks k n r Opening searching is = absurd searching
+goes_asks k n r (Closing e) searching is = absurd searching
+
+open_of : (p : Purpose) → IsSearching p → closing_of p ≡ None
+open_of Probing e = refl
+open_of Visiting e = refl
+open_of Opening e = absurd e
+open_of (Closing end) e = absurd e
+
+whole : (n : SearchAddress) (high middle : ℕ) → n.high ≡ high → n.middle ≡ middle → record { high = high; middle = middle; low = n.low } ≡ n
+whole n high middle one two = rw (← one, ← two) refl
+
+goes : (k : Records) (n : SearchAddress) (p : Purpose) (s : Stage) (c : Command) → Sends k n p s c → Goes k n p s c
+goes k n p Free c e = rw e (goes_first k n p)
+goes k n p Terminated c e = rw e.1 (going (turn refl refl) tt (λ g x. cc) (λ later. ap closing_of e.0) (λ h. (Initialise Unaddressed, (e.0, refl))))
+goes k n p InitialisedOnce c e = rw e.1 (going (turn refl refl) tt (λ g x. cc) (λ later. ap closing_of e.0) (λ h. (Randomise, (e.0, refl))))
+goes k n p Initialised c e = rw e.1 (going (turn refl refl) tt (λ g x. cc) (λ later. ap closing_of e.0) (λ h. (Randomise, (e.0, refl))))
+goes k n p RandomisedOnce c e = rw e.1 (going (turn refl refl) tt (λ g x. cc) (λ later. ap closing_of e.0) (λ h. e.0))
+goes k n p (HighSent high) c e = rw e.2 (going (turn refl refl) tt (λ g x. cc) (λ later. open_of p e.0) (λ h. (SearchLow n.low, (e.0, e.1, refl, refl))))
+goes k n p (MiddleSent high middle) c e =
+    rw e.3 (going (turn refl refl) tt (λ g x. cc) (λ later. open_of p e.0) (λ h. (asks p, (e.0, whole n high middle e.1 e.2, refl))))
+goes k n p (NumberSent r) c e = rw e.2 (goes_asks k n r p e.0 e.1)
+goes k n p (Found r b) c e = rw e.2 (going (turn refl refl) tt (λ g x. cc) (λ later. ap closing_of e.0) (λ h. (e.0, e.1)))
+goes k n p (Unnamed r) c e = rw e.2.3 (going (gives refl e.2.2) e.2.1 (λ g x. cc) (λ later. ap closing_of e.0) (λ h. (QueryShort, (e.0, e.1, e.2.2, refl))))
+goes k n p (Programmed r a) c e =
+    rw (e.3, e.0) (going (gives refl e.2) tt (λ g x. cc) (λ later. refl) (λ h. arrives_verified k n r a h e.1 e.2))
+goes k n p (Confirmed r a) c e = rw e.3 (going (gives refl e.2) tt (λ g x. cc) (λ later. ap closing_of e.0) (λ h. (e.0, e.1)))
+goes k n p _ c e = absurd e
 
 -- what is known there
 pub knows_at : (k : Records) (n : SearchAddress) (s : Searched) (o : Bool) (p : Purpose) (there : Stage) → Knows k n s o p → KnowsAt there k n s (opened_after there o) p
@@ -205,28 +143,6 @@ pub sends_knows : (k : Records) (n : SearchAddress) (p : Purpose) (s : Stage) (c
 sends_knows k n p Opened c x o e knows = absurd e
 sends_knows k n p _ c x o e knows = knows
 
-open_of : (p : Purpose) → IsSearching p → closing_of p ≡ None
-open_of Probing e = refl
-open_of Visiting e = refl
-open_of Opening e = absurd e
-open_of (Closing end) e = absurd e
-
--- past the first command no close runs
-pub sends_open : (k : Records) (n : SearchAddress) (p : Purpose) (s : Stage) (c : Command) → (s ≡ Free → ⊥) → Sends k n p s c → closing_of p ≡ None
-sends_open k n p Free c later e = absurd (later refl)
-sends_open k n p Terminated c later e = ap closing_of e.0
-sends_open k n p InitialisedOnce c later e = ap closing_of e.0
-sends_open k n p Initialised c later e = ap closing_of e.0
-sends_open k n p RandomisedOnce c later e = ap closing_of e.0
-sends_open k n p (HighSent high) c later e = open_of p e.0
-sends_open k n p (MiddleSent high middle) c later e = open_of p e.0
-sends_open k n p (NumberSent r) c later e = open_of p e.0
-sends_open k n p (Found r b) c later e = ap closing_of e.0
-sends_open k n p (Unnamed r) c later e = ap closing_of e.0
-sends_open k n p (Programmed r a) c later e = ap closing_of e.0
-sends_open k n p (Confirmed r a) c later e = ap closing_of e.0
-sends_open k n p _ c later e = absurd e
-
 calm_less : (p : Purpose) (i : ℕ) → closing_of p ≡ None → IsCalm p i → i < 16
 calm_less Opening i e calm = calm
 calm_less Probing i e calm = calm
@@ -242,7 +158,7 @@ sending w (Some (Done end)) f is e = absurd (cc)
 sending w (Some (Halt why)) f is e = absurd (cc)
 
 pub sending_lawful : (w : Work) (f : Forward) → IsSending w f → Lawful w.kept.block w.kept.reserved w.trace f
-sending_lawful w f e = lawful_follows w.kept.block w.kept.reserved w.trace f (sends_follow w.kept w.number w.purpose (stage_of w.trace) (command_of f) e.sends)
+sending_lawful w f e = lawful_follows w.kept.block w.kept.reserved w.trace f (goes w.kept w.number w.purpose (stage_of w.trace) (command_of f) e.sends).follows
 
 -- TO GO ON
 put_fine_at : (w : Work) (s : Stage) (c : Command) (p : ℕ) (f : Forward) → IsHeard w s → Sends w.kept w.number w.purpose s c → command_of f ≡ c → IsFine (record w { last = Some (Put p f) })
@@ -259,7 +175,7 @@ put_fine_at w s c p f h e read = record {
 }
 
 pub put_fine : (w : Work) (s : Stage) (c : Command) (p : ℕ) (f : Forward) → IsHeard w s → Sends w.kept w.number w.purpose s c → (IsSpelled c → command_of f ≡ c) → IsFine (record w { last = Some (Put p f) })
-put_fine w s c p f h e read = put_fine_at w s c p f h e (read (sends_spelled w.kept w.number w.purpose s c e))
+put_fine w s c p f h e read = put_fine_at w s c p f h e (read (goes w.kept w.number w.purpose s c e).spelled)
 
 begun_none : (t : Progress) (o : Option End) → o ≡ None → t.closing ≡ None → IsBegun t o
 begun_none t o is none = subst (IsBegun t) (sym is) none
@@ -275,10 +191,10 @@ not_empty t s is later empty = later (sym is ∙ ap stage_of empty ∙ stage_non
 put_next_at : (w : Work) (s : Stage) (c : Command) → IsHeard w s → Sends w.kept w.number w.purpose s c → (s ≡ Free → ⊥)
     → IsNext (seen w) (Put LATER (frame_of c)) (seen (record w { last = Some (Put LATER (frame_of c)) }))
 put_next_at w s c h e later =
-    let going : closing_of w.purpose ≡ None = sends_open w.kept w.number w.purpose s c later e in
+    let going : closing_of w.purpose ≡ None = (goes w.kept w.number w.purpose s c e).unclosed later in
     let calm : w.silent < 16 = calm_less w.purpose w.silent going (sends_calm w.kept w.number w.purpose s c w.opened w.silent e h.calm) in
     let tries : w.tries < 8 = h.tries in
-    let spelled : command_of (frame_of c) ≡ c = read_written c (sends_spelled w.kept w.number w.purpose s c e) in
+    let spelled : command_of (frame_of c) ≡ c = read_written c (goes w.kept w.number w.purpose s c e).spelled in
     let sends : Sends w.kept w.number w.purpose (stage_of w.trace) (command_of (frame_of c)) =
     subst (λ x. Sends w.kept w.number w.purpose x (command_of (frame_of c))) (sym h.stage) (subst (λ d. Sends w.kept w.number w.purpose s d) (sym spelled) e) in
     record {
@@ -286,9 +202,9 @@ put_next_at w s c h e later =
         allowed = inr (
           refl,
           not_empty w.trace s h.stage later,
-          lawful_follows w.kept.block w.kept.reserved w.trace (frame_of c) (sends_follow w.kept w.number w.purpose (stage_of w.trace) (command_of (frame_of c)) sends),
+          lawful_follows w.kept.block w.kept.reserved w.trace (frame_of c) (goes w.kept w.number w.purpose (stage_of w.trace) (command_of (frame_of c)) sends).follows,
         );
-        addressing = λ g is. sends_no_arc w.kept w.number w.purpose s c g e (sym spelled ∙ is);
+        addressing = λ g is. (goes w.kept w.number w.purpose s c e).addressing g (sym spelled ∙ is);
         caused = (begun_none (seen w) (closing_of w.purpose) going going, inl going);
         given_up = λ n. absurd (omega arith);
         silent = λ n. absurd (omega arith);
@@ -337,11 +253,12 @@ silent_closes Probing i calm is = absurd (omega arith)
 silent_closes Visiting i calm is = absurd (omega arith)
 silent_closes (Closing e) i calm is = ap (λ x. Some x) (calm.1 is)
 
-first_lawful : (b : Block) (xs : List Assignment) (p : Purpose) (n : SearchAddress) → Lawful b xs [] (frame_of (first_of p n))
-first_lawful b xs p n =
-    lawful_follows b xs [] (frame_of (first_of p n))
-    (subst (λ s. Follows b xs s (command_of (frame_of (first_of p n)))) (sym stage_none)
-    (first_follows b xs p n (command_of (frame_of (first_of p n))) (read_written (first_of p n) (first_spelled p n))))
+first_read : (k : Records) (p : Purpose) (n : SearchAddress) → command_of (frame_of (first_of p n)) ≡ first_of p n
+first_read k p n = read_written (first_of p n) (goes_first k n p).spelled
+
+first_lawful : (k : Records) (p : Purpose) (n : SearchAddress) → Lawful k.block k.reserved [] (frame_of (first_of p n))
+first_lawful k p n =
+    lawful_follows k.block k.reserved [] (frame_of (first_of p n)) (rw (first_read k p n, stage_none) (goes_first k n p).follows)
 
 begin_next_at : (w : Work) (p : Purpose) (n : SearchAddress) → Begins w p n
     → IsNext (seen w) (Put FIRST (frame_of (first_of p n))) (seen (record w { trace = []; last = Some (Put FIRST (frame_of (first_of p n))); purpose = p; number = n }))
@@ -350,8 +267,8 @@ begin_next_at w p n b =
     let closed : closing_by (seen w) (Put FIRST (frame_of (first_of p n))) ≡ closing_of p = closes w p n b in
     record {
       order = record {
-        allowed = inl (refl, first_lawful w.kept.block w.kept.reserved p n);
-        addressing = λ g is. first_no_arc p n g (sym (read_written (first_of p n) (first_spelled p n)) ∙ is);
+        allowed = inl (refl, first_lawful w.kept p n);
+        addressing = λ g is. (goes_first w.kept n p).addressing g (sym (first_read w.kept p n) ∙ is);
         caused = (
           subst (IsBegun (seen w)) (sym closed) (begun w p b.turns),
           subst (λ o. (o ≡ None) ⊎ ((FIRST ≡ FIRST) × (frame_of (first_of p n) ≡ frame_of Terminate))) (sym closed) (terminates p n),
@@ -390,7 +307,7 @@ begin_fine w p n t q f b empty is = record {
   table = b.table;
   pending = record {
     ready = record { tries = b.tries; calm = b.calm; knows = b.knows };
-    sends = subst (λ s. Sends w.kept n p s (command_of f)) (sym (free_of t empty)) (ap command_of is ∙ read_written (first_of p n) (first_spelled p n));
+    sends = subst (λ s. Sends w.kept n p s (command_of f)) (sym (free_of t empty)) (ap command_of is ∙ first_read w.kept p n);
   };
 }
 
@@ -435,7 +352,7 @@ hear_heard w noted f h t s complete o n i fine put trace is stage tries silent o
     let sent : IsSending w f = sending w w.last f put fine.pending in
     let same_trace : noted.trace ≡ t = ap (λ (x : Work). x.trace) is in
     let there : stage_of noted.trace ≡ next_stage (stage_of w.trace) (command_of f) h = ap stage_of (same_trace ∙ trace) ∙ stage_more w.trace (record { frame = f; heard = h }) in
-    let arrived : Arrived w.kept w.number w.purpose (stage_of noted.trace) = subst (Arrived w.kept w.number w.purpose) (sym there) (sends_arrive w.kept w.number w.purpose (stage_of w.trace) (command_of f) h sent.sends) in
+    let arrived : Arrived w.kept w.number w.purpose (stage_of noted.trace) = subst (Arrived w.kept w.number w.purpose) (sym there) ((goes w.kept w.number w.purpose (stage_of w.trace) (command_of f) sent.sends).arrives h) in
     let finding : noted.finding ≡ later w.finding (finding_at (stage_of noted.trace)) =
     ap (λ (x : Work). x.finding) is ∙ ap (λ u. later w.finding (finding_of u)) trace ∙ ap (later w.finding) (finding_after w.kept.block w.kept.reserved w.trace (record { frame = f; heard = h }) (sending_lawful w f sent))
     ∙ ap (λ u. later w.finding (finding_at (stage_of u))) (sym (same_trace ∙ trace)) in

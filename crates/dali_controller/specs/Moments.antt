@@ -77,25 +77,16 @@ Sends k n p (Programmed r a) c = (p ≡ Visiting) × (r ≡ n) × MayGive k.bloc
 Sends k n p (Confirmed r a) c = (p ≡ Visiting) × (r ≡ n) × MayGive k.block k.reserved r a × (c ≡ Withdraw)
 Sends k n p _ c = ⊥
 
--- what is known at a stage of the transaction that led there
+-- what is known at a stage of the transaction that led there: its end, or that there is a command to send
 abbrev pub Arrived : Records → SearchAddress → Purpose → Stage → Type 0
+Arrived k n p Free = ⊥
 Arrived k n p Terminated = (p ≡ Opening) ⊎ ((e : End) × (p ≡ Closing e))
-Arrived k n p InitialisedOnce = p ≡ Opening
-Arrived k n p Initialised = p ≡ Opening
-Arrived k n p RandomisedOnce = p ≡ Opening
 Arrived k n p Opened = p ≡ Opening
-Arrived k n p (HighSent high) = IsSearching p × (n.high ≡ high)
-Arrived k n p (MiddleSent high middle) = IsSearching p × (n.high ≡ high) × (n.middle ≡ middle)
-Arrived k n p (NumberSent r) = IsSearching p × (r ≡ n)
 Arrived k n p (Probed r h) = (p ≡ Probing) × (r ≡ n)
-Arrived k n p (Found r b) = (p ≡ Visiting) × (r ≡ n)
 Arrived k n p (Unnamed r) = (p ≡ Visiting) × (r ≡ n)
 Arrived k n p (Inconclusive r other) = (p ≡ Visiting) × (r ≡ n)
-Arrived k n p (Programmed r a) = (p ≡ Visiting) × (r ≡ n) × MayGive k.block k.reserved r a
-Arrived k n p (Confirmed r a) = (p ≡ Visiting) × (r ≡ n) × MayGive k.block k.reserved r a
 Arrived k n p (Withdrawn r b) = (p ≡ Visiting) × (r ≡ n)
-Arrived k n p Free = ⊥
-Arrived k n p Over = ⊥
+Arrived k n p s = (c : Command) × Sends k n p s c
 
 -- What is known while a transaction runs: whether an opening was complete, and where its number comes from. In the visits
 -- before the opening it is reserved.

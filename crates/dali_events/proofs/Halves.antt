@@ -5,7 +5,7 @@ use Rattle.dali_frame.specs.declared.frames.Answer.{Answer}
 use Rattle.dali_frame.specs.declared.numbers.SearchAddress.{SearchAddress}
 use Rattle.dali_frame.specs.Random.{value_of}
 use Rattle.dali_special.specs.declared.command.Command.{Command}
-use Rattle.dali_special.specs.declared.command.Command.TheVariants.{Randomise}
+use Rattle.dali_special.specs.declared.command.Command.TheVariants.{Terminate, Randomise, SearchHigh, Arc}
 use Rattle.dali_special.specs.Command.{command_of}
 use Rattle.dali_gear.specs.declared.row.Reach.TheVariants.{Everyone}
 use Rattle.dali_gear.specs.ControlGear.{ControlGear, fresh, half_after, expired, quieted}
@@ -16,7 +16,7 @@ use Rattle.dali_script.specs.declared.stage.Stage.{Stage}
 use Rattle.dali_script.specs.declared.stage.Stage.TheVariants as stage
 use Rattle.dali_script.specs.Records.{Assignment}
 use Rattle.dali_script.specs.Scripts.{IsFirst}
-use Rattle.dali_script.specs.Stages.{Follows, begins_opening, begins_search, begins_arc, stage_of}
+use Rattle.dali_script.specs.Stages.{Follows, stage_of}
 use Rattle.dali_script.proofs.Transactions.{stage_none, first_for_all, follows_lawful, randomise_at}
 use Rattle.dali_events.specs.declared.event.Event.{Event}
 use Rattle.dali_events.specs.declared.event.Event.TheVariants as event
@@ -37,10 +37,10 @@ abbrev pub Whole : ℕ → ControlGear → Type 0
 Whole k g = g.powered ≡ true → g.half ≡ None
 
 half_first : (b : Block) (xs : List Assignment) (s : Stage) (c : Command) (g : ControlGear) → Follows b xs s c → s ≡ stage.Free → half_after c g ≡ None
-half_first b xs _ _ g begins_opening e = refl
-half_first b xs _ _ g (begins_search high) e = refl
-half_first b xs _ _ g (begins_arc f) e = refl
-half_first b xs _ _ g _ e = absurd (cc)
+half_first b xs stage.Free Terminate g on e = refl
+half_first b xs stage.Free (SearchHigh high) g on e = refl
+half_first b xs stage.Free (Arc f) g on e = refl
+half_first b xs _ _ g on e = absurd (let none = on.leads_on in cc)
 
 whole_moved : (c : Command) (ds : List (ℕ × ℕ)) (k : ℕ) (g g' : ControlGear) → half_after c g ≡ None → Moved Everyone c ds k g g' → Whole k g'
 whole_moved c ds k g _ none (stays off) = λ on. absurd (let there : takes Everyone k g ≡ true = powered_takes k g on in cc)

@@ -8,7 +8,7 @@ use Rattle.dali_frame.specs.Short.{code_of, short_of}
 use Rattle.dali_frame.specs.Random.{value_of}
 use Rattle.dali_special.specs.declared.command.Target.TheVariants.{Unaddressed}
 use Rattle.dali_special.specs.declared.command.Command.{Command}
-use Rattle.dali_special.specs.declared.command.Command.TheVariants.{Initialise, Randomise, Program, QueryShort}
+use Rattle.dali_special.specs.declared.command.Command.TheVariants.{Terminate, Initialise, Randomise, Withdraw, SearchHigh, SearchMiddle, SearchLow, Program, QueryShort}
 use Rattle.dali_special.specs.Command.{MASK, program_data, IsSpelled}
 use Rattle.dali_special.proofs.Table.{short_of_code}
 use Rattle.dali_gear.specs.declared.state.InitialisationState.TheVariants.{Enabled}
@@ -19,7 +19,7 @@ use Rattle.dali_script.specs.declared.stage.Stage.{Stage}
 use Rattle.dali_script.specs.declared.stage.Stage.TheVariants as stage
 use Rattle.dali_script.specs.Records.{Assignment}
 use Rattle.dali_script.specs.Scripts.{MayGive}
-use Rattle.dali_script.specs.Stages.{Follows, begins_opening, begins_search, begins_arc, initialises_once, initialises, randomises_once, randomises, sets_middle, sets_low, compares, queries_number, withdraws_found, programs, queries_given, withdraws_given, next_stage, queried, named, verified, answered, IsSearched}
+use Rattle.dali_script.specs.Stages.{Follows, next_stage, queried, named, verified, answered, IsSearched}
 
 -- WHAT A STAGE SAYS OF EACH POWERED GEAR that takes part in the initialisation
 abbrev pub IsActive : ControlGear → Type 0
@@ -116,22 +116,21 @@ initialised_none g k active = go (is_second (Initialise Unaddressed) g.half && c
 
 pub knows_step : (b : Block) (xs : List Assignment) (s : Stage) (c : Command) (h : Answer) (g : ControlGear) (x : ℕ)
     → Follows b xs s c → IsShort g → Agrees c g h → Knows s g → Knows (next_stage s c h) (taken c x g)
-knows_step b xs _ _ h g x begins_opening small agrees k = λ active. absurd (cc)
-knows_step b xs _ _ h g x (begins_search high) small agrees k = λ active. rw active refl
-knows_step b xs _ _ h g x (begins_arc f) small agrees k = tt
-knows_step b xs _ _ h g x initialises_once small agrees k = initialised_none g k
-knows_step b xs _ _ h g x initialises small agrees k = initialised_none g k
-knows_step b xs _ _ h g x randomises_once small agrees k = k
-knows_step b xs _ _ h g x randomises small agrees k = tt
-knows_step b xs _ _ h g x (sets_middle high middle) small agrees k = λ active. rw active (k active, refl)
-knows_step b xs _ _ h g x (sets_low high middle low) small agrees k = λ active.
+knows_step b xs stage.Free Terminate h g x on small agrees k = λ active. absurd (cc)
+knows_step b xs stage.Free (SearchHigh high) h g x on small agrees k = λ active. rw active refl
+knows_step b xs stage.Terminated (Initialise Unaddressed) h g x on small agrees k = initialised_none g k
+knows_step b xs stage.InitialisedOnce (Initialise Unaddressed) h g x on small agrees k = initialised_none g k
+knows_step b xs stage.Initialised Randomise h g x on small agrees k = k
+knows_step b xs (stage.HighSent high) (SearchMiddle middle) h g x on small agrees k = λ active. rw active (k active, refl)
+knows_step b xs (stage.MiddleSent high middle) (SearchLow low) h g x on small agrees k = λ active.
     rw active (ap (λ n. record { high = n; middle = g.search.middle; low = low }) (k active).0 ∙ ap (λ n. record { high = high; middle = n; low = low }) (k active).1)
-knows_step b xs _ _ h g x (compares r) small agrees k = tt
-knows_step b xs _ _ h g x (queries_number r) small agrees k = knows_queried r h g x small agrees k
-knows_step b xs _ _ h g x (withdraws_found r a) small agrees k = tt
-knows_step b xs _ _ h g x (programs r a may) small agrees k = λ active. (k active).0
-knows_step b xs _ _ h g x (queries_given r a may) small agrees k = knows_verified r a h g x small agrees k
-knows_step b xs _ _ h g x (withdraws_given r a may) small agrees k = tt
+knows_step b xs (stage.NumberSent r) QueryShort h g x on small agrees k = knows_queried r h g x small agrees k
+knows_step b xs (stage.Unnamed r) (Program (Some a)) h g x on small agrees k = λ active. (k active).0
+knows_step b xs (stage.Programmed r a) QueryShort h g x on small agrees k = knows_verified r a h g x small agrees k
+knows_step b xs stage.RandomisedOnce Randomise h g x on small agrees k = tt
+knows_step b xs (stage.Found r a) Withdraw h g x on small agrees k = tt
+knows_step b xs (stage.Confirmed r a) Withdraw h g x on small agrees k = tt
+knows_step b xs _ _ h g x on small agrees k = tt
 
 -- of a gear that takes no part a stage says nothing
 pub knows_inactive : (s : Stage) (g : ControlGear) → is_active g.state ≡ false → Knows s g
@@ -203,24 +202,26 @@ pub record IsNew (b : Block) (xs : List Assignment) (g : ControlGear) (a : ℕ) 
   pub may : MayGive b xs number a
 
 pub new_from : (b : Block) (xs : List Assignment) (s : Stage) (c : Command) (g : ControlGear) (a : ℕ) → Follows b xs s c → Knows s g → stored c g ≡ Some a → IsNew b xs g a
-new_from b xs _ _ g a (programs r d may) k e = go (is_active g.state) (is_found g) refl refl e where
+new_from b xs (stage.Unnamed r) (Program (Some d)) g a on k e = go (is_active g.state) (is_found g) refl refl e where
   go : (t f : Bool) → is_active g.state ≡ t → is_found g ≡ f → (if t && f then Some d else None) ≡ Some a → IsNew b xs g a
   go true true active found e =
       let search : g.search ≡ r = (k active).0 in
       let random : g.random ≡ value_of r = found_random g r search found in
-      record { number = r; random = random; none = (k active).1 random; may = subst (λ n. MayGive b xs r n) (let same : d ≡ a = cc in same) may }
+      record { number = r; random = random; none = (k active).1 random; may = subst (λ n. MayGive b xs r n) (let same : d ≡ a = cc in same) on.may }
   go true false active found e = absurd (cc)
   go false f active found e = absurd (cc)
-new_from b xs _ _ g a _ k e = absurd (cc)
+new_from b xs _ (Program short) g a on k e = absurd (let none = on.leads_on in cc)
+new_from b xs _ _ g a on k e = absurd (cc)
 
 -- a short address stays
 pub short_stays : (b : Block) (xs : List Assignment) (s : Stage) (c : Command) (g : ControlGear) (a : ℕ) → Follows b xs s c → Knows s g → g.short ≡ Some a → short_after c g ≡ Some a
-short_stays b xs _ _ g a (programs r d may) k e = go (is_active g.state) (is_found g) refl refl where
+short_stays b xs (stage.Unnamed r) (Program (Some d)) g a on k e = go (is_active g.state) (is_found g) refl refl where
   go : (t f : Bool) → is_active g.state ≡ t → is_found g ≡ f → (if t && f then Some d else g.short) ≡ Some a
   go true true active found = absurd (let none : g.short ≡ None = (k active).1 (found_random g r (k active).0 found) in cc)
   go true false active found = e
   go false f active found = e
-short_stays b xs _ _ g a _ k e = e
+short_stays b xs _ (Program short) g a on k e = absurd (let none = on.leads_on in cc)
+short_stays b xs _ _ g a on k e = e
 
 drawing_none : (g : ControlGear) (a : ℕ) → Unnumbered g → g.short ≡ Some a → would_draw Randomise g ≡ false
 drawing_none g a k e = go (is_second Randomise g.half) (is_active g.state) refl where
@@ -231,9 +232,10 @@ drawing_none g a k e = go (is_second Randomise g.half) (is_active g.state) refl 
 
 -- and so does the random address of a gear with a short address
 pub random_stays : (b : Block) (xs : List Assignment) (s : Stage) (c : Command) (g : ControlGear) (x a : ℕ) → Follows b xs s c → Knows s g → g.short ≡ Some a → random_after c x g ≡ g.random
-random_stays b xs _ _ g x a randomises_once k e = rw (drawing_none g a k e) refl
-random_stays b xs _ _ g x a randomises k e = rw (drawing_none g a k e) refl
-random_stays b xs _ _ g x a _ k e = refl
+random_stays b xs stage.Initialised Randomise g x a on k e = rw (drawing_none g a k e) refl
+random_stays b xs stage.RandomisedOnce Randomise g x a on k e = rw (drawing_none g a k e) refl
+random_stays b xs _ Randomise g x a on k e = absurd (let none = on.leads_on in cc)
+random_stays b xs _ _ g x a on k e = refl
 
 -- as does that of a gear that stores one
 pub random_stored : (c : Command) (g : ControlGear) (x a : ℕ) → stored c g ≡ Some a → random_after c x g ≡ g.random
@@ -242,6 +244,6 @@ random_stored _ g x a e = absurd (cc)
 
 -- at QUERY SHORT ADDRESS the gear have the search address that was sent
 pub search_known : (b : Block) (xs : List Assignment) (s : Stage) (c : Command) (g : ControlGear) (r : SearchAddress) → Follows b xs s c → c ≡ QueryShort → IsSearched s r → Knows s g → IsActive g → g.search ≡ r
-search_known b xs _ _ g r (queries_number n) is searched k active = k active ∙ sym searched
-search_known b xs _ _ g r (queries_given n a may) is searched k active = k active ∙ sym searched
-search_known b xs _ _ g r _ is searched k active = absurd (cc)
+search_known b xs (stage.NumberSent n) QueryShort g r on is searched k active = k active ∙ sym searched
+search_known b xs (stage.Programmed n a) QueryShort g r on is searched k active = k active ∙ sym searched
+search_known b xs _ _ g r on is searched k active = absurd (let none = on.leads_on in cc)

@@ -7,7 +7,7 @@ use Rattle.dali_frame.specs.Short.{short_of}
 use Rattle.dali_frame.specs.Random.{value_of, MASK24}
 use Rattle.dali_special.specs.declared.command.Target.TheVariants.{Unaddressed}
 use Rattle.dali_special.specs.declared.command.Command.{Command}
-use Rattle.dali_special.specs.declared.command.Command.TheVariants.{Terminate, Initialise, Randomise, Withdraw, Program, QueryShort}
+use Rattle.dali_special.specs.declared.command.Command.TheVariants.{Terminate, Initialise, Randomise, Withdraw, SearchMiddle, SearchLow, Program, QueryShort}
 use Rattle.dali_special.specs.Command.{MASK}
 use Rattle.dali_gear.specs.declared.state.InitialisationState.TheVariants.{Enabled, Withdrawn}
 use Rattle.dali_gear.specs.declared.row.Reach.{Reach}
@@ -17,7 +17,7 @@ use Rattle.dali_script.specs.declared.block.Block.{Block}
 use Rattle.dali_script.specs.declared.stage.Stage.{Stage}
 use Rattle.dali_script.specs.declared.stage.Stage.TheVariants as stage
 use Rattle.dali_script.specs.Records.{Assignment, Has}
-use Rattle.dali_script.specs.Stages.{Follows, begins_opening, begins_search, begins_arc, initialises_once, initialises, randomises_once, randomises, sets_middle, sets_low, compares, queries_number, withdraws_found, programs, queries_given, withdraws_given, next_stage, queried, named, verified, answered}
+use Rattle.dali_script.specs.Stages.{Follows, next_stage, queried, named, verified, answered}
 use Rattle.dali_events.proofs.Known.{Knows, IsActive, found_random}
 
 -- WITH NUMBERS ENOUGH, who would draw draws one of them
@@ -109,21 +109,19 @@ remembers_randomise g half = rw half refl
 
 pub opens_step : (b : Block) (xs : List Assignment) (s : Stage) (c : Command) (h : Answer) (g : ControlGear) (x : ℕ)
     → Follows b xs s c → (g.short ≡ None → Opens s g) → short_after c g ≡ None → Opens (next_stage s c h) (taken c x g)
-opens_step b xs _ _ h g x begins_opening k none = refl
-opens_step b xs _ _ h g x (begins_search high) k none = tt
-opens_step b xs _ _ h g x (begins_arc f) k none = tt
-opens_step b xs _ _ h g x initialises_once k none = remembers_initialise g (k none)
-opens_step b xs _ _ h g x initialises k none = enables g (k none) none
-opens_step b xs _ _ h g x randomises_once k none = (remembers_randomise g (k none).0, (k none).1)
-opens_step b xs _ _ h g x randomises k none = tt
-opens_step b xs _ _ h g x (sets_middle high middle) k none = tt
-opens_step b xs _ _ h g x (sets_low high middle low) k none = tt
-opens_step b xs _ _ h g x (compares r) k none = tt
-opens_step b xs _ _ h g x (queries_number r) k none = opens_queried r h (taken QueryShort x g)
-opens_step b xs _ _ h g x (withdraws_found r a) k none = tt
-opens_step b xs _ _ h g x (programs r a may) k none = tt
-opens_step b xs _ _ h g x (queries_given r a may) k none = opens_verified r a h (taken QueryShort x g)
-opens_step b xs _ _ h g x (withdraws_given r a may) k none = tt
+opens_step b xs stage.Free Terminate h g x on k none = refl
+opens_step b xs stage.Terminated (Initialise Unaddressed) h g x on k none = remembers_initialise g (k none)
+opens_step b xs stage.InitialisedOnce (Initialise Unaddressed) h g x on k none = enables g (k none) none
+opens_step b xs stage.Initialised Randomise h g x on k none = (remembers_randomise g (k none).0, (k none).1)
+opens_step b xs (stage.NumberSent r) QueryShort h g x on k none = opens_queried r h (taken QueryShort x g)
+opens_step b xs (stage.Programmed r a) QueryShort h g x on k none = opens_verified r a h (taken QueryShort x g)
+opens_step b xs stage.RandomisedOnce Randomise h g x on k none = tt
+opens_step b xs (stage.HighSent high) (SearchMiddle middle) h g x on k none = tt
+opens_step b xs (stage.MiddleSent high middle) (SearchLow low) h g x on k none = tt
+opens_step b xs (stage.Found r a) Withdraw h g x on k none = tt
+opens_step b xs (stage.Unnamed r) (Program (Some a)) h g x on k none = tt
+opens_step b xs (stage.Confirmed r a) Withdraw h g x on k none = tt
+opens_step b xs _ _ h g x on k none = tt
 
 -- READY: a gear without short address that was opened to a search takes part in it, and has drawn a number
 abbrev pub Ready : ControlGear → Type 0
@@ -176,12 +174,14 @@ programmed_ready g a k none = go (is_active g.state && is_found g) none where
 
 pub ready_step : (b : Block) (xs : List Assignment) (s : Stage) (c : Command) (g : ControlGear) (r : ℕ)
     → Follows b xs s c → (c ≡ Terminate → ⊥) → (would_draw c g ≡ true → (r ≡ g.random) ⊎ (r < MASK24)) → Knows s g → Ready g → Ready (taken c r g)
-ready_step b xs _ _ g r begins_opening calm drew knows k = absurd (calm refl)
-ready_step b xs _ _ g r initialises_once calm drew knows k = λ none. (initialised_ready g k none, (k none).1)
-ready_step b xs _ _ g r initialises calm drew knows k = λ none. (initialised_ready g k none, (k none).1)
-ready_step b xs _ _ g r randomises_once calm drew knows k = randomised_ready g r drew k
-ready_step b xs _ _ g r randomises calm drew knows k = randomised_ready g r drew k
-ready_step b xs _ _ g r (withdraws_found n a) calm drew knows k = λ none. (withdrawn_ready g n a knows k none, (k none).1)
-ready_step b xs _ _ g r (programs n a may) calm drew knows k = programmed_ready g a k
-ready_step b xs _ _ g r (withdraws_given n a may) calm drew knows k = λ none. (withdrawn_ready g n a knows k none, (k none).1)
-ready_step b xs _ _ g r _ calm drew knows k = k
+ready_step b xs stage.Terminated (Initialise Unaddressed) g r on calm drew knows k = λ none. (initialised_ready g k none, (k none).1)
+ready_step b xs stage.InitialisedOnce (Initialise Unaddressed) g r on calm drew knows k = λ none. (initialised_ready g k none, (k none).1)
+ready_step b xs (stage.Found n a) Withdraw g r on calm drew knows k = λ none. (withdrawn_ready g n a knows k none, (k none).1)
+ready_step b xs (stage.Unnamed n) (Program (Some a)) g r on calm drew knows k = programmed_ready g a k
+ready_step b xs (stage.Confirmed n a) Withdraw g r on calm drew knows k = λ none. (withdrawn_ready g n a knows k none, (k none).1)
+ready_step b xs _ Terminate g r on calm drew knows k = absurd (calm refl)
+ready_step b xs _ (Initialise target) g r on calm drew knows k = absurd (let none = on.leads_on in cc)
+ready_step b xs _ Randomise g r on calm drew knows k = randomised_ready g r drew k
+ready_step b xs _ (Program short) g r on calm drew knows k = absurd (let none = on.leads_on in cc)
+ready_step b xs _ Withdraw g r on calm drew knows k = absurd (let none = on.leads_on in cc)
+ready_step b xs _ _ g r on calm drew knows k = k

@@ -1,5 +1,5 @@
 use Rattle.std.proofs.Common.{◌≡◌, ◌⊎◌, inl, inr, ℕ, ◌<◌, ◌≤◌, Bool, true, false, List, [], ◌∷◌, ◌++◌, refl, sym, ap, subst, ◌∙◌, arith, length, lit<, lit≤, Option, Some, None}
-use Rattle.std.specs.Prelude.{◌==◌, if◌then◌else◌, option_map}
+use Rattle.std.specs.Prelude.{◌==◌, if◌then◌else◌, option_map, is_some, IfSome}
 use Rattle.std.proofs.lemmas.Bool.Decides.{nat_tests}
 use Rattle.dali_frame.specs.declared.frames.Forward.{Forward}
 use Rattle.dali_frame.specs.declared.frames.Answer.{Answer}
@@ -21,8 +21,14 @@ use Rattle.dali_script.specs.Records.{Assignment, HasAddress}
 use Rattle.dali_script.specs.Scripts.{no_address, some_address, address, IsHeard, Step, sends, queries, search_at, Script, Open, Probe, Look, Give, Close, ArcPower, steps, MayGive, MaySend, IsFront, Lawful, IsLawful, IsFirst, IsComplete, IsFrame, GoesOn}
 use Rattle.dali_script.specs.Findings.{search_after, at_power_on, searched_from, searched, found_by, later, finding_from, finding_of}
 use Rattle.dali_script.proofs.Lists.{has_map}
-use Rattle.dali_script.proofs.Giving.{may_give_by, may_give_from, may_give_some_by, may_give_some_from}
-use Rattle.dali_script.specs.Stages.{follows, may_follow, named, queried, answered, verified, next_stage, stage_from, stage_of, Follows, begins_opening, begins_search, begins_arc, initialises_once, initialises, randomises_once, randomises, sets_middle, sets_low, compares, queries_number, withdraws_found, programs, queries_given, withdraws_given, finding_at, IsSearched, IsTrace}
+use Rattle.dali_script.proofs.Giving.{first_of_both, second_of_both, may_give_by, may_give_from, may_give_some_by, may_give_some_from}
+use Rattle.dali_script.specs.Stages.{leads, given, may_give_if, follows, may_follow, named, queried, answered, verified, next_stage, stage_from, stage_of, Follows, finding_at, IsSearched, IsTrace}
+
+pub turn : {b : Block} {xs : List Assignment} {s : Stage} {c : Command} → is_some (leads s c Silence) ≡ true → given s c ≡ None → Follows b xs s c
+turn {b} {xs} {s} {c} on none = record { leads_on = on; may = rw none tt }
+
+pub gives : {b : Block} {xs : List Assignment} {s : Stage} {c : Command} → is_some (leads s c Silence) ≡ true → IfSome (given s c) (λ g. MayGive b xs g.0 g.1) → Follows b xs s c
+gives {b} {xs} {s} {c} on may = record { leads_on = on; may = may }
 
 -- LAWFUL FRAMES FOLLOW. From a stage on, steps keep to what may come next.
 Tracks : Block → List Assignment → Stage → List Step → Type 0
@@ -46,14 +52,14 @@ tracks_look : (b : Block) (xs : List Assignment) (r : SearchAddress) (h : Answer
 unfolding Tracks
 tracks_look b xs r h heard =
     let there : queried r h ≡ Found r heard.0 = ap (λ x. queried r x) heard.2 ∙ queried_named r heard.0 heard.1 in
-    subst (λ s. Tracks b xs s (sends Withdraw ∷ [])) (sym there) (withdraws_found r heard.0, λ spelled x y. tt)
+    subst (λ s. Tracks b xs s (sends Withdraw ∷ [])) (sym there) (turn refl refl, λ spelled x y. tt)
 
 tracks_verify : (b : Block) (xs : List Assignment) (r : SearchAddress) (a : ℕ) → MayGive b xs r a → a < 64 → (h : Answer) → IsHeard (address a) h
     → Tracks b xs (verified r a h) (sends Withdraw ∷ [])
 unfolding Tracks
 tracks_verify b xs r a may small h heard =
     let there : verified r a h ≡ Confirmed r a = ap (λ x. verified r a x) heard ∙ verified_named r a small in
-    subst (λ s. Tracks b xs s (sends Withdraw ∷ [])) (sym there) (withdraws_given r a may, λ spelled x y. tt)
+    subst (λ s. Tracks b xs s (sends Withdraw ∷ [])) (sym there) (gives refl may, λ spelled x y. tt)
 
 tracks_give : (b : Block) (xs : List Assignment) (r : SearchAddress) (a : ℕ) → MayGive b xs r a → (h : Answer) → IsHeard no_address h
     → Tracks b xs (queried r h) (sends (Program (Some a)) ∷ queries (address a) ∷ sends Withdraw ∷ [])
@@ -61,20 +67,20 @@ unfolding Tracks
 tracks_give b xs r a may h heard =
     let there : queried r h ≡ Unnamed r = ap (λ x. queried r x) heard in
     subst (λ s. Tracks b xs s (sends (Program (Some a)) ∷ queries (address a) ∷ sends Withdraw ∷ [])) (sym there)
-    (programs r a may, λ small x y. (queries_given r a may, λ spelled z w. tracks_verify b xs r a may small z w))
+    (gives refl may, λ small x y. (gives refl may, λ spelled z w. tracks_verify b xs r a may small z w))
 
 tracks : (b : Block) (xs : List Assignment) (s : Script) → MaySend b xs s → Tracks b xs Free (steps s)
 unfolding Tracks
 tracks b xs Open may =
-    (begins_opening, λ a h w. (initialises_once, λ a h w. (initialises, λ a h w. (randomises_once, λ a h w. (randomises, λ a h w. tt)))))
+    (turn refl refl, λ a h w. (turn refl refl, λ a h w. (turn refl refl, λ a h w. (turn refl refl, λ a h w. (turn refl refl, λ a h w. tt)))))
 tracks b xs (Probe r) may =
-    (begins_search r.high, λ a h w. (sets_middle r.high r.middle, λ a h w. (sets_low r.high r.middle r.low, λ a h w. (compares r, λ a h w. tt))))
+    (turn refl refl, λ a h w. (turn refl refl, λ a h w. (turn refl refl, λ a h w. (turn refl refl, λ a h w. tt))))
 tracks b xs (Look r) may =
-    (begins_search r.high, λ a h w. (sets_middle r.high r.middle, λ a h w. (sets_low r.high r.middle r.low, λ a h w. (queries_number r, λ a h w. tracks_look b xs r h w))))
+    (turn refl refl, λ a h w. (turn refl refl, λ a h w. (turn refl refl, λ a h w. (turn refl refl, λ a h w. tracks_look b xs r h w))))
 tracks b xs (Give r n) may =
-    (begins_search r.high, λ a h w. (sets_middle r.high r.middle, λ a h w. (sets_low r.high r.middle r.low, λ a h w. (queries_number r, λ a h w. tracks_give b xs r n may h w))))
-tracks b xs Close may = (begins_opening, λ a h w. tt)
-tracks b xs (ArcPower f) may = (begins_arc f, λ a h w. tt)
+    (turn refl refl, λ a h w. (turn refl refl, λ a h w. (turn refl refl, λ a h w. (turn refl refl, λ a h w. tracks_give b xs r n may h w))))
+tracks b xs Close may = (turn refl refl, λ a h w. tt)
+tracks b xs (ArcPower f) may = (turn refl refl, λ a h w. tt)
 
 follows_from : (b : Block) (xs : List Assignment) (t : List Entry) (s : Stage) (f : Forward) (ss : List Step) → IsFront t f ss → Tracks b xs s ss
     → Follows b xs (stage_from s t) (command_of f)
@@ -116,24 +122,6 @@ data Rest (b : Block) (xs : List Assignment) : Stage → List Step → Type 0 wh
 abbrev Before : Block → List Assignment → Stage → Command → Answer → List Step → Type 0
 Before b xs s c h ss = (step : Step) × (c ≡ step.command) × IsHeard step.wanted h × Rest b xs s (step ∷ ss)
 
-before_terminated : (b : Block) (xs : List Assignment) (h : Answer) (ss : List Step) → Rest b xs Terminated ss → Before b xs Free Terminate h ss
-before_terminated b xs h _ at_terminated = (sends Terminate, refl, tt, at_free Open tt)
-
-before_initialised_once : (b : Block) (xs : List Assignment) (h : Answer) (ss : List Step) → Rest b xs InitialisedOnce ss → Before b xs Terminated (Initialise Unaddressed) h ss
-before_initialised_once b xs h _ at_initialised_once = (sends (Initialise Unaddressed), refl, tt, at_terminated)
-
-before_initialised : (b : Block) (xs : List Assignment) (h : Answer) (ss : List Step) → Rest b xs Initialised ss → Before b xs InitialisedOnce (Initialise Unaddressed) h ss
-before_initialised b xs h _ at_initialised = (sends (Initialise Unaddressed), refl, tt, at_initialised_once)
-
-before_randomised_once : (b : Block) (xs : List Assignment) (h : Answer) (ss : List Step) → Rest b xs RandomisedOnce ss → Before b xs Initialised Randomise h ss
-before_randomised_once b xs h _ at_randomised_once = (sends Randomise, refl, tt, at_initialised)
-
-before_opened : (b : Block) (xs : List Assignment) (h : Answer) (ss : List Step) → Rest b xs Opened ss → Before b xs RandomisedOnce Randomise h ss
-before_opened b xs h ss r = elim r [ ]
-
-nothing_over : (b : Block) (xs : List Assignment) (ss : List Step) → Rest b xs Over ss → ⊥
-nothing_over b xs ss r = elim r [ ]
-
 nothing_inconclusive : (b : Block) (xs : List Assignment) (r : SearchAddress) (o : Option ℕ) (ss : List Step) → Rest b xs (Inconclusive r o) ss → ⊥
 nothing_inconclusive b xs r o ss k = elim k [ ]
 
@@ -142,20 +130,10 @@ whole b xs r _ probing = at_free (Probe r) tt
 whole b xs r _ looking = at_free (Look r) tt
 whole b xs r _ (giving a may) = at_free (Give r a) may
 
-before_high : (b : Block) (xs : List Assignment) (high : ℕ) (h : Answer) (ss : List Step) → Rest b xs (HighSent high) ss → Before b xs Free (SearchHigh high) h ss
-before_high b xs _ h _ (at_high high middle low ss tail) =
-    (sends (SearchHigh high), refl, tt, whole b xs (record { high = high; middle = middle; low = low }) ss tail)
-
-before_middle : (b : Block) (xs : List Assignment) (high middle : ℕ) (h : Answer) (ss : List Step) → Rest b xs (MiddleSent high middle) ss → Before b xs (HighSent high) (SearchMiddle middle) h ss
-before_middle b xs _ _ h _ (at_middle high middle low ss tail) = (sends (SearchMiddle middle), refl, tt, at_high high middle low ss tail)
-
 before_number : (b : Block) (xs : List Assignment) (high middle low : ℕ) (r : SearchAddress) (h : Answer) (ss : List Step) → r ≡ record { high = high; middle = middle; low = low }
     → Rest b xs (NumberSent r) ss → Before b xs (MiddleSent high middle) (SearchLow low) h ss
 before_number b xs high middle low _ h _ is (at_number r ss tail) =
     (sends (SearchLow low), refl, tt, at_middle high middle low ss (subst (λ n. Tail b xs n ss) is tail))
-
-before_probed : (b : Block) (xs : List Assignment) (r : SearchAddress) (h : Answer) (ss : List Step) → Rest b xs (Probed r h) ss → Before b xs (NumberSent r) Compare h ss
-before_probed b xs r h ss k = elim k [ ]
 
 before_found : (b : Block) (xs : List Assignment) (r : SearchAddress) (c : ℕ) (h : Answer) (ss : List Step) → IsHeard some_address h → Rest b xs (Found r c) ss → Before b xs (NumberSent r) QueryShort h ss
 before_found b xs _ _ h _ heard (at_found r c) = (queries some_address, refl, heard, at_number r _ looking)
@@ -175,9 +153,6 @@ before_queried b xs r (Byte v) ss k = go (short_of v) (v == MASK) refl refl k wh
   go None true short mask k = before_unnamed b xs r (Byte v) ss (ap (λ n. Byte n) (let same : v ≡ MASK = grind (arith, nat_tests) in same)) k
   go None false short mask k = absurd (nothing_inconclusive b xs r None ss k)
 
-before_programmed : (b : Block) (xs : List Assignment) (r : SearchAddress) (a : ℕ) (h : Answer) (ss : List Step) → Rest b xs (Programmed r a) ss → Before b xs (Unnamed r) (Program (Some a)) h ss
-before_programmed b xs _ _ h _ (at_programmed r a may) = (sends (Program (Some a)), refl, tt, at_unnamed r a may)
-
 before_confirmed : (b : Block) (xs : List Assignment) (r : SearchAddress) (a : ℕ) (h : Answer) (ss : List Step) → IsHeard (address a) h → Rest b xs (Confirmed r a) ss → Before b xs (Programmed r a) QueryShort h ss
 before_confirmed b xs _ _ h _ heard (at_confirmed r a may) = (queries (address a), refl, heard, at_programmed r a may)
 
@@ -192,45 +167,43 @@ before_verified b xs r a (Byte v) ss k = go (short_of v) refl k where
     same true is k = before_confirmed b xs r a (Byte v) ss (ap (λ n. Byte n) (code_of_short v c short ∙ ap (λ n. code_of n) (let e : c ≡ a = grind (arith, nat_tests) in e))) k
     same false is k = absurd (nothing_inconclusive b xs r (Some c) ss k)
 
-before_withdrawn : (b : Block) (xs : List Assignment) (s : Stage) (r : SearchAddress) (c : ℕ) (h : Answer) (ss : List Step) → Rest b xs (Withdrawn r c) ss → Before b xs s Withdraw h ss
-before_withdrawn b xs s r c h ss k = elim k [ ]
-
 before : (b : Block) (xs : List Assignment) (s : Stage) (c : Command) (h : Answer) (ss : List Step) → Rest b xs (next_stage s c h) ss → Before b xs s c h ss
-before b xs Free Terminate h ss k = before_terminated b xs h ss k
-before b xs Free (SearchHigh high) h ss k = before_high b xs high h ss k
-before b xs Terminated (Initialise Unaddressed) h ss k = before_initialised_once b xs h ss k
-before b xs InitialisedOnce (Initialise Unaddressed) h ss k = before_initialised b xs h ss k
-before b xs Initialised Randomise h ss k = before_randomised_once b xs h ss k
-before b xs RandomisedOnce Randomise h ss k = before_opened b xs h ss k
-before b xs (HighSent high) (SearchMiddle middle) h ss k = before_middle b xs high middle h ss k
+before b xs Free Terminate h _ at_terminated = (_, refl, tt, at_free Open tt)
+before b xs Free (SearchHigh _) h _ (at_high high middle low ss tail) = (_, refl, tt, whole b xs (record { high = high; middle = middle; low = low }) ss tail)
+before b xs Terminated (Initialise Unaddressed) h _ at_initialised_once = (_, refl, tt, at_terminated)
+before b xs InitialisedOnce (Initialise Unaddressed) h _ at_initialised = (_, refl, tt, at_initialised_once)
+before b xs Initialised Randomise h _ at_randomised_once = (_, refl, tt, at_initialised)
+before b xs RandomisedOnce Randomise h ss k = elim k [ ]
+before b xs (HighSent _) (SearchMiddle _) h _ (at_middle high middle low ss tail) = (_, refl, tt, at_high high middle low ss tail)
 before b xs (MiddleSent high middle) (SearchLow low) h ss k = before_number b xs high middle low (record { high = high; middle = middle; low = low }) h ss refl k
-before b xs (NumberSent r) Compare h ss k = before_probed b xs r h ss k
+before b xs (NumberSent r) Compare h ss k = elim k [ ]
 before b xs (NumberSent r) QueryShort h ss k = before_queried b xs r h ss k
-before b xs (Found r c) Withdraw h ss k = before_withdrawn b xs (Found r c) r c h ss k
-before b xs (Unnamed r) (Program (Some a)) h ss k = before_programmed b xs r a h ss k
+before b xs (Found r c) Withdraw h ss k = elim k [ ]
+before b xs (Unnamed _) (Program (Some _)) h _ (at_programmed r a may) = (_, refl, tt, at_unnamed r a may)
 before b xs (Programmed r a) QueryShort h ss k = before_verified b xs r a h ss k
-before b xs (Confirmed r a) Withdraw h ss k = before_withdrawn b xs (Confirmed r a) r a h ss k
-before b xs _ _ h ss k = absurd (nothing_over b xs ss k)
+before b xs (Confirmed r a) Withdraw h ss k = elim k [ ]
+before b xs _ _ h ss k = elim k [ ]
 
 abbrev Ends : Block → List Assignment → Stage → Command → Type 0
 Ends b xs s c = (step : Step) × (more : List Step) × (c ≡ step.command) × Rest b xs s (step ∷ more)
 
 ends : (b : Block) (xs : List Assignment) (s : Stage) (c : Command) → Follows b xs s c → Ends b xs s c
-ends b xs _ _ begins_opening = (_, _, refl, at_free Close tt)
-ends b xs _ _ (begins_search high) = (_, _, refl, at_free (Probe (record { high = high; middle = 0; low = 0 })) tt)
-ends b xs _ _ (begins_arc f) = (_, _, refl, at_free (ArcPower f) tt)
-ends b xs _ _ initialises_once = (_, _, refl, at_terminated)
-ends b xs _ _ initialises = (_, _, refl, at_initialised_once)
-ends b xs _ _ randomises_once = (_, _, refl, at_initialised)
-ends b xs _ _ randomises = (_, _, refl, at_randomised_once)
-ends b xs _ _ (sets_middle high middle) = (_, _, refl, at_high high middle 0 _ probing)
-ends b xs _ _ (sets_low high middle low) = (_, _, refl, at_middle high middle low _ probing)
-ends b xs _ _ (compares r) = (_, _, refl, at_number r _ probing)
-ends b xs _ _ (queries_number r) = (_, _, refl, at_number r _ looking)
-ends b xs _ _ (withdraws_found r c) = (_, _, refl, at_found r c)
-ends b xs _ _ (programs r a may) = (_, _, refl, at_unnamed r a may)
-ends b xs _ _ (queries_given r a may) = (_, _, refl, at_programmed r a may)
-ends b xs _ _ (withdraws_given r a may) = (_, _, refl, at_confirmed r a may)
+ends b xs Free Terminate on = (_, _, refl, at_free Close tt)
+ends b xs Free (SearchHigh high) on = (_, _, refl, at_free (Probe (record { high = high; middle = 0; low = 0 })) tt)
+ends b xs Free (Arc f) on = (_, _, refl, at_free (ArcPower f) tt)
+ends b xs Terminated (Initialise Unaddressed) on = (_, _, refl, at_terminated)
+ends b xs InitialisedOnce (Initialise Unaddressed) on = (_, _, refl, at_initialised_once)
+ends b xs Initialised Randomise on = (_, _, refl, at_initialised)
+ends b xs RandomisedOnce Randomise on = (_, _, refl, at_randomised_once)
+ends b xs (HighSent high) (SearchMiddle middle) on = (_, _, refl, at_high high middle 0 _ probing)
+ends b xs (MiddleSent high middle) (SearchLow low) on = (_, _, refl, at_middle high middle low _ probing)
+ends b xs (NumberSent r) Compare on = (_, _, refl, at_number r _ probing)
+ends b xs (NumberSent r) QueryShort on = (_, _, refl, at_number r _ looking)
+ends b xs (Found r c) Withdraw on = (_, _, refl, at_found r c)
+ends b xs (Unnamed r) (Program (Some a)) on = (_, _, refl, at_unnamed r a on.may)
+ends b xs (Programmed r a) QueryShort on = (_, _, refl, at_programmed r a on.may)
+ends b xs (Confirmed r a) Withdraw on = (_, _, refl, at_confirmed r a on.may)
+ends b xs _ _ on = absurd (let none = on.leads_on in cc)
 
 front_from : (b : Block) (xs : List Assignment) (t : List Entry) (s : Stage) (f : Forward) → Follows b xs (stage_from s t) (command_of f)
     → (ss : List Step) × Rest b xs s ss × IsFront t f ss
@@ -249,58 +222,29 @@ unfolding stage_of
 lawful_follows b xs t f k = let whole = front_from b xs t Free f k in script_of b xs t f whole.0 whole.1 whole.2
 
 -- THE TESTS
+may_give_if_by : (b : Block) (xs : List Assignment) (o : Option (SearchAddress × ℕ)) → IfSome o (λ g. MayGive b xs g.0 g.1) → may_give_if b xs o ≡ true
+may_give_if_by b xs None may = refl
+may_give_if_by b xs (Some g) may = may_give_by b xs g.0 g.1 may
+
+may_give_if_from : (b : Block) (xs : List Assignment) (o : Option (SearchAddress × ℕ)) → may_give_if b xs o ≡ true → IfSome o (λ g. MayGive b xs g.0 g.1)
+may_give_if_from b xs None e = tt
+may_give_if_from b xs (Some g) e = may_give_from b xs g.0 g.1 e
+
 pub follows_test : (b : Block) (xs : List Assignment) (s : Stage) (c : Command) → Follows b xs s c → follows b xs s c ≡ true
-follows_test b xs _ _ begins_opening = refl
-follows_test b xs _ _ (begins_search high) = refl
-follows_test b xs _ _ (begins_arc f) = refl
-follows_test b xs _ _ initialises_once = refl
-follows_test b xs _ _ initialises = refl
-follows_test b xs _ _ randomises_once = refl
-follows_test b xs _ _ randomises = refl
-follows_test b xs _ _ (sets_middle high middle) = refl
-follows_test b xs _ _ (sets_low high middle low) = refl
-follows_test b xs _ _ (compares r) = refl
-follows_test b xs _ _ (queries_number r) = refl
-follows_test b xs _ _ (withdraws_found r c) = refl
-follows_test b xs _ _ (programs r a may) = may_give_by b xs r a may
-follows_test b xs _ _ (queries_given r a may) = may_give_by b xs r a may
-follows_test b xs _ _ (withdraws_given r a may) = may_give_by b xs r a may
+follows_test b xs s c on = rw (on.leads_on, may_give_if_by b xs (given s c) on.may) refl
 
 pub follows_from_test : (b : Block) (xs : List Assignment) (s : Stage) (c : Command) → follows b xs s c ≡ true → Follows b xs s c
-follows_from_test b xs Free Terminate e = begins_opening
-follows_from_test b xs Free (SearchHigh high) e = begins_search high
-follows_from_test b xs Free (Arc f) e = begins_arc f
-follows_from_test b xs Terminated (Initialise Unaddressed) e = initialises_once
-follows_from_test b xs InitialisedOnce (Initialise Unaddressed) e = initialises
-follows_from_test b xs Initialised Randomise e = randomises_once
-follows_from_test b xs RandomisedOnce Randomise e = randomises
-follows_from_test b xs (HighSent high) (SearchMiddle middle) e = sets_middle high middle
-follows_from_test b xs (MiddleSent high middle) (SearchLow low) e = sets_low high middle low
-follows_from_test b xs (NumberSent r) Compare e = compares r
-follows_from_test b xs (NumberSent r) QueryShort e = queries_number r
-follows_from_test b xs (Found r c) Withdraw e = withdraws_found r c
-follows_from_test b xs (Unnamed r) (Program (Some a)) e = programs r a (may_give_from b xs r a e)
-follows_from_test b xs (Programmed r a) QueryShort e = queries_given r a (may_give_from b xs r a e)
-follows_from_test b xs (Confirmed r a) Withdraw e = withdraws_given r a (may_give_from b xs r a e)
-follows_from_test b xs _ _ e = absurd (cc)
+follows_from_test b xs s c e = record {
+  leads_on = first_of_both _ _ e;
+  may = may_give_if_from b xs (given s c) (second_of_both _ _ e);
+}
 
 -- where no frame may follow, none is lawful
 pub over : (b : Block) (xs : List Assignment) (s : Stage) (c : Command) → may_follow b xs s ≡ false → Follows b xs s c → ⊥
-over b xs _ _ e begins_opening = cc
-over b xs _ _ e (begins_search high) = cc
-over b xs _ _ e (begins_arc f) = cc
-over b xs _ _ e initialises_once = cc
-over b xs _ _ e initialises = cc
-over b xs _ _ e randomises_once = cc
-over b xs _ _ e randomises = cc
-over b xs _ _ e (sets_middle high middle) = cc
-over b xs _ _ e (sets_low high middle low) = cc
-over b xs _ _ e (compares r) = cc
-over b xs _ _ e (queries_number r) = cc
-over b xs _ _ e (withdraws_found r c) = cc
-over b xs _ _ e (programs r a may) = let some = may_give_some_by b xs r a may in cc
-over b xs _ _ e (queries_given r a may) = let given = may_give_by b xs r a may in cc
-over b xs _ _ e (withdraws_given r a may) = let given = may_give_by b xs r a may in cc
+over b xs (Unnamed r) (Program (Some a)) e on = let some = may_give_some_by b xs r a on.may in cc
+over b xs (Programmed r a) c e on = let given = may_give_by b xs r a on.may in cc
+over b xs (Confirmed r a) c e on = let given = may_give_by b xs r a on.may in cc
+over b xs _ _ e on = let none = on.leads_on in cc
 
 pub complete_at : (b : Block) (xs : List Assignment) (t : List Entry) → may_follow b xs (stage_of t) ≡ false → IsComplete b xs t
 complete_at b xs t e f lawful = over b xs (stage_of t) (command_of f) e (follows_lawful b xs t f lawful)
@@ -310,26 +254,26 @@ abbrev Next : Block → List Assignment → Stage → Type 0
 Next b xs s = (c : Command) × IsSpelled c × IsFrame (frame_of c) × Follows b xs s c
 
 next_program : (b : Block) (xs : List Assignment) (r : SearchAddress) (a : ℕ) → a < 64 → MayGive b xs r a → Next b xs (Unnamed r)
-next_program b xs r a small may = (Program (Some a), small, (lit< tt, omega arith), programs r a may)
+next_program b xs r a small may = (Program (Some a), small, (lit< tt, omega arith), gives refl may)
 
 pub next_at : (b : Block) (xs : List Assignment) → ((a : ℕ) → HasAddress xs a → a < 64) → (s : Stage) → may_follow b xs s ≡ true → Next b xs s
-next_at b xs small Free e = (Terminate, tt, (lit< tt, lit< tt), begins_opening)
-next_at b xs small Terminated e = (Initialise Unaddressed, tt, (lit< tt, lit< tt), initialises_once)
-next_at b xs small InitialisedOnce e = (Initialise Unaddressed, tt, (lit< tt, lit< tt), initialises)
-next_at b xs small Initialised e = (Randomise, tt, (lit< tt, lit< tt), randomises_once)
-next_at b xs small RandomisedOnce e = (Randomise, tt, (lit< tt, lit< tt), randomises)
+next_at b xs small Free e = (Terminate, tt, (lit< tt, lit< tt), turn refl refl)
+next_at b xs small Terminated e = (Initialise Unaddressed, tt, (lit< tt, lit< tt), turn refl refl)
+next_at b xs small InitialisedOnce e = (Initialise Unaddressed, tt, (lit< tt, lit< tt), turn refl refl)
+next_at b xs small Initialised e = (Randomise, tt, (lit< tt, lit< tt), turn refl refl)
+next_at b xs small RandomisedOnce e = (Randomise, tt, (lit< tt, lit< tt), turn refl refl)
 next_at b xs small Opened e = absurd (cc)
-next_at b xs small (HighSent high) e = (SearchMiddle 0, tt, (lit< tt, lit< tt), sets_middle high 0)
-next_at b xs small (MiddleSent high middle) e = (SearchLow 0, tt, (lit< tt, lit< tt), sets_low high middle 0)
-next_at b xs small (NumberSent r) e = (Compare, tt, (lit< tt, lit< tt), compares r)
+next_at b xs small (HighSent high) e = (SearchMiddle 0, tt, (lit< tt, lit< tt), turn refl refl)
+next_at b xs small (MiddleSent high middle) e = (SearchLow 0, tt, (lit< tt, lit< tt), turn refl refl)
+next_at b xs small (NumberSent r) e = (Compare, tt, (lit< tt, lit< tt), turn refl refl)
 next_at b xs small (Probed r h) e = absurd (cc)
-next_at b xs small (Found r c) e = (Withdraw, tt, (lit< tt, lit< tt), withdraws_found r c)
+next_at b xs small (Found r c) e = (Withdraw, tt, (lit< tt, lit< tt), turn refl refl)
 next_at b xs small (Unnamed r) e =
     let found = may_give_some_from b xs r e in
     next_program b xs r found.0 (small found.0 (has_map (λ p. p.0) xs (found.0, value_of r) found.1.reserved_for)) found.1
 next_at b xs small (Inconclusive r other) e = absurd (cc)
-next_at b xs small (Programmed r a) e = (QueryShort, tt, (lit< tt, lit< tt), queries_given r a (may_give_from b xs r a e))
-next_at b xs small (Confirmed r a) e = (Withdraw, tt, (lit< tt, lit< tt), withdraws_given r a (may_give_from b xs r a e))
+next_at b xs small (Programmed r a) e = (QueryShort, tt, (lit< tt, lit< tt), gives refl (may_give_from b xs r a e))
+next_at b xs small (Confirmed r a) e = (Withdraw, tt, (lit< tt, lit< tt), gives refl (may_give_from b xs r a e))
 next_at b xs small (Withdrawn r a) e = absurd (cc)
 next_at b xs small Over e = absurd (cc)
 
@@ -414,22 +358,23 @@ says_at s r n found h is none says =
 
 says_more : (b : Block) (xs : List Assignment) (s : Stage) (c : Command) (h : Answer) (r : SearchAddress) (found : Option Assignment)
     → Follows b xs s c → Says s r found → Says (next_stage s c h) (search_after c r) (later found (found_by r c h))
-says_more b xs _ _ h r found begins_opening k = record { searched = tt; finding = k.finding }
-says_more b xs _ _ h r found (begins_search high) k = record { searched = refl; finding = k.finding }
-says_more b xs _ _ h r found (begins_arc f) k = record { searched = tt; finding = k.finding }
-says_more b xs _ _ h r found initialises_once k = record { searched = tt; finding = k.finding }
-says_more b xs _ _ h r found initialises k = record { searched = tt; finding = k.finding }
-says_more b xs _ _ h r found randomises_once k = record { searched = tt; finding = k.finding }
-says_more b xs _ _ h r found randomises k = record { searched = tt; finding = k.finding }
-says_more b xs _ _ h r found (sets_middle high middle) k = record { searched = (k.searched, refl); finding = k.finding }
-says_more b xs _ _ h r found (sets_low high middle low) k =
+says_more b xs Free Terminate h r found on k = record { searched = tt; finding = k.finding }
+says_more b xs Free (SearchHigh high) h r found on k = record { searched = refl; finding = k.finding }
+says_more b xs Free (Arc f) h r found on k = record { searched = tt; finding = k.finding }
+says_more b xs Terminated (Initialise Unaddressed) h r found on k = record { searched = tt; finding = k.finding }
+says_more b xs InitialisedOnce (Initialise Unaddressed) h r found on k = record { searched = tt; finding = k.finding }
+says_more b xs Initialised Randomise h r found on k = record { searched = tt; finding = k.finding }
+says_more b xs RandomisedOnce Randomise h r found on k = record { searched = tt; finding = k.finding }
+says_more b xs (HighSent high) (SearchMiddle middle) h r found on k = record { searched = (k.searched, refl); finding = k.finding }
+says_more b xs (MiddleSent high middle) (SearchLow low) h r found on k =
     record { searched = ap (λ n. record { high = n; middle = r.middle; low = low }) k.searched.0 ∙ ap (λ n. record { high = high; middle = n; low = low }) k.searched.1; finding = k.finding }
-says_more b xs _ _ h r found (compares n) k = record { searched = k.searched; finding = k.finding }
-says_more b xs _ _ h r found (queries_number n) k = says_at (queried n h) r n found h k.searched k.finding (queried_says n h)
-says_more b xs _ _ h r found (withdraws_found n c) k = record { searched = k.searched; finding = k.finding }
-says_more b xs _ _ h r found (programs n a may) k = record { searched = k.searched; finding = k.finding }
-says_more b xs _ _ h r found (queries_given n a may) k = says_at (verified n a h) r n found h k.searched k.finding (verified_says n a h)
-says_more b xs _ _ h r found (withdraws_given n a may) k = record { searched = k.searched; finding = k.finding }
+says_more b xs (NumberSent n) Compare h r found on k = record { searched = k.searched; finding = k.finding }
+says_more b xs (NumberSent n) QueryShort h r found on k = says_at (queried n h) r n found h k.searched k.finding (queried_says n h)
+says_more b xs (Found n c) Withdraw h r found on k = record { searched = k.searched; finding = k.finding }
+says_more b xs (Unnamed n) (Program (Some a)) h r found on k = record { searched = k.searched; finding = k.finding }
+says_more b xs (Programmed n a) QueryShort h r found on k = says_at (verified n a h) r n found h k.searched k.finding (verified_says n a h)
+says_more b xs (Confirmed n a) Withdraw h r found on k = record { searched = k.searched; finding = k.finding }
+says_more b xs _ _ h r found on k = absurd (let none = on.leads_on in cc)
 
 pub trace_none : IsTrace Free []
 trace_none = record { stage = sym stage_none; searched = tt; finding = refl }
@@ -519,114 +464,102 @@ searched_after b xs t e lawful = (says_after b xs t e lawful).searched
 pub finding_after : (b : Block) (xs : List Assignment) (t : List Entry) (e : Entry) → Lawful b xs t e.frame → finding_of (t ++ e ∷ []) ≡ finding_at (stage_of (t ++ e ∷ []))
 finding_after b xs t e lawful = (says_after b xs t e lawful).finding
 
--- only the empty trace is free
-queried_not_free : (r : SearchAddress) (h : Answer) → queried r h ≡ Free → ⊥
-queried_not_free r Silence e = cc
-queried_not_free r Damaged e = cc
-queried_not_free r (Byte v) e = go (short_of v) (v == MASK) e where
-  go : (o : Option ℕ) (m : Bool) → named r o m ≡ Free → ⊥
-  go (Some c) m e = cc
-  go None true e = cc
-  go None false e = cc
-
-verified_not_free : (r : SearchAddress) (a : ℕ) (h : Answer) → verified r a h ≡ Free → ⊥
-verified_not_free r a Silence e = cc
-verified_not_free r a Damaged e = cc
-verified_not_free r a (Byte v) e = go (short_of v) e where
-  go : (o : Option ℕ) → answered r a o ≡ Free → ⊥
-  go None e = cc
-  go (Some c) e = same (c == a) e where
-    same : (m : Bool) → (if m then Confirmed r a else Inconclusive r (Some c)) ≡ Free → ⊥
-    same true e = cc
-    same false e = cc
-
-next_not_free : (s : Stage) (c : Command) (h : Answer) → next_stage s c h ≡ Free → ⊥
-next_not_free (NumberSent r) QueryShort h e = queried_not_free r h e
-next_not_free (Programmed r a) QueryShort h e = verified_not_free r a h e
-next_not_free Free Terminate h e = cc
-next_not_free Free (SearchHigh high) h e = cc
-next_not_free Terminated (Initialise Unaddressed) h e = cc
-next_not_free InitialisedOnce (Initialise Unaddressed) h e = cc
-next_not_free Initialised Randomise h e = cc
-next_not_free RandomisedOnce Randomise h e = cc
-next_not_free (HighSent high) (SearchMiddle middle) h e = cc
-next_not_free (MiddleSent high middle) (SearchLow low) h e = cc
-next_not_free (NumberSent r) Compare h e = cc
-next_not_free (Found r b) Withdraw h e = cc
-next_not_free (Unnamed r) (Program (Some a)) h e = cc
-next_not_free (Confirmed r a) Withdraw h e = cc
-next_not_free _ _ h e = cc
-
-stage_from_not_free : (s : Stage) (t : List Entry) → (s ≡ Free → ⊥) → stage_from s t ≡ Free → ⊥
-stage_from_not_free s [] started e = started e
-stage_from_not_free s (x ∷ t) started e = stage_from_not_free (next_stage s (command_of x.frame) x.heard) t (next_not_free s (command_of x.frame) x.heard) e
-
-pub free_is_empty : (t : List Entry) → stage_of t ≡ Free → t ≡ []
-unfolding stage_of
-free_is_empty [] e = refl
-free_is_empty (x ∷ t) e = absurd (stage_from_not_free (next_stage Free (command_of x.frame) x.heard) t (next_not_free Free (command_of x.frame) x.heard) e)
-
 -- which stage each command comes at
-free_of_terminate : (b : Block) (xs : List Assignment) (s : Stage) (c : Command) → Follows b xs s c → c ≡ Terminate → s ≡ Free
-free_of_terminate b xs _ _ begins_opening e = refl
-free_of_terminate b xs _ _ k e = absurd (cc)
-
-free_of_high : (b : Block) (xs : List Assignment) (s : Stage) (c : Command) (high : ℕ) → Follows b xs s c → c ≡ SearchHigh high → s ≡ Free
-free_of_high b xs _ _ high (begins_search h) e = refl
-free_of_high b xs _ _ high k e = absurd (cc)
-
-free_of_arc : (b : Block) (xs : List Assignment) (s : Stage) (c : Command) (g : Forward) → Follows b xs s c → c ≡ Arc g → s ≡ Free
-free_of_arc b xs _ _ g (begins_arc h) e = refl
-free_of_arc b xs _ _ g k e = absurd (cc)
-
 at_initialise : (b : Block) (xs : List Assignment) (s : Stage) (c : Command) (g : Target) → Follows b xs s c → c ≡ Initialise g
     → (g ≡ Unaddressed) × ((s ≡ Terminated) ⊎ (s ≡ InitialisedOnce))
-at_initialise b xs _ _ g initialises_once e = (cc, inl refl)
-at_initialise b xs _ _ g initialises e = (cc, inr refl)
-at_initialise b xs _ _ g k e = absurd (cc)
+at_initialise b xs Terminated (Initialise Unaddressed) g on e = (cc, inl refl)
+at_initialise b xs InitialisedOnce (Initialise Unaddressed) g on e = (cc, inr refl)
+at_initialise b xs _ _ g k e = absurd (let none = k.leads_on in cc)
 
 at_randomise : (b : Block) (xs : List Assignment) (s : Stage) (c : Command) → Follows b xs s c → c ≡ Randomise → (s ≡ Initialised) ⊎ (s ≡ RandomisedOnce)
-at_randomise b xs _ _ randomises_once e = inl refl
-at_randomise b xs _ _ randomises e = inr refl
-at_randomise b xs _ _ k e = absurd (cc)
+at_randomise b xs Initialised Randomise on e = inl refl
+at_randomise b xs RandomisedOnce Randomise on e = inr refl
+at_randomise b xs _ _ k e = absurd (let none = k.leads_on in cc)
 
 at_compare : (b : Block) (xs : List Assignment) (s : Stage) (c : Command) → Follows b xs s c → c ≡ Compare → (r : SearchAddress) × (s ≡ NumberSent r)
-at_compare b xs _ _ (compares r) e = (r, refl)
-at_compare b xs _ _ k e = absurd (cc)
+at_compare b xs (NumberSent r) Compare on e = (r, refl)
+at_compare b xs _ _ k e = absurd (let none = k.leads_on in cc)
 
 at_query : (b : Block) (xs : List Assignment) (s : Stage) (c : Command) → Follows b xs s c → c ≡ QueryShort
     → (r : SearchAddress) × ((s ≡ NumberSent r) ⊎ ((a : ℕ) × (s ≡ Programmed r a) × MayGive b xs r a))
-at_query b xs _ _ (queries_number r) e = (r, inl refl)
-at_query b xs _ _ (queries_given r a may) e = (r, inr (a, refl, may))
-at_query b xs _ _ k e = absurd (cc)
+at_query b xs (NumberSent r) QueryShort on e = (r, inl refl)
+at_query b xs (Programmed r a) QueryShort on e = (r, inr (a, refl, on.may))
+at_query b xs _ _ k e = absurd (let none = k.leads_on in cc)
 
 at_program : (b : Block) (xs : List Assignment) (s : Stage) (c : Command) (o : Option ℕ) → Follows b xs s c → c ≡ Program o
     → (a : ℕ) × (r : SearchAddress) × (o ≡ Some a) × (s ≡ Unnamed r) × MayGive b xs r a
-at_program b xs _ _ o (programs r a may) e = (a, r, cc, refl, may)
-at_program b xs _ _ o k e = absurd (cc)
+at_program b xs (Unnamed r) (Program (Some a)) o on e = (a, r, cc, refl, on.may)
+at_program b xs _ _ o k e = absurd (let none = k.leads_on in cc)
 
 at_withdraw : (b : Block) (xs : List Assignment) (s : Stage) (c : Command) → Follows b xs s c → c ≡ Withdraw
     → (r : SearchAddress) × (a : ℕ) × ((s ≡ Found r a) ⊎ ((s ≡ Confirmed r a) × MayGive b xs r a))
-at_withdraw b xs _ _ (withdraws_found r a) e = (r, a, inl refl)
-at_withdraw b xs _ _ (withdraws_given r a may) e = (r, a, inr (refl, may))
-at_withdraw b xs _ _ k e = absurd (cc)
+at_withdraw b xs (Found r a) Withdraw on e = (r, a, inl refl)
+at_withdraw b xs (Confirmed r a) Withdraw on e = (r, a, inr (refl, on.may))
+at_withdraw b xs _ _ k e = absurd (let none = k.leads_on in cc)
 
 -- TERMINATE, SEARCHADDRH and arc power stand first alone
+is_first : Command → Bool
+is_first Terminate = true
+is_first (SearchHigh high) = true
+is_first (Arc f) = true
+is_first _ = false
+
+abbrev NoFirst : List Step → Type 0
+NoFirst [] = Unit {0}
+NoFirst (step ∷ more) = (is_first step.command ≡ false) × NoFirst more
+
+none_later_first : (t : List Entry) (f : Forward) (ss : List Step) → NoFirst ss → IsFront t f ss → is_first (command_of f) ≡ true → ⊥
+none_later_first [] f [] none front first = absurd front
+none_later_first (e ∷ t) f [] none front first = absurd front
+none_later_first [] f (step ∷ more) none front first = let no = none.0 in let same = ap is_first front in cc
+none_later_first (e ∷ t) f (step ∷ more) none front first = none_later_first t f more none.1 front.2 first
+
+abbrev NoLaterFirst : List Step → Type 0
+NoLaterFirst [] = Unit {0}
+NoLaterFirst (step ∷ more) = NoFirst more
+
+front_first : (t : List Entry) (f : Forward) (ss : List Step) → NoLaterFirst ss → IsFront t f ss → is_first (command_of f) ≡ true → t ≡ []
+front_first [] f ss none front first = refl
+front_first (e ∷ t) f [] none front first = absurd front
+front_first (e ∷ t) f (step ∷ more) none front first = absurd (none_later_first t f more none front.2 first)
+
+script_first : (s : Script) → NoLaterFirst (steps s)
+unfolding is_first
+script_first Open = (refl, (refl, (refl, (refl, tt))))
+script_first (Probe r) = (refl, (refl, (refl, tt)))
+script_first (Look r) = (refl, (refl, (refl, (refl, tt))))
+script_first (Give r a) = (refl, (refl, (refl, (refl, (refl, (refl, tt))))))
+script_first Close = tt
+script_first (ArcPower g) = tt
+
+first_alone : (b : Block) (xs : List Assignment) (t : List Entry) (f : Forward) → Lawful b xs t f → is_first (command_of f) ≡ true → t ≡ []
+first_alone b xs t f lawful first = front_first t f (steps lawful.0) (script_first lawful.0) lawful.2 first
+
 pub terminate_first : (b : Block) (xs : List Assignment) (t : List Entry) (f : Forward) → Lawful b xs t f → command_of f ≡ Terminate → t ≡ []
-terminate_first b xs t f lawful e = free_is_empty t (free_of_terminate b xs (stage_of t) (command_of f) (follows_lawful b xs t f lawful) e)
+unfolding is_first
+terminate_first b xs t f lawful e = first_alone b xs t f lawful (ap is_first e)
 
 pub search_high_first : (b : Block) (xs : List Assignment) (t : List Entry) (f : Forward) (high : ℕ) → Lawful b xs t f → command_of f ≡ SearchHigh high → t ≡ []
-search_high_first b xs t f high lawful e = free_is_empty t (free_of_high b xs (stage_of t) (command_of f) high (follows_lawful b xs t f lawful) e)
+unfolding is_first
+search_high_first b xs t f high lawful e = first_alone b xs t f lawful (ap is_first e)
 
 pub arc_first : (b : Block) (xs : List Assignment) (t : List Entry) (f g : Forward) → Lawful b xs t f → command_of f ≡ Arc g → t ≡ []
-arc_first b xs t f g lawful e = free_is_empty t (free_of_arc b xs (stage_of t) (command_of f) g (follows_lawful b xs t f lawful) e)
+unfolding is_first
+arc_first b xs t f g lawful e = first_alone b xs t f lawful (ap is_first e)
+
+-- only the empty trace is free
+pub free_is_empty : (t : List Entry) → stage_of t ≡ Free → t ≡ []
+free_is_empty t e =
+    let b : Block = record { first = 0; last = 0 } in
+    let read : command_of (frame_of Terminate) ≡ Terminate = read_written Terminate tt in
+    terminate_first b [] t (frame_of Terminate) (lawful_follows b [] t (frame_of Terminate) (rw (e, read) (turn refl refl))) read
 
 first_of : (b : Block) (xs : List Assignment) (s : Stage) (c : Command) → Follows b xs s c → s ≡ Free
     → (c ≡ Terminate) ⊎ (((high : ℕ) × (c ≡ SearchHigh high)) ⊎ ((g : Forward) × (c ≡ Arc g)))
-first_of b xs _ _ begins_opening e = inl refl
-first_of b xs _ _ (begins_search high) e = inr (inl (high, refl))
-first_of b xs _ _ (begins_arc g) e = inr (inr (g, refl))
-first_of b xs _ _ k e = absurd (cc)
+first_of b xs Free Terminate on e = inl refl
+first_of b xs Free (SearchHigh high) on e = inr (inl (high, refl))
+first_of b xs Free (Arc g) on e = inr (inr (g, refl))
+first_of b xs _ _ k e = absurd (let none = k.leads_on in cc)
 
 -- and a transaction begins with no other frame
 pub first_frames : (b : Block) (xs : List Assignment) (f : Forward) → Lawful b xs [] f

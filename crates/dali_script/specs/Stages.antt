@@ -1,8 +1,8 @@
-use Rattle.std.specs.Prelude.{◌≡◌, ℕ, Bool, true, false, ◌&&◌, ◌==◌, nat_lt, nat_le, if◌then◌else◌, List, [], ◌∷◌, Option, Some, None, option_map}
+use Rattle.std.specs.Prelude.{◌≡◌, ℕ, Bool, true, false, ◌&&◌, ◌==◌, nat_lt, nat_le, if◌then◌else◌, List, [], ◌∷◌, Option, Some, None, option_map, unwrap_or, is_some, IfSome}
 use Rattle.std.specs.List.{list_any}
 use Rattle.dali_frame.specs.declared.frames.Forward.{Forward}
 use Rattle.dali_frame.specs.declared.frames.Answer.{Answer}
-use Rattle.dali_frame.specs.declared.frames.Answer.TheVariants.{Byte}
+use Rattle.dali_frame.specs.declared.frames.Answer.TheVariants.{Silence, Byte}
 use Rattle.dali_frame.specs.declared.numbers.SearchAddress.{SearchAddress}
 use Rattle.dali_frame.specs.Short.{short_of}
 use Rattle.dali_frame.specs.Random.{value_of, MASK24}
@@ -39,27 +39,29 @@ abbrev pub verified : SearchAddress → ℕ → Answer → Stage
 verified r a (Byte v) = answered r a (short_of v)
 verified r a _ = Inconclusive r None
 
--- after PROGRAM SHORT ADDRESS
-abbrev pub programmed : SearchAddress → Option ℕ → Stage
-programmed r (Some a) = Programmed r a
-programmed r None = Over
+-- WHERE A COMMAND LEADS from a stage, by what is heard after it. It leads nowhere unless
+-- it comes next in a script: which commands may follow, and the stage after them, are read from here.
+abbrev pub leads : Stage → Command → Answer → Option Stage
+leads Free Terminate h = Some Terminated
+leads Free (SearchHigh high) h = Some (HighSent high)
+leads Free (Arc f) h = Some Over
+leads Terminated (Initialise Unaddressed) h = Some InitialisedOnce
+leads InitialisedOnce (Initialise Unaddressed) h = Some Initialised
+leads Initialised Randomise h = Some RandomisedOnce
+leads RandomisedOnce Randomise h = Some Opened
+leads (HighSent high) (SearchMiddle middle) h = Some (MiddleSent high middle)
+leads (MiddleSent high middle) (SearchLow low) h =
+    Some (NumberSent (record { high = high; middle = middle; low = low }))
+leads (NumberSent r) Compare h = Some (Probed r h)
+leads (NumberSent r) QueryShort h = Some (queried r h)
+leads (Found r b) Withdraw h = Some (Withdrawn r b)
+leads (Unnamed r) (Program (Some a)) h = Some (Programmed r a)
+leads (Programmed r a) QueryShort h = Some (verified r a h)
+leads (Confirmed r a) Withdraw h = Some (Withdrawn r a)
+leads _ _ h = None
 
 abbrev pub next_stage : Stage → Command → Answer → Stage
-next_stage Free Terminate h = Terminated
-next_stage Free (SearchHigh high) h = HighSent high
-next_stage Terminated (Initialise Unaddressed) h = InitialisedOnce
-next_stage InitialisedOnce (Initialise Unaddressed) h = Initialised
-next_stage Initialised Randomise h = RandomisedOnce
-next_stage RandomisedOnce Randomise h = Opened
-next_stage (HighSent high) (SearchMiddle middle) h = MiddleSent high middle
-next_stage (MiddleSent high middle) (SearchLow low) h = NumberSent (record { high = high; middle = middle; low = low })
-next_stage (NumberSent r) Compare h = Probed r h
-next_stage (NumberSent r) QueryShort h = queried r h
-next_stage (Found r b) Withdraw h = Withdrawn r b
-next_stage (Unnamed r) (Program short) h = programmed r short
-next_stage (Programmed r a) QueryShort h = verified r a h
-next_stage (Confirmed r a) Withdraw h = Withdrawn r a
-next_stage _ _ _ = Over
+next_stage s c h = unwrap_or (leads s c h) Over
 
 abbrev pub stage_from : Stage → List Entry → Stage
 stage_from s [] = s
@@ -69,23 +71,19 @@ stage_from s (e ∷ t) = stage_from (next_stage s (command_of e.frame) e.heard) 
 unfoldable pub stage_of : List Entry → Stage
 stage_of t = stage_from Free t
 
--- FOLLOWS: which command may come next at a stage.
-pub data Follows (b : Block) (reserved : List Assignment) : Stage → Command → Type 0 where
-  begins_opening : Follows b reserved Free Terminate
-  begins_search : (high : ℕ) → Follows b reserved Free (SearchHigh high)
-  begins_arc : (f : Forward) → Follows b reserved Free (Arc f)
-  initialises_once : Follows b reserved Terminated (Initialise Unaddressed)
-  initialises : Follows b reserved InitialisedOnce (Initialise Unaddressed)
-  randomises_once : Follows b reserved Initialised Randomise
-  randomises : Follows b reserved RandomisedOnce Randomise
-  sets_middle : (high middle : ℕ) → Follows b reserved (HighSent high) (SearchMiddle middle)
-  sets_low : (high middle low : ℕ) → Follows b reserved (MiddleSent high middle) (SearchLow low)
-  compares : (r : SearchAddress) → Follows b reserved (NumberSent r) Compare
-  queries_number : (r : SearchAddress) → Follows b reserved (NumberSent r) QueryShort
-  withdraws_found : (r : SearchAddress) (c : ℕ) → Follows b reserved (Found r c) Withdraw
-  programs : (r : SearchAddress) (a : ℕ) → MayGive b reserved r a → Follows b reserved (Unnamed r) (Program (Some a))
-  queries_given : (r : SearchAddress) (a : ℕ) → MayGive b reserved r a → Follows b reserved (Programmed r a) QueryShort
-  withdraws_given : (r : SearchAddress) (a : ℕ) → MayGive b reserved r a → Follows b reserved (Confirmed r a) Withdraw
+-- which address is given to the gear at which search address, by PROGRAM SHORT ADDRESS and by what
+-- comes after it
+abbrev pub given : Stage → Command → Option (SearchAddress × ℕ)
+given (Unnamed r) (Program (Some a)) = Some (r, a)
+given (Programmed r a) c = Some (r, a)
+given (Confirmed r a) c = Some (r, a)
+given _ _ = None
+
+-- FOLLOWS: a command may come next at a stage where it leads on, and what is given, if anything, may
+-- be given.
+pub record Follows (b : Block) (reserved : List Assignment) (s : Stage) (c : Command) : Type 0 where
+  pub leads_on : is_some (leads s c Silence) ≡ true
+  pub may : IfSome (given s c) (λ g. MayGive b reserved g.0 g.1)
 
 -- The same as tests.
 abbrev pub in_block : Block → ℕ → Bool
@@ -94,27 +92,12 @@ in_block b a = nat_le b.first a && nat_le a b.last
 abbrev pub may_give : Block → List Assignment → ℕ → ℕ → Bool
 may_give b reserved n a = nat_lt n MASK24 && in_block b a && list_any (λ p. (p.0 == a) && (p.1 == n)) reserved
 
-abbrev pub may_program : Block → List Assignment → SearchAddress → Option ℕ → Bool
-may_program b reserved r (Some a) = may_give b reserved (value_of r) a
-may_program b reserved r None = false
+abbrev pub may_give_if : Block → List Assignment → Option (SearchAddress × ℕ) → Bool
+may_give_if b reserved (Some g) = may_give b reserved (value_of g.0) g.1
+may_give_if b reserved None = true
 
 abbrev pub follows : Block → List Assignment → Stage → Command → Bool
-follows b reserved Free Terminate = true
-follows b reserved Free (SearchHigh high) = true
-follows b reserved Free (Arc f) = true
-follows b reserved Terminated (Initialise Unaddressed) = true
-follows b reserved InitialisedOnce (Initialise Unaddressed) = true
-follows b reserved Initialised Randomise = true
-follows b reserved RandomisedOnce Randomise = true
-follows b reserved (HighSent high) (SearchMiddle middle) = true
-follows b reserved (MiddleSent high middle) (SearchLow low) = true
-follows b reserved (NumberSent r) Compare = true
-follows b reserved (NumberSent r) QueryShort = true
-follows b reserved (Found r c) Withdraw = true
-follows b reserved (Unnamed r) (Program short) = may_program b reserved r short
-follows b reserved (Programmed r a) QueryShort = may_give b reserved (value_of r) a
-follows b reserved (Confirmed r a) Withdraw = may_give b reserved (value_of r) a
-follows b reserved _ _ = false
+follows b reserved s c = is_some (leads s c Silence) && may_give_if b reserved (given s c)
 
 -- some address may be given to the gear at a search address
 abbrev pub may_give_some : Block → List Assignment → ℕ → Bool

@@ -46,62 +46,57 @@ pub enum Stage {
 }
 
 impl Stage {
-    ghost use Rattle.std.specs.Prelude.{if◌then◌else◌};
-    ghost use Rattle.dali_script.specs.Stages.{next_stage, programmed, queried, verified, follows, may_program, may_follow, finding_at};
+    ghost use Rattle.dali_script.specs.Stages.{leads, next_stage, queried, verified, follows, given, may_follow, finding_at};
 
-    /// The stage after one more frame.
-    pub(crate) fn next(self, command: Command, heard: Answer) -> Stage
-        ensures { result ≡ next_stage self command heard }
+    /// The stage that a command leads to, where it may come next in a script.
+    fn next(self, command: Command, heard: Answer) -> Option<Stage>
+        ensures { result ≡ leads self command heard }
     {
         match self {
             Stage::Free => match command {
-                Command::Terminate => Stage::Terminated,
-                Command::SearchHigh(high) => Stage::HighSent(high),
-                _ => Stage::Over,
+                Command::Terminate => Some(Stage::Terminated),
+                Command::SearchHigh(high) => Some(Stage::HighSent(high)),
+                Command::Arc(_) => Some(Stage::Over),
+                _ => None,
             },
-            Stage::Terminated => Stage::InitialisedOnce.after(is_initialise(command)),
-            Stage::InitialisedOnce => Stage::Initialised.after(is_initialise(command)),
-            Stage::Initialised => Stage::RandomisedOnce.after(command == Command::Randomise),
-            Stage::RandomisedOnce => Stage::Opened.after(command == Command::Randomise),
+            Stage::Terminated if is_initialise(command) => Some(Stage::InitialisedOnce),
+            Stage::InitialisedOnce if is_initialise(command) => Some(Stage::Initialised),
+            Stage::Initialised if command == Command::Randomise => Some(Stage::RandomisedOnce),
+            Stage::RandomisedOnce if command == Command::Randomise => Some(Stage::Opened),
             Stage::HighSent(high) => match command {
-                Command::SearchMiddle(middle) => Stage::MiddleSent(high, middle),
-                _ => Stage::Over,
+                Command::SearchMiddle(middle) => Some(Stage::MiddleSent(high, middle)),
+                _ => None,
             },
             Stage::MiddleSent(high, middle) => match command {
-                Command::SearchLow(low) => Stage::NumberSent(SearchAddress { high, middle, low }),
-                _ => Stage::Over,
+                Command::SearchLow(low) => {
+                    Some(Stage::NumberSent(SearchAddress { high, middle, low }))
+                }
+                _ => None,
             },
             Stage::NumberSent(number) => match command {
-                Command::Compare => Stage::Probed(number, heard),
-                Command::QueryShort => Stage::queried(number, heard),
-                _ => Stage::Over,
+                Command::Compare => Some(Stage::Probed(number, heard)),
+                Command::QueryShort => Some(Stage::queried(number, heard)),
+                _ => None,
             },
             Stage::Unnamed(number) => match command {
-                Command::Program(short) => Stage::programmed(number, short),
-                _ => Stage::Over,
+                Command::Program(short) => Some(Stage::Programmed(number, short?)),
+                _ => None,
             },
             Stage::Programmed(number, short) if command == Command::QueryShort => {
-                Stage::verified(number, short, heard)
+                Some(Stage::verified(number, short, heard))
             }
-            Stage::Found(number, short) | Stage::Confirmed(number, short) => {
-                Stage::Withdrawn(number, short).after(command == Command::Withdraw)
-            }
-            _ => Stage::Over,
+            Stage::Found(number, short) | Stage::Confirmed(number, short)
+                if command == Command::Withdraw => { Some(Stage::Withdrawn(number, short)) }
+            _ => None,
         }
     }
 
-    /// This stage where the frame is the one that leads to it.
-    fn after(self, is_next: bool) -> Stage
-        ensures { result ≡ (if is_next then self else Stage.Over) }
+    /// The stage after one more frame.
+    pub(crate) fn after(self, command: Command, heard: Answer) -> Stage
+        ensures { result ≡ next_stage self command heard }
     {
-        if is_next { self } else { Stage::Over }
-    }
-
-    fn programmed(number: SearchAddress, short: Option<Short>) -> Stage
-        ensures { result ≡ programmed number short }
-    {
-        match short {
-            Some(short) => Stage::Programmed(number, short),
+        match self.next(command, heard) {
+            Some(stage) => stage,
             None => Stage::Over,
         }
     }
@@ -110,38 +105,29 @@ impl Stage {
     pub(crate) fn allows(self, kept: &Kept, command: Command) -> bool
         ensures { result ≡ follows kept.now.block kept.now.reserved self command }
     {
-        match self {
-            Stage::Free => matches!(
-                command,
-                Command::Terminate | Command::SearchHigh(_) | Command::Arc(_)
-            ),
-            Stage::Terminated | Stage::InitialisedOnce => is_initialise(command),
-            Stage::Initialised | Stage::RandomisedOnce => command == Command::Randomise,
-            Stage::HighSent(_) => matches!(command, Command::SearchMiddle(_)),
-            Stage::MiddleSent(..) => matches!(command, Command::SearchLow(_)),
-            Stage::NumberSent(_) => matches!(command, Command::Compare | Command::QueryShort),
-            Stage::Found(..) => command == Command::Withdraw,
-            Stage::Unnamed(number) => match command {
-                Command::Program(short) => Stage::may_program(kept, number, short),
-                _ => false,
+        let given = self.given(&command);
+        match self.next(command, Answer::Silence) {
+            Some(_) => match given {
+                Some((number, short)) => kept.may_give(number.value(), short),
+                None => true,
             },
-            Stage::Programmed(number, short) => {
-                command == Command::QueryShort && kept.may_give(number.value(), short)
-            }
-            Stage::Confirmed(number, short) => {
-                command == Command::Withdraw && kept.may_give(number.value(), short)
-            }
-            _ => false,
+            None => false,
         }
     }
 
-    /// Whether PROGRAM SHORT ADDRESS with this data may come next, where the gear at this number has no address.
-    fn may_program(kept: &Kept, number: SearchAddress, short: Option<Short>) -> bool
-        ensures { result ≡ may_program kept.now.block kept.now.reserved number short }
+    /// The address that is given to the gear at a search address, by a command or by one before it.
+    fn given(&self, command: &Command) -> Option<(SearchAddress, Short)>
+        ensures { result ≡ given self.now command.now }
     {
-        match short {
-            Some(short) => kept.may_give(number.value(), short),
-            None => false,
+        match *self {
+            Stage::Unnamed(number) => match *command {
+                Command::Program(short) => Some((number, short?)),
+                _ => None,
+            },
+            Stage::Programmed(number, short) | Stage::Confirmed(number, short) => {
+                Some((number, short))
+            }
+            _ => None,
         }
     }
 

@@ -86,7 +86,7 @@ impl Trace {
         ensures { self.new ≡ self.old ++ (record { frame = frame; heard = heard }) ∷ [] }
     {
         self.entries.push(Entry { frame, heard });
-        self.stage = self.stage.next(Command::read(frame), heard);
+        self.stage = self.stage.after(Command::read(frame), heard);
     }
 
     /// Whether no frame may follow, for a sender with these records.
