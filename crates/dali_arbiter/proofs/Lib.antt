@@ -1,1 +1,2 @@
 mod Lists
+pub mod Collisions

@@ -8,6 +8,7 @@
 #![tactic(auto)]
 
 mod arbiter;
+pub mod laws;
 mod refusals;
 mod request;
 mod waiting;

@@ -6,7 +6,7 @@ use Rattle.dali_events.specs.World.{World, gear_at, controller_at}
 use Rattle.dali_events.specs.Happens.{happens}
 use Rattle.dali_events.specs.Runs.{after, after_all, IsRun, AreDrawn, Names, IsSafe}
 use Rattle.dali_events.specs.Promises.{GiftsAreReserved, IsEnrolled, NamesGear, TablesAgree, HasFound, FindingsAgree}
-use Rattle.dali_events.proofs.Members.{same_member}
+use Rattle.dali_script.proofs.Members.{same_member}
 use Rattle.dali_events.proofs.Controllers.{controllers_count}
 use Rattle.dali_events.proofs.Reserves.{still_reserved}
 use Rattle.dali_events.proofs.Drawn.{drawn_in_front}

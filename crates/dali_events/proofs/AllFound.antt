@@ -32,7 +32,7 @@ use Rattle.dali_events.specs.Allowed.{Allowed, MaySend}
 use Rattle.dali_events.specs.Runs.{after, after_all, AllAllowed}
 use Rattle.dali_events.specs.Searching.{EachPowered, IsCalm, AreCalm, CompletesOpening, HIGHEST, sent, searched_on, SearchesAll, NobodyAnswers, HasShort}
 use Rattle.dali_events.proofs.Growing.{after_both, allowed_front, allowed_rest}
-use Rattle.dali_events.proofs.Members.{Each, has_right}
+use Rattle.dali_script.proofs.Members.{Each, has_right}
 use Rattle.dali_events.proofs.Takes.{Moved, stays, goes, moves_at, row_length}
 use Rattle.dali_events.proofs.Drawn.{Draws, draws_step, draws_all, draws_after, are_drawn}
 use Rattle.dali_events.proofs.Answers.{answers_have}

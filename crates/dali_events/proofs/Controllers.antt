@@ -11,7 +11,7 @@ use Rattle.dali_events.specs.declared.event.Event.{Event}
 use Rattle.dali_events.specs.declared.event.Event.TheVariants as event
 use Rattle.dali_events.specs.World.{World, Controller, controller_at, nobody}
 use Rattle.dali_events.specs.Happens.{happens, with_outstanding, informed, acted, running, told_sent, told_destroyed, told_lapsed, owner_told, gone_down, come_up}
-use Rattle.dali_events.proofs.Members.{Each, each_changed}
+use Rattle.dali_script.proofs.Members.{Each, each_changed}
 
 -- WHAT AN EVENT DOES TO THE CONTROLLERS, for any property of what a controller keeps, its outstanding record and its
 -- finding that stands when the record is kept, when it is dropped, and when the finding is forgotten.

@@ -15,7 +15,8 @@ use Rattle.dali_events.specs.Plan.{SitePlan, IsPlan}
 use Rattle.dali_events.specs.World.{World, gear_at, start}
 use Rattle.dali_events.specs.Happens.{happens, powered}
 use Rattle.dali_events.specs.Runs.{after, after_all, IsRun, AreDrawn}
-use Rattle.dali_events.proofs.Members.{has_left, has_right, has_mapped, once_front, Each, each_changed, each_map}
+use Rattle.dali_script.proofs.Lists.{has_map}
+use Rattle.dali_script.proofs.Members.{has_left, has_right, once_front, Each, each_changed, each_map}
 use Rattle.dali_events.proofs.Takes.{Moved, stays, goes, moves_at, row_length, numbers_stay}
 
 -- gear k has no random address, or drew it
@@ -93,7 +94,7 @@ pub are_drawn : (p : SitePlan) (w : World) → IsPlan p → Draws p.draws w.gear
 are_drawn p w plan d = record {
   random = d.each;
   once = once_front (map (λ draw. draw.1) w.drawn) w.left (subst IsOnce (sym d.numbers) plan.draws_once);
-  below = λ g r h. plan.draws_below r (subst (λ ns. Has ns r) d.numbers (has_left (map (λ draw. draw.1) w.drawn) w.left r (has_mapped (λ draw. draw.1) w.drawn (g, r) h)));
+  below = λ g r h. plan.draws_below r (subst (λ ns. Has ns r) d.numbers (has_left (map (λ draw. draw.1) w.drawn) w.left r (has_map (λ draw. draw.1) w.drawn (g, r) h)));
 }
 
 pub drawn_in_front : (p : SitePlan) (capacity : ℕ) (front rest : List Event) → IsRun p capacity (front ++ rest) → AreDrawn (after p capacity front)

@@ -9,7 +9,7 @@ use Rattle.dali_script.specs.declared.block.Block.{Block}
 use Rattle.dali_script.specs.declared.stage.Stage.{Stage}
 use Rattle.dali_script.specs.Records.{Assignment, Has, IsOnce}
 use Rattle.dali_script.specs.Stages.{Follows}
-use Rattle.dali_events.proofs.Members.{Each, has_left, has_right, has_either, mapped_from, once_append, once_seconds, same_member}
+use Rattle.dali_script.proofs.Members.{Each, has_left, has_right, has_either, mapped_from, once_append, once_seconds, same_member}
 use Rattle.dali_events.proofs.Takes.{Moved, stays, goes, moves_at, row_length}
 use Rattle.dali_events.proofs.Drawn.{HasDrawn}
 use Rattle.dali_events.proofs.Answers.{stored_by, stores_at, stored_once}

@@ -27,7 +27,7 @@ use Rattle.dali_events.specs.Allowed.{Allowed, MaySend}
 use Rattle.dali_events.specs.Runs.{after, after_all, AllAllowed, IsRun}
 use Rattle.dali_events.specs.Searching.{EachPowered, EachActive, frame_in, number_at}
 use Rattle.dali_events.proofs.Growing.{after_more, allowed_front, allowed_rest}
-use Rattle.dali_events.proofs.Members.{Each, each_changed, each_map}
+use Rattle.dali_script.proofs.Members.{Each, each_changed, each_map}
 use Rattle.dali_events.proofs.Takes.{Moved, stays, goes, moves_at, row_length}
 use Rattle.dali_events.proofs.Known.{Knows, IsActive, Unnumbered}
 use Rattle.dali_events.proofs.Sending.{IsKnown, known_after, lawful_of, follows_of, knows_running, powered_takes}

@@ -19,7 +19,7 @@ use Rattle.dali_events.specs.Allowed.{Allowed, MayOrder}
 use Rattle.dali_events.specs.Runs.{after, after_all, AllAllowed, IsRun}
 use Rattle.dali_events.specs.Promises.{KeepsRecords}
 use Rattle.dali_events.proofs.Growing.{allowed_front}
-use Rattle.dali_events.proofs.Members.{Each}
+use Rattle.dali_script.proofs.Members.{Each}
 use Rattle.dali_events.proofs.Controllers.{Property, Stands, Of, AddsOrder, Adds, controllers_step, controllers_count}
 use Rattle.dali_events.proofs.Naming.{finding_is}
 

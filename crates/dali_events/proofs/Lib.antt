@@ -1,7 +1,6 @@
 pub mod Growing
 pub mod Plans
 pub mod Examples
-pub mod Members
 pub mod Takes
 pub mod Drawn
 pub mod Controllers

@@ -29,7 +29,7 @@ use Rattle.dali_events.specs.World.{World, Controller, gear_at, controller_at, n
 use Rattle.dali_events.specs.Happens.{happens, with_outstanding, informed, running}
 use Rattle.dali_events.specs.Allowed.{Allowed, MayOrder}
 use Rattle.dali_events.specs.Runs.{Names}
-use Rattle.dali_events.proofs.Members.{Each}
+use Rattle.dali_script.proofs.Members.{Each}
 use Rattle.dali_events.proofs.Answers.{answered, byte_answered}
 use Rattle.dali_events.proofs.Known.{Knows, IsActive, some_of_code, found_random, search_known}
 use Rattle.dali_events.proofs.Sending.{IsKnown, lawful_of, follows_of, knows_running, takes_powered}

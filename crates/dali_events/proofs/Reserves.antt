@@ -13,7 +13,7 @@ use Rattle.dali_events.specs.Plan.{SitePlan, IsPlan, block_at, no_block}
 use Rattle.dali_events.specs.World.{World, Controller, controller_at, nobody, begun, start}
 use Rattle.dali_events.specs.Happens.{happens, with_outstanding, informed}
 use Rattle.dali_events.specs.Allowed.{Allowed, MayOrder}
-use Rattle.dali_events.proofs.Members.{Each, has_left, same_member}
+use Rattle.dali_script.proofs.Members.{Each, has_left, same_member}
 use Rattle.dali_events.proofs.Controllers.{Property, Stands, Of, AddsOrder, Adds, controllers_step, controllers_count}
 
 -- an outstanding reservation is of the block, and of an address that is not reserved

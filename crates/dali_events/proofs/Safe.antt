@@ -17,7 +17,7 @@ use Rattle.dali_events.specs.Happens.{happens, running, powered}
 use Rattle.dali_events.specs.Allowed.{Allowed, IsUp, MaySend}
 use Rattle.dali_events.specs.Runs.{after, after_all, AllAllowed, IsRun, Names, IsSafe, KeepsRandom, IsSafeHistory}
 use Rattle.dali_events.proofs.Growing.{after_both, allowed_front, allowed_rest}
-use Rattle.dali_events.proofs.Members.{Each, each_changed, each_map}
+use Rattle.dali_script.proofs.Members.{Each, each_changed, each_map}
 use Rattle.dali_events.proofs.Drawn.{Draws, draws_step, draws_start, are_drawn}
 use Rattle.dali_events.proofs.Controllers.{Of}
 use Rattle.dali_events.proofs.Reserves.{AllReserve, reserves_step, reserves_start, IsReserved, reserved_stays, one_number}

@@ -26,7 +26,7 @@ use Rattle.dali_events.specs.World.{World, gear_at, controller_at, start}
 use Rattle.dali_events.specs.Happens.{happens, running, entry, goes_on, powered}
 use Rattle.dali_events.specs.Allowed.{Allowed, MaySend, Hears}
 use Rattle.dali_events.specs.Runs.{after, after_all, AllAllowed}
-use Rattle.dali_events.proofs.Members.{Each, each_changed, each_map}
+use Rattle.dali_script.proofs.Members.{Each, each_changed, each_map}
 use Rattle.dali_events.proofs.Takes.{Moved, stays, goes, moves_at, row_length}
 use Rattle.dali_events.proofs.Answers.{answers_have, heard_byte}
 use Rattle.dali_events.proofs.Known.{Knows, Agrees, IsShort, knows_step, knows_inactive, knows_quieted, short_taken}

@@ -17,7 +17,7 @@ use Rattle.dali_events.specs.Plan.{SitePlan, no_block, block_at}
 use Rattle.dali_events.specs.World.{World, Controller, controller_at, nobody, begun, start}
 use Rattle.dali_events.specs.Happens.{happens, informed, acted, with_outstanding, running, told_sent, told_destroyed, told_lapsed, owner_told, gone_down, come_up}
 use Rattle.dali_events.specs.Allowed.{IsActed, IsCommit, IsDue, MayOrder}
-use Rattle.dali_events.proofs.Members.{each_changed, each_set}
+use Rattle.dali_script.proofs.Members.{each_changed, each_set}
 use Rattle.dali_events.proofs.Growing.{after_more}
 use Rattle.dali_standing.specs.Places.{due_of}
 use Rattle.dali_standing.specs.declared.refusal.Refusal.{Refusal}

@@ -1,4 +1,5 @@
 pub mod Lists
+pub mod Members
 pub mod Giving
 pub mod Transactions
 pub mod Examples

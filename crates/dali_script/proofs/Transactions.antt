@@ -12,7 +12,7 @@ use Rattle.dali_special.specs.declared.command.Target.{Target}
 use Rattle.dali_special.specs.declared.command.Command.{Command}
 use Rattle.dali_special.specs.declared.command.Command.TheVariants.{Terminate, Initialise, Randomise, Compare, Withdraw, SearchHigh, SearchMiddle, SearchLow, Program, QueryShort, Arc}
 use Rattle.dali_special.specs.Command.{MASK, command_of, frame_of, IsSpelled}
-use Rattle.dali_special.proofs.Table.{short_of_code, short_small, read_spelled, read_written}
+use Rattle.dali_special.proofs.Table.{code_of_short, short_of_code, short_small, read_spelled, read_written}
 use Rattle.dali_script.specs.declared.block.Block.{Block}
 use Rattle.dali_script.specs.declared.trace.Entry.{Entry}
 use Rattle.dali_script.specs.declared.stage.Stage.{Stage}
@@ -141,15 +141,12 @@ before_found b xs _ _ h _ heard (at_found r c) = (queries some_address, refl, he
 before_unnamed : (b : Block) (xs : List Assignment) (r : SearchAddress) (h : Answer) (ss : List Step) → IsHeard no_address h → Rest b xs (Unnamed r) ss → Before b xs (NumberSent r) QueryShort h ss
 before_unnamed b xs _ h _ heard (at_unnamed r a may) = (queries no_address, refl, heard, at_number r _ (giving a may))
 
-code_of_short : (byte a : ℕ) → short_of byte ≡ Some a → byte ≡ code_of a
-code_of_short byte a e = grind (arith, nat_tests)
-
 before_queried : (b : Block) (xs : List Assignment) (r : SearchAddress) (h : Answer) (ss : List Step) → Rest b xs (queried r h) ss → Before b xs (NumberSent r) QueryShort h ss
 before_queried b xs r Silence ss k = absurd (nothing_inconclusive b xs r None ss k)
 before_queried b xs r Damaged ss k = absurd (nothing_inconclusive b xs r None ss k)
 before_queried b xs r (Byte v) ss k = go (short_of v) (v == MASK) refl refl k where
   go : (o : Option ℕ) (m : Bool) → short_of v ≡ o → (v == MASK) ≡ m → Rest b xs (named r o m) ss → Before b xs (NumberSent r) QueryShort (Byte v) ss
-  go (Some c) m short mask k = before_found b xs r c (Byte v) ss (c, short_small v c short, ap (λ n. Byte n) (code_of_short v c short)) k
+  go (Some c) m short mask k = before_found b xs r c (Byte v) ss (c, short_small v c short, ap (λ n. Byte n) (sym (code_of_short v c short))) k
   go None true short mask k = before_unnamed b xs r (Byte v) ss (ap (λ n. Byte n) (let same : v ≡ MASK = grind (arith, nat_tests) in same)) k
   go None false short mask k = absurd (nothing_inconclusive b xs r None ss k)
 
@@ -164,7 +161,7 @@ before_verified b xs r a (Byte v) ss k = go (short_of v) refl k where
   go None short k = absurd (nothing_inconclusive b xs r None ss k)
   go (Some c) short k = same (c == a) refl k where
     same : (m : Bool) → (c == a) ≡ m → Rest b xs (if m then Confirmed r a else Inconclusive r (Some c)) ss → Before b xs (Programmed r a) QueryShort (Byte v) ss
-    same true is k = before_confirmed b xs r a (Byte v) ss (ap (λ n. Byte n) (code_of_short v c short ∙ ap (λ n. code_of n) (let e : c ≡ a = grind (arith, nat_tests) in e))) k
+    same true is k = before_confirmed b xs r a (Byte v) ss (ap (λ n. Byte n) (sym (code_of_short v c short) ∙ ap (λ n. code_of n) (let e : c ≡ a = grind (arith, nat_tests) in e))) k
     same false is k = absurd (nothing_inconclusive b xs r (Some c) ss k)
 
 before : (b : Block) (xs : List Assignment) (s : Stage) (c : Command) (h : Answer) (ss : List Step) → Rest b xs (next_stage s c h) ss → Before b xs s c h ss

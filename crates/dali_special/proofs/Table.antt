@@ -61,7 +61,7 @@ without_data_written address command is byte c e = go (byte == 0) refl e where
       ap frame_of (sym same) ∙ is ∙ ap (λ n. frame address n) (sym number)
   go false other is_some = cc
 
-code_of_short : (byte a : ℕ) → short_of byte ≡ Some a → code_of a ≡ byte
+pub code_of_short : (byte a : ℕ) → short_of byte ≡ Some a → code_of a ≡ byte
 code_of_short byte a e = grind (arith, nat_tests)
 
 target_written : (byte : ℕ) (o : Option Target) (c : Command) → target_of byte ≡ o → option_map (λ target. Initialise target) o ≡ Some c → frame_of c ≡ frame 0xA5 byte

@@ -24,7 +24,7 @@ use Rattle.dali_events.specs.Allowed.{Allowed, IsUp, Hears, MaySend, IsDue, IsAr
 use Rattle.dali_standing.specs.Fitted.{Fitted, taken_at}
 use Rattle.dali_script.specs.Records.{Records}
 use Rattle.dali_standing.specs.Places.{Place, Agrees, IsRunning, IsTied, MayAnswer, acted_at, told_at, down_at, up_at, trace_of}
-use Rattle.dali_standing.specs.Standing.{Seated, place_in, empty_place, Standing, flat, stand_of, controller_on, machine_on, machines_after, Moves, MayBeSent}
+use Rattle.dali_standing.specs.Standing.{Seated, place_in, empty_place, Standing, flat, stand_of, controller_on, machine_in, machines_after, Moves, MayBeSent}
 use Rattle.dali_standing.proofs.Seats.{place_at, world_of, with_place, running_in, goes_on_in, has_acted, has_offered, has_sent, has_lost, has_collided, has_lapsed, has_gone_down, has_come_up, IsMove}
 use Rattle.dali_standing.specs.Settled.{IsAccepted, IsHearing, IsPlacedBy, IsPlacedOn, Settled}
 use Rattle.dali_standing.specs.declared.refusal.Refusal.{Refusal}
@@ -72,8 +72,8 @@ moved s e new is w ms same =
 pub on_place : (s : Seated) (was : Standing) (c : ℕ) → flat s ≡ was → controller_on was c ≡ (place_at s c).controller
 on_place s was c view = subst (λ (w : Standing). controller_on w c ≡ (place_at s c).controller) view (controller_in s.seats c)
 
-pub on_machine : (s : Seated) (was : Standing) (c : ℕ) → flat s ≡ was → machine_on was c ≡ (place_at s c).machine
-on_machine s was c view = subst (λ (w : Standing). machine_on w c ≡ (place_at s c).machine) view (machine_of s.seats c)
+pub on_machine : (s : Seated) (was : Standing) (c : ℕ) → flat s ≡ was → machine_in was.machines c ≡ (place_at s c).machine
+on_machine s was c view = subst (λ (w : Standing). machine_in w.machines c ≡ (place_at s c).machine) view (machine_of s.seats c)
 
 -- a place that was read
 pub place_read : (seats : List Place) (c : ℕ) (p : Place) → p ≡ get_or seats c p → c < length seats → p ≡ place_in seats c
@@ -113,7 +113,7 @@ act_done s was c i o at seat bus bus' trace view settled up due read tied answer
     }))
 
 pub act_answers : (s : Seated) (was : Standing) (c : ℕ) (i : Input) (o : Order) (at : Place) → flat s ≡ was → (controller_on was c).up ≡ true
-    → at ≡ get_or s.seats c at → MayAnswer at.machine i o → MayAnswer (machine_on was c) i o
+    → at ≡ get_or s.seats c at → MayAnswer at.machine i o → MayAnswer (machine_in was.machines c) i o
 act_answers s was c i o at view up read answer =
     let here : (place_at s c).controller.up ≡ true = subst (λ (k : Controller). k.up ≡ true) (on_place s was c view) up in
     let is : at ≡ place_at s c = place_read s.seats c at read (up_there s.seats c here) in

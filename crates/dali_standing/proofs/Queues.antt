@@ -7,7 +7,8 @@ use Rattle.std.proofs.lemmas.List.{append-nil}
 use Rattle.dali_frame.specs.declared.frames.Forward.{Forward}
 use Rattle.dali_special.specs.Command.{command_of}
 use Rattle.dali_arbiter.specs.declared.request.Request.{Request}
-use Rattle.dali_arbiter.specs.Bus.{Bus, owns, request_of, idle, offered, put_last, freed, first_emptied, lapsed, without_first, taken, next, first_waiting, collision, rival, collided, destroyed, silenced, muted, without_sender}
+use Rattle.dali_arbiter.specs.Bus.{Bus, owns, request_of, idle, offered, put_last, freed, first_emptied, lapsed, without_first, taken, next, first_waiting, collision, collided, destroyed, silenced, muted, without_sender}
+use Rattle.dali_arbiter.proofs.Collisions.{unequal, collision_first, first_of_all, collision_apart}
 use Rattle.dali_orders.specs.declared.orders.Input.{Input}
 use Rattle.dali_orders.specs.declared.orders.Order.{Order}
 use Rattle.dali_orders.specs.declared.orders.Order.TheVariants.{Put, Commit, Done, Halt}
@@ -31,9 +32,6 @@ apart_test m n other = grind (arith, nat_tests)
 
 equal : (m n : ℕ) → (m == n) ≡ true → m ≡ n
 equal m n test = grind (arith, nat_tests)
-
-unequal : (m n : ℕ) → (m == n) ≡ false → m ≡ n → ⊥
-unequal m n test = grind (arith, nat_tests)
 
 decided : (m n : ℕ) → (m ≡ n) ⊎ (m ≡ n → ⊥)
 decided m n = go (m == n) refl where
@@ -258,50 +256,6 @@ next_owned b place r c served first owner = let known = (taken_is b.lists b.owne
 pub collision_owned : (b : Bus) (place : ℕ → Place) (r : Request) (c : ℕ) → IsServed b.lists b.owner place → b.owner ≡ Some c → next b ≡ Some r
     → collision b.lists ≡ None
 collision_owned b place r c served owner first = ((taken_is b.lists b.owner place r served first).owned c owner).2
-
--- where a request is next, it is the first of the first list that is not empty
-first_of_all : (owner : Option ℕ) (lists : List (List Request)) (r : Request) → first_waiting (if is_some owner then take 1 lists else lists) ≡ Some r
-    → first_waiting lists ≡ Some r
-first_of_all None lists r e = e
-first_of_all (Some o) [] r e = e
-first_of_all (Some o) ([] ∷ lists) r e = absurd (cc)
-first_of_all (Some o) ((x ∷ xs) ∷ lists) r e = e
-
-rival_differs : (r q : Request) (rs : List Request) → rival r rs ≡ Some q → r.sender ≡ q.sender → ⊥
-rival_differs r q [] e same = absurd (cc)
-rival_differs r q (s ∷ rs) e same = go (decided r.sender s.sender) where
-  go : (r.sender ≡ s.sender) ⊎ (r.sender ≡ s.sender → ⊥) → ⊥
-  go (inl is) =
-      let test : (r.sender == s.sender) ≡ true = rw is (same_test s.sender) in
-      let none = rw test at e in
-      absurd (cc none)
-  go (inr other) =
-      let some = rw (apart_test r.sender s.sender other) at e in
-      let which : s ≡ q = cc some in
-      other (same ∙ ap (λ (y : Request). y.sender) (sym which))
-
-collision_apart : (lists : List (List Request)) (r q : Request) → first_waiting lists ≡ Some r → collision lists ≡ Some q → r.sender ≡ q.sender → ⊥
-collision_apart [] r q first other same = absurd (cc)
-collision_apart ([] ∷ lists) r q first other same = collision_apart lists r q first other same
-collision_apart ((x ∷ xs) ∷ lists) r q first other same =
-    let is : x ≡ r = cc in
-    rival_differs x q xs other (ap (λ (y : Request). y.sender) is ∙ same)
-
-pub collision_differs : (b : Bus) (r q : Request) → next b ≡ Some r → collision b.lists ≡ Some q → r.sender ≡ q.sender → ⊥
-collision_differs b r q first other same = collision_apart b.lists r q (first_of_all b.owner b.lists r first) other same
-
--- the request that collided is the first once the other is taken
-rival_first : (r q : Request) (rs : List Request) (lists : List (List Request)) → rival r rs ≡ Some q → first_waiting (rs ∷ lists) ≡ Some q
-rival_first r q [] lists e = absurd (cc)
-rival_first r q (s ∷ rs) lists e = go (r.sender == s.sender) e where
-  go : (b : Bool) → (if b then None else Some s) ≡ Some q → Some s ≡ Some q
-  go true e = absurd (cc)
-  go false e = e
-
-pub collision_first : (lists : List (List Request)) (q : Request) → collision lists ≡ Some q → first_waiting (without_first lists) ≡ Some q
-collision_first [] q e = absurd (cc)
-collision_first ([] ∷ lists) q e = collision_first lists q e
-collision_first ((x ∷ xs) ∷ lists) q e = rival_first x q xs lists e
 
 -- ---------------------------------------------------------------- places that change
 

@@ -35,7 +35,8 @@ use Rattle.dali_standing.specs.Settled.{IsOwning, IsApart, IsPlacedBy, IsPlaced,
 use Rattle.dali_standing.proofs.Acts.{IsLeft, may_order, owner_owns, owner_is, other_owns, committed_last}
 use Rattle.dali_standing.proofs.Moves.{MaySendAt, controller_in, place_here, place_elsewhere, up_there}
 use Rattle.dali_standing.proofs.Placing.{kept_bus, IsOthers, placed_apart, placed_other, placed_acted, acted_other, placed_sent, placed_told}
-use Rattle.dali_standing.proofs.Queues.{Elsewhere, MayAsk, Gone, next_is, next_owned, collision_owned, collision_differs, collision_first, served_same, served_start, served_sent, served_destroyed, served_lapsed, served_idle, served_silenced, served_offered, served_acted, five_lapsed, five_offered, five_acted, five_destroyed, five_sent, five_silenced, up_more, up_lapsed, up_offered, up_acted, up_destroyed, up_sent, up_silenced, up_start, next_up}
+use Rattle.dali_arbiter.proofs.Collisions.{collision_differs, rival_next, collided_is}
+use Rattle.dali_standing.proofs.Queues.{Elsewhere, MayAsk, Gone, next_is, next_owned, collision_owned, served_same, served_start, served_sent, served_destroyed, served_lapsed, served_idle, served_silenced, served_offered, served_acted, five_lapsed, five_offered, five_acted, five_destroyed, five_sent, five_silenced, up_more, up_lapsed, up_offered, up_acted, up_destroyed, up_sent, up_silenced, up_start, next_up}
 use Rattle.dali_standing.specs.Troubles.{nobody_at_all}
 
 -- BUS AND CONTROLLERS STAY SETTLED, whatever happens on a site.
@@ -376,12 +377,6 @@ settled_lost s r set settled first =
 free_first : (lists : List (List Request)) (place : ℕ → Place) → IsServed lists None place → (rest : List (List Request)) × (lists ≡ [] ∷ rest)
 free_first [] place served = elim served [ ]
 free_first (l ∷ rest) place served = (rest, ap (λ (x : List Request). x ∷ rest) served.0)
-
-collided_is : (b : Bus) (q : Request) (rest : List (List Request)) → b.lists ≡ [] ∷ rest → collision b.lists ≡ Some q → collided b ≡ destroyed (destroyed b)
-collided_is b q rest e both = rw both (rw e refl)
-
-rival_next : (b : Bus) (q : Request) (rest : List (List Request)) → b.lists ≡ [] ∷ rest → collision b.lists ≡ Some q → next (destroyed b) ≡ Some q
-rival_next b q rest e both = rw e (collision_first rest q (subst (λ (ls : List (List Request)). collision ls ≡ Some q) e both))
 
 -- what is known of a collision
 pub record IsCollision (s : Seated) (r q : Request) : Type 0 where

@@ -18,7 +18,7 @@ use Rattle.dali_controller.specs.Progress.{Progress}
 use Rattle.dali_events.specs.World.{Controller}
 use Rattle.dali_events.specs.Happens.{entry, is_arc}
 use Rattle.dali_standing.specs.Places.{Place, trace_of, IsRunning}
-use Rattle.dali_standing.specs.Standing.{Standing, Seated, place_in, controller_on, machine_on}
+use Rattle.dali_standing.specs.Standing.{Standing, Seated, place_in, controller_on, machine_in}
 
 -- HOW BUS AND CONTROLLERS GO TOGETHER on a site. It holds at each moment of a site, where each frame that is sent was next;
 -- it isn't so in every run of the definitions.
@@ -110,5 +110,5 @@ Settled s = IsSettled s.bus s.trace (place_in s.seats)
 
 -- what is known of a controller with a machine, of what stands
 abbrev pub IsPlacedOn : Standing → ℕ → Type 0
-IsPlacedOn s c = (m : Progress) → machine_on s c ≡ Some m
+IsPlacedOn s c = (m : Progress) → machine_in s.machines c ≡ Some m
     → IsRunning (controller_on s c) m × IsPlacedBy (owns s.bus.owner c) s.trace (controller_on s c) (Some m)

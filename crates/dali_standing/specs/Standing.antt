@@ -30,12 +30,9 @@ pub record Standing : Type 0 where
 abbrev pub stand_of : World → List (Option Progress) → Standing
 stand_of w ms = record { gear = w.gear; bus = w.bus; trace = w.trace; controllers = w.controllers; machines = ms; left = w.left; gifts = w.gifts }
 
--- a controller, and its machine
+-- a controller
 abbrev pub controller_on : Standing → ℕ → Controller
 controller_on s c = slice_index_or s.controllers c nobody
-
-abbrev pub machine_on : Standing → ℕ → Option Progress
-machine_on s c = slice_index_or s.machines c None
 
 -- ---------------------------------------------------------------- the same, with a place for each controller
 

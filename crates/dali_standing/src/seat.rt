@@ -165,7 +165,7 @@ impl Seat {
     }
 
     /// What the bus has told the controller, and it has not acted on.
-    pub(crate) fn next(&self) -> Option<Input>
+    pub(crate) fn told(&self) -> Option<Input>
         ensures { result ≡ self.now.controller.told }
     {
         self.told

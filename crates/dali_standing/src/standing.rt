@@ -58,7 +58,7 @@ impl Model for Standing {
 }
 
 impl Standing {
-    ghost use Rattle.dali_standing.specs.Standing.{Standing, stand_of, machines_at, controller_on, machine_on, Moves, MayBeSent};
+    ghost use Rattle.dali_standing.specs.Standing.{Standing, stand_of, machines_at, controller_on, machine_in, Moves, MayBeSent};
 
     /// What stands on a site of this plan at its start. It takes all the memory that it will need until a controller comes up
     /// anew. `queue` requests may wait.
@@ -101,7 +101,7 @@ impl Standing {
         requires { c < length self.now.controllers }
         ensures { result ≡ (controller_on self.now c).told }
     {
-        self.seats[c as usize].next()
+        self.seats[c as usize].told()
     }
 
     /// What is due for a controller: nothing while it is down.
@@ -171,7 +171,7 @@ impl Standing {
         requires up { (controller_on self.old c).up ≡ true }
         requires due { IsDue (controller_on self.old c) input }
         requires room { total self.old.bus < self.old.bus.capacity }
-        ensures answer { MayAnswer (machine_on self.old c) input result }
+        ensures answer { MayAnswer (machine_in self.old.machines c) input result }
         ensures moves { Moves self.old (event.Acted c input result) self.new }
         ensures placed { IsPlacedOn self.old c }
     {

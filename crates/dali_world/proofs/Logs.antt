@@ -18,7 +18,7 @@ use Rattle.dali_events.proofs.Safe.{safe_history, safe, holds_after}
 use Rattle.dali_events.proofs.Agreeing.{tables_agree_in}
 use Rattle.dali_events.proofs.Keeping.{records_kept}
 use Rattle.dali_events.specs.Promises.{TablesAgree, KeepsRecords}
-use Rattle.dali_standing.specs.Standing.{Standing, stand_of, machines_at, machines_after, machine_on, controller_on, Moves, MayBeSent}
+use Rattle.dali_standing.specs.Standing.{Standing, stand_of, machines_at, machines_after, machine_in, controller_on, Moves, MayBeSent}
 use Rattle.dali_world.proofs.Capacity.{capacity_kept}
 use Rattle.dali_world.proofs.Room.{gear_count, gifts_fit_after}
 use Rattle.dali_frame.specs.declared.frames.Answer.TheVariants.{Silence}
@@ -187,13 +187,13 @@ not_crowded s was old shares room view site free crowded =
     omega arith
 
 pub act_site : (s was : Site) (old new : Standing) (shares shares' : List ℕ) (room number c : ℕ) (i : Input) (o : Order) (r : Received) (log' : List Event) → s ≡ was → IsSite s old shares room
-    → total old.bus < old.bus.capacity → HasRoom was → Moves old (event.Acted c i o) new → MayAnswer (machine_on old c) i o → log' ≡ s.log ++ event.Acted c i o ∷ [] → c < 4
+    → total old.bus < old.bus.capacity → HasRoom was → Moves old (event.Acted c i o) new → MayAnswer (machine_in old.machines c) i o → log' ≡ s.log ++ event.Acted c i o ∷ [] → c < 4
     → number ≡ get_or shares c 0 + 1 → r ≡ record { controller = c; input = i; order = o; number = number }
     → HasActed was c i r (record { plan = s.plan; queue = s.queue; room = s.room; log = log' })
 act_site s was old new shares shares' room number c i o r log' view site quiet free moves answer log_is there number_is r_is =
     rw r_is (record {
       logs = (site_logs s was old new shares room log' (event.Acted c i o) view site free moves log_is, not_crowded s was old shares room view site quiet);
-      ordered = subst (λ (w : Site). MayAnswer (machine_at w c) i o) view (subst (λ (t : Standing). MayAnswer (machine_on t c) i o) site.stands answer);
+      ordered = subst (λ (w : Site). MayAnswer (machine_at w c) i o) view (subst (λ (t : Standing). MayAnswer (machine_in t.machines c) i o) site.stands answer);
       controller = refl;
       input = refl;
       number = step_number s old shares room c number log' (event.Acted c i o) site there number_is log_is (self_same c);
@@ -249,15 +249,15 @@ sendable_of t (inr (inr e)) = rw e tt
 -- ---------------------------------------------------------------- no machine halts with a conflict
 
 pub never_conflicts : (s was : Site) (old : Standing) (shares : List ℕ) (room c : ℕ) (i : Input) → s ≡ was → IsSite s old shares room → c < length was.plan.blocks → IsDue (controller_on old c) i
-    → IsPlacedOn old c → MayAnswer (machine_on old c) i (Halt fault.Conflict) → ⊥
-never_conflicts s was old shares room c i view site there due placed answer = go (machine_on old c) refl answer where
+    → IsPlacedOn old c → MayAnswer (machine_in old.machines c) i (Halt fault.Conflict) → ⊥
+never_conflicts s was old shares room c i view site there due placed answer = go (machine_in old.machines c) refl answer where
   there_s : c < length (world s).controllers
   there_s = subst (λ n. c < n) (sym site.controller_count) (subst (λ (w : Site). c < length w.plan.blocks) (sym view) there)
 
   is : controller_on old c ≡ controller_at (world s) c
   is = ap (λ (t : Standing). controller_on t c) site.stands
 
-  go : (m : Option Progress) → machine_on old c ≡ m → MayAnswer m i (Halt fault.Conflict) → ⊥
+  go : (m : Option Progress) → machine_in old.machines c ≡ m → MayAnswer m i (Halt fault.Conflict) → ⊥
   go None has answer = elim answer [ ]
   go (Some m) has answer =
       let known = subst (λ (k : Controller). IsRunning k m × IsPlacedBy (owns old.bus.owner c) old.trace k (Some m)) is (placed m has) in

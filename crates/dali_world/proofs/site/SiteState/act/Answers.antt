@@ -3,7 +3,7 @@ use Rattle.dali_orders.specs.declared.orders.Order.TheVariants.{Halt}
 use Rattle.dali_orders.specs.declared.orders.Fault.TheVariants as fault
 use Rattle.dali_events.specs.Allowed.{IsDue}
 use Rattle.dali_standing.specs.Places.{MayAnswer}
-use Rattle.dali_standing.specs.Standing.{controller_on, machine_on}
+use Rattle.dali_standing.specs.Standing.{controller_on, machine_in}
 use Rattle.dali_world.specs.Site.{Received}
 use Rattle.dali_events.specs.declared.event.Event.TheVariants as event
 use Rattle.dali_world.proofs.Logs.{step_few, step_goes_on, act_site, never_conflicts, records_now}
@@ -41,7 +41,7 @@ returns-clause-agreed c halts =
     let due : IsDue (controller_on c.self.inside.standing c.args.c) c.args.input = search rules in
     let order : c.act-order.result ≡ Halt fault.Conflict = sym (ap (λ (r : Received). r.order) c.new.ensures) ∙ halts in
     never_conflicts _ _ _ _ _ c.args.c c.args.input c.self.view_is c.self.invariant up.1 due c.act-order.ensures.placed
-    (subst (λ o. MayAnswer (machine_on c.self.inside.standing c.args.c) c.args.input o) order c.act-order.ensures.answer)
+    (subst (λ o. MayAnswer (machine_in c.self.inside.standing.machines c.args.c) c.args.input o) order c.act-order.ensures.answer)
 
 pub returns-clause-fits : goal.returns-clause-fits
 returns-clause-fits c =

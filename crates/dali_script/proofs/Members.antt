@@ -2,6 +2,7 @@ use Rattle.std.proofs.Common.{◌≡◌, ℕ, ◌<◌, ◌⊎◌, inl, inr, Bool
 use Rattle.std.proofs.lemmas.List.{get_or-map, length-map}
 use Rattle.std.proofs.lemmas.Bool.Decides.{nat_tests}
 use Rattle.dali_script.specs.Records.{Has, IsOnce}
+use Rattle.dali_script.proofs.Lists.{has_map}
 
 -- MEMBERS OF A LIST
 pub has_left : {A : Type 0} (xs ys : List A) (x : A) → Has xs x → Has (xs ++ ys) x
@@ -20,11 +21,6 @@ has_either (y ∷ xs) ys x (inr h) = go (has_either xs ys x h) where
   go : Has xs x ⊎ Has ys x → Has (y ∷ xs) x ⊎ Has ys x
   go (inl k) = inl (inr k)
   go (inr k) = inr k
-
-pub has_mapped : {A B : Type 0} (f : A → B) (xs : List A) (x : A) → Has xs x → Has (map f xs) (f x)
-has_mapped f [] x h = elim h [ ]
-has_mapped f (y ∷ xs) x (inl e) = inl (ap f e)
-has_mapped f (y ∷ xs) x (inr h) = inr (has_mapped f xs x h)
 
 pub mapped_from : {A B : Type 0} (f : A → B) (xs : List A) (y : B) → Has (map f xs) y → (x : A) × Has xs x × (f x ≡ y)
 mapped_from f [] y h = elim h [ ]
@@ -47,8 +43,8 @@ once_front (x ∷ xs) ys o = (λ h. o.0 (has_left xs ys x h), once_front xs ys o
 pub same_member : {A : Type 0} (key : A → ℕ) (xs : List A) (x y : A) → IsOnce (map key xs) → Has xs x → Has xs y → key x ≡ key y → x ≡ y
 same_member key [] x y o h k e = elim h [ ]
 same_member key (z ∷ xs) x y o (inl d) (inl f) e = sym d ∙ f
-same_member key (z ∷ xs) x y o (inl d) (inr k) e = absurd (o.0 (subst (λ n. Has (map key xs) n) (sym e ∙ ap key (sym d)) (has_mapped key xs y k)))
-same_member key (z ∷ xs) x y o (inr h) (inl f) e = absurd (o.0 (subst (λ n. Has (map key xs) n) (e ∙ ap key (sym f)) (has_mapped key xs x h)))
+same_member key (z ∷ xs) x y o (inl d) (inr k) e = absurd (o.0 (subst (λ n. Has (map key xs) n) (sym e ∙ ap key (sym d)) (has_map key xs y k)))
+same_member key (z ∷ xs) x y o (inr h) (inl f) e = absurd (o.0 (subst (λ n. Has (map key xs) n) (e ∙ ap key (sym f)) (has_map key xs x h)))
 same_member key (z ∷ xs) x y o (inr h) (inr k) e = same_member key xs x y o.1 h k e
 
 -- where members with one second part have one first part, the second parts stand once
@@ -59,7 +55,7 @@ once_seconds (x ∷ xs) o same = (λ h. go (mapped_from (λ p. p.1) xs x.1 h), o
   go k =
       let there : Has (x ∷ xs) (k.0.0, x.1) = inr (subst (λ n. Has xs (k.0.0, n)) k.2 k.1) in
       let one : x.0 ≡ k.0.0 = same x.0 k.0.0 x.1 (inl refl) there in
-      o.0 (subst (λ n. Has (map (λ p. p.0) xs) n) (sym one) (has_mapped (λ p. p.0) xs k.0 k.1))
+      o.0 (subst (λ n. Has (map (λ p. p.0) xs) n) (sym one) (has_map (λ p. p.0) xs k.0 k.1))
 
 -- EACH ELEMENT OF A LIST, BY ITS INDEX
 abbrev pub Each : {A : Type 0} → A → (ℕ → A → Type 0) → List A → Type 0
