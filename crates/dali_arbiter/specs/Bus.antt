@@ -2,8 +2,8 @@ use Rattle.std.specs.Prelude.{ℕ, ◌+◌, Bool, true, false, not, List, [], �
 use Rattle.std.specs.Option.{option_map}
 use Rattle.dali_frame.specs.declared.frames.Forward.{Forward}
 use Rattle.dali_arbiter.specs.declared.request.Request.{Request}
-use Rattle.dali_arbiter.specs.declared.refusals.OfferError.{OfferError}
-use Rattle.dali_arbiter.specs.declared.refusals.OfferError.TheVariants.{QueueFull, NotOwner}
+use Rattle.dali_arbiter.specs.declared.error.OfferError.{OfferError}
+use Rattle.dali_arbiter.specs.declared.error.OfferError.TheVariants.{QueueFull, NotOwner}
 
 -- A bus that several controllers share, as this project's profile has it: the requests that wait, in five lists,
 -- those of priority 1 first and each list oldest first; who owns the bus; and how many requests may wait.

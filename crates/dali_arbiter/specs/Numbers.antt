@@ -1,8 +1,8 @@
 use Rattle.std.specs.Prelude.{ℕ}
-use Rattle.dali_arbiter.specs.declared.refusals.NewError.{NewError}
-use Rattle.dali_arbiter.specs.declared.refusals.NewError.TheVariants as new_error
-use Rattle.dali_arbiter.specs.declared.refusals.OfferError.{OfferError}
-use Rattle.dali_arbiter.specs.declared.refusals.OfferError.TheVariants as offer_error
+use Rattle.dali_arbiter.specs.declared.error.NewError.{NewError}
+use Rattle.dali_arbiter.specs.declared.error.NewError.TheVariants as new_error
+use Rattle.dali_arbiter.specs.declared.error.OfferError.{OfferError}
+use Rattle.dali_arbiter.specs.declared.error.OfferError.TheVariants as offer_error
 
 abbrev pub number_of_new : NewError → ℕ
 number_of_new new_error.NoMemory = 1

@@ -1,10 +1,10 @@
 ghost use Rattle.std.specs.Prelude.{◌≡◌, ℕ, ◌<◌, ◌≤◌, ◌↔◌, ◌⊎◌, List, [], length, Some, None, IsSome, IfSome, IfOk, IfErr, OnErr, IsErrOf, IsTrue};
 ghost use Rattle.std.specs.List.{AllByRecursion};
 ghost use Rattle.dali_arbiter.specs.declared.request.Request.{Request};
-ghost use Rattle.dali_arbiter.specs.declared.refusals.NewError.TheVariants.{BadCapacity};
+ghost use Rattle.dali_arbiter.specs.declared.error.NewError.TheVariants.{BadCapacity};
 ghost use Rattle.dali_arbiter.specs.Bus.{Bus, idle, total, next, request_of, offer_refusal, offered, sent, destroyed, collision, collided, lapsed, silenced, first_list, taken, freed, is_barred};
 
-use crate::refusals::{NewError, OfferError};
+use crate::error::{NewError, OfferError};
 use crate::request::Request;
 use crate::waiting;
 use dali_frame::{Forward, Priority};

@@ -8,11 +8,11 @@
 #![tactic(auto)]
 
 mod arbiter;
+mod error;
 pub mod laws;
-mod refusals;
 mod request;
 mod waiting;
 
 pub use arbiter::Arbiter;
-pub use refusals::{NewError, OfferError};
+pub use error::{NewError, OfferError};
 pub use request::Request;

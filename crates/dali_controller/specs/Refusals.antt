@@ -4,8 +4,8 @@ use Rattle.dali_controller.specs.declared.error.StepError.TheVariants.{NotDue}
 use Rattle.dali_controller.specs.declared.error.MachineError.{MachineError}
 use Rattle.dali_controller.specs.declared.error.MachineError.TheVariants.{NoMemory}
 
-abbrev pub step_number_of : StepError → ℕ
-step_number_of NotDue = 1
+abbrev pub number_of_step : StepError → ℕ
+number_of_step NotDue = 1
 
-abbrev pub machine_number_of : MachineError → ℕ
-machine_number_of NoMemory = 2
+abbrev pub number_of_machine : MachineError → ℕ
+number_of_machine NoMemory = 2

@@ -1,5 +1,5 @@
 ghost use Rattle.std.specs.Prelude.{◌≡◌};
-ghost use Rattle.dali_controller.specs.Refusals.{step_number_of, machine_number_of};
+ghost use Rattle.dali_controller.specs.Refusals.{number_of_step, number_of_machine};
 
 use thiserror::Error;
 
@@ -14,7 +14,7 @@ pub enum StepError {
 impl StepError {
     /// The refusal's number.
     pub fn number(self) -> u8
-        ensures { result ≡ step_number_of self }
+        ensures { result ≡ number_of_step self }
     {
         match self {
             StepError::NotDue => 1,
@@ -33,7 +33,7 @@ pub enum MachineError {
 impl MachineError {
     /// The refusal's number.
     pub fn number(self) -> u8
-        ensures { result ≡ machine_number_of self }
+        ensures { result ≡ number_of_machine self }
     {
         match self {
             MachineError::NoMemory => 2,

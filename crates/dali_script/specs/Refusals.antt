@@ -4,9 +4,9 @@ use Rattle.dali_script.specs.declared.records.MakeError.TheVariants.{NoMemory}
 use Rattle.dali_script.specs.declared.records.AddError.{AddError}
 use Rattle.dali_script.specs.declared.records.AddError.TheVariants.{AddressTaken, RandomTaken}
 
-abbrev pub make_number_of : MakeError → ℕ
-make_number_of NoMemory = 1
+abbrev pub number_of_make : MakeError → ℕ
+number_of_make NoMemory = 1
 
-abbrev pub add_number_of : AddError → ℕ
-add_number_of AddressTaken = 3
-add_number_of RandomTaken = 4
+abbrev pub number_of_add : AddError → ℕ
+number_of_add AddressTaken = 3
+number_of_add RandomTaken = 4

@@ -1,6 +1,6 @@
 ghost use Rattle.std.specs.Prelude.{◌≡◌};
 ghost use Rattle.dali_script.specs.Records.{address_of, random_of};
-ghost use Rattle.dali_script.specs.Refusals.{make_number_of, add_number_of};
+ghost use Rattle.dali_script.specs.Refusals.{number_of_make, number_of_add};
 
 use dali_frame::{Random24, Short};
 use thiserror::Error;
@@ -45,7 +45,7 @@ pub enum MakeError {
 impl MakeError {
     /// The refusal's number.
     pub fn number(self) -> u8
-        ensures { result ≡ make_number_of self }
+        ensures { result ≡ number_of_make self }
     {
         match self {
             MakeError::NoMemory => 1,
@@ -67,7 +67,7 @@ pub enum AddError {
 impl AddError {
     /// The refusal's number.
     pub fn number(self) -> u8
-        ensures { result ≡ add_number_of self }
+        ensures { result ≡ number_of_add self }
     {
         match self {
             AddError::AddressTaken => 3,

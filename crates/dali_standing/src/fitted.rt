@@ -49,12 +49,8 @@ impl FittedGear {
         ensures err { IfErr result (λ e. e ≡ refusal.NoMemory) }
     {
         let gear = from_factory(alloc, plan.gear())?;
-        let Ok(draws) = Vec::from_slice(alloc, plan.draws()) else {
-            return Err(Refusal::NoMemory);
-        };
-        let Ok(gifts) = Vec::with_capacity(alloc, gear.len()) else {
-            return Err(Refusal::NoMemory);
-        };
+        let draws = Vec::from_slice(alloc, plan.draws())?;
+        let gifts = Vec::with_capacity(alloc, gear.len())?;
         Ok(FittedGear {
             gear,
             draws,
@@ -133,9 +129,7 @@ fn from_factory(alloc: Global, count: u32) -> Result<Vec<Gear>, Refusal>
     ensures len { IfOk result (λ gear. length gear.items ≡ count) }
     ensures err { IfErr result (λ e. e ≡ refusal.NoMemory) }
 {
-    let Ok(mut gear) = Vec::with_capacity(alloc, count as usize) else {
-        return Err(Refusal::NoMemory);
-    };
+    let mut gear = Vec::with_capacity(alloc, count as usize)?;
     for _i in 0..count {
         gear.push_reserved(Gear::new());
     }

@@ -1,6 +1,7 @@
 ghost use Rattle.std.specs.Prelude.{◌≡◌, Some};
 ghost use Rattle.dali_standing.specs.Refusals.{number_of, name_of};
 
+use std::alloc::AllocError;
 use std::error::Error;
 use std::fmt;
 
@@ -81,3 +82,13 @@ impl fmt::Display for Refusal {
 }
 
 impl Error for Refusal {}
+
+impl From<AllocError> for Refusal {
+    ghost use Rattle.dali_standing.specs.declared.refusal.Refusal.TheVariants.{NoMemory};
+
+    ghost from_gives = { λ _ e. e ≡ NoMemory };
+
+    fn from(_error: AllocError) -> Refusal {
+        Refusal::NoMemory
+    }
+}

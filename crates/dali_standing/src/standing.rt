@@ -350,9 +350,7 @@ fn seats(alloc: Global, blocks: &[Block]) -> Result<Vec<Seat>, Refusal>
     ensures ok { IfOk result (λ seats. seats.items ≡ seats_from 0 blocks.now) }
     ensures err { IfErr result (λ e. e ≡ refusal.NoMemory) }
 {
-    let Ok(mut seats) = Vec::with_capacity(alloc, blocks.len()) else {
-        return Err(Refusal::NoMemory);
-    };
+    let mut seats = Vec::with_capacity(alloc, blocks.len())?;
     for (c, block) in blocks.iter().enumerate() {
         let seat = Seat::new(alloc, c as u8, *block)?;
         seats.push_reserved(seat);

@@ -78,9 +78,7 @@ impl SiteState {
         ensures refused { IfErr result (λ e. e ≡ refusal.NoMemory) }
     {
         let standing = Standing::new(alloc, &plan, queue_capacity)?;
-        let Ok(log) = Vec::with_capacity(alloc, log_capacity) else {
-            return Err(Refusal::NoMemory);
-        };
+        let log = Vec::with_capacity(alloc, log_capacity)?;
         Ok(SiteState {
             plan,
             queue: queue_capacity,

@@ -1,5 +1,5 @@
 ghost use Rattle.std.specs.Prelude.{◌≡◌};
-ghost use Rattle.dali_arbiter.specs.declared.refusals.NewError.TheVariants as new_error;
+ghost use Rattle.dali_arbiter.specs.declared.error.NewError.TheVariants as new_error;
 ghost use Rattle.dali_arbiter.specs.Numbers.{number_of_new, number_of_offer};
 
 use std::alloc::AllocError;
