@@ -56,8 +56,7 @@ going {k} {n} {p} {s} {c} follows spelled addressing unclosed arrives =
 goes_first : (k : Records) (n : SearchAddress) (p : Purpose) → Goes k n p Free (first_of p n)
 goes_first k n Opening = going (turn refl refl) tt (λ g x. cc) (λ later. refl) (λ h. inl refl)
 goes_first k n (Closing e) = going (turn refl refl) tt (λ g x. cc) (λ later. absurd (later refl)) (λ h. inr (e, refl))
-goes_first k n Probing = going (turn refl refl) tt (λ g x. cc) (λ later. refl) (λ h. (SearchMiddle n.middle, (tt, refl, refl)))
-goes_first k n Visiting = going (turn refl refl) tt (λ g x. cc) (λ later. refl) (λ h. (SearchMiddle n.middle, (tt, refl, refl)))
+goes_first k n _ = going (turn refl refl) tt (λ g x. cc) (λ later. refl) (λ h. (SearchMiddle n.middle, (tt, refl, refl)))
 
 arrives_queried : (k : Records) (n r : SearchAddress) (h : Answer) → r ≡ n → Arrived k n Visiting (queried r h)
 arrives_queried k n r Silence is = (refl, is)
@@ -82,14 +81,12 @@ arrives_verified k n r a (Byte v) is may = go (short_of v) where
 goes_asks : (k : Records) (n r : SearchAddress) (p : Purpose) → IsSearching p → r ≡ n → Goes k n p (NumberSent r) (asks p)
 goes_asks k n r Probing searching is = going (turn refl refl) tt (λ g x. cc) (λ later. refl) (λ h. (refl, is))
 goes_asks k n r Visiting searching is = going (turn refl refl) tt (λ g x. cc) (λ later. refl) (λ h. arrives_queried k n r h is)
-goes_asks k n r Opening searching is = absurd searching
-goes_asks k n r (Closing e) searching is = absurd searching
+goes_asks k n r _ searching is = absurd searching
 
 open_of : (p : Purpose) → IsSearching p → closing_of p ≡ None
 open_of Probing e = refl
 open_of Visiting e = refl
-open_of Opening e = absurd e
-open_of (Closing end) e = absurd e
+open_of _ e = absurd e
 
 whole : (n : SearchAddress) (high middle : ℕ) → n.high ≡ high → n.middle ≡ middle → record { high = high; middle = middle; low = n.low } ≡ n
 whole n high middle one two = rw (← one, ← two) refl
@@ -143,10 +140,8 @@ sends_knows k n p Opened c x o e knows = absurd e
 sends_knows k n p _ c x o e knows = knows
 
 calm_less : (p : Purpose) (i : ℕ) → closing_of p ≡ None → IsCalm p i → i < 16
-calm_less Opening i e calm = calm
-calm_less Probing i e calm = calm
-calm_less Visiting i e calm = calm
 calm_less (Closing end) i e calm = absurd (cc)
+calm_less _ i e calm = calm
 
 -- A FRAME THAT IS OUTSTANDING
 pub sending : (w : Work) (l : Option Order) (f : Forward) → frame_put l ≡ Some f → Pending w l → IsSending w f
@@ -222,35 +217,28 @@ put_next w s c p f h e later first is =
 -- TO BEGIN
 closes : (w : Work) (p : Purpose) (n : SearchAddress) → Begins w p n → closing_by (seen w) (Put FIRST (frame_of (first_of p n))) ≡ closing_of p
 closes w Opening n b = rw b.knows b.turns
-closes w Probing n b = b.turns
-closes w Visiting n b = b.turns
 closes w (Closing e) n b = rw b.knows (go b.turns.cause) where
   go : (closing_of w.purpose ≡ Some e) ⊎ ((closing_of w.purpose ≡ None) × (end_at (stage_of w.trace) ≡ e) × Cause (seen w) e)
       → Some (unwrap_or (closing_of w.purpose) (end_at (stage_of w.trace))) ≡ Some e
   go (inl is) = rw is refl
   go (inr is) = rw (is.0, is.1) refl
+closes w _ n b = b.turns
 
 begun : (w : Work) (p : Purpose) → Turns w p → IsBegun (seen w) (closing_of p)
-begun w Opening t = t
-begun w Probing t = t
-begun w Visiting t = t
 begun w (Closing e) t = go t.cause where
   go : (closing_of w.purpose ≡ Some e) ⊎ ((closing_of w.purpose ≡ None) × (end_at (stage_of w.trace) ≡ e) × Cause (seen w) e)
       → (closing_of w.purpose ≡ Some e) ⊎ ((closing_of w.purpose ≡ None) × Cause (seen w) e)
   go (inl is) = inl is
   go (inr is) = inr (is.0, is.2)
+begun w _ t = t
 
 terminates : (p : Purpose) (n : SearchAddress) → (closing_of p ≡ None) ⊎ ((FIRST ≡ FIRST) × (frame_of (first_of p n) ≡ frame_of Terminate))
-terminates Opening n = inl refl
-terminates Probing n = inl refl
-terminates Visiting n = inl refl
 terminates (Closing e) n = inr (refl, refl)
+terminates _ n = inl refl
 
 silent_closes : (p : Purpose) (i : ℕ) → IsCalm p i → i ≡ 16 → closing_of p ≡ Some GaveUp
-silent_closes Opening i calm is = absurd (omega arith)
-silent_closes Probing i calm is = absurd (omega arith)
-silent_closes Visiting i calm is = absurd (omega arith)
 silent_closes (Closing e) i calm is = ap (λ x. Some x) (calm.1 is)
+silent_closes _ i calm is = absurd (omega arith)
 
 first_read : (k : Records) (p : Purpose) (n : SearchAddress) → command_of (frame_of (first_of p n)) ≡ first_of p n
 first_read k p n = read_written (first_of p n) (goes_first k n p).spelled
@@ -326,10 +314,8 @@ commit_fine w x t table ready visiting fits fresh empty = record {
 
 -- TO HEAR
 calm_small : (p : Purpose) (i : ℕ) → IsCalm p i → i ≤ 16
-calm_small Opening i calm = omega arith
-calm_small Probing i calm = omega arith
-calm_small Visiting i calm = omega arith
 calm_small (Closing e) i calm = calm.0
+calm_small _ i calm = omega arith
 
 pub sending_small : (w : Work) (f : Forward) → IsSending w f → w.silent < 255
 sending_small w f e = let small : w.silent ≤ 16 = calm_small w.purpose w.silent e.ready.calm in omega arith
@@ -421,10 +407,8 @@ closing w e n b = record {
 
 -- LOST
 turns_same : (w : Work) (p : Purpose) → w.purpose ≡ p → Knows w.kept w.number w.search w.opened p → Turns w p
-turns_same w Opening is knows = ap closing_of is
-turns_same w Probing is knows = ap closing_of is
-turns_same w Visiting is knows = ap closing_of is
 turns_same w (Closing e) is knows = record { opened = knows; cause = inl (ap closing_of is) }
+turns_same w _ is knows = ap closing_of is
 
 pub lost_begins : (w : Work) (f : Forward) (t : List Entry) → IsFine w → frame_put w.last ≡ Some f → t ≡ [] → (w.tries + 1 ≡ 8 → ⊥) → Begins (record w { trace = t; tries = w.tries + 1 }) w.purpose w.number
 lost_begins w f t fine put empty more =
