@@ -8,7 +8,7 @@ use Rattle.dali_frame.specs.Short.{short_of}
 use Rattle.dali_frame.specs.Random.{value_of}
 use Rattle.dali_special.specs.declared.command.Target.TheVariants.{Unaddressed}
 use Rattle.dali_special.specs.declared.command.Command.{Command}
-use Rattle.dali_special.specs.declared.command.Command.TheVariants.{Terminate, Initialise, Randomise, Withdraw, SearchMiddle, SearchLow, Program, QueryShort, Arc}
+use Rattle.dali_special.specs.declared.command.Command.TheVariants.{Terminate, Initialise, Randomise, Compare, Withdraw, SearchMiddle, SearchLow, Program, QueryShort, Arc}
 use Rattle.dali_special.specs.Command.{MASK, command_of, frame_of, IsSpelled}
 use Rattle.dali_special.proofs.Table.{read_written}
 use Rattle.dali_script.specs.declared.block.Block.{Block}
@@ -16,7 +16,7 @@ use Rattle.dali_script.specs.declared.trace.Entry.{Entry}
 use Rattle.dali_script.specs.declared.records.Record.{Record}
 use Rattle.dali_script.specs.declared.records.Record.TheVariants.{Reserve, Enrol}
 use Rattle.dali_script.specs.declared.stage.Stage.{Stage}
-use Rattle.dali_script.specs.declared.stage.Stage.TheVariants.{Free, Terminated, InitialisedOnce, Initialised, RandomisedOnce, Opened, HighSent, MiddleSent, NumberSent, Found, Unnamed, Inconclusive, Programmed, Confirmed, Withdrawn}
+use Rattle.dali_script.specs.declared.stage.Stage.TheVariants.{Free, Terminated, InitialisedOnce, Initialised, RandomisedOnce, Opened, HighSent, MiddleSent, NumberSent, Probed, Found, Unnamed, Inconclusive, Programmed, Confirmed, Withdrawn}
 use Rattle.dali_script.specs.Records.{IsKept, IsOnce, with_record, HasAddress, Records, Assignment, Has, HasNumber, Fits, IsFresh, MASK24}
 use Rattle.dali_script.specs.Scripts.{MayGive, Lawful}
 use Rattle.dali_script.specs.Findings.{later, finding_of}
@@ -37,7 +37,7 @@ use Rattle.dali_controller.specs.declared.work.Work.{Work}
 use Rattle.dali_orders.specs.Due.{frame_put}
 use Rattle.dali_controller.specs.Progress.{lost, Progress, roster_of, opened_after, silent_after, tries_after}
 use Rattle.dali_controller.specs.Orders.{Contradicts, FIRST, LATER, closing_by, Cause, IsBegun, AfterMask, IsOrdered, ordered, end_at}
-use Rattle.dali_controller.specs.Moments.{FoundAt, IsBetween, Closes, closing_of, seen, first_of, asks, IsSearching, Sends, Arrived, Knows, KnowsAt, IsCalm, CalmAt, IsReady, IsSending, Pending, IsFine, IsHeard, Turns, Begins, IsNext}
+use Rattle.dali_controller.specs.Moments.{FoundAt, IsBetween, Closes, closing_of, seen, first_of, turn_of, Sends, Arrived, Knows, KnowsAt, IsCalm, CalmAt, IsReady, IsSending, Pending, IsFine, IsHeard, Turns, Begins, IsNext}
 
 -- THE COMMANDS OF A TRANSACTION. A command that is sent at a stage may follow there and is read from its frame; it is no
 -- direct arc power; past the first one no close runs; and what is known where it leads to.
@@ -56,14 +56,14 @@ going {k} {n} {p} {s} {c} follows spelled addressing unclosed arrives =
 goes_first : (k : Records) (n : SearchAddress) (p : Purpose) → Goes k n p Free (first_of p n)
 goes_first k n Opening = going (turn refl refl) tt (λ g x. cc) (λ later. refl) (λ h. inl refl)
 goes_first k n (Closing e) = going (turn refl refl) tt (λ g x. cc) (λ later. absurd (later refl)) (λ h. inr (e, refl))
-goes_first k n _ = going (turn refl refl) tt (λ g x. cc) (λ later. refl) (λ h. (SearchMiddle n.middle, (tt, refl, refl)))
+goes_first k n _ = going (turn refl refl) tt (λ g x. cc) (λ later. refl) (λ h. (SearchMiddle n.middle, (refl, refl, tt)))
 
 arrives_queried : (k : Records) (n r : SearchAddress) (h : Answer) → r ≡ n → Arrived k n Visiting (queried r h)
 arrives_queried k n r Silence is = (refl, is)
 arrives_queried k n r Damaged is = (refl, is)
 arrives_queried k n r (Byte v) is = go (short_of v) (v == MASK) where
   go : (o : Option ℕ) (m : Bool) → Arrived k n Visiting (named r o m)
-  go (Some b) m = (Withdraw, (refl, is, refl))
+  go (Some b) m = (Withdraw, (refl, sym is, tt))
   go None true = (refl, is)
   go None false = (refl, is)
 
@@ -75,38 +75,35 @@ arrives_verified k n r a (Byte v) is may = go (short_of v) where
   go None = (refl, is)
   go (Some b) = same (b == a) where
     same : (m : Bool) → Arrived k n Visiting (if m then Confirmed r a else Inconclusive r (Some b))
-    same true = (Withdraw, (refl, is, may, refl))
+    same true = (Withdraw, (refl, sym is, may))
     same false = (refl, is)
 
-goes_asks : (k : Records) (n r : SearchAddress) (p : Purpose) → IsSearching p → r ≡ n → Goes k n p (NumberSent r) (asks p)
-goes_asks k n r Probing searching is = going (turn refl refl) tt (λ g x. cc) (λ later. refl) (λ h. (refl, is))
-goes_asks k n r Visiting searching is = going (turn refl refl) tt (λ g x. cc) (λ later. refl) (λ h. arrives_queried k n r h is)
-goes_asks k n r _ searching is = absurd searching
-
-open_of : (p : Purpose) → IsSearching p → closing_of p ≡ None
-open_of Probing e = refl
-open_of Visiting e = refl
-open_of _ e = absurd e
-
-whole : (n : SearchAddress) (high middle : ℕ) → n.high ≡ high → n.middle ≡ middle → record { high = high; middle = middle; low = n.low } ≡ n
+whole : (n : SearchAddress) (high middle : ℕ) → n.high ≡ high → n.middle ≡ middle → n ≡ record { high = high; middle = middle; low = n.low }
 whole n high middle one two = rw (← one, ← two) refl
 
+some_is : (x c : Command) → Some x ≡ Some c → c ≡ x
+some_is x c e = cc
+
 goes : (k : Records) (n : SearchAddress) (p : Purpose) (s : Stage) (c : Command) → Sends k n p s c → Goes k n p s c
+goes k n Opening Terminated c e = rw (some_is _ c e.0) (going (turn refl refl) tt (λ g x. cc) (λ later. refl) (λ h. (Initialise Unaddressed, (refl, tt, tt))))
+goes k n Opening InitialisedOnce c e = rw (some_is _ c e.0) (going (turn refl refl) tt (λ g x. cc) (λ later. refl) (λ h. (Randomise, (refl, tt, tt))))
+goes k n Opening Initialised c e = rw (some_is _ c e.0) (going (turn refl refl) tt (λ g x. cc) (λ later. refl) (λ h. (Randomise, (refl, tt, tt))))
+goes k n Opening RandomisedOnce c e = rw (some_is _ c e.0) (going (turn refl refl) tt (λ g x. cc) (λ later. refl) (λ h. refl))
+goes k n Probing (HighSent high) c e = rw (some_is _ c e.0) (going (turn refl refl) tt (λ g x. cc) (λ later. refl) (λ h. (SearchLow n.low, (refl, (e.1, refl), tt))))
+goes k n Visiting (HighSent high) c e = rw (some_is _ c e.0) (going (turn refl refl) tt (λ g x. cc) (λ later. refl) (λ h. (SearchLow n.low, (refl, (e.1, refl), tt))))
+goes k n Probing (MiddleSent high middle) c e = rw (some_is _ c e.0) (going (turn refl refl) tt (λ g x. cc) (λ later. refl) (λ h. (Compare, (refl, whole n high middle e.1.0 e.1.1, tt))))
+goes k n Visiting (MiddleSent high middle) c e = rw (some_is _ c e.0) (going (turn refl refl) tt (λ g x. cc) (λ later. refl) (λ h. (QueryShort, (refl, whole n high middle e.1.0 e.1.1, tt))))
+goes k n Probing (NumberSent r) c e = rw (some_is _ c e.0) (going (turn refl refl) tt (λ g x. cc) (λ later. refl) (λ h. (refl, sym e.1)))
+goes k n Visiting (NumberSent r) c e = rw (some_is _ c e.0) (going (turn refl refl) tt (λ g x. cc) (λ later. refl) (λ h. arrives_queried k n r h (sym e.1)))
+goes k n Visiting (Found r b) c e = rw (some_is _ c e.0) (going (turn refl refl) tt (λ g x. cc) (λ later. refl) (λ h. (refl, sym e.1)))
 goes k n p Free c e = rw e (goes_first k n p)
-goes k n p Terminated c e = rw e.1 (going (turn refl refl) tt (λ g x. cc) (λ later. ap closing_of e.0) (λ h. (Initialise Unaddressed, (e.0, refl))))
-goes k n p InitialisedOnce c e = rw e.1 (going (turn refl refl) tt (λ g x. cc) (λ later. ap closing_of e.0) (λ h. (Randomise, (e.0, refl))))
-goes k n p Initialised c e = rw e.1 (going (turn refl refl) tt (λ g x. cc) (λ later. ap closing_of e.0) (λ h. (Randomise, (e.0, refl))))
-goes k n p RandomisedOnce c e = rw e.1 (going (turn refl refl) tt (λ g x. cc) (λ later. ap closing_of e.0) (λ h. e.0))
-goes k n p (HighSent high) c e = rw e.2 (going (turn refl refl) tt (λ g x. cc) (λ later. open_of p e.0) (λ h. (SearchLow n.low, (e.0, e.1, refl, refl))))
-goes k n p (MiddleSent high middle) c e =
-    rw e.3 (going (turn refl refl) tt (λ g x. cc) (λ later. open_of p e.0) (λ h. (asks p, (e.0, whole n high middle e.1 e.2, refl))))
-goes k n p (NumberSent r) c e = rw e.2 (goes_asks k n r p e.0 e.1)
-goes k n p (Found r b) c e = rw e.2 (going (turn refl refl) tt (λ g x. cc) (λ later. ap closing_of e.0) (λ h. (e.0, e.1)))
-goes k n p (Unnamed r) c e = rw e.2.3 (going (gives refl e.2.2) e.2.1 (λ g x. cc) (λ later. ap closing_of e.0) (λ h. (QueryShort, (e.0, e.1, e.2.2, refl))))
-goes k n p (Programmed r a) c e =
-    rw (e.3, e.0) (going (gives refl e.2) tt (λ g x. cc) (λ later. refl) (λ h. arrives_verified k n r a h e.1 e.2))
-goes k n p (Confirmed r a) c e = rw e.3 (going (gives refl e.2) tt (λ g x. cc) (λ later. ap closing_of e.0) (λ h. (e.0, e.1)))
-goes k n p _ c e = absurd e
+goes k n Visiting (Unnamed r) c e = rw e.2.3 (going (gives refl e.2.2) e.2.1 (λ g x. cc) (λ later. refl) (λ h. (QueryShort, (refl, sym e.1, e.2.2))))
+goes k n Visiting (Programmed r a) c e = rw (some_is _ c e.0) (going (gives refl e.2) tt (λ g x. cc) (λ later. refl) (λ h. arrives_verified k n r a h (sym e.1) e.2))
+goes k n Visiting (Confirmed r a) c e = rw (some_is _ c e.0) (going (gives refl e.2) tt (λ g x. cc) (λ later. refl) (λ h. (refl, sym e.1)))
+goes k n _ _ c e = absurd (let none = e.0 in cc)
+
+not_withdrawn : (k : Records) (n : SearchAddress) (p : Purpose) (r : SearchAddress) (b : ℕ) (c : Command) → Sends k n p (Withdrawn r b) c → ⊥
+not_withdrawn k n p r b c e = let on = (goes k n p (Withdrawn r b) c e).follows.leads_on in cc
 
 -- what is known there
 pub knows_at : (k : Records) (n : SearchAddress) (s : Searched) (o : Bool) (p : Purpose) (there : Stage) → Knows k n s o p → KnowsAt there k n s (opened_after there o) p
@@ -132,11 +129,11 @@ tries_less false n h = h
 
 -- and at the next command again
 pub sends_calm : (k : Records) (n : SearchAddress) (p : Purpose) (s : Stage) (c : Command) (o : Bool) (i : ℕ) → Sends k n p s c → CalmAt s p o i → IsCalm p i
-sends_calm k n p (Inconclusive r other) c o i e calm = absurd e
+sends_calm k n p (Inconclusive r other) c o i e calm = absurd (let on = (goes k n p (Inconclusive r other) c e).follows.leads_on in cc)
 sends_calm k n p _ c o i e calm = calm
 
 pub sends_knows : (k : Records) (n : SearchAddress) (p : Purpose) (s : Stage) (c : Command) (x : Searched) (o : Bool) → Sends k n p s c → KnowsAt s k n x o p → Knows k n x o p
-sends_knows k n p Opened c x o e knows = absurd e
+sends_knows k n p Opened c x o e knows = absurd (let on = (goes k n p Opened c e).follows.leads_on in cc)
 sends_knows k n p _ c x o e knows = knows
 
 calm_less : (p : Purpose) (i : ℕ) → closing_of p ≡ None → IsCalm p i → i < 16
@@ -203,7 +200,7 @@ put_next_at w s c h e later =
         given_up = λ n. absurd (omega arith);
         silent = λ n. absurd (omega arith);
         unnamed = λ r is. put_masked w s c r e (sym h.stage ∙ is);
-        found = λ r b is. absurd (subst (λ x. Sends w.kept w.number w.purpose x c) (sym h.stage ∙ is) e);
+        found = λ r b is. absurd (not_withdrawn w.kept w.number w.purpose r b c (subst (λ x. Sends w.kept w.number w.purpose x c) (sym h.stage ∙ is) e));
       };
       state = refl;
     }
