@@ -6,11 +6,11 @@ ghost use Rattle.dali_controller.specs.Orders.{IsAnswered, after};
 
 use crate::entries::table_of;
 use crate::error::{MachineError, StepError};
-use dali_orders::{Due, Input, Order};
 use crate::purpose::Purpose;
 use crate::work::Work;
 use dali_enrol::Table;
 use dali_frame::SearchAddress;
+use dali_orders::{Due, Input, Order};
 use dali_script::{Block, Kept, Trace};
 use dali_search::Search;
 use std::alloc::Global;

@@ -11,11 +11,11 @@ ghost use Rattle.dali_orders.specs.Due.{frame_put, record_ordered};
 ghost use Rattle.dali_controller.specs.Progress.{lost, roster_of};
 
 use crate::entries::enter;
-use dali_orders::{End, Fault, Order};
 use crate::purpose::Purpose;
 use crate::unfinished::next_unfinished;
 use crate::work::Work;
 use dali_frame::{Answer, Forward, Random24, SearchAddress, Short};
+use dali_orders::{End, Fault, Order};
 use dali_script::{Record, Stage, Trace};
 use dali_search::{Search, Step};
 use dali_special::Command;

@@ -1,8 +1,8 @@
 ghost use Rattle.std.specs.Prelude.{◌≡◌};
 ghost use Rattle.dali_controller.specs.Moments.{search_turn};
 
-use dali_orders::End;
 use dali_frame::SearchAddress;
+use dali_orders::End;
 use dali_script::Stage;
 use dali_special::{Command, Target};
 

@@ -10,10 +10,10 @@ ghost use Rattle.dali_orders.specs.Due.{frame_put};
 ghost use Rattle.dali_controller.specs.Progress.{told, is_complete, tries_after, silent_after, opened_after, roster_of};
 ghost use Rattle.dali_controller.specs.Orders.{ordered, FIRST, LATER};
 
-use dali_orders::{End, Fault, Order};
 use crate::purpose::Purpose;
 use dali_enrol::Table;
 use dali_frame::{Answer, Forward, Priority, Random24, SearchAddress, Short};
+use dali_orders::{End, Fault, Order};
 use dali_script::{Kept, Record, Stage, Trace};
 use dali_search::Search;
 use dali_special::Command;
