@@ -9,7 +9,7 @@ use Rattle.dali_frame.specs.Random.{value_of, MASK24}
 use Rattle.dali_frame.specs.Priority.{FIRST, LATER}
 use Rattle.dali_special.specs.declared.command.Target.TheVariants.{Unaddressed}
 use Rattle.dali_special.specs.declared.command.Command.{Command}
-use Rattle.dali_special.specs.declared.command.Command.TheVariants.{Terminate, Initialise, Randomise, Withdraw, SearchMiddle, SearchLow, Program, QueryShort, Arc}
+use Rattle.dali_special.specs.declared.command.Command.TheVariants.{Terminate, Initialise, Randomise, Compare, Withdraw, SearchMiddle, SearchLow, Program, QueryShort, Arc}
 use Rattle.dali_special.specs.Command.{MASK, command_of, frame_of, IsSpelled}
 use Rattle.dali_special.proofs.Table.{read_written}
 use Rattle.dali_script.specs.declared.block.Block.{Block}
@@ -38,7 +38,7 @@ use Rattle.dali_controller.specs.declared.work.Work.{Work}
 use Rattle.dali_orders.specs.Due.{frame_put}
 use Rattle.dali_controller.specs.Progress.{lost, Progress, roster_of, opened_after, silent_after, tries_after}
 use Rattle.dali_controller.specs.Orders.{Contradicts, closing_by, Cause, IsBegun, AfterMask, IsOrdered, ordered, end_at}
-use Rattle.dali_controller.specs.Moments.{FoundAt, IsBetween, Closes, closing_of, seen, first_of, asks, IsSearching, Sends, Arrived, Knows, KnowsAt, IsCalm, CalmAt, IsReady, IsSending, Pending, IsFine, IsHeard, Turns, Begins, IsNext}
+use Rattle.dali_controller.specs.Moments.{FoundAt, IsBetween, Closes, closing_of, seen, first_of, Sends, Arrived, Knows, KnowsAt, IsCalm, CalmAt, IsReady, IsSending, Pending, IsFine, IsHeard, Turns, Begins, IsNext}
 
 -- THE COMMANDS OF A TRANSACTION. A command that is sent at a stage may follow there and is read from its frame; it is no
 -- direct arc power; past the first one no close runs; and what is known where it leads to.
@@ -57,15 +57,14 @@ going {k} {n} {p} {s} {c} follows spelled addressing unclosed arrives =
 goes_first : (k : Records) (n : SearchAddress) (p : Purpose) → Goes k n p Free (first_of p n)
 goes_first k n Opening = going (turn refl refl) tt (λ g x. cc) (λ later. refl) (λ h. inl refl)
 goes_first k n (Closing e) = going (turn refl refl) tt (λ g x. cc) (λ later. absurd (later refl)) (λ h. inr (e, refl))
-goes_first k n Probing = going (turn refl refl) tt (λ g x. cc) (λ later. refl) (λ h. (SearchMiddle n.middle, (tt, refl, refl)))
-goes_first k n Visiting = going (turn refl refl) tt (λ g x. cc) (λ later. refl) (λ h. (SearchMiddle n.middle, (tt, refl, refl)))
+goes_first k n _ = going (turn refl refl) tt (λ g x. cc) (λ later. refl) (λ h. (SearchMiddle n.middle, (refl, refl, tt)))
 
 arrives_queried : (k : Records) (n r : SearchAddress) (h : Answer) → r ≡ n → Arrived k n Visiting (queried r h)
 arrives_queried k n r Silence is = (refl, is)
 arrives_queried k n r Damaged is = (refl, is)
 arrives_queried k n r (Byte v) is = go (short_of v) (v == MASK) where
   go : (o : Option ℕ) (m : Bool) → Arrived k n Visiting (named r o m)
-  go (Some b) m = (Withdraw, (refl, is, refl))
+  go (Some b) m = (Withdraw, (refl, sym is, tt))
   go None true = (refl, is)
   go None false = (refl, is)
 
@@ -77,40 +76,35 @@ arrives_verified k n r a (Byte v) is may = go (short_of v) where
   go None = (refl, is)
   go (Some b) = same (b == a) where
     same : (m : Bool) → Arrived k n Visiting (if m then Confirmed r a else Inconclusive r (Some b))
-    same true = (Withdraw, (refl, is, may, refl))
+    same true = (Withdraw, (refl, sym is, may))
     same false = (refl, is)
 
-goes_asks : (k : Records) (n r : SearchAddress) (p : Purpose) → IsSearching p → r ≡ n → Goes k n p (NumberSent r) (asks p)
-goes_asks k n r Probing searching is = going (turn refl refl) tt (λ g x. cc) (λ later. refl) (λ h. (refl, is))
-goes_asks k n r Visiting searching is = going (turn refl refl) tt (λ g x. cc) (λ later. refl) (λ h. arrives_queried k n r h is)
-goes_asks k n r Opening searching is = absurd searching
-goes_asks k n r (Closing e) searching is = absurd searching
-
-open_of : (p : Purpose) → IsSearching p → closing_of p ≡ None
-open_of Probing e = refl
-open_of Visiting e = refl
-open_of Opening e = absurd e
-open_of (Closing end) e = absurd e
-
-whole : (n : SearchAddress) (high middle : ℕ) → n.high ≡ high → n.middle ≡ middle → record { high = high; middle = middle; low = n.low } ≡ n
+whole : (n : SearchAddress) (high middle : ℕ) → n.high ≡ high → n.middle ≡ middle → n ≡ record { high = high; middle = middle; low = n.low }
 whole n high middle one two = rw (← one, ← two) refl
 
+some_is : (x c : Command) → Some x ≡ Some c → c ≡ x
+some_is x c e = cc
+
 goes : (k : Records) (n : SearchAddress) (p : Purpose) (s : Stage) (c : Command) → Sends k n p s c → Goes k n p s c
+goes k n Opening Terminated c e = rw (some_is _ c e.0) (going (turn refl refl) tt (λ g x. cc) (λ later. refl) (λ h. (Initialise Unaddressed, (refl, tt, tt))))
+goes k n Opening InitialisedOnce c e = rw (some_is _ c e.0) (going (turn refl refl) tt (λ g x. cc) (λ later. refl) (λ h. (Randomise, (refl, tt, tt))))
+goes k n Opening Initialised c e = rw (some_is _ c e.0) (going (turn refl refl) tt (λ g x. cc) (λ later. refl) (λ h. (Randomise, (refl, tt, tt))))
+goes k n Opening RandomisedOnce c e = rw (some_is _ c e.0) (going (turn refl refl) tt (λ g x. cc) (λ later. refl) (λ h. refl))
+goes k n Probing (HighSent high) c e = rw (some_is _ c e.0) (going (turn refl refl) tt (λ g x. cc) (λ later. refl) (λ h. (SearchLow n.low, (refl, (e.1, refl), tt))))
+goes k n Visiting (HighSent high) c e = rw (some_is _ c e.0) (going (turn refl refl) tt (λ g x. cc) (λ later. refl) (λ h. (SearchLow n.low, (refl, (e.1, refl), tt))))
+goes k n Probing (MiddleSent high middle) c e = rw (some_is _ c e.0) (going (turn refl refl) tt (λ g x. cc) (λ later. refl) (λ h. (Compare, (refl, whole n high middle e.1.0 e.1.1, tt))))
+goes k n Visiting (MiddleSent high middle) c e = rw (some_is _ c e.0) (going (turn refl refl) tt (λ g x. cc) (λ later. refl) (λ h. (QueryShort, (refl, whole n high middle e.1.0 e.1.1, tt))))
+goes k n Probing (NumberSent r) c e = rw (some_is _ c e.0) (going (turn refl refl) tt (λ g x. cc) (λ later. refl) (λ h. (refl, sym e.1)))
+goes k n Visiting (NumberSent r) c e = rw (some_is _ c e.0) (going (turn refl refl) tt (λ g x. cc) (λ later. refl) (λ h. arrives_queried k n r h (sym e.1)))
+goes k n Visiting (Found r b) c e = rw (some_is _ c e.0) (going (turn refl refl) tt (λ g x. cc) (λ later. refl) (λ h. (refl, sym e.1)))
 goes k n p Free c e = rw e (goes_first k n p)
-goes k n p Terminated c e = rw e.1 (going (turn refl refl) tt (λ g x. cc) (λ later. ap closing_of e.0) (λ h. (Initialise Unaddressed, (e.0, refl))))
-goes k n p InitialisedOnce c e = rw e.1 (going (turn refl refl) tt (λ g x. cc) (λ later. ap closing_of e.0) (λ h. (Randomise, (e.0, refl))))
-goes k n p Initialised c e = rw e.1 (going (turn refl refl) tt (λ g x. cc) (λ later. ap closing_of e.0) (λ h. (Randomise, (e.0, refl))))
-goes k n p RandomisedOnce c e = rw e.1 (going (turn refl refl) tt (λ g x. cc) (λ later. ap closing_of e.0) (λ h. e.0))
-goes k n p (HighSent high) c e = rw e.2 (going (turn refl refl) tt (λ g x. cc) (λ later. open_of p e.0) (λ h. (SearchLow n.low, (e.0, e.1, refl, refl))))
-goes k n p (MiddleSent high middle) c e =
-    rw e.3 (going (turn refl refl) tt (λ g x. cc) (λ later. open_of p e.0) (λ h. (asks p, (e.0, whole n high middle e.1 e.2, refl))))
-goes k n p (NumberSent r) c e = rw e.2 (goes_asks k n r p e.0 e.1)
-goes k n p (Found r b) c e = rw e.2 (going (turn refl refl) tt (λ g x. cc) (λ later. ap closing_of e.0) (λ h. (e.0, e.1)))
-goes k n p (Unnamed r) c e = rw e.2.3 (going (gives refl e.2.2) e.2.1 (λ g x. cc) (λ later. ap closing_of e.0) (λ h. (QueryShort, (e.0, e.1, e.2.2, refl))))
-goes k n p (Programmed r a) c e =
-    rw (e.3, e.0) (going (gives refl e.2) tt (λ g x. cc) (λ later. refl) (λ h. arrives_verified k n r a h e.1 e.2))
-goes k n p (Confirmed r a) c e = rw e.3 (going (gives refl e.2) tt (λ g x. cc) (λ later. ap closing_of e.0) (λ h. (e.0, e.1)))
-goes k n p _ c e = absurd e
+goes k n Visiting (Unnamed r) c e = rw e.2.3 (going (gives refl e.2.2) e.2.1 (λ g x. cc) (λ later. refl) (λ h. (QueryShort, (refl, sym e.1, e.2.2))))
+goes k n Visiting (Programmed r a) c e = rw (some_is _ c e.0) (going (gives refl e.2) tt (λ g x. cc) (λ later. refl) (λ h. arrives_verified k n r a h (sym e.1) e.2))
+goes k n Visiting (Confirmed r a) c e = rw (some_is _ c e.0) (going (gives refl e.2) tt (λ g x. cc) (λ later. refl) (λ h. (refl, sym e.1)))
+goes k n _ _ c e = absurd (let none = e.0 in cc)
+
+not_withdrawn : (k : Records) (n : SearchAddress) (p : Purpose) (r : SearchAddress) (b : ℕ) (c : Command) → Sends k n p (Withdrawn r b) c → ⊥
+not_withdrawn k n p r b c e = let on = (goes k n p (Withdrawn r b) c e).follows.leads_on in cc
 
 -- what is known there
 pub knows_at : (k : Records) (n : SearchAddress) (s : Searched) (o : Bool) (p : Purpose) (there : Stage) → Knows k n s o p → KnowsAt there k n s (opened_after there o) p
@@ -136,18 +130,16 @@ tries_less false n h = h
 
 -- and at the next command again
 pub sends_calm : (k : Records) (n : SearchAddress) (p : Purpose) (s : Stage) (c : Command) (o : Bool) (i : ℕ) → Sends k n p s c → CalmAt s p o i → IsCalm p i
-sends_calm k n p (Inconclusive r other) c o i e calm = absurd e
+sends_calm k n p (Inconclusive r other) c o i e calm = absurd (let on = (goes k n p (Inconclusive r other) c e).follows.leads_on in cc)
 sends_calm k n p _ c o i e calm = calm
 
 pub sends_knows : (k : Records) (n : SearchAddress) (p : Purpose) (s : Stage) (c : Command) (x : Searched) (o : Bool) → Sends k n p s c → KnowsAt s k n x o p → Knows k n x o p
-sends_knows k n p Opened c x o e knows = absurd e
+sends_knows k n p Opened c x o e knows = absurd (let on = (goes k n p Opened c e).follows.leads_on in cc)
 sends_knows k n p _ c x o e knows = knows
 
 calm_less : (p : Purpose) (i : ℕ) → closing_of p ≡ None → IsCalm p i → i < 16
-calm_less Opening i e calm = calm
-calm_less Probing i e calm = calm
-calm_less Visiting i e calm = calm
 calm_less (Closing end) i e calm = absurd (cc)
+calm_less _ i e calm = calm
 
 -- A FRAME THAT IS OUTSTANDING
 pub sending : (w : Work) (l : Option Order) (f : Forward) → frame_put l ≡ Some f → Pending w l → IsSending w f
@@ -209,7 +201,7 @@ put_next_at w s c h e later =
         given_up = λ n. absurd (omega arith);
         silent = λ n. absurd (omega arith);
         unnamed = λ r is. put_masked w s c r e (sym h.stage ∙ is);
-        found = λ r b is. absurd (subst (λ x. Sends w.kept w.number w.purpose x c) (sym h.stage ∙ is) e);
+        found = λ r b is. absurd (not_withdrawn w.kept w.number w.purpose r b c (subst (λ x. Sends w.kept w.number w.purpose x c) (sym h.stage ∙ is) e));
       };
       state = refl;
     }
@@ -223,35 +215,28 @@ put_next w s c p f h e later first is =
 -- TO BEGIN
 closes : (w : Work) (p : Purpose) (n : SearchAddress) → Begins w p n → closing_by (seen w) (Put FIRST (frame_of (first_of p n))) ≡ closing_of p
 closes w Opening n b = rw b.knows b.turns
-closes w Probing n b = b.turns
-closes w Visiting n b = b.turns
 closes w (Closing e) n b = rw b.knows (go b.turns.cause) where
   go : (closing_of w.purpose ≡ Some e) ⊎ ((closing_of w.purpose ≡ None) × (end_at (stage_of w.trace) ≡ e) × Cause (seen w) e)
       → Some (unwrap_or (closing_of w.purpose) (end_at (stage_of w.trace))) ≡ Some e
   go (inl is) = rw is refl
   go (inr is) = rw (is.0, is.1) refl
+closes w _ n b = b.turns
 
 begun : (w : Work) (p : Purpose) → Turns w p → IsBegun (seen w) (closing_of p)
-begun w Opening t = t
-begun w Probing t = t
-begun w Visiting t = t
 begun w (Closing e) t = go t.cause where
   go : (closing_of w.purpose ≡ Some e) ⊎ ((closing_of w.purpose ≡ None) × (end_at (stage_of w.trace) ≡ e) × Cause (seen w) e)
       → (closing_of w.purpose ≡ Some e) ⊎ ((closing_of w.purpose ≡ None) × Cause (seen w) e)
   go (inl is) = inl is
   go (inr is) = inr (is.0, is.2)
+begun w _ t = t
 
 terminates : (p : Purpose) (n : SearchAddress) → (closing_of p ≡ None) ⊎ ((FIRST ≡ FIRST) × (frame_of (first_of p n) ≡ frame_of Terminate))
-terminates Opening n = inl refl
-terminates Probing n = inl refl
-terminates Visiting n = inl refl
 terminates (Closing e) n = inr (refl, refl)
+terminates _ n = inl refl
 
 silent_closes : (p : Purpose) (i : ℕ) → IsCalm p i → i ≡ 16 → closing_of p ≡ Some GaveUp
-silent_closes Opening i calm is = absurd (omega arith)
-silent_closes Probing i calm is = absurd (omega arith)
-silent_closes Visiting i calm is = absurd (omega arith)
 silent_closes (Closing e) i calm is = ap (λ x. Some x) (calm.1 is)
+silent_closes _ i calm is = absurd (omega arith)
 
 first_read : (k : Records) (p : Purpose) (n : SearchAddress) → command_of (frame_of (first_of p n)) ≡ first_of p n
 first_read k p n = read_written (first_of p n) (goes_first k n p).spelled
@@ -327,10 +312,8 @@ commit_fine w x t table ready visiting fits fresh empty = record {
 
 -- TO HEAR
 calm_small : (p : Purpose) (i : ℕ) → IsCalm p i → i ≤ 16
-calm_small Opening i calm = omega arith
-calm_small Probing i calm = omega arith
-calm_small Visiting i calm = omega arith
 calm_small (Closing e) i calm = calm.0
+calm_small _ i calm = omega arith
 
 pub sending_small : (w : Work) (f : Forward) → IsSending w f → w.silent < 255
 sending_small w f e = let small : w.silent ≤ 16 = calm_small w.purpose w.silent e.ready.calm in omega arith
@@ -422,10 +405,8 @@ closing w e n b = record {
 
 -- LOST
 turns_same : (w : Work) (p : Purpose) → w.purpose ≡ p → Knows w.kept w.number w.search w.opened p → Turns w p
-turns_same w Opening is knows = ap closing_of is
-turns_same w Probing is knows = ap closing_of is
-turns_same w Visiting is knows = ap closing_of is
 turns_same w (Closing e) is knows = record { opened = knows; cause = inl (ap closing_of is) }
+turns_same w _ is knows = ap closing_of is
 
 pub lost_begins : (w : Work) (f : Forward) (t : List Entry) → IsFine w → frame_put w.last ≡ Some f → t ≡ [] → (w.tries + 1 ≡ 8 → ⊥) → Begins (record w { trace = t; tries = w.tries + 1 }) w.purpose w.number
 lost_begins w f t fine put empty more =

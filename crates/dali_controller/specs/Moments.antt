@@ -1,4 +1,4 @@
-use Rattle.std.specs.Prelude.{◌≡◌, ℕ, ◌<◌, ◌≤◌, ◌⊎◌, Bool, true, false, Option, Some, None}
+use Rattle.std.specs.Prelude.{◌≡◌, ℕ, ◌<◌, ◌≤◌, ◌⊎◌, Bool, true, false, Option, Some, None, IfSome}
 use Rattle.dali_frame.specs.declared.frames.Forward.{Forward}
 use Rattle.dali_frame.specs.declared.numbers.SearchAddress.{SearchAddress}
 use Rattle.dali_frame.specs.Random.{value_of, MASK24}
@@ -8,11 +8,11 @@ use Rattle.dali_special.specs.declared.command.Command.TheVariants.{Terminate, I
 use Rattle.dali_special.specs.Command.{command_of}
 use Rattle.dali_script.specs.declared.records.Record.{Record}
 use Rattle.dali_script.specs.declared.stage.Stage.{Stage}
-use Rattle.dali_script.specs.declared.stage.Stage.TheVariants.{Free, Terminated, InitialisedOnce, Initialised, RandomisedOnce, Opened, HighSent, MiddleSent, NumberSent, Probed, Found, Unnamed, Inconclusive, Programmed, Confirmed, Withdrawn, Over}
+use Rattle.dali_script.specs.declared.stage.Stage.TheVariants.{Free, Terminated, InitialisedOnce, Initialised, RandomisedOnce, Opened, HighSent, MiddleSent, NumberSent, Probed, Found, Unnamed, Inconclusive, Programmed, Confirmed, Withdrawn}
 use Rattle.dali_script.specs.Records.{Records, Assignment, Has, HasNumber, Fits, IsFresh, IsFull}
 use Rattle.dali_script.specs.Scripts.{MayGive}
 use Rattle.dali_script.specs.Findings.{finding_of}
-use Rattle.dali_script.specs.Stages.{stage_of}
+use Rattle.dali_script.specs.Stages.{stage_of, given, IsSearched}
 use Rattle.dali_search.specs.declared.step.Step.TheVariants.{Again}
 use Rattle.dali_search.specs.Least.{Searched}
 use Rattle.dali_orders.specs.declared.orders.Input.{Input}
@@ -46,36 +46,38 @@ seen w = record {
   closing = closing_of w.purpose;
 }
 
--- the first command of a transaction, and what it asks of the gear at its search address
+-- the first command of a transaction
 abbrev pub first_of : Purpose → SearchAddress → Command
 first_of Opening n = Terminate
 first_of (Closing e) n = Terminate
 first_of _ n = SearchHigh n.high
 
-abbrev pub asks : Purpose → Command
-asks Probing = Compare
-asks _ = QueryShort
+-- THE TURN: which command a transaction sends at a stage past the first, except PROGRAM SHORT ADDRESS
+abbrev pub search_turn : SearchAddress → Stage → Option Command
+search_turn n (HighSent high) = Some (SearchMiddle n.middle)
+search_turn n (MiddleSent high middle) = Some (SearchLow n.low)
+search_turn n _ = None
 
-abbrev pub IsSearching : Purpose → Type 0
-IsSearching Probing = Unit {0}
-IsSearching Visiting = Unit {0}
-IsSearching _ = ⊥
+abbrev pub turn_of : Purpose → SearchAddress → Stage → Option Command
+turn_of Opening n Terminated = Some (Initialise Unaddressed)
+turn_of Opening n InitialisedOnce = Some (Initialise Unaddressed)
+turn_of Opening n Initialised = Some Randomise
+turn_of Opening n RandomisedOnce = Some Randomise
+turn_of Probing n (NumberSent r) = Some Compare
+turn_of Probing n s = search_turn n s
+turn_of Visiting n (NumberSent r) = Some QueryShort
+turn_of Visiting n (Found r b) = Some Withdraw
+turn_of Visiting n (Programmed r a) = Some QueryShort
+turn_of Visiting n (Confirmed r a) = Some Withdraw
+turn_of Visiting n s = search_turn n s
+turn_of _ n _ = None
 
--- which command is sent at a stage
+-- which command is sent at a stage, with the transaction's search address, and with what may be given
 abbrev pub Sends : Records → SearchAddress → Purpose → Stage → Command → Type 0
 Sends k n p Free c = c ≡ first_of p n
-Sends k n p Terminated c = (p ≡ Opening) × (c ≡ Initialise Unaddressed)
-Sends k n p InitialisedOnce c = (p ≡ Opening) × (c ≡ Initialise Unaddressed)
-Sends k n p Initialised c = (p ≡ Opening) × (c ≡ Randomise)
-Sends k n p RandomisedOnce c = (p ≡ Opening) × (c ≡ Randomise)
-Sends k n p (HighSent high) c = IsSearching p × (n.high ≡ high) × (c ≡ SearchMiddle n.middle)
-Sends k n p (MiddleSent high middle) c = IsSearching p × (n.high ≡ high) × (n.middle ≡ middle) × (c ≡ SearchLow n.low)
-Sends k n p (NumberSent r) c = IsSearching p × (r ≡ n) × (c ≡ asks p)
-Sends k n p (Found r b) c = (p ≡ Visiting) × (r ≡ n) × (c ≡ Withdraw)
-Sends k n p (Unnamed r) c = (p ≡ Visiting) × (r ≡ n) × ((a : ℕ) × (a < 64) × MayGive k.block k.reserved r a × (c ≡ Program (Some a)))
-Sends k n p (Programmed r a) c = (p ≡ Visiting) × (r ≡ n) × MayGive k.block k.reserved r a × (c ≡ QueryShort)
-Sends k n p (Confirmed r a) c = (p ≡ Visiting) × (r ≡ n) × MayGive k.block k.reserved r a × (c ≡ Withdraw)
-Sends k n p _ c = ⊥
+Sends k n p (Unnamed r) c =
+    (p ≡ Visiting) × (r ≡ n) × ((a : ℕ) × (a < 64) × MayGive k.block k.reserved r a × (c ≡ Program (Some a)))
+Sends k n p s c = (turn_of p n s ≡ Some c) × IsSearched s n × IfSome (given s c) (λ g. MayGive k.block k.reserved g.0 g.1)
 
 -- what is known at a stage of the transaction that led there: its end, or that there is a command to send
 abbrev pub Arrived : Records → SearchAddress → Purpose → Stage → Type 0

@@ -18,7 +18,7 @@ use dali_frame::{Answer, Forward, Random24, SearchAddress, Short};
 use dali_orders::{End, Fault, Order};
 use dali_script::{Record, Stage, Trace};
 use dali_search::{Search, Step};
-use dali_special::{Command, Target};
+use dali_special::Command;
 
 /// The tries of one transaction.
 const TRIES: u8 = 8;
@@ -37,7 +37,7 @@ fn is_yes(heard: Answer) -> bool
 }
 
 impl Work {
-    ghost use Rattle.dali_controller.specs.Moments.{seen, IsFine, IsHeard, IsBetween, Closes, IsNext, IsStep};
+    ghost use Rattle.dali_controller.specs.Moments.{seen, turn_of, IsFine, IsHeard, IsBetween, Closes, IsNext, IsStep};
 
     /// The start: visits to what is unfinished, and then an opening.
     pub(crate) fn start(&mut self) -> Order
@@ -151,44 +151,42 @@ impl Work {
         ensures next { IsNext (seen self.old) result (seen self.new) }
         ensures fine { IsFine self.new }
     {
-        match stage {
-            Stage::Terminated => self.terminated(),
-            Stage::InitialisedOnce => self.put(Command::Initialise(Target::Unaddressed)),
-            Stage::Initialised | Stage::RandomisedOnce => self.put(Command::Randomise),
-            Stage::Opened => self.all_drawn(),
-            Stage::HighSent(_) => {
-                let middle = self.number.middle;
-                self.put(Command::SearchMiddle(middle))
-            }
-            Stage::MiddleSent(..) => {
-                let low = self.number.low;
-                self.put(Command::SearchLow(low))
-            }
-            Stage::NumberSent(_) => {
-                let asked = self.purpose.asks();
-                self.put(asked)
-            }
-            Stage::Probed(number, heard) => self.probed(number, heard),
-            Stage::Unnamed(number) => self.unnamed(number),
-            Stage::Inconclusive(number, other) => self.silenced(number, other),
-            Stage::Programmed(..) => self.put(Command::QueryShort),
-            Stage::Found(..) | Stage::Confirmed(..) => self.put(Command::Withdraw),
-            Stage::Withdrawn(number, short) => self.settle(number, short),
-            Stage::Free | Stage::Over => unreachable!(),
+        match self.purpose.turn(self.number, &stage) {
+            Some(command) => self.put(command),
+            None => self.over(stage),
         }
     }
 
-    /// TERMINATE was sent: an opening goes on, a close is complete.
+    /// What follows where the transaction sends no more, or PROGRAM SHORT ADDRESS.
+    fn over(&mut self, stage: Stage) -> Order
+        requires heard { IsHeard self.old stage }
+        requires over { turn_of self.old.purpose self.old.number stage ≡ None }
+
+        ensures next { IsNext (seen self.old) result (seen self.new) }
+        ensures fine { IsFine self.new }
+    {
+        match stage {
+            Stage::Terminated => self.terminated(),
+            Stage::Opened => self.all_drawn(),
+            Stage::Probed(number, heard) => self.probed(number, heard),
+            Stage::Unnamed(number) => self.unnamed(number),
+            Stage::Inconclusive(number, other) => self.silenced(number, other),
+            Stage::Withdrawn(number, short) => self.settle(number, short),
+            _ => unreachable!(),
+        }
+    }
+
+    /// The TERMINATE of a close was sent.
     fn terminated(&mut self) -> Order
-        requires { IsHeard self.old stage.Terminated }
+        requires heard { IsHeard self.old stage.Terminated }
+        requires over { turn_of self.old.purpose self.old.number stage.Terminated ≡ None }
 
         ensures next { IsNext (seen self.old) result (seen self.new) }
         ensures fine { IsFine self.new }
     {
         match self.purpose {
-            Purpose::Opening => self.put(Command::Initialise(Target::Unaddressed)),
             Purpose::Closing(end) => self.done(end),
-            Purpose::Probing | Purpose::Visiting => unreachable!(),
+            Purpose::Opening | Purpose::Probing | Purpose::Visiting => unreachable!(),
         }
     }
 

@@ -1,8 +1,10 @@
 ghost use Rattle.std.specs.Prelude.{◌≡◌};
+ghost use Rattle.dali_controller.specs.Moments.{search_turn};
 
 use dali_frame::SearchAddress;
 use dali_orders::End;
-use dali_special::Command;
+use dali_script::Stage;
+use dali_special::{Command, Target};
 
 /// What the running transaction is for. How far it is, its trace says.
 #[derive(Clone, Copy)]
@@ -18,7 +20,7 @@ pub(crate) enum Purpose {
 }
 
 impl Purpose {
-    ghost use Rattle.dali_controller.specs.Moments.{closing_of, first_of, asks};
+    ghost use Rattle.dali_controller.specs.Moments.{closing_of, first_of, turn_of};
 
     /// The end with which a close was begun.
     pub(crate) fn end(self) -> Option<End>
@@ -40,13 +42,39 @@ impl Purpose {
         }
     }
 
-    /// What is asked of the gear at the search address.
-    pub(crate) fn asks(self) -> Command
-        ensures { result ≡ asks self }
+    /// The command that the transaction sends at a stage past the first, except PROGRAM SHORT ADDRESS.
+    pub(crate) fn turn(self, number: SearchAddress, stage: &Stage) -> Option<Command>
+        ensures { result ≡ turn_of self number stage.now }
     {
         match self {
-            Purpose::Probing => Command::Compare,
-            Purpose::Opening | Purpose::Visiting | Purpose::Closing(_) => Command::QueryShort,
+            Purpose::Opening => match *stage {
+                Stage::Terminated | Stage::InitialisedOnce => {
+                    Some(Command::Initialise(Target::Unaddressed))
+                }
+                Stage::Initialised | Stage::RandomisedOnce => Some(Command::Randomise),
+                _ => None,
+            },
+            Purpose::Probing => match *stage {
+                Stage::NumberSent(_) => Some(Command::Compare),
+                _ => search_turn(number, stage),
+            },
+            Purpose::Visiting => match *stage {
+                Stage::NumberSent(_) | Stage::Programmed(..) => Some(Command::QueryShort),
+                Stage::Found(..) | Stage::Confirmed(..) => Some(Command::Withdraw),
+                _ => search_turn(number, stage),
+            },
+            Purpose::Closing(_) => None,
         }
+    }
+}
+
+/// The second and the third search command.
+fn search_turn(number: SearchAddress, stage: &Stage) -> Option<Command>
+    ensures { result ≡ search_turn number stage.now }
+{
+    match *stage {
+        Stage::HighSent(_) => Some(Command::SearchMiddle(number.middle)),
+        Stage::MiddleSent(..) => Some(Command::SearchLow(number.low)),
+        _ => None,
     }
 }
