@@ -32,10 +32,11 @@ use Rattle.dali_orders.specs.declared.orders.Order.TheVariants.{Put, Commit, Don
 use Rattle.dali_orders.specs.declared.orders.End.{End}
 use Rattle.dali_orders.specs.declared.orders.Fault.TheVariants as fault
 use Rattle.dali_orders.specs.declared.orders.End.TheVariants.{GaveUp}
+use Rattle.dali_orders.specs.declared.orders.Due.TheVariants as due
 use Rattle.dali_controller.specs.declared.purpose.Purpose.{Purpose}
 use Rattle.dali_controller.specs.declared.purpose.Purpose.TheVariants.{Opening, Probing, Visiting, Closing}
 use Rattle.dali_controller.specs.declared.work.Work.{Work}
-use Rattle.dali_orders.specs.Due.{frame_put}
+use Rattle.dali_orders.specs.Due.{due_after, frame_put}
 use Rattle.dali_controller.specs.Progress.{lost, Progress, roster_of, opened_after, silent_after, tries_after}
 use Rattle.dali_controller.specs.Orders.{Contradicts, closing_by, Cause, IsBegun, AfterMask, IsOrdered, ordered, end_at}
 use Rattle.dali_controller.specs.Moments.{FoundAt, IsBetween, Closes, closing_of, seen, first_of, Sends, Arrived, Knows, KnowsAt, IsCalm, CalmAt, IsReady, IsSending, Pending, IsFine, IsHeard, Turns, Begins, IsNext}
@@ -148,6 +149,14 @@ sending w (Some (Put p g)) f is e = subst (λ d. IsSending w d) (let same : g �
 sending w (Some (Commit x)) f is e = absurd (cc)
 sending w (Some (Done end)) f is e = absurd (cc)
 sending w (Some (Halt why)) f is e = absurd (cc)
+
+-- also where only the bus is waited for
+pub waiting : (w : Work) (l : Option Order) → due_after l ≡ due.Bus → Pending w l → IsReady w
+waiting w None is e = absurd (cc)
+waiting w (Some (Put p f)) is e = e.ready
+waiting w (Some (Commit x)) is e = absurd (cc)
+waiting w (Some (Done end)) is e = absurd (cc)
+waiting w (Some (Halt why)) is e = absurd (cc)
 
 pub sending_lawful : (w : Work) (f : Forward) → IsSending w f → Lawful w.kept.block w.kept.reserved w.trace f
 sending_lawful w f e = lawful_follows w.kept.block w.kept.reserved w.trace f (goes w.kept w.number w.purpose (stage_of w.trace) (command_of f) e.sends).follows
@@ -408,9 +417,9 @@ turns_same : (w : Work) (p : Purpose) → w.purpose ≡ p → Knows w.kept w.num
 turns_same w (Closing e) is knows = record { opened = knows; cause = inl (ap closing_of is) }
 turns_same w _ is knows = ap closing_of is
 
-pub lost_begins : (w : Work) (f : Forward) (t : List Entry) → IsFine w → frame_put w.last ≡ Some f → t ≡ [] → (w.tries + 1 ≡ 8 → ⊥) → Begins (record w { trace = t; tries = w.tries + 1 }) w.purpose w.number
-lost_begins w f t fine put empty more =
-    let ready : IsReady w = (sending w w.last f put fine.pending).ready in
+pub lost_begins : (w : Work) (t : List Entry) → IsFine w → due_after w.last ≡ due.Bus → t ≡ [] → (w.tries + 1 ≡ 8 → ⊥) → Begins (record w { trace = t; tries = w.tries + 1 }) w.purpose w.number
+lost_begins w t fine put empty more =
+    let ready : IsReady w = waiting w w.last put fine.pending in
     let less : w.tries < 8 = ready.tries in
     let free : stage_of t ≡ Free = free_of t empty in
     record {
@@ -436,10 +445,10 @@ lost_ended_at w ready is =
       found = λ r b e. absurd (cc);
     }
 
-pub lost_ended : (w : Work) (f : Forward) (t : List Entry) (o : Order) (new : Progress) → IsFine w → frame_put w.last ≡ Some f → t ≡ [] → w.tries + 1 ≡ 8 → o ≡ Done GaveUp
+pub lost_ended : (w : Work) (t : List Entry) (o : Order) (new : Progress) → IsFine w → due_after w.last ≡ due.Bus → t ≡ [] → w.tries + 1 ≡ 8 → o ≡ Done GaveUp
     → new ≡ ordered (seen (record w { trace = t; tries = w.tries + 1 })) o → IsNext (lost (seen w)) o new
-lost_ended w f t o new fine put empty is done state = record {
-  order = subst (IsOrdered (lost (seen w))) (sym done) (lost_ended_at w (sending w w.last f put fine.pending).ready is);
+lost_ended w t o new fine put empty is done state = record {
+  order = subst (IsOrdered (lost (seen w))) (sym done) (lost_ended_at w (waiting w w.last put fine.pending) is);
   state = state ∙ ap (λ u. ordered (seen (record w { trace = u; tries = w.tries + 1 })) o) empty;
 }
 

@@ -111,9 +111,7 @@ impl Machine {
         match (self.work.last, input) {
             (None, Input::Start) => Ok(self.work.start()),
             (Some(Order::Put(_, frame)), Input::Heard(heard)) => Ok(self.work.heard(frame, heard)),
-            (Some(Order::Put(_, frame)), Input::Destroyed | Input::Lapsed) => {
-                Ok(self.work.lost(frame))
-            }
+            (Some(Order::Put(..)), Input::Destroyed | Input::Lapsed) => Ok(self.work.lost()),
             (Some(Order::Commit(added)), Input::Committed) => Ok(self.work.committed(added)),
             (Some(Order::Commit(_)), Input::CommitFailed) => Ok(self.work.commit_failed()),
             _ => Err(StepError::NotDue),

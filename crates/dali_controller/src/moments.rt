@@ -1,5 +1,6 @@
-ghost use Rattle.std.specs.Prelude.{◌≡◌, ◌<◌, true, false, Some, None};
+ghost use Rattle.std.specs.Prelude.{◌≡◌, ℕ, ◌<◌, true, false, Option, Some, None};
 ghost use Rattle.dali_frame.specs.Random.{value_of, MASK24};
+ghost use Rattle.dali_frame.specs.declared.numbers.SearchAddress.{SearchAddress};
 ghost use Rattle.dali_frame.specs.declared.frames.Answer.TheVariants.{Silence};
 ghost use Rattle.dali_script.specs.declared.stage.Stage.TheVariants as stage;
 ghost use Rattle.dali_script.specs.Records.{Fits, IsFresh, HasAddress, HasNumber, with_record};
@@ -7,7 +8,8 @@ ghost use Rattle.dali_enrol.specs.Roster.{with_entry};
 ghost use Rattle.dali_search.specs.declared.step.Step.TheVariants as search;
 ghost use Rattle.dali_orders.specs.declared.orders.Input.TheVariants as input;
 ghost use Rattle.dali_orders.specs.declared.orders.Order.TheVariants as order;
-ghost use Rattle.dali_orders.specs.Due.{frame_put, record_ordered};
+ghost use Rattle.dali_orders.specs.Due.{due_after, frame_put, record_ordered};
+ghost use Rattle.dali_orders.specs.declared.orders.Due.TheVariants as due;
 ghost use Rattle.dali_controller.specs.Progress.{lost, roster_of};
 
 use crate::entries::enter;
@@ -168,9 +170,9 @@ impl Work {
         match stage {
             Stage::Terminated => self.terminated(),
             Stage::Opened => self.all_drawn(),
-            Stage::Probed(number, heard) => self.probed(number, heard),
+            Stage::Probed(_, heard) => self.probed(heard),
             Stage::Unnamed(number) => self.unnamed(number),
-            Stage::Inconclusive(number, other) => self.silenced(number, other),
+            Stage::Inconclusive(..) => self.silenced(),
             Stage::Withdrawn(number, short) => self.settle(number, short),
             _ => unreachable!(),
         }
@@ -201,8 +203,8 @@ impl Work {
     }
 
     /// COMPARE was sent, and this was heard.
-    fn probed(&mut self, number: SearchAddress, heard: Answer) -> Order
-        requires { IsHeard self.old (stage.Probed number heard) }
+    fn probed(&mut self, heard: Answer) -> Order
+        requires { (number : SearchAddress) × IsHeard self.old (stage.Probed number heard) }
 
         ensures next { IsNext (seen self.old) result (seen self.new) }
         ensures fine { IsFine self.new }
@@ -242,8 +244,8 @@ impl Work {
     }
 
     /// The visit led to no gear.
-    fn silenced(&mut self, number: SearchAddress, other: Option<Short>) -> Order
-        requires { IsHeard self.old (stage.Inconclusive number other) }
+    fn silenced(&mut self) -> Order
+        requires { (number : SearchAddress) × (other : Option ℕ) × IsHeard self.old (stage.Inconclusive number other) }
 
         ensures next { IsNext (seen self.old) result (seen self.new) }
         ensures fine { IsFine self.new }
@@ -274,9 +276,9 @@ impl Work {
     }
 
     /// The frame that was put was destroyed, or not sent: the same transaction begins again.
-    pub(crate) fn lost(&mut self, frame: Forward) -> Order
+    pub(crate) fn lost(&mut self) -> Order
         requires fine { IsFine self.old }
-        requires put { frame_put self.old.last ≡ Some frame }
+        requires put { due_after self.old.last ≡ due.Bus }
 
         ensures next { IsNext (lost (seen self.old)) result (seen self.new) }
         ensures fine { IsFine self.new }

@@ -38,9 +38,9 @@ abbrev pub kept_after : Controller → Input → Records
 kept_after k input.Committed = with_outstanding k.records k.outstanding
 kept_after k _ = k.records
 
-abbrev pub outstanding_told : Controller → Input → Option Record
-outstanding_told k input.Committed = None
-outstanding_told k _ = k.outstanding
+abbrev pub outstanding_told : Option Record → Input → Option Record
+outstanding_told was input.Committed = None
+outstanding_told was _ = was
 
 -- a Commit order makes its record the outstanding one
 abbrev pub outstanding_after : Option Record → Order → Option Record
@@ -49,13 +49,13 @@ outstanding_after was _ = was
 
 -- the controller after the input, before its order
 abbrev pub informed : Controller → Input → Controller
-informed k i = record { up = k.up; records = kept_after k i; outstanding = outstanding_told k i; finding = k.finding; told = None; last = k.last }
+informed k i = record { up = k.up; records = kept_after k i; outstanding = outstanding_told k.outstanding i; finding = k.finding; told = None; last = k.last }
 
 abbrev pub acted : Controller → Input → Order → Controller
 acted k i o = record {
   up = k.up;
   records = kept_after k i;
-  outstanding = outstanding_after (outstanding_told k i) o;
+  outstanding = outstanding_after (outstanding_told k.outstanding i) o;
   finding = k.finding;
   told = None;
   last = Some o;

@@ -353,12 +353,12 @@ up_settles (Err e) s was c copy kept at seat view settled there down agrees read
     let unchanged : with_place s.seats c seat ≡ s.seats = ap (λ (p : Place). with_place s.seats c p) (same ∙ read) ∙ set-get_or s.seats c at in
     rw unchanged settled
 
-pub up_moves : (res : Result (Unit {0}) Refusal) (s : Seated) (was : Standing) (c : ℕ) (copy : Records) (kept : Bool) (at seat : Place) → flat s ≡ was → Settled s → c < length was.controllers → (controller_on was c).up ≡ false
-    → Agrees (controller_on was c) copy kept → at ≡ get_or s.seats c at → OnOk res ((k : Bool) → Agrees at.controller copy k → seat ≡ up_at c k at)
-    → OnOk res (Moves was (event.Up c kept) (flat (record { fitted = s.fitted; bus = s.bus; trace = s.trace; seats = with_place s.seats c seat })))
-up_moves (Ok x) s was c copy kept at seat view settled there down agrees read ok =
-    (up_done s was c kept at seat view settled there down agrees.0 read (came_up (Ok x) s was c copy kept at seat view there agrees read ok)).moves
-up_moves (Err e) s was c copy kept at seat view settled there down agrees read ok = tt
+pub up_moves : (res : Result (Unit {0}) Refusal) (s : Seated) (was : Standing) (c : ℕ) (copy : Records) (at seat : Place) → flat s ≡ was → Settled s → c < length was.controllers → (controller_on was c).up ≡ false
+    → at ≡ get_or s.seats c at → OnOk res ((k : Bool) → Agrees at.controller copy k → seat ≡ up_at c k at)
+    → OnOk res ((k : Bool) → Agrees (controller_on was c) copy k → Moves was (event.Up c k) (flat (record { fitted = s.fitted; bus = s.bus; trace = s.trace; seats = with_place s.seats c seat })))
+up_moves (Ok x) s was c copy at seat view settled there down read ok = λ k agrees.
+    (up_done s was c k at seat view settled there down agrees.0 read (came_up (Ok x) s was c copy k at seat view there agrees read ok)).moves
+up_moves (Err e) s was c copy at seat view settled there down read ok = tt
 
 -- ---------------------------------------------------------------- the request that is next may be sent
 

@@ -122,11 +122,6 @@ abbrev pub trace_of : Option Progress → List Entry
 trace_of None = []
 trace_of (Some m) = m.trace
 
--- a record that is committed is outstanding no longer
-abbrev pub left_told : Option Record → Input → Option Record
-left_told outstanding input.Committed = None
-left_told outstanding _ = outstanding
-
 -- told that its frame was destroyed
 abbrev pub told_lost : Controller → Controller
 told_lost k = record k { told = Some input.Destroyed }

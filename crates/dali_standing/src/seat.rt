@@ -5,10 +5,10 @@ ghost use Rattle.dali_orders.specs.Due.{due_after, accepts, frame_put};
 ghost use Rattle.dali_controller.specs.Progress.{roster_of};
 ghost use Rattle.dali_orders.specs.declared.orders.Due.TheVariants as due;
 ghost use Rattle.dali_orders.specs.declared.orders.Input.TheVariants as input;
-ghost use Rattle.dali_events.specs.Happens.{told_sent, told_lapsed, entry, is_arc, outstanding_after};
+ghost use Rattle.dali_events.specs.Happens.{told_sent, told_lapsed, entry, is_arc, outstanding_told, outstanding_after};
 ghost use Rattle.dali_events.specs.Allowed.{IsDue};
 ghost use Rattle.dali_controller.specs.Orders.{after};
-ghost use Rattle.dali_standing.specs.Places.{due_of, MayAnswer, Waits, left_told};
+ghost use Rattle.dali_standing.specs.Places.{due_of, MayAnswer, Waits};
 
 use crate::refusal::Refusal;
 use dali_controller::Machine;
@@ -240,7 +240,7 @@ fn stepped(machine: &mut Option<Machine>, input: Input) -> Order
 
 /// A record that is committed is outstanding no longer, and the record of a Commit is from now on.
 fn note(outstanding: &mut Option<Record>, input: Input, order: &Order)
-    ensures { outstanding.new ≡ outstanding_after (left_told outstanding.old input) order.now }
+    ensures { outstanding.new ≡ outstanding_after (outstanding_told outstanding.old input) order.now }
 {
     if let Input::Committed = input {
         *outstanding = None;

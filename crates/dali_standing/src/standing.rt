@@ -330,12 +330,13 @@ impl Standing {
         self.seats[c as usize].agreement(copy)
     }
 
-    /// A controller comes up with a copy of what it keeps; `kept` is whether the outstanding record is among it.
-    pub fn up(&mut self, alloc: Global, c: u8, copy: &Kept, kept: bool) -> Result<(), Refusal>
+    /// A controller comes up with a copy of what it keeps.
+    pub fn up(&mut self, alloc: Global, c: u8, copy: &Kept) -> Result<(), Refusal>
         requires known { c < length self.old.controllers }
         requires down { (controller_on self.old c).up ≡ false }
-        requires agrees { Agrees (controller_on self.old c) copy.now kept }
-        ensures ok { OnOk result (Moves self.old (event.Up c kept) self.new) }
+        requires agrees { (kept : Bool) × Agrees (controller_on self.old c) copy.now kept }
+        ensures ok { OnOk result ((kept : Bool)
+            → Agrees (controller_on self.old c) copy.now kept → Moves self.old (event.Up c kept) self.new) }
         ensures err { OnErr result (self.new ≡ self.old) }
         ensures memory { IfErr result (λ e. e ≡ refusal.NoMemory) }
     {

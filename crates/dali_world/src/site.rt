@@ -272,7 +272,7 @@ impl SiteState {
         if self.is_full() {
             return Err(Refusal::LogFull);
         }
-        self.standing.up(alloc, c, copy, kept)?;
+        self.standing.up(alloc, c, copy)?;
         append(&mut self.log, &Event::Up(c, kept));
         Ok(())
     }

@@ -6,12 +6,12 @@ use Rattle.dali_controller.proofs.work.Work.lost.Goals as goal
 pub returns-then-self-eq-TRIES-clause-next : goal.returns-then-self-eq-TRIES-clause-next
 returns-then-self-eq-TRIES-clause-next c =
     let is : c.args.self.now.tries + 1 ≡ 8 = grind (arith, nat_tests) in
-    lost_ended c.args.self.now c.args.frame c.new-self.result _ _ c.requires.fine c.requires.put c.new-self.ensures is c.done.ensures.order c.done.ensures.state
+    lost_ended c.args.self.now c.new-self.result _ _ c.requires.fine c.requires.put c.new-self.ensures is c.done.ensures.order c.done.ensures.state
 
 pub begin-requires : goal.begin-requires
 begin-requires c =
     let more : c.args.self.now.tries + 1 ≡ 8 → ⊥ = grind (arith, nat_tests) in
-    lost_begins c.args.self.now c.args.frame c.new-self.result c.requires.fine c.requires.put c.new-self.ensures more
+    lost_begins c.args.self.now c.new-self.result c.requires.fine c.requires.put c.new-self.ensures more
 
 pub returns-clause-next : goal.returns-clause-next
 returns-clause-next c = lost_next c.args.self.now c.new-self.result _ _ c.new-self.ensures c.begin.ensures.next
