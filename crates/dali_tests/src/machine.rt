@@ -4,8 +4,8 @@ use super::values::Ordered::{Commit, Done, Halt, NotDue, Put};
 use super::values::Pair::{Enrol, Reserve};
 use super::values::{Ordered, Pair, are_pairs, kept_of, same};
 use dali_controller::{Machine, MachineError, StepError};
-use dali_orders::{End, Fault, Input};
 use dali_frame::Answer;
+use dali_orders::{End, Fault, Input};
 use std::alloc::Global;
 use std::process::Abort;
 use std::test::Fail;
@@ -454,6 +454,16 @@ fn sixteen_silent_searches_give_up(rt: HostRuntime) -> Result<(), Fail> {
     plays(&rt, (0, 3), &[], 5 + 16 * 104, &[&close])?;
     let records = [Reserve(0, 0x123456)];
     plays(&rt, (0, 3), &records, 4 + 5 + 16 * 104, &[&close])
+}
+
+#[test]
+fn a_machine_gives_its_records_away(rt: HostRuntime) -> Result<(), Fail> {
+    let machine = machine_of(rt.alloc(), (0, 3), &[Enrol(2, 0x123456)])?;
+    same(&rt, &machine.last().is_none(), &true);
+    are_pairs(&rt, machine.kept().enrolled(), &[(2, 0x123456)]);
+    let kept = machine.into_kept();
+    are_pairs(&rt, kept.enrolled(), &[(2, 0x123456)]);
+    Ok(())
 }
 
 #[test]
