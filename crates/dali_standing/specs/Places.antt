@@ -73,13 +73,13 @@ last_of (Some m) = m.last
 last_of None = None
 
 abbrev pub place_by : Option Progress → Option Records → Option Record → Option Assignment → Option Input → Place
-place_by machine beside outstanding finding told = record {
+place_by machine beside outstanding finding unread = record {
   controller = record {
     up = is_some machine;
     records = records_of machine beside;
     outstanding = outstanding;
     finding = finding;
-    told = told;
+    told = unread;
     last = last_of machine;
   };
   machine = machine;
@@ -91,8 +91,8 @@ AreOnce (Some m) beside = beside ≡ None
 AreOnce None beside = IsSome beside
 
 abbrev pub IsPlace : Option Progress → Option Records → Option Record → Option Assignment → Option Input → Type 0
-IsPlace machine beside outstanding finding told =
-    IsTied (place_by machine beside outstanding finding told).controller machine × AreOnce machine beside
+IsPlace machine beside outstanding finding unread =
+    IsTied (place_by machine beside outstanding finding unread).controller machine × AreOnce machine beside
 
 -- ---------------------------------------------------------------- what happens to a place
 
