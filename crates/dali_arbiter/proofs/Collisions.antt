@@ -2,7 +2,7 @@ use Rattle.std.proofs.Common.{◌≡◌, ℕ, Bool, true, false, List, [], ◌�
 use Rattle.std.specs.Prelude.{if◌then◌else◌, is_some}
 use Rattle.std.proofs.lemmas.Bool.Decides.{nat_tests}
 use Rattle.dali_arbiter.specs.declared.request.Request.{Request}
-use Rattle.dali_arbiter.specs.Bus.{Bus, next, first_waiting, without_first, rival, collision, collided, destroyed}
+use Rattle.dali_arbiter.specs.Arbiter.{Arbiter, next, first_waiting, without_first, rival, collision, bus_collided, bus_destroyed}
 
 -- THE OTHER REQUEST OF A COLLISION has another sender, and is next once the first is taken.
 
@@ -33,7 +33,7 @@ collision_apart ((x ∷ xs) ∷ lists) r q first other same =
     let is : x ≡ r = cc in
     rival_differs x q xs other (ap (λ (y : Request). y.sender) is ∙ same)
 
-pub collision_differs : (b : Bus) (r q : Request) → next b ≡ Some r → collision b.lists ≡ Some q → r.sender ≡ q.sender → ⊥
+pub collision_differs : (b : Arbiter) (r q : Request) → next b ≡ Some r → collision b.lists ≡ Some q → r.sender ≡ q.sender → ⊥
 collision_differs b r q first other same = collision_apart b.lists r q (first_of_all b.owner b.lists r first) other same
 
 -- the request that collided is the first once the other is taken
@@ -50,8 +50,8 @@ collision_first ([] ∷ lists) q e = collision_first lists q e
 collision_first ((x ∷ xs) ∷ lists) q e = rival_first x q xs lists e
 
 -- where nobody owns the bus, list 1 is empty, and a collision is two losses, one after the other
-pub collided_is : (b : Bus) (q : Request) (rest : List (List Request)) → b.lists ≡ [] ∷ rest → collision b.lists ≡ Some q → collided b ≡ destroyed (destroyed b)
+pub collided_is : (b : Arbiter) (q : Request) (rest : List (List Request)) → b.lists ≡ [] ∷ rest → collision b.lists ≡ Some q → bus_collided b ≡ bus_destroyed (bus_destroyed b)
 collided_is b q rest e both = rw both (rw e refl)
 
-pub rival_next : (b : Bus) (q : Request) (rest : List (List Request)) → b.lists ≡ [] ∷ rest → collision b.lists ≡ Some q → next (destroyed b) ≡ Some q
+pub rival_next : (b : Arbiter) (q : Request) (rest : List (List Request)) → b.lists ≡ [] ∷ rest → collision b.lists ≡ Some q → next (bus_destroyed b) ≡ Some q
 rival_next b q rest e both = rw e (collision_first rest q (subst (λ (ls : List (List Request)). collision ls ≡ Some q) e both))

@@ -5,7 +5,7 @@ use Rattle.std.proofs.lemmas.List.{take_all}
 use Rattle.std.proofs.lemmas.Option.{get_or_from_slice_get}
 use Rattle.std.specs.List.{position_from, AllByRecursion}
 use Rattle.dali_arbiter.specs.declared.request.Request.{Request}
-use Rattle.dali_arbiter.specs.Bus.{first_waiting, without_first, first_emptied, rival, collision, without_sender, next, is_barred, total, Bus}
+use Rattle.dali_arbiter.specs.Arbiter.{first_waiting, without_first, first_emptied, rival, collision, without_sender, next, is_barred, total, Arbiter}
 use Rattle.dali_arbiter.specs.Listed.{of_priority, lists_of, IsRightful, AllRightful, IsKept, IsFirstAt}
 
 -- the requests round the oldest of a priority, of which j is the index counted from k
@@ -281,32 +281,32 @@ kept-less rs less room left capacity owner other kept fewer same all =
     record { fits = omega arith; reserved = omega arith; least = kept.least; most = kept.most; rightful = all }
 
 -- the same of a bus as it is seen
-pub owner-next : (owner : Option ℕ) (rs : List Request) (capacity : ℕ) (b : Bus) (r : Request) → AllRightful owner rs
+pub owner-next : (owner : Option ℕ) (rs : List Request) (capacity : ℕ) (b : Arbiter) (r : Request) → AllRightful owner rs
     → record { lists = lists_of rs; owner = owner; capacity = capacity } ≡ b → IsSome (next b) → first_waiting (lists_of rs) ≡ Some r
     → (o : ℕ) → b.owner ≡ Some o → r.sender ≡ o
 owner-next owner rs capacity b r all view some value o is =
-    let same : owner ≡ Some o = ap (λ (x : Bus). x.owner) view ∙ is in
-    let seen : IsSome (next (record { lists = lists_of rs; owner = owner; capacity = capacity })) = subst (λ (x : Bus). IsSome (next x)) (sym view) some in
+    let same : owner ≡ Some o = ap (λ (x : Arbiter). x.owner) view ∙ is in
+    let seen : IsSome (next (record { lists = lists_of rs; owner = owner; capacity = capacity })) = subst (λ (x : Arbiter). IsSome (next x)) (sym view) some in
     owner-first owner o rs r all same (rw same at seen) value
 
-pub next-owned : (owner : Option ℕ) (o : ℕ) (rs items : List Request) (capacity : ℕ) (b : Bus)
+pub next-owned : (owner : Option ℕ) (o : ℕ) (rs items : List Request) (capacity : ℕ) (b : Arbiter)
     → record { lists = lists_of items; owner = owner; capacity = capacity } ≡ b → owner ≡ Some o → rs ≡ items
     → find (λ r. r.priority == 1) rs ≡ next b
 next-owned owner o rs items capacity b view is same =
-    find-first rs ∙ rw same (subst (λ (x : Bus). first_waiting (of_priority 1 items ∷ []) ≡ next x) view (rw is refl))
+    find-first rs ∙ rw same (subst (λ (x : Arbiter). first_waiting (of_priority 1 items ∷ []) ≡ next x) view (rw is refl))
 
-pub found-owned : (owner : Option ℕ) (rs items : List Request) (capacity : ℕ) (b : Bus) → AllRightful owner items
+pub found-owned : (owner : Option ℕ) (rs items : List Request) (capacity : ℕ) (b : Arbiter) → AllRightful owner items
     → record { lists = lists_of items; owner = owner; capacity = capacity } ≡ b → rs ≡ items
     → (o : ℕ) → b.owner ≡ Some o → IfSome (find (λ r. r.priority == 1) rs) (λ r. r.sender ≡ o)
 found-owned owner rs items capacity b all view same o is =
-    rw (same, find-first items) (owner-find owner o items all (ap (λ (x : Bus). x.owner) view ∙ is))
+    rw (same, find-first items) (owner-find owner o items all (ap (λ (x : Arbiter). x.owner) view ∙ is))
 
 -- a queue that is not full has room
-pub not-full : (rs : List Request) (room capacity : ℕ) (owner : Option ℕ) (b : Bus) → IsKept rs room capacity owner
+pub not-full : (rs : List Request) (room capacity : ℕ) (owner : Option ℕ) (b : Arbiter) → IsKept rs room capacity owner
     → record { lists = lists_of rs; owner = owner; capacity = capacity } ≡ b → (total b ≡ b.capacity → IsTrue false) → length rs < capacity
 not-full rs room capacity owner b kept view other =
     let count : total (record { lists = lists_of rs; owner = owner; capacity = capacity }) ≡ length rs = total-lists owner rs kept.rightful in
-    let unlike : length rs ≡ capacity → ⊥ = λ e. let no : IsTrue false = other (subst (λ (x : Bus). total x ≡ x.capacity) view (count ∙ e)) in absurd (cc) in
+    let unlike : length rs ≡ capacity → ⊥ = λ e. let no : IsTrue false = other (subst (λ (x : Arbiter). total x ≡ x.capacity) view (count ∙ e)) in absurd (cc) in
     omega (arith, kept.fits, unlike)
 
 -- what stays true where a request comes

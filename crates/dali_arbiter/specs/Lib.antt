@@ -1,3 +1,3 @@
 pub mod Numbers
-pub mod Bus
+pub mod Arbiter
 pub mod Listed

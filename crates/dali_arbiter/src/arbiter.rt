@@ -1,8 +1,11 @@
-ghost use Rattle.std.specs.Prelude.{◌≡◌, ℕ, ◌<◌, ◌≤◌, ◌↔◌, ◌⊎◌, List, [], length, Some, None, IsSome, IfSome, IfOk, IfErr, OnErr, IsErrOf, IsTrue};
+ghost use Rattle.std.specs.Prelude.{◌≡◌, ℕ, ◌<◌, ◌≤◌, ◌↔◌, ◌⊎◌, List, [], length, Some, None, IsSome, IfSome, IfOk};
+ghost use Rattle.std.specs.Prelude.{IfErr, OnErr, IsErrOf, IsTrue};
 ghost use Rattle.std.specs.List.{AllByRecursion};
 ghost use Rattle.dali_arbiter.specs.declared.request.Request.{Request};
 ghost use Rattle.dali_arbiter.specs.declared.error.NewError.TheVariants.{BadCapacity};
-ghost use Rattle.dali_arbiter.specs.Bus.{Bus, idle, total, next, request_of, offer_refusal, offered, sent, destroyed, collision, collided, lapsed, silenced, first_list, taken, freed, is_barred};
+ghost use Rattle.dali_arbiter.specs.Arbiter.{Arbiter, idle, total, next, request_of, offer_refusal, bus_offered};
+ghost use Rattle.dali_arbiter.specs.Arbiter.{bus_sent, bus_destroyed, collision, bus_collided, bus_lapsed};
+ghost use Rattle.dali_arbiter.specs.Arbiter.{bus_silenced, first_list, bus_taken, bus_freed, is_barred};
 
 use crate::error::{NewError, OfferError};
 use crate::request::Request;
@@ -22,9 +25,9 @@ pub struct Arbiter {
 }
 
 impl Model for Arbiter {
-    ghost use Rattle.dali_arbiter.specs.Bus.{Bus};
+    ghost use Rattle.dali_arbiter.specs.Arbiter.{Arbiter};
 
-    ghost Value = { Bus };
+    ghost Value = { Arbiter };
 
     ghost use Rattle.std.specs.Prelude.{vec_capacity};
     ghost use Rattle.dali_arbiter.specs.Listed.{lists_of, IsKept};
@@ -62,7 +65,7 @@ impl Arbiter {
         frame: Forward,
     ) -> Result<(), OfferError>
         ensures ok { IfOk result (λ _. offer_refusal self.old (request_of sender priority frame) ≡ None) }
-        ensures put { IfOk result (λ _. self.new ≡ offered self.old (request_of sender priority frame)) }
+        ensures put { IfOk result (λ _. self.new ≡ bus_offered self.old (request_of sender priority frame)) }
         ensures refused { IfErr result (λ e. offer_refusal self.old (request_of sender priority frame) ≡ Some e) }
         ensures unchanged { OnErr result (self.new ≡ self.old) }
     {
@@ -101,7 +104,7 @@ impl Arbiter {
     /// list of priority 1 is emptied.
     pub fn sent(&mut self, more: bool)
         requires { IsSome (next self.old) }
-        ensures { self.new ≡ sent self.old more }
+        ensures { self.new ≡ bus_sent self.old more }
     {
         let request = self.take();
         if more {
@@ -111,11 +114,11 @@ impl Arbiter {
         }
     }
 
-    /// The next request was destroyed on the bus: it leaves, nobody owns the bus, and the list of priority 1 is emptied.
-    /// There must be one: `pick` showed it.
+    /// The next request was destroyed on the bus: it leaves, nobody owns the bus, and the list of priority 1 is
+    /// emptied. There must be one: `pick` showed it.
     pub fn destroyed(&mut self)
         requires { IsSome (next self.old) }
-        ensures { self.new ≡ destroyed self.old }
+        ensures { self.new ≡ bus_destroyed self.old }
     {
         self.take();
         self.free();
@@ -126,7 +129,7 @@ impl Arbiter {
     pub fn collided(&mut self) -> Option<Request>
         requires { IsSome (next self.old) }
         ensures other { result ≡ collision self.old.lists }
-        ensures bus { self.new ≡ collided self.old }
+        ensures bus { self.new ≡ bus_collided self.old }
     {
         let other = waiting::colliding(&self.waiting);
         self.take();
@@ -140,7 +143,7 @@ impl Arbiter {
     /// Ownership ends: nobody owns the bus, and the list of priority 1 is emptied. Answers who owned it.
     pub fn lapse(&mut self) -> Option<u8>
         ensures owner { result ≡ self.old.owner }
-        ensures bus { self.new ≡ lapsed self.old }
+        ensures bus { self.new ≡ bus_lapsed self.old }
     {
         let owner = self.owner;
         self.free();
@@ -151,7 +154,7 @@ impl Arbiter {
     ///
     /// Where it owned the bus, the list of priority 1 is emptied.
     pub fn silence(&mut self, sender: u8)
-        ensures { self.new ≡ silenced self.old sender }
+        ensures { self.new ≡ bus_silenced self.old sender }
     {
         waiting::drop_sender(&mut self.waiting, sender);
         if self.owner == Some(sender) {
@@ -213,14 +216,14 @@ impl Arbiter {
     fn take(&mut self) -> Request
         requires { IsSome (next self.old) }
         ensures value { next self.old ≡ Some result }
-        ensures bus { self.new ≡ taken self.old }
+        ensures bus { self.new ≡ bus_taken self.old }
         ensures owned { (owner : ℕ) → self.old.owner ≡ Some owner → result.sender ≡ owner }
     {
         waiting::take_first(&mut self.waiting)
     }
 
     fn free(&mut self)
-        ensures { self.new ≡ freed self.old }
+        ensures { self.new ≡ bus_freed self.old }
     {
         waiting::empty_first(&mut self.waiting);
         self.owner = None;

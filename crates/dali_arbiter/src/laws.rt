@@ -2,11 +2,12 @@
 
 ghost use Rattle.std.specs.Prelude.{◌≡◌, List, Some};
 ghost use Rattle.dali_arbiter.specs.declared.request.Request.{Request};
-ghost use Rattle.dali_arbiter.specs.Bus.{Bus, next, first_waiting, without_first, collision};
+ghost use Rattle.dali_arbiter.specs.Arbiter.{Arbiter, next, first_waiting, without_first, collision};
 
 /// The other request of a collision has another sender, and is the next one once the first is taken.
 pub fn collisions_are_of_two_senders()
-    ensures senders { (b : Bus) (r q : Request) → next b ≡ Some r → collision b.lists ≡ Some q → r.sender ≡ q.sender → ⊥ }
+    ensures senders { (b : Arbiter) (r q : Request) → next b ≡ Some r → collision b.lists ≡ Some q → r.sender ≡ q.sender
+        → ⊥ }
     ensures then_next { (lists : List (List Request)) (q : Request) → collision lists ≡ Some q
         → first_waiting (without_first lists) ≡ Some q }
 {}

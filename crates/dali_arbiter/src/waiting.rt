@@ -1,7 +1,8 @@
-ghost use Rattle.std.specs.Prelude.{◌≡◌, ℕ, ◌+◌, ◌<◌, ◌≤◌, List, [], Option, Some, None, IsSome, IfSome, IfNone, ◌==◌, not, filter, map, find, ◌∷◌, length, slice_get, vec_len, vec_capacity};
+ghost use Rattle.std.specs.Prelude.{◌≡◌, ℕ, ◌+◌, ◌<◌, ◌≤◌, List, [], Option, Some, None, IsSome, IfSome, IfNone, ◌==◌};
+ghost use Rattle.std.specs.Prelude.{not, filter, map, find, ◌∷◌, length, slice_get, vec_len, vec_capacity};
 ghost use Rattle.std.specs.List.{position_from};
 ghost use Rattle.dali_arbiter.specs.declared.request.Request.{Request};
-ghost use Rattle.dali_arbiter.specs.Bus.{first_waiting, without_first, first_emptied, collision, without_sender};
+ghost use Rattle.dali_arbiter.specs.Arbiter.{first_waiting, without_first, first_emptied, collision, without_sender};
 ghost use Rattle.dali_arbiter.specs.Listed.{of_priority, lists_of, AllRightful, IsFirstAt};
 
 use crate::request::Request;

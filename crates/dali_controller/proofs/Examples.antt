@@ -3,7 +3,7 @@ use Rattle.dali_frame.specs.declared.frames.Answer.TheVariants.{Silence}
 use Rattle.dali_frame.specs.declared.numbers.SearchAddress.{SearchAddress}
 use Rattle.dali_special.specs.Command.{frame}
 use Rattle.dali_script.specs.declared.stage.Stage.TheVariants.{Probed, Inconclusive, Withdrawn}
-use Rattle.dali_script.specs.Records.{Records}
+use Rattle.dali_script.specs.Records.{Kept}
 use Rattle.dali_script.specs.Stages.{stage_of}
 use Rattle.dali_orders.specs.declared.orders.Input.{Input}
 use Rattle.dali_orders.specs.declared.orders.Input.TheVariants as input
@@ -11,21 +11,21 @@ use Rattle.dali_orders.specs.declared.orders.Order.TheVariants.{Put, Done}
 use Rattle.dali_orders.specs.declared.orders.End.{End}
 use Rattle.dali_orders.specs.declared.orders.End.TheVariants.{AllFound}
 use Rattle.dali_orders.specs.Due.{due_after, accepts}
-use Rattle.dali_controller.specs.Progress.{Progress, at_first, lost, silent_after}
+use Rattle.dali_controller.specs.Machine.{Machine, at_first, machine_lost, silent_after}
 use Rattle.dali_controller.specs.Orders.{closing_by}
 
 -- WORKED EXAMPLES of the definitions.
 
 -- TERMINATE before an opening was complete begins the opening, and no close
-opening_is_no_close : (k : Records) → closing_by (at_first 0 k) (Put 3 (frame 0xA1 0)) ≡ None
+opening_is_no_close : (k : Kept) → closing_by (at_first 0 k) (Put 3 (frame 0xA1 0)) ≡ None
 opening_is_no_close k = refl
 
 -- after a probe that was heard as silence it begins a close with all-found
-close_after_a_silent_probe : (t : Progress) (r : SearchAddress) → t.opened ≡ true → t.closing ≡ None → stage_of t.trace ≡ Probed r Silence → closing_by t (Put 3 (frame 0xA1 0)) ≡ Some AllFound
+close_after_a_silent_probe : (t : Machine) (r : SearchAddress) → t.opened ≡ true → t.closing ≡ None → stage_of t.trace ≡ Probed r Silence → closing_by t (Put 3 (frame 0xA1 0)) ≡ Some AllFound
 close_after_a_silent_probe t r opened none stage = rw (opened, none, stage) refl
 
 -- a close that was lost is begun again with its end
-close_again : (t : Progress) (e : End) → t.opened ≡ true → t.closing ≡ Some e → closing_by t (Put 3 (frame 0xA1 0)) ≡ Some e
+close_again : (t : Machine) (e : End) → t.opened ≡ true → t.closing ≡ Some e → closing_by t (Put 3 (frame 0xA1 0)) ≡ Some e
 close_again t e opened is = rw (opened, is) refl
 
 -- a visit that led to no gear counts only after the opening, and one that led to gear ends the row
@@ -39,7 +39,7 @@ gear_end_the_row : (r : SearchAddress) → silent_after (Withdrawn r 5) true 3 �
 gear_end_the_row r = refl
 
 -- a lost frame is a try
-a_lost_frame_is_a_try : (k : Records) → (lost (at_first 0 k)).tries ≡ 1
+a_lost_frame_is_a_try : (k : Kept) → (machine_lost (at_first 0 k)).tries ≡ 1
 a_lost_frame_is_a_try k = refl
 
 -- after an end nothing is due

@@ -18,15 +18,15 @@ use Rattle.dali_script.specs.declared.records.Record.{Record}
 use Rattle.dali_script.specs.declared.records.Record.TheVariants.{Reserve, Enrol}
 use Rattle.dali_script.specs.declared.stage.Stage.{Stage}
 use Rattle.dali_script.specs.declared.stage.Stage.TheVariants.{Free, Terminated, InitialisedOnce, Initialised, RandomisedOnce, Opened, HighSent, MiddleSent, NumberSent, Found, Unnamed, Inconclusive, Programmed, Confirmed, Withdrawn}
-use Rattle.dali_script.specs.Records.{IsKept, IsOnce, with_record, HasAddress, Records, Assignment, Has, HasNumber, Fits, IsFresh}
+use Rattle.dali_script.specs.Records.{IsKept, IsOnce, with_record, HasAddress, Kept, Assignment, Has, HasRandom, Fits, IsFresh}
 use Rattle.dali_script.specs.Scripts.{MayGive, Lawful}
 use Rattle.dali_script.specs.Findings.{later, finding_of}
 use Rattle.dali_script.specs.Stages.{finding_at, stage_of, next_stage, queried, named, verified, answered, Follows}
 use Rattle.dali_script.proofs.Transactions.{turn, gives, lawful_follows, stage_none, stage_more, finding_after}
-use Rattle.dali_enrol.specs.Roster.{Roster}
+use Rattle.dali_enrol.specs.Table.{Table}
 use Rattle.dali_search.specs.declared.step.Step.TheVariants.{Again}
 use Rattle.dali_script.proofs.Lists.{has_map, has_at, has_last}
-use Rattle.dali_search.specs.Least.{Searched}
+use Rattle.dali_search.specs.Least.{Search}
 use Rattle.dali_orders.specs.declared.orders.Order.{Order}
 use Rattle.dali_orders.specs.declared.orders.Order.TheVariants.{Put, Commit, Done, Halt}
 use Rattle.dali_orders.specs.declared.orders.End.{End}
@@ -37,30 +37,30 @@ use Rattle.dali_controller.specs.declared.purpose.Purpose.{Purpose}
 use Rattle.dali_controller.specs.declared.purpose.Purpose.TheVariants.{Opening, Probing, Visiting, Closing}
 use Rattle.dali_controller.specs.declared.work.Work.{Work}
 use Rattle.dali_orders.specs.Due.{due_after, frame_put}
-use Rattle.dali_controller.specs.Progress.{lost, Progress, roster_of, opened_after, silent_after, tries_after}
-use Rattle.dali_controller.specs.Orders.{Contradicts, closing_by, Cause, IsBegun, AfterMask, IsOrdered, ordered, end_at}
-use Rattle.dali_controller.specs.Moments.{FoundAt, IsBetween, Closes, closing_of, seen, first_of, Sends, Arrived, Knows, KnowsAt, IsCalm, CalmAt, IsReady, IsSending, Pending, IsFine, IsHeard, Turns, Begins, IsNext}
+use Rattle.dali_controller.specs.Machine.{machine_lost, Machine, table_of, opened_after, silent_after, tries_after}
+use Rattle.dali_controller.specs.Orders.{Contradicts, closing_by, Cause, IsBegun, AfterMask, IsOrdered, machine_ordered, end_at}
+use Rattle.dali_controller.specs.Moments.{FoundAt, IsBetween, Closes, closing_of, machine_of, first_of, Sends, Arrived, Knows, KnowsAt, IsCalm, CalmAt, IsReady, IsSending, Pending, IsFine, IsHeard, Turns, Begins, IsNext}
 
 -- THE COMMANDS OF A TRANSACTION. A command that is sent at a stage may follow there and is read from its frame; it is no
 -- direct arc power; past the first one no close runs; and what is known where it leads to.
-record Goes (k : Records) (n : SearchAddress) (p : Purpose) (s : Stage) (c : Command) : Type 0 where
+record Goes (k : Kept) (n : SearchAddress) (p : Purpose) (s : Stage) (c : Command) : Type 0 where
   pub follows : Follows k.block k.reserved s c
   pub spelled : IsSpelled c
   pub addressing : (g : Forward) → c ≡ Arc g → ⊥
   pub unclosed : (s ≡ Free → ⊥) → closing_of p ≡ None
   pub arrives : (h : Answer) → Arrived k n p (next_stage s c h)
 
-going : {k : Records} {n : SearchAddress} {p : Purpose} {s : Stage} {c : Command} → Follows k.block k.reserved s c → IsSpelled c → ((g : Forward) → c ≡ Arc g → ⊥) → ((s ≡ Free → ⊥) → closing_of p ≡ None)
+going : {k : Kept} {n : SearchAddress} {p : Purpose} {s : Stage} {c : Command} → Follows k.block k.reserved s c → IsSpelled c → ((g : Forward) → c ≡ Arc g → ⊥) → ((s ≡ Free → ⊥) → closing_of p ≡ None)
     → ((h : Answer) → Arrived k n p (next_stage s c h)) → Goes k n p s c
 going {k} {n} {p} {s} {c} follows spelled addressing unclosed arrives =
     record { follows = follows; spelled = spelled; addressing = addressing; unclosed = unclosed; arrives = arrives }
 
-goes_first : (k : Records) (n : SearchAddress) (p : Purpose) → Goes k n p Free (first_of p n)
+goes_first : (k : Kept) (n : SearchAddress) (p : Purpose) → Goes k n p Free (first_of p n)
 goes_first k n Opening = going (turn refl refl) tt (λ g x. cc) (λ later. refl) (λ h. inl refl)
 goes_first k n (Closing e) = going (turn refl refl) tt (λ g x. cc) (λ later. absurd (later refl)) (λ h. inr (e, refl))
 goes_first k n _ = going (turn refl refl) tt (λ g x. cc) (λ later. refl) (λ h. (SearchMiddle n.middle, (refl, refl, tt)))
 
-arrives_queried : (k : Records) (n r : SearchAddress) (h : Answer) → r ≡ n → Arrived k n Visiting (queried r h)
+arrives_queried : (k : Kept) (n r : SearchAddress) (h : Answer) → r ≡ n → Arrived k n Visiting (queried r h)
 arrives_queried k n r Silence is = (refl, is)
 arrives_queried k n r Damaged is = (refl, is)
 arrives_queried k n r (Byte v) is = go (short_of v) (v == MASK) where
@@ -69,7 +69,7 @@ arrives_queried k n r (Byte v) is = go (short_of v) (v == MASK) where
   go None true = (refl, is)
   go None false = (refl, is)
 
-arrives_verified : (k : Records) (n r : SearchAddress) (a : ℕ) (h : Answer) → r ≡ n → MayGive k.block k.reserved r a → Arrived k n Visiting (verified r a h)
+arrives_verified : (k : Kept) (n r : SearchAddress) (a : ℕ) (h : Answer) → r ≡ n → MayGive k.block k.reserved r a → Arrived k n Visiting (verified r a h)
 arrives_verified k n r a Silence is may = (refl, is)
 arrives_verified k n r a Damaged is may = (refl, is)
 arrives_verified k n r a (Byte v) is may = go (short_of v) where
@@ -86,7 +86,7 @@ whole n high middle one two = rw (← one, ← two) refl
 some_is : (x c : Command) → Some x ≡ Some c → c ≡ x
 some_is x c e = cc
 
-goes : (k : Records) (n : SearchAddress) (p : Purpose) (s : Stage) (c : Command) → Sends k n p s c → Goes k n p s c
+goes : (k : Kept) (n : SearchAddress) (p : Purpose) (s : Stage) (c : Command) → Sends k n p s c → Goes k n p s c
 goes k n Opening Terminated c e = rw (some_is _ c e.0) (going (turn refl refl) tt (λ g x. cc) (λ later. refl) (λ h. (Initialise Unaddressed, (refl, tt, tt))))
 goes k n Opening InitialisedOnce c e = rw (some_is _ c e.0) (going (turn refl refl) tt (λ g x. cc) (λ later. refl) (λ h. (Randomise, (refl, tt, tt))))
 goes k n Opening Initialised c e = rw (some_is _ c e.0) (going (turn refl refl) tt (λ g x. cc) (λ later. refl) (λ h. (Randomise, (refl, tt, tt))))
@@ -104,11 +104,11 @@ goes k n Visiting (Programmed r a) c e = rw (some_is _ c e.0) (going (gives refl
 goes k n Visiting (Confirmed r a) c e = rw (some_is _ c e.0) (going (gives refl e.2) tt (λ g x. cc) (λ later. refl) (λ h. (refl, sym e.1)))
 goes k n _ _ c e = absurd (let none = e.0 in cc)
 
-not_withdrawn : (k : Records) (n : SearchAddress) (p : Purpose) (r : SearchAddress) (b : ℕ) (c : Command) → Sends k n p (Withdrawn r b) c → ⊥
+not_withdrawn : (k : Kept) (n : SearchAddress) (p : Purpose) (r : SearchAddress) (b : ℕ) (c : Command) → Sends k n p (Withdrawn r b) c → ⊥
 not_withdrawn k n p r b c e = let on = (goes k n p (Withdrawn r b) c e).follows.leads_on in cc
 
 -- what is known there
-pub knows_at : (k : Records) (n : SearchAddress) (s : Searched) (o : Bool) (p : Purpose) (there : Stage) → Knows k n s o p → KnowsAt there k n s (opened_after there o) p
+pub knows_at : (k : Kept) (n : SearchAddress) (s : Search) (o : Bool) (p : Purpose) (there : Stage) → Knows k n s o p → KnowsAt there k n s (opened_after there o) p
 knows_at k n s o p Opened e = refl
 knows_at k n s o p _ e = e
 
@@ -116,7 +116,7 @@ calm_visiting : (o : Bool) (i : ℕ) → i < 16 → (r : SearchAddress) (other :
 calm_visiting true i h r other = (omega arith, λ e. refl)
 calm_visiting false i h r other = (omega arith, λ e. absurd (omega arith))
 
-pub calm_at : (k : Records) (n : SearchAddress) (o : Bool) (p : Purpose) (i : ℕ) (there : Stage) → Arrived k n p there → IsCalm p i → CalmAt there p (opened_after there o) (silent_after there o i)
+pub calm_at : (k : Kept) (n : SearchAddress) (o : Bool) (p : Purpose) (i : ℕ) (there : Stage) → Arrived k n p there → IsCalm p i → CalmAt there p (opened_after there o) (silent_after there o i)
 calm_at k n o p i (Inconclusive r other) there e =
     let h : i < 16 = subst (λ q. IsCalm q i) there.0 e in
     calm_visiting o i h r other
@@ -130,11 +130,11 @@ tries_less true n h = omega arith
 tries_less false n h = h
 
 -- and at the next command again
-pub sends_calm : (k : Records) (n : SearchAddress) (p : Purpose) (s : Stage) (c : Command) (o : Bool) (i : ℕ) → Sends k n p s c → CalmAt s p o i → IsCalm p i
+pub sends_calm : (k : Kept) (n : SearchAddress) (p : Purpose) (s : Stage) (c : Command) (o : Bool) (i : ℕ) → Sends k n p s c → CalmAt s p o i → IsCalm p i
 sends_calm k n p (Inconclusive r other) c o i e calm = absurd (let on = (goes k n p (Inconclusive r other) c e).follows.leads_on in cc)
 sends_calm k n p _ c o i e calm = calm
 
-pub sends_knows : (k : Records) (n : SearchAddress) (p : Purpose) (s : Stage) (c : Command) (x : Searched) (o : Bool) → Sends k n p s c → KnowsAt s k n x o p → Knows k n x o p
+pub sends_knows : (k : Kept) (n : SearchAddress) (p : Purpose) (s : Stage) (c : Command) (x : Search) (o : Bool) → Sends k n p s c → KnowsAt s k n x o p → Knows k n x o p
 sends_knows k n p Opened c x o e knows = absurd (let on = (goes k n p Opened c e).follows.leads_on in cc)
 sends_knows k n p _ c x o e knows = knows
 
@@ -178,10 +178,10 @@ put_fine_at w s c p f h e read = record {
 pub put_fine : (w : Work) (s : Stage) (c : Command) (p : ℕ) (f : Forward) → IsHeard w s → Sends w.kept w.number w.purpose s c → (IsSpelled c → command_of f ≡ c) → IsFine (record w { last = Some (Put p f) })
 put_fine w s c p f h e read = put_fine_at w s c p f h e (read (goes w.kept w.number w.purpose s c e).spelled)
 
-begun_none : (t : Progress) (o : Option End) → o ≡ None → t.closing ≡ None → IsBegun t o
+begun_none : (t : Machine) (o : Option End) → o ≡ None → t.closing ≡ None → IsBegun t o
 begun_none t o is none = subst (IsBegun t) (sym is) none
 
-put_masked : (w : Work) (s : Stage) (c : Command) (r : SearchAddress) → Sends w.kept w.number w.purpose s c → s ≡ Unnamed r → AfterMask (seen w) r (Put LATER (frame_of c))
+put_masked : (w : Work) (s : Stage) (c : Command) (r : SearchAddress) → Sends w.kept w.number w.purpose s c → s ≡ Unnamed r → AfterMask (machine_of w) r (Put LATER (frame_of c))
 put_masked w s c r e is =
     let there : Sends w.kept w.number w.purpose (Unnamed r) c = subst (λ x. Sends w.kept w.number w.purpose x c) is e in
     inl (there.2.0, there.2.2.reserved_for, refl, ap frame_of there.2.3)
@@ -190,7 +190,7 @@ not_empty : (t : List Entry) (s : Stage) → stage_of t ≡ s → (s ≡ Free �
 not_empty t s is later empty = later (sym is ∙ ap stage_of empty ∙ stage_none)
 
 put_next_at : (w : Work) (s : Stage) (c : Command) → IsHeard w s → Sends w.kept w.number w.purpose s c → (s ≡ Free → ⊥)
-    → IsNext (seen w) (Put LATER (frame_of c)) (seen (record w { last = Some (Put LATER (frame_of c)) }))
+    → IsNext (machine_of w) (Put LATER (frame_of c)) (machine_of (record w { last = Some (Put LATER (frame_of c)) }))
 put_next_at w s c h e later =
     let going : closing_of w.purpose ≡ None = (goes w.kept w.number w.purpose s c e).unclosed later in
     let calm : w.silent < 16 = calm_less w.purpose w.silent going (sends_calm w.kept w.number w.purpose s c w.opened w.silent e h.calm) in
@@ -206,7 +206,7 @@ put_next_at w s c h e later =
           lawful_follows w.kept.block w.kept.reserved w.trace (frame_of c) (goes w.kept w.number w.purpose (stage_of w.trace) (command_of (frame_of c)) sends).follows,
         );
         addressing = λ g is. (goes w.kept w.number w.purpose s c e).addressing g (sym spelled ∙ is);
-        caused = (begun_none (seen w) (closing_of w.purpose) going going, inl going);
+        caused = (begun_none (machine_of w) (closing_of w.purpose) going going, inl going);
         given_up = λ n. absurd (omega arith);
         silent = λ n. absurd (omega arith);
         unnamed = λ r is. put_masked w s c r e (sym h.stage ∙ is);
@@ -216,25 +216,25 @@ put_next_at w s c h e later =
     }
 
 pub put_next : (w : Work) (s : Stage) (c : Command) (p : ℕ) (f : Forward) → IsHeard w s → Sends w.kept w.number w.purpose s c → (s ≡ Free → ⊥) → p ≡ LATER → f ≡ frame_of c
-    → IsNext (seen w) (Put p f) (seen (record w { last = Some (Put p f) }))
+    → IsNext (machine_of w) (Put p f) (machine_of (record w { last = Some (Put p f) }))
 put_next w s c p f h e later first is =
-    subst (λ q. IsNext (seen w) (Put q f) (seen (record w { last = Some (Put q f) }))) (sym first)
-    (subst (λ g. IsNext (seen w) (Put LATER g) (seen (record w { last = Some (Put LATER g) }))) (sym is) (put_next_at w s c h e later))
+    subst (λ q. IsNext (machine_of w) (Put q f) (machine_of (record w { last = Some (Put q f) }))) (sym first)
+    (subst (λ g. IsNext (machine_of w) (Put LATER g) (machine_of (record w { last = Some (Put LATER g) }))) (sym is) (put_next_at w s c h e later))
 
 -- TO BEGIN
-closes : (w : Work) (p : Purpose) (n : SearchAddress) → Begins w p n → closing_by (seen w) (Put FIRST (frame_of (first_of p n))) ≡ closing_of p
+closes : (w : Work) (p : Purpose) (n : SearchAddress) → Begins w p n → closing_by (machine_of w) (Put FIRST (frame_of (first_of p n))) ≡ closing_of p
 closes w Opening n b = rw b.knows b.turns
 closes w (Closing e) n b = rw b.knows (go b.turns.cause) where
-  go : (closing_of w.purpose ≡ Some e) ⊎ ((closing_of w.purpose ≡ None) × (end_at (stage_of w.trace) ≡ e) × Cause (seen w) e)
+  go : (closing_of w.purpose ≡ Some e) ⊎ ((closing_of w.purpose ≡ None) × (end_at (stage_of w.trace) ≡ e) × Cause (machine_of w) e)
       → Some (unwrap_or (closing_of w.purpose) (end_at (stage_of w.trace))) ≡ Some e
   go (inl is) = rw is refl
   go (inr is) = rw (is.0, is.1) refl
 closes w _ n b = b.turns
 
-begun : (w : Work) (p : Purpose) → Turns w p → IsBegun (seen w) (closing_of p)
+begun : (w : Work) (p : Purpose) → Turns w p → IsBegun (machine_of w) (closing_of p)
 begun w (Closing e) t = go t.cause where
-  go : (closing_of w.purpose ≡ Some e) ⊎ ((closing_of w.purpose ≡ None) × (end_at (stage_of w.trace) ≡ e) × Cause (seen w) e)
-      → (closing_of w.purpose ≡ Some e) ⊎ ((closing_of w.purpose ≡ None) × Cause (seen w) e)
+  go : (closing_of w.purpose ≡ Some e) ⊎ ((closing_of w.purpose ≡ None) × (end_at (stage_of w.trace) ≡ e) × Cause (machine_of w) e)
+      → (closing_of w.purpose ≡ Some e) ⊎ ((closing_of w.purpose ≡ None) × Cause (machine_of w) e)
   go (inl is) = inl is
   go (inr is) = inr (is.0, is.2)
 begun w _ t = t
@@ -247,24 +247,24 @@ silent_closes : (p : Purpose) (i : ℕ) → IsCalm p i → i ≡ 16 → closing_
 silent_closes (Closing e) i calm is = ap (λ x. Some x) (calm.1 is)
 silent_closes _ i calm is = absurd (omega arith)
 
-first_read : (k : Records) (p : Purpose) (n : SearchAddress) → command_of (frame_of (first_of p n)) ≡ first_of p n
+first_read : (k : Kept) (p : Purpose) (n : SearchAddress) → command_of (frame_of (first_of p n)) ≡ first_of p n
 first_read k p n = read_written (first_of p n) (goes_first k n p).spelled
 
-first_lawful : (k : Records) (p : Purpose) (n : SearchAddress) → Lawful k.block k.reserved [] (frame_of (first_of p n))
+first_lawful : (k : Kept) (p : Purpose) (n : SearchAddress) → Lawful k.block k.reserved [] (frame_of (first_of p n))
 first_lawful k p n =
     lawful_follows k.block k.reserved [] (frame_of (first_of p n)) (rw (first_read k p n, stage_none) (goes_first k n p).follows)
 
 begin_next_at : (w : Work) (p : Purpose) (n : SearchAddress) → Begins w p n
-    → IsNext (seen w) (Put FIRST (frame_of (first_of p n))) (seen (record w { trace = []; last = Some (Put FIRST (frame_of (first_of p n))); purpose = p; number = n }))
+    → IsNext (machine_of w) (Put FIRST (frame_of (first_of p n))) (machine_of (record w { trace = []; last = Some (Put FIRST (frame_of (first_of p n))); purpose = p; number = n }))
 begin_next_at w p n b =
     let tries : w.tries < 8 = b.tries in
-    let closed : closing_by (seen w) (Put FIRST (frame_of (first_of p n))) ≡ closing_of p = closes w p n b in
+    let closed : closing_by (machine_of w) (Put FIRST (frame_of (first_of p n))) ≡ closing_of p = closes w p n b in
     record {
       order = record {
         allowed = inl (refl, first_lawful w.kept p n);
         addressing = λ g is. (goes_first w.kept n p).addressing g (sym (first_read w.kept p n) ∙ is);
         caused = (
-          subst (IsBegun (seen w)) (sym closed) (begun w p b.turns),
+          subst (IsBegun (machine_of w)) (sym closed) (begun w p b.turns),
           subst (λ o. (o ≡ None) ⊎ ((FIRST ≡ FIRST) × (frame_of (first_of p n) ≡ frame_of Terminate))) (sym closed) (terminates p n),
         );
         given_up = λ e. absurd (omega arith);
@@ -286,11 +286,11 @@ begin_next_at w p n b =
     }
 
 pub begin_next : (w : Work) (p : Purpose) (n : SearchAddress) (t : List Entry) (q : ℕ) (f : Forward) → Begins w p n → t ≡ [] → q ≡ FIRST → f ≡ frame_of (first_of p n)
-    → IsNext (seen w) (Put q f) (seen (record w { trace = t; last = Some (Put q f); purpose = p; number = n }))
+    → IsNext (machine_of w) (Put q f) (machine_of (record w { trace = t; last = Some (Put q f); purpose = p; number = n }))
 begin_next w p n t q f b empty first is =
-    subst (λ u. IsNext (seen w) (Put q f) (seen (record w { trace = u; last = Some (Put q f); purpose = p; number = n }))) (sym empty)
-    (subst (λ x. IsNext (seen w) (Put x f) (seen (record w { trace = []; last = Some (Put x f); purpose = p; number = n }))) (sym first)
-    (subst (λ g. IsNext (seen w) (Put FIRST g) (seen (record w { trace = []; last = Some (Put FIRST g); purpose = p; number = n }))) (sym is) (begin_next_at w p n b)))
+    subst (λ u. IsNext (machine_of w) (Put q f) (machine_of (record w { trace = u; last = Some (Put q f); purpose = p; number = n }))) (sym empty)
+    (subst (λ x. IsNext (machine_of w) (Put x f) (machine_of (record w { trace = []; last = Some (Put x f); purpose = p; number = n }))) (sym first)
+    (subst (λ g. IsNext (machine_of w) (Put FIRST g) (machine_of (record w { trace = []; last = Some (Put FIRST g); purpose = p; number = n }))) (sym is) (begin_next_at w p n b)))
 
 free_of : (t : List Entry) → t ≡ [] → stage_of t ≡ Free
 free_of t empty = ap stage_of empty ∙ stage_none
@@ -306,7 +306,7 @@ begin_fine w p n t q f b empty is = record {
 }
 
 -- TO STORE
-pub commit_fine : (w : Work) (x : Record) (t : List Entry) → w.table ≡ roster_of w.kept → IsReady w → w.purpose ≡ Visiting → Fits w.kept.block x → IsFresh w.kept x → t ≡ []
+pub commit_fine : (w : Work) (x : Record) (t : List Entry) → w.table ≡ table_of w.kept → IsReady w → w.purpose ≡ Visiting → Fits w.kept.block x → IsFresh w.kept x → t ≡ []
     → IsFine (record w { trace = t; last = Some (Commit x) })
 commit_fine w x t table ready visiting fits fresh empty = record {
   table = table;
@@ -355,7 +355,7 @@ hear_heard w noted f h t s complete o n i fine put trace is stage tries silent o
     from : Arrived w.kept w.number w.purpose (stage_of noted.trace) → IsReady w → noted.finding ≡ later w.finding (finding_at (stage_of noted.trace)) → finding_of noted.trace ≡ finding_at (stage_of noted.trace)
         → IsHeard (record noted { tries = n; silent = i; opened = o }) (stage_of noted.trace)
     from arrived ready finding trace_finding = record {
-      table = ap (λ (x : Work). x.table) is ∙ fine.table ∙ ap roster_of (ap (λ (x : Work). x.kept) (sym is));
+      table = ap (λ (x : Work). x.table) is ∙ fine.table ∙ ap table_of (ap (λ (x : Work). x.kept) (sym is));
       stage = refl;
       tries = subst (λ m. m < 8) (sym (tries ∙ ap (λ m. tries_after complete m) (ap (λ (x : Work). x.tries) is))) (tries_less complete w.tries ready.tries);
       arrived = subst (λ (x : Work). Arrived x.kept x.number x.purpose (stage_of noted.trace)) (sym is) arrived;
@@ -390,7 +390,7 @@ probes w n b opened running is = record {
   found = b.found;
 }
 
-pub visits : (w : Work) (n : SearchAddress) → IsBetween w → value_of n < MASK24 → (w.opened ≡ false → HasNumber w.kept.reserved (value_of n)) → Begins w Visiting n
+pub visits : (w : Work) (n : SearchAddress) → IsBetween w → value_of n < MASK24 → (w.opened ≡ false → HasRandom w.kept.reserved (value_of n)) → Begins w Visiting n
 visits w n b drawn reserved = record {
   table = b.table;
   tries = b.tries;
@@ -432,7 +432,7 @@ lost_begins w t fine put empty more =
       found = λ r b e. absurd (cc);
     }
 
-lost_ended_at : (w : Work) → IsReady w → w.tries + 1 ≡ 8 → IsOrdered (lost (seen w)) (Done GaveUp)
+lost_ended_at : (w : Work) → IsReady w → w.tries + 1 ≡ 8 → IsOrdered (machine_lost (machine_of w)) (Done GaveUp)
 lost_ended_at w ready is =
     let free : stage_of [] ≡ Free = stage_none in
     record {
@@ -445,32 +445,32 @@ lost_ended_at w ready is =
       found = λ r b e. absurd (cc);
     }
 
-pub lost_ended : (w : Work) (t : List Entry) (o : Order) (new : Progress) → IsFine w → due_after w.last ≡ due.Bus → t ≡ [] → w.tries + 1 ≡ 8 → o ≡ Done GaveUp
-    → new ≡ ordered (seen (record w { trace = t; tries = w.tries + 1 })) o → IsNext (lost (seen w)) o new
+pub lost_ended : (w : Work) (t : List Entry) (o : Order) (new : Machine) → IsFine w → due_after w.last ≡ due.Bus → t ≡ [] → w.tries + 1 ≡ 8 → o ≡ Done GaveUp
+    → new ≡ machine_ordered (machine_of (record w { trace = t; tries = w.tries + 1 })) o → IsNext (machine_lost (machine_of w)) o new
 lost_ended w t o new fine put empty is done state = record {
-  order = subst (IsOrdered (lost (seen w))) (sym done) (lost_ended_at w (waiting w w.last put fine.pending) is);
-  state = state ∙ ap (λ u. ordered (seen (record w { trace = u; tries = w.tries + 1 })) o) empty;
+  order = subst (IsOrdered (machine_lost (machine_of w))) (sym done) (lost_ended_at w (waiting w w.last put fine.pending) is);
+  state = state ∙ ap (λ u. machine_ordered (machine_of (record w { trace = u; tries = w.tries + 1 })) o) empty;
 }
 
-pub lost_next : (w : Work) (t : List Entry) (o : Order) (new : Progress) → t ≡ [] → IsNext (seen (record w { trace = t; tries = w.tries + 1 })) o new → IsNext (lost (seen w)) o new
-lost_next w t o new empty next = subst (λ u. IsNext (seen (record w { trace = u; tries = w.tries + 1 })) o new) empty next
+pub lost_next : (w : Work) (t : List Entry) (o : Order) (new : Machine) → t ≡ [] → IsNext (machine_of (record w { trace = t; tries = w.tries + 1 })) o new → IsNext (machine_lost (machine_of w)) o new
+lost_next w t o new empty next = subst (λ u. IsNext (machine_of (record w { trace = u; tries = w.tries + 1 })) o new) empty next
 
 -- TO GIVE
-may_give : (k : Records) (r : SearchAddress) (a : ℕ) → IsKept k → Has k.reserved (a, value_of r) → MayGive k.block k.reserved r a
+may_give : (k : Kept) (r : SearchAddress) (a : ℕ) → IsKept k → Has k.reserved (a, value_of r) → MayGive k.block k.reserved r a
 may_give k r a m h = record {
   drawn = m.reserved_drawn (value_of r) (has_map (λ q. q.1) k.reserved (a, value_of r) h);
   within = m.within a (has_map (λ q. q.0) k.reserved (a, value_of r) h);
   reserved_for = h;
 }
 
-pub sends_program : (k : Records) (n r : SearchAddress) (p : Purpose) (a m : ℕ) → IsKept k → (p ≡ Visiting) × (r ≡ n) → m ≡ value_of r → Has k.reserved (a, m) → Sends k n p (Unnamed r) (Program (Some a))
+pub sends_program : (k : Kept) (n r : SearchAddress) (p : Purpose) (a m : ℕ) → IsKept k → (p ≡ Visiting) × (r ≡ n) → m ≡ value_of r → Has k.reserved (a, m) → Sends k n p (Unnamed r) (Program (Some a))
 sends_program k n r p a m kept visiting is h =
     let there : Has k.reserved (a, value_of r) = subst (λ v. Has k.reserved (a, v)) is h in
     (visiting.0, visiting.1, (a, kept.reserved.short a (has_map (λ q. q.0) k.reserved (a, value_of r) there), may_give k r a kept there, refl))
 
 -- TO SETTLE
-entries_of : (w : Work) → w.table ≡ roster_of w.kept → w.table.entries ≡ w.kept.enrolled
-entries_of w is = ap (λ (t : Roster). t.entries) is
+entries_of : (w : Work) → w.table ≡ table_of w.kept → w.table.entries ≡ w.kept.enrolled
+entries_of w is = ap (λ (t : Table). t.entries) is
 
 settled_calm : (w : Work) (r : SearchAddress) (b : ℕ) → IsHeard w (Withdrawn r b) → w.silent < 16
 settled_calm w r b h = subst (λ p. IsCalm p w.silent) h.arrived.0 h.calm
@@ -481,7 +481,7 @@ same_address r q b d e = cc
 same_number : (r q : SearchAddress) (b d : ℕ) → Withdrawn r b ≡ Withdrawn q d → r ≡ q
 same_number r q b d e = cc
 
-halted_at : (w : Work) (r : SearchAddress) (b : ℕ) → IsHeard w (Withdrawn r b) → Contradicts w.kept.enrolled b (value_of r) → IsOrdered (seen w) (Halt fault.Conflict)
+halted_at : (w : Work) (r : SearchAddress) (b : ℕ) → IsHeard w (Withdrawn r b) → Contradicts w.kept.enrolled b (value_of r) → IsOrdered (machine_of w) (Halt fault.Conflict)
 halted_at w r b h conflict =
     let tries : w.tries < 8 = h.tries in
     let calm : w.silent < 16 = settled_calm w r b h in
@@ -498,18 +498,18 @@ halted_at w r b h conflict =
           subst (λ n. Contradicts w.kept.enrolled d (value_of n)) (same_number r q b d there) (subst (λ a. Contradicts w.kept.enrolled a (value_of r)) (same_address r q b d there) conflict);
     }
 
-halted : (w : Work) (r : SearchAddress) (b : ℕ) (o : Order) (new : Progress) → IsHeard w (Withdrawn r b) → Contradicts w.kept.enrolled b (value_of r) → o ≡ Halt fault.Conflict → new ≡ ordered (seen w) o → IsNext (seen w) o new
-halted w r b o new h conflict is state = record { order = subst (IsOrdered (seen w)) (sym is) (halted_at w r b h conflict); state = state }
+halted : (w : Work) (r : SearchAddress) (b : ℕ) (o : Order) (new : Machine) → IsHeard w (Withdrawn r b) → Contradicts w.kept.enrolled b (value_of r) → o ≡ Halt fault.Conflict → new ≡ machine_ordered (machine_of w) o → IsNext (machine_of w) o new
+halted w r b o new h conflict is state = record { order = subst (IsOrdered (machine_of w)) (sym is) (halted_at w r b h conflict); state = state }
 
 -- the table has the address for another gear
-pub halts_by_address : (w : Work) (r : SearchAddress) (b n m : ℕ) (o : Order) (new : Progress) → IsHeard w (Withdrawn r b) → Has w.table.entries (b, n) → m ≡ value_of r → (n ≡ m → ⊥)
-    → o ≡ Halt fault.Conflict → new ≡ ordered (seen w) o → IsNext (seen w) o new
+pub halts_by_address : (w : Work) (r : SearchAddress) (b n m : ℕ) (o : Order) (new : Machine) → IsHeard w (Withdrawn r b) → Has w.table.entries (b, n) → m ≡ value_of r → (n ≡ m → ⊥)
+    → o ≡ Halt fault.Conflict → new ≡ machine_ordered (machine_of w) o → IsNext (machine_of w) o new
 halts_by_address w r b n m o new h has is other order state =
     halted w r b o new h (inl (n, subst (λ xs. Has xs (b, n)) (entries_of w h.table) has, λ e. other (e ∙ sym is))) order state
 
 -- or the gear with another address
-pub halts_by_random : (w : Work) (r : SearchAddress) (b a m : ℕ) (o : Order) (new : Progress) → IsHeard w (Withdrawn r b) → (HasAddress w.table.entries b → ⊥) → Has w.table.entries (a, m) → m ≡ value_of r
-    → o ≡ Halt fault.Conflict → new ≡ ordered (seen w) o → IsNext (seen w) o new
+pub halts_by_random : (w : Work) (r : SearchAddress) (b a m : ℕ) (o : Order) (new : Machine) → IsHeard w (Withdrawn r b) → (HasAddress w.table.entries b → ⊥) → Has w.table.entries (a, m) → m ≡ value_of r
+    → o ≡ Halt fault.Conflict → new ≡ machine_ordered (machine_of w) o → IsNext (machine_of w) o new
 halts_by_random w r b a m o new h none has is order state =
     halted w r b o new h (inr (
       a,
@@ -517,7 +517,7 @@ halts_by_random w r b a m o new h none has is order state =
       λ e. none (subst (HasAddress w.table.entries) e (has_map (λ q. q.0) w.table.entries (a, m) has)),
     )) order state
 
-enrols_at : (w : Work) (r : SearchAddress) (b : ℕ) → IsHeard w (Withdrawn r b) → (HasAddress w.kept.enrolled b → ⊥) → (HasNumber w.kept.enrolled (value_of r) → ⊥) → IsOrdered (seen w) (Commit (Enrol b (value_of r)))
+enrols_at : (w : Work) (r : SearchAddress) (b : ℕ) → IsHeard w (Withdrawn r b) → (HasAddress w.kept.enrolled b → ⊥) → (HasRandom w.kept.enrolled (value_of r) → ⊥) → IsOrdered (machine_of w) (Commit (Enrol b (value_of r)))
 enrols_at w r b h none fresh =
     let tries : w.tries < 8 = h.tries in
     let calm : w.silent < 16 = settled_calm w r b h in
@@ -535,22 +535,22 @@ enrols_at w r b h none fresh =
           ap (λ a. Enrol a (value_of r)) (same_address r q b d there) ∙ ap (λ n. Enrol d (value_of n)) (same_number r q b d there);
     }
 
-pub enrols : (w : Work) (r : SearchAddress) (b m : ℕ) (o : Order) (new : Progress) → IsHeard w (Withdrawn r b) → (HasAddress w.table.entries b → ⊥) → (HasNumber w.table.entries m → ⊥) → m ≡ value_of r
-    → o ≡ Commit (Enrol b m) → new ≡ ordered (seen w) o → IsNext (seen w) o new
+pub enrols : (w : Work) (r : SearchAddress) (b m : ℕ) (o : Order) (new : Machine) → IsHeard w (Withdrawn r b) → (HasAddress w.table.entries b → ⊥) → (HasRandom w.table.entries m → ⊥) → m ≡ value_of r
+    → o ≡ Commit (Enrol b m) → new ≡ machine_ordered (machine_of w) o → IsNext (machine_of w) o new
 enrols w r b m o new h none fresh is order state = record {
-  order = subst (IsOrdered (seen w)) (sym (order ∙ ap (λ n. Commit (Enrol b n)) is))
-      (enrols_at w r b h (subst (λ xs. HasAddress xs b → ⊥) (entries_of w h.table) none) (subst (λ xs. HasNumber xs (value_of r) → ⊥) (entries_of w h.table) (subst (λ n. HasNumber w.table.entries n → ⊥) is fresh)));
+  order = subst (IsOrdered (machine_of w)) (sym (order ∙ ap (λ n. Commit (Enrol b n)) is))
+      (enrols_at w r b h (subst (λ xs. HasAddress xs b → ⊥) (entries_of w h.table) none) (subst (λ xs. HasRandom xs (value_of r) → ⊥) (entries_of w h.table) (subst (λ n. HasRandom w.table.entries n → ⊥) is fresh)));
   state = state;
 }
 
 -- a number is reserved once its reservation is kept
-pub reserved_kept : (w new : Work) (x : Record) (a n m : ℕ) → x ≡ Reserve a n → new ≡ record w { kept = with_record w.kept x } → m ≡ n → HasNumber new.kept.reserved m
+pub reserved_kept : (w new : Work) (x : Record) (a n m : ℕ) → x ≡ Reserve a n → new ≡ record w { kept = with_record w.kept x } → m ≡ n → HasRandom new.kept.reserved m
 reserved_kept w new x a n m reserves is same =
-    let there : HasNumber (w.kept.reserved ++ (a, n) ∷ []) n = has_map (λ q. q.1) (w.kept.reserved ++ (a, n) ∷ []) (a, n) (has_last w.kept.reserved (a, n)) in
+    let there : HasRandom (w.kept.reserved ++ (a, n) ∷ []) n = has_map (λ q. q.1) (w.kept.reserved ++ (a, n) ∷ []) (a, n) (has_last w.kept.reserved (a, n)) in
     rw (is, reserves, same) there
 
 -- before the start
-pub fine_at_first : (w : Work) → w.table ≡ roster_of w.kept → w.trace ≡ [] → w.last ≡ None → w.tries ≡ 0 → w.silent ≡ 0 → w.opened ≡ false → w.purpose ≡ Opening → IsFine w
+pub fine_at_first : (w : Work) → w.table ≡ table_of w.kept → w.trace ≡ [] → w.last ≡ None → w.tries ≡ 0 → w.silent ≡ 0 → w.opened ≡ false → w.purpose ≡ Opening → IsFine w
 fine_at_first w table trace last tries silent opened opening = record {
   table = table;
   pending = rw last (record {
@@ -571,7 +571,7 @@ once_before key (x ∷ xs) zero d once h has = has
 once_before key (x ∷ xs) (suc i) d once h (inl same) = once.0 (subst (Has (map key xs)) (sym same) (has_map key xs (get_or xs i d) (has_at xs i d (omega arith))))
 once_before key (x ∷ xs) (suc i) d once h (inr more) = once_before key xs i d once.1 (omega arith) more
 
-pub not_before : (key : Assignment → ℕ) (xs : List Assignment) (i : ℕ) (p : Assignment) (t : Roster) (b : Block) → IsOnce (map key xs) → i < length xs → p ≡ get_or xs i p
+pub not_before : (key : Assignment → ℕ) (xs : List Assignment) (i : ℕ) (p : Assignment) (t : Table) (b : Block) → IsOnce (map key xs) → i < length xs → p ≡ get_or xs i p
     → t ≡ record { block = b; entries = take i xs } → Has (map key t.entries) (key p) → ⊥
 not_before key xs i p t b once h is table has =
-    once_before key xs i p once h (subst (λ q. Has (map key (take i xs)) (key q)) is (subst (λ (u : Roster). Has (map key u.entries) (key p)) table has))
+    once_before key xs i p once h (subst (λ q. Has (map key (take i xs)) (key q)) is (subst (λ (u : Table). Has (map key u.entries) (key p)) table has))

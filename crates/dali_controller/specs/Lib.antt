@@ -1,4 +1,4 @@
 pub mod Refusals
-pub mod Progress
+pub mod Machine
 pub mod Orders
 pub mod Moments

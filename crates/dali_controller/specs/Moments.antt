@@ -4,27 +4,36 @@ use Rattle.dali_frame.specs.declared.numbers.SearchAddress.{SearchAddress}
 use Rattle.dali_frame.specs.Random.{value_of, MASK24}
 use Rattle.dali_special.specs.declared.command.Target.TheVariants.{Unaddressed}
 use Rattle.dali_special.specs.declared.command.Command.{Command}
-use Rattle.dali_special.specs.declared.command.Command.TheVariants.{Terminate, Initialise, Randomise, Compare, Withdraw, SearchHigh, SearchMiddle, SearchLow, Program, QueryShort}
+use Rattle.dali_special.specs.declared.command.Command.TheVariants.{Terminate, Initialise}
+use Rattle.dali_special.specs.declared.command.Command.TheVariants.{Randomise, Compare, Withdraw}
+use Rattle.dali_special.specs.declared.command.Command.TheVariants.{SearchHigh, SearchMiddle}
+use Rattle.dali_special.specs.declared.command.Command.TheVariants.{SearchLow, Program, QueryShort}
 use Rattle.dali_special.specs.Command.{command_of}
 use Rattle.dali_script.specs.declared.records.Record.{Record}
 use Rattle.dali_script.specs.declared.stage.Stage.{Stage}
-use Rattle.dali_script.specs.declared.stage.Stage.TheVariants.{Free, Terminated, InitialisedOnce, Initialised, RandomisedOnce, Opened, HighSent, MiddleSent, NumberSent, Probed, Found, Unnamed, Inconclusive, Programmed, Confirmed, Withdrawn}
-use Rattle.dali_script.specs.Records.{Records, Assignment, Has, HasNumber, Fits, IsFresh, IsFull}
+use Rattle.dali_script.specs.declared.stage.Stage.TheVariants.{Free, Terminated, InitialisedOnce}
+use Rattle.dali_script.specs.declared.stage.Stage.TheVariants.{Initialised, RandomisedOnce, Opened}
+use Rattle.dali_script.specs.declared.stage.Stage.TheVariants.{HighSent, MiddleSent, NumberSent}
+use Rattle.dali_script.specs.declared.stage.Stage.TheVariants.{Probed, Found, Unnamed, Inconclusive}
+use Rattle.dali_script.specs.declared.stage.Stage.TheVariants.{Programmed, Confirmed, Withdrawn}
+use Rattle.dali_script.specs.Records.{Kept, Assignment, Has, HasRandom, Fits, IsFresh, IsFull}
 use Rattle.dali_script.specs.Scripts.{MayGive}
 use Rattle.dali_script.specs.Findings.{finding_of}
 use Rattle.dali_script.specs.Stages.{stage_of, given, IsSearched}
 use Rattle.dali_search.specs.declared.step.Step.TheVariants.{Again}
-use Rattle.dali_search.specs.Least.{Searched}
+use Rattle.dali_search.specs.Least.{Search}
 use Rattle.dali_orders.specs.declared.orders.Input.{Input}
 use Rattle.dali_orders.specs.declared.orders.Order.{Order}
 use Rattle.dali_orders.specs.declared.orders.Order.TheVariants.{Put, Commit, Done, Halt}
 use Rattle.dali_orders.specs.declared.orders.End.{End}
 use Rattle.dali_orders.specs.declared.orders.End.TheVariants.{BlockFull, GaveUp}
 use Rattle.dali_controller.specs.declared.purpose.Purpose.{Purpose}
-use Rattle.dali_controller.specs.declared.purpose.Purpose.TheVariants.{Opening, Probing, Visiting, Closing}
+use Rattle.dali_controller.specs.declared.purpose.Purpose.TheVariants.{Opening, Probing, Visiting}
+use Rattle.dali_controller.specs.declared.purpose.Purpose.TheVariants.{Closing}
 use Rattle.dali_controller.specs.declared.work.Work.{Work}
-use Rattle.dali_controller.specs.Progress.{Progress, roster_of}
-use Rattle.dali_controller.specs.Orders.{Cause, end_at, IsOrdered, ordered, IsAnswered, after}
+use Rattle.dali_controller.specs.Machine.{Machine, table_of}
+use Rattle.dali_controller.specs.Orders.{Cause, end_at, IsOrdered, machine_ordered, IsAnswered}
+use Rattle.dali_controller.specs.Orders.{machine_after}
 
 -- What holds inside a machine between its moments. Its public contract cites none of this.
 
@@ -33,8 +42,8 @@ closing_of (Closing e) = Some e
 closing_of _ = None
 
 -- what contracts see
-abbrev pub seen : Work → Progress
-seen w = record {
+abbrev pub machine_of : Work → Machine
+machine_of w = record {
   id = w.id;
   kept = w.kept;
   trace = w.trace;
@@ -52,7 +61,8 @@ first_of Opening n = Terminate
 first_of (Closing e) n = Terminate
 first_of _ n = SearchHigh n.high
 
--- THE TURN: which command a transaction sends at a stage past the first, except PROGRAM SHORT ADDRESS
+-- THE TURN: which command a transaction sends at a stage past the first, except PROGRAM SHORT
+-- ADDRESS
 abbrev pub search_turn : SearchAddress → Stage → Option Command
 search_turn n (HighSent high) = Some (SearchMiddle n.middle)
 search_turn n (MiddleSent high middle) = Some (SearchLow n.low)
@@ -72,15 +82,20 @@ turn_of Visiting n (Confirmed r a) = Some Withdraw
 turn_of Visiting n s = search_turn n s
 turn_of _ n _ = None
 
--- which command is sent at a stage, with the transaction's search address, and with what may be given
-abbrev pub Sends : Records → SearchAddress → Purpose → Stage → Command → Type 0
+-- which command is sent at a stage, with the transaction's search address, and with what may be
+-- given
+abbrev pub Sends : Kept → SearchAddress → Purpose → Stage → Command → Type 0
 Sends k n p Free c = c ≡ first_of p n
 Sends k n p (Unnamed r) c =
-    (p ≡ Visiting) × (r ≡ n) × ((a : ℕ) × (a < 64) × MayGive k.block k.reserved r a × (c ≡ Program (Some a)))
-Sends k n p s c = (turn_of p n s ≡ Some c) × IsSearched s n × IfSome (given s c) (λ g. MayGive k.block k.reserved g.0 g.1)
+    (p ≡ Visiting) × (r ≡ n)
+        × ((a : ℕ) × (a < 64) × MayGive k.block k.reserved r a × (c ≡ Program (Some a)))
+Sends k n p s c =
+    (turn_of p n s ≡ Some c) × IsSearched s n
+    × IfSome (given s c) (λ g. MayGive k.block k.reserved g.0 g.1)
 
--- what is known at a stage of the transaction that led there: its end, or that there is a command to send
-abbrev pub Arrived : Records → SearchAddress → Purpose → Stage → Type 0
+-- what is known at a stage of the transaction that led there: its end, or that there is a command
+-- to send
+abbrev pub Arrived : Kept → SearchAddress → Purpose → Stage → Type 0
 Arrived k n p Free = ⊥
 Arrived k n p Terminated = (p ≡ Opening) ⊎ ((e : End) × (p ≡ Closing e))
 Arrived k n p Opened = p ≡ Opening
@@ -90,16 +105,17 @@ Arrived k n p (Inconclusive r other) = (p ≡ Visiting) × (r ≡ n)
 Arrived k n p (Withdrawn r b) = (p ≡ Visiting) × (r ≡ n)
 Arrived k n p s = (c : Command) × Sends k n p s c
 
--- What is known while a transaction runs: whether an opening was complete, and where its number comes from. In the visits
--- before the opening it is reserved.
-abbrev pub Knows : Records → SearchAddress → Searched → Bool → Purpose → Type 0
+-- What is known while a transaction runs: whether an opening was complete, and where its number
+-- comes from. In the visits before the opening it is reserved.
+abbrev pub Knows : Kept → SearchAddress → Search → Bool → Purpose → Type 0
 Knows k n s opened Opening = opened ≡ false
 Knows k n s opened Probing = (opened ≡ true) × (s.step ≡ Again) × (value_of n ≡ s.probe)
-Knows k n s opened Visiting = (value_of n < MASK24) × (opened ≡ false → HasNumber k.reserved (value_of n))
+Knows k n s opened Visiting =
+    (value_of n < MASK24) × (opened ≡ false → HasRandom k.reserved (value_of n))
 Knows k n s opened (Closing e) = opened ≡ true
 
 -- at the end of an opening it is complete
-abbrev pub KnowsAt : Stage → Records → SearchAddress → Searched → Bool → Purpose → Type 0
+abbrev pub KnowsAt : Stage → Kept → SearchAddress → Search → Bool → Purpose → Type 0
 KnowsAt Opened k n s opened p = opened ≡ true
 KnowsAt _ k n s opened p = Knows k n s opened p
 
@@ -148,12 +164,12 @@ Pending w (Some (Halt why)) = Unit {0}
 
 -- what holds between two inputs
 pub record IsFine (w : Work) : Type 0 where
-  pub table : w.table ≡ roster_of w.kept
+  pub table : w.table ≡ table_of w.kept
   pub pending : Pending w w.last
 
 -- what holds where a frame was just heard
 pub record IsHeard (w : Work) (s : Stage) : Type 0 where
-  pub table : w.table ≡ roster_of w.kept
+  pub table : w.table ≡ table_of w.kept
   pub stage : stage_of w.trace ≡ s
   pub tries : w.tries < 8
   pub arrived : Arrived w.kept w.number w.purpose s
@@ -164,17 +180,19 @@ pub record IsHeard (w : Work) (s : Stage) : Type 0 where
 
 -- what holds where a transaction may end without a record and without a close
 pub record IsBetween (w : Work) : Type 0 where
-  pub table : w.table ≡ roster_of w.kept
+  pub table : w.table ≡ table_of w.kept
   pub tries : w.tries < 8
   pub silent : w.silent < 16
   pub going : closing_of w.purpose ≡ None
   pub unnamed : (r : SearchAddress) → stage_of w.trace ≡ Unnamed r → ⊥
-  pub found : (r : SearchAddress) (b : ℕ) → stage_of w.trace ≡ Withdrawn r b → Has w.kept.enrolled (b, value_of r)
+  pub found : (r : SearchAddress) (b : ℕ) → stage_of w.trace ≡ Withdrawn r b
+      → Has w.kept.enrolled (b, value_of r)
 
 -- a close is begun with its cause, or again
 pub record IsTurn (w : Work) (e : End) : Type 0 where
   pub opened : w.opened ≡ true
-  pub cause : (closing_of w.purpose ≡ Some e) ⊎ ((closing_of w.purpose ≡ None) × (end_at (stage_of w.trace) ≡ e) × Cause (seen w) e)
+  pub cause : (closing_of w.purpose ≡ Some e)
+      ⊎ ((closing_of w.purpose ≡ None) × (end_at (stage_of w.trace) ≡ e) × Cause (machine_of w) e)
 
 abbrev pub Turns : Work → Purpose → Type 0
 Turns w (Closing e) = IsTurn w e
@@ -182,33 +200,36 @@ Turns w _ = closing_of w.purpose ≡ None
 
 -- what holds where a transaction begins
 pub record Begins (w : Work) (p : Purpose) (n : SearchAddress) : Type 0 where
-  pub table : w.table ≡ roster_of w.kept
+  pub table : w.table ≡ table_of w.kept
   pub tries : w.tries < 8
   pub calm : IsCalm p w.silent
   pub knows : Knows w.kept n w.search w.opened p
   pub turns : Turns w p
   pub unnamed : (r : SearchAddress) → stage_of w.trace ≡ Unnamed r
-      → (HasNumber w.kept.reserved (value_of r) → ⊥) × IsFull w.kept.block w.kept.reserved × (p ≡ Closing BlockFull)
-  pub found : (r : SearchAddress) (b : ℕ) → stage_of w.trace ≡ Withdrawn r b → Has w.kept.enrolled (b, value_of r)
+      → (HasRandom w.kept.reserved (value_of r) → ⊥) × IsFull w.kept.block w.kept.reserved
+          × (p ≡ Closing BlockFull)
+  pub found : (r : SearchAddress) (b : ℕ) → stage_of w.trace ≡ Withdrawn r b
+      → Has w.kept.enrolled (b, value_of r)
 
 -- what holds where a close is begun
 pub record Closes (w : Work) (e : End) : Type 0 where
-  pub table : w.table ≡ roster_of w.kept
+  pub table : w.table ≡ table_of w.kept
   pub tries : w.tries < 8
   pub calm : IsCalm (Closing e) w.silent
   pub opened : w.opened ≡ true
   pub going : closing_of w.purpose ≡ None
   pub end : end_at (stage_of w.trace) ≡ e
-  pub cause : Cause (seen w) e
+  pub cause : Cause (machine_of w) e
   pub unnamed : (r : SearchAddress) → stage_of w.trace ≡ Unnamed r
-      → (HasNumber w.kept.reserved (value_of r) → ⊥) × IsFull w.kept.block w.kept.reserved × (e ≡ BlockFull)
+      → (HasRandom w.kept.reserved (value_of r) → ⊥) × IsFull w.kept.block w.kept.reserved
+          × (e ≡ BlockFull)
   pub found : (r : SearchAddress) (b : ℕ) → stage_of w.trace ≡ Withdrawn r b → ⊥
 
 -- an order that a machine of which this is seen may give, and what is seen after it
-pub record IsNext (t : Progress) (o : Order) (new : Progress) : Type 0 where
+pub record IsNext (t : Machine) (o : Order) (new : Machine) : Type 0 where
   pub order : IsOrdered t o
-  pub state : new ≡ ordered t o
+  pub state : new ≡ machine_ordered t o
 
-pub record IsStep (m : Progress) (i : Input) (o : Order) (new : Progress) : Type 0 where
+pub record IsStep (m : Machine) (i : Input) (o : Order) (new : Machine) : Type 0 where
   pub order : IsAnswered m i o
-  pub state : new ≡ after m i o
+  pub state : new ≡ machine_after m i o

@@ -1,4 +1,5 @@
-use Rattle.std.specs.Prelude.{◌≡◌, ℕ, ◌⊎◌, Bool, true, ◌==◌, ◌&&◌, if◌then◌else◌, List, [], Option, Some, None, unwrap_or}
+use Rattle.std.specs.Prelude.{◌≡◌, ℕ, ◌⊎◌, Bool, true, ◌==◌, ◌&&◌, if◌then◌else◌, List, [], Option}
+use Rattle.std.specs.Prelude.{Some, None, unwrap_or}
 use Rattle.dali_frame.specs.declared.frames.Forward.{Forward}
 use Rattle.dali_frame.specs.declared.frames.Answer.TheVariants.{Silence}
 use Rattle.dali_frame.specs.declared.numbers.SearchAddress.{SearchAddress}
@@ -10,8 +11,10 @@ use Rattle.dali_script.specs.declared.records.Record.{Record}
 use Rattle.dali_script.specs.declared.records.Record.TheVariants.{Reserve, Enrol}
 use Rattle.dali_script.specs.declared.trace.Entry.{Entry}
 use Rattle.dali_script.specs.declared.stage.Stage.{Stage}
-use Rattle.dali_script.specs.declared.stage.Stage.TheVariants.{Terminated, Probed, Unnamed, Withdrawn}
-use Rattle.dali_script.specs.Records.{Assignment, Has, HasNumber, Fits, IsFresh, IsLeastFree, IsFull}
+use Rattle.dali_script.specs.declared.stage.Stage.TheVariants.{Terminated, Probed, Unnamed}
+use Rattle.dali_script.specs.declared.stage.Stage.TheVariants.{Withdrawn}
+use Rattle.dali_script.specs.Records.{Assignment, Has, HasRandom, Fits, IsFresh, IsLeastFree}
+use Rattle.dali_script.specs.Records.{IsFull}
 use Rattle.dali_script.specs.Scripts.{Lawful}
 use Rattle.dali_script.specs.Findings.{finding_of}
 use Rattle.dali_script.specs.Stages.{stage_of}
@@ -22,7 +25,7 @@ use Rattle.dali_orders.specs.declared.orders.Order.TheVariants.{Put, Commit, Don
 use Rattle.dali_orders.specs.declared.orders.End.{End}
 use Rattle.dali_orders.specs.declared.orders.End.TheVariants.{AllFound, BlockFull, GaveUp}
 use Rattle.dali_orders.specs.declared.orders.Fault.TheVariants as fault
-use Rattle.dali_controller.specs.Progress.{Progress, told}
+use Rattle.dali_controller.specs.Machine.{Machine, machine_told}
 
 -- WHAT AN ORDER DOES, to a machine that was told an input.
 
@@ -35,18 +38,22 @@ end_at (Probed r h) = AllFound
 end_at (Unnamed r) = BlockFull
 end_at _ = GaveUp
 
--- A close is begun by TERMINATE as a first frame, once an opening was complete; before, TERMINATE begins an opening.
-abbrev pub closing_by : Progress → Order → Option End
-closing_by t (Put p f) = if (p == FIRST) && (is_terminate f && t.opened) then Some (unwrap_or t.closing (end_at (stage_of t.trace))) else t.closing
+-- A close is begun by TERMINATE as a first frame, once an opening was complete; before, TERMINATE
+-- begins an opening.
+abbrev pub closing_by : Machine → Order → Option End
+closing_by t (Put p f) =
+    if (p == FIRST) && (is_terminate f && t.opened)
+      then Some (unwrap_or t.closing (end_at (stage_of t.trace)))
+      else t.closing
 closing_by t _ = t.closing
 
 -- only a later frame goes on with the transaction
-abbrev pub trace_by : Progress → Order → List Entry
+abbrev pub trace_by : Machine → Order → List Entry
 trace_by t (Put p f) = if p == LATER then t.trace else []
 trace_by t _ = []
 
-abbrev pub ordered : Progress → Order → Progress
-ordered t o = record {
+abbrev pub machine_ordered : Machine → Order → Machine
+machine_ordered t o = record {
   id = t.id;
   kept = t.kept;
   trace = trace_by t o;
@@ -58,19 +65,22 @@ ordered t o = record {
   closing = closing_by t o;
 }
 
--- WHICH ORDERS A SITE ALLOWS. A first frame at 3, or a later one that is lawful after the running transaction, at 1.
-abbrev pub MayPut : Progress → ℕ → Forward → Type 0
+-- WHICH ORDERS A SITE ALLOWS. A first frame at 3, or a later one that is lawful after the running
+-- transaction, at 1.
+abbrev pub MayPut : Machine → ℕ → Forward → Type 0
 MayPut t p f =
-    ((p ≡ FIRST) × Lawful t.kept.block t.kept.reserved [] f) ⊎ ((p ≡ LATER) × (t.trace ≡ [] → ⊥) × Lawful t.kept.block t.kept.reserved t.trace f)
+    ((p ≡ FIRST) × Lawful t.kept.block t.kept.reserved [] f)
+        ⊎ ((p ≡ LATER) × (t.trace ≡ [] → ⊥) × Lawful t.kept.block t.kept.reserved t.trace f)
 
--- An address is reserved for gear that has answered MASK under its number. Enrolled is the last finding, and it is the one
--- of the running transaction.
-abbrev pub IsWarranted : Progress → Record → Type 0
-IsWarranted t (Reserve a r) = (n : SearchAddress) × (stage_of t.trace ≡ Unnamed n) × (value_of n ≡ r)
+-- An address is reserved for gear that has answered MASK under its number. Enrolled is the last
+-- finding, and it is the one of the running transaction.
+abbrev pub IsWarranted : Machine → Record → Type 0
+IsWarranted t (Reserve a r) =
+    (n : SearchAddress) × (stage_of t.trace ≡ Unnamed n) × (value_of n ≡ r)
 IsWarranted t (Enrol b r) = (t.finding ≡ Some (b, r)) × (finding_of t.trace ≡ Some (b, r))
 
 -- a record that fits, with neither its address nor its number in a record of its kind
-pub record MayCommit (t : Progress) (x : Record) : Type 0 where
+pub record MayCommit (t : Machine) (x : Record) : Type 0 where
   pub fits : Fits t.kept.block x
   pub fresh : IsFresh t.kept x
   pub warranted : IsWarranted t x
@@ -80,7 +90,7 @@ abbrev pub IsAddressing : Order → Type 0
 IsAddressing (Put p f) = (g : Forward) → command_of f ≡ Arc g → ⊥
 IsAddressing _ = Unit {0}
 
-abbrev pub IsAllowed : Progress → Order → Type 0
+abbrev pub IsAllowed : Machine → Order → Type 0
 IsAllowed t (Put p f) = MayPut t p f
 IsAllowed t (Commit x) = MayCommit t x
 IsAllowed t (Done e) = Unit {0}
@@ -89,49 +99,63 @@ IsAllowed t (Halt w) = Unit {0}
 -- THE CAUSES OF AN END.
 
 -- a close is begun with all-found only where the last probe, of FFFFFE, was heard as silence
-abbrev pub Cause : Progress → End → Type 0
-Cause t AllFound = (t.opened ≡ true) × ((r : SearchAddress) × (stage_of t.trace ≡ Probed r Silence) × (value_of r ≡ 0xFFFFFE))
-Cause t BlockFull = (r : SearchAddress) × (stage_of t.trace ≡ Unnamed r) × (HasNumber t.kept.reserved (value_of r) → ⊥) × IsFull t.kept.block t.kept.reserved
+abbrev pub Cause : Machine → End → Type 0
+Cause t AllFound =
+    (t.opened ≡ true)
+    × ((r : SearchAddress) × (stage_of t.trace ≡ Probed r Silence) × (value_of r ≡ 0xFFFFFE))
+Cause t BlockFull =
+    (r : SearchAddress) × (stage_of t.trace ≡ Unnamed r)
+    × (HasRandom t.kept.reserved (value_of r) → ⊥) × IsFull t.kept.block t.kept.reserved
 Cause t GaveUp = t.silent ≡ 16
 
 -- no close is begun, the close that runs is begun again, or a close is begun that has a cause
-abbrev pub IsBegun : Progress → Option End → Type 0
+abbrev pub IsBegun : Machine → Option End → Type 0
 IsBegun t None = t.closing ≡ None
 IsBegun t (Some e) = (t.closing ≡ Some e) ⊎ ((t.closing ≡ None) × Cause t e)
 
 -- the table has one of the two for another
 abbrev pub Contradicts : List Assignment → ℕ → ℕ → Type 0
-Contradicts xs b r = ((n : ℕ) × Has xs (b, n) × (n ≡ r → ⊥)) ⊎ ((a : ℕ) × Has xs (a, r) × (a ≡ b → ⊥))
+Contradicts xs b r =
+    ((n : ℕ) × Has xs (b, n) × (n ≡ r → ⊥)) ⊎ ((a : ℕ) × Has xs (a, r) × (a ≡ b → ⊥))
 
-abbrev pub IsCaused : Progress → Order → Type 0
-IsCaused t (Put p f) = IsBegun t (closing_by t (Put p f)) × ((closing_by t (Put p f) ≡ None) ⊎ ((p ≡ FIRST) × (f ≡ frame_of Terminate)))
+abbrev pub IsCaused : Machine → Order → Type 0
+IsCaused t (Put p f) =
+    IsBegun t (closing_by t (Put p f))
+    × ((closing_by t (Put p f) ≡ None) ⊎ ((p ≡ FIRST) × (f ≡ frame_of Terminate)))
 IsCaused t (Commit x) = t.closing ≡ None
-IsCaused t (Done e) = ((e ≡ GaveUp) × (t.tries ≡ 8)) ⊎ ((t.closing ≡ Some e) × (stage_of t.trace ≡ Terminated))
-IsCaused t (Halt fault.Conflict) = (b : ℕ) × (r : ℕ) × (t.finding ≡ Some (b, r)) × (finding_of t.trace ≡ Some (b, r)) × Contradicts t.kept.enrolled b r
+IsCaused t (Done e) =
+    ((e ≡ GaveUp) × (t.tries ≡ 8)) ⊎ ((t.closing ≡ Some e) × (stage_of t.trace ≡ Terminated))
+IsCaused t (Halt fault.Conflict) =
+    (b : ℕ) × (r : ℕ) × (t.finding ≡ Some (b, r)) × (finding_of t.trace ≡ Some (b, r))
+    × Contradicts t.kept.enrolled b r
 IsCaused t (Halt fault.Store) = ⊥
 
 -- WHAT A VISIT LEADS TO.
 
--- Gear that answered MASK is programmed with the address that is reserved for its number; else the least free address is
--- reserved for it; else there is none, and a close is begun.
-abbrev pub AfterMask : Progress → SearchAddress → Order → Type 0
+-- Gear that answered MASK is programmed with the address that is reserved for its number; else the
+-- least free address is reserved for it; else there is none, and a close is begun.
+abbrev pub AfterMask : Machine → SearchAddress → Order → Type 0
 AfterMask t r (Put p f) =
-    ((a : ℕ) × Has t.kept.reserved (a, value_of r) × (p ≡ LATER) × (f ≡ frame_of (Program (Some a)))) ⊎
-    ((HasNumber t.kept.reserved (value_of r) → ⊥) × IsFull t.kept.block t.kept.reserved × (closing_by t (Put p f) ≡ Some BlockFull))
-AfterMask t r (Commit (Reserve a n)) = (value_of r ≡ n) × (HasNumber t.kept.reserved n → ⊥) × IsLeastFree t.kept.block t.kept.reserved a
+    ((a : ℕ) × Has t.kept.reserved (a, value_of r) × (p ≡ LATER)
+        × (f ≡ frame_of (Program (Some a)))) ⊎
+    ((HasRandom t.kept.reserved (value_of r) → ⊥) × IsFull t.kept.block t.kept.reserved
+        × (closing_by t (Put p f) ≡ Some BlockFull))
+AfterMask t r (Commit (Reserve a n)) =
+    (value_of r ≡ n) × (HasRandom t.kept.reserved n → ⊥)
+    × IsLeastFree t.kept.block t.kept.reserved a
 AfterMask t r (Commit (Enrol b n)) = ⊥
 AfterMask t r (Done e) = ⊥
 AfterMask t r (Halt w) = ⊥
 
 -- gear that was withdrawn is enrolled, unless the table has it or contradicts it
-abbrev pub AfterFinding : Progress → SearchAddress → ℕ → Order → Type 0
+abbrev pub AfterFinding : Machine → SearchAddress → ℕ → Order → Type 0
 AfterFinding t r b (Put p f) = Has t.kept.enrolled (b, value_of r)
 AfterFinding t r b (Commit x) = x ≡ Enrol b (value_of r)
 AfterFinding t r b (Done e) = ⊥
 AfterFinding t r b (Halt w) = Contradicts t.kept.enrolled b (value_of r)
 
 -- THE ORDERS of a machine that was told an input.
-pub record IsOrdered (t : Progress) (o : Order) : Type 0 where
+pub record IsOrdered (t : Machine) (o : Order) : Type 0 where
   pub allowed : IsAllowed t o
   pub addressing : IsAddressing o
   pub caused : IsCaused t o
@@ -141,10 +165,10 @@ pub record IsOrdered (t : Progress) (o : Order) : Type 0 where
   pub found : (r : SearchAddress) (b : ℕ) → stage_of t.trace ≡ Withdrawn r b → AfterFinding t r b o
 
 -- the same for each input: where a record could not be kept, the machine halts
-abbrev pub IsAnswered : Progress → Input → Order → Type 0
+abbrev pub IsAnswered : Machine → Input → Order → Type 0
 IsAnswered m input.CommitFailed o = o ≡ Halt fault.Store
-IsAnswered m i o = IsOrdered (told m i) o
+IsAnswered m i o = IsOrdered (machine_told m i) o
 
 -- THE STATE AFTER A STEP, by the state before it, the input and the order.
-abbrev pub after : Progress → Input → Order → Progress
-after m i o = ordered (told m i) o
+abbrev pub machine_after : Machine → Input → Order → Machine
+machine_after m i o = machine_ordered (machine_told m i) o

@@ -1,7 +1,7 @@
 ghost use Rattle.std.specs.Prelude.{◌≡◌, IfOk};
-ghost use Rattle.dali_script.specs.Records.{HasAddress, HasNumber};
-ghost use Rattle.dali_enrol.specs.Roster.{with_entry};
-ghost use Rattle.dali_controller.specs.Progress.{roster_of};
+ghost use Rattle.dali_script.specs.Records.{HasAddress, HasRandom};
+ghost use Rattle.dali_enrol.specs.Table.{with_entry};
+ghost use Rattle.dali_controller.specs.Machine.{table_of};
 
 use crate::error::MachineError;
 use dali_enrol::Table;
@@ -12,7 +12,7 @@ use std::alloc::Global;
 /// The table of the enrolments that are kept.
 pub(crate) fn table_of(alloc: Global, block: Block, kept: &Kept) -> Result<Table, MachineError>
     requires { kept.now.block ≡ block }
-    ensures { IfOk result (λ table. table ≡ roster_of kept.now) }
+    ensures { IfOk result (λ table. table ≡ table_of kept.now) }
 {
     let Ok(mut table) = Table::new(alloc, block) else {
         return Err(MachineError::NoMemory);
@@ -27,7 +27,7 @@ pub(crate) fn table_of(alloc: Global, block: Block, kept: &Kept) -> Result<Table
 /// Enters gear into a table that has neither its address nor its number.
 pub(crate) fn enter(table: &mut Table, short: Short, number: Random24)
     requires address { HasAddress table.old.entries short → ⊥ }
-    requires number { HasNumber table.old.entries number → ⊥ }
+    requires number { HasRandom table.old.entries number → ⊥ }
     ensures { table.new ≡ with_entry table.old short number }
 {
     // So it is not refused.

@@ -1,8 +1,8 @@
 ghost use Rattle.std.specs.Prelude.{◌≡◌, ◌↔◌, true, Some, IsOk, IfOk, OnErr, IfSome};
 ghost use Rattle.dali_script.specs.Records.{Fits};
 ghost use Rattle.dali_orders.specs.Due.{due_after, accepts, record_ordered};
-ghost use Rattle.dali_controller.specs.Progress.{at_first, roster_of};
-ghost use Rattle.dali_controller.specs.Orders.{IsAnswered, after};
+ghost use Rattle.dali_controller.specs.Machine.{at_first, table_of};
+ghost use Rattle.dali_controller.specs.Orders.{IsAnswered, machine_after};
 
 use crate::entries::table_of;
 use crate::error::{MachineError, StepError};
@@ -18,46 +18,48 @@ use std::marker::Model;
 
 /// The machine of one application controller, which gives the short addresses of its block to the gear on a bus.
 ///
-/// It is told what happened and orders what is to be done next, one order at a time: a frame to be sent, or a record to be
-/// kept. It finds the gear without short address one by one, by their random addresses; it reserves an address for a gear
-/// and has that kept before it programs it, asks for the address back, and enrols what was heard. What a machine did before
-/// it was lost, a new one learns from the records that were kept: it first visits each reservation whose gear is not enrolled.
+/// It is told what happened and orders what is to be done next, one order at a time: a frame to be sent, or a record to
+/// be kept. It finds the gear without short address one by one, by their random addresses; it reserves an address for a
+/// gear and has that kept before it programs it, asks for the address back, and enrols what was heard. What a machine
+/// did before it was lost, a new one learns from the records that were kept: it first visits each reservation whose
+/// gear is not enrolled.
 ///
-/// How to drive it: make one with `new`, give `step` the input `Start`, do what it orders, give it what came of that, and so on
-/// until the order is `Done` or `Halt`. `step` alone changes it; `due`, `table` and `id` read it. No end is promised: a bus
-/// that loses every frame is given up after eight tries, but a bus on which gear come and go may keep it busy for good, so
-/// the caller bounds its loop.
+/// How to drive it: make one with `new`, give `step` the input `Start`, do what it orders, give it what came of that,
+/// and so on until the order is `Done` or `Halt`. `step` alone changes it; `due`, `table` and `id` read it. No end is
+/// promised: a bus that loses every frame is given up after eight tries, but a bus on which gear come and go may keep
+/// it busy for good, so the caller bounds its loop.
 ///
 /// | last order | what to do | inputs that are taken then |
 /// |---|---|---|
 /// | none | begin | `Start` |
-/// | `Put(3, frame)` | ask for the bus, and send the frame first in a new transaction | `Heard`, `Destroyed`, `Lapsed` |
+/// | `Put(3, frame)` | ask for the bus, and begin a transaction with the frame | `Heard`, `Destroyed`, `Lapsed` |
 /// | `Put(1, frame)` | send the frame next in the running transaction | `Heard`, `Destroyed`, `Lapsed` |
-/// | `Commit(record)` | keep the record where a loss of power spares it, and only then say so | `Committed`, `CommitFailed` |
-/// | `Done(end)`, `Halt(fault)` | nothing: it has ended, and a new machine starts from the records that were kept | none |
+/// | `Commit(record)` | keep the record safe from a loss of power, and only then say so | `Committed`, `CommitFailed` |
+/// | `Done(end)`, `Halt(fault)` | nothing: a new machine starts from the kept records | none |
 ///
-/// What answers what: a frame that was heard is followed by the next of its script, a later script's first, a `Commit` or the
-/// end; a frame that was destroyed or lapsed by the same script's first frame, eight times in a row by `Done(GaveUp)`;
-/// `Committed` by the next visit, the opening or a new search; `CommitFailed` by `Halt(Store)`.
+/// What answers what: a frame that was heard is followed by the next of its script, a later script's first, a `Commit`
+/// or the end; a frame that was destroyed or lapsed by the same script's first frame, eight times in a row by
+/// `Done(GaveUp)`; `Committed` by the next visit, the opening or a new search; `CommitFailed` by `Halt(Store)`.
 ///
-/// What the bus owes: no other controller's frame between two frames of one transaction; `Heard` of what was heard in the time
-/// of a backward frame, where an answer may be lost or damaged but is never another byte, and no byte is heard where no gear
-/// answered; `Destroyed` for each frame that was destroyed, whether gear took it or not; `Lapsed` where the bus is lost before
-/// the frame was sent.
+/// What the bus owes: no other controller's frame between two frames of one transaction; `Heard` of what was heard in
+/// the time of a backward frame, where an answer may be lost or damaged but is never another byte, and no byte is heard
+/// where no gear answered; `Destroyed` for each frame that was destroyed, whether gear took it or not; `Lapsed` where
+/// the bus is lost before the frame was sent.
 ///
-/// Contracts see the records, the running transaction, the last finding, the last order, and the counts by which it gives up.
+/// Contracts see the records, the running transaction, the last finding, the last order, and the counts by which it
+/// gives up.
 #[derive(Drop)]
 pub struct Machine {
     work: Work,
 }
 
 impl Model for Machine {
-    ghost use Rattle.dali_controller.specs.Progress.{Progress};
-    ghost use Rattle.dali_controller.specs.Moments.{seen, IsFine};
+    ghost use Rattle.dali_controller.specs.Machine.{Machine};
+    ghost use Rattle.dali_controller.specs.Moments.{machine_of, IsFine};
 
-    ghost Value = { Progress };
+    ghost Value = { Machine };
 
-    ghost view = { λ m. seen m.work };
+    ghost view = { λ m. machine_of m.work };
 
     ghost invariant = { λ m. IsFine m.work };
 }
@@ -65,8 +67,8 @@ impl Model for Machine {
 impl Machine {
     /// A machine that has not started. It takes all the memory that the machine will need.
     ///
-    /// `id` is the controller's number. `kept` are the records that it kept, or those that it may have kept, of the same block:
-    /// after a `Commit` whose end nobody saw, what the store holds decides.
+    /// `id` is the controller's number. `kept` are the records that it kept, or those that it may have kept, of the
+    /// same block: after a `Commit` whose end nobody saw, what the store holds decides.
     pub fn new(alloc: Global, id: u8, block: Block, kept: &Kept) -> Result<Machine, MachineError>
         requires { kept.now.block ≡ block }
         ensures { IfOk result (λ m. m ≡ at_first id kept.now) }
@@ -98,13 +100,13 @@ impl Machine {
 
     /// Takes an input, and orders what is to be done next. It takes no memory.
     ///
-    /// `NotDue`: the machine waits for something else, and nothing changed; `due` says for what. After `Done` and `Halt` it waits
-    /// for nothing. The block stays, and a record that is ordered fits it.
+    /// `NotDue`: the machine waits for something else, and nothing changed; `due` says for what. After `Done` and
+    /// `Halt` it waits for nothing. The block stays, and a record that is ordered fits it.
     pub fn step(&mut self, input: Input) -> Result<Order, StepError>
         ensures due { IsOk result ↔ (accepts (due_after self.old.last) input ≡ true) }
         ensures not_due { OnErr result (self.new ≡ self.old) }
         ensures order { IfOk result (λ order. IsAnswered self.old input order) }
-        ensures state { IfOk result (λ order. self.new ≡ after self.old input order) }
+        ensures state { IfOk result (λ order. self.new ≡ machine_after self.old input order) }
         ensures block { self.new.kept.block ≡ self.old.kept.block }
         ensures fits { IfOk result (λ order. IfSome (record_ordered (Some order)) (Fits self.old.kept.block)) }
     {
@@ -153,7 +155,7 @@ impl Machine {
 
     /// The gear that are enrolled, with the block.
     pub fn table(&self) -> &Table
-        ensures { result.now ≡ roster_of self.now.kept }
+        ensures { result.now ≡ table_of self.now.kept }
     {
         &self.work.table
     }

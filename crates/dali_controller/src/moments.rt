@@ -3,14 +3,14 @@ ghost use Rattle.dali_frame.specs.Random.{value_of, MASK24};
 ghost use Rattle.dali_frame.specs.declared.numbers.SearchAddress.{SearchAddress};
 ghost use Rattle.dali_frame.specs.declared.frames.Answer.TheVariants.{Silence};
 ghost use Rattle.dali_script.specs.declared.stage.Stage.TheVariants as stage;
-ghost use Rattle.dali_script.specs.Records.{Fits, IsFresh, HasAddress, HasNumber, with_record};
-ghost use Rattle.dali_enrol.specs.Roster.{with_entry};
+ghost use Rattle.dali_script.specs.Records.{Fits, IsFresh, HasAddress, HasRandom, with_record};
+ghost use Rattle.dali_enrol.specs.Table.{with_entry};
 ghost use Rattle.dali_search.specs.declared.step.Step.TheVariants as search;
 ghost use Rattle.dali_orders.specs.declared.orders.Input.TheVariants as input;
 ghost use Rattle.dali_orders.specs.declared.orders.Order.TheVariants as order;
 ghost use Rattle.dali_orders.specs.Due.{due_after, frame_put, record_ordered};
 ghost use Rattle.dali_orders.specs.declared.orders.Due.TheVariants as due;
-ghost use Rattle.dali_controller.specs.Progress.{lost, roster_of};
+ghost use Rattle.dali_controller.specs.Machine.{machine_lost, table_of};
 
 use crate::entries::enter;
 use crate::purpose::Purpose;
@@ -39,14 +39,15 @@ fn is_yes(heard: Answer) -> bool
 }
 
 impl Work {
-    ghost use Rattle.dali_controller.specs.Moments.{seen, turn_of, IsFine, IsHeard, IsBetween, Closes, IsNext, IsStep};
+    ghost use Rattle.dali_controller.specs.Moments.{machine_of, turn_of, IsFine, IsHeard, IsBetween, Closes, IsNext};
+    ghost use Rattle.dali_controller.specs.Moments.{IsStep};
 
     /// The start: visits to what is unfinished, and then an opening.
     pub(crate) fn start(&mut self) -> Order
         requires fine { IsFine self.old }
         requires unstarted { self.old.last ≡ None }
 
-        ensures step { IsStep (seen self.old) input.Start result (seen self.new) }
+        ensures step { IsStep (machine_of self.old) input.Start result (machine_of self.new) }
         ensures fine { IsFine self.new }
     {
         self.go_on()
@@ -56,7 +57,7 @@ impl Work {
     fn go_on(&mut self) -> Order
         requires { IsBetween self.old }
 
-        ensures next { IsNext (seen self.old) result (seen self.new) }
+        ensures next { IsNext (machine_of self.old) result (machine_of self.new) }
         ensures fine { IsFine self.new }
     {
         if self.opened {
@@ -75,7 +76,7 @@ impl Work {
         requires between { IsBetween self.old }
         requires opened { self.old.opened ≡ true }
 
-        ensures next { IsNext (seen self.old) result (seen self.new) }
+        ensures next { IsNext (machine_of self.old) result (machine_of self.new) }
         ensures fine { IsFine self.new }
     {
         self.search = Search::new();
@@ -88,7 +89,7 @@ impl Work {
         requires between { IsBetween self.old }
         requires opened { self.old.opened ≡ false }
 
-        ensures next { IsNext (seen self.old) result (seen self.new) }
+        ensures next { IsNext (machine_of self.old) result (machine_of self.new) }
         ensures fine { IsFine self.new }
     {
         let number = self.number;
@@ -102,7 +103,7 @@ impl Work {
         requires opened { self.old.opened ≡ true }
         requires running { self.old.search.step ≡ search.Again }
 
-        ensures next { IsNext (seen self.old) result (seen self.new) }
+        ensures next { IsNext (machine_of self.old) result (machine_of self.new) }
         ensures fine { IsFine self.new }
     {
         let number = SearchAddress::of(self.search.probe());
@@ -114,9 +115,9 @@ impl Work {
     fn visit(&mut self, number: SearchAddress) -> Order
         requires between { IsBetween self.old }
         requires drawn { value_of number < MASK24 }
-        requires reserved { self.old.opened ≡ false → HasNumber self.old.kept.reserved (value_of number) }
+        requires reserved { self.old.opened ≡ false → HasRandom self.old.kept.reserved (value_of number) }
 
-        ensures next { IsNext (seen self.old) result (seen self.new) }
+        ensures next { IsNext (machine_of self.old) result (machine_of self.new) }
         ensures fine { IsFine self.new }
     {
         self.begin(Purpose::Visiting, number)
@@ -127,7 +128,7 @@ impl Work {
     fn close(&mut self, end: End) -> Order
         requires { Closes self.old end }
 
-        ensures next { IsNext (seen self.old) result (seen self.new) }
+        ensures next { IsNext (machine_of self.old) result (machine_of self.new) }
         ensures fine { IsFine self.new }
     {
         let number = self.number;
@@ -139,7 +140,7 @@ impl Work {
         requires fine { IsFine self.old }
         requires put { frame_put self.old.last ≡ Some frame }
 
-        ensures step { IsStep (seen self.old) (input.Heard heard) result (seen self.new) }
+        ensures step { IsStep (machine_of self.old) (input.Heard heard) result (machine_of self.new) }
         ensures fine { IsFine self.new }
     {
         let stage = self.hear(frame, heard);
@@ -150,7 +151,7 @@ impl Work {
     fn after(&mut self, stage: Stage) -> Order
         requires { IsHeard self.old stage }
 
-        ensures next { IsNext (seen self.old) result (seen self.new) }
+        ensures next { IsNext (machine_of self.old) result (machine_of self.new) }
         ensures fine { IsFine self.new }
     {
         match self.purpose.turn(self.number, &stage) {
@@ -164,7 +165,7 @@ impl Work {
         requires heard { IsHeard self.old stage }
         requires over { turn_of self.old.purpose self.old.number stage ≡ None }
 
-        ensures next { IsNext (seen self.old) result (seen self.new) }
+        ensures next { IsNext (machine_of self.old) result (machine_of self.new) }
         ensures fine { IsFine self.new }
     {
         match stage {
@@ -183,7 +184,7 @@ impl Work {
         requires heard { IsHeard self.old stage.Terminated }
         requires over { turn_of self.old.purpose self.old.number stage.Terminated ≡ None }
 
-        ensures next { IsNext (seen self.old) result (seen self.new) }
+        ensures next { IsNext (machine_of self.old) result (machine_of self.new) }
         ensures fine { IsFine self.new }
     {
         match self.purpose {
@@ -196,7 +197,7 @@ impl Work {
     fn all_drawn(&mut self) -> Order
         requires { IsHeard self.old stage.Opened }
 
-        ensures next { IsNext (seen self.old) result (seen self.new) }
+        ensures next { IsNext (machine_of self.old) result (machine_of self.new) }
         ensures fine { IsFine self.new }
     {
         self.search_anew()
@@ -206,7 +207,7 @@ impl Work {
     fn probed(&mut self, heard: Answer) -> Order
         requires { (number : SearchAddress) × IsHeard self.old (stage.Probed number heard) }
 
-        ensures next { IsNext (seen self.old) result (seen self.new) }
+        ensures next { IsNext (machine_of self.old) result (machine_of self.new) }
         ensures fine { IsFine self.new }
     {
         match self.search.answer(is_yes(heard)) {
@@ -220,7 +221,7 @@ impl Work {
     fn unnamed(&mut self, number: SearchAddress) -> Order
         requires { IsHeard self.old (stage.Unnamed number) }
 
-        ensures next { IsNext (seen self.old) result (seen self.new) }
+        ensures next { IsNext (machine_of self.old) result (machine_of self.new) }
         ensures fine { IsFine self.new }
     {
         match self.kept.reserved_for(number.value()) {
@@ -232,9 +233,9 @@ impl Work {
     /// The gear at this number has no short address, and none is reserved for it.
     fn reserve(&mut self, number: SearchAddress) -> Order
         requires heard { IsHeard self.old (stage.Unnamed number) }
-        requires free { HasNumber self.old.kept.reserved (value_of number) → ⊥ }
+        requires free { HasRandom self.old.kept.reserved (value_of number) → ⊥ }
 
-        ensures next { IsNext (seen self.old) result (seen self.new) }
+        ensures next { IsNext (machine_of self.old) result (machine_of self.new) }
         ensures fine { IsFine self.new }
     {
         match self.kept.first_free() {
@@ -247,7 +248,7 @@ impl Work {
     fn silenced(&mut self) -> Order
         requires { (number : SearchAddress) × (other : Option ℕ) × IsHeard self.old (stage.Inconclusive number other) }
 
-        ensures next { IsNext (seen self.old) result (seen self.new) }
+        ensures next { IsNext (machine_of self.old) result (machine_of self.new) }
         ensures fine { IsFine self.new }
     {
         if self.silent == SILENT {
@@ -261,7 +262,7 @@ impl Work {
     fn settle(&mut self, number: SearchAddress, short: Short) -> Order
         requires { IsHeard self.old (stage.Withdrawn number short) }
 
-        ensures next { IsNext (seen self.old) result (seen self.new) }
+        ensures next { IsNext (machine_of self.old) result (machine_of self.new) }
         ensures fine { IsFine self.new }
     {
         let random = number.value();
@@ -280,7 +281,7 @@ impl Work {
         requires fine { IsFine self.old }
         requires put { due_after self.old.last ≡ due.Bus }
 
-        ensures next { IsNext (lost (seen self.old)) result (seen self.new) }
+        ensures next { IsNext (machine_lost (machine_of self.old)) result (machine_of self.new) }
         ensures fine { IsFine self.new }
     {
         self.trace = Trace::new();
@@ -298,7 +299,7 @@ impl Work {
         requires fine { IsFine self.old }
         requires ordered { record_ordered self.old.last ≡ Some added }
 
-        ensures step { IsStep (seen self.old) input.Committed result (seen self.new) }
+        ensures step { IsStep (machine_of self.old) input.Committed result (machine_of self.new) }
         ensures fine { IsFine self.new }
     {
         let kept = added;
@@ -326,7 +327,7 @@ impl Work {
     pub(crate) fn commit_failed(&mut self) -> Order
         requires { IsFine self.old }
 
-        ensures step { IsStep (seen self.old) input.CommitFailed result (seen self.new) }
+        ensures step { IsStep (machine_of self.old) input.CommitFailed result (machine_of self.new) }
         ensures fine { IsFine self.new }
     {
         self.halt(Fault::Store)

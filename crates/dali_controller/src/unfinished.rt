@@ -1,6 +1,6 @@
 ghost use Rattle.std.specs.Prelude.{◌<◌, IfSome};
 ghost use Rattle.dali_frame.specs.Random.{MASK24};
-ghost use Rattle.dali_script.specs.Records.{HasNumber};
+ghost use Rattle.dali_script.specs.Records.{HasRandom};
 
 use dali_enrol::Table;
 use dali_frame::{Random24, Short};
@@ -9,7 +9,7 @@ use dali_script::Kept;
 /// The unfinished reservation with the least short address from one on: the short address after it, and the random
 /// address that it is for. A reservation is unfinished while no gear with its random address is in the table.
 pub(crate) fn next_unfinished(kept: &Kept, table: &Table, from: u8) -> Option<(u8, Random24)>
-    ensures reserved { IfSome result (λ next. HasNumber kept.now.reserved next.1) }
+    ensures reserved { IfSome result (λ next. HasRandom kept.now.reserved next.1) }
     ensures drawn { IfSome result (λ next. next.1 < MASK24) }
 {
     for address in from..64 {
@@ -21,7 +21,7 @@ pub(crate) fn next_unfinished(kept: &Kept, table: &Table, from: u8) -> Option<(u
 }
 
 fn unfinished_at(kept: &Kept, table: &Table, address: Short) -> Option<Random24>
-    ensures reserved { IfSome result (λ number. HasNumber kept.now.reserved number) }
+    ensures reserved { IfSome result (λ number. HasRandom kept.now.reserved number) }
     ensures drawn { IfSome result (λ number. number < MASK24) }
 {
     let number = kept.number_reserved(address)?;

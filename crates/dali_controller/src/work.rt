@@ -8,8 +8,9 @@ ghost use Rattle.dali_orders.specs.declared.orders.Input.TheVariants as input;
 ghost use Rattle.dali_orders.specs.declared.orders.Order.TheVariants as order;
 ghost use Rattle.dali_controller.specs.declared.purpose.Purpose.TheVariants as purpose;
 ghost use Rattle.dali_orders.specs.Due.{frame_put};
-ghost use Rattle.dali_controller.specs.Progress.{told, is_complete, tries_after, silent_after, opened_after, roster_of};
-ghost use Rattle.dali_controller.specs.Orders.{ordered};
+ghost use Rattle.dali_controller.specs.Machine.{machine_told, is_complete, tries_after, silent_after, opened_after};
+ghost use Rattle.dali_controller.specs.Machine.{table_of};
+ghost use Rattle.dali_controller.specs.Orders.{machine_ordered};
 
 use crate::purpose::Purpose;
 use dali_enrol::Table;
@@ -40,7 +41,8 @@ pub(crate) struct Work {
 }
 
 impl Work {
-    ghost use Rattle.dali_controller.specs.Moments.{closing_of, seen, Sends, IsReady, IsFine, IsHeard, Begins, IsNext};
+    ghost use Rattle.dali_controller.specs.Moments.{closing_of, machine_of, Sends, IsReady, IsFine, IsHeard, Begins};
+    ghost use Rattle.dali_controller.specs.Moments.{IsNext};
 
     /// Whether the running transaction is complete.
     fn is_complete(&self) -> bool
@@ -52,7 +54,8 @@ impl Work {
     /// The tries of the running transaction: none where it is complete.
     fn tries_after(&self) -> u8
         ensures { result
-            ≡ tries_after (is_complete self.now.kept (closing_of self.now.purpose) (stage_of self.now.trace)) self.now.tries }
+            ≡ tries_after (is_complete self.now.kept (closing_of self.now.purpose) (stage_of self.now.trace))
+            self.now.tries }
     {
         if self.is_complete() { 0 } else { self.tries }
     }
@@ -93,7 +96,7 @@ impl Work {
         requires fine { IsFine self.old }
         requires put { frame_put self.old.last ≡ Some frame }
 
-        ensures told { seen self.new ≡ told (seen self.old) (input.Heard heard) }
+        ensures told { machine_of self.new ≡ machine_told (machine_of self.old) (input.Heard heard) }
         ensures heard { IsHeard self.new result }
     {
         self.trace.push(frame, heard);
@@ -110,7 +113,7 @@ impl Work {
         requires sends { Sends self.old.kept self.old.number self.old.purpose (stage_of self.old.trace) command }
         requires later { stage_of self.old.trace ≡ Free → ⊥ }
 
-        ensures next { IsNext (seen self.old) result (seen self.new) }
+        ensures next { IsNext (machine_of self.old) result (machine_of self.new) }
         ensures fine { IsFine self.new }
     {
         let priority = Priority::LATER;
@@ -123,7 +126,7 @@ impl Work {
     pub(crate) fn begin(&mut self, purpose: Purpose, number: SearchAddress) -> Order
         requires { Begins self.old purpose number }
 
-        ensures next { IsNext (seen self.old) result (seen self.new) }
+        ensures next { IsNext (machine_of self.old) result (machine_of self.new) }
         ensures fine { IsFine self.new }
     {
         self.trace = Trace::new();
@@ -137,14 +140,14 @@ impl Work {
 
     /// Orders that a record is kept.
     pub(crate) fn commit(&mut self, added: Record) -> Order
-        requires table { self.old.table ≡ roster_of self.old.kept }
+        requires table { self.old.table ≡ table_of self.old.kept }
         requires ready { IsReady self.old }
         requires visiting { self.old.purpose ≡ purpose.Visiting }
         requires fits { Fits self.old.kept.block added }
         requires fresh { IsFresh self.old.kept added }
 
         ensures order { result ≡ order.Commit added }
-        ensures state { seen self.new ≡ ordered (seen self.old) result }
+        ensures state { machine_of self.new ≡ machine_ordered (machine_of self.old) result }
         ensures fine { IsFine self.new }
     {
         self.trace = Trace::new();
@@ -155,10 +158,10 @@ impl Work {
 
     /// Ends.
     pub(crate) fn done(&mut self, end: End) -> Order
-        requires { self.old.table ≡ roster_of self.old.kept }
+        requires { self.old.table ≡ table_of self.old.kept }
 
         ensures order { result ≡ order.Done end }
-        ensures state { seen self.new ≡ ordered (seen self.old) result }
+        ensures state { machine_of self.new ≡ machine_ordered (machine_of self.old) result }
         ensures fine { IsFine self.new }
     {
         self.trace = Trace::new();
@@ -168,10 +171,10 @@ impl Work {
 
     /// Halts.
     pub(crate) fn halt(&mut self, fault: Fault) -> Order
-        requires { self.old.table ≡ roster_of self.old.kept }
+        requires { self.old.table ≡ table_of self.old.kept }
 
         ensures order { result ≡ order.Halt fault }
-        ensures state { seen self.new ≡ ordered (seen self.old) result }
+        ensures state { machine_of self.new ≡ machine_ordered (machine_of self.old) result }
         ensures fine { IsFine self.new }
     {
         self.trace = Trace::new();

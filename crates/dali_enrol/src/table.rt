@@ -1,5 +1,5 @@
 ghost use Rattle.std.specs.Prelude.{◌≡◌, ℕ, ◌≤◌, ◌↔◌, Err, IsTrue, IsOk, IfOk, IfErr, OnOk, OnErr, MatchOption};
-ghost use Rattle.dali_script.specs.Records.{Has, HasAddress, HasNumber, InBlock, IsMap};
+ghost use Rattle.dali_script.specs.Records.{Has, HasAddress, HasRandom, InBlock, IsMap};
 ghost use Rattle.dali_enrol.specs.declared.error.TableError.TheVariants.{AddressTaken, RandomTaken, NoMemory};
 
 use crate::error::TableError;
@@ -19,15 +19,15 @@ pub struct Table {
 }
 
 impl Model for Table {
-    ghost use Rattle.dali_enrol.specs.Roster.{Roster};
+    ghost use Rattle.dali_enrol.specs.Table.{Table};
 
-    ghost Value = { Roster };
+    ghost Value = { Table };
 
     ghost view = { λ t. record { block = t.block; entries = t.entries } };
 }
 
 impl Table {
-    ghost use Rattle.dali_enrol.specs.Roster.{at_first, with_entry};
+    ghost use Rattle.dali_enrol.specs.Table.{at_first, with_entry};
 
     /// A table with no entries. It takes all the memory that the table will need.
     pub fn new(alloc: Global, block: Block) -> Result<Table, TableError>
@@ -60,10 +60,10 @@ impl Table {
     /// `AddressTaken` comes before `RandomTaken`.
     pub fn enrol(&mut self, address: Short, number: Random24) -> Result<(), TableError>
         ensures success { IsOk result
-            ↔ ((HasAddress self.old.entries address → ⊥) × (HasNumber self.old.entries number → ⊥)) }
+            ↔ ((HasAddress self.old.entries address → ⊥) × (HasRandom self.old.entries number → ⊥)) }
         ensures address_taken { (result ≡ Err AddressTaken) ↔ HasAddress self.old.entries address }
         ensures random_taken { (result ≡ Err RandomTaken)
-            ↔ ((HasAddress self.old.entries address → ⊥) × HasNumber self.old.entries number) }
+            ↔ ((HasAddress self.old.entries address → ⊥) × HasRandom self.old.entries number) }
         ensures ok { OnOk result (self.new ≡ with_entry self.old address number) }
         ensures err { OnErr result (self.new ≡ self.old) }
     {
@@ -86,7 +86,7 @@ impl Table {
     /// The short address with which the gear of a random address was enrolled.
     pub fn by_random(&self, number: Random24) -> Option<Short>
         ensures { MatchOption result
-            (HasNumber self.now.entries number → ⊥)
+            (HasRandom self.now.entries number → ⊥)
             (λ address. Has self.now.entries (address, number)) }
     {
         self.entries.address_for(number)

@@ -1,7 +1,7 @@
 use Rattle.std.proofs.Common.{◌≡◌, ℕ, ◌<◌, List, [], ◌∷◌, ◌++◌, refl, sym, ap, subst, ◌∙◌, length}
 use Rattle.dali_script.specs.Records.{Assignment, Has}
 use Rattle.dali_events.specs.declared.event.Event.{Event}
-use Rattle.dali_events.specs.Plan.{SitePlan}
+use Rattle.dali_events.specs.Plan.{Plan}
 use Rattle.dali_events.specs.World.{World, gear_at, controller_at}
 use Rattle.dali_events.specs.Happens.{happens}
 use Rattle.dali_events.specs.Runs.{after, after_all, IsRun, AreDrawn, Names, IsSafe}
@@ -14,7 +14,7 @@ use Rattle.dali_events.proofs.Naming.{SaysFinding}
 use Rattle.dali_events.proofs.Safe.{Holds, holds_after, safe, run_front}
 
 -- GIFTS STAY RESERVED
-pub gifts_reserved : (p : SitePlan) (capacity : ℕ) (front rest : List Event) → IsRun p capacity (front ++ rest) → GiftsAreReserved (after p capacity front)
+pub gifts_reserved : (p : Plan) (capacity : ℕ) (front rest : List Event) → IsRun p capacity (front ++ rest) → GiftsAreReserved (after p capacity front)
 gifts_reserved p capacity front rest run = (holds_after p capacity front (run_front p capacity front rest run)).gifts.reserved
 
 pub reservations_stay : (w : World) (es : List Event) (c : ℕ) (x : Assignment) → c < length w.controllers → Has (controller_at w c).records.reserved x
@@ -65,21 +65,21 @@ module _ (w : World) (s : IsSafe w) where
     gear = λ c k g x y h i n m. one_entry x y g g n m refl;
   }
 
-pub tables_agree_in : (p : SitePlan) (capacity : ℕ) (front rest : List Event) → IsRun p capacity (front ++ rest) → TablesAgree (after p capacity front)
+pub tables_agree_in : (p : Plan) (capacity : ℕ) (front rest : List Event) → IsRun p capacity (front ++ rest) → TablesAgree (after p capacity front)
 tables_agree_in p capacity front rest run =
     tables_agree (after p capacity front) (safe p (after p capacity front) (holds_after p capacity front (run_front p capacity front rest run))) (drawn_in_front p capacity front rest run)
 
 -- FINDINGS AGREE
-finding_named : (p : SitePlan) (w : World) → Holds p w → (c : ℕ) (x : Assignment) → HasFound w c x → Names w x
+finding_named : (p : Plan) (w : World) → Holds p w → (c : ℕ) (x : Assignment) → HasFound w c x → Names w x
 finding_named p w k c x h = subst (λ f. SaysFinding (Names w) f) h.1 (k.says c h.0).finding
 
-pub findings_agree : (p : SitePlan) (w : World) → Holds p w → AreDrawn w → FindingsAgree w
+pub findings_agree : (p : Plan) (w : World) → Holds p w → AreDrawn w → FindingsAgree w
 findings_agree p w k d = record {
   named = finding_named p w k;
   address = λ c e x y h i same. found_address w (safe p w k) e x y (finding_named p w k c x h) i same;
   number = λ c e x y h i same. found_number w (safe p w k) d e x y (finding_named p w k c x h) i same;
 }
 
-pub findings_agree_in : (p : SitePlan) (capacity : ℕ) (front rest : List Event) → IsRun p capacity (front ++ rest) → FindingsAgree (after p capacity front)
+pub findings_agree_in : (p : Plan) (capacity : ℕ) (front rest : List Event) → IsRun p capacity (front ++ rest) → FindingsAgree (after p capacity front)
 findings_agree_in p capacity front rest run =
     findings_agree p (after p capacity front) (holds_after p capacity front (run_front p capacity front rest run)) (drawn_in_front p capacity front rest run)

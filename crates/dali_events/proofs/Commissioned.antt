@@ -15,17 +15,17 @@ use Rattle.dali_orders.specs.declared.orders.Input.TheVariants as input
 use Rattle.dali_orders.specs.declared.orders.Order.TheVariants.{Put, Commit}
 use Rattle.dali_events.specs.declared.event.Event.{Event}
 use Rattle.dali_events.specs.declared.event.Event.TheVariants as event
-use Rattle.dali_events.specs.Plan.{SitePlan, IsPlan, block_at}
+use Rattle.dali_events.specs.Plan.{Plan, IsPlan, block_at}
 use Rattle.dali_events.specs.World.{gear_at, start}
 use Rattle.dali_events.specs.Runs.{after, AllAllowed}
-use Rattle.dali_events.specs.Searching.{SearchesAll, NobodyAnswers, searched_on, sent}
+use Rattle.dali_events.specs.Searching.{SearchesAll, NobodyAnswers, up_to_compare, sent_event}
 
 -- A WHOLE RUN: one gear and one controller. An opening, a number that is reserved, an address that is given, and at last a
 -- COMPARE under FFFFFE that nobody answers. It shows that the laws speak of something.
 abbrev block : Block
 block = record { first = 0; last = 3 }
 
-abbrev plan : SitePlan
+abbrev plan : Plan
 plan = record { gear = 1; blocks = block ∷ []; draws = 0x123456 ∷ [] }
 
 abbrev number : SearchAddress
@@ -51,30 +51,30 @@ abbrev randomise : Entry
 randomise = silent 0xA7 0
 
 abbrev opening : List Event
-opening = sent 0 initialise ∷ sent 0 initialise ∷ sent 0 randomise ∷ []
+opening = sent_event 0 initialise ∷ sent_event 0 initialise ∷ sent_event 0 randomise ∷ []
 
 -- the number is reserved, the gear at it is asked, given an address, asked again and withdrawn; and the search address is set
 abbrev middle : List Event
 middle =
     event.Acted 0 (input.Heard Silence) (Commit (Reserve 0 0x123456)) ∷
     event.Acted 0 input.Committed (Put 3 (frame 0xB1 0x12)) ∷
-    sent 0 (silent 0xB1 0x12) ∷
-    sent 0 (silent 0xB3 0x34) ∷
-    sent 0 (silent 0xB5 0x56) ∷
-    sent 0 (heard (frame 0xBB 0) (Byte 0xFF)) ∷
-    sent 0 (silent 0xB7 0x01) ∷
-    sent 0 (heard (frame 0xBB 0) (Byte 0x01)) ∷
-    sent 0 (silent 0xAB 0) ∷
-    sent 0 (silent 0xB1 0xFF) ∷
-    sent 0 (silent 0xB3 0xFF) ∷
-    sent 0 (silent 0xB5 0xFE) ∷
+    sent_event 0 (silent 0xB1 0x12) ∷
+    sent_event 0 (silent 0xB3 0x34) ∷
+    sent_event 0 (silent 0xB5 0x56) ∷
+    sent_event 0 (heard (frame 0xBB 0) (Byte 0xFF)) ∷
+    sent_event 0 (silent 0xB7 0x01) ∷
+    sent_event 0 (heard (frame 0xBB 0) (Byte 0x01)) ∷
+    sent_event 0 (silent 0xAB 0) ∷
+    sent_event 0 (silent 0xB1 0xFF) ∷
+    sent_event 0 (silent 0xB3 0xFF) ∷
+    sent_event 0 (silent 0xB5 0xFE) ∷
     []
 
 abbrev compare : Entry
 compare = silent 0xA9 0
 
 abbrev log : List Event
-log = searched_on [] 0 terminate opening randomise middle
+log = up_to_compare [] 0 terminate opening randomise middle
 
 is_plan : IsPlan plan
 is_plan = record {
@@ -105,7 +105,7 @@ is_plan = record {
 may_give : MayGive block ((0, 0x123456) ∷ []) number 0
 may_give = record { drawn = lit< tt; within = (lit≤ tt, lit≤ tt); reserved_for = inl refl }
 
-allowed : AllAllowed (start plan 8) (searched_on [] 0 terminate opening randomise (middle ++ sent 0 compare ∷ []))
+allowed : AllAllowed (start plan 8) (up_to_compare [] 0 terminate opening randomise (middle ++ sent_event 0 compare ∷ []))
 unfolding command_of stage_of
 allowed = (
   record { up = record { known = lit< tt; up = refl }; may = inr (refl, (block, [], (Open, tt, refl))); draws = lit≤ tt; heard = tt },

@@ -1,8 +1,8 @@
 use Rattle.std.proofs.Common.{◌≡◌, ℕ, ◌<◌, Bool, true, false, List, refl, ◌∙◌, length, length-set, get_or, Option, Some, None}
 use Rattle.dali_special.specs.Command.{command_of}
 use Rattle.dali_script.specs.declared.records.Record.{Record}
-use Rattle.dali_script.specs.Records.{Assignment, Records}
-use Rattle.dali_script.specs.Findings.{searched, found_by, later}
+use Rattle.dali_script.specs.Records.{Assignment, Kept}
+use Rattle.dali_script.specs.Findings.{search_of, found_by, later}
 use Rattle.dali_orders.specs.declared.orders.Input.{Input}
 use Rattle.dali_orders.specs.declared.orders.Input.TheVariants as input
 use Rattle.dali_orders.specs.declared.orders.Order.{Order}
@@ -10,18 +10,18 @@ use Rattle.dali_orders.specs.declared.orders.Order.TheVariants.{Put, Commit, Don
 use Rattle.dali_events.specs.declared.event.Event.{Event}
 use Rattle.dali_events.specs.declared.event.Event.TheVariants as event
 use Rattle.dali_events.specs.World.{World, Controller, controller_at, nobody}
-use Rattle.dali_events.specs.Happens.{happens, with_outstanding, informed, acted, running, told_sent, told_destroyed, told_lapsed, owner_told, gone_down, come_up}
+use Rattle.dali_events.specs.Happens.{happens, with_outstanding, controller_informed, controller_acted, trace_running, told_sent, told_destroyed, told_lapsed, owner_told, gone_down, come_up}
 use Rattle.dali_script.proofs.Members.{Each, each_changed}
 
 -- WHAT AN EVENT DOES TO THE CONTROLLERS, for any property of what a controller keeps, its outstanding record and its
 -- finding that stands when the record is kept, when it is dropped, and when the finding is forgotten.
 abbrev pub Property : Type 1
-Property = ℕ → Records → Option Record → Option Assignment → Type 0
+Property = ℕ → Kept → Option Record → Option Assignment → Type 0
 
 pub record Stands (P : Property) : Type 0 where
-  pub keep : (c : ℕ) (kept : Records) (o : Option Record) (f : Option Assignment) → P c kept o f → P c (with_outstanding kept o) None f
-  pub drop : (c : ℕ) (kept : Records) (o : Option Record) (f : Option Assignment) → P c kept o f → P c kept None f
-  pub forget : (c : ℕ) (kept : Records) (o : Option Record) (f : Option Assignment) → P c kept o f → P c kept o None
+  pub keep : (c : ℕ) (kept : Kept) (o : Option Record) (f : Option Assignment) → P c kept o f → P c (with_outstanding kept o) None f
+  pub drop : (c : ℕ) (kept : Kept) (o : Option Record) (f : Option Assignment) → P c kept o f → P c kept None f
+  pub forget : (c : ℕ) (kept : Kept) (o : Option Record) (f : Option Assignment) → P c kept o f → P c kept o None
 
 abbrev pub Of : Property → ℕ → Controller → Type 0
 Of P c k = P c k.records k.outstanding k.finding
@@ -32,16 +32,16 @@ AddsOrder P c k (Commit x) = Of P c k → P c k.records (Some x) k.finding
 AddsOrder P c k _ = Unit {0}
 
 abbrev pub Adds : Property → World → Event → Type 0
-Adds P w (event.Acted c i o) = AddsOrder P c (informed (controller_at w c) i) o
+Adds P w (event.Acted c i o) = AddsOrder P c (controller_informed (controller_at w c) i) o
 Adds P w (event.Sent c f h) =
-    c < length w.controllers → Of P c (controller_at w c) → P c (controller_at w c).records (controller_at w c).outstanding (later (controller_at w c).finding (found_by (searched (running w c)) (command_of f) h))
+    c < length w.controllers → Of P c (controller_at w c) → P c (controller_at w c).records (controller_at w c).outstanding (later (controller_at w c).finding (found_by (search_of (trace_running w c)) (command_of f) h))
 Adds P w _ = Unit {0}
 
-informed_stands : (P : Property) (s : Stands P) (c : ℕ) (k : Controller) (i : Input) → Of P c k → Of P c (informed k i)
+informed_stands : (P : Property) (s : Stands P) (c : ℕ) (k : Controller) (i : Input) → Of P c k → Of P c (controller_informed k i)
 informed_stands P s c k input.Committed h = s.keep c k.records k.outstanding k.finding h
 informed_stands P s c k _ h = h
 
-acted_stands : (P : Property) (s : Stands P) (c : ℕ) (k : Controller) (i : Input) (o : Order) → AddsOrder P c (informed k i) o → Of P c k → Of P c (acted k i o)
+acted_stands : (P : Property) (s : Stands P) (c : ℕ) (k : Controller) (i : Input) (o : Order) → AddsOrder P c (controller_informed k i) o → Of P c k → Of P c (controller_acted k i o)
 acted_stands P s c k i (Commit x) adds h = adds (informed_stands P s c k i h)
 acted_stands P s c k i (Put p f) adds h = informed_stands P s c k i h
 acted_stands P s c k i (Done end) adds h = informed_stands P s c k i h
@@ -57,9 +57,9 @@ up_stands P s c k false h = s.forget c k.records None k.finding (s.drop c k.reco
 
 pub controllers_step : (P : Property) (s : Stands P) (w : World) (e : Event) → Adds P w e → Each nobody (Of P) w.controllers → Each nobody (Of P) (happens w e).controllers
 controllers_step P s w (event.Acted c i o) adds each =
-    each_changed nobody (Of P) (λ k. acted k i o) w.controllers c (λ there h. acted_stands P s c (controller_at w c) i o adds h) each
+    each_changed nobody (Of P) (λ k. controller_acted k i o) w.controllers c (λ there h. acted_stands P s c (controller_at w c) i o adds h) each
 controllers_step P s w (event.Offered c f) adds each = each
-controllers_step P s w (event.Sent c f h) adds each = each_changed nobody (Of P) (told_sent (running w c) f h) w.controllers c adds each
+controllers_step P s w (event.Sent c f h) adds each = each_changed nobody (Of P) (told_sent (trace_running w c) f h) w.controllers c adds each
 controllers_step P s w (event.Destroyed c f set) adds each = each_changed nobody (Of P) (told_destroyed f) w.controllers c (λ there h. h) each
 controllers_step P s w (event.Collided c f d g) adds each =
     each_changed nobody (Of P) (told_destroyed g) _ d (λ there h. h) (each_changed nobody (Of P) (told_destroyed f) w.controllers c (λ there h. h) each)

@@ -6,33 +6,33 @@ use Rattle.dali_special.specs.declared.command.Command.{Command}
 use Rattle.dali_special.specs.Command.{command_of}
 use Rattle.dali_gear.specs.declared.row.Reach.{Reach}
 use Rattle.dali_gear.specs.declared.row.Reach.TheVariants.{Everyone, Only}
-use Rattle.dali_gear.specs.ControlGear.{ControlGear, fresh, would_draw, expired, quieted}
+use Rattle.dali_gear.specs.Gear.{Gear, fresh, would_draw, gear_expired, gear_quieted}
 use Rattle.dali_gear.specs.Row.{row_after, row_left, drawn_of}
 use Rattle.dali_script.specs.Records.{Has, IsOnce}
 use Rattle.dali_events.specs.declared.event.Event.{Event}
 use Rattle.dali_events.specs.declared.event.Event.TheVariants as event
-use Rattle.dali_events.specs.Plan.{SitePlan, IsPlan}
+use Rattle.dali_events.specs.Plan.{Plan, IsPlan}
 use Rattle.dali_events.specs.World.{World, gear_at, start}
-use Rattle.dali_events.specs.Happens.{happens, powered}
+use Rattle.dali_events.specs.Happens.{happens, gear_powered}
 use Rattle.dali_events.specs.Runs.{after, after_all, IsRun, AreDrawn}
 use Rattle.dali_script.proofs.Lists.{has_map}
 use Rattle.dali_script.proofs.Members.{has_left, has_right, once_front, Each, each_changed, each_map}
 use Rattle.dali_events.proofs.Takes.{Moved, stays, goes, moves_at, row_length, numbers_stay}
 
 -- gear k has no random address, or drew it
-abbrev pub HasDrawn : List (ℕ × ℕ) → ℕ → ControlGear → Type 0
+abbrev pub HasDrawn : List (ℕ × ℕ) → ℕ → Gear → Type 0
 HasDrawn ds k g = (g.random ≡ MASK24) ⊎ Has ds (k, g.random)
 
 -- WHAT HOLDS OF THE DRAWS, whatever happens
-pub record Draws (plan : List ℕ) (gs : List ControlGear) (ds : List (ℕ × ℕ)) (left : List ℕ) : Type 0 where
+pub record Draws (plan : List ℕ) (gs : List Gear) (ds : List (ℕ × ℕ)) (left : List ℕ) : Type 0 where
   pub each : Each fresh (HasDrawn ds) gs
   pub numbers : map (λ draw. draw.1) ds ++ left ≡ plan
 
-pub drawn_more : (ds es : List (ℕ × ℕ)) (k : ℕ) (g : ControlGear) → HasDrawn ds k g → HasDrawn (ds ++ es) k g
+pub drawn_more : (ds es : List (ℕ × ℕ)) (k : ℕ) (g : Gear) → HasDrawn ds k g → HasDrawn (ds ++ es) k g
 drawn_more ds es k g (inl e) = inl e
 drawn_more ds es k g (inr h) = inr (has_left ds es (k, g.random) h)
 
-drawn_moved : (reach : Reach) (c : Command) (ds es : List (ℕ × ℕ)) (k : ℕ) (g h : ControlGear) → HasDrawn ds k g → Moved reach c es k g h → HasDrawn (ds ++ es) k h
+drawn_moved : (reach : Reach) (c : Command) (ds es : List (ℕ × ℕ)) (k : ℕ) (g h : Gear) → HasDrawn ds k g → Moved reach c es k g h → HasDrawn (ds ++ es) k h
 drawn_moved reach c ds es k g _ had (stays e) = drawn_more ds es k g had
 drawn_moved reach c ds es k g _ had (goes r e drew) = go (would_draw c g) refl where
   from : (r ≡ g.random) ⊎ Has es (k, r) → (r ≡ MASK24) ⊎ Has (ds ++ es) (k, r)
@@ -43,7 +43,7 @@ drawn_moved reach c ds es k g _ had (goes r e drew) = go (would_draw c g) refl w
   go true w = from (drew w)
   go false w = drawn_more ds es k g had
 
-draws_taken : (plan : List ℕ) (reach : Reach) (c : Command) (gs : List ControlGear) (ds : List (ℕ × ℕ)) (left : List ℕ) → Draws plan gs ds left
+draws_taken : (plan : List ℕ) (reach : Reach) (c : Command) (gs : List Gear) (ds : List (ℕ × ℕ)) (left : List ℕ) → Draws plan gs ds left
     → Draws plan (row_after reach c 0 gs left) (ds ++ drawn_of reach c 0 gs left) (row_left reach c 0 gs left)
 draws_taken plan reach c gs ds left d = record {
   each = λ i h.
@@ -52,7 +52,7 @@ draws_taken plan reach c gs ds left d = record {
   numbers = rw (map-append, append_assoc, numbers_stay) d.numbers;
 }
 
-drawn_powered : (on : Bool) (ds : List (ℕ × ℕ)) (k : ℕ) (g : ControlGear) → HasDrawn ds k g → HasDrawn ds k (powered on g)
+drawn_powered : (on : Bool) (ds : List (ℕ × ℕ)) (k : ℕ) (g : Gear) → HasDrawn ds k g → HasDrawn ds k (gear_powered on g)
 drawn_powered false ds k g d = d
 drawn_powered true ds k g d = go (g.powered) where
   go : (b : Bool) → HasDrawn ds k (if b then g else record g { powered = true; state = fresh.state; search = fresh.search; half = None })
@@ -60,21 +60,21 @@ drawn_powered true ds k g d = go (g.powered) where
   go false = d
 
 -- they hold after each event
-pub draws_step : (p : SitePlan) (w : World) (e : Event) → Draws p.draws w.gear w.drawn w.left → Draws p.draws (happens w e).gear (happens w e).drawn (happens w e).left
+pub draws_step : (p : Plan) (w : World) (e : Event) → Draws p.draws w.gear w.drawn w.left → Draws p.draws (happens w e).gear (happens w e).drawn (happens w e).left
 draws_step p w (event.Acted c i o) d = d
 draws_step p w (event.Offered c f) d = d
 draws_step p w (event.Sent c f h) d = draws_taken p.draws Everyone (command_of f) w.gear w.drawn w.left d
 draws_step p w (event.Destroyed c f set) d = draws_taken p.draws (Only set) (command_of f) w.gear w.drawn w.left d
 draws_step p w (event.Collided c f k g) d = d
 draws_step p w event.Lapsed d = d
-draws_step p w event.Quiet d = record { each = each_map fresh (HasDrawn w.drawn) quieted w.gear (λ k g h. h) d.each; numbers = d.numbers }
+draws_step p w event.Quiet d = record { each = each_map fresh (HasDrawn w.drawn) gear_quieted w.gear (λ k g h. h) d.each; numbers = d.numbers }
 draws_step p w (event.Power g on) d =
-    record { each = each_changed fresh (HasDrawn w.drawn) (powered on) w.gear g (λ there h. drawn_powered on w.drawn g (gear_at w g) h) d.each; numbers = d.numbers }
-draws_step p w (event.Expired g) d = record { each = each_changed fresh (HasDrawn w.drawn) expired w.gear g (λ there h. h) d.each; numbers = d.numbers }
+    record { each = each_changed fresh (HasDrawn w.drawn) (gear_powered on) w.gear g (λ there h. drawn_powered on w.drawn g (gear_at w g) h) d.each; numbers = d.numbers }
+draws_step p w (event.Expired g) d = record { each = each_changed fresh (HasDrawn w.drawn) gear_expired w.gear g (λ there h. h) d.each; numbers = d.numbers }
 draws_step p w (event.Down c) d = d
 draws_step p w (event.Up c kept) d = d
 
-pub draws_start : (p : SitePlan) (capacity : ℕ) → Draws p.draws (start p capacity).gear [] p.draws
+pub draws_start : (p : Plan) (capacity : ℕ) → Draws p.draws (start p capacity).gear [] p.draws
 draws_start p capacity = record {
   each = λ i h.
       let there : i < p.gear = subst (λ n. i < n) (length-replicate p.gear fresh) h in
@@ -82,20 +82,20 @@ draws_start p capacity = record {
   numbers = refl;
 }
 
-pub draws_all : (p : SitePlan) (w : World) (es : List Event) → Draws p.draws w.gear w.drawn w.left → Draws p.draws (after_all w es).gear (after_all w es).drawn (after_all w es).left
+pub draws_all : (p : Plan) (w : World) (es : List Event) → Draws p.draws w.gear w.drawn w.left → Draws p.draws (after_all w es).gear (after_all w es).drawn (after_all w es).left
 draws_all p w [] d = d
 draws_all p w (e ∷ es) d = draws_all p (happens w e) es (draws_step p w e d)
 
-pub draws_after : (p : SitePlan) (capacity : ℕ) (es : List Event) → Draws p.draws (after p capacity es).gear (after p capacity es).drawn (after p capacity es).left
+pub draws_after : (p : Plan) (capacity : ℕ) (es : List Event) → Draws p.draws (after p capacity es).gear (after p capacity es).drawn (after p capacity es).left
 draws_after p capacity es = draws_all p (start p capacity) es (draws_start p capacity)
 
 -- NUMBERS ARE DRAWN ONCE, and none is FFFFFF
-pub are_drawn : (p : SitePlan) (w : World) → IsPlan p → Draws p.draws w.gear w.drawn w.left → AreDrawn w
+pub are_drawn : (p : Plan) (w : World) → IsPlan p → Draws p.draws w.gear w.drawn w.left → AreDrawn w
 are_drawn p w plan d = record {
   random = d.each;
   once = once_front (map (λ draw. draw.1) w.drawn) w.left (subst IsOnce (sym d.numbers) plan.draws_once);
   below = λ g r h. plan.draws_below r (subst (λ ns. Has ns r) d.numbers (has_left (map (λ draw. draw.1) w.drawn) w.left r (has_map (λ draw. draw.1) w.drawn (g, r) h)));
 }
 
-pub drawn_in_front : (p : SitePlan) (capacity : ℕ) (front rest : List Event) → IsRun p capacity (front ++ rest) → AreDrawn (after p capacity front)
+pub drawn_in_front : (p : Plan) (capacity : ℕ) (front rest : List Event) → IsRun p capacity (front ++ rest) → AreDrawn (after p capacity front)
 drawn_in_front p capacity front rest run = are_drawn p (after p capacity front) run.plan (draws_after p capacity front)

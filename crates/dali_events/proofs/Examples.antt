@@ -5,8 +5,8 @@ use Rattle.dali_frame.specs.declared.numbers.SearchAddress.{SearchAddress}
 use Rattle.dali_special.specs.declared.command.Command.TheVariants.{Randomise}
 use Rattle.dali_special.specs.Command.{command_of, frame}
 use Rattle.dali_gear.specs.declared.state.InitialisationState.TheVariants.{Disabled, Enabled}
-use Rattle.dali_gear.specs.ControlGear.{ControlGear, search_mask}
-use Rattle.dali_arbiter.specs.Bus.{request_of, idle}
+use Rattle.dali_gear.specs.Gear.{Gear, search_mask}
+use Rattle.dali_arbiter.specs.Arbiter.{request_of, idle}
 use Rattle.dali_script.specs.declared.block.Block.{Block}
 use Rattle.dali_script.specs.declared.records.Record.TheVariants.{Reserve}
 use Rattle.dali_script.specs.Scripts.{Open}
@@ -15,7 +15,7 @@ use Rattle.dali_orders.specs.declared.orders.Input.TheVariants as input
 use Rattle.dali_orders.specs.declared.orders.Order.TheVariants.{Put, Commit}
 use Rattle.dali_events.specs.declared.event.Event.{Event}
 use Rattle.dali_events.specs.declared.event.Event.TheVariants as event
-use Rattle.dali_events.specs.Plan.{SitePlan}
+use Rattle.dali_events.specs.Plan.{Plan}
 use Rattle.dali_events.specs.World.{World, gear_at, controller_at, start}
 use Rattle.dali_events.specs.Happens.{happens}
 use Rattle.dali_events.specs.Runs.{after_all, AllAllowed}
@@ -29,7 +29,7 @@ first_block = record { first = 0; last = 3 }
 abbrev second_block : Block
 second_block = record { first = 4; last = 7 }
 
-abbrev plan : SitePlan
+abbrev plan : Plan
 plan = record { gear = 2; blocks = first_block ∷ second_block ∷ []; draws = 0x123456 ∷ 0x0ABCDE ∷ [] }
 
 abbrev site : World
@@ -58,7 +58,7 @@ query = frame 0xBB 0
 abbrev at_123456 : SearchAddress
 at_123456 = record { high = 0x12; middle = 0x34; low = 0x56 }
 
-abbrev found_gear : ℕ → ControlGear
+abbrev found_gear : ℕ → Gear
 found_gear r = record { powered = true; state = Enabled; random = r; search = at_123456; short = None; half = None }
 
 abbrev found_site : World

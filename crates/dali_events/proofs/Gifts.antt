@@ -3,8 +3,8 @@ use Rattle.std.proofs.lemmas.List.{map-append}
 use Rattle.dali_frame.specs.Random.{value_of}
 use Rattle.dali_special.specs.declared.command.Command.{Command}
 use Rattle.dali_gear.specs.declared.row.Reach.{Reach}
-use Rattle.dali_gear.specs.ControlGear.{ControlGear, fresh}
-use Rattle.dali_gear.specs.Row.{takes, row_after, drawn_of, stored, stored_of}
+use Rattle.dali_gear.specs.Gear.{Gear, fresh}
+use Rattle.dali_gear.specs.Row.{takes, row_after, drawn_of, stored_short, stored_of}
 use Rattle.dali_script.specs.declared.block.Block.{Block}
 use Rattle.dali_script.specs.declared.stage.Stage.{Stage}
 use Rattle.dali_script.specs.Records.{Assignment, Has, IsOnce}
@@ -18,7 +18,7 @@ use Rattle.dali_events.proofs.Sending.{KnowsAll, takes_powered}
 
 -- WHAT HOLDS OF GIFTS: a gear holds an address where it was given it; its random address it has drawn, and somebody has
 -- reserved the address for it; each gear and each address was given once.
-pub record Gifts (R : Assignment → Type 0) (gs : List ControlGear) (ds gf : List (ℕ × ℕ)) : Type 0 where
+pub record Gifts (R : Assignment → Type 0) (gs : List Gear) (ds gf : List (ℕ × ℕ)) : Type 0 where
   pub there : (g a : ℕ) → Has gf (g, a) → g < length gs
   pub holds : (g a : ℕ) → g < length gs → ((get_or gs g fresh).short ≡ Some a) ↔ Has gf (g, a)
   pub drawn : (g a : ℕ) → Has gf (g, a) → Has ds (g, (get_or gs g fresh).random)
@@ -27,7 +27,7 @@ pub record Gifts (R : Assignment → Type 0) (gs : List ControlGear) (ds gf : Li
   pub address_once : IsOnce (map (λ gift. gift.1) gf)
 
 -- gear g had no address, and stores one that is reserved for the number that it has drawn
-pub record Given (R : Assignment → Type 0) (gs : List ControlGear) (ds : List (ℕ × ℕ)) (hs : List ControlGear) (g a : ℕ) : Type 0 where
+pub record Given (R : Assignment → Type 0) (gs : List Gear) (ds : List (ℕ × ℕ)) (hs : List Gear) (g a : ℕ) : Type 0 where
   pub there : g < length gs
   pub before : (get_or gs g fresh).short ≡ None
   pub now : (get_or hs g fresh).short ≡ Some a
@@ -36,7 +36,7 @@ pub record Given (R : Assignment → Type 0) (gs : List ControlGear) (ds : List 
   pub drawn : Has ds (g, (get_or gs g fresh).random)
 
 -- ONE EVENT: what a gear was given stays, and what it is given is new
-pub record Change (R : Assignment → Type 0) (gs : List ControlGear) (ds gf : List (ℕ × ℕ)) (hs : List ControlGear) (dt gt : List (ℕ × ℕ)) : Type 0 where
+pub record Change (R : Assignment → Type 0) (gs : List Gear) (ds gf : List (ℕ × ℕ)) (hs : List Gear) (dt gt : List (ℕ × ℕ)) : Type 0 where
   pub new : List (ℕ × ℕ)
   pub more : List (ℕ × ℕ)
   pub gifts : gt ≡ gf ++ new
@@ -49,10 +49,10 @@ pub record Change (R : Assignment → Type 0) (gs : List ControlGear) (ds gf : L
   pub once : IsOnce (map (λ gift. gift.0) new)
 
 -- an event that leaves the addresses of all gear
-abbrev pub SameAddresses : List ControlGear → ℕ → ControlGear → Type 0
+abbrev pub SameAddresses : List Gear → ℕ → Gear → Type 0
 SameAddresses gs k h = (h.short ≡ (get_or gs k fresh).short) × (h.random ≡ (get_or gs k fresh).random)
 
-pub no_change : (R : Assignment → Type 0) (gs hs : List ControlGear) (ds gf : List (ℕ × ℕ)) → length hs ≡ length gs → Each fresh (SameAddresses gs) hs → Change R gs ds gf hs ds gf
+pub no_change : (R : Assignment → Type 0) (gs hs : List Gear) (ds gf : List (ℕ × ℕ)) → length hs ≡ length gs → Each fresh (SameAddresses gs) hs → Change R gs ds gf hs ds gf
 no_change R gs hs ds gf count same = record {
   new = [];
   more = [];
@@ -68,30 +68,30 @@ no_change R gs hs ds gf count same = record {
 
 -- A FRAME
 module _ (R : Assignment → Type 0) (b : Block) (xs : List Assignment) (s : Stage) (c : Command) (reach : Reach) (follows : Follows b xs s c) where
-  moved_short : (ds : List (ℕ × ℕ)) (k a : ℕ) (g g' : ControlGear) → (g.powered ≡ true → Knows s g) → Moved reach c ds k g g' → g.short ≡ Some a → g'.short ≡ Some a
+  moved_short : (ds : List (ℕ × ℕ)) (k a : ℕ) (g g' : Gear) → (g.powered ≡ true → Knows s g) → Moved reach c ds k g g' → g.short ≡ Some a → g'.short ≡ Some a
   moved_short ds k a g _ knows (stays e) h = h
   moved_short ds k a g _ knows (goes r e drew) h = short_stays b xs s c g a follows (knows (takes_powered reach k g e)) h
 
-  moved_random : (ds : List (ℕ × ℕ)) (k a : ℕ) (g g' : ControlGear) → (g.powered ≡ true → Knows s g) → Moved reach c ds k g g' → g.short ≡ Some a → g'.random ≡ g.random
+  moved_random : (ds : List (ℕ × ℕ)) (k a : ℕ) (g g' : Gear) → (g.powered ≡ true → Knows s g) → Moved reach c ds k g g' → g.short ≡ Some a → g'.random ≡ g.random
   moved_random ds k a g _ knows (stays e) h = refl
   moved_random ds k a g _ knows (goes r e drew) h = random_stays b xs s c g r a follows (knows (takes_powered reach k g e)) h
 
-  moved_from : (ds : List (ℕ × ℕ)) (k a : ℕ) (g g' : ControlGear) → Moved reach c ds k g g' → g'.short ≡ Some a → (g.short ≡ Some a) ⊎ ((takes reach k g ≡ true) × (stored c g ≡ Some a))
+  moved_from : (ds : List (ℕ × ℕ)) (k a : ℕ) (g g' : Gear) → Moved reach c ds k g g' → g'.short ≡ Some a → (g.short ≡ Some a) ⊎ ((takes reach k g ≡ true) × (stored_short c g ≡ Some a))
   moved_from ds k a g _ (stays e) h = inl h
   moved_from ds k a g _ (goes r e drew) h = go (short_from c g a h) where
-    go : (g.short ≡ Some a) ⊎ (stored c g ≡ Some a) → (g.short ≡ Some a) ⊎ ((takes reach k g ≡ true) × (stored c g ≡ Some a))
+    go : (g.short ≡ Some a) ⊎ (stored_short c g ≡ Some a) → (g.short ≡ Some a) ⊎ ((takes reach k g ≡ true) × (stored_short c g ≡ Some a))
     go (inl is) = inl is
     go (inr is) = inr (e, is)
 
-  moved_stores : (ds : List (ℕ × ℕ)) (k a : ℕ) (g g' : ControlGear) → Moved reach c ds k g g' → takes reach k g ≡ true → stored c g ≡ Some a → (g'.short ≡ Some a) × (g'.random ≡ g.random)
+  moved_stores : (ds : List (ℕ × ℕ)) (k a : ℕ) (g g' : Gear) → Moved reach c ds k g g' → takes reach k g ≡ true → stored_short c g ≡ Some a → (g'.short ≡ Some a) × (g'.random ≡ g.random)
   moved_stores ds k a g _ (stays off) e is = absurd (cc)
   moved_stores ds k a g _ (goes r there drew) e is = (short_stored c g a is, random_stored c g r a is)
 
-  drawn_new : (ds : List (ℕ × ℕ)) (k a : ℕ) (g : ControlGear) → HasDrawn ds k g → IsNew b xs g a → Has ds (k, g.random)
+  drawn_new : (ds : List (ℕ × ℕ)) (k a : ℕ) (g : Gear) → HasDrawn ds k g → IsNew b xs g a → Has ds (k, g.random)
   drawn_new ds k a g (inr h) n = h
   drawn_new ds k a g (inl mask) n = absurd (let is : g.random ≡ value_of n.number = n.random in let below : value_of n.number < 0xFFFFFF = n.may.drawn in let at : g.random ≡ 0xFFFFFF = mask in omega arith)
 
-  pub frame_changes : (gs : List ControlGear) (left : List ℕ) (ds gf : List (ℕ × ℕ)) → KnowsAll s gs → Each fresh (HasDrawn ds) gs → ((a r : ℕ) → Has xs (a, r) → R (a, r))
+  pub frame_changes : (gs : List Gear) (left : List ℕ) (ds gf : List (ℕ × ℕ)) → KnowsAll s gs → Each fresh (HasDrawn ds) gs → ((a r : ℕ) → Has xs (a, r) → R (a, r))
       → Change R gs ds gf (row_after reach c 0 gs left) (ds ++ drawn_of reach c 0 gs left) (gf ++ stored_of reach c 0 gs)
   frame_changes gs left ds gf knows drawn sender = record {
     new = stored_of reach c 0 gs;
@@ -105,12 +105,12 @@ module _ (R : Assignment → Type 0) (b : Block) (xs : List Assignment) (s : Sta
     given = λ g a h. given g a (stored_by reach c gs g a h);
     once = stored_once reach c gs;
   } where
-    stores : (g a : ℕ) → g < length gs → ((get_or gs g fresh).short ≡ Some a) ⊎ ((takes reach g (get_or gs g fresh) ≡ true) × (stored c (get_or gs g fresh) ≡ Some a))
+    stores : (g a : ℕ) → g < length gs → ((get_or gs g fresh).short ≡ Some a) ⊎ ((takes reach g (get_or gs g fresh) ≡ true) × (stored_short c (get_or gs g fresh) ≡ Some a))
         → ((get_or gs g fresh).short ≡ Some a) ⊎ Has (stored_of reach c 0 gs) (g, a)
     stores g a h (inl e) = inl e
     stores g a h (inr e) = inr (stores_at reach c gs g a h e.0 e.1)
 
-    given : (g a : ℕ) → (g < length gs) × (takes reach g (get_or gs g fresh) ≡ true) × (stored c (get_or gs g fresh) ≡ Some a) → Given R gs ds (row_after reach c 0 gs left) g a
+    given : (g a : ℕ) → (g < length gs) × (takes reach g (get_or gs g fresh) ≡ true) × (stored_short c (get_or gs g fresh) ≡ Some a) → Given R gs ds (row_after reach c 0 gs left) g a
     given g a h =
         let knows_it : Knows s (get_or gs g fresh) = knows g h.0 (takes_powered reach g (get_or gs g fresh) h.1) in
         let new : IsNew b xs (get_or gs g fresh) a = new_from b xs s c (get_or gs g fresh) a follows knows_it h.2 in
@@ -125,7 +125,7 @@ module _ (R : Assignment → Type 0) (b : Block) (xs : List Assignment) (s : Sta
         }
 
 -- GIFTS STAY TRUE
-module _ (R : Assignment → Type 0) (one_number : (a r q : ℕ) → R (a, r) → R (a, q) → r ≡ q) (gs hs : List ControlGear) (ds gf dt gt : List (ℕ × ℕ))
+module _ (R : Assignment → Type 0) (one_number : (a r q : ℕ) → R (a, r) → R (a, q) → r ≡ q) (gs hs : List Gear) (ds gf dt gt : List (ℕ × ℕ))
     (drawn_once : IsOnce (map (λ draw. draw.1) ds)) (old : Gifts R gs ds gf) (ch : Change R gs ds gf hs dt gt) where
   given_is : (g a : ℕ) → Has gf (g, a) → (get_or gs g fresh).short ≡ Some a
   given_is g a h = (old.holds g a (old.there g a h)).1 h

@@ -5,16 +5,16 @@ use Rattle.dali_special.specs.Command.{command_of}
 use Rattle.dali_script.specs.declared.block.Block.{Block}
 use Rattle.dali_script.specs.declared.records.Record.{Record}
 use Rattle.dali_script.specs.declared.records.Record.TheVariants.{Reserve, Enrol}
-use Rattle.dali_script.specs.Records.{Assignment, Records, InBlock, IsKept, IsFresh, Fits, address_of}
-use Rattle.dali_script.specs.Findings.{searched, found_by, later}
+use Rattle.dali_script.specs.Records.{Assignment, Kept, InBlock, IsKept, IsFresh, Fits, address_of}
+use Rattle.dali_script.specs.Findings.{search_of, found_by, later}
 use Rattle.dali_script.proofs.Lists.{kept_none, kept_more}
 use Rattle.dali_orders.specs.declared.orders.Order.{Order}
 use Rattle.dali_orders.specs.declared.orders.Order.TheVariants.{Put, Commit, Done, Halt}
 use Rattle.dali_events.specs.declared.event.Event.{Event}
 use Rattle.dali_events.specs.declared.event.Event.TheVariants as event
-use Rattle.dali_events.specs.Plan.{SitePlan, IsPlan, block_at, no_block}
-use Rattle.dali_events.specs.World.{World, Controller, controller_at, nobody, begun, start}
-use Rattle.dali_events.specs.Happens.{happens, with_outstanding, informed, running}
+use Rattle.dali_events.specs.Plan.{Plan, IsPlan, block_at, no_block}
+use Rattle.dali_events.specs.World.{World, Controller, controller_at, nobody, controller_begun, start}
+use Rattle.dali_events.specs.Happens.{happens, with_outstanding, controller_informed, trace_running}
 use Rattle.dali_events.specs.Allowed.{Allowed, MayOrder}
 use Rattle.dali_events.specs.Runs.{after, after_all, AllAllowed, IsRun}
 use Rattle.dali_events.specs.Promises.{KeepsRecords}
@@ -24,40 +24,40 @@ use Rattle.dali_events.proofs.Controllers.{Property, Stands, Of, AddsOrder, Adds
 use Rattle.dali_events.proofs.Naming.{finding_is}
 
 -- RECORDS ARE KEPT, AND AN OUTSTANDING ONE IS NEW
-record IsNewRecord (kept : Records) (x : Record) : Type 0 where
+record IsNewRecord (kept : Kept) (x : Record) : Type 0 where
   pub fresh : IsFresh kept x
   pub fits : Fits kept.block x
   pub short : address_of x < 64
 
-record Keeping (b : Block) (kept : Records) (o : Option Record) (f : Option Assignment) : Type 0 where
+record Keeping (b : Block) (kept : Kept) (o : Option Record) (f : Option Assignment) : Type 0 where
   pub block : kept.block ≡ b
   pub kept_so : IsKept kept
   pub new : (x : Record) → o ≡ Some x → IsNewRecord kept x
   pub finding : (x : Assignment) → f ≡ Some x → x.0 < 64
 
-abbrev KeepsAs : SitePlan → Property
+abbrev KeepsAs : Plan → Property
 KeepsAs p c kept o f = Keeping (block_at p c) kept o f
 
-block_kept : (kept : Records) (o : Option Record) → (with_outstanding kept o).block ≡ kept.block
+block_kept : (kept : Kept) (o : Option Record) → (with_outstanding kept o).block ≡ kept.block
 block_kept kept None = refl
 block_kept kept (Some (Reserve a r)) = refl
 block_kept kept (Some (Enrol a r)) = refl
 
-keep_all : (kept : Records) (o : Option Record) → IsKept kept → ((x : Record) → o ≡ Some x → IsNewRecord kept x) → IsKept (with_outstanding kept o)
+keep_all : (kept : Kept) (o : Option Record) → IsKept kept → ((x : Record) → o ≡ Some x → IsNewRecord kept x) → IsKept (with_outstanding kept o)
 keep_all kept None k new = k
 keep_all kept (Some x) k new = let n = new x refl in kept_more kept x k n.fits n.short n.fresh
 
-keeping_stands : (p : SitePlan) → Stands (KeepsAs p)
+keeping_stands : (p : Plan) → Stands (KeepsAs p)
 keeping_stands p = record {
   keep = λ c kept o f h. record { block = block_kept kept o ∙ h.block; kept_so = keep_all kept o h.kept_so h.new; new = λ x e. absurd (cc); finding = h.finding };
   drop = λ c kept o f h. record { block = h.block; kept_so = h.kept_so; new = λ x e. absurd (cc); finding = h.finding };
   forget = λ c kept o f h. record { block = h.block; kept_so = h.kept_so; new = h.new; finding = λ x e. absurd (cc) };
 }
 
-one_new : (kept : Records) (y : Record) → IsNewRecord kept y → (x : Record) → Some y ≡ Some x → IsNewRecord kept x
+one_new : (kept : Kept) (y : Record) → IsNewRecord kept y → (x : Record) → Some y ≡ Some x → IsNewRecord kept x
 one_new kept y n x e = subst (λ z. IsNewRecord kept z) (let same : y ≡ x = cc in same) n
 
-order_keeps : (p : SitePlan) → IsPlan p → (w : World) (c : ℕ) → c < length p.blocks → (k : Controller) (o : Order) → MayOrder w c k o → AddsOrder (KeepsAs p) c k o
+order_keeps : (p : Plan) → IsPlan p → (w : World) (c : ℕ) → c < length p.blocks → (k : Controller) (o : Order) → MayOrder w c k o → AddsOrder (KeepsAs p) c k o
 order_keeps p plan w c there k (Commit (Reserve a r)) may = λ h. record {
   block = h.block;
   kept_so = h.kept_so;
@@ -78,40 +78,40 @@ later_short : (f g : Option Assignment) → ((x : Assignment) → f ≡ Some x �
 later_short f None old new x e = old x e
 later_short f (Some y) old new x e = new x e
 
-keeps_add : (p : SitePlan) → IsPlan p → (w : World) (e : Event) → Allowed w e → length w.controllers ≡ length p.blocks → Adds (KeepsAs p) w e
-keeps_add p plan w (event.Acted c i o) here count = order_keeps p plan w c (subst (λ n. c < n) count here.up.known) (informed (controller_at w c) i) o here.order
+keeps_add : (p : Plan) → IsPlan p → (w : World) (e : Event) → Allowed w e → length w.controllers ≡ length p.blocks → Adds (KeepsAs p) w e
+keeps_add p plan w (event.Acted c i o) here count = order_keeps p plan w c (subst (λ n. c < n) count here.up.known) (controller_informed (controller_at w c) i) o here.order
 keeps_add p plan w (event.Sent c f h) here count = λ there k. record {
   block = k.block;
   kept_so = k.kept_so;
   new = k.new;
-  finding = later_short (controller_at w c).finding (found_by (searched (running w c)) (command_of f) h) k.finding
-      (λ x e. let is = finding_is (searched (running w c)) (command_of f) h x e in short_small is.byte x.0 is.short);
+  finding = later_short (controller_at w c).finding (found_by (search_of (trace_running w c)) (command_of f) h) k.finding
+      (λ x e. let is = finding_is (search_of (trace_running w c)) (command_of f) h x e in short_small is.byte x.0 is.short);
 }
 keeps_add p plan w _ here count = tt
 
-record AllKeep (p : SitePlan) (cs : List Controller) : Type 0 where
+record AllKeep (p : Plan) (cs : List Controller) : Type 0 where
   pub count : length cs ≡ length p.blocks
   pub each : Each nobody (Of (KeepsAs p)) cs
 
-keeps_step : (p : SitePlan) → IsPlan p → (w : World) (e : Event) → Allowed w e → AllKeep p w.controllers → AllKeep p (happens w e).controllers
+keeps_step : (p : Plan) → IsPlan p → (w : World) (e : Event) → Allowed w e → AllKeep p w.controllers → AllKeep p (happens w e).controllers
 keeps_step p plan w e here all = record {
   count = controllers_count w e ∙ all.count;
   each = controllers_step (KeepsAs p) (keeping_stands p) w e (keeps_add p plan w e here all.count) all.each;
 }
 
-keeps_start : (p : SitePlan) (capacity : ℕ) → AllKeep p (start p capacity).controllers
+keeps_start : (p : Plan) (capacity : ℕ) → AllKeep p (start p capacity).controllers
 keeps_start p capacity = record {
-  count = length-map p.blocks begun;
+  count = length-map p.blocks controller_begun;
   each = λ i h.
-      let there : i < length p.blocks = subst (λ n. i < n) (length-map p.blocks begun) h in
-      rw (get_or-map begun p.blocks i no_block nobody there) (record { block = refl; kept_so = kept_none (block_at p i); new = λ x e. absurd (cc); finding = λ x e. absurd (cc) });
+      let there : i < length p.blocks = subst (λ n. i < n) (length-map p.blocks controller_begun) h in
+      rw (get_or-map controller_begun p.blocks i no_block nobody there) (record { block = refl; kept_so = kept_none (block_at p i); new = λ x e. absurd (cc); finding = λ x e. absurd (cc) });
 }
 
-keeps_all : (p : SitePlan) → IsPlan p → (w : World) (es : List Event) → AllAllowed w es → AllKeep p w.controllers → AllKeep p (after_all w es).controllers
+keeps_all : (p : Plan) → IsPlan p → (w : World) (es : List Event) → AllAllowed w es → AllKeep p w.controllers → AllKeep p (after_all w es).controllers
 keeps_all p plan w [] all k = k
 keeps_all p plan w (e ∷ es) all k = keeps_all p plan (happens w e) es all.1 (keeps_step p plan w e all.0 k)
 
-pub records_kept : (p : SitePlan) (capacity : ℕ) (front rest : List Event) → IsRun p capacity (front ++ rest) → KeepsRecords p (after p capacity front)
+pub records_kept : (p : Plan) (capacity : ℕ) (front rest : List Event) → IsRun p capacity (front ++ rest) → KeepsRecords p (after p capacity front)
 records_kept p capacity front rest run =
     let all = keeps_all p run.plan (start p capacity) front (allowed_front (start p capacity) front rest run.allowed) (keeps_start p capacity) in
     record {

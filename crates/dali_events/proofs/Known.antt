@@ -12,8 +12,8 @@ use Rattle.dali_special.specs.declared.command.Command.TheVariants.{Terminate, I
 use Rattle.dali_special.specs.Command.{MASK, program_data, IsSpelled}
 use Rattle.dali_special.proofs.Table.{short_of_code}
 use Rattle.dali_gear.specs.declared.state.InitialisationState.TheVariants.{Enabled}
-use Rattle.dali_gear.specs.ControlGear.{ControlGear, is_active, is_found, is_second, concerns, would_draw, random_after, state_after, short_after, taken, answer, quieted}
-use Rattle.dali_gear.specs.Row.{stored}
+use Rattle.dali_gear.specs.Gear.{Gear, is_active, is_found, is_second, concerns, would_draw, random_after, state_after, short_after, gear_taken, answer, gear_quieted}
+use Rattle.dali_gear.specs.Row.{stored_short}
 use Rattle.dali_script.specs.declared.block.Block.{Block}
 use Rattle.dali_script.specs.declared.stage.Stage.{Stage}
 use Rattle.dali_script.specs.declared.stage.Stage.TheVariants as stage
@@ -22,16 +22,16 @@ use Rattle.dali_script.specs.Scripts.{MayGive}
 use Rattle.dali_script.specs.Stages.{Follows, next_stage, queried, named, verified, answered, IsSearched}
 
 -- WHAT A STAGE SAYS OF EACH POWERED GEAR that takes part in the initialisation
-abbrev pub IsActive : ControlGear → Type 0
+abbrev pub IsActive : Gear → Type 0
 IsActive g = is_active g.state ≡ true
 
-abbrev pub Unnumbered : ControlGear → Type 0
+abbrev pub Unnumbered : Gear → Type 0
 Unnumbered g = IsActive g → g.short ≡ None
 
-abbrev pub Seeks : SearchAddress → ControlGear → Type 0
+abbrev pub Seeks : SearchAddress → Gear → Type 0
 Seeks r g = IsActive g → g.search ≡ r
 
-abbrev pub Knows : Stage → ControlGear → Type 0
+abbrev pub Knows : Stage → Gear → Type 0
 Knows stage.Terminated g = Unnumbered g
 Knows stage.InitialisedOnce g = Unnumbered g
 Knows stage.Initialised g = Unnumbered g
@@ -46,11 +46,11 @@ Knows (stage.Confirmed r a) g = IsActive g → (g.search ≡ r) × (g.random ≡
 Knows _ g = Unit {0}
 
 -- a byte that is heard is what the gear answered, if it answered
-abbrev pub Agrees : Command → ControlGear → Answer → Type 0
+abbrev pub Agrees : Command → Gear → Answer → Type 0
 Agrees c g h = (u v : ℕ) → h ≡ Byte u → answer c g ≡ Some v → v ≡ u
 
 -- its short address is one
-abbrev pub IsShort : ControlGear → Type 0
+abbrev pub IsShort : Gear → Type 0
 IsShort g = (a : ℕ) → g.short ≡ Some a → a < 64
 
 -- a gear that is heard to have none has none
@@ -63,37 +63,37 @@ pub some_of_code : (o : Option ℕ) (v b : ℕ) → ((a : ℕ) → o ≡ Some a 
 some_of_code None v b small short e = absurd (let at : short_of 255 ≡ Some b = ap short_of e ∙ short in cc)
 some_of_code (Some a) v b small short e = sym (short_of_code a (small a refl)) ∙ ap short_of e ∙ short
 
-query_answer : (g : ControlGear) → IsActive g → is_found g ≡ true → answer QueryShort g ≡ Some (program_data g.short)
+query_answer : (g : Gear) → IsActive g → is_found g ≡ true → answer QueryShort g ≡ Some (program_data g.short)
 query_answer g active found = rw (active, found) refl
 
-found_at : (g : ControlGear) (r : SearchAddress) → g.search ≡ r → g.random ≡ value_of r → is_found g ≡ true
+found_at : (g : Gear) (r : SearchAddress) → g.search ≡ r → g.random ≡ value_of r → is_found g ≡ true
 found_at g r search random = test (g.random) (value_of g.search) (random ∙ ap value_of (sym search)) where
   test : (m n : ℕ) → m ≡ n → (m == n) ≡ true
   test m n e = grind (arith, nat_tests)
 
-pub found_random : (g : ControlGear) (r : SearchAddress) → g.search ≡ r → is_found g ≡ true → g.random ≡ value_of r
+pub found_random : (g : Gear) (r : SearchAddress) → g.search ≡ r → is_found g ≡ true → g.random ≡ value_of r
 found_random g r search found = test (g.random) (value_of g.search) found ∙ ap value_of search where
   test : (m n : ℕ) → (m == n) ≡ true → m ≡ n
   test m n e = grind (arith, nat_tests)
 
-knows_queried : (r : SearchAddress) (h : Answer) (g : ControlGear) (x : ℕ) → IsShort g → Agrees QueryShort g h → Seeks r g → Knows (queried r h) (taken QueryShort x g)
+knows_queried : (r : SearchAddress) (h : Answer) (g : Gear) (x : ℕ) → IsShort g → Agrees QueryShort g h → Seeks r g → Knows (queried r h) (gear_taken QueryShort x g)
 knows_queried r Silence g x small agrees k = tt
 knows_queried r Damaged g x small agrees k = tt
 knows_queried r (Byte v) g x small agrees k = go (short_of v) (v == MASK) refl where
-  go : (o : Option ℕ) (m : Bool) → short_of v ≡ o → Knows (named r o m) (taken QueryShort x g)
+  go : (o : Option ℕ) (m : Bool) → short_of v ≡ o → Knows (named r o m) (gear_taken QueryShort x g)
   go (Some b) m short = λ active.
       (k active, λ random. some_of_code g.short v b small short (agrees v (program_data g.short) refl (query_answer g active (found_at g r (k active) random))))
   go None true short = λ active. (k active, λ random. none_of_code g.short v small short (agrees v (program_data g.short) refl (query_answer g active (found_at g r (k active) random))))
   go None false short = tt
 
-knows_verified : (r : SearchAddress) (a : ℕ) (h : Answer) (g : ControlGear) (x : ℕ) → IsShort g → Agrees QueryShort g h → Seeks r g → Knows (verified r a h) (taken QueryShort x g)
+knows_verified : (r : SearchAddress) (a : ℕ) (h : Answer) (g : Gear) (x : ℕ) → IsShort g → Agrees QueryShort g h → Seeks r g → Knows (verified r a h) (gear_taken QueryShort x g)
 knows_verified r a Silence g x small agrees k = tt
 knows_verified r a Damaged g x small agrees k = tt
 knows_verified r a (Byte v) g x small agrees k = go (short_of v) refl where
-  go : (o : Option ℕ) → short_of v ≡ o → Knows (answered r a o) (taken QueryShort x g)
+  go : (o : Option ℕ) → short_of v ≡ o → Knows (answered r a o) (gear_taken QueryShort x g)
   go None short = tt
   go (Some b) short = same (b == a) refl where
-    same : (m : Bool) → (b == a) ≡ m → Knows (if m then stage.Confirmed r a else stage.Inconclusive r (Some b)) (taken QueryShort x g)
+    same : (m : Bool) → (b == a) ≡ m → Knows (if m then stage.Confirmed r a else stage.Inconclusive r (Some b)) (gear_taken QueryShort x g)
     same true is = λ active.
         let number : b ≡ a = grind (arith, nat_tests) in
         (k active, λ random. some_of_code g.short v b small short (agrees v (program_data g.short) refl (query_answer g active (found_at g r (k active) random))) ∙ ap (λ n. Some n) number)
@@ -108,14 +108,14 @@ concerned_none None e = refl
 concerned_none (Some a) e = absurd (cc)
 
 -- who becomes active at INITIALISE for gear without short address has none
-initialised_none : (g : ControlGear) → Unnumbered g → is_active (state_after (Initialise Unaddressed) g) ≡ true → g.short ≡ None
+initialised_none : (g : Gear) → Unnumbered g → is_active (state_after (Initialise Unaddressed) g) ≡ true → g.short ≡ None
 initialised_none g k active = go (is_second (Initialise Unaddressed) g.half && concerns Unaddressed g.short) refl active where
   go : (b : Bool) → (is_second (Initialise Unaddressed) g.half && concerns Unaddressed g.short) ≡ b → is_active (if b then Enabled else g.state) ≡ true → g.short ≡ None
   go true e a = concerned_none g.short (both_true (is_second (Initialise Unaddressed) g.half) (concerns Unaddressed g.short) e).1
   go false e a = k a
 
-pub knows_step : (b : Block) (xs : List Assignment) (s : Stage) (c : Command) (h : Answer) (g : ControlGear) (x : ℕ)
-    → Follows b xs s c → IsShort g → Agrees c g h → Knows s g → Knows (next_stage s c h) (taken c x g)
+pub knows_step : (b : Block) (xs : List Assignment) (s : Stage) (c : Command) (h : Answer) (g : Gear) (x : ℕ)
+    → Follows b xs s c → IsShort g → Agrees c g h → Knows s g → Knows (next_stage s c h) (gear_taken c x g)
 knows_step b xs stage.Free Terminate h g x on small agrees k = λ active. absurd (cc)
 knows_step b xs stage.Free (SearchHigh high) h g x on small agrees k = λ active. rw active refl
 knows_step b xs stage.Terminated (Initialise Unaddressed) h g x on small agrees k = initialised_none g k
@@ -133,7 +133,7 @@ knows_step b xs (stage.Confirmed r a) Withdraw h g x on small agrees k = tt
 knows_step b xs _ _ h g x on small agrees k = tt
 
 -- of a gear that takes no part a stage says nothing
-pub knows_inactive : (s : Stage) (g : ControlGear) → is_active g.state ≡ false → Knows s g
+pub knows_inactive : (s : Stage) (g : Gear) → is_active g.state ≡ false → Knows s g
 knows_inactive stage.Terminated g off = λ active. absurd (cc)
 knows_inactive stage.InitialisedOnce g off = λ active. absurd (cc)
 knows_inactive stage.Initialised g off = λ active. absurd (cc)
@@ -148,7 +148,7 @@ knows_inactive (stage.Confirmed r a) g off = λ active. absurd (cc)
 knows_inactive _ g off = tt
 
 -- a stage says nothing of half pairs here
-pub knows_quieted : (s : Stage) (g : ControlGear) → Knows s g → Knows s (quieted g)
+pub knows_quieted : (s : Stage) (g : Gear) → Knows s g → Knows s (gear_quieted g)
 knows_quieted stage.Terminated g k = k
 knows_quieted stage.InitialisedOnce g k = k
 knows_quieted stage.Initialised g k = k
@@ -163,23 +163,23 @@ knows_quieted (stage.Confirmed r a) g k = k
 knows_quieted _ g k = tt
 
 -- ONE GEAR AND ONE FRAME. What a gear stores, and what it keeps.
-pub short_from : (c : Command) (g : ControlGear) (a : ℕ) → short_after c g ≡ Some a → (g.short ≡ Some a) ⊎ (stored c g ≡ Some a)
+pub short_from : (c : Command) (g : Gear) (a : ℕ) → short_after c g ≡ Some a → (g.short ≡ Some a) ⊎ (stored_short c g ≡ Some a)
 short_from (Program short) g a e = go (is_active g.state && is_found g) e where
   go : (t : Bool) → (if t then short else g.short) ≡ Some a → (g.short ≡ Some a) ⊎ ((if t then short else None) ≡ Some a)
   go true e = inr e
   go false e = inl e
 short_from _ g a e = inl e
 
-pub short_stored : (c : Command) (g : ControlGear) (a : ℕ) → stored c g ≡ Some a → short_after c g ≡ Some a
+pub short_stored : (c : Command) (g : Gear) (a : ℕ) → stored_short c g ≡ Some a → short_after c g ≡ Some a
 short_stored (Program short) g a e = go (is_active g.state && is_found g) e where
   go : (t : Bool) → (if t then short else None) ≡ Some a → (if t then short else g.short) ≡ Some a
   go true e = e
   go false e = absurd (cc)
 short_stored _ g a e = absurd (cc)
 
-pub short_taken : (c : Command) (g : ControlGear) (x : ℕ) → IsSpelled c → IsShort g → IsShort (taken c x g)
+pub short_taken : (c : Command) (g : Gear) (x : ℕ) → IsSpelled c → IsShort g → IsShort (gear_taken c x g)
 short_taken c g x spelled small a e = go (short_from c g a e) where
-  of_program : (d : Command) → IsSpelled d → stored d g ≡ Some a → a < 64
+  of_program : (d : Command) → IsSpelled d → stored_short d g ≡ Some a → a < 64
   of_program (Program (Some b)) is e = from (is_active g.state && is_found g) e where
     from : (t : Bool) → (if t then Some b else None) ≡ Some a → a < 64
     from true e = subst (λ n. n < 64) (let same : b ≡ a = cc in same) is
@@ -190,18 +190,18 @@ short_taken c g x spelled small a e = go (short_from c g a e) where
     from false e = absurd (cc)
   of_program _ is e = absurd (cc)
 
-  go : (g.short ≡ Some a) ⊎ (stored c g ≡ Some a) → a < 64
+  go : (g.short ≡ Some a) ⊎ (stored_short c g ≡ Some a) → a < 64
   go (inl e) = small a e
   go (inr e) = of_program c spelled e
 
 -- what a gear without short address was given, where it stores one
-pub record IsNew (b : Block) (xs : List Assignment) (g : ControlGear) (a : ℕ) : Type 0 where
+pub record IsNew (b : Block) (xs : List Assignment) (g : Gear) (a : ℕ) : Type 0 where
   pub number : SearchAddress
   pub random : g.random ≡ value_of number
   pub none : g.short ≡ None
   pub may : MayGive b xs number a
 
-pub new_from : (b : Block) (xs : List Assignment) (s : Stage) (c : Command) (g : ControlGear) (a : ℕ) → Follows b xs s c → Knows s g → stored c g ≡ Some a → IsNew b xs g a
+pub new_from : (b : Block) (xs : List Assignment) (s : Stage) (c : Command) (g : Gear) (a : ℕ) → Follows b xs s c → Knows s g → stored_short c g ≡ Some a → IsNew b xs g a
 new_from b xs (stage.Unnamed r) (Program (Some d)) g a on k e = go (is_active g.state) (is_found g) refl refl e where
   go : (t f : Bool) → is_active g.state ≡ t → is_found g ≡ f → (if t && f then Some d else None) ≡ Some a → IsNew b xs g a
   go true true active found e =
@@ -214,7 +214,7 @@ new_from b xs _ (Program short) g a on k e = absurd (let none = on.leads_on in c
 new_from b xs _ _ g a on k e = absurd (cc)
 
 -- a short address stays
-pub short_stays : (b : Block) (xs : List Assignment) (s : Stage) (c : Command) (g : ControlGear) (a : ℕ) → Follows b xs s c → Knows s g → g.short ≡ Some a → short_after c g ≡ Some a
+pub short_stays : (b : Block) (xs : List Assignment) (s : Stage) (c : Command) (g : Gear) (a : ℕ) → Follows b xs s c → Knows s g → g.short ≡ Some a → short_after c g ≡ Some a
 short_stays b xs (stage.Unnamed r) (Program (Some d)) g a on k e = go (is_active g.state) (is_found g) refl refl where
   go : (t f : Bool) → is_active g.state ≡ t → is_found g ≡ f → (if t && f then Some d else g.short) ≡ Some a
   go true true active found = absurd (let none : g.short ≡ None = (k active).1 (found_random g r (k active).0 found) in cc)
@@ -223,7 +223,7 @@ short_stays b xs (stage.Unnamed r) (Program (Some d)) g a on k e = go (is_active
 short_stays b xs _ (Program short) g a on k e = absurd (let none = on.leads_on in cc)
 short_stays b xs _ _ g a on k e = e
 
-drawing_none : (g : ControlGear) (a : ℕ) → Unnumbered g → g.short ≡ Some a → would_draw Randomise g ≡ false
+drawing_none : (g : Gear) (a : ℕ) → Unnumbered g → g.short ≡ Some a → would_draw Randomise g ≡ false
 drawing_none g a k e = go (is_second Randomise g.half) (is_active g.state) refl where
   go : (t f : Bool) → is_active g.state ≡ f → (t && f) ≡ false
   go true true active = absurd (let none : g.short ≡ None = k active in cc)
@@ -231,19 +231,19 @@ drawing_none g a k e = go (is_second Randomise g.half) (is_active g.state) refl 
   go false f active = refl
 
 -- and so does the random address of a gear with a short address
-pub random_stays : (b : Block) (xs : List Assignment) (s : Stage) (c : Command) (g : ControlGear) (x a : ℕ) → Follows b xs s c → Knows s g → g.short ≡ Some a → random_after c x g ≡ g.random
+pub random_stays : (b : Block) (xs : List Assignment) (s : Stage) (c : Command) (g : Gear) (x a : ℕ) → Follows b xs s c → Knows s g → g.short ≡ Some a → random_after c x g ≡ g.random
 random_stays b xs stage.Initialised Randomise g x a on k e = rw (drawing_none g a k e) refl
 random_stays b xs stage.RandomisedOnce Randomise g x a on k e = rw (drawing_none g a k e) refl
 random_stays b xs _ Randomise g x a on k e = absurd (let none = on.leads_on in cc)
 random_stays b xs _ _ g x a on k e = refl
 
 -- as does that of a gear that stores one
-pub random_stored : (c : Command) (g : ControlGear) (x a : ℕ) → stored c g ≡ Some a → random_after c x g ≡ g.random
+pub random_stored : (c : Command) (g : Gear) (x a : ℕ) → stored_short c g ≡ Some a → random_after c x g ≡ g.random
 random_stored (Program short) g x a e = refl
 random_stored _ g x a e = absurd (cc)
 
 -- at QUERY SHORT ADDRESS the gear have the search address that was sent
-pub search_known : (b : Block) (xs : List Assignment) (s : Stage) (c : Command) (g : ControlGear) (r : SearchAddress) → Follows b xs s c → c ≡ QueryShort → IsSearched s r → Knows s g → IsActive g → g.search ≡ r
+pub search_known : (b : Block) (xs : List Assignment) (s : Stage) (c : Command) (g : Gear) (r : SearchAddress) → Follows b xs s c → c ≡ QueryShort → IsSearched s r → Knows s g → IsActive g → g.search ≡ r
 search_known b xs (stage.NumberSent n) QueryShort g r on is searched k active = k active ∙ sym searched
 search_known b xs (stage.Programmed n a) QueryShort g r on is searched k active = k active ∙ sym searched
 search_known b xs _ _ g r on is searched k active = absurd (let none = on.leads_on in cc)

@@ -7,7 +7,7 @@ use Rattle.dali_frame.specs.declared.numbers.SearchAddress.{SearchAddress}
 use Rattle.dali_special.specs.Command.{command_of, frame}
 use Rattle.dali_gear.specs.declared.row.Reach.TheVariants.{Everyone}
 use Rattle.dali_gear.specs.Row.{answers_of}
-use Rattle.dali_arbiter.specs.Bus.{owns}
+use Rattle.dali_arbiter.specs.Arbiter.{owns}
 use Rattle.dali_script.specs.declared.block.Block.{Block}
 use Rattle.dali_script.specs.declared.trace.Entry.{Entry}
 use Rattle.dali_script.specs.declared.records.Record.TheVariants.{Reserve}
@@ -17,8 +17,8 @@ use Rattle.dali_orders.specs.declared.orders.Input.TheVariants as input
 use Rattle.dali_orders.specs.declared.orders.Order.TheVariants.{Put, Commit}
 use Rattle.dali_events.specs.declared.event.Event.{Event}
 use Rattle.dali_events.specs.declared.event.Event.TheVariants as event
-use Rattle.dali_events.specs.Plan.{SitePlan}
-use Rattle.dali_events.specs.World.{World, controller_at, gear_at, changed, start}
+use Rattle.dali_events.specs.Plan.{Plan}
+use Rattle.dali_events.specs.World.{World, controller_at, gear_at, controllers_changed, start}
 use Rattle.dali_events.specs.Happens.{happens, entry, goes_on, sent_by, told_sent, taken_by, trace_sent}
 use Rattle.dali_events.specs.Allowed.{Allowed, IsUp, HasDraws, Hears}
 use Rattle.dali_events.specs.Runs.{KeepsRandom}
@@ -29,30 +29,30 @@ use Rattle.dali_events.specs.Runs.{KeepsRandom}
 -- ---------------------------------------------------------------- the variant
 
 -- a world, and who lost the bus with which trace
-record Site : Type 0 where
+record SiteState : Type 0 where
   pub world : World
   pub old_owner : Option ℕ
   pub old_trace : List Entry
 
 -- the trace that a controller goes on with: its own where it owns the bus, its old one where it lost the bus
-abbrev running_on : Site → ℕ → List Entry
+abbrev running_on : SiteState → ℕ → List Entry
 running_on s c = if owns s.world.bus.owner c then s.world.trace else if owns s.old_owner c then s.old_trace else []
 
 abbrev sent_on : World → ℕ → Forward → Answer → List Entry → World
 sent_on w c f h t = record (taken_by w Everyone (command_of f)) {
   bus = sent_by w.bus c (goes_on w c (t ++ entry f h ∷ []));
   trace = trace_sent w c (t ++ entry f h ∷ []);
-  controllers = changed w.controllers c (told_sent t f h);
+  controllers = controllers_changed w.controllers c (told_sent t f h);
 }
 
-abbrev happens_on : Site → Event → Site
+abbrev happens_on : SiteState → Event → SiteState
 happens_on s (event.Sent c f h) =
     record { world = sent_on s.world c f h (running_on s c); old_owner = (if owns s.old_owner c then None else s.old_owner); old_trace = s.old_trace }
 happens_on s event.Lapsed = record { world = happens s.world event.Lapsed; old_owner = s.world.bus.owner; old_trace = s.world.trace }
 happens_on s e = record { world = happens s.world e; old_owner = s.old_owner; old_trace = s.old_trace }
 
 -- the owner, or the old owner where nobody owns the bus, goes on; and anybody else may begin
-record IsSentOn (s : Site) (c : ℕ) (f : Forward) (h : Answer) : Type 0 where
+record IsSentOn (s : SiteState) (c : ℕ) (f : Forward) (h : Answer) : Type 0 where
   pub up : IsUp s.world c
   pub may : ((s.world.bus.owner ≡ Some c) × Lawful (controller_at s.world c).records.block (controller_at s.world c).records.reserved s.world.trace f)
       ⊎ (((s.world.bus.owner ≡ None) × (s.old_owner ≡ Some c) × Lawful (controller_at s.world c).records.block (controller_at s.world c).records.reserved s.old_trace f)
@@ -60,15 +60,15 @@ record IsSentOn (s : Site) (c : ℕ) (f : Forward) (h : Answer) : Type 0 where
   pub draws : HasDraws s.world Everyone f
   pub heard : Hears (answers_of Everyone (command_of f) 0 s.world.gear) h
 
-abbrev AllowedOn : Site → Event → Type 0
+abbrev AllowedOn : SiteState → Event → Type 0
 AllowedOn s (event.Sent c f h) = IsSentOn s c f h
 AllowedOn s e = Allowed s.world e
 
-abbrev after_on : Site → List Event → Site
+abbrev after_on : SiteState → List Event → SiteState
 after_on s [] = s
 after_on s (e ∷ es) = after_on (happens_on s e) es
 
-abbrev AllAllowedOn : Site → List Event → Type 0
+abbrev AllAllowedOn : SiteState → List Event → Type 0
 AllAllowedOn s [] = Unit {0}
 AllAllowedOn s (e ∷ es) = AllowedOn s e × AllAllowedOn (happens_on s e) es
 
@@ -80,10 +80,10 @@ first_block = record { first = 0; last = 3 }
 abbrev second_block : Block
 second_block = record { first = 4; last = 7 }
 
-abbrev plan : SitePlan
+abbrev plan : Plan
 plan = record { gear = 1; blocks = first_block ∷ second_block ∷ []; draws = 0x123456 ∷ 0x0ABCDE ∷ [] }
 
-abbrev site : Site
+abbrev site : SiteState
 site = record { world = start plan 8; old_owner = None; old_trace = [] }
 
 abbrev number : SearchAddress

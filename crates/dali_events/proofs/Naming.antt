@@ -11,12 +11,12 @@ use Rattle.dali_special.specs.declared.command.Command.{Command}
 use Rattle.dali_special.specs.declared.command.Command.TheVariants.{QueryShort}
 use Rattle.dali_special.specs.Command.{command_of, program_data}
 use Rattle.dali_gear.specs.declared.row.Reach.TheVariants.{Everyone}
-use Rattle.dali_gear.specs.ControlGear.{ControlGear, answer, is_active, is_found}
+use Rattle.dali_gear.specs.Gear.{Gear, answer, is_active, is_found}
 use Rattle.dali_gear.specs.Row.{answers_of}
 use Rattle.dali_script.specs.declared.records.Record.{Record}
 use Rattle.dali_script.specs.declared.records.Record.TheVariants.{Reserve, Enrol}
-use Rattle.dali_script.specs.Records.{Assignment, Records, Has}
-use Rattle.dali_script.specs.Findings.{searched, found_by, later}
+use Rattle.dali_script.specs.Records.{Assignment, Kept, Has}
+use Rattle.dali_script.specs.Findings.{search_of, found_by, later}
 use Rattle.dali_script.specs.Stages.{stage_of}
 use Rattle.dali_script.proofs.Lists.{has_cases}
 use Rattle.dali_script.proofs.Transactions.{searched_lawful}
@@ -24,9 +24,9 @@ use Rattle.dali_orders.specs.declared.orders.Order.{Order}
 use Rattle.dali_orders.specs.declared.orders.Order.TheVariants.{Put, Commit, Done, Halt}
 use Rattle.dali_events.specs.declared.event.Event.{Event}
 use Rattle.dali_events.specs.declared.event.Event.TheVariants as event
-use Rattle.dali_events.specs.Plan.{SitePlan, no_block}
-use Rattle.dali_events.specs.World.{World, Controller, gear_at, controller_at, nobody, begun, start}
-use Rattle.dali_events.specs.Happens.{happens, with_outstanding, informed, running}
+use Rattle.dali_events.specs.Plan.{Plan, no_block}
+use Rattle.dali_events.specs.World.{World, Controller, gear_at, controller_at, nobody, controller_begun, start}
+use Rattle.dali_events.specs.Happens.{happens, with_outstanding, controller_informed, trace_running}
 use Rattle.dali_events.specs.Allowed.{Allowed, MayOrder}
 use Rattle.dali_events.specs.Runs.{Names}
 use Rattle.dali_script.proofs.Members.{Each}
@@ -46,7 +46,7 @@ abbrev pub SaysFinding : (Assignment → Type 0) → Option Assignment → Type 
 SaysFinding N None = Unit {0}
 SaysFinding N (Some x) = N x
 
-pub record SaysOnly (N : Assignment → Type 0) (kept : Records) (o : Option Record) (f : Option Assignment) : Type 0 where
+pub record SaysOnly (N : Assignment → Type 0) (kept : Kept) (o : Option Record) (f : Option Assignment) : Type 0 where
   pub enrolled : (x : Assignment) → Has kept.enrolled x → N x
   pub outstanding : SaysRecord N o
   pub finding : SaysFinding N f
@@ -54,7 +54,7 @@ pub record SaysOnly (N : Assignment → Type 0) (kept : Records) (o : Option Rec
 abbrev pub Says : (Assignment → Type 0) → Property
 Says N c kept o f = SaysOnly N kept o f
 
-keep_says : (N : Assignment → Type 0) (kept : Records) (o : Option Record) → ((x : Assignment) → Has kept.enrolled x → N x) → SaysRecord N o
+keep_says : (N : Assignment → Type 0) (kept : Kept) (o : Option Record) → ((x : Assignment) → Has kept.enrolled x → N x) → SaysRecord N o
     → (x : Assignment) → Has (with_outstanding kept o).enrolled x → N x
 keep_says N kept None says is x h = says x h
 keep_says N kept (Some (Reserve a r)) says is x h = says x h
@@ -87,19 +87,19 @@ later_says N f (Some x) h new = new x refl
 
 -- what a frame finds
 abbrev pub FoundBy : (Assignment → Type 0) → World → Event → Type 0
-FoundBy N w (event.Sent c f h) = (x : Assignment) → found_by (searched (running w c)) (command_of f) h ≡ Some x → N x
+FoundBy N w (event.Sent c f h) = (x : Assignment) → found_by (search_of (trace_running w c)) (command_of f) h ≡ Some x → N x
 FoundBy N w _ = Unit {0}
 
 says_add : (N : Assignment → Type 0) (w : World) (e : Event) → Allowed w e → FoundBy N w e → Adds (Says N) w e
-says_add N w (event.Acted c i o) here found = says_order N w c (informed (controller_at w c) i) o here.order
+says_add N w (event.Acted c i o) here found = says_order N w c (controller_informed (controller_at w c) i) o here.order
 says_add N w (event.Sent c f h) here found = λ there k. record {
   enrolled = k.enrolled;
   outstanding = k.outstanding;
-  finding = later_says N (controller_at w c).finding (found_by (searched (running w c)) (command_of f) h) k.finding found;
+  finding = later_says N (controller_at w c).finding (found_by (search_of (trace_running w c)) (command_of f) h) k.finding found;
 }
 says_add N w _ here found = tt
 
-says_more : (N M : Assignment → Type 0) → ((x : Assignment) → N x → M x) → (kept : Records) (o : Option Record) (f : Option Assignment) → SaysOnly N kept o f → SaysOnly M kept o f
+says_more : (N M : Assignment → Type 0) → ((x : Assignment) → N x → M x) → (kept : Kept) (o : Option Record) (f : Option Assignment) → SaysOnly N kept o f → SaysOnly M kept o f
 says_more N M more kept o f h = record { enrolled = λ x k. more x (h.enrolled x k); outstanding = of_record o h.outstanding; finding = of_finding f h.finding } where
   of_record : (o : Option Record) → SaysRecord N o → SaysRecord M o
   of_record None h = tt
@@ -115,10 +115,10 @@ pub says_step : (N M : Assignment → Type 0) (w : World) (e : Event) → Allowe
 says_step N M w e here more found each =
     controllers_step (Says M) (says_stand M) w e (says_add M w e here found) (λ i h. says_more N M more (controller_at w i).records (controller_at w i).outstanding (controller_at w i).finding (each i h))
 
-pub says_start : (N : Assignment → Type 0) (p : SitePlan) (capacity : ℕ) → Each nobody (Of (Says N)) (start p capacity).controllers
+pub says_start : (N : Assignment → Type 0) (p : Plan) (capacity : ℕ) → Each nobody (Of (Says N)) (start p capacity).controllers
 says_start N p capacity i h =
-    let there : i < length p.blocks = subst (λ n. i < n) (length-map p.blocks begun) h in
-    rw (get_or-map begun p.blocks i no_block nobody there) (record { enrolled = λ x k. elim k [ ]; outstanding = tt; finding = tt })
+    let there : i < length p.blocks = subst (λ n. i < n) (length-map p.blocks controller_begun) h in
+    rw (get_or-map controller_begun p.blocks i no_block nobody there) (record { enrolled = λ x k. elim k [ ]; outstanding = tt; finding = tt })
 
 -- A FINDING NAMES A GEAR
 pub record IsFinding (r : SearchAddress) (c : Command) (h : Answer) (x : Assignment) : Type 0 where
@@ -139,12 +139,12 @@ finding_is r QueryShort (Byte v) x e = go (short_of v) refl e where
       record { byte = v; query = refl; heard = refl; short = short ∙ ap (λ y. Some y.0) same; number = ap (λ y. y.1) same }
 finding_is r _ h x e = absurd (cc)
 
-pub record IsAnswer (g : ControlGear) (v : ℕ) : Type 0 where
+pub record IsAnswer (g : Gear) (v : ℕ) : Type 0 where
   pub active : IsActive g
   pub found : is_found g ≡ true
   pub reply : program_data g.short ≡ v
 
-pub answer_of_query : (g : ControlGear) (v : ℕ) → answer QueryShort g ≡ Some v → IsAnswer g v
+pub answer_of_query : (g : Gear) (v : ℕ) → answer QueryShort g ≡ Some v → IsAnswer g v
 answer_of_query g v e = go (is_active g.state) (is_found g) refl refl e where
   go : (t f : Bool) → is_active g.state ≡ t → is_found g ≡ f → (if t && f then Some (program_data g.short) else None) ≡ Some v → IsAnswer g v
   go true true active found e = record { active = active; found = found; reply = cc }
@@ -152,17 +152,17 @@ answer_of_query g v e = go (is_active g.state) (is_found g) refl refl e where
   go false f active found e = absurd (cc)
 
 pub found_names : (R : Assignment → Type 0) (w : World) (c : ℕ) (f : Forward) (h : Answer) → Allowed w (event.Sent c f h) → IsKnown w → Gifts R w.gear w.drawn w.gifts
-    → (x : Assignment) → found_by (searched (running w c)) (command_of f) h ≡ Some x → Names w x
+    → (x : Assignment) → found_by (search_of (trace_running w c)) (command_of f) h ≡ Some x → Names w x
 found_names R w c f h here known gifts x e =
-    let is = finding_is (searched (running w c)) (command_of f) h x e in
+    let is = finding_is (search_of (trace_running w c)) (command_of f) h x e in
     let who = answered Everyone (command_of f) w.gear is.byte (byte_answered (answers_of Everyone (command_of f) 0 w.gear) h is.byte here.heard is.heard) in
     let query : answer QueryShort (gear_at w who.0) ≡ Some is.byte = subst (λ d. answer d (gear_at w who.0) ≡ Some is.byte) is.query who.3 in
     let reply : IsAnswer (gear_at w who.0) is.byte = answer_of_query (gear_at w who.0) is.byte query in
-    let knows : Knows (stage_of (running w c)) (gear_at w who.0) = knows_running w c known.knows who.0 who.1 (takes_powered Everyone who.0 (gear_at w who.0) who.2) in
-    let search : (gear_at w who.0).search ≡ searched (running w c) =
-    search_known (controller_at w c).records.block (controller_at w c).records.reserved (stage_of (running w c)) (command_of f) (gear_at w who.0) (searched (running w c))
-    (follows_of w c f here.may) is.query (searched_lawful (controller_at w c).records.block (controller_at w c).records.reserved (running w c) f (lawful_of w c f here.may)) knows reply.active in
-    let random : (gear_at w who.0).random ≡ x.1 = found_random (gear_at w who.0) (searched (running w c)) search reply.found ∙ is.number in
+    let knows : Knows (stage_of (trace_running w c)) (gear_at w who.0) = knows_running w c known.knows who.0 who.1 (takes_powered Everyone who.0 (gear_at w who.0) who.2) in
+    let search : (gear_at w who.0).search ≡ search_of (trace_running w c) =
+    search_known (controller_at w c).records.block (controller_at w c).records.reserved (stage_of (trace_running w c)) (command_of f) (gear_at w who.0) (search_of (trace_running w c))
+    (follows_of w c f here.may) is.query (searched_lawful (controller_at w c).records.block (controller_at w c).records.reserved (trace_running w c) f (lawful_of w c f here.may)) knows reply.active in
+    let random : (gear_at w who.0).random ≡ x.1 = found_random (gear_at w who.0) (search_of (trace_running w c)) search reply.found ∙ is.number in
     let short : (gear_at w who.0).short ≡ Some x.0 = some_of_code (gear_at w who.0).short is.byte x.0 (known.short who.0 who.1) is.short reply.reply in
     let gift : Has w.gifts (who.0, x.0) = (gifts.holds who.0 x.0 who.1).0 short in
     (who.0, who.1, subst (λ r. Has w.drawn (who.0, r)) random (gifts.drawn who.0 x.0 gift), gift, random)

@@ -11,7 +11,7 @@ use Rattle.dali_special.specs.declared.command.Command.TheVariants.{Terminate, I
 use Rattle.dali_special.specs.Command.{MASK}
 use Rattle.dali_gear.specs.declared.state.InitialisationState.TheVariants.{Enabled, Withdrawn}
 use Rattle.dali_gear.specs.declared.row.Reach.{Reach}
-use Rattle.dali_gear.specs.ControlGear.{ControlGear, fresh, is_active, is_enabled, is_found, is_second, concerns, would_draw, taken, state_after, random_after, short_after, half_after}
+use Rattle.dali_gear.specs.Gear.{Gear, fresh, is_active, is_enabled, is_found, is_second, concerns, would_draw, gear_taken, state_after, random_after, short_after, half_after}
 use Rattle.dali_gear.specs.Row.{takes, left_after, row_after, drawn_one, drawn_of, draws_needed}
 use Rattle.dali_script.specs.declared.block.Block.{Block}
 use Rattle.dali_script.specs.declared.stage.Stage.{Stage}
@@ -21,12 +21,12 @@ use Rattle.dali_script.specs.Stages.{Follows, next_stage, queried, named, verifi
 use Rattle.dali_events.proofs.Known.{Knows, IsActive, found_random}
 
 -- WITH NUMBERS ENOUGH, who would draw draws one of them
-record DrawsNumber (reach : Reach) (c : Command) (k : ℕ) (gs : List ControlGear) (left : List ℕ) (i : ℕ) : Type 0 where
+record DrawsNumber (reach : Reach) (c : Command) (k : ℕ) (gs : List Gear) (left : List ℕ) (i : ℕ) : Type 0 where
   pub number : ℕ
   pub drawn : Has (drawn_of reach c k gs left) (k + i, number)
-  pub moved : get_or (row_after reach c k gs left) i fresh ≡ taken c number (get_or gs i fresh)
+  pub moved : get_or (row_after reach c k gs left) i fresh ≡ gear_taken c number (get_or gs i fresh)
 
-draws_here : (reach : Reach) (c : Command) (k : ℕ) (g : ControlGear) (gs : List ControlGear) (left : List ℕ) → takes reach k g ≡ true → would_draw c g ≡ true
+draws_here : (reach : Reach) (c : Command) (k : ℕ) (g : Gear) (gs : List Gear) (left : List ℕ) → takes reach k g ≡ true → would_draw c g ≡ true
     → draws_needed reach c k (g ∷ gs) ≤ length left → DrawsNumber reach c k (g ∷ gs) left 0
 draws_here reach c k g gs [] t w enough =
     absurd (let more : 1 + draws_needed reach c (k + 1) gs ≤ 0 = rw (t, w) at enough in omega arith)
@@ -46,7 +46,7 @@ enough_left false n left h = omega arith
 enough_left true n [] h = omega arith
 enough_left true n (r ∷ left) h = omega arith
 
-draws_from : (reach : Reach) (c : Command) (k : ℕ) (gs : List ControlGear) (left : List ℕ) (i : ℕ) → i < length gs → draws_needed reach c k gs ≤ length left
+draws_from : (reach : Reach) (c : Command) (k : ℕ) (gs : List Gear) (left : List ℕ) (i : ℕ) → i < length gs → draws_needed reach c k gs ≤ length left
     → takes reach (k + i) (get_or gs i fresh) ≡ true → would_draw c (get_or gs i fresh) ≡ true → DrawsNumber reach c k gs left i
 draws_from reach c k [] left i h enough t w = absurd (omega arith)
 draws_from reach c k (g ∷ gs) left zero h enough t w = draws_here reach c k g gs left (rw add-zero at t) w enough
@@ -62,22 +62,22 @@ draws_from reach c k (g ∷ gs) left (suc i) h enough t w =
       moved = d.moved;
     }
 
-pub draws_at : (reach : Reach) (c : Command) (gs : List ControlGear) (left : List ℕ) (i : ℕ) → i < length gs → draws_needed reach c 0 gs ≤ length left
+pub draws_at : (reach : Reach) (c : Command) (gs : List Gear) (left : List ℕ) (i : ℕ) → i < length gs → draws_needed reach c 0 gs ≤ length left
     → takes reach i (get_or gs i fresh) ≡ true → would_draw c (get_or gs i fresh) ≡ true
-    → (r : ℕ) × Has (drawn_of reach c 0 gs left) (i, r) × (get_or (row_after reach c 0 gs left) i fresh ≡ taken c r (get_or gs i fresh))
+    → (r : ℕ) × Has (drawn_of reach c 0 gs left) (i, r) × (get_or (row_after reach c 0 gs left) i fresh ≡ gear_taken c r (get_or gs i fresh))
 draws_at reach c gs left i h enough t w =
     let d = draws_from reach c 0 gs left i h enough (subst (λ n. takes reach n (get_or gs i fresh) ≡ true) (sym (zero-add i)) t) w in
     (d.number, subst (λ n. Has (drawn_of reach c 0 gs left) (n, d.number)) (zero-add i) d.drawn, d.moved)
 
 -- WHAT AN OPENING SAYS of each powered gear without short address
-abbrev pub Opens : Stage → ControlGear → Type 0
+abbrev pub Opens : Stage → Gear → Type 0
 Opens stage.Terminated g = g.half ≡ None
 Opens stage.InitialisedOnce g = g.half ≡ Some (Initialise Unaddressed)
 Opens stage.Initialised g = (g.half ≡ None) × (g.state ≡ Enabled)
 Opens stage.RandomisedOnce g = (g.half ≡ Some Randomise) × (g.state ≡ Enabled)
 Opens _ g = Unit {0}
 
-opens_queried : (r : SearchAddress) (h : Answer) (g : ControlGear) → Opens (queried r h) g
+opens_queried : (r : SearchAddress) (h : Answer) (g : Gear) → Opens (queried r h) g
 opens_queried r Silence g = tt
 opens_queried r Damaged g = tt
 opens_queried r (Byte v) g = go (short_of v) (v == MASK) where
@@ -86,7 +86,7 @@ opens_queried r (Byte v) g = go (short_of v) (v == MASK) where
   go None true = tt
   go None false = tt
 
-opens_verified : (r : SearchAddress) (a : ℕ) (h : Answer) (g : ControlGear) → Opens (verified r a h) g
+opens_verified : (r : SearchAddress) (a : ℕ) (h : Answer) (g : Gear) → Opens (verified r a h) g
 opens_verified r a Silence g = tt
 opens_verified r a Damaged g = tt
 opens_verified r a (Byte v) g = go (short_of v) where
@@ -98,23 +98,23 @@ opens_verified r a (Byte v) g = go (short_of v) where
     same false = tt
 
 -- the second INITIALISE enables it
-enables : (g : ControlGear) → g.half ≡ Some (Initialise Unaddressed) → g.short ≡ None → (half_after (Initialise Unaddressed) g ≡ None) × (state_after (Initialise Unaddressed) g ≡ Enabled)
+enables : (g : Gear) → g.half ≡ Some (Initialise Unaddressed) → g.short ≡ None → (half_after (Initialise Unaddressed) g ≡ None) × (state_after (Initialise Unaddressed) g ≡ Enabled)
 enables g half none = rw (half, none) (refl, refl)
 
-remembers_initialise : (g : ControlGear) → g.half ≡ None → half_after (Initialise Unaddressed) g ≡ Some (Initialise Unaddressed)
+remembers_initialise : (g : Gear) → g.half ≡ None → half_after (Initialise Unaddressed) g ≡ Some (Initialise Unaddressed)
 remembers_initialise g half = rw half refl
 
-remembers_randomise : (g : ControlGear) → g.half ≡ None → half_after Randomise g ≡ Some Randomise
+remembers_randomise : (g : Gear) → g.half ≡ None → half_after Randomise g ≡ Some Randomise
 remembers_randomise g half = rw half refl
 
-pub opens_step : (b : Block) (xs : List Assignment) (s : Stage) (c : Command) (h : Answer) (g : ControlGear) (x : ℕ)
-    → Follows b xs s c → (g.short ≡ None → Opens s g) → short_after c g ≡ None → Opens (next_stage s c h) (taken c x g)
+pub opens_step : (b : Block) (xs : List Assignment) (s : Stage) (c : Command) (h : Answer) (g : Gear) (x : ℕ)
+    → Follows b xs s c → (g.short ≡ None → Opens s g) → short_after c g ≡ None → Opens (next_stage s c h) (gear_taken c x g)
 opens_step b xs stage.Free Terminate h g x on k none = refl
 opens_step b xs stage.Terminated (Initialise Unaddressed) h g x on k none = remembers_initialise g (k none)
 opens_step b xs stage.InitialisedOnce (Initialise Unaddressed) h g x on k none = enables g (k none) none
 opens_step b xs stage.Initialised Randomise h g x on k none = (remembers_randomise g (k none).0, (k none).1)
-opens_step b xs (stage.NumberSent r) QueryShort h g x on k none = opens_queried r h (taken QueryShort x g)
-opens_step b xs (stage.Programmed r a) QueryShort h g x on k none = opens_verified r a h (taken QueryShort x g)
+opens_step b xs (stage.NumberSent r) QueryShort h g x on k none = opens_queried r h (gear_taken QueryShort x g)
+opens_step b xs (stage.Programmed r a) QueryShort h g x on k none = opens_verified r a h (gear_taken QueryShort x g)
 opens_step b xs stage.RandomisedOnce Randomise h g x on k none = tt
 opens_step b xs (stage.HighSent high) (SearchMiddle middle) h g x on k none = tt
 opens_step b xs (stage.MiddleSent high middle) (SearchLow low) h g x on k none = tt
@@ -124,17 +124,17 @@ opens_step b xs (stage.Confirmed r a) Withdraw h g x on k none = tt
 opens_step b xs _ _ h g x on k none = tt
 
 -- READY: a gear without short address that was opened to a search takes part in it, and has drawn a number
-abbrev pub Ready : ControlGear → Type 0
+abbrev pub Ready : Gear → Type 0
 Ready g = g.short ≡ None → (g.state ≡ Enabled) × (g.random < MASK24)
 
-pub draws_ready : (g : ControlGear) → (g.half ≡ Some Randomise) × (g.state ≡ Enabled) → would_draw Randomise g ≡ true
+pub draws_ready : (g : Gear) → (g.half ≡ Some Randomise) × (g.state ≡ Enabled) → would_draw Randomise g ≡ true
 draws_ready g k = rw (k.0, k.1) refl
 
-pub drawn_ready : (g : ControlGear) (r : ℕ) → (g.half ≡ Some Randomise) × (g.state ≡ Enabled) → r < MASK24 → Ready (taken Randomise r g)
+pub drawn_ready : (g : Gear) (r : ℕ) → (g.half ≡ Some Randomise) × (g.state ≡ Enabled) → r < MASK24 → Ready (gear_taken Randomise r g)
 drawn_ready g r k below = λ none. (k.1, rw (draws_ready g k) below)
 
 -- a frame that is no TERMINATE leaves it ready
-randomised_ready : (g : ControlGear) (r : ℕ) → (would_draw Randomise g ≡ true → (r ≡ g.random) ⊎ (r < MASK24)) → Ready g → Ready (taken Randomise r g)
+randomised_ready : (g : Gear) (r : ℕ) → (would_draw Randomise g ≡ true → (r ≡ g.random) ⊎ (r < MASK24)) → Ready g → Ready (gear_taken Randomise r g)
 randomised_ready g r drew k = λ none. ((k none).0, go (would_draw Randomise g) refl (k none).1) where
   go : (b : Bool) → would_draw Randomise g ≡ b → g.random < MASK24 → (if b then r else g.random) < MASK24
   go false e below = below
@@ -143,14 +143,14 @@ randomised_ready g r drew k = λ none. ((k none).0, go (would_draw Randomise g) 
     from (inl same) = subst (λ n. n < MASK24) (sym same) below
     from (inr h) = h
 
-initialised_ready : (g : ControlGear) → Ready g → g.short ≡ None → state_after (Initialise Unaddressed) g ≡ Enabled
+initialised_ready : (g : Gear) → Ready g → g.short ≡ None → state_after (Initialise Unaddressed) g ≡ Enabled
 initialised_ready g k none = go (is_second (Initialise Unaddressed) g.half && concerns Unaddressed g.short) where
   go : (b : Bool) → (if b then Enabled else g.state) ≡ Enabled
   go true = refl
   go false = (k none).0
 
 -- only gear with a short address withdraw
-withdrawn_ready : (g : ControlGear) (r : SearchAddress) (a : ℕ) → (IsActive g → (g.search ≡ r) × (g.random ≡ value_of r → g.short ≡ Some a)) → Ready g → g.short ≡ None → state_after Withdraw g ≡ Enabled
+withdrawn_ready : (g : Gear) (r : SearchAddress) (a : ℕ) → (IsActive g → (g.search ≡ r) × (g.random ≡ value_of r → g.short ≡ Some a)) → Ready g → g.short ≡ None → state_after Withdraw g ≡ Enabled
 withdrawn_ready g r a knows k none = go (is_enabled g.state && is_found g) refl where
   active : is_active g.state ≡ true
   active = rw (k none).0 refl
@@ -166,14 +166,14 @@ withdrawn_ready g r a knows k none = go (is_enabled g.state && is_found g) refl 
       let short : g.short ≡ Some a = (knows active).1 (found_random g r (knows active).0 found) in
       absurd (cc)
 
-programmed_ready : (g : ControlGear) (a : ℕ) → Ready g → short_after (Program (Some a)) g ≡ None → (g.state ≡ Enabled) × (g.random < MASK24)
+programmed_ready : (g : Gear) (a : ℕ) → Ready g → short_after (Program (Some a)) g ≡ None → (g.state ≡ Enabled) × (g.random < MASK24)
 programmed_ready g a k none = go (is_active g.state && is_found g) none where
   go : (b : Bool) → (if b then Some a else g.short) ≡ None → (g.state ≡ Enabled) × (g.random < MASK24)
   go true e = absurd (cc)
   go false e = k e
 
-pub ready_step : (b : Block) (xs : List Assignment) (s : Stage) (c : Command) (g : ControlGear) (r : ℕ)
-    → Follows b xs s c → (c ≡ Terminate → ⊥) → (would_draw c g ≡ true → (r ≡ g.random) ⊎ (r < MASK24)) → Knows s g → Ready g → Ready (taken c r g)
+pub ready_step : (b : Block) (xs : List Assignment) (s : Stage) (c : Command) (g : Gear) (r : ℕ)
+    → Follows b xs s c → (c ≡ Terminate → ⊥) → (would_draw c g ≡ true → (r ≡ g.random) ⊎ (r < MASK24)) → Knows s g → Ready g → Ready (gear_taken c r g)
 ready_step b xs stage.Terminated (Initialise Unaddressed) g r on calm drew knows k = λ none. (initialised_ready g k none, (k none).1)
 ready_step b xs stage.InitialisedOnce (Initialise Unaddressed) g r on calm drew knows k = λ none. (initialised_ready g k none, (k none).1)
 ready_step b xs (stage.Found n a) Withdraw g r on calm drew knows k = λ none. (withdrawn_ready g n a knows k none, (k none).1)

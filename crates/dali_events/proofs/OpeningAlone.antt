@@ -21,9 +21,9 @@ use Rattle.dali_orders.specs.declared.orders.Input.TheVariants as input
 use Rattle.dali_orders.specs.declared.orders.Order.TheVariants.{Put, Commit}
 use Rattle.dali_events.specs.declared.event.Event.{Event}
 use Rattle.dali_events.specs.declared.event.Event.TheVariants as event
-use Rattle.dali_events.specs.Plan.{SitePlan}
-use Rattle.dali_events.specs.World.{World, controller_at, gear_at, changed, start}
-use Rattle.dali_events.specs.Happens.{happens, running, entry, goes_on, sent_by, told_sent, taken_by}
+use Rattle.dali_events.specs.Plan.{Plan}
+use Rattle.dali_events.specs.World.{World, controller_at, gear_at, controllers_changed, start}
+use Rattle.dali_events.specs.Happens.{happens, trace_running, entry, goes_on, sent_by, told_sent, taken_by}
 use Rattle.dali_events.specs.Allowed.{Allowed, IsUp, HasDraws, Hears}
 use Rattle.dali_events.specs.Runs.{KeepsRandom}
 
@@ -54,12 +54,12 @@ abbrev sent_or_alone : World → ℕ → Forward → Answer → List Entry → B
 sent_or_alone w c f h t more = record (taken_by w Everyone (command_of f)) {
   bus = sent_by w.bus c more;
   trace = (if more then t else []);
-  controllers = changed w.controllers c (told_sent (running w c) f h);
+  controllers = controllers_changed w.controllers c (told_sent (trace_running w c) f h);
 }
 
 abbrev happens_or_alone : World → Event → World
 happens_or_alone w (event.Sent c f h) =
-    sent_or_alone w c f h (running w c ++ entry f h ∷ []) (goes_on w c (running w c ++ entry f h ∷ []) || goes_on_alone (running w c ++ entry f h ∷ []))
+    sent_or_alone w c f h (trace_running w c ++ entry f h ∷ []) (goes_on w c (trace_running w c ++ entry f h ∷ []) || goes_on_alone (trace_running w c ++ entry f h ∷ []))
 happens_or_alone w e = happens w e
 
 record IsSentOrAlone (w : World) (c : ℕ) (f : Forward) (h : Answer) : Type 0 where
@@ -86,7 +86,7 @@ AllAllowedOrAlone w (e ∷ es) = AllowedOrAlone w e × AllAllowedOrAlone (happen
 abbrev block : Block
 block = record { first = 0; last = 3 }
 
-abbrev plan : SitePlan
+abbrev plan : Plan
 plan = record { gear = 1; blocks = block ∷ []; draws = 0x123456 ∷ 0x0ABCDE ∷ [] }
 
 abbrev number : SearchAddress

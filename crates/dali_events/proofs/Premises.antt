@@ -10,7 +10,7 @@ use Rattle.dali_orders.specs.declared.orders.Input.TheVariants as input
 use Rattle.dali_orders.specs.declared.orders.Order.TheVariants.{Put, Commit}
 use Rattle.dali_events.specs.declared.event.Event.{Event}
 use Rattle.dali_events.specs.declared.event.Event.TheVariants as event
-use Rattle.dali_events.specs.Plan.{SitePlan}
+use Rattle.dali_events.specs.Plan.{Plan}
 use Rattle.dali_events.specs.World.{start}
 use Rattle.dali_events.specs.Runs.{after, AllAllowed, IsSafe}
 
@@ -33,7 +33,7 @@ at_0abcde = record { high = 0x0A; middle = 0xBC; low = 0xDE }
 
 -- ---------------------------------------------------------------- a number that is drawn twice
 
-abbrev twice_drawn : SitePlan
+abbrev twice_drawn : Plan
 twice_drawn = record { gear = 2; blocks = block ∷ []; draws = 0x123456 ∷ 0x123456 ∷ [] }
 
 -- an opening, a reservation, and the gear at 123456, of which there are two, store the address 0
@@ -107,7 +107,7 @@ twice_drawn_is_unsafe safe = safe.address_once.0 (inl refl)
 
 -- ---------------------------------------------------------------- an address that lies in two blocks
 
-abbrev overlapping : SitePlan
+abbrev overlapping : Plan
 overlapping = record { gear = 2; blocks = block ∷ block ∷ []; draws = 0x123456 ∷ 0x0ABCDE ∷ [] }
 
 -- controller 0 gives address 0 to the gear at 123456 and loses the bus; controller 1 gives it to the gear at 0ABCDE

@@ -3,15 +3,15 @@ use Rattle.std.proofs.lemmas.List.{map-append, get_or-map, length-map}
 use Rattle.dali_script.specs.declared.block.Block.{Block}
 use Rattle.dali_script.specs.declared.records.Record.{Record}
 use Rattle.dali_script.specs.declared.records.Record.TheVariants.{Reserve, Enrol}
-use Rattle.dali_script.specs.Records.{Assignment, Records, Has, IsOnce, addresses, HasAddress, InBlock}
+use Rattle.dali_script.specs.Records.{Assignment, Kept, Has, IsOnce, addresses, HasAddress, InBlock}
 use Rattle.dali_script.proofs.Lists.{has_cases, once_more, has_map}
 use Rattle.dali_orders.specs.declared.orders.Order.{Order}
 use Rattle.dali_orders.specs.declared.orders.Order.TheVariants.{Put, Commit, Done, Halt}
 use Rattle.dali_events.specs.declared.event.Event.{Event}
 use Rattle.dali_events.specs.declared.event.Event.TheVariants as event
-use Rattle.dali_events.specs.Plan.{SitePlan, IsPlan, block_at, no_block}
-use Rattle.dali_events.specs.World.{World, Controller, controller_at, nobody, begun, start}
-use Rattle.dali_events.specs.Happens.{happens, with_outstanding, informed}
+use Rattle.dali_events.specs.Plan.{Plan, IsPlan, block_at, no_block}
+use Rattle.dali_events.specs.World.{World, Controller, controller_at, nobody, controller_begun, start}
+use Rattle.dali_events.specs.Happens.{happens, with_outstanding, controller_informed}
 use Rattle.dali_events.specs.Allowed.{Allowed, MayOrder}
 use Rattle.dali_script.proofs.Members.{Each, has_left, same_member}
 use Rattle.dali_events.proofs.Controllers.{Property, Stands, Of, AddsOrder, Adds, controllers_step, controllers_count}
@@ -23,16 +23,16 @@ NewReserve b xs (Some (Reserve a r)) = InBlock b a × (HasAddress xs a → ⊥)
 NewReserve b xs (Some (Enrol a r)) = Unit {0}
 
 -- WHAT A CONTROLLER HAS RESERVED: addresses of its block, each once
-pub record Reserves (b : Block) (kept : Records) (o : Option Record) : Type 0 where
+pub record Reserves (b : Block) (kept : Kept) (o : Option Record) : Type 0 where
   pub block : kept.block ≡ b
   pub within : (a : ℕ) → HasAddress kept.reserved a → InBlock b a
   pub once : IsOnce (addresses kept.reserved)
   pub new : NewReserve b kept.reserved o
 
-abbrev pub ReservesAs : SitePlan → Property
+abbrev pub ReservesAs : Plan → Property
 ReservesAs p c kept o f = Reserves (block_at p c) kept o
 
-keep_new : (b : Block) (kept : Records) (o : Option Record) → Reserves b kept o → Reserves b (with_outstanding kept o) None
+keep_new : (b : Block) (kept : Kept) (o : Option Record) → Reserves b kept o → Reserves b (with_outstanding kept o) None
 keep_new b kept None h = record { block = h.block; within = h.within; once = h.once; new = tt }
 keep_new b kept (Some (Enrol a r)) h = record { block = h.block; within = h.within; once = h.once; new = tt }
 keep_new b kept (Some (Reserve a r)) h =
@@ -48,48 +48,48 @@ keep_new b kept (Some (Reserve a r)) h =
     go c (inl has) = h.within c has
     go c (inr e) = subst (λ d. InBlock b d) e h.new.0
 
-reserves_stand : (p : SitePlan) → Stands (ReservesAs p)
+reserves_stand : (p : Plan) → Stands (ReservesAs p)
 reserves_stand p = record {
   keep = λ c kept o f h. keep_new (block_at p c) kept o h;
   drop = λ c kept o f h. record { block = h.block; within = h.within; once = h.once; new = tt };
   forget = λ c kept o f h. h;
 }
 
-order_adds : (p : SitePlan) (w : World) (c : ℕ) (k : Controller) (o : Order) → MayOrder w c k o → AddsOrder (ReservesAs p) c k o
+order_adds : (p : Plan) (w : World) (c : ℕ) (k : Controller) (o : Order) → MayOrder w c k o → AddsOrder (ReservesAs p) c k o
 order_adds p w c k (Commit (Reserve a r)) may = λ h. record { block = h.block; within = h.within; once = h.once; new = (subst (λ b. InBlock b a) h.block may.1.0, may.1.2.0) }
 order_adds p w c k (Commit (Enrol a r)) may = λ h. record { block = h.block; within = h.within; once = h.once; new = tt }
 order_adds p w c k (Put q f) may = tt
 order_adds p w c k (Done end) may = tt
 order_adds p w c k (Halt fault) may = tt
 
-reserves_add : (p : SitePlan) (w : World) (e : Event) → Allowed w e → Adds (ReservesAs p) w e
-reserves_add p w (event.Acted c i o) here = order_adds p w c (informed (controller_at w c) i) o here.order
+reserves_add : (p : Plan) (w : World) (e : Event) → Allowed w e → Adds (ReservesAs p) w e
+reserves_add p w (event.Acted c i o) here = order_adds p w c (controller_informed (controller_at w c) i) o here.order
 reserves_add p w (event.Sent c f h) here = λ there k. k
 reserves_add p w _ here = tt
 
-pub record AllReserve (p : SitePlan) (cs : List Controller) : Type 0 where
+pub record AllReserve (p : Plan) (cs : List Controller) : Type 0 where
   pub count : length cs ≡ length p.blocks
   pub each : Each nobody (Of (ReservesAs p)) cs
 
-pub reserves_step : (p : SitePlan) (w : World) (e : Event) → Allowed w e → AllReserve p w.controllers → AllReserve p (happens w e).controllers
+pub reserves_step : (p : Plan) (w : World) (e : Event) → Allowed w e → AllReserve p w.controllers → AllReserve p (happens w e).controllers
 reserves_step p w e here all = record {
   count = controllers_count w e ∙ all.count;
   each = controllers_step (ReservesAs p) (reserves_stand p) w e (reserves_add p w e here) all.each;
 }
 
-pub reserves_start : (p : SitePlan) (capacity : ℕ) → AllReserve p (start p capacity).controllers
+pub reserves_start : (p : Plan) (capacity : ℕ) → AllReserve p (start p capacity).controllers
 reserves_start p capacity = record {
-  count = length-map p.blocks begun;
+  count = length-map p.blocks controller_begun;
   each = λ i h.
-      let there : i < length p.blocks = subst (λ n. i < n) (length-map p.blocks begun) h in
-      rw (get_or-map begun p.blocks i no_block nobody there) (record { block = refl; within = λ a k. elim k [ ]; once = tt; new = tt });
+      let there : i < length p.blocks = subst (λ n. i < n) (length-map p.blocks controller_begun) h in
+      rw (get_or-map controller_begun p.blocks i no_block nobody there) (record { block = refl; within = λ a k. elim k [ ]; once = tt; new = tt });
 }
 
 -- RESERVATIONS STAY
 abbrev pub StillReserved : List Controller → Assignment → Property
 StillReserved cs x c kept o f = Has (get_or cs c nobody).records.reserved x → Has kept.reserved x
 
-still_keep : (xs : List Assignment) (x : Assignment) (kept : Records) (o : Option Record) → (Has xs x → Has kept.reserved x) → Has xs x → Has (with_outstanding kept o).reserved x
+still_keep : (xs : List Assignment) (x : Assignment) (kept : Kept) (o : Option Record) → (Has xs x → Has kept.reserved x) → Has xs x → Has (with_outstanding kept o).reserved x
 still_keep xs x kept None h = h
 still_keep xs x kept (Some (Enrol a r)) h = h
 still_keep xs x kept (Some (Reserve a r)) h = λ k. has_left kept.reserved ((a, r) ∷ []) x (h k)
@@ -106,7 +106,7 @@ still_order cs x c k (Commit y) = λ h. h
 still_order cs x c k _ = tt
 
 still_add : (cs : List Controller) (x : Assignment) (w : World) (e : Event) → Adds (StillReserved cs x) w e
-still_add cs x w (event.Acted c i o) = still_order cs x c (informed (controller_at w c) i) o
+still_add cs x w (event.Acted c i o) = still_order cs x c (controller_informed (controller_at w c) i) o
 still_add cs x w (event.Sent c f h) = λ there k. k
 still_add cs x w _ = tt
 
@@ -123,7 +123,7 @@ reserved_stays x w e h =
     (h.0, there, still_reserved x w e h.0 there h.2)
 
 -- an address is reserved for one number alone, on the whole site
-pub one_number : (p : SitePlan) (cs : List Controller) → IsPlan p → AllReserve p cs → (a r q : ℕ) → IsReserved cs (a, r) → IsReserved cs (a, q) → r ≡ q
+pub one_number : (p : Plan) (cs : List Controller) → IsPlan p → AllReserve p cs → (a r q : ℕ) → IsReserved cs (a, r) → IsReserved cs (a, q) → r ≡ q
 one_number p cs plan all a r q h k =
     let first : InBlock (block_at p h.0) a = (all.each h.0 h.1).within a (has_map (λ x. x.0) (get_or cs h.0 nobody).records.reserved (a, r) h.2) in
     let second : InBlock (block_at p k.0) a = (all.each k.0 k.1).within a (has_map (λ x. x.0) (get_or cs k.0 nobody).records.reserved (a, q) k.2) in

@@ -5,15 +5,15 @@ use Rattle.dali_frame.specs.declared.frames.Forward.{Forward}
 use Rattle.dali_special.specs.Command.{command_of}
 use Rattle.dali_gear.specs.declared.row.Reach.{Reach}
 use Rattle.dali_gear.specs.declared.row.Reach.TheVariants.{Everyone, Only}
-use Rattle.dali_gear.specs.ControlGear.{ControlGear, fresh, expired, quieted}
+use Rattle.dali_gear.specs.Gear.{Gear, fresh, gear_expired, gear_quieted}
 use Rattle.dali_gear.specs.Row.{row_after, drawn_of, stored_of}
 use Rattle.dali_script.specs.Records.{Assignment, Has}
 use Rattle.dali_script.specs.Stages.{stage_of}
 use Rattle.dali_events.specs.declared.event.Event.{Event}
 use Rattle.dali_events.specs.declared.event.Event.TheVariants as event
-use Rattle.dali_events.specs.Plan.{SitePlan, IsPlan}
-use Rattle.dali_events.specs.World.{World, gear_at, controller_at, nobody, start, changed_gear}
-use Rattle.dali_events.specs.Happens.{happens, running, powered}
+use Rattle.dali_events.specs.Plan.{Plan, IsPlan}
+use Rattle.dali_events.specs.World.{World, gear_at, controller_at, nobody, start, gear_changed}
+use Rattle.dali_events.specs.Happens.{happens, trace_running, gear_powered}
 use Rattle.dali_events.specs.Allowed.{Allowed, IsUp, MaySend}
 use Rattle.dali_events.specs.Runs.{after, after_all, AllAllowed, IsRun, Names, IsSafe, KeepsRandom, IsSafeHistory}
 use Rattle.dali_events.proofs.Growing.{after_both, allowed_front, allowed_rest}
@@ -26,7 +26,7 @@ use Rattle.dali_events.proofs.Gifts.{Gifts, Change, SameAddresses, no_change, fr
 use Rattle.dali_events.proofs.Naming.{Says, FoundBy, says_step, says_start, found_names}
 
 -- THE INVARIANT of every run
-pub record Holds (p : SitePlan) (w : World) : Type 0 where
+pub record Holds (p : Plan) (w : World) : Type 0 where
   pub draws : Draws p.draws w.gear w.drawn w.left
   pub reserves : AllReserve p w.controllers
   pub known : IsKnown w
@@ -37,13 +37,13 @@ pub record Holds (p : SitePlan) (w : World) : Type 0 where
 abbrev ChangeOf : World → World → Type 0
 ChangeOf w v = Change (IsReserved w.controllers) w.gear w.drawn w.gifts v.gear v.drawn v.gifts
 
-frame_change : (w : World) (c : ℕ) (f : Forward) (reach : Reach) → IsUp w c → MaySend w c f → IsKnown w → ((p : SitePlan) × Draws p.draws w.gear w.drawn w.left)
+frame_change : (w : World) (c : ℕ) (f : Forward) (reach : Reach) → IsUp w c → MaySend w c f → IsKnown w → ((p : Plan) × Draws p.draws w.gear w.drawn w.left)
     → Change (IsReserved w.controllers) w.gear w.drawn w.gifts (row_after reach (command_of f) 0 w.gear w.left) (w.drawn ++ drawn_of reach (command_of f) 0 w.gear w.left) (w.gifts ++ stored_of reach (command_of f) 0 w.gear)
 frame_change w c f reach up may known draws =
-    frame_changes (IsReserved w.controllers) (controller_at w c).records.block (controller_at w c).records.reserved (stage_of (running w c)) (command_of f) reach (follows_of w c f may)
+    frame_changes (IsReserved w.controllers) (controller_at w c).records.block (controller_at w c).records.reserved (stage_of (trace_running w c)) (command_of f) reach (follows_of w c f may)
     w.gear w.left w.drawn w.gifts (knows_running w c known.knows) draws.1.each (λ a r h. (c, up.known, h))
 
-powered_same : (on : Bool) (g : ControlGear) → ((powered on g).short ≡ g.short) × ((powered on g).random ≡ g.random)
+powered_same : (on : Bool) (g : Gear) → ((gear_powered on g).short ≡ g.short) × ((gear_powered on g).random ≡ g.random)
 powered_same false g = (refl, refl)
 powered_same true g = go (g.powered) where
   go : (b : Bool) → ((if b then g else record g { powered = true; state = fresh.state; search = fresh.search; half = None }).short ≡ g.short)
@@ -51,16 +51,16 @@ powered_same true g = go (g.powered) where
   go true = (refl, refl)
   go false = (refl, refl)
 
-one_change : (w : World) (change : ControlGear → ControlGear) (g : ℕ) → ((x : ControlGear) → ((change x).short ≡ x.short) × ((change x).random ≡ x.random))
-    → Change (IsReserved w.controllers) w.gear w.drawn w.gifts (changed_gear w.gear g change) w.drawn w.gifts
+one_change : (w : World) (change : Gear → Gear) (g : ℕ) → ((x : Gear) → ((change x).short ≡ x.short) × ((change x).random ≡ x.random))
+    → Change (IsReserved w.controllers) w.gear w.drawn w.gifts (gear_changed w.gear g change) w.drawn w.gifts
 one_change w change g same =
-    no_change (IsReserved w.controllers) w.gear (changed_gear w.gear g change) w.drawn w.gifts (length-set w.gear g (change (gear_at w g)))
+    no_change (IsReserved w.controllers) w.gear (gear_changed w.gear g change) w.drawn w.gifts (length-set w.gear g (change (gear_at w g)))
     (each_changed fresh (SameAddresses w.gear) change w.gear g (λ there h. same (gear_at w g)) (λ i h. (refl, refl)))
 
 same_gear : (w : World) → Change (IsReserved w.controllers) w.gear w.drawn w.gifts w.gear w.drawn w.gifts
 same_gear w = no_change (IsReserved w.controllers) w.gear w.gear w.drawn w.gifts refl (λ i h. (refl, refl))
 
-change_of : (p : SitePlan) (w : World) (e : Event) → Allowed w e → Holds p w → ChangeOf w (happens w e)
+change_of : (p : Plan) (w : World) (e : Event) → Allowed w e → Holds p w → ChangeOf w (happens w e)
 change_of p w (event.Acted c i o) here k = same_gear w
 change_of p w (event.Offered c f) here k = same_gear w
 change_of p w (event.Sent c f h) here k = frame_change w c f Everyone here.up here.may k.known (p, k.draws)
@@ -68,14 +68,14 @@ change_of p w (event.Destroyed c f set) here k = frame_change w c f (Only set) h
 change_of p w (event.Collided c f d g) here k = same_gear w
 change_of p w event.Lapsed here k = same_gear w
 change_of p w event.Quiet here k =
-    no_change (IsReserved w.controllers) w.gear _ w.drawn w.gifts (length-map w.gear quieted) (each_map fresh (SameAddresses w.gear) quieted w.gear (λ i x h. h) (λ i h. (refl, refl)))
-change_of p w (event.Power g on) here k = one_change w (powered on) g (powered_same on)
-change_of p w (event.Expired g) here k = one_change w expired g (λ x. (refl, refl))
+    no_change (IsReserved w.controllers) w.gear _ w.drawn w.gifts (length-map w.gear gear_quieted) (each_map fresh (SameAddresses w.gear) gear_quieted w.gear (λ i x h. h) (λ i h. (refl, refl)))
+change_of p w (event.Power g on) here k = one_change w (gear_powered on) g (powered_same on)
+change_of p w (event.Expired g) here k = one_change w gear_expired g (λ x. (refl, refl))
 change_of p w (event.Down c) here k = same_gear w
 change_of p w (event.Up c kept) here k = same_gear w
 
 -- ONE EVENT
-gifts_more : (R S : Assignment → Type 0) (gs : List ControlGear) (ds gf : List (ℕ × ℕ)) → ((x : Assignment) → R x → S x) → Gifts R gs ds gf → Gifts S gs ds gf
+gifts_more : (R S : Assignment → Type 0) (gs : List Gear) (ds gf : List (ℕ × ℕ)) → ((x : Assignment) → R x → S x) → Gifts R gs ds gf → Gifts S gs ds gf
 gifts_more R S gs ds gf more k = record {
   there = k.there;
   holds = k.holds;
@@ -90,11 +90,11 @@ names_stay w v ch drawn keeps x n =
     let kept = keeps n.0 x.0 n.3 in
     (n.0, subst (λ m. n.0 < m) (sym ch.count) n.1, drawn (n.0, x.1) n.2, kept.0, kept.1 ∙ n.4)
 
-found_of : (p : SitePlan) (w : World) (e : Event) (M : Assignment → Type 0) → Allowed w e → Holds p w → ((x : Assignment) → Names w x → M x) → FoundBy M w e
+found_of : (p : Plan) (w : World) (e : Event) (M : Assignment → Type 0) → Allowed w e → Holds p w → ((x : Assignment) → Names w x → M x) → FoundBy M w e
 found_of p w (event.Sent c f h) M here k more = λ x e. more x (found_names (IsReserved w.controllers) w c f h here k.known k.gifts x e)
 found_of p w _ M here k more = tt
 
-module _ (p : SitePlan) (plan : IsPlan p) (w : World) (e : Event) (here : Allowed w e) (k : Holds p w) where
+module _ (p : Plan) (plan : IsPlan p) (w : World) (e : Event) (here : Allowed w e) (k : Holds p w) where
   ch : ChangeOf w (happens w e)
   ch = change_of p w e here k
 
@@ -122,7 +122,7 @@ module _ (p : SitePlan) (plan : IsPlan p) (w : World) (e : Event) (here : Allowe
   }
 
 -- EVERY RUN
-holds_start : (p : SitePlan) (capacity : ℕ) → Holds p (start p capacity)
+holds_start : (p : Plan) (capacity : ℕ) → Holds p (start p capacity)
 holds_start p capacity = record {
   draws = draws_start p capacity;
   reserves = reserves_start p capacity;
@@ -143,14 +143,14 @@ holds_start p capacity = record {
       let is : fresh.short ≡ Some a = ap (λ x. x.short) (sym (get_or-replicate p.gear g fresh fresh there)) ∙ e in
       cc
 
-pub holds_all : (p : SitePlan) → IsPlan p → (w : World) (es : List Event) → AllAllowed w es → Holds p w → Holds p (after_all w es)
+pub holds_all : (p : Plan) → IsPlan p → (w : World) (es : List Event) → AllAllowed w es → Holds p w → Holds p (after_all w es)
 holds_all p plan w [] all k = k
 holds_all p plan w (e ∷ es) all k = holds_all p plan (happens w e) es all.1 (holds_step p plan w e all.0 k)
 
-pub holds_after : (p : SitePlan) (capacity : ℕ) (log : List Event) → IsRun p capacity log → Holds p (after p capacity log)
+pub holds_after : (p : Plan) (capacity : ℕ) (log : List Event) → IsRun p capacity log → Holds p (after p capacity log)
 holds_after p capacity log run = holds_all p run.plan (start p capacity) log run.allowed (holds_start p capacity)
 
-pub keeps_all : (p : SitePlan) → IsPlan p → (w : World) (es : List Event) → AllAllowed w es → Holds p w → KeepsRandom w (after_all w es)
+pub keeps_all : (p : Plan) → IsPlan p → (w : World) (es : List Event) → AllAllowed w es → Holds p w → KeepsRandom w (after_all w es)
 keeps_all p plan w [] all k = λ g a h. (h, refl)
 keeps_all p plan w (e ∷ es) all k =
     both (keeps_step p plan w e all.0 k) (keeps_all p plan (happens w e) es all.1 (holds_step p plan w e all.0 k)) where
@@ -158,7 +158,7 @@ keeps_all p plan w (e ∷ es) all k =
       both first rest g a h = let one = first g a h in let two = rest g a one.0 in (two.0, two.1 ∙ one.1)
 
 -- A WORLD OF A RUN IS SAFE
-pub safe : (p : SitePlan) (w : World) → Holds p w → IsSafe w
+pub safe : (p : Plan) (w : World) → Holds p w → IsSafe w
 safe p w k = record {
   gear_once = k.gifts.gear_once;
   address_once = k.gifts.address_once;
@@ -166,10 +166,10 @@ safe p w k = record {
   tables = λ c there entry h. (k.says c there).enrolled entry h;
 }
 
-pub run_front : (p : SitePlan) (capacity : ℕ) (front rest : List Event) → IsRun p capacity (front ++ rest) → IsRun p capacity front
+pub run_front : (p : Plan) (capacity : ℕ) (front rest : List Event) → IsRun p capacity (front ++ rest) → IsRun p capacity front
 run_front p capacity front rest run = record { plan = run.plan; allowed = allowed_front (start p capacity) front rest run.allowed }
 
-pub safe_history : (p : SitePlan) (capacity : ℕ) (log : List Event) → IsRun p capacity log → IsSafeHistory p capacity log
+pub safe_history : (p : Plan) (capacity : ℕ) (log : List Event) → IsRun p capacity log → IsSafeHistory p capacity log
 safe_history p capacity log run = record {
   always = λ earlier more e. safe p (after p capacity earlier)
       (holds_after p capacity earlier (run_front p capacity earlier more (subst (λ es. IsRun p capacity es) (sym e) run)));

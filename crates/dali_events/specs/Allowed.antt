@@ -1,4 +1,5 @@
-use Rattle.std.specs.Prelude.{◌≡◌, ◌≢◌, ◌⊎◌, ℕ, ◌<◌, ◌≤◌, Bool, true, false, List, [], length, Option, Some, None}
+use Rattle.std.specs.Prelude.{◌≡◌, ◌≢◌, ◌⊎◌, ℕ, ◌<◌, ◌≤◌, Bool, true, false, List, [], length}
+use Rattle.std.specs.Prelude.{Option, Some, None}
 use Rattle.std.specs.List.{AllByRecursion}
 use Rattle.dali_frame.specs.declared.frames.Forward.{Forward}
 use Rattle.dali_frame.specs.declared.frames.Answer.{Answer}
@@ -22,12 +23,13 @@ use Rattle.dali_orders.specs.declared.orders.Order.TheVariants.{Put, Commit, Don
 use Rattle.dali_events.specs.declared.event.Event.{Event}
 use Rattle.dali_events.specs.declared.event.Event.TheVariants as event
 use Rattle.dali_events.specs.World.{Controller, World, controller_at}
-use Rattle.dali_events.specs.Happens.{informed}
+use Rattle.dali_events.specs.Happens.{controller_informed}
 
--- WHICH EVENTS ARE ALLOWED IN A WORLD. One section for each event, and at the end the table of them.
+-- WHICH EVENTS ARE ALLOWED IN A WORLD. One section for each event, and at the end the table of
+-- them.
 
--- HEARING: what may be heard of these backward frames to one forward frame. An answer may be lost or damaged, and
--- several may be heard as damaged; no answer is heard as another byte (a premise).
+-- HEARING: what may be heard of these backward frames to one forward frame. An answer may be lost
+-- or damaged, and several may be heard as damaged; no answer is heard as another byte (a premise).
 abbrev pub Hears : List ℕ → Answer → Type 0
 Hears answers Silence = Unit {0}
 Hears answers Damaged = Unit {0}
@@ -40,11 +42,12 @@ pub record IsUp (w : World) (c : ℕ) : Type 0 where
   pub known : c < length w.controllers
   pub up : (controller_at w c).up ≡ true
 
--- Controller c may send the frame: it owns the bus and the frame may follow its trace, or nobody owns the bus and the
--- frame may begin a transaction.
+-- Controller c may send the frame: it owns the bus and the frame may follow its trace, or nobody
+-- owns the bus and the frame may begin a transaction.
 abbrev pub MaySend : World → ℕ → Forward → Type 0
 MaySend w c f =
-    ((w.bus.owner ≡ Some c) × Lawful (controller_at w c).records.block (controller_at w c).records.reserved w.trace f)
+    ((w.bus.owner ≡ Some c)
+        × Lawful (controller_at w c).records.block (controller_at w c).records.reserved w.trace f)
     ⊎ ((w.bus.owner ≡ None) × IsFirst f)
 
 -- the numbers that the gear which the frame reaches will draw are there
@@ -67,10 +70,11 @@ IsDue k input.Committed = IsCommit k.last
 IsDue k input.CommitFailed = IsCommit k.last
 IsDue k i = k.told ≡ Some i
 
--- A record that it may commit: an address of its block and a number, neither reserved by it; or its last finding, with
--- neither enrolled by it. The number is one that gear draw.
+-- A record that it may commit: an address of its block and a number, neither reserved by it; or its
+-- last finding, with neither enrolled by it. The number is one that gear draw.
 abbrev pub MayCommit : Controller → Record → Type 0
-MayCommit k (Reserve a r) = InBlock k.records.block a × (r < MASK24) × IsFresh k.records (Reserve a r)
+MayCommit k (Reserve a r) =
+    InBlock k.records.block a × (r < MASK24) × IsFresh k.records (Reserve a r)
 MayCommit k (Enrol b r) = (k.finding ≡ Some (b, r)) × (r < MASK24) × IsFresh k.records (Enrol b r)
 
 -- a first frame at 3, and at 1 what may follow; Done and Halt always
@@ -89,7 +93,7 @@ pub record IsActed (w : World) (c : ℕ) (i : Input) (o : Order) : Type 0 where
   pub up : IsUp w c
   pub due : IsDue (controller_at w c) i
   -- as it is after the input
-  pub order : MayOrder w c (informed (controller_at w c) i) o
+  pub order : MayOrder w c (controller_informed (controller_at w c) i) o
 
 -- ---------------------------------------------------------------- frames
 

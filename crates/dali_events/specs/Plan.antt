@@ -1,14 +1,18 @@
-use Rattle.std.specs.Prelude.{◌≡◌, ℕ, ◌<◌, List, [], ◌∷◌, length, Bool, false, Option, Some, None, ◌==◌, ◌||◌, ◌&&◌, nat_lt, nat_le, map, slice_index_or, if◌then◌else◌}
+use Rattle.std.specs.Prelude.{◌≡◌, ℕ, ◌<◌, List, [], ◌∷◌, length, Bool, false, Option, Some, None}
+use Rattle.std.specs.Prelude.{◌==◌, ◌||◌, ◌&&◌, nat_lt, nat_le, map, slice_index_or, if◌then◌else◌}
 use Rattle.std.specs.List.{list_any}
 use Rattle.dali_frame.specs.Random.{MASK24}
 use Rattle.dali_script.specs.declared.block.Block.{Block}
 use Rattle.dali_script.specs.Records.{InBlock, IsOnce, Has}
 use Rattle.dali_events.specs.declared.plan.PlanError.{PlanError}
-use Rattle.dali_events.specs.declared.plan.PlanError.TheVariants.{NoMemory, GearCount, ControllerCount, BlockOrder, BlockOverlap, DrawTooLarge, DrawTwice}
+use Rattle.dali_events.specs.declared.plan.PlanError.TheVariants.{NoMemory, GearCount}
+use Rattle.dali_events.specs.declared.plan.PlanError.TheVariants.{ControllerCount, BlockOrder}
+use Rattle.dali_events.specs.declared.plan.PlanError.TheVariants.{BlockOverlap, DrawTooLarge}
+use Rattle.dali_events.specs.declared.plan.PlanError.TheVariants.{DrawTwice}
 
--- A site as it is planned: the number of its gear, a block of short addresses for each controller, and the numbers that
--- the gear will draw, in the order in which they will be drawn.
-pub record SitePlan : Type 0 where
+-- A site as it is planned: the number of its gear, a block of short addresses for each controller,
+-- and the numbers that the gear will draw, in the order in which they will be drawn.
+pub record Plan : Type 0 where
   pub gear : ℕ
   pub blocks : List Block
   pub draws : List ℕ
@@ -36,7 +40,8 @@ is_misordered b = nat_lt b.1 b.0 || nat_lt 63 b.1
 abbrev pub overlap : ℕ × ℕ → ℕ × ℕ → Bool
 overlap b c = nat_le b.0 c.1 && nat_le c.0 b.1
 
--- Why a plan is refused: the first cause that holds, of its gear, its blocks (first and last address) and its numbers.
+-- Why a plan is refused: the first cause that holds, of its gear, its blocks (first and last
+-- address) and its numbers.
 abbrev pub refusal_of : ℕ → List (ℕ × ℕ) → List ℕ → Option PlanError
 refusal_of gear blocks draws =
     if nat_lt gear 1 || nat_lt 128 gear then Some GearCount
@@ -51,20 +56,21 @@ refusal_of gear blocks draws =
 abbrev pub block_of : ℕ × ℕ → Block
 block_of b = record { first = b.0; last = b.1 }
 
-abbrev pub plan_of : ℕ → List (ℕ × ℕ) → List ℕ → SitePlan
+abbrev pub plan_of : ℕ → List (ℕ × ℕ) → List ℕ → Plan
 plan_of gear blocks draws = record { gear = gear; blocks = map block_of blocks; draws = draws }
 
 -- the block of controller c
 abbrev pub no_block : Block
 no_block = record { first = 1; last = 0 }
 
-abbrev pub block_at : SitePlan → ℕ → Block
+abbrev pub block_at : Plan → ℕ → Block
 block_at p c = slice_index_or p.blocks c no_block
 
 -- What a plan that is not refused has, in the words that the laws use.
-pub record IsPlan (p : SitePlan) : Type 0 where
+pub record IsPlan (p : Plan) : Type 0 where
   -- no address lies in the blocks of two controllers
-  pub apart : (c d a : ℕ) → c < length p.blocks → d < length p.blocks → InBlock (block_at p c) a → InBlock (block_at p d) a → c ≡ d
+  pub apart : (c d a : ℕ) → c < length p.blocks → d < length p.blocks → InBlock (block_at p c) a
+      → InBlock (block_at p d) a → c ≡ d
   -- each block has short addresses alone
   pub short : (c a : ℕ) → c < length p.blocks → InBlock (block_at p c) a → a < 64
   -- no number is drawn twice on the site

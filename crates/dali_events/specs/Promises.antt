@@ -1,7 +1,7 @@
 use Rattle.std.specs.Prelude.{◌≡◌, ℕ, ◌<◌, length, Some}
 use Rattle.dali_script.specs.declared.records.Record.{Record}
 use Rattle.dali_script.specs.Records.{Assignment, Has, IsKept, IsFresh, Fits}
-use Rattle.dali_events.specs.Plan.{SitePlan, block_at}
+use Rattle.dali_events.specs.Plan.{Plan, block_at}
 use Rattle.dali_events.specs.World.{World, gear_at, controller_at}
 use Rattle.dali_events.specs.Runs.{IsDrawer, Names}
 
@@ -11,7 +11,8 @@ use Rattle.dali_events.specs.Runs.{IsDrawer, Names}
 
 -- some controller keeps a reservation of the address for the number
 abbrev pub IsReservedFor : World → ℕ → ℕ → Type 0
-IsReservedFor w a r = (c : ℕ) × (c < length w.controllers) × Has (controller_at w c).records.reserved (a, r)
+IsReservedFor w a r =
+    (c : ℕ) × (c < length w.controllers) × Has (controller_at w c).records.reserved (a, r)
 
 -- each address that was given is reserved for the random address of its gear
 abbrev pub GiftsAreReserved : World → Type 0
@@ -29,11 +30,15 @@ pub record NamesGear (w : World) (entry : Assignment) (g : ℕ) : Type 0 where
   pub given : Has w.gifts (g, entry.0)
   pub random : (gear_at w g).random ≡ entry.1
 
--- two kept enrolments, of one controller or of two, are the same entry where they have one address, one number or one gear
+-- two kept enrolments, of one controller or of two, are the same entry where they have one address,
+-- one number or one gear
 pub record TablesAgree (w : World) : Type 0 where
-  pub address : (c d : ℕ) (x y : Assignment) → IsEnrolled w c x → IsEnrolled w d y → x.0 ≡ y.0 → x ≡ y
-  pub number : (c d : ℕ) (x y : Assignment) → IsEnrolled w c x → IsEnrolled w d y → x.1 ≡ y.1 → x ≡ y
-  pub gear : (c d g : ℕ) (x y : Assignment) → IsEnrolled w c x → IsEnrolled w d y → NamesGear w x g → NamesGear w y g → x ≡ y
+  pub address : (c d : ℕ) (x y : Assignment) → IsEnrolled w c x → IsEnrolled w d y → x.0 ≡ y.0
+      → x ≡ y
+  pub number : (c d : ℕ) (x y : Assignment) → IsEnrolled w c x → IsEnrolled w d y → x.1 ≡ y.1
+      → x ≡ y
+  pub gear : (c d g : ℕ) (x y : Assignment) → IsEnrolled w c x → IsEnrolled w d y → NamesGear w x g
+      → NamesGear w y g → x ≡ y
 
 -- ---------------------------------------------------------------- findings
 
@@ -41,19 +46,23 @@ pub record TablesAgree (w : World) : Type 0 where
 abbrev pub HasFound : World → ℕ → Assignment → Type 0
 HasFound w c found = (c < length w.controllers) × ((controller_at w c).finding ≡ Some found)
 
--- each finding names a gear, and no kept enrolment, of whomever, has its address with another number or its number with
--- another address
+-- each finding names a gear, and no kept enrolment, of whomever, has its address with another
+-- number or its number with another address
 pub record FindingsAgree (w : World) : Type 0 where
   pub named : (c : ℕ) (found : Assignment) → HasFound w c found → Names w found
-  pub address : (c d : ℕ) (found entry : Assignment) → HasFound w c found → IsEnrolled w d entry → found.0 ≡ entry.0 → found ≡ entry
-  pub number : (c d : ℕ) (found entry : Assignment) → HasFound w c found → IsEnrolled w d entry → found.1 ≡ entry.1 → found ≡ entry
+  pub address : (c d : ℕ) (found entry : Assignment) → HasFound w c found → IsEnrolled w d entry
+      → found.0 ≡ entry.0 → found ≡ entry
+  pub number : (c d : ℕ) (found entry : Assignment) → HasFound w c found → IsEnrolled w d entry
+      → found.1 ≡ entry.1 → found ≡ entry
 
 -- ---------------------------------------------------------------- records
 
--- each controller keeps records of its block, each address and each number once of each kind; and an outstanding record
--- fits them, with neither its address nor its number among those of its kind
-pub record KeepsRecords (p : SitePlan) (w : World) : Type 0 where
+-- each controller keeps records of its block, each address and each number once of each kind; and
+-- an outstanding record fits them, with neither its address nor its number among those of its kind
+pub record KeepsRecords (p : Plan) (w : World) : Type 0 where
   pub block : (c : ℕ) → c < length w.controllers → (controller_at w c).records.block ≡ block_at p c
   pub kept : (c : ℕ) → c < length w.controllers → IsKept (controller_at w c).records
-  pub fresh : (c : ℕ) (x : Record) → c < length w.controllers → (controller_at w c).outstanding ≡ Some x → IsFresh (controller_at w c).records x
-  pub fits : (c : ℕ) (x : Record) → c < length w.controllers → (controller_at w c).outstanding ≡ Some x → Fits (controller_at w c).records.block x
+  pub fresh : (c : ℕ) (x : Record) → c < length w.controllers
+      → (controller_at w c).outstanding ≡ Some x → IsFresh (controller_at w c).records x
+  pub fits : (c : ℕ) (x : Record) → c < length w.controllers
+      → (controller_at w c).outstanding ≡ Some x → Fits (controller_at w c).records.block x

@@ -5,28 +5,29 @@ use Rattle.dali_frame.specs.Random.{value_of}
 use Rattle.dali_special.specs.declared.command.Command.TheVariants.{Terminate, Compare}
 use Rattle.dali_special.specs.Command.{command_of}
 use Rattle.dali_gear.specs.declared.row.Reach.TheVariants.{Everyone}
-use Rattle.dali_gear.specs.ControlGear.{ControlGear, is_active}
+use Rattle.dali_gear.specs.Gear.{Gear, is_active}
 use Rattle.dali_gear.specs.Row.{answers_of}
 use Rattle.dali_script.specs.declared.trace.Entry.{Entry}
 use Rattle.dali_script.specs.declared.stage.Stage.{Stage}
-use Rattle.dali_script.specs.declared.stage.Stage.TheVariants.{NumberSent, Found, Unnamed, Programmed, Confirmed}
+use Rattle.dali_script.specs.declared.stage.Stage.TheVariants.{NumberSent, Found, Unnamed}
+use Rattle.dali_script.specs.declared.stage.Stage.TheVariants.{Programmed, Confirmed}
 use Rattle.dali_script.specs.Scripts.{Open, steps, IsFront}
-use Rattle.dali_script.specs.Findings.{searched}
+use Rattle.dali_script.specs.Findings.{search_of}
 use Rattle.dali_events.specs.declared.event.Event.{Event}
 use Rattle.dali_events.specs.declared.event.Event.TheVariants as event
-use Rattle.dali_events.specs.Plan.{SitePlan}
+use Rattle.dali_events.specs.Plan.{Plan}
 use Rattle.dali_events.specs.World.{World, gear_at}
-use Rattle.dali_events.specs.Happens.{running}
+use Rattle.dali_events.specs.Happens.{trace_running}
 use Rattle.dali_events.specs.Runs.{after, IsRun}
 
 -- WHAT THE LAWS SAY OF GEAR AND FRAMES.
 
 -- each gear that has power
-abbrev pub EachPowered : World → (ControlGear → Type 0) → Type 0
+abbrev pub EachPowered : World → (Gear → Type 0) → Type 0
 EachPowered w P = (g : ℕ) → g < length w.gear → (gear_at w g).powered ≡ true → P (gear_at w g)
 
 -- each gear that has power and is not DISABLED
-abbrev pub EachActive : World → (ControlGear → Type 0) → Type 0
+abbrev pub EachActive : World → (Gear → Type 0) → Type 0
 EachActive w P = EachPowered w (λ g. is_active g.state ≡ true → P g)
 
 -- the frame that an event puts on the bus for gear to take, all of them or some
@@ -46,8 +47,8 @@ number_at _ = None
 
 -- ---------------------------------------------------------------- a search that finds nobody
 
--- Since an opening nothing befell the gear that makes them forget it: no power came or went, no initialisation expired, the
--- bus was not quiet for long, and no TERMINATE was sent or destroyed.
+-- Since an opening nothing befell the gear that makes them forget it: no power came or went, no
+-- initialisation expired, the bus was not quiet for long, and no TERMINATE was sent or destroyed.
 abbrev pub IsCalm : Event → Type 0
 IsCalm event.Quiet = ⊥
 IsCalm (event.Power g on) = ⊥
@@ -70,31 +71,39 @@ pub record CompletesOpening (w : World) (c : ℕ) (f : Forward) : Type 0 where
 abbrev pub HIGHEST : ℕ
 HIGHEST = 0xFFFFFE
 
-abbrev pub sent : ℕ → Entry → Event
-sent c x = event.Sent c x.frame x.heard
+abbrev pub sent_event : ℕ → Entry → Event
+sent_event c x = event.Sent c x.frame x.heard
 
--- the events up to the last frame of an opening, and up to a COMPARE after it; the frames are with what was heard after them
-abbrev pub opened : List Event → ℕ → Entry → List Event → List Event
-opened front c first opening = front ++ sent c first ∷ opening
+-- the events up to the last frame of an opening, and up to a COMPARE after it; the frames are with
+-- what was heard after them
+abbrev pub up_to_opening : List Event → ℕ → Entry → List Event → List Event
+up_to_opening front c first opening = front ++ sent_event c first ∷ opening
 
-abbrev pub searched_on : List Event → ℕ → Entry → List Event → Entry → List Event → List Event
-searched_on front c first opening last middle = front ++ sent c first ∷ (opening ++ sent c last ∷ middle)
+abbrev pub up_to_compare : List Event → ℕ → Entry → List Event → Entry → List Event → List Event
+up_to_compare front c first opening last middle =
+    front ++ sent_event c first ∷ (opening ++ sent_event c last ∷ middle)
 
--- A SEARCH FOR ALL GEAR: controller c sends a whole opening, from `first` to `last`, and later a COMPARE under FFFFFE.
-pub record SearchesAll (p : SitePlan) (capacity : ℕ) (front : List Event) (c : ℕ) (first : Entry) (opening : List Event) (last : Entry) (middle : List Event) (compare : Entry) : Type 0 where
-  pub run : IsRun p capacity (searched_on front c first opening last (middle ++ sent c compare ∷ []))
+-- A SEARCH FOR ALL GEAR: controller c sends a whole opening, from `first` to `last`, and later a
+-- COMPARE under FFFFFE.
+pub record SearchesAll (p : Plan) (capacity : ℕ) (front : List Event) (c : ℕ) (first : Entry)
+    (opening : List Event) (last : Entry) (middle : List Event) (compare : Entry) : Type 0 where
+  pub run : IsRun p capacity (up_to_compare front c first opening last (middle
+      ++ sent_event c compare ∷ []))
   -- the opening
   pub terminate : command_of first.frame ≡ Terminate
   pub calm_opening : AreCalm opening
-  pub complete : CompletesOpening (after p capacity (opened front c first opening)) c last.frame
+  pub complete : CompletesOpening (after p capacity (up_to_opening front c first opening))
+      c last.frame
   -- and from then on
   pub calm_since : AreCalm middle
   pub compare_sent : command_of compare.frame ≡ Compare
-  pub highest : value_of (searched (running (after p capacity (searched_on front c first opening last middle)) c)) ≡ HIGHEST
+  pub highest : value_of
+      (search_of (trace_running (after p capacity (up_to_compare front c first opening last middle))
+      c)) ≡ HIGHEST
 
 -- no gear answers a COMPARE now
 abbrev pub NobodyAnswers : World → Type 0
 NobodyAnswers w = answers_of Everyone Compare 0 w.gear ≡ []
 
-abbrev pub HasShort : ControlGear → Type 0
+abbrev pub HasShort : Gear → Type 0
 HasShort g = (a : ℕ) × (g.short ≡ Some a)

@@ -20,10 +20,11 @@ ghost use Rattle.dali_events.specs.declared.event.Event.{Event};
 ghost use Rattle.dali_events.specs.World.{World, controller_at};
 ghost use Rattle.dali_events.specs.Happens.{happens};
 ghost use Rattle.dali_events.specs.Allowed.{Allowed, Hears};
-ghost use Rattle.dali_events.specs.Plan.{SitePlan};
+ghost use Rattle.dali_events.specs.Plan.{Plan};
 ghost use Rattle.dali_events.specs.Runs.{after, after_all, AllAllowed, IsRun, AreDrawn, IsSafe, IsSafeHistory};
 ghost use Rattle.dali_events.specs.Promises.{GiftsAreReserved, TablesAgree, FindingsAgree, KeepsRecords};
-ghost use Rattle.dali_events.specs.Searching.{EachPowered, EachActive, frame_in, number_at, sent, searched_on, SearchesAll, NobodyAnswers, HasShort};
+ghost use Rattle.dali_events.specs.Searching.{EachPowered, EachActive, frame_in, number_at, sent_event, up_to_compare};
+ghost use Rattle.dali_events.specs.Searching.{SearchesAll, NobodyAnswers, HasShort};
 ghost use Rattle.dali_script.specs.Records.{Assignment, Has};
 
 /// The plain hearing of a row of gear is one that may be heard.
@@ -33,82 +34,101 @@ pub fn plain_hearing_is_heard()
 
 /// A history grows at the end: one more event moves the world by what it does, and a run goes on with what is allowed.
 pub fn histories_grow_at_the_end()
-    ensures world { (p : SitePlan) (capacity : ℕ) (log : List Event) (e : Event) → after p capacity (log ++ e ∷ []) ≡ happens (after p capacity log) e }
-    ensures run { (p : SitePlan) (capacity : ℕ) (log : List Event) (e : Event) → IsRun p capacity log → Allowed (after p capacity log) e → IsRun p capacity (log ++ e ∷ []) }
+    ensures world { (p : Plan) (capacity : ℕ) (log : List Event) (e : Event)
+        → after p capacity (log ++ e ∷ []) ≡ happens (after p capacity log) e }
+    ensures run { (p : Plan) (capacity : ℕ) (log : List Event) (e : Event) → IsRun p capacity log
+        → Allowed (after p capacity log) e → IsRun p capacity (log ++ e ∷ []) }
 {}
 
-/// NUMBERS ARE DRAWN ONCE. At each moment of every run each gear's random address is `FFFFFF` or was drawn by that gear; no
-/// number was drawn twice, and none is `FFFFFF`.
+/// NUMBERS ARE DRAWN ONCE. At each moment of every run each gear's random address is `FFFFFF` or was drawn by that
+/// gear; no number was drawn twice, and none is `FFFFFF`.
 pub fn numbers_are_drawn()
-    ensures { (p : SitePlan) (capacity : ℕ) (front rest : List Event) → IsRun p capacity (front ++ rest) → AreDrawn (after p capacity front) }
+    ensures { (p : Plan) (capacity : ℕ) (front rest : List Event) → IsRun p capacity (front ++ rest)
+        → AreDrawn (after p capacity front) }
 {}
 
 /// FRAMES FIND GEAR, in every run.
 ///
-/// After a first frame that was not destroyed, and until the second one, no powered gear has a half pair, so none of INITIALISE
-/// or RANDOMISE. Wherever RANDOMISE is sent or destroyed, no powered gear that is not DISABLED has a short address. After
-/// SEARCHADDRH, SEARCHADDRM and SEARCHADDRL every powered gear that is not DISABLED has the search address that they set. After
-/// QUERY SHORT ADDRESS was heard as `FF`, and until PROGRAM SHORT ADDRESS, none of them with that random address has a short
-/// address.
+/// After a first frame that was not destroyed, and until the second one, no powered gear has a half pair, so none of
+/// INITIALISE or RANDOMISE. Wherever RANDOMISE is sent or destroyed, no powered gear that is not DISABLED has a short
+/// address. After SEARCHADDRH, SEARCHADDRM and SEARCHADDRL every powered gear that is not DISABLED has the search
+/// address that they set. After QUERY SHORT ADDRESS was heard as `FF`, and until PROGRAM SHORT ADDRESS, none of them
+/// with that random address has a short address.
 pub fn frames_find_gear()
-    ensures half { (p : SitePlan) (capacity : ℕ) (log : List Event) (c : ℕ) (f : Forward) (h : Answer) → IsRun p capacity (log ++ Sent c f h ∷ []) → IsFirst f
+    ensures half { (p : Plan) (capacity : ℕ) (log : List Event) (c : ℕ) (f : Forward) (h : Answer)
+        → IsRun p capacity (log ++ Sent c f h ∷ []) → IsFirst f
         → EachPowered (after p capacity (log ++ Sent c f h ∷ [])) (λ g. g.half ≡ None) }
-    ensures half_still { (p : SitePlan) (capacity : ℕ) (log : List Event) (first : Entry) → IsRun p capacity log → (after p capacity log).trace ≡ first ∷ []
+    ensures half_still { (p : Plan) (capacity : ℕ) (log : List Event) (first : Entry) → IsRun p capacity log
+        → (after p capacity log).trace ≡ first ∷ []
         → EachPowered (after p capacity log) (λ g. g.half ≡ None) }
-    ensures randomise { (p : SitePlan) (capacity : ℕ) (log : List Event) (e : Event) (f : Forward) → IsRun p capacity (log ++ e ∷ []) → frame_in e ≡ Some f → command_of f ≡ Randomise
+    ensures randomise { (p : Plan) (capacity : ℕ) (log : List Event) (e : Event) (f : Forward)
+        → IsRun p capacity (log ++ e ∷ []) → frame_in e ≡ Some f → command_of f ≡ Randomise
         → EachActive (after p capacity log) (λ g. g.short ≡ None) }
-    ensures search { (p : SitePlan) (capacity : ℕ) (log : List Event) (r : SearchAddress) → IsRun p capacity log → number_at (stage_of (after p capacity log).trace) ≡ Some r
+    ensures search { (p : Plan) (capacity : ℕ) (log : List Event) (r : SearchAddress) → IsRun p capacity log
+        → number_at (stage_of (after p capacity log).trace) ≡ Some r
         → EachActive (after p capacity log) (λ g. g.search ≡ r) }
-    ensures unnamed { (p : SitePlan) (capacity : ℕ) (log : List Event) (r : SearchAddress) → IsRun p capacity log → stage_of (after p capacity log).trace ≡ Unnamed r
+    ensures unnamed { (p : Plan) (capacity : ℕ) (log : List Event) (r : SearchAddress) → IsRun p capacity log
+        → stage_of (after p capacity log).trace ≡ Unnamed r
         → EachActive (after p capacity log) (λ g. g.random ≡ value_of r → g.short ≡ None) }
 {}
 
-/// GIFTS STAY RESERVED. At each moment of every run, each short address that a gear was given is reserved by some controller
-/// for the gear's random address; and what a controller has reserved it has reserved for good.
+/// GIFTS STAY RESERVED. At each moment of every run, each short address that a gear was given is reserved by some
+/// controller for the gear's random address; and what a controller has reserved it has reserved for good.
 pub fn gifts_stay_reserved()
-    ensures reserved { (p : SitePlan) (capacity : ℕ) (front rest : List Event) → IsRun p capacity (front ++ rest) → GiftsAreReserved (after p capacity front) }
-    ensures stay { (w : World) (es : List Event) (c : ℕ) (x : Assignment) → c < length w.controllers → Has (controller_at w c).records.reserved x
+    ensures reserved { (p : Plan) (capacity : ℕ) (front rest : List Event) → IsRun p capacity (front ++ rest)
+        → GiftsAreReserved (after p capacity front) }
+    ensures stay { (w : World) (es : List Event) (c : ℕ) (x : Assignment) → c < length w.controllers
+        → Has (controller_at w c).records.reserved x
         → Has (controller_at (after_all w es) c).records.reserved x }
 {}
 
-/// EVERY RUN IS SAFE. In every world of every run each gear was given at most one short address, and each short address was
-/// given to at most one gear; a gear holds an address exactly where it was given it, and from then on has one random
-/// address for good; and every kept enrolment of every controller names the gear that drew its number and was given its
-/// address.
+/// EVERY RUN IS SAFE. In every world of every run each gear was given at most one short address, and each short address
+/// was given to at most one gear; a gear holds an address exactly where it was given it, and from then on has one
+/// random address for good; and every kept enrolment of every controller names the gear that drew its number and was
+/// given its address.
 pub fn every_run_is_safe()
-    ensures { (p : SitePlan) (capacity : ℕ) (log : List Event) → IsRun p capacity log → IsSafeHistory p capacity log }
+    ensures { (p : Plan) (capacity : ℕ) (log : List Event) → IsRun p capacity log → IsSafeHistory p capacity log }
 {}
 
-/// NO TWO TABLES DISAGREE. At each moment of every run, two kept enrolments with one short address, one number or one gear
-/// are the same entry, whosever they are.
+/// NO TWO TABLES DISAGREE. At each moment of every run, two kept enrolments with one short address, one number or one
+/// gear are the same entry, whosever they are.
 pub fn no_two_tables_disagree()
     ensures safe { (w : World) → IsSafe w → AreDrawn w → TablesAgree w }
-    ensures run { (p : SitePlan) (capacity : ℕ) (front rest : List Event) → IsRun p capacity (front ++ rest) → TablesAgree (after p capacity front) }
+    ensures run { (p : Plan) (capacity : ℕ) (front rest : List Event) → IsRun p capacity (front ++ rest)
+        → TablesAgree (after p capacity front) }
 {}
 
-/// FINDINGS AGREE WITH TABLES. At each moment of every run a controller's last finding names a gear, and no kept enrolment, of
-/// whomever, has its short address with another number or its number with another short address.
+/// FINDINGS AGREE WITH TABLES. At each moment of every run a controller's last finding names a gear, and no kept
+/// enrolment, of whomever, has its short address with another number or its number with another short address.
 pub fn findings_agree_with_tables()
-    ensures { (p : SitePlan) (capacity : ℕ) (front rest : List Event) → IsRun p capacity (front ++ rest) → FindingsAgree (after p capacity front) }
+    ensures { (p : Plan) (capacity : ℕ) (front rest : List Event) → IsRun p capacity (front ++ rest)
+        → FindingsAgree (after p capacity front) }
 {}
 
-/// RECORDS ARE KEPT. At each moment of every run the records of a controller are those of its block, with each address and each
-/// number once of each kind; and its outstanding record may be added to them.
+/// RECORDS ARE KEPT. At each moment of every run the records of a controller are those of its block, with each address
+/// and each number once of each kind; and its outstanding record may be added to them.
 pub fn records_are_kept()
-    ensures { (p : SitePlan) (capacity : ℕ) (front rest : List Event) → IsRun p capacity (front ++ rest) → KeepsRecords p (after p capacity front) }
+    ensures { (p : Plan) (capacity : ℕ) (front rest : List Event) → IsRun p capacity (front ++ rest)
+        → KeepsRecords p (after p capacity front) }
 {}
 
-/// ALL FOUND IS TRUE. Where a controller sent a whole opening, and later a COMPARE under the search address `FFFFFE` that no
-/// gear answers, every powered gear has a short address, when the COMPARE is sent and afterwards. Since the opening's first
-/// frame no gear's power came or went, no initialisation expired, the bus was not quiet for long, and no other TERMINATE was
-/// sent or destroyed.
+/// ALL FOUND IS TRUE. Where a controller sent a whole opening, and later a COMPARE under the search address `FFFFFE`
+/// that no gear answers, every powered gear has a short address, when the COMPARE is sent and afterwards. Since the
+/// opening's first frame no gear's power came or went, no initialisation expired, the bus was not quiet for long, and
+/// no other TERMINATE was sent or destroyed.
 ///
 /// What is heard may be silence where a gear did answer, since answers may be lost: the law speaks of the answers.
 pub fn all_found_is_true()
-    ensures now { (p : SitePlan) (capacity : ℕ) (front : List Event) (c : ℕ) (first : Entry) (opening : List Event) (last : Entry) (middle : List Event) (compare : Entry)
-        → SearchesAll p capacity front c first opening last middle compare → NobodyAnswers (after p capacity (searched_on front c first opening last middle))
-        → EachPowered (after p capacity (searched_on front c first opening last middle)) HasShort }
-    ensures afterwards { (p : SitePlan) (capacity : ℕ) (front : List Event) (c : ℕ) (first : Entry) (opening : List Event) (last : Entry) (middle : List Event) (compare : Entry)
-        → SearchesAll p capacity front c first opening last middle compare → NobodyAnswers (after p capacity (searched_on front c first opening last middle))
-        → EachPowered (after p capacity (searched_on front c first opening last (middle ++ sent c compare ∷ []))) HasShort }
+    ensures now { (p : Plan) (capacity : ℕ) (front : List Event) (c : ℕ) (first : Entry) (opening : List Event)
+        (last : Entry) (middle : List Event) (compare : Entry)
+        → SearchesAll p capacity front c first opening last middle compare
+        → NobodyAnswers (after p capacity (up_to_compare front c first opening last middle))
+        → EachPowered (after p capacity (up_to_compare front c first opening last middle)) HasShort }
+    ensures afterwards { (p : Plan) (capacity : ℕ) (front : List Event) (c : ℕ) (first : Entry) (opening : List Event)
+        (last : Entry) (middle : List Event) (compare : Entry)
+        → SearchesAll p capacity front c first opening last middle compare
+        → NobodyAnswers (after p capacity (up_to_compare front c first opening last middle))
+        → EachPowered
+            (after p capacity (up_to_compare front c first opening last (middle ++ sent_event c compare ∷ [])))
+            HasShort }
 {}

@@ -1,6 +1,6 @@
 ghost use Rattle.std.specs.Prelude.{◌≡◌, ◌==◌, ◌≤◌, length, map, nat_lt, false, Some, None, IfOk, IfErr};
 ghost use Rattle.std.specs.List.{list_any};
-ghost use Rattle.dali_events.specs.Plan.{SitePlan, any_pair, is_misordered, overlap, refusal_of, number_of, block_of};
+ghost use Rattle.dali_events.specs.Plan.{Plan, any_pair, is_misordered, overlap, refusal_of, number_of, block_of};
 
 use dali_frame::{Random24, Short};
 use dali_script::Block;
@@ -183,17 +183,19 @@ pub struct Plan {
 
 impl Model for Plan {
     ghost use Rattle.std.specs.Prelude.{◌≤◌, length};
-    ghost use Rattle.dali_events.specs.Plan.{SitePlan, IsPlan};
+    ghost use Rattle.dali_events.specs.Plan.{Plan, IsPlan};
 
-    ghost Value = { SitePlan };
+    ghost Value = { Plan };
 
     ghost view = { λ p. record { gear = p.gear; blocks = p.blocks.items; draws = p.draws.items } };
 
-    ghost invariant = { λ p. IsPlan (record { gear = p.gear; blocks = p.blocks.items; draws = p.draws.items }) × (1 ≤ p.gear) × (p.gear ≤ 128) × (1 ≤ length p.blocks.items) × (length p.blocks.items ≤ 4) × (length p.draws.items ≤ 1024) };
+    ghost invariant = { λ p. IsPlan (record { gear = p.gear; blocks = p.blocks.items; draws = p.draws.items })
+        × (1 ≤ p.gear) × (p.gear ≤ 128) × (1 ≤ length p.blocks.items) × (length p.blocks.items ≤ 4)
+        × (length p.draws.items ≤ 1024) };
 }
 
 impl Plan {
-    ghost use Rattle.dali_events.specs.Plan.{SitePlan, IsPlan, plan_of, refusal_of, IsRefusal};
+    ghost use Rattle.dali_events.specs.Plan.{Plan, IsPlan, plan_of, refusal_of, IsRefusal};
 
     /// A plan of so many gear, with the first and the last address of each controller's block, and at most 1,024
     /// numbers to be drawn. The first cause of a refusal is answered.
@@ -204,7 +206,8 @@ impl Plan {
         draws: &[u32],
     ) -> Result<Plan, PlanError>
         requires { length draws.now ≤ 1024 }
-        ensures ok { IfOk result (λ plan. (refusal_of gear blocks.now draws.now ≡ None) × (plan ≡ plan_of gear blocks.now draws.now)) }
+        ensures ok { IfOk result (λ plan. (refusal_of gear blocks.now draws.now ≡ None)
+            × (plan ≡ plan_of gear blocks.now draws.now)) }
         ensures refused { IfErr result (IsRefusal gear blocks.now draws.now) }
     {
         if let Some(error) = refusal(gear, blocks, draws) {

@@ -1,4 +1,5 @@
-use Rattle.std.specs.Prelude.{ℕ, ◌+◌, ◌*◌, ◌/◌, ◌%◌, List, [], ◌∷◌, ◌++◌, true, Option, Some, None, Result, Ok, Err, nat_lt, if◌then◌else◌, option_and_then}
+use Rattle.std.specs.Prelude.{ℕ, ◌+◌, ◌*◌, ◌/◌, ◌%◌, List, [], ◌∷◌, ◌++◌, true, Option, Some, None}
+use Rattle.std.specs.Prelude.{Result, Ok, Err, nat_lt, if◌then◌else◌, option_and_then}
 use Rattle.std.specs.Option.{option_map}
 use Rattle.std.specs.Char.{digit_value}
 use Rattle.std.specs.Fmt.{digit_glyph}
@@ -13,7 +14,8 @@ digit_of c = if nat_lt (digit_value c) 16 then Some (digit_value c) else None
 
 -- the byte that two digits write
 abbrev pub byte_of : ℕ → ℕ → Option ℕ
-byte_of high low = option_and_then (λ h. option_map (λ l. 16 * h + l) (digit_of low)) (digit_of high)
+byte_of high low =
+    option_and_then (λ h. option_map (λ l. 16 * h + l) (digit_of low)) (digit_of high)
 
 -- the frame of two bytes, each of which may be no byte
 abbrev pub joined : Option ℕ → Option ℕ → Result Forward HexError
@@ -37,7 +39,10 @@ forward_text f = byte_text f.address_byte ++ byte_text f.opcode_byte
 -- the number that six digits write
 abbrev pub random_of : List ℕ → Option ℕ
 random_of (a ∷ b ∷ c ∷ d ∷ e ∷ f ∷ []) =
-    option_and_then (λ high. option_and_then (λ middle. option_map (λ low. number_of high middle low) (byte_of e f)) (byte_of c d)) (byte_of a b)
+    option_and_then
+        (λ high. option_and_then
+        (λ middle. option_map (λ low. number_of high middle low) (byte_of e f)) (byte_of c d))
+        (byte_of a b)
 random_of _ = None
 
 -- a number of 24 bits as six upper-case digits

@@ -1,6 +1,7 @@
 use Rattle.std.specs.Prelude.{ℕ}
 
--- THE PRIORITIES of this project's profile: of a transaction's first frame, of its later ones, and of direct arc power.
+-- THE PRIORITIES of this project's profile: of a transaction's first frame, of its later ones, and
+-- of direct arc power.
 abbrev pub FIRST : ℕ
 FIRST = 3
 

@@ -26,7 +26,8 @@ pub fn random_addresses_are_bytes()
 /// A frame is read from its four digits, and from no other text but these digits in lower case.
 pub fn frames_are_spelled()
     ensures read { (f : Forward) → f.address_byte < 256 → f.opcode_byte < 256 → forward_of (forward_text f) ≡ Ok f }
-    ensures only { (text : List ℕ) (f : Forward) → forward_of text ≡ Ok f → map to_ascii_uppercase text ≡ forward_text f }
+    ensures only { (text : List ℕ) (f : Forward) → forward_of text ≡ Ok f
+        → map to_ascii_uppercase text ≡ forward_text f }
 {}
 
 /// A number of 24 bits is read from its six digits, and from no other text but these digits in lower case.

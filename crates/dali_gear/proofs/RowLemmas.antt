@@ -3,7 +3,7 @@ use Rattle.std.proofs.lemmas.List.{drop-drop, drop_more, drop-set-lt, take_more_
 use mathlib.Core.List.{append_assoc}
 use Rattle.dali_special.specs.declared.command.Command.{Command}
 use Rattle.dali_gear.specs.declared.row.Reach.{Reach}
-use Rattle.dali_gear.specs.ControlGear.{ControlGear, would_draw, answer}
+use Rattle.dali_gear.specs.Gear.{Gear, would_draw, answer}
 use mir.Val.{bool_byte}
 use Rattle.std.specs.Prelude.{Option, Some, None, if◌then◌else◌}
 use Rattle.dali_frame.specs.declared.frames.Answer.{Answer}
@@ -39,7 +39,7 @@ rest_is now before n g same =
     drop-set-lt (n + 1) now n g beyond ∙ sym (drop-drop 1 n now) ∙ ap (λ xs. drop 1 xs) same ∙ drop-drop 1 n before
 
 -- One turn of the loop over a row: gear n, which is `old`, has been reached or not, and is now `new`.
-pub record Turn (reach : Reach) (c : Command) (now before : List ControlGear) (n : ℕ) (left : List ℕ) (old new : ControlGear) (drew : Bool) : Type 0 where
+pub record Turn (reach : Reach) (c : Command) (now before : List Gear) (n : ℕ) (left : List ℕ) (old new : Gear) (drew : Bool) : Type 0 where
   pub here : n < length now
   pub untouched : drop n now ≡ drop n before
   pub next : drop n before ≡ old ∷ drop (n + 1) before
@@ -48,7 +48,7 @@ pub record Turn (reach : Reach) (c : Command) (now before : List ControlGear) (n
   pub takes_it : new ≡ one_after ((old).powered && reached) c left (old)
   pub draws_it : drew ≡ (((old).powered && reached) && would_draw c (old))
 
-pub gear_more : (reach : Reach) (c : Command) (now before : List ControlGear) (n drawn : ℕ) (draws : List ℕ) (old new : ControlGear) (drew : Bool) (whole : List ControlGear)
+pub gear_more : (reach : Reach) (c : Command) (now before : List Gear) (n drawn : ℕ) (draws : List ℕ) (old new : Gear) (drew : Bool) (whole : List Gear)
     → Turn reach c now before n (drop drawn draws) old new drew
     → take n now ++ row_after reach c n (drop n before) (drop drawn draws) ≡ whole
     → take (n + 1) (set now n new) ++ row_after reach c (n + 1) (drop (n + 1) before) (drop (drawn + bool_byte drew) draws) ≡ whole
@@ -57,7 +57,7 @@ gear_more reach c now before n drawn draws old new drew whole t so_far =
     let known = rw (t.next, ← t.reaches_it, ← t.draws_it, ← t.takes_it) at so_far in
     rw (take_more_set now n new here, append_assoc, left_is drew drawn draws) known
 
-pub drawn_more : (reach : Reach) (c : Command) (now before : List ControlGear) (n drawn : ℕ) (left : List ℕ) (old new : ControlGear) (drew : Bool) (whole : ℕ)
+pub drawn_more : (reach : Reach) (c : Command) (now before : List Gear) (n drawn : ℕ) (left : List ℕ) (old new : Gear) (drew : Bool) (whole : ℕ)
     → Turn reach c now before n left old new drew
     → drawn + draws_needed reach c n (drop n before) ≡ whole
     → drawn + bool_byte drew + draws_needed reach c (n + 1) (drop (n + 1) before) ≡ whole
@@ -73,7 +73,7 @@ joined_cons : (heard : Answer) (o : Option ℕ) (bytes : List ℕ) → joined_al
 joined_cons heard None bytes = refl
 joined_cons heard (Some byte) bytes = refl
 
-pub answer_more : (reach : Reach) (c : Command) (now before : List ControlGear) (n : ℕ) (left : List ℕ) (old new : ControlGear) (drew : Bool)
+pub answer_more : (reach : Reach) (c : Command) (now before : List Gear) (n : ℕ) (left : List ℕ) (old new : Gear) (drew : Bool)
     (heard after whole : Answer) (byte : Option ℕ)
     → (t : Turn reach c now before n left old new drew)
     → byte ≡ (if (old).powered && t.reached then answer c (old) else None)

@@ -1,2 +1,2 @@
-pub mod ControlGear
+pub mod Gear
 pub mod Row

@@ -1,11 +1,12 @@
-use Rattle.std.specs.Prelude.{ℕ, ◌+◌, ◌/◌, ◌%◌, ◌^◌, List, [], ◌∷◌, drop, Bool, true, false, Option, Some, None, ◌==◌, ◌&&◌, if◌then◌else◌}
+use Rattle.std.specs.Prelude.{ℕ, ◌+◌, ◌/◌, ◌%◌, ◌^◌, List, [], ◌∷◌, drop, Bool, true, false, Option}
+use Rattle.std.specs.Prelude.{Some, None, ◌==◌, ◌&&◌, if◌then◌else◌}
 use Rattle.dali_frame.specs.declared.frames.Answer.{Answer}
 use Rattle.dali_frame.specs.declared.frames.Answer.TheVariants.{Silence, Byte, Damaged}
 use Rattle.dali_special.specs.declared.command.Command.{Command}
 use Rattle.dali_gear.specs.declared.row.Reach.{Reach}
 use Rattle.dali_gear.specs.declared.row.Reach.TheVariants.{Everyone, Only}
 use Rattle.dali_special.specs.declared.command.Command.TheVariants.{Program}
-use Rattle.dali_gear.specs.ControlGear.{ControlGear, is_active, is_found, would_draw, taken, answer}
+use Rattle.dali_gear.specs.Gear.{Gear, is_active, is_found, would_draw, gear_taken, answer}
 
 -- whether a frame reaches the gear of this number: in a set, gear k is the bit of value 2^k
 abbrev pub reaches : Reach → ℕ → Bool
@@ -13,43 +14,48 @@ reaches Everyone k = true
 reaches (Only set) k = set.0 / 2 ^ k % 2 == 1
 
 -- whether gear k takes the frame: it has power, and the frame reaches it
-abbrev pub takes : Reach → ℕ → ControlGear → Bool
+abbrev pub takes : Reach → ℕ → Gear → Bool
 takes reach k g = g.powered && reaches reach k
 
 -- the number that a gear would draw: the first that is left, or none
-abbrev pub next_draw : ControlGear → List ℕ → ℕ
+abbrev pub next_draw : Gear → List ℕ → ℕ
 next_draw g [] = g.random
 next_draw g (draw ∷ left) = draw
 
 -- one gear, where it takes the command and where it doesn't
-abbrev pub one_after : Bool → Command → List ℕ → ControlGear → ControlGear
+abbrev pub one_after : Bool → Command → List ℕ → Gear → Gear
 one_after false c left g = g
-one_after true c left g = taken c (next_draw g left) g
+one_after true c left g = gear_taken c (next_draw g left) g
 
 abbrev pub left_after : Bool → List ℕ → List ℕ
 left_after drew left = if drew then drop 1 left else left
 
--- The gear from number k on take the command in order of their number; those that draw take the numbers in order.
-abbrev pub row_after : Reach → Command → ℕ → List ControlGear → List ℕ → List ControlGear
+-- The gear from number k on take the command in order of their number; those that draw take the
+-- numbers in order.
+abbrev pub row_after : Reach → Command → ℕ → List Gear → List ℕ → List Gear
 row_after reach c k [] left = []
 row_after reach c k (g ∷ gs) left =
-    one_after (takes reach k g) c left g ∷ row_after reach c (k + 1) gs (left_after (takes reach k g && would_draw c g) left)
+    one_after (takes reach k g) c left g
+        ∷ row_after reach c (k + 1) gs (left_after (takes reach k g && would_draw c g) left)
 
 -- how many numbers they draw
-abbrev pub draws_needed : Reach → Command → ℕ → List ControlGear → ℕ
+abbrev pub draws_needed : Reach → Command → ℕ → List Gear → ℕ
 draws_needed reach c k [] = 0
-draws_needed reach c k (g ∷ gs) = (if takes reach k g && would_draw c g then 1 else 0) + draws_needed reach c (k + 1) gs
+draws_needed reach c k (g ∷ gs) =
+    (if takes reach k g && would_draw c g then 1 else 0) + draws_needed reach c (k + 1) gs
 
 -- the backward frames that they answer
 abbrev pub option_cons : Option ℕ → List ℕ → List ℕ
 option_cons None bytes = bytes
 option_cons (Some byte) bytes = byte ∷ bytes
 
-abbrev pub answers_of : Reach → Command → ℕ → List ControlGear → List ℕ
+abbrev pub answers_of : Reach → Command → ℕ → List Gear → List ℕ
 answers_of reach c k [] = []
-answers_of reach c k (g ∷ gs) = option_cons (if takes reach k g then answer c g else None) (answers_of reach c (k + 1) gs)
+answers_of reach c k (g ∷ gs) =
+    option_cons (if takes reach k g then answer c g else None) (answers_of reach c (k + 1) gs)
 
--- The plain hearing of the backward frames to one forward frame: several together are heard as a damaged one.
+-- The plain hearing of the backward frames to one forward frame: several together are heard as a
+-- damaged one.
 abbrev pub heard_of : List ℕ → Answer
 heard_of [] = Silence
 heard_of (byte ∷ []) = Byte byte
@@ -72,26 +78,31 @@ drawn_one false k left more = more
 drawn_one true k [] more = more
 drawn_one true k (draw ∷ left) more = (k, draw) ∷ more
 
-abbrev pub drawn_of : Reach → Command → ℕ → List ControlGear → List ℕ → List (ℕ × ℕ)
+abbrev pub drawn_of : Reach → Command → ℕ → List Gear → List ℕ → List (ℕ × ℕ)
 drawn_of reach c k [] left = []
 drawn_of reach c k (g ∷ gs) left =
-    drawn_one (takes reach k g && would_draw c g) k left (drawn_of reach c (k + 1) gs (left_after (takes reach k g && would_draw c g) left))
+    drawn_one (takes reach k g
+        && would_draw c g) k left (drawn_of reach c (k
+        + 1) gs (left_after (takes reach k g && would_draw c g) left))
 
 -- the numbers that are left then
-abbrev pub row_left : Reach → Command → ℕ → List ControlGear → List ℕ → List ℕ
+abbrev pub row_left : Reach → Command → ℕ → List Gear → List ℕ → List ℕ
 row_left reach c k [] left = left
-row_left reach c k (g ∷ gs) left = row_left reach c (k + 1) gs (left_after (takes reach k g && would_draw c g) left)
+row_left reach c k (g ∷ gs) left =
+    row_left reach c (k + 1) gs (left_after (takes reach k g && would_draw c g) left)
 
--- the short address that a powered gear stores at a command: PROGRAM SHORT ADDRESS may also erase, which stores none
-abbrev pub stored : Command → ControlGear → Option ℕ
-stored (Program short) g = if is_active g.state && is_found g then short else None
-stored _ g = None
+-- the short address that a powered gear stores at a command: PROGRAM SHORT ADDRESS may also erase,
+-- which stores none
+abbrev pub stored_short : Command → Gear → Option ℕ
+stored_short (Program short) g = if is_active g.state && is_found g then short else None
+stored_short _ g = None
 
 -- which gear stores which short address
 abbrev pub stored_one : ℕ → Option ℕ → List (ℕ × ℕ) → List (ℕ × ℕ)
 stored_one k None more = more
 stored_one k (Some a) more = (k, a) ∷ more
 
-abbrev pub stored_of : Reach → Command → ℕ → List ControlGear → List (ℕ × ℕ)
+abbrev pub stored_of : Reach → Command → ℕ → List Gear → List (ℕ × ℕ)
 stored_of reach c k [] = []
-stored_of reach c k (g ∷ gs) = stored_one k (if takes reach k g then stored c g else None) (stored_of reach c (k + 1) gs)
+stored_of reach c k (g ∷ gs) =
+    stored_one k (if takes reach k g then stored_short c g else None) (stored_of reach c (k + 1) gs)

@@ -51,20 +51,24 @@ pub struct Gear {
 }
 
 impl Model for Gear {
-    ghost use Rattle.dali_gear.specs.ControlGear.{ControlGear};
+    ghost use Rattle.dali_gear.specs.Gear.{Gear};
 
-    ghost Value = { ControlGear };
+    ghost Value = { Gear };
 
-    ghost view = { λ g. record { powered = g.powered; state = g.state; random = g.random; search = g.search; short = g.short; half = g.half } };
+    ghost view = { λ g. record { powered = g.powered; state = g.state; random = g.random; search = g.search;
+        short = g.short; half = g.half } };
 
     ghost invariant = { λ g. Unit {0} };
 
-    ghost inverse = { λ g. record { powered = g.powered; state = g.state; random = g.random; search = g.search; short = g.short; half = g.half } };
+    ghost inverse = { λ g. record { powered = g.powered; state = g.state; random = g.random; search = g.search;
+        short = g.short; half = g.half } };
 }
 
 impl Gear {
     ghost use Rattle.dali_special.specs.Command.{command_of};
-    ghost use Rattle.dali_gear.specs.ControlGear.{after_frame, answer_to, draws, fresh, without_power, with_power, expired, quieted, would_draw, is_active, is_found, answer, taken, concerns, is_second};
+    ghost use Rattle.dali_gear.specs.Gear.{after_frame, answer_to, draws, fresh, without_power, with_power};
+    ghost use Rattle.dali_gear.specs.Gear.{gear_expired, gear_quieted, would_draw, is_active, is_found, answer};
+    ghost use Rattle.dali_gear.specs.Gear.{gear_taken, concerns, is_second};
 
     /// A gear from the factory: powered, DISABLED, with no address drawn or stored.
     pub fn new() -> Gear
@@ -164,7 +168,7 @@ impl Gear {
 
     /// Changes the variables as a command says, without regard to power.
     fn execute(&mut self, command: &Command, draw: Random24)
-        ensures { self.new ≡ taken command.now draw self.old }
+        ensures { self.new ≡ gear_taken command.now draw self.old }
     {
         let is_second = self.is_second(command);
         let is_active = self.is_active();
@@ -237,14 +241,14 @@ impl Gear {
 
     /// The 15 minutes of the initialisation are over.
     pub fn expire(&mut self)
-        ensures { self.new ≡ expired self.old }
+        ensures { self.new ≡ gear_expired self.old }
     {
         self.state = InitialisationState::Disabled;
     }
 
     /// So much time passes without a frame that a half pair is forgotten.
     pub fn quiet(&mut self)
-        ensures { self.new ≡ quieted self.old }
+        ensures { self.new ≡ gear_quieted self.old }
     {
         self.half = None;
     }

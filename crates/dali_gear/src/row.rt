@@ -3,7 +3,7 @@
 ghost use Rattle.std.specs.Prelude.{◌≡◌, ◌<◌, ◌≤◌, ◌&&◌, length, All, IsTrue, None, if◌then◌else◌};
 ghost use Rattle.dali_frame.specs.Random.{MASK24};
 ghost use Rattle.dali_special.specs.Command.{command_of};
-ghost use Rattle.dali_gear.specs.ControlGear.{would_draw, answer};
+ghost use Rattle.dali_gear.specs.Gear.{would_draw, answer};
 ghost use Rattle.dali_gear.specs.Row.{reaches, row_after, answers_of, heard_of, draws_needed, one_after, joined_answer};
 
 use crate::gear::{Effect, Gear};
@@ -80,10 +80,12 @@ pub fn take(gear: &mut [Gear], frame: Forward, reach: Reach, draws: &[Random24])
 
 /// One gear of the row, which a frame reaches or not.
 fn take_one(gear: &mut Gear, frame: Forward, reached: bool, draws: &[Random24]) -> Effect
-    requires enough { IsTrue ((gear.old.powered && reached) && would_draw (command_of frame) gear.old) → 0 < length draws.now }
+    requires enough { IsTrue ((gear.old.powered && reached) && would_draw (command_of frame) gear.old)
+        → 0 < length draws.now }
     requires below_mask { All (λ r. r < MASK24) draws.now }
     ensures gear { gear.new ≡ one_after (gear.old.powered && reached) (command_of frame) draws.now gear.old }
-    ensures answer { result.answer ≡ (if gear.old.powered && reached then answer (command_of frame) gear.old else None) }
+    ensures answer { result.answer
+        ≡ (if gear.old.powered && reached then answer (command_of frame) gear.old else None) }
     ensures drew { result.drew ≡ ((gear.old.powered && reached) && would_draw (command_of frame) gear.old) }
 {
     if !reached {

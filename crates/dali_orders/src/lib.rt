@@ -1,5 +1,5 @@
-//! What the machine of an application controller is told, what it orders, and how it ends: words alone, which the machine,
-//! the log of a site and the programs have in common.
+//! What the machine of an application controller is told, what it orders, and how it ends: words alone, which the
+//! machine, the log of a site and the programs have in common.
 #![tactic(auto)]
 
 mod orders;

@@ -4,7 +4,7 @@ use Rattle.std.specs.Prelude.{IfSome, IfOk, IfErr, OnErr}
 use Rattle.dali_script.specs.declared.block.Block.{Block}
 use Rattle.dali_script.specs.declared.records.Record.{Record}
 use Rattle.dali_script.specs.declared.records.Record.TheVariants.{Reserve, Enrol}
-use Rattle.dali_script.specs.Records.{Records, InBlock, Fits}
+use Rattle.dali_script.specs.Records.{Kept, InBlock, Fits}
 use Rattle.dali_orders.specs.declared.orders.Input.{Input}
 use Rattle.dali_orders.specs.declared.orders.Input.TheVariants as input
 use Rattle.dali_orders.specs.declared.orders.Order.{Order}
@@ -15,24 +15,24 @@ use Rattle.dali_orders.specs.Due.{record_ordered}
 use Rattle.dali_events.specs.declared.event.Event.TheVariants as event
 use Rattle.dali_events.specs.Plan.{block_at}
 use Rattle.dali_events.specs.World.{World, Controller, controller_at}
-use Rattle.dali_events.specs.Happens.{informed, with_outstanding, kept_after}
+use Rattle.dali_events.specs.Happens.{controller_informed, with_outstanding, kept_after}
 use Rattle.dali_events.specs.Allowed.{Allowed, MayCommit, MayOrder}
 use Rattle.dali_events.specs.Promises.{KeepsRecords}
 use Rattle.dali_standing.specs.declared.refusal.Refusal.{Refusal}
 use Rattle.dali_standing.specs.declared.refusal.Refusal.TheVariants as refusal
-use Rattle.dali_standing.specs.Places.{due_of}
-use Rattle.dali_world.specs.Site.{Site, Received, world, Acts, HasActed, IsActRefused, IsUpRefused}
+use Rattle.dali_standing.specs.Seats.{due_of}
+use Rattle.dali_world.specs.Site.{SiteState, Receipt, world, Acts, HasActed, IsActRefused, IsUpRefused}
 use Rattle.dali_replay.specs.Installation.{Store, Installation, no_store, store_at, controller, IsUpAt, IsInstalled, IsGivenBy, IsGiven, HasStepped, Goes, ComesUp}
 
 -- ---------------------------------------------------------------- what `act` says
 
-pub acted_of : (s : Site) (c : ℕ) (i : Input) (r : Received) (t : Site) (result : Result Received Refusal) → result ≡ Ok r → Acts s c i result t → HasActed s c i r t
+pub acted_of : (s : SiteState) (c : ℕ) (i : Input) (r : Receipt) (t : SiteState) (result : Result Receipt Refusal) → result ≡ Ok r → Acts s c i result t → HasActed s c i r t
 unfolding Acts
-acted_of s c i r t result is acts = (subst (λ (x : Result Received Refusal). IfOk x (λ y. HasActed s c i y t)) is acts.0)
+acted_of s c i r t result is acts = (subst (λ (x : Result Receipt Refusal). IfOk x (λ y. HasActed s c i y t)) is acts.0)
 
-pub refused_of : (s : Site) (c : ℕ) (i : Input) (e : Refusal) (t : Site) (result : Result Received Refusal) → result ≡ Err e → Acts s c i result t → IsActRefused s c i e
+pub refused_of : (s : SiteState) (c : ℕ) (i : Input) (e : Refusal) (t : SiteState) (result : Result Receipt Refusal) → result ≡ Err e → Acts s c i result t → IsActRefused s c i e
 unfolding Acts
-refused_of s c i e t result is acts = (subst (λ (x : Result Received Refusal). IfErr x (IsActRefused s c i)) is acts.1)
+refused_of s c i e t result is acts = (subst (λ (x : Result Receipt Refusal). IfErr x (IsActRefused s c i)) is acts.1)
 
 -- a record that was ordered fits its store, which is of the controller's block
 pub fits_store : (o p : Order) (b d : Block) → IfSome (record_ordered (Some p)) (Fits d) → o ≡ p → b ≡ d
@@ -68,13 +68,13 @@ block_read n c x inst read there =
     rw (store_read n c x read here) (inst.block c here)
 
 -- a refused `up` leaves the store as it was read
-pub up_refused : (n : Installation) (c d : ℕ) (t : Site) (copy : Records) (was mid : Store) (e : Refusal) → d ≡ c → IsUpRefused n.site d copy e → copy ≡ was.keep → mid ≡ was
+pub up_refused : (n : Installation) (c d : ℕ) (t : SiteState) (copy : Kept) (was mid : Store) (e : Refusal) → d ≡ c → IsUpRefused n.site d copy e → copy ≡ was.keep → mid ≡ was
     → was ≡ store_at n d → t ≡ n.site → IsUpRefused n.site c (store_at n c).keep e × ((record { site = t; stores = set n.stores d mid }) ≡ n)
 up_refused n c d t copy was mid e number refused kept same read site =
     let held : copy ≡ (store_at n d).keep = kept ∙ ap (λ (y : Store). y.keep) read in
     let back : set n.stores d mid ≡ n.stores = ap (λ (y : Store). set n.stores d y) (same ∙ read) ∙ set-get_or n.stores d no_store in (
-      subst (λ (k : ℕ). IsUpRefused n.site k (store_at n k).keep e) number (subst (λ (k : Records). IsUpRefused n.site d k e) held refused),
-      ap (λ (x : Site). record { site = x; stores = set n.stores d mid }) site ∙ ap (λ (ss : List Store). record { site = n.site; stores = ss }) back,
+      subst (λ (k : ℕ). IsUpRefused n.site k (store_at n k).keep e) number (subst (λ (k : Kept). IsUpRefused n.site d k e) held refused),
+      ap (λ (x : SiteState). record { site = x; stores = set n.stores d mid }) site ∙ ap (λ (ss : List Store). record { site = n.site; stores = ss }) back,
     )
 
 -- and want of memory is none of its answers
@@ -92,7 +92,7 @@ comes_up_refused n c refusal.LogFull m not is = is
 comes_up_refused n c refusal.NoMemory m not is = absurd (not refl)
 
 -- a step, from its parts
-pub stepped_of : (n m : Installation) (c : ℕ) (i : Input) (r : Received) (o p : Order) (was x : Store) → HasActed n.site c i r m.site → o ≡ r.order → p ≡ r.order → was ≡ store_at n c
+pub stepped_of : (n m : Installation) (c : ℕ) (i : Input) (r : Receipt) (o p : Order) (was x : Store) → HasActed n.site c i r m.site → o ≡ r.order → p ≡ r.order → was ≡ store_at n c
     → x ≡ (record { keep = was.keep; pending = record_ordered (Some p) }) → m.stores ≡ set n.stores c x → HasStepped n c i o m
 stepped_of n m c i r o p was x acted same also read next stores = record {
   receipt = r;
@@ -111,10 +111,10 @@ given_plan due.Bus n m c i is = rw (is.1) refl
 given_plan due.Nothing n m c i is = rw (is.1) refl
 
 stepped_plan : (n m : Installation) (c : ℕ) (i : Input) (o : Order) → HasStepped n c i o m → m.site.plan ≡ n.site.plan
-stepped_plan n m c i o step = ap (λ (s : Site). s.plan) step.acted.logs.0.logged
+stepped_plan n m c i o step = ap (λ (s : SiteState). s.plan) step.acted.logs.0.logged
 
 pub goes_plan : (n m : Installation) (c : ℕ) (result : Result Order Refusal) → Goes n c result m → m.site.plan ≡ n.site.plan
-goes_plan n m c (Ok o) is = stepped_plan is.2 m c is.1 o is.4 ∙ ap (λ (s : Site). s.plan) (given_plan (due_of (controller n c)) n is.2 c is.1 is.3)
+goes_plan n m c (Ok o) is = stepped_plan is.2 m c is.1 o is.4 ∙ ap (λ (s : SiteState). s.plan) (given_plan (due_of (controller n c)) n is.2 c is.1 is.3)
 goes_plan n m c (Err e) (inl is) = rw (is.1) refl
 goes_plan n m c (Err e) (inr (inl is)) = rw (is.3) refl
-goes_plan n m c (Err e) (inr (inr is)) = ap (λ (s : Site). s.plan) (given_plan (due_of (controller n c)) n m c is.1 is.2)
+goes_plan n m c (Err e) (inr (inr is)) = ap (λ (s : SiteState). s.plan) (given_plan (due_of (controller n c)) n m c is.1 is.2)

@@ -5,7 +5,7 @@ use Rattle.std.proofs.lemmas.List.{append-nil}
 use Rattle.std.specs.Io.KnownBytes.{Appends, Keeps}
 use Rattle.dali_events.specs.declared.plan.PlanError.{PlanError}
 use Rattle.dali_events.specs.declared.plan.PlanError.TheVariants as plan_error
-use Rattle.dali_events.specs.Plan.{SitePlan, refusal_of, IsRefusal}
+use Rattle.dali_events.specs.Plan.{Plan, refusal_of, IsRefusal}
 use Rattle.dali_replay.specs.declared.replay.ReplayFault.{ReplayFault}
 use Rattle.dali_replay.specs.declared.replay.ReplayFault.TheVariants.{BadLine, BadPlan, Memory, Read, Write}
 use Rattle.dali_replay.specs.declared.bench_line.BenchLine.{BenchLine}
@@ -15,7 +15,7 @@ use Rattle.dali_replay.specs.BenchLine.{bench_line_of}
 use Rattle.dali_replay.specs.SiteLine.{site_line_of}
 use Rattle.dali_replay.specs.Bench.{World, start, after}
 use Rattle.dali_replay.specs.BenchReport.{report}
-use Rattle.dali_replay.specs.Installation.{Installation, installed}
+use Rattle.dali_replay.specs.Installation.{Installation, installation_of}
 use Rattle.dali_replay.specs.SiteReport.{Says}
 use Rattle.dali_replay.specs.Replay.{NumberedLines, End, Setting, Output, Plays, PlaysSite, PlaysSetting, PlansNot, Replays, Tells, Chain, HavePlayed, IsBadAt, played, setting_of}
 
@@ -129,9 +129,9 @@ plan_refused gear blocks draws plan_error.DrawTooLarge is not = is
 plan_refused gear blocks draws plan_error.DrawTwice is not = is
 
 -- memory ran out before the first text
-setting_memory : (B : Type 0) (a : Option (List ℕ)) (is_bench : Bool) (p : SitePlan) (lines : NumberedLines) → PlaysSetting {A = B} is_bench p lines a a (Err Memory)
+setting_memory : (B : Type 0) (a : Option (List ℕ)) (is_bench : Bool) (p : Plan) (lines : NumberedLines) → PlaysSetting {A = B} is_bench p lines a a (Err Memory)
 setting_memory B a true p lines = ([], (played (start p.gear p.draws) lines).text, refl, appends_none a)
-setting_memory B a false p lines = (installed p, lines, have_played_none (installed p) lines a)
+setting_memory B a false p lines = (installation_of p, lines, have_played_none (installation_of p) lines a)
 
 pub replays_memory : (B : Type 0) (a : Option (List ℕ)) (s : Result (Setting × NumberedLines) End) → Replays {A = B} s a a (Err Memory)
 replays_memory B a (Err end) = ([], [], refl, appends_none a)
@@ -146,12 +146,12 @@ replays_no_plan B a s Read not = absurd not
 replays_no_plan B a s Write not = absurd not
 
 -- what playing says, where the lines set up a bench or a site
-pub replays_bench : (a c : Option (List ℕ)) (s : Result (Setting × NumberedLines) End) (is_bench : Bool) (p : SitePlan) (lines : NumberedLines) (w : World) (r : Result (Unit {0}) ReplayFault)
+pub replays_bench : (a c : Option (List ℕ)) (s : Result (Setting × NumberedLines) End) (is_bench : Bool) (p : Plan) (lines : NumberedLines) (w : World) (r : Result (Unit {0}) ReplayFault)
     → s ≡ Ok ((is_bench, p), lines) → is_bench ≡ true → w ≡ start p.gear p.draws → Plays (played w lines) a c r → Replays s a c r
 replays_bench a c s is_bench p lines w r is bench begun plays = rw (is, bench, ← begun) plays
 
-pub replays_site : (a c : Option (List ℕ)) (s : Result (Setting × NumberedLines) End) (is_bench : Bool) (p : SitePlan) (lines : NumberedLines) (n : Installation) (r : Result (Unit {0}) ReplayFault)
-    → s ≡ Ok ((is_bench, p), lines) → is_bench ≡ false → n ≡ installed p → PlaysSite n lines a c r → Replays s a c r
+pub replays_site : (a c : Option (List ℕ)) (s : Result (Setting × NumberedLines) End) (is_bench : Bool) (p : Plan) (lines : NumberedLines) (n : Installation) (r : Result (Unit {0}) ReplayFault)
+    → s ≡ Ok ((is_bench, p), lines) → is_bench ≡ false → n ≡ installation_of p → PlaysSite n lines a c r → Replays s a c r
 replays_site a c s is_bench p lines n r is site begun plays = rw (is, site, ← begun) plays
 
 -- memory was wanting

@@ -1,11 +1,11 @@
 use Rattle.std.proofs.Common.{◌≡◌, ℕ, ◌+◌, ◌<◌, List, ◌∷◌, ◌++◌, length, get_or, drop, sym, ap, ◌∙◌}
 use Rattle.std.proofs.lemmas.List.{drop_more}
 use mathlib.Core.List.{append_assoc}
-use Rattle.dali_gear.specs.ControlGear.{ControlGear}
+use Rattle.dali_gear.specs.Gear.{Gear}
 use Rattle.dali_replay.specs.Text.{gear_text, gear_texts}
 
 -- one more gear's line
-pub gear_texts_more : (old new whole : List ℕ) (n : ℕ) (gs : List ControlGear) (g : ControlGear)
+pub gear_texts_more : (old new whole : List ℕ) (n : ℕ) (gs : List Gear) (g : Gear)
     → n < length gs → g ≡ get_or gs n g → new ≡ old ++ gear_text n g
     → old ++ gear_texts n (drop n gs) ≡ whole
     → new ++ gear_texts (n + 1) (drop (n + 1) gs) ≡ whole

@@ -1,15 +1,17 @@
-use Rattle.std.specs.Prelude.{ℕ, List, length, drop, replicate, map, Bool, nat_lt, nat_le, slice_set, slice_index_or, if◌then◌else◌}
+use Rattle.std.specs.Prelude.{ℕ, List, length, drop, replicate, map, Bool, nat_lt, nat_le}
+use Rattle.std.specs.Prelude.{slice_set, slice_index_or, if◌then◌else◌}
 use Rattle.dali_special.specs.declared.command.Command.{Command}
 use Rattle.dali_special.specs.Command.{command_of}
 use Rattle.dali_gear.specs.declared.row.Reach.TheVariants.{Everyone}
-use Rattle.dali_gear.specs.ControlGear.{ControlGear, fresh, without_power, with_power, expired, quieted}
+use Rattle.dali_gear.specs.Gear.{Gear, fresh, without_power, with_power, gear_expired, gear_quieted}
 use Rattle.dali_gear.specs.Row.{row_after, draws_needed}
 use Rattle.dali_replay.specs.declared.bench_line.BenchLine.{BenchLine}
-use Rattle.dali_replay.specs.declared.bench_line.BenchLine.TheVariants.{Frame, Off, On, Expire, Quiet, Show}
+use Rattle.dali_replay.specs.declared.bench_line.BenchLine.TheVariants.{Frame, Off, On, Expire}
+use Rattle.dali_replay.specs.declared.bench_line.BenchLine.TheVariants.{Quiet, Show}
 
 -- a bench: its gear, and the numbers that are left to be drawn
 pub record World : Type 0 where
-  pub gear : List ControlGear
+  pub gear : List Gear
   pub left : List ℕ
 
 -- a bench as it is set up
@@ -25,16 +27,22 @@ is_enough w c = nat_le (needed w c) (length w.left)
 
 -- all powered gear take the frame, in order of their number, unless too few numbers are left
 abbrev pub after_command : World → Command → World
-after_command w c = if is_enough w c then record { gear = row_after Everyone c 0 w.gear w.left; left = drop (needed w c) w.left } else w
+after_command w c =
+    if is_enough w c
+      then record { gear = row_after Everyone c 0 w.gear w.left; left = drop (needed w c) w.left }
+      else w
 
 -- something befalls gear g, where there is one
-abbrev pub with_gear : World → ℕ → (ControlGear → ControlGear) → World
-with_gear w g change = if nat_lt g (length w.gear) then record w { gear = slice_set w.gear g (change (slice_index_or w.gear g fresh)) } else w
+abbrev pub with_gear : World → ℕ → (Gear → Gear) → World
+with_gear w g change =
+    if nat_lt g (length w.gear)
+      then record w { gear = slice_set w.gear g (change (slice_index_or w.gear g fresh)) }
+      else w
 
 abbrev pub after : World → BenchLine → World
 after w (Frame frame) = after_command w (command_of frame)
 after w (Off g) = with_gear w g without_power
 after w (On g) = with_gear w g with_power
-after w (Expire g) = with_gear w g expired
-after w Quiet = record w { gear = map quieted w.gear }
+after w (Expire g) = with_gear w g gear_expired
+after w Quiet = record w { gear = map gear_quieted w.gear }
 after w Show = w

@@ -4,7 +4,8 @@ use Rattle.dali_gear.specs.declared.row.Reach.TheVariants.{Everyone}
 use Rattle.dali_gear.specs.Row.{answers_of, heard_of}
 use Rattle.dali_standing.specs.declared.refusal.Refusal.TheVariants.{UnknownGear, DrawsSpent}
 use Rattle.dali_replay.specs.declared.bench_line.BenchLine.{BenchLine}
-use Rattle.dali_replay.specs.declared.bench_line.BenchLine.TheVariants.{Frame, Off, On, Expire, Quiet, Show}
+use Rattle.dali_replay.specs.declared.bench_line.BenchLine.TheVariants.{Frame, Off, On, Expire}
+use Rattle.dali_replay.specs.declared.bench_line.BenchLine.TheVariants.{Quiet, Show}
 use Rattle.dali_replay.specs.Bench.{World, is_enough}
 use Rattle.dali_replay.specs.Text.{heard_text, ok_text, gear_texts, refused_text}
 
@@ -13,7 +14,10 @@ known_text w g = if nat_lt g (length w.gear) then ok_text else refused_text Unkn
 
 -- What is reported of one line in a world.
 abbrev pub report : World → BenchLine → List ℕ
-report w (Frame frame) = if is_enough w (command_of frame) then heard_text frame (heard_of (answers_of Everyone (command_of frame) 0 w.gear)) else refused_text DrawsSpent
+report w (Frame frame) =
+    if is_enough w (command_of frame)
+      then heard_text frame (heard_of (answers_of Everyone (command_of frame) 0 w.gear))
+      else refused_text DrawsSpent
 report w (Off g) = known_text w g
 report w (On g) = known_text w g
 report w (Expire g) = known_text w g

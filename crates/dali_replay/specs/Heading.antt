@@ -1,9 +1,10 @@
-use Rattle.std.specs.Prelude.{ℕ, List, [], ◌∷◌, length, Bool, true, false, Option, Some, None, ◌&&◌, bytes_eq, codes, nat_le, if◌then◌else◌, option_map, option_and_then}
+use Rattle.std.specs.Prelude.{ℕ, List, [], ◌∷◌, length, Bool, true, false, Option, Some, None, ◌&&◌}
+use Rattle.std.specs.Prelude.{bytes_eq, codes, nat_le, if◌then◌else◌, option_map, option_and_then}
 use Rattle.dali_replay.specs.declared.heading.Heading as code
 use Rattle.dali_replay.specs.Numbers.{number_of, randoms_of, blocks_of}
 
--- THE FIRST LINE: a bench of so many gear, or a site of so many gear and with a block for each controller. A bench is planned as a
--- site of one controller, which does nothing.
+-- THE FIRST LINE: a bench of so many gear, or a site of so many gear and with a block for each
+-- controller. A bench is planned as a site of one controller, which does nothing.
 pub record Heading : Type 0 where
   pub is_bench : Bool
   pub gear : ℕ
@@ -29,7 +30,8 @@ abbrev pub site_from : Option ℕ → Option (List (ℕ × ℕ)) → Option Head
 site_from gear blocks = option_and_then (λ n. option_map (site_heading n) blocks) gear
 
 abbrev pub site_of : List (List ℕ) → Option Heading
-site_of (name ∷ word ∷ words) = if bytes_eq name (codes "site") then site_from (number_of word) (blocks_of words) else None
+site_of (name ∷ word ∷ words) =
+    if bytes_eq name (codes "site") then site_from (number_of word) (blocks_of words) else None
 site_of _ = None
 
 abbrev pub or_site : Option ℕ → Option Heading → Option Heading
@@ -42,4 +44,5 @@ heading_of words = or_site (bench_of words) (site_of words)
 -- THE SECOND LINE: `draws HHHHHH ..`, at most 1,024 of them
 abbrev pub draws_of : List (List ℕ) → Option (List ℕ)
 draws_of [] = None
-draws_of (name ∷ words) = if bytes_eq name (codes "draws") && nat_le (length words) 1024 then randoms_of words else None
+draws_of (name ∷ words) =
+    if bytes_eq name (codes "draws") && nat_le (length words) 1024 then randoms_of words else None

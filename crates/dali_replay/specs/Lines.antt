@@ -1,4 +1,5 @@
-use Rattle.std.specs.Prelude.{ℕ, ◌+◌, List, [], ◌∷◌, Bool, true, Option, Some, None, ◌==◌, if◌then◌else◌}
+use Rattle.std.specs.Prelude.{ℕ, ◌+◌, List, [], ◌∷◌, Bool, true, Option, Some, None, ◌==◌}
+use Rattle.std.specs.Prelude.{if◌then◌else◌}
 use Rattle.std.specs.List.{onto_first, slice_split}
 
 -- The lines of an input: each ends at its line feed, which the last line may lack.
@@ -14,7 +15,8 @@ is_skipped (b ∷ bs) = b == 35
 -- the lines that are not skipped, each with its number, where the first of the lines is line n
 abbrev pub numbered_from : ℕ → List (List ℕ) → List (ℕ × List ℕ)
 numbered_from n [] = []
-numbered_from n (line ∷ lines) = if is_skipped line then numbered_from (n + 1) lines else (n, line) ∷ numbered_from (n + 1) lines
+numbered_from n (line ∷ lines) =
+    if is_skipped line then numbered_from (n + 1) lines else (n, line) ∷ numbered_from (n + 1) lines
 
 -- the same of the rest of an input of which some lines were read
 abbrev pub numbered_after : ℕ → List ℕ → List (ℕ × List ℕ)

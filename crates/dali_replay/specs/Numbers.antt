@@ -1,4 +1,6 @@
-use Rattle.std.specs.Prelude.{ℕ, ◌^◌, List, [], ◌∷◌, Bool, false, not, Option, Some, None, ◌==◌, ◌&&◌, nat_le, bit_or, bytes_eq, codes, if◌then◌else◌, option_map, option_and_then}
+use Rattle.std.specs.Prelude.{ℕ, ◌^◌, List, [], ◌∷◌, Bool, false, not, Option, Some, None, ◌==◌}
+use Rattle.std.specs.Prelude.{◌&&◌, nat_le, bit_or, bytes_eq, codes, if◌then◌else◌, option_map}
+use Rattle.std.specs.Prelude.{option_and_then}
 use Rattle.std.specs.Str.{all_ascii_digits}
 use Rattle.std.specs.Str.Parse.{digits_value}
 use Rattle.dali_frame.specs.Hex.{random_of}
@@ -12,7 +14,10 @@ starts_plain (first ∷ second ∷ more) = not (first == 43) && not (first == 48
 
 -- a decimal number, at most 1,000,000
 abbrev pub number_of : List ℕ → Option ℕ
-number_of word = if (starts_plain word && all_ascii_digits word) && nat_le (digits_value 10 word) 1000000 then Some (digits_value 10 word) else None
+number_of word =
+    if (starts_plain word && all_ascii_digits word) && nat_le (digits_value 10 word) 1000000
+      then Some (digits_value 10 word)
+      else None
 
 -- one that is not larger than another limit
 abbrev pub within : ℕ → ℕ → Option ℕ
@@ -24,7 +29,8 @@ number_to most word = option_and_then (within most) (number_of word)
 -- a list of words, each of which is read so
 abbrev pub each_of : {A : Type 0} → (List ℕ → Option A) → List (List ℕ) → Option (List A)
 each_of reads [] = Some []
-each_of reads (word ∷ words) = option_and_then (λ x. option_map (λ xs. x ∷ xs) (each_of reads words)) (reads word)
+each_of reads (word ∷ words) =
+    option_and_then (λ x. option_map (λ xs. x ∷ xs) (each_of reads words)) (reads word)
 
 -- numbers of 24 bits, each of six hexadecimal digits
 abbrev pub randoms_of : List (List ℕ) → Option (List ℕ)
@@ -44,10 +50,12 @@ block_of word = block_of_parts (parts_of 45 word)
 abbrev pub blocks_of : List (List ℕ) → Option (List (ℕ × ℕ))
 blocks_of words = each_of block_of words
 
--- The set of some gear: `-` for none, or their numbers with commas, each at most 127. Gear g is the bit of value 2^g.
+-- The set of some gear: `-` for none, or their numbers with commas, each at most 127. Gear g is the
+-- bit of value 2^g.
 abbrev pub set_from : ℕ → List (List ℕ) → Option ℕ
 set_from set [] = Some set
-set_from set (word ∷ words) = option_and_then (λ g. set_from (bit_or set (2 ^ g)) words) (number_to 127 word)
+set_from set (word ∷ words) =
+    option_and_then (λ g. set_from (bit_or set (2 ^ g)) words) (number_to 127 word)
 
 abbrev pub set_of : List ℕ → Option ℕ
 set_of word = if bytes_eq word (codes "-") then Some 0 else set_from 0 (parts_of 44 word)

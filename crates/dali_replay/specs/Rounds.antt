@@ -1,9 +1,10 @@
-use Rattle.std.specs.Prelude.{◌≡◌, ◌⊎◌, ℕ, zero, suc, ◌+◌, ◌<◌, Bool, true, false, List, [], ◌++◌, length, Option, Some, None, Ok, Err, is_some, ◌||◌, if◌then◌else◌}
+use Rattle.std.specs.Prelude.{◌≡◌, ◌⊎◌, ℕ, zero, suc, ◌+◌, ◌<◌, Bool, true, false, List, [], ◌++◌}
+use Rattle.std.specs.Prelude.{length, Option, Some, None, Ok, Err, is_some, ◌||◌, if◌then◌else◌}
 use Rattle.dali_orders.specs.declared.orders.Order.{Order}
 use Rattle.dali_orders.specs.declared.orders.Due.{Due}
 use Rattle.dali_orders.specs.declared.orders.Due.TheVariants as due
 use Rattle.dali_events.specs.World.{Controller}
-use Rattle.dali_standing.specs.Places.{due_of}
+use Rattle.dali_standing.specs.Seats.{due_of}
 use Rattle.dali_standing.specs.declared.refusal.Refusal.{Refusal}
 use Rattle.dali_standing.specs.declared.trouble.Trouble.TheVariants as trouble
 use Rattle.dali_standing.specs.declared.trouble.Report.{Report}
@@ -15,7 +16,8 @@ use Rattle.dali_replay.specs.Text.{kept_text, refused_text, ran_text}
 
 -- A RUN OF ROUNDS: what happens in it, and what it reports.
 
--- something is due for a controller: it was told something, or waits for a commit. Nothing is while it is down.
+-- something is due for a controller: it was told something, or waits for a commit. Nothing is while
+-- it is down.
 abbrev pub has_turn_by : Due → Controller → Bool
 has_turn_by due.Store k = true
 has_turn_by _ k = is_some k.told
@@ -25,17 +27,24 @@ has_turn k = has_turn_by (due_of k) k
 
 -- ---------------------------------------------------------------- the turns of a round
 
--- The turn of controller c: it goes, if something is due. Whether it went; nothing, where it was refused.
+-- The turn of controller c: it goes, if something is due. Whether it went; nothing, where it was
+-- refused.
 abbrev pub IsTurn : Installation → ℕ → Option Bool → List ℕ → Installation → Type 0
 IsTurn n c (Some false) text m = (has_turn (controller n c) ≡ false) × (text ≡ []) × (m ≡ n)
-IsTurn n c (Some true) text m = (has_turn (controller n c) ≡ true) × (o : Order) × Goes n c (Ok o) m × (text ≡ kept_text c o)
-IsTurn n c None text m = (has_turn (controller n c) ≡ true) × (e : Refusal) × Goes n c (Err e) m × (text ≡ refused_text e)
+IsTurn n c (Some true) text m =
+    (has_turn (controller n c) ≡ true) × (o : Order) × Goes n c (Ok o) m × (text ≡ kept_text c o)
+IsTurn n c None text m =
+    (has_turn (controller n c) ≡ true) × (e : Refusal) × Goes n c (Err e) m
+    × (text ≡ refused_text e)
 
--- The controllers before number c had their turns, in order of their numbers, and none was refused. Whether one of them went.
+-- The controllers before number c had their turns, in order of their numbers, and none was refused.
+-- Whether one of them went.
 abbrev pub Turns : Installation → ℕ → Bool → List ℕ → Installation → Type 0
 Turns n zero acted text m = (acted ≡ false) × (text ≡ []) × (m ≡ n)
-Turns n (suc c) acted text m = (before : Bool) × (front : List ℕ) × (between : Installation) × Turns n c before front between
-    × (went : Bool) × (last : List ℕ) × IsTurn between c (Some went) last m × (acted ≡ (before || went)) × (text ≡ front ++ last)
+Turns n (suc c) acted text m =
+    (before : Bool) × (front : List ℕ) × (between : Installation) × Turns n c before front between
+    × (went : Bool) × (last : List ℕ) × IsTurn between c (Some went) last m
+        × (acted ≡ (before || went)) × (text ≡ front ++ last)
 
 -- all of them had; or the turn of one was refused, after those before it
 abbrev pub controllers : Installation → ℕ
@@ -69,7 +78,8 @@ came_of false report.Idle = round.Over
 came_of _ x = round.Played (is_sent x)
 
 -- A ROUND: the turns, and then the bus.
-pub record IsRound (n : Installation) (came : Round) (text : List ℕ) (m : Installation) : Type 0 where
+pub record IsRound (n : Installation) (came : Round) (text : List ℕ)
+    (m : Installation) : Type 0 where
   pub acted : Bool
   pub between : Installation
   pub report : Report
@@ -96,16 +106,20 @@ IsRoundOf n came text m = IsRound n came text m
 -- k rounds, none of which was the last; the frames that they sent
 abbrev pub Rounds : Installation → ℕ → ℕ → List ℕ → Installation → Type 0
 Rounds n zero frames text m = (frames ≡ 0) × (text ≡ []) × (m ≡ n)
-Rounds n (suc k) frames text m = (before : ℕ) × (front : List ℕ) × (between : Installation) × Rounds n k before front between
-    × (sent : Bool) × (last : List ℕ) × IsRoundOf between (round.Played sent) last m × (frames ≡ before + (if sent then 1 else 0)) × (text ≡ front ++ last)
+Rounds n (suc k) frames text m =
+    (before : ℕ) × (front : List ℕ) × (between : Installation) × Rounds n k before front between
+    × (sent : Bool) × (last : List ℕ) × IsRoundOf between (round.Played sent) last m
+        × (frames ≡ before + (if sent then 1 else 0)) × (text ≡ front ++ last)
 
--- How up to `limit` rounds end after k of them: k is the limit; or the next round is the last, or refused.
+-- How up to `limit` rounds end after k of them: k is the limit; or the next round is the last, or
+-- refused.
 abbrev pub Ends : ℕ → ℕ → Installation → List ℕ → Installation → Type 0
 Ends limit k n text m =
     ((k ≡ limit) × (text ≡ []) × (m ≡ n))
     ⊎ ((k < limit) × (IsRoundOf n round.Over text m ⊎ IsRoundOf n round.Refused text m))
 
-pub record Ran (limit : ℕ) (n : Installation) (frames : ℕ) (text : List ℕ) (m : Installation) : Type 0 where
+pub record Ran (limit : ℕ) (n : Installation) (frames : ℕ) (text : List ℕ)
+    (m : Installation) : Type 0 where
   pub rounds : ℕ
   pub front : List ℕ
   pub between : Installation
@@ -116,4 +130,5 @@ pub record Ran (limit : ℕ) (n : Installation) (frames : ℕ) (text : List ℕ)
 
 -- A RUN of up to so many rounds, with its report.
 abbrev pub Runs : ℕ → Installation → List ℕ → Installation → Type 0
-Runs limit n text m = (frames : ℕ) × (front : List ℕ) × Ran limit n frames front m × (text ≡ front ++ ran_text frames)
+Runs limit n text m =
+    (frames : ℕ) × (front : List ℕ) × Ran limit n frames front m × (text ≡ front ++ ran_text frames)

@@ -1,11 +1,14 @@
-use Rattle.std.specs.Prelude.{ℕ, List, [], ◌∷◌, true, false, Option, Some, None, bytes_eq, codes, if◌then◌else◌, option_map, option_and_then}
+use Rattle.std.specs.Prelude.{ℕ, List, [], ◌∷◌, true, false, Option, Some, None, bytes_eq, codes}
+use Rattle.std.specs.Prelude.{if◌then◌else◌, option_map, option_and_then}
 use Rattle.std.specs.Result.{result_ok}
 use Rattle.dali_frame.specs.Hex.{forward_of}
 use Rattle.dali_frame.specs.declared.frames.Forward.{Forward}
 use Rattle.dali_standing.specs.declared.trouble.Trouble.{Trouble}
 use Rattle.dali_standing.specs.declared.trouble.Trouble.TheVariants as trouble
 use Rattle.dali_replay.specs.declared.site_line.SiteLine.{SiteLine}
-use Rattle.dali_replay.specs.declared.site_line.SiteLine.TheVariants.{Go, Store, Fail, Pump, Lapse, Arc, Down, Up, Run, Power, Expire, Quiet, Show}
+use Rattle.dali_replay.specs.declared.site_line.SiteLine.TheVariants.{Go, Store, Fail, Pump, Lapse}
+use Rattle.dali_replay.specs.declared.site_line.SiteLine.TheVariants.{Arc, Down, Up, Run, Power}
+use Rattle.dali_replay.specs.declared.site_line.SiteLine.TheVariants.{Expire, Quiet, Show}
 use Rattle.dali_replay.specs.Numbers.{number_of, set_of}
 
 -- the lines of one word
@@ -56,7 +59,10 @@ arc_of (Some c) None = None
 
 -- `pump destroyed L`
 abbrev pub destroyed_of : List ℕ → List ℕ → Option SiteLine
-destroyed_of word set = if bytes_eq word (codes "destroyed") then option_map (λ set. Pump (trouble.Destroyed (record { 0 = set }))) (set_of set) else None
+destroyed_of word set =
+    if bytes_eq word (codes "destroyed")
+      then option_map (λ set. Pump (trouble.Destroyed (record { 0 = set }))) (set_of set)
+      else None
 
 -- the lines of a name and two more words
 abbrev pub two_words_of : List ℕ → List ℕ → List ℕ → Option SiteLine

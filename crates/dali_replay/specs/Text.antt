@@ -1,4 +1,5 @@
-use Rattle.std.specs.Prelude.{◌≡◌, ℕ, ◌+◌, List, [], ◌∷◌, ◌++◌, Bool, true, false, Option, Some, None, Result, Ok, Err, codes, decimal}
+use Rattle.std.specs.Prelude.{◌≡◌, ℕ, ◌+◌, List, [], ◌∷◌, ◌++◌, Bool, true, false, Option, Some}
+use Rattle.std.specs.Prelude.{None, Result, Ok, Err, codes, decimal}
 use Rattle.dali_frame.specs.declared.frames.Forward.{Forward}
 use Rattle.dali_frame.specs.declared.frames.Answer.{Answer}
 use Rattle.dali_frame.specs.declared.frames.Answer.TheVariants.{Silence, Byte, Damaged}
@@ -6,8 +7,9 @@ use Rattle.dali_frame.specs.Hex.{forward_text, byte_text, random_text}
 use Rattle.dali_frame.specs.Random.{value_of}
 use Rattle.dali_frame.specs.Priority.{ARC}
 use Rattle.dali_gear.specs.declared.state.InitialisationState.{InitialisationState}
-use Rattle.dali_gear.specs.declared.state.InitialisationState.TheVariants.{Disabled, Enabled, Withdrawn}
-use Rattle.dali_gear.specs.ControlGear.{ControlGear}
+use Rattle.dali_gear.specs.declared.state.InitialisationState.TheVariants.{Disabled, Enabled}
+use Rattle.dali_gear.specs.declared.state.InitialisationState.TheVariants.{Withdrawn}
+use Rattle.dali_gear.specs.Gear.{Gear}
 use Rattle.dali_script.specs.declared.records.Record.{Record}
 use Rattle.dali_script.specs.declared.records.Record.TheVariants.{Reserve, Enrol}
 use Rattle.dali_script.specs.Records.{Assignment}
@@ -52,17 +54,22 @@ abbrev pub short_text : Option ℕ → List ℕ
 short_text None = codes "-"
 short_text (Some a) = decimal a
 
-abbrev pub addresses_text : ControlGear → List ℕ
-addresses_text g = random_text g.random ++ (codes " " ++ (random_text (value_of g.search) ++ (codes " " ++ short_text g.short)))
+abbrev pub addresses_text : Gear → List ℕ
+addresses_text g =
+    random_text g.random
+    ++ (codes " " ++ (random_text (value_of g.search) ++ (codes " " ++ short_text g.short)))
 
-abbrev pub condition_text : ℕ → ControlGear → List ℕ
-condition_text k g = codes "gear " ++ (decimal k ++ (codes " " ++ (power_text g.powered ++ (codes " " ++ (state_text g.state ++ codes " ")))))
+abbrev pub condition_text : ℕ → Gear → List ℕ
+condition_text k g =
+    codes "gear "
+    ++ (decimal k
+    ++ (codes " " ++ (power_text g.powered ++ (codes " " ++ (state_text g.state ++ codes " ")))))
 
-abbrev pub gear_text : ℕ → ControlGear → List ℕ
+abbrev pub gear_text : ℕ → Gear → List ℕ
 gear_text k g = condition_text k g ++ (addresses_text g ++ codes "\n")
 
 -- the gear from number k on, a line each
-abbrev pub gear_texts : ℕ → List ControlGear → List ℕ
+abbrev pub gear_texts : ℕ → List Gear → List ℕ
 gear_texts k [] = []
 gear_texts k (g ∷ gs) = gear_text k g ++ gear_texts (k + 1) gs
 
@@ -70,7 +77,8 @@ gear_texts k (g ∷ gs) = gear_text k g ++ gear_texts (k + 1) gs
 
 -- `refused K NAME`
 abbrev pub refused_text : Refusal → List ℕ
-refused_text e = codes "refused " ++ (decimal (number_of e) ++ (codes " " ++ (name_of e ++ codes "\n")))
+refused_text e =
+    codes "refused " ++ (decimal (number_of e) ++ (codes " " ++ (name_of e ++ codes "\n")))
 
 -- the text of a call that answers nothing
 abbrev pub ok_of : Unit {0} → List ℕ
@@ -165,7 +173,8 @@ entries_text (x ∷ xs) = entry_text x ++ entries_text xs
 
 -- `table c:`, and its entries
 abbrev pub table_text : ℕ → List Assignment → List ℕ
-table_text c entries = codes "table " ++ (decimal c ++ (codes ":" ++ (entries_text entries ++ codes "\n")))
+table_text c entries =
+    codes "table " ++ (decimal c ++ (codes ":" ++ (entries_text entries ++ codes "\n")))
 
 -- ---------------------------------------------------------------- appending
 

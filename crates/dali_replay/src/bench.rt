@@ -2,7 +2,7 @@
 
 ghost use Rattle.std.specs.Prelude.{◌≡◌, ◌<◌, IfOk, Some, None, length, map, nat_lt, if◌then◌else◌};
 ghost use Rattle.dali_special.specs.Command.{command_of};
-ghost use Rattle.dali_gear.specs.ControlGear.{without_power, with_power, expired, quieted};
+ghost use Rattle.dali_gear.specs.Gear.{without_power, with_power, gear_expired, gear_quieted};
 ghost use Rattle.dali_gear.specs.Row.{answers_of, heard_of};
 ghost use Rattle.dali_gear.specs.declared.row.Reach.TheVariants.{Everyone};
 
@@ -58,7 +58,9 @@ impl Bench {
     /// no gear takes it.
     pub fn send(&mut self, frame: Forward) -> Option<Answer>
         ensures world { self.new ≡ after_command self.old (command_of frame) }
-        ensures answer { result ≡ (if is_enough self.old (command_of frame) then Some (heard_of (answers_of Everyone (command_of frame) 0 self.old.gear)) else None) }
+        ensures answer { result
+            ≡ (if is_enough self.old (command_of frame)
+            then Some (heard_of (answers_of Everyone (command_of frame) 0 self.old.gear)) else None) }
     {
         let left = &self.plan.draws()[self.drawn..];
         if row::draws_needed(&self.gear, frame, Reach::Everyone) > left.len() {
@@ -97,7 +99,7 @@ impl Bench {
 
     /// The initialisation of gear g ends by its timer. False where there is no such gear.
     pub fn expire(&mut self, g: u32) -> bool
-        ensures world { self.new ≡ with_gear self.old g expired }
+        ensures world { self.new ≡ with_gear self.old g gear_expired }
         ensures known { result ≡ nat_lt g (length self.old.gear) }
     {
         let number = g as usize;
@@ -117,7 +119,7 @@ impl Bench {
 }
 
 fn quiet_all(gear: &mut [Gear])
-    ensures { gear.new ≡ map quieted gear.old }
+    ensures { gear.new ≡ map gear_quieted gear.old }
 {
     for one in gear.iter_mut() {
         one.quiet();

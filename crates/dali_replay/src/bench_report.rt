@@ -13,7 +13,8 @@ use dali_world::Refusal;
 use std::alloc::AllocError;
 
 fn push_known(text: &mut String, known: bool) -> Result<(), AllocError>
-    ensures { OnOk result (string_bytes text.new ≡ string_bytes text.old ++ (if known then ok_text else refused_text UnknownGear)) }
+    ensures { OnOk result (string_bytes text.new ≡ string_bytes text.old
+        ++ (if known then ok_text else refused_text UnknownGear)) }
 {
     if known {
         push_ok(text)

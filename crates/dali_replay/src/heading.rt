@@ -40,7 +40,8 @@ fn bench_of(line: &[u8]) -> Option<u32>
 
 /// The blocks of a list of words, which begins after a space, if there is one; `None` where a word is no block.
 fn blocks_of(alloc: Global, words: Option<&[u8]>) -> Result<Option<Vec<(u8, u8)>>, AllocError>
-    ensures { IfOk result (λ blocks. option_map (λ blocks. blocks.items) blocks ≡ blocks_of (parts_after 32 (option_map (λ text. text.now) words.entry))) }
+    ensures { IfOk result (λ blocks. option_map (λ blocks. blocks.items) blocks
+        ≡ blocks_of (parts_after 32 (option_map (λ text. text.now) words.entry))) }
 {
     let mut blocks = Vec::new(alloc);
     let mut rest = words;

@@ -1,13 +1,16 @@
 //! A site with a store in memory for each of its controllers.
 
-ghost use Rattle.std.specs.Prelude.{false, ◌≡◌, ◌<◌, ◌≤◌, length, map, slice_index_or, slice_set, Some, IfOk, IfErr, IfSome, MatchOption, IsTrue, ◌↔◌, OnErr, IfNone, is_some};
+ghost use Rattle.std.specs.Prelude.{false, ◌≡◌, ◌<◌, ◌≤◌, length, map, slice_index_or, slice_set, Some, IfOk, IfErr};
+ghost use Rattle.std.specs.Prelude.{IfSome, MatchOption, IsTrue, ◌↔◌, OnErr, IfNone, is_some};
 ghost use Rattle.dali_script.specs.Records.{Fits, IsFresh};
 ghost use Rattle.dali_orders.specs.Due.{record_ordered};
 ghost use Rattle.dali_events.specs.World.{gear_at};
 ghost use Rattle.dali_events.specs.declared.event.Event.TheVariants as event;
-ghost use Rattle.dali_standing.specs.Places.{due_of};
+ghost use Rattle.dali_standing.specs.Seats.{due_of};
 ghost use Rattle.dali_world.specs.Site.{world, IsArcRefused, IsDownRefused, IsGearRefused, IsActRefused, IsBarred};
-ghost use Rattle.dali_replay.specs.Installation.{installed, empty_store, settled, store_at, controller, IsUpAt, committed, with_store, IsMade, IsGiven, HasNone, HasStepped, Goes, IsPending, Stores, Fails, ComesUp, Calls, PumpsOn};
+ghost use Rattle.dali_replay.specs.Installation.{installation_of, empty_store, store_settled, store_at, controller};
+ghost use Rattle.dali_replay.specs.Installation.{IsUpAt, store_committed, with_store, IsMade, IsGiven, HasNone};
+ghost use Rattle.dali_replay.specs.Installation.{HasStepped, Goes, IsPending, Stores, Fails, ComesUp, Calls, PumpsOn};
 ghost use Rattle.dali_replay.specs.Calls.{Befalls, Requests, Lapses, IsLogFull, BefallsGear};
 ghost use Rattle.dali_standing.specs.declared.refusal.Refusal.TheVariants as refusal;
 ghost use Rattle.dali_replay.specs.Rounds.{has_turn};
@@ -70,7 +73,7 @@ impl Store {
     /// Commits the record that is pending, if one is.
     fn commit(&mut self)
         requires { IfSome self.old.pending (IsFresh self.old.keep) }
-        ensures { self.new ≡ committed self.old }
+        ensures { self.new ≡ store_committed self.old }
     {
         let Some(record) = self.pending else {
             return;
@@ -93,7 +96,7 @@ impl Store {
 
     /// Nothing is pending.
     fn settle(&mut self)
-        ensures { self.new ≡ settled self.old.keep }
+        ensures { self.new ≡ store_settled self.old.keep }
     {
         self.pending = None;
     }
@@ -140,7 +143,8 @@ fn is_want(error: Refusal) -> bool
     }
 }
 
-/// A site, and a store for each of its controllers. Controllers are named by their numbers as lines give them, of any size.
+/// A site, and a store for each of its controllers. Controllers are named by their numbers as lines give them, of any
+/// size.
 #[derive(Drop)]
 pub struct Installation {
     site: SiteState,
@@ -158,9 +162,10 @@ impl Model for Installation {
 }
 
 impl Installation {
-    /// An installation of this plan, on which nothing happened yet. Its log has room for 65,536 events, and 64 requests may wait.
+    /// An installation of this plan, on which nothing happened yet. Its log has room for 65,536 events, and 64 requests
+    /// may wait.
     pub fn new(alloc: Global, plan: Plan) -> Result<Installation, AllocError>
-        ensures { IfOk result (λ n. n ≡ installed plan) }
+        ensures { IfOk result (λ n. n ≡ installation_of plan) }
     {
         let stores = stores_of(alloc, plan.blocks())?;
         let Ok(site) = SiteState::new(alloc, plan, LOG_ROOM, QUEUE_ROOM) else {
@@ -169,10 +174,11 @@ impl Installation {
         Ok(Installation { site, stores })
     }
 
-    /// `go c`: the controller acts on what is due. Where that is its store, the commit is made first, unless it was made before.
+    /// `go c`: the controller acts on what is due. Where that is its store, the commit is made first, unless it was
+    /// made before.
     ///
-    /// Refusals, in this order: 1 UnknownController, 2 ControllerDown, 3 NotDue, 7 QueueFull, 8 LogFull; the last two leave the
-    /// commit made.
+    /// Refusals, in this order: 1 UnknownController, 2 ControllerDown, 3 NotDue, 7 QueueFull, 8 LogFull; the last two
+    /// leave the commit made.
     pub fn go(&mut self, c: u32) -> Result<Order, Refusal>
         ensures { Goes self.old c result self.new }
     {
@@ -229,7 +235,8 @@ impl Installation {
     ///
     /// Refusals, in this order: 1 UnknownController, 2 ControllerDown, 4 NotArc, 7 QueueFull, 8 LogFull.
     pub fn arc(&mut self, c: u32, frame: Forward) -> Result<(), Refusal>
-        ensures { Calls (Requests self.old.site (event.Offered c frame)) (IsArcRefused self.old.site c frame) self.old result self.new }
+        ensures { Calls (Requests self.old.site (event.Offered c frame)) (IsArcRefused self.old.site c frame)
+            self.old result self.new }
     {
         let c = self.check_known(c)?;
         self.site.arc(c, frame)
@@ -239,7 +246,8 @@ impl Installation {
     ///
     /// Refusals, in this order: 1 UnknownController, 2 ControllerDown, 8 LogFull.
     pub fn down(&mut self, c: u32) -> Result<(), Refusal>
-        ensures { Calls (Befalls self.old.site (event.Down c)) (IsDownRefused self.old.site c) self.old result self.new }
+        ensures { Calls (Befalls self.old.site (event.Down c)) (IsDownRefused self.old.site c)
+            self.old result self.new }
     {
         let c = self.check_known(c)?;
         self.site.down(c)
@@ -277,7 +285,8 @@ impl Installation {
     ///
     /// Refusals, in this order: 1 UnknownGear, 8 LogFull.
     pub fn power(&mut self, number: u32, on: bool) -> Result<(), Refusal>
-        ensures { Calls (BefallsGear self.old.site number (event.Power number on)) (IsGearRefused self.old.site number) self.old result self.new }
+        ensures { Calls (BefallsGear self.old.site number (event.Power number on)) (IsGearRefused self.old.site number)
+            self.old result self.new }
     {
         self.site.power(number, on)
     }
@@ -286,7 +295,8 @@ impl Installation {
     ///
     /// Refusals, in this order: 1 UnknownGear, 8 LogFull.
     pub fn expire(&mut self, number: u32) -> Result<(), Refusal>
-        ensures { Calls (BefallsGear self.old.site number (event.Expired number)) (IsGearRefused self.old.site number) self.old result self.new }
+        ensures { Calls (BefallsGear self.old.site number (event.Expired number)) (IsGearRefused self.old.site number)
+            self.old result self.new }
     {
         self.site.expire(number)
     }
@@ -380,7 +390,7 @@ impl Installation {
     /// The commit that is pending in a controller's store, if one is, is made.
     fn commit(&mut self, c: u8)
         requires { c < length self.old.site.plan.blocks }
-        ensures { self.new ≡ with_store self.old c (committed (store_at self.old c)) }
+        ensures { self.new ≡ with_store self.old c (store_committed (store_at self.old c)) }
     {
         // What the site remembers as outstanding is fresh, so the store does not refuse it.
         self.site.is_safe();

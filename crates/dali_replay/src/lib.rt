@@ -1,5 +1,5 @@
-//! `replay`: a script of what happens on a bench of DALI control gear, or on a site with application controllers, is read, and what
-//! comes of each line is reported.
+//! `replay`: a script of what happens on a bench of DALI control gear, or on a site with application controllers, is
+//! read, and what comes of each line is reported.
 #![tactic(auto)]
 
 mod bench;

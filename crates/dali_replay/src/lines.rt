@@ -1,6 +1,7 @@
 //! An input's lines and their numbers, and the parts of a line: words between spaces, numbers between other marks.
 
-ghost use Rattle.std.specs.Prelude.{◌≡◌, ◌≢◌, ℕ, ◌+◌, ◌<◌, ◌≤◌, [], ◌∷◌, length, map, slice_index, IsTrue, ◌↔◌, true, IfSome, IfNone, MatchOption, option_map};
+ghost use Rattle.std.specs.Prelude.{◌≡◌, ◌≢◌, ℕ, ◌+◌, ◌<◌, ◌≤◌, [], ◌∷◌, length, map, slice_index, IsTrue, ◌↔◌, true};
+ghost use Rattle.std.specs.Prelude.{IfSome, IfNone, MatchOption, option_map};
 ghost use Rattle.dali_replay.specs.Lines.{lines_of, is_skipped, numbered_after, parts_of, parts_after, words_of};
 
 use arrayvec::ArrayVec;
@@ -110,8 +111,11 @@ impl<'a> Script<'a> {
     /// The next line that is not skipped.
     pub fn next(&mut self) -> Option<&'a [u8]>
         requires { self.old.read + length self.old.rest.now ≤ 1048576 }
-        ensures line { MatchOption result (numbered_after self.old.read self.old.rest.now ≡ []) (λ line. numbered_after self.old.read self.old.rest.now ≡ (self.new.read, line.now) ∷ numbered_after self.new.read self.new.rest.now) }
-        ensures counted { self.new.read + length (lines_of self.new.rest.now) ≡ self.old.read + length (lines_of self.old.rest.now) }
+        ensures line { MatchOption result (numbered_after self.old.read self.old.rest.now
+            ≡ []) (λ line. numbered_after self.old.read self.old.rest.now ≡ (self.new.read, line.now)
+            ∷ numbered_after self.new.read self.new.rest.now) }
+        ensures counted { self.new.read + length (lines_of self.new.rest.now)
+            ≡ self.old.read + length (lines_of self.old.rest.now) }
         ensures end { IfNone result (self.new.rest.now ≡ []) }
         ensures range { self.new.read + length self.new.rest.now ≤ 1048576 }
     {

@@ -1,10 +1,11 @@
 //! A run from the bytes of a script to the bytes of its reports.
 
-ghost use Rattle.std.specs.Prelude.{◌≡◌, ℕ, ◌+◌, ◌<◌, ◌≤◌, ◌⊎◌, List, length, Some, None, Ok, Err, IfOk, IfErr, IfSome, MatchResult, IsErrOf};
+ghost use Rattle.std.specs.Prelude.{◌≡◌, ℕ, ◌+◌, ◌<◌, ◌≤◌, ◌⊎◌, List, length, Some, None, Ok, Err, IfOk, IfErr, IfSome};
+ghost use Rattle.std.specs.Prelude.{MatchResult, IsErrOf};
 ghost use Rattle.std.specs.Io.KnownBytes.{Consumes};
 ghost use Rattle.dali_replay.specs.Lines.{lines_of, numbered_after};
 ghost use Rattle.dali_replay.specs.Bench.{start};
-ghost use Rattle.dali_replay.specs.Installation.{installed};
+ghost use Rattle.dali_replay.specs.Installation.{installation_of};
 ghost use Rattle.dali_replay.specs.Replay.{PlansNot, Plays, PlaysSite, Replays, Tells, played, planned, setting_of};
 
 use crate::bench::Bench;
@@ -87,8 +88,13 @@ fn read_input<R: Read>(alloc: Global, reader: &mut R) -> Result<Vec<u8>, ReplayF
 /// The first two lines: whether they set up a bench, and the plan.
 fn plan(alloc: Global, script: &mut Script) -> Result<(bool, Plan), ReplayFault>
     requires { script.old.read + length script.old.rest.now ≤ 1048576 }
-    ensures planned { IfOk result (λ setting. planned (script.old.read + length (lines_of script.old.rest.now) + 1) (numbered_after script.old.read script.old.rest.now) ≡ Ok (setting, numbered_after script.new.read script.new.rest.now)) }
-    ensures refused { IfErr result (PlansNot (planned (script.old.read + length (lines_of script.old.rest.now) + 1) (numbered_after script.old.read script.old.rest.now))) }
+    ensures planned { IfOk result
+        (λ setting. planned (script.old.read + length (lines_of script.old.rest.now)
+        + 1) (numbered_after script.old.read script.old.rest.now)
+        ≡ Ok (setting, numbered_after script.new.read script.new.rest.now)) }
+    ensures refused { IfErr result
+        (PlansNot (planned (script.old.read + length (lines_of script.old.rest.now) + 1)
+        (numbered_after script.old.read script.old.rest.now))) }
     ensures range { script.new.read + length script.new.rest.now ≤ 1048576 }
 {
     let Some(line) = script.next() else {
@@ -118,7 +124,8 @@ fn play_bench<W: Write>(
     writer: &mut W,
 ) -> Result<(), ReplayFault>
     requires { script.old.read + length script.old.rest.now ≤ 1048576 }
-    ensures { Plays (played bench.old (numbered_after script.old.read script.old.rest.now)) (W.contents writer.old) (W.contents writer.new) result }
+    ensures { Plays (played bench.old (numbered_after script.old.read script.old.rest.now)) (W.contents writer.old)
+        (W.contents writer.new) result }
 {
     let mut text = String::new(alloc);
     while let Some(line) = script.next() {
@@ -143,7 +150,8 @@ fn play_site<W: Write>(
     writer: &mut W,
 ) -> Result<(), ReplayFault>
     requires { script.old.read + length script.old.rest.now ≤ 1048576 }
-    ensures { PlaysSite installation.old (numbered_after script.old.read script.old.rest.now) (W.contents writer.old) (W.contents writer.new) result }
+    ensures { PlaysSite installation.old (numbered_after script.old.read script.old.rest.now) (W.contents writer.old)
+        (W.contents writer.new) result }
 {
     let mut report = String::new(alloc);
     while let Some(line) = script.next() {
@@ -178,9 +186,10 @@ fn replay<W: Write>(alloc: Global, input: &[u8], writer: &mut W) -> Result<(), R
 
 /// Reads a script of a bench or a site, and writes the reports of its lines.
 ///
-/// What is written, where the answer is `Ok`, is exactly what the input asks for: on a bench a function of the input; on a site the
-/// text of each line, in order, of the call that the line makes. At `BadLine` the reports up to that line are written, at `Memory`
-/// the first of the reports, and at `BadPlan` and `Read` nothing. At `Write` nothing is said of what went out.
+/// What is written, where the answer is `Ok`, is exactly what the input asks for: on a bench a function of the input;
+/// on a site the text of each line, in order, of the call that the line makes. At `BadLine` the reports up to that line
+/// are written, at `Memory` the first of the reports, and at `BadPlan` and `Read` nothing. At `Write` nothing is said
+/// of what went out.
 pub fn run_replay<R: Read, W: Write>(
     alloc: Global,
     reader: &mut R,
@@ -189,8 +198,10 @@ pub fn run_replay<R: Read, W: Write>(
     // Of a reader that does not tell its bytes, some input is told.
     ensures some { (input : List ℕ) × Tells (setting_of input) (W.contents writer.old) (W.contents writer.new) result }
     ensures unread { IsErrOf result ReplayFault.Read → writer.new ≡ writer.old }
-    ensures told { IfSome (R.remaining reader.old) (λ input. Tells (setting_of input) (W.contents writer.old) (W.contents writer.new) result) }
-    ensures long { IfSome (R.remaining reader.old) (λ input. 1048576 < length input → IfErr result (λ e. (e ≡ ReplayFault.Memory) ⊎ (e ≡ ReplayFault.Read))) }
+    ensures told { IfSome (R.remaining reader.old)
+        (λ input. Tells (setting_of input) (W.contents writer.old) (W.contents writer.new) result) }
+    ensures long { IfSome (R.remaining reader.old) (λ input. 1048576 < length input
+        → IfErr result (λ e. (e ≡ ReplayFault.Memory) ⊎ (e ≡ ReplayFault.Read))) }
 {
     let input = read_input(alloc, reader)?;
     replay(alloc, &input, writer)

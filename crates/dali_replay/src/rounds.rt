@@ -27,7 +27,9 @@ fn take_turn(
     c: u8,
 ) -> Result<Option<bool>, AllocError>
     requires { c < length installation.old.site.plan.blocks }
-    ensures { IfOk result (λ went. Writes (string_bytes text.old) (string_bytes text.new) (λ more. IsTurn installation.old c went more installation.new)) }
+    ensures { IfOk result
+        (λ went. Writes (string_bytes text.old) (string_bytes text.new)
+        (λ more. IsTurn installation.old c went more installation.new)) }
 {
     if !installation.has_turn(c) {
         return Ok(Some(false));
@@ -44,10 +46,12 @@ fn take_turn(
     }
 }
 
-/// The turns of all controllers, in order of their numbers, and whether one of them went; `None` where a turn was refused, which
-/// is the last then.
+/// The turns of all controllers, in order of their numbers, and whether one of them went; `None` where a turn was
+/// refused, which is the last then.
 fn turns(text: &mut String, installation: &mut Installation) -> Result<Option<bool>, AllocError>
-    ensures { IfOk result (λ acted. Writes (string_bytes text.old) (string_bytes text.new) (λ more. AreTurns installation.old acted more installation.new)) }
+    ensures { IfOk result
+        (λ acted. Writes (string_bytes text.old) (string_bytes text.new)
+        (λ more. AreTurns installation.old acted more installation.new)) }
 {
     let mut acted = false;
     for c in 0..installation.controllers() {
@@ -81,7 +85,9 @@ fn came_of(acted: bool, report: Report) -> Round
 
 /// One round.
 fn play_round(text: &mut String, installation: &mut Installation) -> Result<Round, AllocError>
-    ensures { IfOk result (λ round. Writes (string_bytes text.old) (string_bytes text.new) (λ more. IsRoundOf installation.old round more installation.new)) }
+    ensures { IfOk result
+        (λ round. Writes (string_bytes text.old) (string_bytes text.new)
+        (λ more. IsRoundOf installation.old round more installation.new)) }
 {
     let Some(acted) = turns(text, installation)? else {
         return Ok(Round::Refused);
@@ -104,7 +110,9 @@ fn count(sent: bool) -> u32
 
 /// Up to so many rounds; how many frames they sent.
 fn rounds(text: &mut String, installation: &mut Installation, limit: u32) -> Result<u32, AllocError>
-    ensures { IfOk result (λ frames. Writes (string_bytes text.old) (string_bytes text.new) (λ more. Ran limit installation.old frames more installation.new)) }
+    ensures { IfOk result
+        (λ frames. Writes (string_bytes text.old) (string_bytes text.new)
+        (λ more. Ran limit installation.old frames more installation.new)) }
 {
     let mut played = 0;
     let mut frames = 0;
@@ -121,7 +129,9 @@ fn rounds(text: &mut String, installation: &mut Installation, limit: u32) -> Res
 
 /// `run n`: up to so many rounds, and the report of them.
 pub fn run(text: &mut String, installation: &mut Installation, limit: u32) -> Result<(), AllocError>
-    ensures { OnOk result (Writes (string_bytes text.old) (string_bytes text.new) (λ more. Runs limit installation.old more installation.new)) }
+    ensures { OnOk result
+        (Writes (string_bytes text.old) (string_bytes text.new)
+        (λ more. Runs limit installation.old more installation.new)) }
 {
     let frames = rounds(text, installation, limit)?;
     push_ran(text, frames)

@@ -2,7 +2,8 @@
 
 ghost use Rattle.std.specs.Prelude.{◌≡◌, map};
 ghost use Rattle.dali_replay.specs.Lines.{words_of};
-ghost use Rattle.dali_replay.specs.SiteLine.{alone_of, trouble_of, controller_line_of, numbered_line_of, one_word_of, two_words_of, destroyed_of, site_line_of};
+ghost use Rattle.dali_replay.specs.SiteLine.{alone_of, trouble_of, controller_line_of, numbered_line_of, one_word_of};
+ghost use Rattle.dali_replay.specs.SiteLine.{two_words_of, destroyed_of, site_line_of};
 
 use crate::lines::words;
 use crate::numbers::{number_of, set_of};

@@ -2,7 +2,8 @@
 
 ghost use Rattle.std.specs.Prelude.{◌≡◌, ◌++◌, length, OnOk, string_bytes};
 ghost use Rattle.dali_replay.specs.SiteReport.{Says, gear_lines, table_lines, site_text};
-ghost use Rattle.dali_replay.specs.Text.{Writes, answer_or_refusal, ok_of, offered_of, ordered_text, report_text, lapse_text};
+ghost use Rattle.dali_replay.specs.Text.{Writes, answer_or_refusal, ok_of, offered_of, ordered_text, report_text};
+ghost use Rattle.dali_replay.specs.Text.{lapse_text};
 ghost use Rattle.dali_world.specs.Site.{world};
 
 use crate::installation::Installation;
@@ -64,7 +65,8 @@ fn push_asked(
     frame: Forward,
     answer: Result<(), Refusal>,
 ) -> Result<(), AllocError>
-    ensures { OnOk result (string_bytes text.new ≡ string_bytes text.old ++ answer_or_refusal (offered_of c frame) answer) }
+    ensures { OnOk result (string_bytes text.new ≡ string_bytes text.old
+        ++ answer_or_refusal (offered_of c frame) answer) }
 {
     match answer {
         Ok(()) => push_offered(text, c, frame),
@@ -74,7 +76,8 @@ fn push_asked(
 
 /// The state of all gear, in order of their numbers.
 fn push_gear_lines(text: &mut String, installation: &Installation) -> Result<(), AllocError>
-    ensures { OnOk result (string_bytes text.new ≡ string_bytes text.old ++ gear_lines (world installation.now.site) installation.now.site.plan.gear) }
+    ensures { OnOk result (string_bytes text.new ≡ string_bytes text.old
+        ++ gear_lines (world installation.now.site) installation.now.site.plan.gear) }
 {
     for number in 0..installation.gear_count() {
         push_gear(text, number as usize, installation.gear(number))?;
@@ -84,7 +87,8 @@ fn push_gear_lines(text: &mut String, installation: &Installation) -> Result<(),
 
 /// The tables of all controllers, in order of their numbers.
 fn push_table_lines(text: &mut String, installation: &Installation) -> Result<(), AllocError>
-    ensures { OnOk result (string_bytes text.new ≡ string_bytes text.old ++ table_lines (world installation.now.site) (length installation.now.site.plan.blocks)) }
+    ensures { OnOk result (string_bytes text.new ≡ string_bytes text.old
+        ++ table_lines (world installation.now.site) (length installation.now.site.plan.blocks)) }
 {
     for c in 0..installation.controllers() {
         push_table(text, c, installation.enrolled(c))?;
@@ -107,7 +111,9 @@ pub fn report(
     installation: &mut Installation,
     line: SiteLine,
 ) -> Result<(), AllocError>
-    ensures { OnOk result (Writes (string_bytes text.old) (string_bytes text.new) (λ more. Says installation.old line more installation.new)) }
+    ensures { OnOk result
+        (Writes (string_bytes text.old) (string_bytes text.new)
+        (λ more. Says installation.old line more installation.new)) }
 {
     match line {
         SiteLine::Go(c) => push_step(text, c, installation.go(c)),

@@ -2,7 +2,12 @@
 #![tactic(auto, using(std::proofs::lemmas::List::append_assoc, std::proofs::lemmas::Fmt::hex_byte))]
 
 ghost use Rattle.std.specs.Prelude.{◌≡◌, ◌++◌, OnOk, string_bytes};
-ghost use Rattle.dali_replay.specs.Text.{answer_text, heard_text, power_text, state_text, short_text, condition_text, addresses_text, gear_text, gear_texts, ok_text, refused_text, assignment_text, commit_text, end_text, fault_text, put_text, order_text, ordered_text, kept_text, offered_text, destroyed_text, sent_text, report_text, collided_text, owner_text, lapse_text, ran_text, entry_text, entries_text, table_text};
+ghost use Rattle.dali_replay.specs.Text.{answer_text, heard_text, power_text, state_text, short_text, condition_text};
+ghost use Rattle.dali_replay.specs.Text.{addresses_text, gear_text, gear_texts, ok_text, refused_text, assignment_text};
+ghost use Rattle.dali_replay.specs.Text.{commit_text, end_text, fault_text, put_text, order_text, ordered_text};
+ghost use Rattle.dali_replay.specs.Text.{kept_text, offered_text, destroyed_text, sent_text, report_text};
+ghost use Rattle.dali_replay.specs.Text.{collided_text, owner_text, lapse_text, ran_text, entry_text, entries_text};
+ghost use Rattle.dali_replay.specs.Text.{table_text};
 
 use dali_orders::{End, Fault, Order};
 use dali_frame::{Answer, Forward, Priority, Random24, Short};

@@ -1,6 +1,8 @@
 use Rattle.std.specs.Prelude.{◌≡◌, ℕ, ◌⊎◌, Result, Err}
 use Rattle.dali_reserve.specs.declared.error.KeepError.{KeepError}
-use Rattle.dali_reserve.specs.declared.error.KeepError.TheVariants.{NoMemory, StoreFailed, AddressTaken, RandomTaken, BadStore}
+use Rattle.dali_reserve.specs.declared.error.KeepError.TheVariants.{NoMemory, StoreFailed}
+use Rattle.dali_reserve.specs.declared.error.KeepError.TheVariants.{AddressTaken, RandomTaken}
+use Rattle.dali_reserve.specs.declared.error.KeepError.TheVariants.{BadStore}
 
 abbrev pub number_of : KeepError → ℕ
 number_of NoMemory = 1

@@ -1,29 +1,31 @@
 use Rattle.std.specs.Prelude.{◌≡◌, ◌<◌, List, [], ◌∷◌}
 use Rattle.dali_script.specs.declared.block.Block.{Block}
 use Rattle.dali_script.specs.declared.records.Record.{Record}
-use Rattle.dali_script.specs.Records.{Records, without_records, with_record, Fits, IsFresh, address_of}
+use Rattle.dali_script.specs.Records.{Kept, without_records, with_record, Fits, IsFresh, address_of}
 
 -- THE REPLAY of a list of records, oldest first: what is kept after them.
-abbrev pub replayed : Records → List Record → Records
-replayed k [] = k
-replayed k (x ∷ xs) = replayed (with_record k x) xs
+abbrev pub replay_of : Kept → List Record → Kept
+replay_of k [] = k
+replay_of k (x ∷ xs) = replay_of (with_record k x) xs
 
--- A record that may be added to what is kept: it fits the block, and neither its address nor its number stands in a record of its kind.
-pub record IsGood (k : Records) (x : Record) : Type 0 where
+-- A record that may be added to what is kept: it fits the block, and neither its address nor its
+-- number stands in a record of its kind.
+pub record IsGood (k : Kept) (x : Record) : Type 0 where
   pub short : address_of x < 64
   pub fits : Fits k.block x
   pub fresh : IsFresh k x
 
 -- each record may be added to what the ones before it leave
-abbrev pub AreGood : Records → List Record → Type 0
+abbrev pub AreGood : Kept → List Record → Type 0
 AreGood k [] = Unit {0}
 AreGood k (x ∷ xs) = IsGood k x × AreGood (with_record k x) xs
 
--- A store of this block that holds these records keeps this: each could be committed, and this is their replay.
-pub record IsReplay (b : Block) (xs : List Record) (k : Records) : Type 0 where
+-- A store of this block that holds these records keeps this: each could be committed, and this is
+-- their replay.
+pub record IsReplay (b : Block) (xs : List Record) (k : Kept) : Type 0 where
   pub good : AreGood (without_records b) xs
-  pub value : k ≡ replayed (without_records b) xs
+  pub value : k ≡ replay_of (without_records b) xs
 
 -- some records have this replay
-abbrev pub HasRecords : Records → Type 0
+abbrev pub HasRecords : Kept → Type 0
 HasRecords k = (xs : List Record) × IsReplay k.block xs k

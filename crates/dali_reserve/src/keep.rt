@@ -1,8 +1,11 @@
-ghost use Rattle.std.specs.Prelude.{◌≡◌, ◌↔◌, ◌⊎◌, Bool, true, false, List, [], ◌∷◌, ◌++◌, Ok, Err, OnOk, OnErr, IfOk, IfErr};
+ghost use Rattle.std.specs.Prelude.{◌≡◌, ◌↔◌, ◌⊎◌, Bool, true, false, List, [], ◌∷◌, ◌++◌, Ok, Err, OnOk, OnErr, IfOk};
+ghost use Rattle.std.specs.Prelude.{IfErr};
 ghost use Rattle.dali_script.specs.declared.block.Block.{Block};
 ghost use Rattle.dali_script.specs.declared.records.Record.{Record};
-ghost use Rattle.dali_script.specs.Records.{Records, without_records, Fits, HasAddress, HasNumber, same_kind, address_of, random_of, with_record};
-ghost use Rattle.dali_reserve.specs.declared.error.KeepError.TheVariants.{StoreFailed, AddressTaken, RandomTaken, BadStore};
+ghost use Rattle.dali_script.specs.Records.{Kept, without_records, Fits, HasAddress, HasRandom, same_kind, address_of};
+ghost use Rattle.dali_script.specs.Records.{random_of, with_record};
+ghost use Rattle.dali_reserve.specs.declared.error.KeepError.TheVariants.{StoreFailed, AddressTaken, RandomTaken};
+ghost use Rattle.dali_reserve.specs.declared.error.KeepError.TheVariants.{BadStore};
 ghost use Rattle.dali_reserve.specs.Refusals.{RefusesRead, RefusesCommit, IsTaken, HasFailed};
 ghost use Rattle.dali_reserve.specs.Store.{AreGood, IsReplay};
 
@@ -14,22 +17,22 @@ use std::alloc::Global;
 ///
 /// Contracts see the store by six ghost members:
 ///
-/// - `block`: the block of short addresses that the records are of. It never changes.
-/// - `holds`: the list of records, oldest first, that is stored.
-/// - `kept`: what the store knows of that list, as records that are kept: its replay (the law `replay`), unless `must_read`.
-/// - `must_read`: a commit failed, and no read has answered since. Then it isn't known whether its record is stored.
-/// - `is_sound`: a list is stored, and what the store knows of it is true. It stays so from call to call.
-/// - `is_up`: what lies under the store is open, and has so far given back what was written to it. Clauses on the list ask for it
-///   after a call, since a disk may fail within one; a later `is_up` says it of all calls before (the clauses `up`).
+/// - `block`: the block of short addresses that the records are of. It never changes. - `holds`: the list of records,
+/// oldest first, that is stored. - `kept`: what the store knows of that list, as records that are kept: its replay (the
+/// law `replay`), unless `must_read`. - `must_read`: a commit failed, and no read has answered since. Then it isn't
+/// known whether its record is stored. - `is_sound`: a list is stored, and what the store knows of it is true. It stays
+/// so from call to call. - `is_up`: what lies under the store is open, and has so far given back what was written to
+/// it. Clauses on the list ask for it after a call, since a disk may fail within one; a later `is_up` says it of all
+/// calls before (the clauses `up`).
 ///
-/// After an `Ok` of `read` the answer is `kept`, and of the store's block. After an `Ok` of `commit` the list has the record as its last.
-/// After a failed commit the list has the record or not, and the next `read` tells.
+/// After an `Ok` of `read` the answer is `kept`, and of the store's block. After an `Ok` of `commit` the list has the
+/// record as its last. After a failed commit the list has the record or not, and the next `read` tells.
 pub trait Keep {
     ghost block: { Self → Block };
 
     ghost holds: { Self → List Record → Type 0 };
 
-    ghost kept: { Self → Records };
+    ghost kept: { Self → Kept };
 
     ghost must_read: { Self → Bool };
 
@@ -53,12 +56,14 @@ pub trait Keep {
         ensures block { block self.new ≡ block self.old }
         ensures up { is_up self.new → is_up self.old }
         ensures sound { is_sound self.old → is_up self.new → is_sound self.new }
-        ensures same { is_sound self.old → is_up self.new → (xs : List Record) → holds self.old xs → holds self.new xs };
+        ensures same { is_sound self.old → is_up self.new → (xs : List Record) → holds self.old xs
+            → holds self.new xs };
 
     /// Adds a record as the last.
     ///
-    /// `StoreFailed` where a read is due, then `AddressTaken`, then `RandomTaken`, each among records of its kind: these add none.
-    /// A later `StoreFailed` or `NoMemory` leaves the list with the record or without it, and a read is due.
+    /// `StoreFailed` where a read is due, then `AddressTaken`, then `RandomTaken`, each among records of its kind:
+    /// these add none. A later `StoreFailed` or `NoMemory` leaves the list with the record or without it, and a read is
+    /// due.
     fn commit(&mut self, added: Record) -> Result<(), KeepError>
         requires { Fits (block self.old) added }
 
@@ -68,7 +73,7 @@ pub trait Keep {
         ensures random_taken { (result ≡ Err RandomTaken)
             ↔ ((must_read self.old ≡ false)
             × (HasAddress (same_kind (kept self.old) added) (address_of added) → ⊥)
-            × HasNumber (same_kind (kept self.old) added) (random_of added)) }
+            × HasRandom (same_kind (kept self.old) added) (random_of added)) }
         ensures refusal { IfErr result RefusesCommit }
 
         ensures ok { OnOk result ((kept self.new ≡ with_record (kept self.old) added) × (must_read self.new ≡ false)) }
@@ -87,5 +92,6 @@ pub trait Keep {
 
     ghost has_records: { (s : Self) → is_sound s → (xs : List Record) × holds s xs };
 
-    ghost replay: { (s : Self) (xs : List Record) → is_sound s → must_read s ≡ false → holds s xs → IsReplay (block s) xs (kept s) };
+    ghost replay: { (s : Self) (xs : List Record) → is_sound s → must_read s ≡ false → holds s xs
+        → IsReplay (block s) xs (kept s) };
 }

@@ -1,6 +1,8 @@
-ghost use Rattle.std.specs.Prelude.{◌≡◌, ◌↔◌, ◌⊎◌, true, false, List, [], ◌∷◌, ◌++◌, Ok, Err, IsTrue, IsOk, OnOk, OnErr, IfOk, IfErr};
+ghost use Rattle.std.specs.Prelude.{◌≡◌, ◌↔◌, ◌⊎◌, true, false, List, [], ◌∷◌, ◌++◌, Ok, Err, IsTrue, IsOk, OnOk};
+ghost use Rattle.std.specs.Prelude.{OnErr, IfOk, IfErr};
 ghost use Rattle.dali_script.specs.declared.records.Record.{Record};
-ghost use Rattle.dali_script.specs.Records.{without_records, Fits, IsFresh, HasAddress, HasNumber, same_kind, address_of, random_of, with_record};
+ghost use Rattle.dali_script.specs.Records.{without_records, Fits, IsFresh, HasAddress, HasRandom, same_kind};
+ghost use Rattle.dali_script.specs.Records.{address_of, random_of, with_record};
 ghost use Rattle.dali_reserve.specs.declared.error.KeepError.TheVariants.{NoMemory, AddressTaken, RandomTaken};
 
 use crate::error::KeepError;
@@ -18,10 +20,10 @@ pub struct MemoryKeep {
 }
 
 impl Model for MemoryKeep {
-    ghost use Rattle.dali_script.specs.Records.{Records};
+    ghost use Rattle.dali_script.specs.Records.{Kept};
     ghost use Rattle.dali_reserve.specs.Store.{HasRecords};
 
-    ghost Value = { Records };
+    ghost Value = { Kept };
 
     ghost view = { λ s. s.kept };
 
@@ -94,12 +96,14 @@ impl Keep for MemoryKeep {
         ensures address_taken { (result ≡ Err AddressTaken)
             ↔ HasAddress (same_kind self.old added) (address_of added) }
         ensures random_taken { (result ≡ Err RandomTaken)
-            ↔ ((HasAddress (same_kind self.old added) (address_of added) → ⊥) × HasNumber (same_kind self.old added) (random_of added)) }
+            ↔ ((HasAddress (same_kind self.old added) (address_of added) → ⊥)
+            × HasRandom (same_kind self.old added) (random_of added)) }
         ensures ok { OnOk result (self.new ≡ with_record self.old added) }
         ensures err { OnErr result (self.new ≡ self.old) }
 
         ensures refusal { IfErr result (λ e. (e ≡ AddressTaken) ⊎ (e ≡ RandomTaken)) }
-        ensures adds { OnOk result ((xs : List Record) → IsReplay self.old.block xs self.old → IsReplay self.new.block (xs ++ added ∷ []) self.new) }
+        ensures adds { OnOk result ((xs : List Record) → IsReplay self.old.block xs self.old
+            → IsReplay self.new.block (xs ++ added ∷ []) self.new) }
         ensures sound { HasRecords self.new }
     {
         match self.kept.add(added) {

@@ -5,7 +5,7 @@ use Rattle.std.proofs.lemmas.Bool.Decides.{nat_tests}
 use Rattle.dali_frame.specs.declared.numbers.SearchAddress.{SearchAddress}
 use Rattle.dali_frame.specs.Random.{value_of, MASK24}
 use Rattle.dali_script.specs.declared.block.Block.{Block}
-use Rattle.dali_script.specs.Records.{Assignment, Has, IsOnce, numbers, HasAddress, HasNumber, InBlock, IsMap, AllDrawn}
+use Rattle.dali_script.specs.Records.{Assignment, Has, IsOnce, randoms, HasAddress, HasRandom, InBlock, IsMap, AllDrawn}
 use Rattle.dali_script.specs.Scripts.{MayGive}
 use Rattle.dali_script.specs.Stages.{in_block, may_give, may_give_some}
 use Rattle.dali_script.proofs.Lists.{has_map}
@@ -51,11 +51,11 @@ member_by_any {A} test (y ∷ xs) e = go (either_true (test y) (list_any test xs
   go (inr more) later = let found = later more in (found.0, inr found.1, found.2)
 
 -- two pairs of one number are one pair
-pub one_address : (xs : List Assignment) (a c n : ℕ) → IsOnce (numbers xs) → Has xs (a, n) → Has xs (c, n) → a ≡ c
+pub one_address : (xs : List Assignment) (a c n : ℕ) → IsOnce (randoms xs) → Has xs (a, n) → Has xs (c, n) → a ≡ c
 one_address [] a c n once h k = elim h [ ]
 one_address (p ∷ xs) a c n once (inl e) (inl d) = ap (λ q. q.0) (sym e ∙ d)
-one_address (p ∷ xs) a c n once (inl e) (inr k) = absurd (once.0 (subst (λ m. Has (numbers xs) m) (ap (λ q. q.1) (sym e)) (has_map (λ q. q.1) xs (c, n) k)))
-one_address (p ∷ xs) a c n once (inr h) (inl d) = absurd (once.0 (subst (λ m. Has (numbers xs) m) (ap (λ q. q.1) (sym d)) (has_map (λ q. q.1) xs (a, n) h)))
+one_address (p ∷ xs) a c n once (inl e) (inr k) = absurd (once.0 (subst (λ m. Has (randoms xs) m) (ap (λ q. q.1) (sym e)) (has_map (λ q. q.1) xs (c, n) k)))
+one_address (p ∷ xs) a c n once (inr h) (inl d) = absurd (once.0 (subst (λ m. Has (randoms xs) m) (ap (λ q. q.1) (sym d)) (has_map (λ q. q.1) xs (a, n) h)))
 one_address (p ∷ xs) a c n once (inr h) (inr k) = one_address xs a c n once.1 h k
 
 moved : (xs : List Assignment) (a n : ℕ) (p : Assignment) → p.0 ≡ a → p.1 ≡ n → Has xs p → Has xs (a, n)
@@ -122,7 +122,7 @@ give_some b xs n c a m drawn within h = go (c == a) refl where
       let same : c ≡ a = one_address xs c a n m.number_once h (pair_of_test xs a n e) in
       grind (arith, nat_tests))))
 
-pub give_none : (b : Block) (xs : List Assignment) (n a : ℕ) → (HasNumber xs n → ⊥) → false ≡ may_give b xs n a
+pub give_none : (b : Block) (xs : List Assignment) (n a : ℕ) → (HasRandom xs n → ⊥) → false ≡ may_give b xs n a
 give_none b xs n a none = sym (not_second _ _ (false_of_not _ (λ e. none (has_map (λ q. q.1) xs (a, n) (pair_of_test xs a n e)))))
 
 pub give_some_to : (b : Block) (xs : List Assignment) (n c : ℕ) → IsMap xs → AllDrawn xs → ((d : ℕ) → HasAddress xs d → InBlock b d) → Has xs (c, n) → true ≡ may_give_some b xs n
@@ -131,18 +131,18 @@ give_some_to b xs n c m drawn within h = sym (both _ _ (below_by n MASK24 (drawn
       self : (k : ℕ) → (k == k) ≡ true
       self k = grind (arith, nat_tests)
 
-pub give_to_none : (b : Block) (xs : List Assignment) (n : ℕ) → (HasNumber xs n → ⊥) → false ≡ may_give_some b xs n
+pub give_to_none : (b : Block) (xs : List Assignment) (n : ℕ) → (HasRandom xs n → ⊥) → false ≡ may_give_some b xs n
 give_to_none b xs n none = sym (not_second _ _ (false_of_not _ (λ e. from (member_by_any (λ p. in_block b p.0 && (p.1 == n)) xs e)))) where
   from : ((p : Assignment) × Has xs p × ((in_block b p.0 && (p.1 == n)) ≡ true)) → ⊥
   from found =
       let numbered : (found.0.1 == n) ≡ true = second_of_both (in_block b found.0.0) (found.0.1 == n) found.2 in
-      none (subst (λ k. Has (numbers xs) k) (same found.0.1 numbered) (has_map (λ q. q.1) xs found.0 found.1))
+      none (subst (λ k. Has (randoms xs) k) (same found.0.1 numbered) (has_map (λ q. q.1) xs found.0 found.1))
     where
       same : (k : ℕ) → (k == n) ≡ true → k ≡ n
       same k t = grind (arith, nat_tests)
 
 pub goes_on_by : (b : Block) (xs : List Assignment) (n : ℕ) (o : Option ℕ) → IsMap xs → AllDrawn xs → ((d : ℕ) → HasAddress xs d → InBlock b d)
-    → MatchOption o (HasNumber xs n → ⊥) (λ c. Has xs (c, n)) → is_some o ≡ may_give_some b xs n
+    → MatchOption o (HasRandom xs n → ⊥) (λ c. Has xs (c, n)) → is_some o ≡ may_give_some b xs n
 goes_on_by b xs n None m drawn within h = give_to_none b xs n h
 goes_on_by b xs n (Some c) m drawn within h = give_some_to b xs n c m drawn within h
 

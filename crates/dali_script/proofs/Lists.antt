@@ -6,7 +6,7 @@ use Rattle.dali_frame.specs.Random.{MASK24}
 use Rattle.dali_script.specs.declared.block.Block.{Block}
 use Rattle.dali_script.specs.declared.records.Record.{Record}
 use Rattle.dali_script.specs.declared.records.Record.TheVariants.{Reserve, Enrol}
-use Rattle.dali_script.specs.Records.{Records, IsKept, without_records, Fits, IsFresh, address_of, with_record, Assignment, Has, IsOnce, addresses, numbers, HasAddress, HasNumber, InBlock, IsMap}
+use Rattle.dali_script.specs.Records.{Kept, IsKept, without_records, Fits, IsFresh, address_of, with_record, Assignment, Has, IsOnce, addresses, randoms, HasAddress, HasRandom, InBlock, IsMap}
 
 -- membership and an append
 pub has_last : {A : Type 0} (xs : List A) (x : A) → Has (xs ++ x ∷ []) x
@@ -116,15 +116,15 @@ all_after key P old new p (Err e) all one ok err = subst (λ xs. (n : ℕ) → H
 all_after key P old new p (Ok u) all one ok err = subst (λ xs. (n : ℕ) → Has (map key xs) n → P n) (sym ok) (all_more key P old p all one)
 
 -- a map with one more pair
-pub map_more : (xs : List Assignment) (a r : ℕ) → IsMap xs → (HasAddress xs a → ⊥) → (HasNumber xs r → ⊥) → a < 64 → IsMap (xs ++ (a, r) ∷ [])
+pub map_more : (xs : List Assignment) (a r : ℕ) → IsMap xs → (HasAddress xs a → ⊥) → (HasRandom xs r → ⊥) → a < 64 → IsMap (xs ++ (a, r) ∷ [])
 map_more xs a r m no_address no_number small =
     let there : addresses (xs ++ (a, r) ∷ []) ≡ addresses xs ++ a ∷ [] = map_append (λ p. p.0) xs (a, r) in
-    let of : numbers (xs ++ (a, r) ∷ []) ≡ numbers xs ++ r ∷ [] = map_append (λ p. p.1) xs (a, r) in
+    let of : randoms (xs ++ (a, r) ∷ []) ≡ randoms xs ++ r ∷ [] = map_append (λ p. p.1) xs (a, r) in
     let once : IsOnce (addresses (xs ++ (a, r) ∷ [])) = subst IsOnce (sym there) (once_more (addresses xs) a m.address_once no_address) in
     let short : (b : ℕ) → HasAddress (xs ++ (a, r) ∷ []) b → b < 64 = all_more (λ p. p.0) (λ n. n < 64) xs (a, r) m.short small in
     record {
       address_once = once;
-      number_once = subst IsOnce (sym of) (once_more (numbers xs) r m.number_once no_number);
+      number_once = subst IsOnce (sym of) (once_more (randoms xs) r m.number_once no_number);
       short = short;
       room =
           let few_addresses : length (addresses (xs ++ (a, r) ∷ [])) ≤ 64 = few 64 (addresses (xs ++ (a, r) ∷ [])) once short in
@@ -132,7 +132,7 @@ map_more xs a r m no_address no_number small =
     }
 
 -- so there is room for it
-pub room_more : (xs : List Assignment) (a r : ℕ) → IsMap xs → (HasAddress xs a → ⊥) → (HasNumber xs r → ⊥) → a < 64 → length xs < 64
+pub room_more : (xs : List Assignment) (a r : ℕ) → IsMap xs → (HasAddress xs a → ⊥) → (HasRandom xs r → ⊥) → a < 64 → length xs < 64
 room_more xs a r m no_address no_number small =
     let more : length (xs ++ (a, r) ∷ []) ≡ length xs + 1 = simp (length-append) in
     let room : length (xs ++ (a, r) ∷ []) ≤ 64 = (map_more xs a r m no_address no_number small).room in
@@ -150,7 +150,7 @@ pub address_found : (xs : List Assignment) (a : ℕ) (o : Option ℕ) → MatchO
 address_found xs a None none = (λ e. absurd (cc), λ h. absurd (none h))
 address_found xs a (Some r) here = (λ e. has_map (λ p. p.0) xs (a, r) here, λ h. refl)
 
-pub number_found : (xs : List Assignment) (r : ℕ) (o : Option ℕ) → MatchOption o (HasNumber xs r → ⊥) (λ a. Has xs (a, r)) → (is_some o ≡ true) ↔ HasNumber xs r
+pub number_found : (xs : List Assignment) (r : ℕ) (o : Option ℕ) → MatchOption o (HasRandom xs r → ⊥) (λ a. Has xs (a, r)) → (is_some o ≡ true) ↔ HasRandom xs r
 number_found xs r None none = (λ e. absurd (cc), λ h. absurd (none h))
 number_found xs r (Some a) here = (λ e. has_map (λ p. p.1) xs (a, r) here, λ h. refl)
 
@@ -178,7 +178,7 @@ map_none = record { address_once = tt; number_once = tt; short = λ a h. absurd 
 pub kept_none : (b : Block) → IsKept (without_records b)
 kept_none b = record { reserved = map_none; enrolled = map_none; reserved_drawn = λ r h. absurd h; enrolled_drawn = λ r h. absurd h; within = λ c h. absurd h }
 
-pub kept_more : (k : Records) (x : Record) → IsKept k → Fits k.block x → address_of x < 64 → IsFresh k x → IsKept (with_record k x)
+pub kept_more : (k : Kept) (x : Record) → IsKept k → Fits k.block x → address_of x < 64 → IsFresh k x → IsKept (with_record k x)
 kept_more k (Reserve a r) m fits small fresh = record {
   reserved = map_more k.reserved a r m.reserved fresh.0 fresh.1 small;
   enrolled = m.enrolled;

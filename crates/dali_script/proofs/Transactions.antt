@@ -19,7 +19,7 @@ use Rattle.dali_script.specs.declared.stage.Stage.{Stage}
 use Rattle.dali_script.specs.declared.stage.Stage.TheVariants.{Free, Terminated, InitialisedOnce, Initialised, RandomisedOnce, Opened, HighSent, MiddleSent, NumberSent, Probed, Found, Unnamed, Inconclusive, Programmed, Confirmed, Withdrawn, Over}
 use Rattle.dali_script.specs.Records.{Assignment, HasAddress}
 use Rattle.dali_script.specs.Scripts.{no_address, some_address, address, IsHeard, Step, sends, queries, search_at, Script, Open, Probe, Look, Give, Close, ArcPower, steps, MayGive, MaySend, IsFront, Lawful, IsLawful, IsFirst, IsComplete, IsFrame, GoesOn}
-use Rattle.dali_script.specs.Findings.{search_after, at_power_on, searched_from, searched, found_by, later, finding_from, finding_of}
+use Rattle.dali_script.specs.Findings.{search_after, at_power_on, search_from, search_of, found_by, later, finding_from, finding_of}
 use Rattle.dali_script.proofs.Lists.{has_map}
 use Rattle.dali_script.proofs.Giving.{first_of_both, second_of_both, may_give_by, may_give_from, may_give_some_by, may_give_some_from}
 use Rattle.dali_script.specs.Stages.{leads, given, may_give_if, follows, may_follow, named, queried, answered, verified, next_stage, stage_from, stage_of, Follows, finding_at, IsSearched, IsTrace}
@@ -293,11 +293,11 @@ pub stage_none : stage_of [] ≡ Free
 unfolding stage_of
 stage_none = refl
 
-searched_from_more : (r : SearchAddress) (t : List Entry) (e : Entry) → searched_from r (t ++ e ∷ []) ≡ search_after (command_of e.frame) (searched_from r t)
+searched_from_more : (r : SearchAddress) (t : List Entry) (e : Entry) → search_from r (t ++ e ∷ []) ≡ search_after (command_of e.frame) (search_from r t)
 searched_from_more r [] e = refl
 searched_from_more r (x ∷ t) e = searched_from_more (search_after (command_of x.frame) r) t e
 
-pub searched_more : (t : List Entry) (e : Entry) → searched (t ++ e ∷ []) ≡ search_after (command_of e.frame) (searched t)
+pub searched_more : (t : List Entry) (e : Entry) → search_of (t ++ e ∷ []) ≡ search_after (command_of e.frame) (search_of t)
 searched_more t e = searched_from_more at_power_on t e
 
 later_none : (o : Option Assignment) → later o None ≡ o
@@ -312,13 +312,13 @@ later_later o p None = refl
 later_later o p (Some x) = refl
 
 finding_from_more : (r : SearchAddress) (t : List Entry) (e : Entry)
-    → finding_from r (t ++ e ∷ []) ≡ later (finding_from r t) (found_by (searched_from r t) (command_of e.frame) e.heard)
+    → finding_from r (t ++ e ∷ []) ≡ later (finding_from r t) (found_by (search_from r t) (command_of e.frame) e.heard)
 finding_from_more r [] e = sym (none_later (found_by r (command_of e.frame) e.heard))
 finding_from_more r (x ∷ t) e =
     ap (λ o. later (found_by r (command_of x.frame) x.heard) o) (finding_from_more (search_after (command_of x.frame) r) t e)
-    ∙ later_later (found_by r (command_of x.frame) x.heard) (finding_from (search_after (command_of x.frame) r) t) (found_by (searched_from (search_after (command_of x.frame) r) t) (command_of e.frame) e.heard)
+    ∙ later_later (found_by r (command_of x.frame) x.heard) (finding_from (search_after (command_of x.frame) r) t) (found_by (search_from (search_after (command_of x.frame) r) t) (command_of e.frame) e.heard)
 
-pub finding_more : (t : List Entry) (e : Entry) → finding_of (t ++ e ∷ []) ≡ later (finding_of t) (found_by (searched t) (command_of e.frame) e.heard)
+pub finding_more : (t : List Entry) (e : Entry) → finding_of (t ++ e ∷ []) ≡ later (finding_of t) (found_by (search_of t) (command_of e.frame) e.heard)
 finding_more t e = finding_from_more at_power_on t e
 
 -- what a stage says, after one more frame
@@ -382,8 +382,8 @@ trace_more s t f h lawful k =
     let b : Block = lawful.0 in
     let xs : List Assignment = lawful.1 in
     let follows : Follows b xs s (command_of f) = subst (λ x. Follows b xs x (command_of f)) (sym k.stage) (follows_lawful b xs t f lawful.2) in
-    let says : Says s (searched t) (finding_of t) = record { searched = k.searched; finding = k.finding } in
-    let more = says_more b xs s (command_of f) h (searched t) (finding_of t) follows says in
+    let says : Says s (search_of t) (finding_of t) = record { searched = k.searched; finding = k.finding } in
+    let more = says_more b xs s (command_of f) h (search_of t) (finding_of t) follows says in
     let e : Entry = record { frame = f; heard = h } in
     record {
       stage = ap (λ x. next_stage x (command_of f) h) k.stage ∙ sym (stage_more t e);
@@ -414,7 +414,7 @@ room b xs t f lawful =
 
 -- WHAT A FRONT OF A SCRIPT SAYS
 says_from : (b : Block) (xs : List Assignment) (t : List Entry) (s : Stage) (f : Forward) (ss : List Step) (r : SearchAddress) (found : Option Assignment)
-    → IsFront t f ss → Tracks b xs s ss → Says s r found → Says (stage_from s t) (searched_from r t) (later found (finding_from r t))
+    → IsFront t f ss → Tracks b xs s ss → Says s r found → Says (stage_from s t) (search_from r t) (later found (finding_from r t))
 unfolding Tracks
 says_from b xs [] s f [] r found front tr k = absurd front
 says_from b xs (e ∷ t) s f [] r found front tr k = absurd front
@@ -432,14 +432,14 @@ says_from b xs (e ∷ t) s f (step ∷ more) r found front tr k =
       finding = later_later found (found_by r (command_of e.frame) e.heard) (finding_from (search_after (command_of e.frame) r) t) ∙ later_on.finding;
     }
 
-says_lawful : (b : Block) (xs : List Assignment) (t : List Entry) (f : Forward) → Lawful b xs t f → Says (stage_of t) (searched t) (finding_of t)
+says_lawful : (b : Block) (xs : List Assignment) (t : List Entry) (f : Forward) → Lawful b xs t f → Says (stage_of t) (search_of t) (finding_of t)
 unfolding stage_of
 says_lawful b xs t f lawful =
     let says = says_from b xs t Free f (steps lawful.0) at_power_on None lawful.2 (tracks b xs lawful.0 lawful.1) (record { searched = tt; finding = refl }) in
     record { searched = says.searched; finding = sym (none_later (finding_of t)) ∙ says.finding }
 
 -- the stage's search address is what the frames have set
-pub searched_lawful : (b : Block) (xs : List Assignment) (t : List Entry) (f : Forward) → Lawful b xs t f → IsSearched (stage_of t) (searched t)
+pub searched_lawful : (b : Block) (xs : List Assignment) (t : List Entry) (f : Forward) → Lawful b xs t f → IsSearched (stage_of t) (search_of t)
 searched_lawful b xs t f lawful = (says_lawful b xs t f lawful).searched
 
 -- the stage's finding is that of the trace
@@ -447,15 +447,15 @@ pub finding_lawful : (b : Block) (xs : List Assignment) (t : List Entry) (f : Fo
 finding_lawful b xs t f lawful = (says_lawful b xs t f lawful).finding
 
 -- the same after one more frame
-says_after : (b : Block) (xs : List Assignment) (t : List Entry) (e : Entry) → Lawful b xs t e.frame → Says (stage_of (t ++ e ∷ [])) (searched (t ++ e ∷ [])) (finding_of (t ++ e ∷ []))
+says_after : (b : Block) (xs : List Assignment) (t : List Entry) (e : Entry) → Lawful b xs t e.frame → Says (stage_of (t ++ e ∷ [])) (search_of (t ++ e ∷ [])) (finding_of (t ++ e ∷ []))
 says_after b xs t e lawful =
-    let more = says_more b xs (stage_of t) (command_of e.frame) e.heard (searched t) (finding_of t) (follows_lawful b xs t e.frame lawful) (says_lawful b xs t e.frame lawful) in
+    let more = says_more b xs (stage_of t) (command_of e.frame) e.heard (search_of t) (finding_of t) (follows_lawful b xs t e.frame lawful) (says_lawful b xs t e.frame lawful) in
     record {
-      searched = subst (λ s. IsSearched s (searched (t ++ e ∷ []))) (sym (stage_more t e)) (subst (λ r. IsSearched (next_stage (stage_of t) (command_of e.frame) e.heard) r) (sym (searched_more t e)) more.searched);
+      searched = subst (λ s. IsSearched s (search_of (t ++ e ∷ []))) (sym (stage_more t e)) (subst (λ r. IsSearched (next_stage (stage_of t) (command_of e.frame) e.heard) r) (sym (searched_more t e)) more.searched);
       finding = finding_more t e ∙ more.finding ∙ ap finding_at (sym (stage_more t e));
     }
 
-pub searched_after : (b : Block) (xs : List Assignment) (t : List Entry) (e : Entry) → Lawful b xs t e.frame → IsSearched (stage_of (t ++ e ∷ [])) (searched (t ++ e ∷ []))
+pub searched_after : (b : Block) (xs : List Assignment) (t : List Entry) (e : Entry) → Lawful b xs t e.frame → IsSearched (stage_of (t ++ e ∷ [])) (search_of (t ++ e ∷ []))
 searched_after b xs t e lawful = (says_after b xs t e lawful).searched
 
 pub finding_after : (b : Block) (xs : List Assignment) (t : List Entry) (e : Entry) → Lawful b xs t e.frame → finding_of (t ++ e ∷ []) ≡ finding_at (stage_of (t ++ e ∷ []))

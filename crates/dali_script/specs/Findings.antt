@@ -5,7 +5,8 @@ use Rattle.dali_frame.specs.declared.numbers.SearchAddress.{SearchAddress}
 use Rattle.dali_frame.specs.Short.{short_of}
 use Rattle.dali_frame.specs.Random.{value_of}
 use Rattle.dali_special.specs.declared.command.Command.{Command}
-use Rattle.dali_special.specs.declared.command.Command.TheVariants.{SearchHigh, SearchMiddle, SearchLow, QueryShort}
+use Rattle.dali_special.specs.declared.command.Command.TheVariants.{SearchHigh, SearchMiddle}
+use Rattle.dali_special.specs.declared.command.Command.TheVariants.{SearchLow, QueryShort}
 use Rattle.dali_special.specs.Command.{command_of}
 use Rattle.dali_script.specs.declared.trace.Entry.{Entry}
 use Rattle.dali_script.specs.Records.{Assignment}
@@ -21,15 +22,16 @@ search_after _ r = r
 abbrev pub at_power_on : SearchAddress
 at_power_on = record { high = 0xFF; middle = 0xFF; low = 0xFF }
 
-abbrev pub searched_from : SearchAddress → List Entry → SearchAddress
-searched_from r [] = r
-searched_from r (e ∷ t) = searched_from (search_after (command_of e.frame) r) t
+abbrev pub search_from : SearchAddress → List Entry → SearchAddress
+search_from r [] = r
+search_from r (e ∷ t) = search_from (search_after (command_of e.frame) r) t
 
 -- the search address that the frames of a trace have set
-abbrev pub searched : List Entry → SearchAddress
-searched t = searched_from at_power_on t
+abbrev pub search_of : List Entry → SearchAddress
+search_of t = search_from at_power_on t
 
--- A FINDING: a QUERY SHORT ADDRESS under a search address that was heard as the code of a short address.
+-- A FINDING: a QUERY SHORT ADDRESS under a search address that was heard as the code of a short
+-- address.
 abbrev pub found_by : SearchAddress → Command → Answer → Option Assignment
 found_by r QueryShort (Byte v) = option_map (λ b. (b, value_of r)) (short_of v)
 found_by r _ _ = None
@@ -41,7 +43,9 @@ later earlier (Some found) = Some found
 
 abbrev pub finding_from : SearchAddress → List Entry → Option Assignment
 finding_from r [] = None
-finding_from r (e ∷ t) = later (found_by r (command_of e.frame) e.heard) (finding_from (search_after (command_of e.frame) r) t)
+finding_from r (e ∷ t) =
+    later (found_by r (command_of e.frame) e.heard)
+    (finding_from (search_after (command_of e.frame) r) t)
 
 -- the last finding of a trace
 abbrev pub finding_of : List Entry → Option Assignment

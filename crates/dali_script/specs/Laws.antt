@@ -1,74 +1,124 @@
-use Rattle.std.specs.Prelude.{◌≡◌, ℕ, ◌<◌, ◌↔◌, ◌⊎◌, true, false, List, [], ◌∷◌, ◌++◌, Option, Some, length}
+use Rattle.std.specs.Prelude.{◌≡◌, ℕ, ◌<◌, ◌↔◌, ◌⊎◌, true, false, List, [], ◌∷◌, ◌++◌, Option, Some}
+use Rattle.std.specs.Prelude.{length}
 use Rattle.dali_frame.specs.declared.frames.Forward.{Forward}
 use Rattle.dali_frame.specs.declared.numbers.SearchAddress.{SearchAddress}
 use Rattle.dali_special.specs.declared.command.Target.{Target}
 use Rattle.dali_special.specs.declared.command.Target.TheVariants.{Unaddressed}
 use Rattle.dali_special.specs.declared.command.Command.{Command}
-use Rattle.dali_special.specs.declared.command.Command.TheVariants.{Terminate, Initialise, Randomise, Compare, Withdraw, SearchHigh, Program, QueryShort, Arc}
+use Rattle.dali_special.specs.declared.command.Command.TheVariants.{Terminate, Initialise}
+use Rattle.dali_special.specs.declared.command.Command.TheVariants.{Randomise, Compare, Withdraw}
+use Rattle.dali_special.specs.declared.command.Command.TheVariants.{SearchHigh, Program, QueryShort}
+use Rattle.dali_special.specs.declared.command.Command.TheVariants.{Arc}
 use Rattle.dali_special.specs.Command.{command_of}
 use Rattle.dali_script.specs.declared.block.Block.{Block}
 use Rattle.dali_script.specs.declared.trace.Entry.{Entry}
 use Rattle.dali_script.specs.declared.records.Record.{Record}
 use Rattle.dali_script.specs.declared.stage.Stage.{Stage}
-use Rattle.dali_script.specs.declared.stage.Stage.TheVariants.{Free, Terminated, InitialisedOnce, Initialised, RandomisedOnce, NumberSent, Found, Unnamed, Programmed, Confirmed}
-use Rattle.dali_script.specs.Records.{Assignment, Records, Has, HasAddress, IsMap, IsKept, Fits, IsFresh, address_of, without_records, with_record}
+use Rattle.dali_script.specs.declared.stage.Stage.TheVariants.{Free, Terminated, InitialisedOnce}
+use Rattle.dali_script.specs.declared.stage.Stage.TheVariants.{Initialised, RandomisedOnce}
+use Rattle.dali_script.specs.declared.stage.Stage.TheVariants.{NumberSent, Found, Unnamed}
+use Rattle.dali_script.specs.declared.stage.Stage.TheVariants.{Programmed, Confirmed}
+use Rattle.dali_script.specs.Records.{Assignment, Kept, Has, HasAddress, IsMap, IsKept, Fits}
+use Rattle.dali_script.specs.Records.{IsFresh, address_of, without_records, with_record}
 use Rattle.dali_script.specs.Scripts.{Lawful, IsFirst, MayGive, IsComplete, GoesOn}
-use Rattle.dali_script.specs.Findings.{search_after, searched, found_by, later, finding_of}
-use Rattle.dali_script.specs.Stages.{Follows, follows, may_follow, next_stage, stage_of, finding_at, IsSearched}
+use Rattle.dali_script.specs.Findings.{search_after, search_of, found_by, later, finding_of}
+use Rattle.dali_script.specs.Stages.{Follows, follows, may_follow, next_stage, stage_of, finding_at}
+use Rattle.dali_script.specs.Stages.{IsSearched}
 
--- What a front of a script says, in the words that a site and a machine use. Each is proved: see the module `laws`.
+-- What a front of a script says, in the words that a site and a machine use. Each is proved: see
+-- the module `laws`.
 
 -- A frame may follow a trace exactly where its command follows at the stage of the trace.
 pub record LawfulFramesFollowAtTheStage : Type 0 where
-  pub at_stage : (b : Block) (xs : List Assignment) (t : List Entry) (f : Forward) → Lawful b xs t f → Follows b xs (stage_of t) (command_of f)
-  pub from_stage : (b : Block) (xs : List Assignment) (t : List Entry) (f : Forward) → Follows b xs (stage_of t) (command_of f) → Lawful b xs t f
-  pub as_test : (b : Block) (xs : List Assignment) (s : Stage) (c : Command) → (follows b xs s c ≡ true) ↔ Follows b xs s c
+  pub at_stage : (b : Block) (xs : List Assignment) (t : List Entry) (f : Forward) → Lawful b xs t f
+      → Follows b xs (stage_of t) (command_of f)
+  pub from_stage : (b : Block) (xs : List Assignment) (t : List Entry) (f : Forward)
+      → Follows b xs (stage_of t) (command_of f) → Lawful b xs t f
+  pub as_test : (b : Block) (xs : List Assignment) (s : Stage) (c : Command)
+      → (follows b xs s c ≡ true) ↔ Follows b xs s c
 
 -- The stage, the search address and the finding of a trace with one more frame.
 pub record TracesGrowByAFrame : Type 0 where
   pub none : stage_of [] ≡ Free
   pub free : (t : List Entry) → stage_of t ≡ Free → t ≡ []
-  pub stage : (t : List Entry) (e : Entry) → stage_of (t ++ e ∷ []) ≡ next_stage (stage_of t) (command_of e.frame) e.heard
-  pub search : (t : List Entry) (e : Entry) → searched (t ++ e ∷ []) ≡ search_after (command_of e.frame) (searched t)
-  pub found : (t : List Entry) (e : Entry) → finding_of (t ++ e ∷ []) ≡ later (finding_of t) (found_by (searched t) (command_of e.frame) e.heard)
+  pub stage : (t : List Entry) (e : Entry)
+      → stage_of (t ++ e ∷ []) ≡ next_stage (stage_of t) (command_of e.frame) e.heard
+  pub search : (t : List Entry) (e : Entry)
+      → search_of (t ++ e ∷ []) ≡ search_after (command_of e.frame) (search_of t)
+  pub found : (t : List Entry) (e : Entry)
+      → finding_of (t ++ e ∷ [])
+      ≡ later (finding_of t) (found_by (search_of t) (command_of e.frame) e.heard)
 
--- The stage of a lawful trace has the search address and the finding of the trace, before and after a lawful frame.
+-- The stage of a lawful trace has the search address and the finding of the trace, before and after
+-- a lawful frame.
 pub record StagesSayWhatWasSentAndFound : Type 0 where
-  pub search : (b : Block) (xs : List Assignment) (t : List Entry) (f : Forward) → Lawful b xs t f → IsSearched (stage_of t) (searched t)
-  pub found : (b : Block) (xs : List Assignment) (t : List Entry) (f : Forward) → Lawful b xs t f → finding_of t ≡ finding_at (stage_of t)
-  pub searched_after : (b : Block) (xs : List Assignment) (t : List Entry) (e : Entry) → Lawful b xs t e.frame → IsSearched (stage_of (t ++ e ∷ [])) (searched (t ++ e ∷ []))
-  pub finding_after : (b : Block) (xs : List Assignment) (t : List Entry) (e : Entry) → Lawful b xs t e.frame → finding_of (t ++ e ∷ []) ≡ finding_at (stage_of (t ++ e ∷ []))
+  pub search : (b : Block) (xs : List Assignment) (t : List Entry) (f : Forward) → Lawful b xs t f
+      → IsSearched (stage_of t) (search_of t)
+  pub found : (b : Block) (xs : List Assignment) (t : List Entry) (f : Forward) → Lawful b xs t f
+      → finding_of t ≡ finding_at (stage_of t)
+  pub searched_after : (b : Block) (xs : List Assignment) (t : List Entry) (e : Entry)
+      → Lawful b xs t e.frame → IsSearched (stage_of (t ++ e ∷ [])) (search_of (t ++ e ∷ []))
+  pub finding_after : (b : Block) (xs : List Assignment) (t : List Entry) (e : Entry)
+      → Lawful b xs t e.frame → finding_of (t ++ e ∷ []) ≡ finding_at (stage_of (t ++ e ∷ []))
 
--- A transaction begins with TERMINATE, SEARCHADDRH or direct arc power, and none of these comes later in one.
+-- A transaction begins with TERMINATE, SEARCHADDRH or direct arc power, and none of these comes
+-- later in one.
 pub record TransactionsBeginOnce : Type 0 where
   pub begins : (b : Block) (xs : List Assignment) (f : Forward) → Lawful b xs [] f ↔ IsFirst f
-  pub first : (f : Forward) → IsFirst f ↔ ((command_of f ≡ Terminate) ⊎ (((high : ℕ) × (command_of f ≡ SearchHigh high)) ⊎ ((g : Forward) × (command_of f ≡ Arc g))))
-  pub terminate : (b : Block) (xs : List Assignment) (t : List Entry) (f : Forward) → Lawful b xs t f → command_of f ≡ Terminate → t ≡ []
-  pub search_high : (b : Block) (xs : List Assignment) (t : List Entry) (f : Forward) (high : ℕ) → Lawful b xs t f → command_of f ≡ SearchHigh high → t ≡ []
-  pub arc : (b : Block) (xs : List Assignment) (t : List Entry) (f g : Forward) → Lawful b xs t f → command_of f ≡ Arc g → t ≡ []
+  pub first : (f : Forward)
+      → IsFirst f ↔ ((command_of f ≡ Terminate)
+      ⊎ (((high : ℕ) × (command_of f ≡ SearchHigh high))
+      ⊎ ((g : Forward) × (command_of f ≡ Arc g))))
+  pub terminate : (b : Block) (xs : List Assignment) (t : List Entry) (f : Forward)
+      → Lawful b xs t f → command_of f ≡ Terminate → t ≡ []
+  pub search_high : (b : Block) (xs : List Assignment) (t : List Entry) (f : Forward) (high : ℕ)
+      → Lawful b xs t f → command_of f ≡ SearchHigh high → t ≡ []
+  pub arc : (b : Block) (xs : List Assignment) (t : List Entry) (f g : Forward) → Lawful b xs t f
+      → command_of f ≡ Arc g → t ≡ []
 
--- INITIALISE, for gear without short address alone, and RANDOMISE come only after TERMINATE, in an opening.
+-- INITIALISE, for gear without short address alone, and RANDOMISE come only after TERMINATE, in an
+-- opening.
 pub record OpeningsBeginWithTerminate : Type 0 where
-  pub initialise : (b : Block) (xs : List Assignment) (t : List Entry) (f : Forward) (g : Target) → Lawful b xs t f → command_of f ≡ Initialise g → (g ≡ Unaddressed) × ((stage_of t ≡ Terminated) ⊎ (stage_of t ≡ InitialisedOnce))
-  pub randomise : (b : Block) (xs : List Assignment) (t : List Entry) (f : Forward) → Lawful b xs t f → command_of f ≡ Randomise → (stage_of t ≡ Initialised) ⊎ (stage_of t ≡ RandomisedOnce)
+  pub initialise : (b : Block) (xs : List Assignment) (t : List Entry) (f : Forward) (g : Target)
+      → Lawful b xs t f → command_of f ≡ Initialise g
+      → (g ≡ Unaddressed) × ((stage_of t ≡ Terminated) ⊎ (stage_of t ≡ InitialisedOnce))
+  pub randomise : (b : Block) (xs : List Assignment) (t : List Entry) (f : Forward)
+      → Lawful b xs t f → command_of f ≡ Randomise → (stage_of t ≡ Initialised)
+      ⊎ (stage_of t ≡ RandomisedOnce)
 
--- COMPARE, QUERY SHORT ADDRESS, PROGRAM SHORT ADDRESS and WITHDRAW come only after all three search commands;
--- PROGRAM of an address only where gear without short address answered, and with what is reserved for their number.
+-- COMPARE, QUERY SHORT ADDRESS, PROGRAM SHORT ADDRESS and WITHDRAW come only after all three search
+-- commands; PROGRAM of an address only where gear without short address answered, and with what is
+-- reserved for their number.
 pub record GearAreSearchedAnew : Type 0 where
-  pub compare : (b : Block) (xs : List Assignment) (t : List Entry) (f : Forward) → Lawful b xs t f → command_of f ≡ Compare → (r : SearchAddress) × (stage_of t ≡ NumberSent r)
-  pub query : (b : Block) (xs : List Assignment) (t : List Entry) (f : Forward) → Lawful b xs t f → command_of f ≡ QueryShort → (r : SearchAddress) × ((stage_of t ≡ NumberSent r) ⊎ ((a : ℕ) × (stage_of t ≡ Programmed r a) × MayGive b xs r a))
-  pub program : (b : Block) (xs : List Assignment) (t : List Entry) (f : Forward) (o : Option ℕ) → Lawful b xs t f → command_of f ≡ Program o → (a : ℕ) × (r : SearchAddress) × (o ≡ Some a) × (stage_of t ≡ Unnamed r) × MayGive b xs r a
-  pub withdraw : (b : Block) (xs : List Assignment) (t : List Entry) (f : Forward) → Lawful b xs t f → command_of f ≡ Withdraw → (r : SearchAddress) × (a : ℕ) × ((stage_of t ≡ Found r a) ⊎ ((stage_of t ≡ Confirmed r a) × MayGive b xs r a))
+  pub compare : (b : Block) (xs : List Assignment) (t : List Entry) (f : Forward) → Lawful b xs t f
+      → command_of f ≡ Compare → (r : SearchAddress) × (stage_of t ≡ NumberSent r)
+  pub query : (b : Block) (xs : List Assignment) (t : List Entry) (f : Forward) → Lawful b xs t f
+      → command_of f ≡ QueryShort
+      → (r : SearchAddress)
+      × ((stage_of t ≡ NumberSent r) ⊎ ((a : ℕ) × (stage_of t ≡ Programmed r a) × MayGive b xs r a))
+  pub program : (b : Block) (xs : List Assignment) (t : List Entry) (f : Forward) (o : Option ℕ)
+      → Lawful b xs t f → command_of f ≡ Program o
+      → (a : ℕ) × (r : SearchAddress) × (o ≡ Some a) × (stage_of t ≡ Unnamed r) × MayGive b xs r a
+  pub withdraw : (b : Block) (xs : List Assignment) (t : List Entry) (f : Forward) → Lawful b xs t f
+      → command_of f ≡ Withdraw
+      → (r : SearchAddress) × (a : ℕ)
+      × ((stage_of t ≡ Found r a) ⊎ ((stage_of t ≡ Confirmed r a) × MayGive b xs r a))
 
--- No script has more than seven frames; and where the test says so, no frame may follow, else one may.
+-- No script has more than seven frames; and where the test says so, no frame may follow, else one
+-- may.
 pub record TransactionsEnd : Type 0 where
-  pub room : (b : Block) (xs : List Assignment) (t : List Entry) (f : Forward) → Lawful b xs t f → length t < 7
-  pub complete : (b : Block) (xs : List Assignment) (t : List Entry) → may_follow b xs (stage_of t) ≡ false → IsComplete b xs t
-  pub goes_on : (b : Block) (xs : List Assignment) (t : List Entry) → ((a : ℕ) → HasAddress xs a → a < 64) → may_follow b xs (stage_of t) ≡ true → GoesOn b xs t
+  pub room : (b : Block) (xs : List Assignment) (t : List Entry) (f : Forward) → Lawful b xs t f
+      → length t < 7
+  pub complete : (b : Block) (xs : List Assignment) (t : List Entry)
+      → may_follow b xs (stage_of t) ≡ false → IsComplete b xs t
+  pub goes_on : (b : Block) (xs : List Assignment) (t : List Entry)
+      → ((a : ℕ) → HasAddress xs a → a < 64) → may_follow b xs (stage_of t) ≡ true → GoesOn b xs t
 
 -- What holds of all records that are kept holds of none, and of one more that fits and is fresh;
 -- and a number has one address.
 pub record RecordsStayKept : Type 0 where
   pub none : (b : Block) → IsKept (without_records b)
-  pub more : (k : Records) (x : Record) → IsKept k → Fits k.block x → address_of x < 64 → IsFresh k x → IsKept (with_record k x)
-  pub one_address : (xs : List Assignment) (a c n : ℕ) → IsMap xs → Has xs (a, n) → Has xs (c, n) → a ≡ c
+  pub more : (k : Kept) (x : Record) → IsKept k → Fits k.block x → address_of x < 64 → IsFresh k x
+      → IsKept (with_record k x)
+  pub one_address : (xs : List Assignment) (a c n : ℕ) → IsMap xs → Has xs (a, n) → Has xs (c, n)
+      → a ≡ c

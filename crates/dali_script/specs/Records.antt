@@ -8,14 +8,14 @@ use Rattle.dali_script.specs.declared.records.Record.TheVariants.{Reserve, Enrol
 abbrev pub Assignment : Type 0
 Assignment = ℕ × ℕ
 
--- What a controller keeps: its block of short addresses, and its reservations and enrolments, each in the order of their
--- records.
-pub record Records : Type 0 where
+-- What a controller keeps: its block of short addresses, and its reservations and enrolments, each
+-- in the order of their records.
+pub record Kept : Type 0 where
   pub block : Block
   pub reserved : List Assignment
   pub enrolled : List Assignment
 
-abbrev pub without_records : Block → Records
+abbrev pub without_records : Block → Kept
 without_records b = record { block = b; reserved = []; enrolled = [] }
 
 -- the value stands in the list
@@ -31,33 +31,33 @@ IsOnce (x ∷ xs) = (Has xs x → ⊥) × IsOnce xs
 abbrev pub addresses : List Assignment → List ℕ
 addresses xs = map (λ p. p.0) xs
 
-abbrev pub numbers : List Assignment → List ℕ
-numbers xs = map (λ p. p.1) xs
+abbrev pub randoms : List Assignment → List ℕ
+randoms xs = map (λ p. p.1) xs
 
 abbrev pub HasAddress : List Assignment → ℕ → Type 0
 HasAddress xs a = Has (addresses xs) a
 
-abbrev pub HasNumber : List Assignment → ℕ → Type 0
-HasNumber xs r = Has (numbers xs) r
+abbrev pub HasRandom : List Assignment → ℕ → Type 0
+HasRandom xs r = Has (randoms xs) r
 
 -- the short address lies in the block
 abbrev pub InBlock : Block → ℕ → Type 0
 InBlock b a = (b.first ≤ a) × (a ≤ b.last)
 
--- An ordered map of short addresses to random addresses, both ways: each address once, each number once; there are 64
--- addresses.
+-- An ordered map of short addresses to random addresses, both ways: each address once, each number
+-- once; there are 64 addresses.
 pub record IsMap (xs : List Assignment) : Type 0 where
   pub address_once : IsOnce (addresses xs)
-  pub number_once : IsOnce (numbers xs)
+  pub number_once : IsOnce (randoms xs)
   pub short : (a : ℕ) → HasAddress xs a → a < 64
   pub room : length xs ≤ 64
 
 -- the random addresses are ones that gear draw
 abbrev pub AllDrawn : List Assignment → Type 0
-AllDrawn xs = (r : ℕ) → HasNumber xs r → r < MASK24
+AllDrawn xs = (r : ℕ) → HasRandom xs r → r < MASK24
 
 -- What holds of all records that are kept.
-pub record IsKept (k : Records) : Type 0 where
+pub record IsKept (k : Kept) : Type 0 where
   pub reserved : IsMap k.reserved
   pub enrolled : IsMap k.enrolled
   pub reserved_drawn : AllDrawn k.reserved
@@ -70,7 +70,7 @@ Fits b (Reserve a r) = InBlock b a × (r < MASK24)
 Fits b (Enrol a r) = r < MASK24
 
 -- the records of a record's kind, and its pair
-abbrev pub same_kind : Records → Record → List Assignment
+abbrev pub same_kind : Kept → Record → List Assignment
 same_kind k (Reserve a r) = k.reserved
 same_kind k (Enrol a r) = k.enrolled
 
@@ -83,11 +83,12 @@ random_of (Reserve a r) = r
 random_of (Enrol a r) = r
 
 -- neither the address nor the number stands in a record of its kind
-abbrev pub IsFresh : Records → Record → Type 0
-IsFresh k x = (HasAddress (same_kind k x) (address_of x) → ⊥) × (HasNumber (same_kind k x) (random_of x) → ⊥)
+abbrev pub IsFresh : Kept → Record → Type 0
+IsFresh k x =
+    (HasAddress (same_kind k x) (address_of x) → ⊥) × (HasRandom (same_kind k x) (random_of x) → ⊥)
 
 -- the records with one more
-abbrev pub with_record : Records → Record → Records
+abbrev pub with_record : Kept → Record → Kept
 with_record k (Reserve a r) = record k { reserved = k.reserved ++ (a, r) ∷ [] }
 with_record k (Enrol a r) = record k { enrolled = k.enrolled ++ (a, r) ∷ [] }
 

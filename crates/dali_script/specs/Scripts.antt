@@ -7,7 +7,11 @@ use Rattle.dali_frame.specs.Short.{code_of}
 use Rattle.dali_frame.specs.Random.{value_of, MASK24}
 use Rattle.dali_special.specs.declared.command.Target.TheVariants.{Unaddressed}
 use Rattle.dali_special.specs.declared.command.Command.{Command}
-use Rattle.dali_special.specs.declared.command.Command.TheVariants.{Terminate, Initialise, Randomise, Compare, Withdraw, SearchHigh, SearchMiddle, SearchLow, Program, QueryShort, Arc}
+use Rattle.dali_special.specs.declared.command.Command.TheVariants.{Terminate, Initialise}
+use Rattle.dali_special.specs.declared.command.Command.TheVariants.{Randomise, Compare, Withdraw}
+use Rattle.dali_special.specs.declared.command.Command.TheVariants.{SearchHigh, SearchMiddle}
+use Rattle.dali_special.specs.declared.command.Command.TheVariants.{SearchLow, Program, QueryShort}
+use Rattle.dali_special.specs.declared.command.Command.TheVariants.{Arc}
 use Rattle.dali_special.specs.Command.{MASK, command_of}
 use Rattle.dali_script.specs.declared.block.Block.{Block}
 use Rattle.dali_script.specs.declared.trace.Entry.{Entry}
@@ -40,9 +44,11 @@ queries w = record { command = QueryShort; wanted = w }
 
 -- SEARCHADDRH, SEARCHADDRM and SEARCHADDRL, each sent anew
 abbrev pub search_at : SearchAddress → List Step → List Step
-search_at r more = sends (SearchHigh r.high) ∷ sends (SearchMiddle r.middle) ∷ sends (SearchLow r.low) ∷ more
+search_at r more =
+    sends (SearchHigh r.high) ∷ sends (SearchMiddle r.middle) ∷ sends (SearchLow r.low) ∷ more
 
--- THE SCRIPTS: all that a transaction of commissioning may be (this project's profile of IEC 62386-102:2014, special commands).
+-- THE SCRIPTS: all that a transaction of commissioning may be (this project's profile of IEC
+-- 62386-102:2014, special commands).
 pub data Script : Type 0 where
   Open : Script
   Probe : SearchAddress → Script
@@ -52,15 +58,21 @@ pub data Script : Type 0 where
   ArcPower : Forward → Script
 
 abbrev pub steps : Script → List Step
-steps Open = sends Terminate ∷ sends (Initialise Unaddressed) ∷ sends (Initialise Unaddressed) ∷ sends Randomise ∷ sends Randomise ∷ []
+steps Open =
+    sends Terminate ∷ sends (Initialise Unaddressed) ∷ sends (Initialise Unaddressed)
+    ∷ sends Randomise ∷ sends Randomise ∷ []
 steps (Probe r) = search_at r (sends Compare ∷ [])
 steps (Look r) = search_at r (queries some_address ∷ sends Withdraw ∷ [])
-steps (Give r a) = search_at r (queries no_address ∷ sends (Program (Some a)) ∷ queries (address a) ∷ sends Withdraw ∷ [])
+steps (Give r a) =
+    search_at r (queries no_address ∷ sends (Program (Some a)) ∷ queries (address a)
+    ∷ sends Withdraw ∷ [])
 steps Close = sends Terminate ∷ []
 steps (ArcPower f) = sends (Arc f) ∷ []
 
--- What may be given to the gear at a search address: its number is one that gear draw, and the sender has reserved the address for it, in its block.
-pub record MayGive (b : Block) (reserved : List Assignment) (r : SearchAddress) (a : ℕ) : Type 0 where
+-- What may be given to the gear at a search address: its number is one that gear draw, and the
+-- sender has reserved the address for it, in its block.
+pub record MayGive (b : Block) (reserved : List Assignment) (r : SearchAddress)
+    (a : ℕ) : Type 0 where
   pub drawn : value_of r < MASK24
   pub within : InBlock b a
   pub reserved_for : Has reserved (a, value_of r)
@@ -69,11 +81,13 @@ abbrev pub MaySend : Block → List Assignment → Script → Type 0
 MaySend b reserved (Give r a) = MayGive b reserved r a
 MaySend b reserved _ = Unit {0}
 
--- The frames of a trace, each with what was heard, and then one more frame are a front of these steps.
+-- The frames of a trace, each with what was heard, and then one more frame are a front of these
+-- steps.
 abbrev pub IsFront : List Entry → Forward → List Step → Type 0
 IsFront _ f [] = ⊥
 IsFront [] f (s ∷ ss) = command_of f ≡ s.command
-IsFront (e ∷ t) f (s ∷ ss) = (command_of e.frame ≡ s.command) × IsHeard s.wanted e.heard × IsFront t f ss
+IsFront (e ∷ t) f (s ∷ ss) =
+    (command_of e.frame ≡ s.command) × IsHeard s.wanted e.heard × IsFront t f ss
 
 -- LAWFUL: the frame may follow the trace, for a sender with this block and these reservations.
 abbrev pub Lawful : Block → List Assignment → List Entry → Forward → Type 0

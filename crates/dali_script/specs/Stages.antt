@@ -1,4 +1,6 @@
-use Rattle.std.specs.Prelude.{◌≡◌, ℕ, Bool, true, false, ◌&&◌, ◌==◌, nat_lt, nat_le, if◌then◌else◌, List, [], ◌∷◌, Option, Some, None, option_map, unwrap_or, is_some, IfSome}
+use Rattle.std.specs.Prelude.{◌≡◌, ℕ, Bool, true, false, ◌&&◌, ◌==◌, nat_lt, nat_le, if◌then◌else◌}
+use Rattle.std.specs.Prelude.{List, [], ◌∷◌, Option, Some, None, option_map, unwrap_or, is_some}
+use Rattle.std.specs.Prelude.{IfSome}
 use Rattle.std.specs.List.{list_any}
 use Rattle.dali_frame.specs.declared.frames.Answer.{Answer}
 use Rattle.dali_frame.specs.declared.frames.Answer.TheVariants.{Silence, Byte}
@@ -7,15 +9,24 @@ use Rattle.dali_frame.specs.Short.{short_of}
 use Rattle.dali_frame.specs.Random.{value_of, MASK24}
 use Rattle.dali_special.specs.declared.command.Target.TheVariants.{Unaddressed}
 use Rattle.dali_special.specs.declared.command.Command.{Command}
-use Rattle.dali_special.specs.declared.command.Command.TheVariants.{Terminate, Initialise, Randomise, Compare, Withdraw, SearchHigh, SearchMiddle, SearchLow, Program, QueryShort, Arc}
+use Rattle.dali_special.specs.declared.command.Command.TheVariants.{Terminate, Initialise}
+use Rattle.dali_special.specs.declared.command.Command.TheVariants.{Randomise, Compare, Withdraw}
+use Rattle.dali_special.specs.declared.command.Command.TheVariants.{SearchHigh, SearchMiddle}
+use Rattle.dali_special.specs.declared.command.Command.TheVariants.{SearchLow, Program, QueryShort}
+use Rattle.dali_special.specs.declared.command.Command.TheVariants.{Arc}
 use Rattle.dali_special.specs.Command.{MASK, command_of}
 use Rattle.dali_script.specs.declared.block.Block.{Block}
 use Rattle.dali_script.specs.declared.trace.Entry.{Entry}
 use Rattle.dali_script.specs.declared.stage.Stage.{Stage}
-use Rattle.dali_script.specs.declared.stage.Stage.TheVariants.{Free, Terminated, InitialisedOnce, Initialised, RandomisedOnce, Opened, HighSent, MiddleSent, NumberSent, Probed, Found, Unnamed, Inconclusive, Programmed, Confirmed, Withdrawn, Over}
+use Rattle.dali_script.specs.declared.stage.Stage.TheVariants.{Free, Terminated, InitialisedOnce}
+use Rattle.dali_script.specs.declared.stage.Stage.TheVariants.{Initialised, RandomisedOnce, Opened}
+use Rattle.dali_script.specs.declared.stage.Stage.TheVariants.{HighSent, MiddleSent, NumberSent}
+use Rattle.dali_script.specs.declared.stage.Stage.TheVariants.{Probed, Found, Unnamed, Inconclusive}
+use Rattle.dali_script.specs.declared.stage.Stage.TheVariants.{Programmed, Confirmed, Withdrawn}
+use Rattle.dali_script.specs.declared.stage.Stage.TheVariants.{Over}
 use Rattle.dali_script.specs.Records.{Assignment}
 use Rattle.dali_script.specs.Scripts.{MayGive}
-use Rattle.dali_script.specs.Findings.{searched, finding_of}
+use Rattle.dali_script.specs.Findings.{search_of, finding_of}
 
 -- How far a transaction is, from how far it was.
 
@@ -38,8 +49,8 @@ abbrev pub verified : SearchAddress → ℕ → Answer → Stage
 verified r a (Byte v) = answered r a (short_of v)
 verified r a _ = Inconclusive r None
 
--- WHERE A COMMAND LEADS from a stage, by what is heard after it. It leads nowhere unless
--- it comes next in a script: which commands may follow, and the stage after them, are read from here.
+-- WHERE A COMMAND LEADS from a stage, by what is heard after it. It leads nowhere unless it comes
+-- next in a script: which commands may follow, and the stage after them, are read from here.
 abbrev pub leads : Stage → Command → Answer → Option Stage
 leads Free Terminate h = Some Terminated
 leads Free (SearchHigh high) h = Some (HighSent high)
@@ -66,7 +77,8 @@ abbrev pub stage_from : Stage → List Entry → Stage
 stage_from s [] = s
 stage_from s (e ∷ t) = stage_from (next_stage s (command_of e.frame) e.heard) t
 
--- THE STAGE of a trace: how far a transaction is. `Over` also where the trace is no front of a script.
+-- THE STAGE of a trace: how far a transaction is. `Over` also where the trace is no front of a
+-- script.
 unfoldable pub stage_of : List Entry → Stage
 stage_of t = stage_from Free t
 
@@ -78,8 +90,8 @@ given (Programmed r a) c = Some (r, a)
 given (Confirmed r a) c = Some (r, a)
 given _ _ = None
 
--- FOLLOWS: a command may come next at a stage where it leads on, and what is given, if anything, may
--- be given.
+-- FOLLOWS: a command may come next at a stage where it leads on, and what is given, if anything,
+-- may be given.
 pub record Follows (b : Block) (reserved : List Assignment) (s : Stage) (c : Command) : Type 0 where
   pub leads_on : is_some (leads s c Silence) ≡ true
   pub may : IfSome (given s c) (λ g. MayGive b reserved g.0 g.1)
@@ -89,7 +101,8 @@ abbrev pub in_block : Block → ℕ → Bool
 in_block b a = nat_le b.first a && nat_le a b.last
 
 abbrev pub may_give : Block → List Assignment → ℕ → ℕ → Bool
-may_give b reserved n a = nat_lt n MASK24 && in_block b a && list_any (λ p. (p.0 == a) && (p.1 == n)) reserved
+may_give b reserved n a =
+    nat_lt n MASK24 && in_block b a && list_any (λ p. (p.0 == a) && (p.1 == n)) reserved
 
 abbrev pub may_give_if : Block → List Assignment → Option (SearchAddress × ℕ) → Bool
 may_give_if b reserved (Some g) = may_give b reserved (value_of g.0) g.1
@@ -100,7 +113,8 @@ follows b reserved s c = is_some (leads s c Silence) && may_give_if b reserved (
 
 -- some address may be given to the gear at a search address
 abbrev pub may_give_some : Block → List Assignment → ℕ → Bool
-may_give_some b reserved n = nat_lt n MASK24 && list_any (λ p. in_block b p.0 && (p.1 == n)) reserved
+may_give_some b reserved n =
+    nat_lt n MASK24 && list_any (λ p. in_block b p.0 && (p.1 == n)) reserved
 
 -- whether some command may come next at a stage
 abbrev pub may_follow : Block → List Assignment → Stage → Bool
@@ -139,5 +153,5 @@ IsSearched _ r = Unit {0}
 -- the stage that is kept beside a trace
 pub record IsTrace (s : Stage) (t : List Entry) : Type 0 where
   pub stage : s ≡ stage_of t
-  pub searched : IsSearched s (searched t)
+  pub searched : IsSearched s (search_of t)
   pub finding : finding_of t ≡ finding_at s

@@ -1,5 +1,5 @@
 ghost use Rattle.std.specs.Prelude.{◌≡◌, ◌↔◌, ◌<◌, [], ◌∷◌, ◌++◌, IsTrue, IsOk, IfOk, OnOk, OnErr, MatchOption};
-ghost use Rattle.dali_script.specs.Records.{Has, HasAddress, HasNumber};
+ghost use Rattle.dali_script.specs.Records.{Has, HasAddress, HasRandom};
 
 use crate::records::{AddError, MakeError};
 use dali_frame::{Random24, Short};
@@ -82,7 +82,7 @@ impl Assignments {
     /// The short address of the pair with a random address.
     pub fn address_for(&self, number: Random24) -> Option<Short>
         ensures { MatchOption result
-            (HasNumber self.now number → ⊥)
+            (HasRandom self.now number → ⊥)
             (λ address. Has self.now (address, number)) }
     {
         for pair in &self.pairs {
@@ -103,7 +103,7 @@ impl Assignments {
 
     /// Whether a pair has the random address.
     pub fn has_number(&self, number: Random24) -> bool
-        ensures { IsTrue result ↔ HasNumber self.now number }
+        ensures { IsTrue result ↔ HasRandom self.now number }
     {
         self.address_for(number).is_some()
     }
@@ -113,10 +113,10 @@ impl Assignments {
     /// `AddressTaken` comes before `RandomTaken`.
     pub fn insert(&mut self, address: Short, number: Random24) -> Result<(), AddError>
         ensures success { IsOk result
-            ↔ ((HasAddress self.old address → ⊥) × (HasNumber self.old number → ⊥)) }
+            ↔ ((HasAddress self.old address → ⊥) × (HasRandom self.old number → ⊥)) }
         ensures address_taken { (result ≡ Err AddError.AddressTaken) ↔ HasAddress self.old address }
         ensures random_taken { (result ≡ Err AddError.RandomTaken)
-            ↔ ((HasAddress self.old address → ⊥) × HasNumber self.old number) }
+            ↔ ((HasAddress self.old address → ⊥) × HasRandom self.old number) }
         ensures ok { OnOk result (self.new ≡ self.old ++ (address, number) ∷ []) }
         ensures err { OnErr result (self.new ≡ self.old) }
         ensures short { address < 64 }

@@ -1,5 +1,6 @@
-ghost use Rattle.std.specs.Prelude.{◌≡◌, ℕ, ◌+◌, ◌<◌, ◌≤◌, ◌↔◌, ◌==◌, ◌&&◌, nat_lt, IsTrue, IsOk, OnOk, OnErr, IfOk, MatchOption};
-ghost use Rattle.dali_script.specs.Records.{Records, Has, HasAddress, HasNumber, IsLeastFree, IsFull};
+ghost use Rattle.std.specs.Prelude.{◌≡◌, ℕ, ◌+◌, ◌<◌, ◌≤◌, ◌↔◌, ◌==◌, ◌&&◌, nat_lt, IsTrue, IsOk, OnOk, OnErr, IfOk};
+ghost use Rattle.std.specs.Prelude.{MatchOption};
+ghost use Rattle.dali_script.specs.Records.{Kept, Has, HasAddress, HasRandom, IsLeastFree, IsFull};
 
 use crate::assignments::Assignments;
 use crate::block::Block;
@@ -19,9 +20,9 @@ pub struct Kept {
 }
 
 impl Model for Kept {
-    ghost use Rattle.dali_script.specs.Records.{Records, IsKept};
+    ghost use Rattle.dali_script.specs.Records.{Kept, IsKept};
 
-    ghost Value = { Records };
+    ghost Value = { Kept };
 
     ghost view = { λ k. record { block = k.block; reserved = k.reserved; enrolled = k.enrolled } };
 
@@ -29,7 +30,8 @@ impl Model for Kept {
 }
 
 impl Kept {
-    ghost use Rattle.dali_script.specs.Records.{without_records, IsKept, Fits, IsFresh, same_kind, address_of, random_of, with_record};
+    ghost use Rattle.dali_script.specs.Records.{without_records, IsKept, Fits, IsFresh, same_kind, address_of};
+    ghost use Rattle.dali_script.specs.Records.{random_of, with_record};
     ghost use Rattle.dali_script.specs.Stages.{may_give, may_give_some, in_block};
 
     /// No records, for a controller with this block.
@@ -95,7 +97,8 @@ impl Kept {
         self.block.first <= address && address <= self.block.last
     }
 
-    /// Adds a record as the last of its kind. It must fit, as `fits` tells: what comes from elsewhere is to be tested first.
+    /// Adds a record as the last of its kind. It must fit, as `fits` tells: what comes from elsewhere is to be tested
+    /// first.
     ///
     /// `AddressTaken` comes before `RandomTaken`; each speaks of records of the same kind alone.
     pub fn add(&mut self, added: Record) -> Result<(), AddError>
@@ -106,7 +109,7 @@ impl Kept {
             ↔ HasAddress (same_kind self.old added) (address_of added) }
         ensures random_taken { (result ≡ Err AddError.RandomTaken)
             ↔ ((HasAddress (same_kind self.old added) (address_of added) → ⊥)
-            × HasNumber (same_kind self.old added) (random_of added)) }
+            × HasRandom (same_kind self.old added) (random_of added)) }
 
         ensures ok { OnOk result (self.new ≡ with_record self.old added) }
         ensures err { OnErr result (self.new ≡ self.old) }
@@ -158,7 +161,7 @@ impl Kept {
     /// The short address that is reserved for a random address.
     pub fn reserved_for(&self, number: Random24) -> Option<Short>
         ensures value { MatchOption result
-            (HasNumber self.now.reserved number → ⊥)
+            (HasRandom self.now.reserved number → ⊥)
             (λ address. Has self.now.reserved (address, number)) }
         ensures kept { IsKept self.now }
     {

@@ -1,10 +1,13 @@
 //! What a front of a script says, in the words that a site and a machine use. Programs don't call these.
 //!
 //! Each is a law of the definitions that the contracts of this crate cite, for every block, every list of reservations,
-//! every trace and every frame. The statements stand in `specs/Laws`, and the lemmas that prove them in the proof module
-//! `Transactions`, so that inductions of upper crates may cite them.
+//! every trace and every frame. The statements stand in `specs/Laws`, and the lemmas that prove them in the proof
+//! module `Transactions`, so that inductions of upper crates may cite them.
 
-ghost use Rattle.dali_script.specs.Laws.{LawfulFramesFollowAtTheStage, TracesGrowByAFrame, StagesSayWhatWasSentAndFound, TransactionsBeginOnce, OpeningsBeginWithTerminate, GearAreSearchedAnew, TransactionsEnd, RecordsStayKept};
+ghost use Rattle.dali_script.specs.Laws.{LawfulFramesFollowAtTheStage, TracesGrowByAFrame};
+ghost use Rattle.dali_script.specs.Laws.{StagesSayWhatWasSentAndFound, TransactionsBeginOnce};
+ghost use Rattle.dali_script.specs.Laws.{OpeningsBeginWithTerminate, GearAreSearchedAnew, TransactionsEnd};
+ghost use Rattle.dali_script.specs.Laws.{RecordsStayKept};
 
 /// A frame may follow a trace exactly where its command follows at the stage of the trace.
 pub fn lawful_frames_follow_at_the_stage()

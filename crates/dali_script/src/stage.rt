@@ -46,7 +46,8 @@ pub enum Stage {
 }
 
 impl Stage {
-    ghost use Rattle.dali_script.specs.Stages.{leads, next_stage, queried, verified, follows, given, may_follow, finding_at};
+    ghost use Rattle.dali_script.specs.Stages.{leads, next_stage, queried, verified, follows, given, may_follow};
+    ghost use Rattle.dali_script.specs.Stages.{finding_at};
 
     /// The stage that a command leads to, where it may come next in a script.
     fn next(self, command: Command, heard: Answer) -> Option<Stage>

@@ -101,7 +101,8 @@ impl Trace {
         !self.stage.goes_on(kept)
     }
 
-    /// The last finding: the short address that QUERY SHORT ADDRESS was heard as, and the search address it was asked under.
+    /// The last finding: the short address that QUERY SHORT ADDRESS was heard as, and the search address it was asked
+    /// under.
     pub fn finding(&self) -> Option<(Short, Random24)>
         ensures { result ≡ finding_of self.now }
     {

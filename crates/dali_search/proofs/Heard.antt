@@ -2,22 +2,22 @@ use Rattle.std.proofs.Common.{◌≡◌, ℕ, ◌+◌, ◌<◌, ◌≤◌, Bool,
 use Rattle.std.specs.Prelude.{if◌then◌else◌, zero, suc}
 use Rattle.std.proofs.lemmas.Bool.Decides.{nat_tests}
 use Rattle.dali_search.specs.Least.{probe_between}
-use Rattle.dali_search.specs.Narrowing.{asked_of, answer_of, narrowed, left_of, answers_of}
+use Rattle.dali_search.specs.Narrowing.{asked_of, answer_of, left_by, left_of, answers_of}
 
 asked_within : (l : ℕ × ℕ) → l.0 ≤ l.1 → l.1 ≤ 0xFFFFFF → l.0 ≤ asked_of l + 1 × asked_of l ≤ l.1
 asked_within l order top = (grind (arith, nat_tests), grind (arith, nat_tests))
 
-narrowed_no : (l : ℕ × ℕ) (n : ℕ) → nat_lt (asked_of l) n ≡ true → narrowed l n ≡ (asked_of l + 1, l.1)
+narrowed_no : (l : ℕ × ℕ) (n : ℕ) → nat_lt (asked_of l) n ≡ true → left_by l n ≡ (asked_of l + 1, l.1)
 narrowed_no l n less = ap (λ b. if b then (asked_of l + 1, l.1) else (l.0, asked_of l)) less
 
-narrowed_yes : (l : ℕ × ℕ) (n : ℕ) → nat_lt (asked_of l) n ≡ false → narrowed l n ≡ (l.0, asked_of l)
+narrowed_yes : (l : ℕ × ℕ) (n : ℕ) → nat_lt (asked_of l) n ≡ false → left_by l n ≡ (l.0, asked_of l)
 narrowed_yes l n less = ap (λ b. if b then (asked_of l + 1, l.1) else (l.0, asked_of l)) less
 
 -- the least member is left
-narrowed_within : (l : ℕ × ℕ) (n : ℕ) → l.0 ≤ n → n ≤ l.1 → l.1 ≤ 0xFFFFFF → (narrowed l n).0 ≤ n × n ≤ (narrowed l n).1 × (narrowed l n).1 ≤ 0xFFFFFF
+narrowed_within : (l : ℕ × ℕ) (n : ℕ) → l.0 ≤ n → n ≤ l.1 → l.1 ≤ 0xFFFFFF → (left_by l n).0 ≤ n × n ≤ (left_by l n).1 × (left_by l n).1 ≤ 0xFFFFFF
 narrowed_within l n low high top = go (nat_lt (asked_of l) n) refl (asked_within l (omega (arith, low, high)) top) where
   go : (b : Bool) → nat_lt (asked_of l) n ≡ b → (l.0 ≤ asked_of l + 1 × asked_of l ≤ l.1)
-      → (narrowed l n).0 ≤ n × n ≤ (narrowed l n).1 × (narrowed l n).1 ≤ 0xFFFFFF
+      → (left_by l n).0 ≤ n × n ≤ (left_by l n).1 × (left_by l n).1 ≤ 0xFFFFFF
   go true less asked =
       let past : asked_of l < n = grind (arith, nat_tests) in
       rw (narrowed_no l n less) (omega (arith, past), high, top)
@@ -32,7 +32,7 @@ left_within (suc k) n small =
     narrowed_within (left_of k n) n before.0 before.1 before.2
 
 -- a number that is left too gives the same answer
-narrowed_same : (l : ℕ × ℕ) (n m : ℕ) → l.0 ≤ n → n ≤ l.1 → l.1 ≤ 0xFFFFFF → (narrowed l n).0 ≤ m → m ≤ (narrowed l n).1
+narrowed_same : (l : ℕ × ℕ) (n m : ℕ) → l.0 ≤ n → n ≤ l.1 → l.1 ≤ 0xFFFFFF → (left_by l n).0 ≤ m → m ≤ (left_by l n).1
     → l.0 ≤ m × m ≤ l.1 × (nat_lt (asked_of l) m ≡ nat_lt (asked_of l) n)
 narrowed_same l n m low high top from to = go (nat_lt (asked_of l) n) refl (asked_within l (omega (arith, low, high)) top) where
   go : (b : Bool) → nat_lt (asked_of l) n ≡ b → (l.0 ≤ asked_of l + 1 × asked_of l ≤ l.1) → l.0 ≤ m × m ≤ l.1 × (nat_lt (asked_of l) m ≡ nat_lt (asked_of l) n)
@@ -53,7 +53,7 @@ heard_same (suc k) n m small from to =
     let before = left_within k n small in
     let same = narrowed_same (left_of k n) n m before.0 before.1 before.2 from to in
     let earlier = heard_same k n m small same.0 same.1 in (
-      ap (λ l. narrowed l m) earlier.0
+      ap (λ l. left_by l m) earlier.0
           ∙ ap (λ b. if b then (asked_of (left_of k n) + 1, (left_of k n).1) else ((left_of k n).0, asked_of (left_of k n))) same.2,
       ap (λ xs. xs ++ answer_of (left_of k m) m ∷ []) earlier.1
           ∙ ap (λ l. answers_of k n ++ answer_of l m ∷ []) earlier.0
@@ -86,7 +86,7 @@ heard_more k low high p next_low next_high said here less top is within low_is h
       let same = common next_low (omega (arith, low_is)) (omega (arith, low_is, less)) in
       let small : next_low ≤ probe_between low high = subst (λ q. next_low ≤ q) is (omega (arith, low_is, within.0)) in
       let test : nat_lt (asked_of (low, high)) next_low ≡ false = grind (arith, nat_tests) in (
-        ap (λ l. narrowed l next_low) same.0 ∙ narrowed_yes (low, high) next_low test
+        ap (λ l. left_by l next_low) same.0 ∙ narrowed_yes (low, high) next_low test
             ∙ ap (λ n. (n, asked_of (low, high))) (sym low_is) ∙ ap (λ n. (next_low, n)) (sym is ∙ sym high_is),
         answer false true test refl same,
       )
@@ -94,7 +94,7 @@ heard_more k low high p next_low next_high said here less top is within low_is h
       let same = common next_low (omega (arith, low_is, within.0)) (omega (arith, low_is, within.1)) in
       let past : probe_between low high + 1 ≡ next_low = ap (λ q. q + 1) (sym is) ∙ sym low_is in
       let test : nat_lt (asked_of (low, high)) next_low ≡ true = grind (arith, nat_tests) in (
-        ap (λ l. narrowed l next_low) same.0 ∙ narrowed_no (low, high) next_low test
+        ap (λ l. left_by l next_low) same.0 ∙ narrowed_no (low, high) next_low test
             ∙ ap (λ n. (n, high)) past ∙ ap (λ n. (next_low, n)) (sym high_is),
         answer true false test refl same,
       )

@@ -3,7 +3,7 @@ use Rattle.std.specs.Prelude.{◌==◌, if◌then◌else◌, zero, suc}
 use Rattle.std.proofs.lemmas.Bool.Decides.{nat_tests}
 use Rattle.dali_search.specs.declared.step.Step.{Step}
 use Rattle.dali_search.specs.declared.step.Step.TheVariants.{Again, Found, Nobody}
-use Rattle.dali_search.specs.Least.{Searched, IsBelow, HasAtMost, Agrees, IsLeast, Says, NumberOf, lowest, highest, step_between, step_after, probe_between, probe_after}
+use Rattle.dali_search.specs.Least.{Search, IsBelow, HasAtMost, Agrees, IsLeast, Says, NumberOf, lowest, highest, step_between, step_after, probe_between, probe_after}
 use Rattle.dali_search.specs.Narrowing.{Narrows, left_of, answers_of}
 use Rattle.dali_search.proofs.Heard.{heard_more}
 
@@ -155,15 +155,15 @@ next_probe_small low high p q is top small = grind (arith, nat_tests)
 at_top : (low high p : ℕ) → p ≡ probe_between low high → high ≡ 0xFFFFFF → p ≡ 0xFFFFFE
 at_top low high p is e = grind (arith, nat_tests)
 
-low_at_first : (low high : ℕ) (s : Searched) → Narrows low high s → low < high → high ≡ 0xFFFFFF → low ≡ 0
+low_at_first : (low high : ℕ) (s : Search) → Narrows low high s → low < high → high ≡ 0xFFFFFF → low ≡ 0
 low_at_first low high s n less e = sym n.low_is ∙ nothing_asked s.answers (n.untouched e less)
 
-probe_inside : (low high : ℕ) (s : Searched) → Narrows low high s → s.step ≡ Again → low ≤ s.probe × s.probe < high
+probe_inside : (low high : ℕ) (s : Search) → Narrows low high s → s.step ≡ Again → low ≤ s.probe × s.probe < high
 probe_inside low high s n running =
     let less : low < high = again_less low high (sym n.step_is ∙ running) in
     subst (λ p. low ≤ p × p < high) (sym (n.probe_is running)) (probe_between_both low high less n.top (low_at_first low high s n less))
 
-narrows_more : (low high next_low next_high : ℕ) (s t : Searched) (said : Bool) → Narrows low high s → s.step ≡ Again
+narrows_more : (low high next_low next_high : ℕ) (s t : Search) (said : Bool) → Narrows low high s → s.step ≡ Again
     → t.answers ≡ s.answers ++ (s.probe, said) ∷ []
     → next_low ≡ (if said then low else s.probe + 1) → next_high ≡ (if said then s.probe else high)
     → t.step ≡ step_between next_low next_high
@@ -208,23 +208,23 @@ narrows_more low high next_low next_high s t said n running answers low_is high_
     }
 
 -- what callers learn
-pub step_told : (low high : ℕ) (s : Searched) → Narrows low high s → s.step ≡ step_after s.answers
+pub step_told : (low high : ℕ) (s : Search) → Narrows low high s → s.step ≡ step_after s.answers
 step_told low high s n = rw (n.low_is, n.high_is) n.step_is
 
-pub probe_told : (low high : ℕ) (s : Searched) → Narrows low high s → s.step ≡ Again → s.probe ≡ probe_after s.answers
+pub probe_told : (low high : ℕ) (s : Search) → Narrows low high s → s.step ≡ Again → s.probe ≡ probe_after s.answers
 probe_told low high s n running = rw (n.low_is, n.high_is) (n.probe_is running)
 
-pub least_told : (low high : ℕ) (s : Searched) → Narrows low high s → (has : ℕ → Bool) → IsBelow has 0xFFFFFF → Agrees has s.answers → Says has s.step
+pub least_told : (low high : ℕ) (s : Search) → Narrows low high s → (has : ℕ → Bool) → IsBelow has 0xFFFFFF → Agrees has s.answers → Says has s.step
 least_told low high s n has below agrees =
     subst (Says has) (sym n.step_is) (says_after has s.answers low high n.low_is n.high_is n.order n.top below agrees)
 
-pub more_to_come : (low high : ℕ) (s : Searched) → Narrows low high s → s.step ≡ Again → length s.answers < 25
+pub more_to_come : (low high : ℕ) (s : Search) → Narrows low high s → s.step ≡ Again → length s.answers < 25
 more_to_come low high s n running = go n.few.0 n.few.1 n.few.2 where
   go : (left : ℕ) → length s.answers + left ≡ 25 → high < low + 2 ^ left → length s.answers < 25
   go zero sum few = absurd (let less : low < high = again_less low high (sym n.step_is ∙ running) in omega (arith, few, less))
   go (suc left) sum few = omega (arith, sum)
 
-pub below_told : (low high : ℕ) (s : Searched) → Narrows low high s → NumberOf s.step (λ r. r < 0xFFFFFF)
+pub below_told : (low high : ℕ) (s : Search) → Narrows low high s → NumberOf s.step (λ r. r < 0xFFFFFF)
 below_told low high s n = subst (λ step. NumberOf step (λ r. r < 0xFFFFFF)) (sym n.step_is) (go (nat_lt low high) (low == 0xFFFFFF) refl refl) where
   go : (b c : Bool) → nat_lt low high ≡ b → (low == 0xFFFFFF) ≡ c → NumberOf (if b then Again else (if c then Nobody else Found low)) (λ r. r < 0xFFFFFF)
   go true c less is = tt
@@ -232,7 +232,7 @@ below_told low high s n = subst (λ step. NumberOf step (λ r. r < 0xFFFFFF)) (s
   go false false less is = let top : high ≤ 0xFFFFFF = n.top in let order : low ≤ high = n.order in grind (arith, nat_tests)
 
 -- one more answer, as it is told by the number of answers and the least number that they leave
-heard_next : (k low high next_low next_high : ℕ) (s : Searched) (said : Bool) → Narrows low high s → s.step ≡ Again → left_of k low ≡ (low, high)
+heard_next : (k low high next_low next_high : ℕ) (s : Search) (said : Bool) → Narrows low high s → s.step ≡ Again → left_of k low ≡ (low, high)
     → next_low ≡ (if said then low else s.probe + 1) → next_high ≡ (if said then s.probe else high)
     → (left_of (k + 1) next_low ≡ (next_low, next_high)) × (answers_of (k + 1) next_low ≡ answers_of k low ++ (s.probe, said) ∷ [])
 heard_next k low high next_low next_high s said n running here low_is high_is =
@@ -252,6 +252,6 @@ pub stands_more : (k low high next_low next_high p q : ℕ) (step next : Step) (
     → next ≡ step_between next_low next_high → q ≡ (if nat_lt next_low next_high then probe_between next_low next_high else p)
     → Narrows next_low next_high (record { answers = answers_of (k + 1) next_low; probe = q; step = next }) × (left_of (k + 1) next_low ≡ (next_low, next_high))
 stands_more k low high next_low next_high p q step next said n running here low_is high_is next_is q_is =
-    let s : Searched = record { answers = answers_of k low; probe = p; step = step } in
+    let s : Search = record { answers = answers_of k low; probe = p; step = step } in
     let heard = heard_next k low high next_low next_high s said n running here low_is high_is in
     (narrows_more low high next_low next_high s (record { answers = answers_of (k + 1) next_low; probe = q; step = next }) said n running heard.1 low_is high_is next_is q_is, heard.0)

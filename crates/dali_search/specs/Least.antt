@@ -1,17 +1,18 @@
-use Rattle.std.specs.Prelude.{◌≡◌, ℕ, ◌+◌, ◌/◌, ◌<◌, ◌≤◌, ◌==◌, Bool, true, false, List, [], ◌∷◌, nat_lt, max, min, if◌then◌else◌}
+use Rattle.std.specs.Prelude.{◌≡◌, ℕ, ◌+◌, ◌/◌, ◌<◌, ◌≤◌, ◌==◌, Bool, true, false, List, [], ◌∷◌}
+use Rattle.std.specs.Prelude.{nat_lt, max, min, if◌then◌else◌}
 use Rattle.std.specs.List.{AllByRecursion}
 use Rattle.dali_search.specs.declared.step.Step.{Step}
 use Rattle.dali_search.specs.declared.step.Step.TheVariants.{Again, Found, Nobody}
 
--- What is known of a search: each number that was asked, with its answer, oldest first; the number that is next, or
--- was last; and what the last answer led to.
-pub record Searched : Type 0 where
+-- What is known of a search: each number that was asked, with its answer, oldest first; the number
+-- that is next, or was last; and what the last answer led to.
+pub record Search : Type 0 where
   pub answers : List (ℕ × Bool)
   pub probe : ℕ
   pub step : Step
 
 -- FFFFFE is the greatest random address that a gear draws (IEC 62386-102:2014, RANDOMISE)
-abbrev pub at_first : Searched
+abbrev pub at_first : Search
 at_first = record { answers = []; probe = 0xFFFFFE; step = Again }
 
 -- a set of numbers, as a test, has no member from n on
@@ -53,8 +54,8 @@ lowest [] = 0
 lowest ((n, true) ∷ later) = lowest later
 lowest ((n, false) ∷ later) = max (n + 1) (lowest later)
 
--- the greatest number that the least member can be: it is at most each number that was answered yes; FFFFFF, which no
--- gear draws, stands for no member
+-- the greatest number that the least member can be: it is at most each number that was answered
+-- yes; FFFFFF, which no gear draws, stands for no member
 abbrev pub highest : List (ℕ × Bool) → ℕ
 highest [] = 0xFFFFFF
 highest ((n, true) ∷ later) = min n (highest later)
@@ -62,12 +63,14 @@ highest ((n, false) ∷ later) = highest later
 
 -- what the answers lead to
 abbrev pub step_between : ℕ → ℕ → Step
-step_between low high = if nat_lt low high then Again else (if low == 0xFFFFFF then Nobody else Found low)
+step_between low high =
+    if nat_lt low high then Again else (if low == 0xFFFFFF then Nobody else Found low)
 
 abbrev pub step_after : List (ℕ × Bool) → Step
 step_after answers = step_between (lowest answers) (highest answers)
 
--- The number to ask next: FFFFFE until an answer was yes, and then the middle of what is left, rounded down.
+-- The number to ask next: FFFFFE until an answer was yes, and then the middle of what is left,
+-- rounded down.
 abbrev pub probe_between : ℕ → ℕ → ℕ
 probe_between low high = if high == 0xFFFFFF then 0xFFFFFE else (low + high) / 2
 

@@ -1,7 +1,7 @@
 ghost use Rattle.std.specs.Prelude.{◌≡◌, ℕ, ◌+◌, ◌<◌, ◌≤◌, Bool, true, false, List, [], ◌∷◌, ◌++◌, length};
 ghost use Rattle.dali_search.specs.declared.step.Step.{Step};
 ghost use Rattle.dali_search.specs.declared.step.Step.TheVariants.{Again, Nobody};
-ghost use Rattle.dali_search.specs.Least.{Searched, at_first, step_after, probe_after, IsBelow, Agrees, Says, NumberOf};
+ghost use Rattle.dali_search.specs.Least.{Search, at_first, step_after, probe_after, IsBelow, Agrees, Says, NumberOf};
 
 use crate::left::Left;
 use crate::step::Step;
@@ -27,14 +27,15 @@ pub struct Search {
 
 impl Model for Search {
     ghost use Rattle.std.specs.Prelude.{◌≡◌};
-    ghost use Rattle.dali_search.specs.Least.{Searched};
+    ghost use Rattle.dali_search.specs.Least.{Search};
     ghost use Rattle.dali_search.specs.Narrowing.{Narrows, answers_of, left_of};
 
-    ghost Value = { Searched };
+    ghost Value = { Search };
 
     ghost view = { λ s. record { answers = answers_of s.answers s.left.low; probe = s.probe; step = s.step } };
 
-    ghost invariant = { λ s. Narrows s.left.low s.left.high (record { answers = answers_of s.answers s.left.low; probe = s.probe; step = s.step })
+    ghost invariant = { λ s. Narrows s.left.low s.left.high
+        (record { answers = answers_of s.answers s.left.low; probe = s.probe; step = s.step })
         × (left_of s.answers s.left.low ≡ (s.left.low, s.left.high)) };
 }
 

@@ -1,5 +1,5 @@
-//! `dali_sim replay` reads a script of what happens on a bench of DALI control gear, or on a site with application controllers, and
-//! reports what comes of it.
+//! `dali_sim replay` reads a script of what happens on a bench of DALI control gear, or on a site with application
+//! controllers, and reports what comes of it.
 #![tactic(auto)]
 
 use clap::Command;

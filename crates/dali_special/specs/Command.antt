@@ -1,10 +1,15 @@
-use Rattle.std.specs.Prelude.{◌≡◌, ℕ, ◌%◌, ◌<◌, List, [], ◌∷◌, Bool, true, false, Option, Some, None, ◌==◌, if◌then◌else◌, option_map, unwrap_or}
+use Rattle.std.specs.Prelude.{◌≡◌, ℕ, ◌%◌, ◌<◌, List, [], ◌∷◌, Bool, true, false, Option, Some}
+use Rattle.std.specs.Prelude.{None, ◌==◌, if◌then◌else◌, option_map, unwrap_or}
 use Rattle.dali_frame.specs.declared.frames.Forward.{Forward}
 use Rattle.dali_frame.specs.Short.{code_of, short_of}
 use Rattle.dali_special.specs.declared.command.Target.{Target}
 use Rattle.dali_special.specs.declared.command.Target.TheVariants.{All, Addressed, Unaddressed}
 use Rattle.dali_special.specs.declared.command.Command.{Command}
-use Rattle.dali_special.specs.declared.command.Command.TheVariants.{Terminate, Initialise, Randomise, Compare, Withdraw, SearchHigh, SearchMiddle, SearchLow, Program, Verify, QueryShort, Arc, Other}
+use Rattle.dali_special.specs.declared.command.Command.TheVariants.{Terminate, Initialise}
+use Rattle.dali_special.specs.declared.command.Command.TheVariants.{Randomise, Compare, Withdraw}
+use Rattle.dali_special.specs.declared.command.Command.TheVariants.{SearchHigh, SearchMiddle}
+use Rattle.dali_special.specs.declared.command.Command.TheVariants.{SearchLow, Program, Verify}
+use Rattle.dali_special.specs.declared.command.Command.TheVariants.{QueryShort, Arc, Other}
 
 -- the data byte that stands for no short address
 abbrev pub MASK : ℕ
@@ -12,7 +17,10 @@ MASK = 0xFF
 
 -- INITIALISE: the gear that a data byte speaks of, and the other way round
 abbrev pub target_of : ℕ → Option Target
-target_of byte = if byte == 0 then Some All else if byte == MASK then Some Unaddressed else option_map (λ a. Addressed a) (short_of byte)
+target_of byte =
+    if byte == 0
+      then Some All
+      else if byte == MASK then Some Unaddressed else option_map (λ a. Addressed a) (short_of byte)
 
 abbrev pub target_data : Target → ℕ
 target_data All = 0
@@ -21,7 +29,8 @@ target_data Unaddressed = MASK
 
 -- PROGRAM SHORT ADDRESS: the address that a data byte stores, and the other way round
 abbrev pub program_of : ℕ → Option Command
-program_of byte = if byte == MASK then Some (Program None) else option_map (λ a. Program (Some a)) (short_of byte)
+program_of byte =
+    if byte == MASK then Some (Program None) else option_map (λ a. Program (Some a)) (short_of byte)
 
 abbrev pub program_data : Option ℕ → ℕ
 program_data None = MASK
@@ -55,9 +64,13 @@ abbrev pub row_of : ℕ → ℕ → List Row → Option Command
 row_of address byte [] = None
 row_of address byte (row ∷ more) = if address == row.0 then row.1 byte else row_of address byte more
 
--- The command of a frame: direct arc power where the address byte has last bit 0, else by the table, else none of it.
+-- The command of a frame: direct arc power where the address byte has last bit 0, else by the
+-- table, else none of it.
 unfoldable pub command_of : Forward → Command
-command_of f = if f.address_byte % 2 == 0 then Arc f else unwrap_or (row_of f.address_byte f.opcode_byte rows) (Other f)
+command_of f =
+    if f.address_byte % 2 == 0
+      then Arc f
+      else unwrap_or (row_of f.address_byte f.opcode_byte rows) (Other f)
 
 -- the frame of two bytes
 abbrev pub frame : ℕ → ℕ → Forward
@@ -85,7 +98,8 @@ is_send_twice (Initialise target) = true
 is_send_twice Randomise = true
 is_send_twice _ = false
 
--- a command that its frame is read as: its address is one, and the frame of an `Arc` or `Other` has no other command
+-- a command that its frame is read as: its address is one, and the frame of an `Arc` or `Other` has
+-- no other command
 abbrev pub IsSpelled : Command → Type 0
 IsSpelled (Initialise (Addressed a)) = a < 64
 IsSpelled (Program (Some a)) = a < 64

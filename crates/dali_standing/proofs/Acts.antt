@@ -6,11 +6,11 @@ use Rattle.dali_frame.specs.Random.{MASK24}
 use Rattle.dali_special.specs.declared.command.Command.{Command}
 use Rattle.dali_special.specs.declared.command.Command.TheVariants.{Terminate, Initialise, Randomise, Compare, Withdraw, SearchHigh, SearchMiddle, SearchLow, Program, Verify, QueryShort, Arc, Other}
 use Rattle.dali_special.specs.Command.{command_of}
-use Rattle.dali_arbiter.specs.Bus.{owns}
+use Rattle.dali_arbiter.specs.Arbiter.{owns}
 use Rattle.dali_script.specs.declared.trace.Entry.{Entry}
 use Rattle.dali_script.specs.declared.records.Record.{Record}
 use Rattle.dali_script.specs.declared.records.Record.TheVariants.{Reserve, Enrol}
-use Rattle.dali_script.specs.Records.{Assignment, Records, InBlock, IsFresh}
+use Rattle.dali_script.specs.Records.{Assignment, Kept, InBlock, IsFresh}
 use Rattle.dali_script.specs.Findings.{finding_of, later}
 use Rattle.dali_script.specs.Scripts.{Lawful, IsFirst}
 use Rattle.dali_script.specs.Stages.{stage_of, may_follow}
@@ -20,12 +20,12 @@ use Rattle.dali_orders.specs.declared.orders.Input.TheVariants as input
 use Rattle.dali_orders.specs.declared.orders.Order.{Order}
 use Rattle.dali_orders.specs.declared.orders.Order.TheVariants.{Put, Commit, Done, Halt}
 use Rattle.dali_orders.specs.Due.{due_after, accepts}
-use Rattle.dali_controller.specs.Progress.{Progress, told}
-use Rattle.dali_controller.specs.Orders.{IsOrdered, IsAnswered, IsAllowed, IsAddressing, ordered, after}
+use Rattle.dali_controller.specs.Machine.{Machine, machine_told}
+use Rattle.dali_controller.specs.Orders.{IsOrdered, IsAnswered, IsAllowed, IsAddressing, machine_ordered, machine_after}
 use Rattle.dali_events.specs.World.{World, Controller}
-use Rattle.dali_events.specs.Happens.{entry, informed, is_arc}
+use Rattle.dali_events.specs.Happens.{entry, controller_informed, is_arc}
 use Rattle.dali_events.specs.Allowed.{IsDue, IsCommit, MayOrder}
-use Rattle.dali_standing.specs.Places.{IsRunning, IsTold, IsOutstanding, IsFound, informed_by}
+use Rattle.dali_standing.specs.Seats.{IsRunning, IsTold, IsOutstanding, IsFound, informed_by}
 use Rattle.dali_standing.specs.Settled.{IsOwning, IsApart, IsPlacedBy}
 
 -- WHAT A CONTROLLER ORDERS, the table of events allows.
@@ -76,8 +76,8 @@ committed_last (Some (Commit x)) c = (x, refl)
 committed_last (Some (Done e)) c = elim c [ ]
 committed_last (Some (Halt w)) c = elim c [ ]
 
-pub told_accepted : (last : Option Order) (told : Option Input) (i : Input) → told ≡ Some i → IsTold last told → accepts (due_after last) i ≡ true
-told_accepted last told i e is = subst (λ t. IsTold last t) e is
+pub told_accepted : (last : Option Order) (told : Option Input) (i : Input) → machine_told ≡ Some i → IsTold last machine_told → accepts (due_after last) i ≡ true
+told_accepted last machine_told i e is = subst (λ t. IsTold last t) e is
 
 -- ---------------------------------------------------------------- who owns the bus
 
@@ -94,31 +94,31 @@ other_owns o c d other e = rw e (grind (arith, nat_tests))
 -- ---------------------------------------------------------------- the transaction of a machine that was told
 
 -- A machine whose transaction may go on owns the bus, and the frames are those of the site.
-abbrev OwnsWith : World → ℕ → Controller → Progress → Type 0
+abbrev OwnsWith : World → ℕ → Controller → Machine → Type 0
 OwnsWith w c k t = (f : Forward) → (t.trace ≡ [] → ⊥) → Lawful k.records.block k.records.reserved t.trace f → (w.bus.owner ≡ Some c) × (t.trace ≡ w.trace)
 
-owns_none : (w : World) (c : ℕ) (k : Controller) (t : Progress) → t.trace ≡ [] → OwnsWith w c k t
+owns_none : (w : World) (c : ℕ) (k : Controller) (t : Machine) → t.trace ≡ [] → OwnsWith w c k t
 owns_none w c k t none f some may = absurd (some none)
 
-pub placed_start : (b : Bool) (t : List Entry) (k : Controller) (m : Progress) → k.last ≡ None → IsPlacedBy b t k (Some m) → m.trace ≡ []
+pub placed_start : (b : Bool) (t : List Entry) (k : Controller) (m : Machine) → k.last ≡ None → IsPlacedBy b t k (Some m) → m.trace ≡ []
 placed_start true t k m e placed = elim (subst (λ l. IsOwning t k m l k.told) e placed) [ ]
 placed_start false t k m e placed = subst (λ l. IsApart k m l k.told) e placed
 
-pub placed_commit : (b : Bool) (t : List Entry) (k : Controller) (m : Progress) (x : Record) → k.last ≡ Some (Commit x) → IsPlacedBy b t k (Some m) → m.trace ≡ []
+pub placed_commit : (b : Bool) (t : List Entry) (k : Controller) (m : Machine) (x : Record) → k.last ≡ Some (Commit x) → IsPlacedBy b t k (Some m) → m.trace ≡ []
 placed_commit true t k m x e placed = elim (subst (λ l. IsOwning t k m l k.told) e placed) [ ]
 placed_commit false t k m x e placed = subst (λ l. IsApart k m l k.told) e placed
 
-heard_trace : (m : Progress) (p : ℕ) (f : Forward) (h : Answer) → m.last ≡ Some (Put p f) → (told m (input.Heard h)).trace ≡ m.trace ++ entry f h ∷ []
+heard_trace : (m : Machine) (p : ℕ) (f : Forward) (h : Answer) → m.last ≡ Some (Put p f) → (machine_told m (input.Heard h)).trace ≡ m.trace ++ entry f h ∷ []
 heard_trace m p f h e = rw e refl
 
-placed_heard : (b : Bool) (t : List Entry) (k : Controller) (m : Progress) (p : ℕ) (f : Forward) (h : Answer) → k.told ≡ Some (input.Heard h) → k.last ≡ Some (Put p f)
+placed_heard : (b : Bool) (t : List Entry) (k : Controller) (m : Machine) (p : ℕ) (f : Forward) (h : Answer) → k.told ≡ Some (input.Heard h) → k.last ≡ Some (Put p f)
     → IsPlacedBy b t k (Some m) → (b ≡ true → t ≡ m.trace ++ entry f h ∷ []) × (b ≡ false → may_follow k.records.block k.records.reserved (stage_of (m.trace ++ entry f h ∷ [])) ≡ false)
 placed_heard true t k m p f h is e placed =
     (λ _. subst (λ o. IsOwning t k m (Some (Put p f)) o) is (subst (λ l. IsOwning t k m l k.told) e placed), λ x. absurd (cc))
 placed_heard false t k m p f h is e placed =
     (λ x. absurd (cc), λ _. subst (λ o. IsApart k m (Some (Put p f)) o) is (subst (λ l. IsApart k m l k.told) e placed))
 
-owns_heard : (w : World) (c : ℕ) (k : Controller) (m t : Progress) (p : ℕ) (f : Forward) (h : Answer) → k.told ≡ Some (input.Heard h) → k.last ≡ Some (Put p f)
+owns_heard : (w : World) (c : ℕ) (k : Controller) (m t : Machine) (p : ℕ) (f : Forward) (h : Answer) → k.told ≡ Some (input.Heard h) → k.last ≡ Some (Put p f)
     → IsPlacedBy (owns w.bus.owner c) w.trace k (Some m) → t.trace ≡ m.trace ++ entry f h ∷ [] → OwnsWith w c k t
 owns_heard w c k m t p f h told_h last placed is g some may = go (owns w.bus.owner c) refl where
   go : (b : Bool) → owns w.bus.owner c ≡ b → (w.bus.owner ≡ Some c) × (t.trace ≡ w.trace)
@@ -130,7 +130,7 @@ owns_heard w c k m t p f h told_h last placed is g some may = go (owns w.bus.own
 -- ---------------------------------------------------------------- what may be ordered
 
 -- what a controller and its machine have in common, once both were told
-record AreInformed (w : World) (c : ℕ) (k : Controller) (t : Progress) : Type 0 where
+record AreInformed (w : World) (c : ℕ) (k : Controller) (t : Machine) : Type 0 where
   pub kept : t.kept ≡ k.records
   pub outstanding : k.outstanding ≡ None
   pub found : later k.finding (finding_of t.trace) ≡ k.finding
@@ -139,7 +139,7 @@ record AreInformed (w : World) (c : ℕ) (k : Controller) (t : Progress) : Type 
 pub later_some : (k o : Option Assignment) (x : Assignment) → o ≡ Some x → later k o ≡ k → k ≡ Some x
 later_some k o x e is = sym (subst (λ p. later k p ≡ k) e is)
 
-may_order_by : (w : World) (c : ℕ) (k : Controller) (t : Progress) (o : Order) → AreInformed w c k t → IsAllowed t o → MayOrder w c k o
+may_order_by : (w : World) (c : ℕ) (k : Controller) (t : Machine) (o : Order) → AreInformed w c k t → IsAllowed t o → MayOrder w c k o
 may_order_by w c k t (Put p f) both (inl may) = inl (may.0, (t.kept.block, t.kept.reserved, may.1))
 may_order_by w c k t (Put p f) both (inr may) =
     let lawful : Lawful k.records.block k.records.reserved t.trace f = subst (λ r. Lawful r.block r.reserved t.trace f) both.kept may.2 in
@@ -152,10 +152,10 @@ may_order_by w c k t (Commit (Enrol b r)) both may =
 may_order_by w c k t (Done e) both may = tt
 may_order_by w c k t (Halt why) both may = tt
 
-put_outstanding : (k : Records) (last : Option Order) (o : Option Record) → IsPut last → IsOutstanding k last o → o ≡ None
+put_outstanding : (k : Kept) (last : Option Order) (o : Option Record) → IsPut last → IsOutstanding k last o → o ≡ None
 put_outstanding k last o put is = subst (λ l. IsOutstanding k l o) put.2 is
 
-pub bus_kept : (m : Progress) (i : Input) (p : ℕ) (f : Forward) → IsOfBus i → m.last ≡ Some (Put p f) → (told m i).kept ≡ m.kept
+pub bus_kept : (m : Machine) (i : Input) (p : ℕ) (f : Forward) → IsOfBus i → m.last ≡ Some (Put p f) → (machine_told m i).kept ≡ m.kept
 bus_kept m (input.Heard h) p f bus e = rw e refl
 bus_kept m input.Destroyed p f bus e = refl
 bus_kept m input.Lapsed p f bus e = refl
@@ -163,7 +163,7 @@ bus_kept m input.Start p f bus e = elim bus [ ]
 bus_kept m input.Committed p f bus e = elim bus [ ]
 bus_kept m input.CommitFailed p f bus e = elim bus [ ]
 
-bus_records : (k : Controller) (i : Input) → IsOfBus i → ((informed k i).records ≡ k.records) × ((informed k i).outstanding ≡ k.outstanding)
+bus_records : (k : Controller) (i : Input) → IsOfBus i → ((controller_informed k i).records ≡ k.records) × ((controller_informed k i).outstanding ≡ k.outstanding)
 bus_records k (input.Heard h) bus = (refl, refl)
 bus_records k input.Destroyed bus = (refl, refl)
 bus_records k input.Lapsed bus = (refl, refl)
@@ -171,20 +171,20 @@ bus_records k input.Start bus = elim bus [ ]
 bus_records k input.Committed bus = elim bus [ ]
 bus_records k input.CommitFailed bus = elim bus [ ]
 
-owns_told : (w : World) (c : ℕ) (k : Controller) (m : Progress) (i : Input) (p : ℕ) (f : Forward) → IsOfBus i → k.told ≡ Some i → m.last ≡ k.last → k.last ≡ Some (Put p f)
-    → IsPlacedBy (owns w.bus.owner c) w.trace k (Some m) → OwnsWith w c (informed k i) (told m i)
-owns_told w c k m (input.Heard h) p f bus is same e placed = owns_heard w c k m (told m (input.Heard h)) p f h is e placed (heard_trace m p f h (same ∙ e))
-owns_told w c k m input.Destroyed p f bus is same e placed = owns_none w c (informed k input.Destroyed) (told m input.Destroyed) refl
-owns_told w c k m input.Lapsed p f bus is same e placed = owns_none w c (informed k input.Lapsed) (told m input.Lapsed) refl
+owns_told : (w : World) (c : ℕ) (k : Controller) (m : Machine) (i : Input) (p : ℕ) (f : Forward) → IsOfBus i → k.told ≡ Some i → m.last ≡ k.last → k.last ≡ Some (Put p f)
+    → IsPlacedBy (owns w.bus.owner c) w.trace k (Some m) → OwnsWith w c (controller_informed k i) (machine_told m i)
+owns_told w c k m (input.Heard h) p f bus is same e placed = owns_heard w c k m (machine_told m (input.Heard h)) p f h is e placed (heard_trace m p f h (same ∙ e))
+owns_told w c k m input.Destroyed p f bus is same e placed = owns_none w c (controller_informed k input.Destroyed) (machine_told m input.Destroyed) refl
+owns_told w c k m input.Lapsed p f bus is same e placed = owns_none w c (controller_informed k input.Lapsed) (machine_told m input.Lapsed) refl
 owns_told w c k m input.Start p f bus is same e placed = elim bus [ ]
 owns_told w c k m input.Committed p f bus is same e placed = elim bus [ ]
 owns_told w c k m input.CommitFailed p f bus is same e placed = elim bus [ ]
 
-pub found_told : (k : Controller) (m : Progress) (i : Input) → k.told ≡ Some i → IsFound k m → later k.finding (finding_of (told m i).trace) ≡ k.finding
+pub found_told : (k : Controller) (m : Machine) (i : Input) → k.told ≡ Some i → IsFound k m → later k.finding (finding_of (machine_told m i).trace) ≡ k.finding
 found_told k m i e is = subst (λ t. later k.finding (finding_of (informed_by m t).trace) ≡ k.finding) e is
 
-informed_bus : (w : World) (c : ℕ) (k : Controller) (m : Progress) (i : Input) → IsOfBus i → k.told ≡ Some i → IsRunning k m → IsPlacedBy (owns w.bus.owner c) w.trace k (Some m)
-    → AreInformed w c (informed k i) (told m i)
+informed_bus : (w : World) (c : ℕ) (k : Controller) (m : Machine) (i : Input) → IsOfBus i → k.told ≡ Some i → IsRunning k m → IsPlacedBy (owns w.bus.owner c) w.trace k (Some m)
+    → AreInformed w c (controller_informed k i) (machine_told m i)
 informed_bus w c k m i bus is tied placed =
     let put : IsPut k.last = bus_put i k.last bus (told_accepted k.last k.told i is tied.told) in
     record {
@@ -194,19 +194,19 @@ informed_bus w c k m i bus is tied placed =
       owns_with = owns_told w c k m i put.0 put.1 bus is tied.last put.2 placed;
     }
 
-informed_start : (w : World) (c : ℕ) (k : Controller) (m : Progress) → k.told ≡ Some input.Start → IsRunning k m → IsPlacedBy (owns w.bus.owner c) w.trace k (Some m)
-    → AreInformed w c (informed k input.Start) (told m input.Start)
+informed_start : (w : World) (c : ℕ) (k : Controller) (m : Machine) → k.told ≡ Some input.Start → IsRunning k m → IsPlacedBy (owns w.bus.owner c) w.trace k (Some m)
+    → AreInformed w c (controller_informed k input.Start) (machine_told m input.Start)
 informed_start w c k m is tied placed =
     let none : k.last ≡ None = start_first k.last (told_accepted k.last k.told input.Start is tied.told) in
     record {
       kept = tied.kept;
       outstanding = subst (λ l. IsOutstanding k.records l k.outstanding) none tied.outstanding;
       found = found_told k m input.Start is tied.found;
-      owns_with = owns_none w c (informed k input.Start) m (placed_start (owns w.bus.owner c) w.trace k m none placed);
+      owns_with = owns_none w c (controller_informed k input.Start) m (placed_start (owns w.bus.owner c) w.trace k m none placed);
     }
 
-informed_committed : (w : World) (c : ℕ) (k : Controller) (m : Progress) → IsCommit k.last → IsRunning k m → IsPlacedBy (owns w.bus.owner c) w.trace k (Some m)
-    → AreInformed w c (informed k input.Committed) (told m input.Committed)
+informed_committed : (w : World) (c : ℕ) (k : Controller) (m : Machine) → IsCommit k.last → IsRunning k m → IsPlacedBy (owns w.bus.owner c) w.trace k (Some m)
+    → AreInformed w c (controller_informed k input.Committed) (machine_told m input.Committed)
 informed_committed w c k m commit tied placed =
     let x = committed_last k.last commit in
     let none : m.trace ≡ [] = placed_commit (owns w.bus.owner c) w.trace k m x.0 x.1 placed in
@@ -216,13 +216,13 @@ informed_committed w c k m commit tied placed =
       kept = rw (ordered_x, out, tied.kept) refl;
       outstanding = refl;
       found = rw (ordered_x, none) refl;
-      owns_with = owns_none w c (informed k input.Committed) (told m input.Committed) (rw ordered_x none);
+      owns_with = owns_none w c (controller_informed k input.Committed) (machine_told m input.Committed) (rw ordered_x none);
     }
 
 -- ---------------------------------------------------------------- where an order leaves its controller
 
 -- its frame waits as a later one of the transaction that the bus runs, or as a first one; or nothing runs
-abbrev pub IsLeft : World → ℕ → Controller → Progress → Order → Type 0
+abbrev pub IsLeft : World → ℕ → Controller → Machine → Order → Type 0
 IsLeft w c k m (Put p f) =
     (is_arc (command_of f) ≡ false)
     × (((p ≡ 1) × (w.bus.owner ≡ Some c) × (w.trace ≡ m.trace) × Lawful k.records.block k.records.reserved w.trace f)
@@ -246,7 +246,7 @@ no_arc (Verify short) none = refl
 no_arc QueryShort none = refl
 no_arc (Other g) none = refl
 
-left_by : (w : World) (c : ℕ) (k : Controller) (t : Progress) (o : Order) → AreInformed w c k t → IsAllowed t o → IsAddressing o → IsLeft w c k (ordered t o) o
+left_by : (w : World) (c : ℕ) (k : Controller) (t : Machine) (o : Order) → AreInformed w c k t → IsAllowed t o → IsAddressing o → IsLeft w c k (machine_ordered t o) o
 left_by w c k t (Put p f) both (inl may) scripted = (no_arc (command_of f) scripted, inr (may.0, rw may.0 refl, (t.kept.block, t.kept.reserved, may.1)))
 left_by w c k t (Put p f) both (inr may) scripted =
     let lawful : Lawful k.records.block k.records.reserved t.trace f = subst (λ r. Lawful r.block r.reserved t.trace f) both.kept may.2 in
@@ -257,17 +257,17 @@ left_by w c k t (Done e) both may scripted = tt
 left_by w c k t (Halt why) both may scripted = tt
 
 -- WHAT A CONTROLLER THAT ACTS may order, and where the order leaves it
-pub record IsOrderedAt (w : World) (c : ℕ) (k : Controller) (m : Progress) (i : Input) (o : Order) : Type 0 where
-  pub may : MayOrder w c (informed k i) o
-  pub left : IsLeft w c (informed k i) (after m i o) o
+pub record IsOrderedAt (w : World) (c : ℕ) (k : Controller) (m : Machine) (i : Input) (o : Order) : Type 0 where
+  pub may : MayOrder w c (controller_informed k i) o
+  pub left : IsLeft w c (controller_informed k i) (machine_after m i o) o
 
-ordered_at : (w : World) (c : ℕ) (k : Controller) (m : Progress) (i : Input) (o : Order) → AreInformed w c (informed k i) (told m i) → IsOrdered (told m i) o → IsOrderedAt w c k m i o
+ordered_at : (w : World) (c : ℕ) (k : Controller) (m : Machine) (i : Input) (o : Order) → AreInformed w c (controller_informed k i) (machine_told m i) → IsOrdered (machine_told m i) o → IsOrderedAt w c k m i o
 ordered_at w c k m i o both order = record {
-  may = may_order_by w c (informed k i) (told m i) o both order.allowed;
-  left = left_by w c (informed k i) (told m i) o both order.allowed order.addressing;
+  may = may_order_by w c (controller_informed k i) (machine_told m i) o both order.allowed;
+  left = left_by w c (controller_informed k i) (machine_told m i) o both order.allowed order.addressing;
 }
 
-pub may_order : (w : World) (c : ℕ) (k : Controller) (m : Progress) (i : Input) (o : Order) → IsDue k i → IsRunning k m → IsAnswered m i o
+pub may_order : (w : World) (c : ℕ) (k : Controller) (m : Machine) (i : Input) (o : Order) → IsDue k i → IsRunning k m → IsAnswered m i o
     → IsPlacedBy (owns w.bus.owner c) w.trace k (Some m) → IsOrderedAt w c k m i o
 may_order w c k m (input.Heard h) o due tied answer placed = ordered_at w c k m (input.Heard h) o (informed_bus w c k m (input.Heard h) tt due tied placed) answer
 may_order w c k m input.Destroyed o due tied answer placed = ordered_at w c k m input.Destroyed o (informed_bus w c k m input.Destroyed tt due tied placed) answer

@@ -8,7 +8,7 @@ use Rattle.dali_gear.specs.declared.row.GearSet.{GearSet}
 use Rattle.dali_gear.specs.declared.row.Reach.TheVariants.{Everyone, Only}
 use Rattle.dali_gear.specs.Row.{answers_of, draws_needed, heard_of}
 use Rattle.dali_arbiter.specs.declared.request.Request.{Request}
-use Rattle.dali_arbiter.specs.Bus.{Bus, owns, total, next, request_of, lapsed, offered, sent, destroyed, collided, collision, silenced}
+use Rattle.dali_arbiter.specs.Arbiter.{Arbiter, owns, total, next, request_of, bus_lapsed, bus_offered, bus_sent, bus_destroyed, bus_collided, collision, bus_silenced}
 use Rattle.dali_script.specs.declared.trace.Entry.{Entry}
 use Rattle.dali_script.specs.Scripts.{IsLawful, IsFirst}
 use Rattle.dali_script.specs.Stages.{stage_of, may_follow}
@@ -21,11 +21,11 @@ use Rattle.dali_events.specs.declared.event.Event.TheVariants as event
 use Rattle.dali_events.specs.World.{World, Controller}
 use Rattle.dali_events.specs.Happens.{happens, entry, gives_up, put_after, is_arc, told_sent, told_destroyed, told_lapsed, sent_by}
 use Rattle.dali_events.specs.Allowed.{Allowed, IsUp, Hears, MaySend, IsDue, IsArc, HasOutstanding}
-use Rattle.dali_standing.specs.Fitted.{Fitted, taken_at}
-use Rattle.dali_script.specs.Records.{Records}
-use Rattle.dali_standing.specs.Places.{Place, Agrees, IsRunning, IsTied, MayAnswer, acted_at, told_at, down_at, up_at, trace_of}
-use Rattle.dali_standing.specs.Standing.{Seated, place_in, empty_place, Standing, flat, stand_of, controller_on, machine_in, machines_after, Moves, MayBeSent}
-use Rattle.dali_standing.proofs.Seats.{place_at, world_of, with_place, running_in, goes_on_in, has_acted, has_offered, has_sent, has_lost, has_collided, has_lapsed, has_gone_down, has_come_up, IsMove}
+use Rattle.dali_standing.specs.FittedGear.{FittedGear, taken_at}
+use Rattle.dali_script.specs.Records.{Kept}
+use Rattle.dali_standing.specs.Seats.{Seat, Agrees, IsRunning, IsTied, MayAnswer, acted_at, told_at, down_at, up_at, trace_of}
+use Rattle.dali_standing.specs.Standing.{Seated, seat_in, empty_seat, Standing, flat, stand_of, controller_on, machine_in, machines_after, Moves, MayBeSent}
+use Rattle.dali_standing.proofs.Seats.{seat_at, world_of, with_seat, running_in, goes_on_in, has_acted, has_offered, has_sent, has_lost, has_collided, has_lapsed, has_gone_down, has_come_up, IsMove}
 use Rattle.dali_standing.specs.Settled.{IsAccepted, IsHearing, IsPlacedBy, IsPlacedOn, Settled}
 use Rattle.dali_standing.specs.declared.refusal.Refusal.{Refusal}
 use Rattle.dali_standing.specs.declared.trouble.Trouble.{Trouble}
@@ -34,7 +34,7 @@ use Rattle.dali_standing.specs.Troubles.{heard_under, nobody_at_all}
 use Rattle.dali_standing.proofs.Moves.{MaySendAt, is_up, controller_in, machine_of, up_there, place_elsewhere, moves_acted, moves_offered, moves_sent, moves_lost, moves_collided, moves_lapsed, moves_down, moves_up}
 use Rattle.dali_special.specs.declared.command.Command.TheVariants.{Arc}
 use Rattle.dali_special.proofs.Table.{arc_of}
-use Rattle.dali_controller.specs.Progress.{Progress}
+use Rattle.dali_controller.specs.Machine.{Machine}
 use Rattle.dali_events.proofs.Growing.{plain_hearing}
 use Rattle.dali_events.proofs.Sending.{lawful_of}
 use Rattle.dali_standing.proofs.Placing.{running_is}
@@ -69,62 +69,62 @@ moved s e new is w ms same =
           (allowed_w, ap (λ (v : World). stand_of v (flat new).machines) world_w ∙ ap (stand_of (happens w e)) machines_w)
 
 -- the controller of a place, and its machine
-pub on_place : (s : Seated) (was : Standing) (c : ℕ) → flat s ≡ was → controller_on was c ≡ (place_at s c).controller
-on_place s was c view = subst (λ (w : Standing). controller_on w c ≡ (place_at s c).controller) view (controller_in s.seats c)
+pub on_place : (s : Seated) (was : Standing) (c : ℕ) → flat s ≡ was → controller_on was c ≡ (seat_at s c).controller
+on_place s was c view = subst (λ (w : Standing). controller_on w c ≡ (seat_at s c).controller) view (controller_in s.seats c)
 
-pub on_machine : (s : Seated) (was : Standing) (c : ℕ) → flat s ≡ was → machine_in was.machines c ≡ (place_at s c).machine
-on_machine s was c view = subst (λ (w : Standing). machine_in w.machines c ≡ (place_at s c).machine) view (machine_of s.seats c)
+pub on_machine : (s : Seated) (was : Standing) (c : ℕ) → flat s ≡ was → machine_in was.machines c ≡ (seat_at s c).machine
+on_machine s was c view = subst (λ (w : Standing). machine_in w.machines c ≡ (seat_at s c).machine) view (machine_of s.seats c)
 
 -- a place that was read
-pub place_read : (seats : List Place) (c : ℕ) (p : Place) → p ≡ get_or seats c p → c < length seats → p ≡ place_in seats c
-place_read seats c p read there = get_or_read_under seats c (length seats) p empty_place read there refl
+pub place_read : (seats : List Seat) (c : ℕ) (p : Seat) → p ≡ get_or seats c p → c < length seats → p ≡ seat_in seats c
+place_read seats c p read there = get_or_read_under seats c (length seats) p empty_seat read there refl
 
 -- ---------------------------------------------------------------- a controller acts
 
-pub act_accepts : (s : Seated) (was : Standing) (c : ℕ) (i : Input) (o : Order) (at : Place) (bus : Bus) → flat s ≡ was → Settled s
+pub act_accepts : (s : Seated) (was : Standing) (c : ℕ) (i : Input) (o : Order) (at : Seat) (bus : Arbiter) → flat s ≡ was → Settled s
     → (controller_on was c).up ≡ true → IsDue (controller_on was c) i → total was.bus < was.bus.capacity
     → at ≡ get_or s.seats c at → IsTied at.controller at.machine → MayAnswer at.machine i o
-    → bus ≡ (if gives_up s.bus c o then lapsed s.bus else s.bus) → IsAccepted bus c o
+    → bus ≡ (if gives_up s.bus c o then bus_lapsed s.bus else s.bus) → IsAccepted bus c o
 act_accepts s was c i o at bus view settled up due room read tied answer bus_is =
-    let here : (place_at s c).controller.up ≡ true = subst (λ (k : Controller). k.up ≡ true) (on_place s was c view) up in
-    let is : at ≡ place_at s c = place_read s.seats c at read (up_there s.seats c here) in
-    subst (λ (b : Bus). IsAccepted b c o) (sym bus_is)
+    let here : (seat_at s c).controller.up ≡ true = subst (λ (k : Controller). k.up ≡ true) (on_place s was c view) up in
+    let is : at ≡ seat_at s c = place_read s.seats c at read (up_there s.seats c here) in
+    subst (λ (b : Arbiter). IsAccepted b c o) (sym bus_is)
     (accepted s.bus c o (subst (λ (w : Standing). total w.bus < w.bus.capacity) (sym view) room)
-    (may_ask (world_of s []) c (place_at s c) i o (subst (λ (k : Controller). IsDue k i) (on_place s was c view) due)
-    (subst (λ (p : Place). IsTied p.controller p.machine) is tied) (subst (λ (p : Place). MayAnswer p.machine i o) is answer) (settled.places c)))
+    (may_ask (world_of s []) c (seat_at s c) i o (subst (λ (k : Controller). IsDue k i) (on_place s was c view) due)
+    (subst (λ (p : Seat). IsTied p.controller p.machine) is tied) (subst (λ (p : Seat). MayAnswer p.machine i o) is answer) (settled.places c)))
 
-pub act_done : (s : Seated) (was : Standing) (c : ℕ) (i : Input) (o : Order) (at seat : Place) (bus bus' : Bus) (trace : List Entry) → flat s ≡ was → Settled s
+pub act_done : (s : Seated) (was : Standing) (c : ℕ) (i : Input) (o : Order) (at seat : Seat) (bus bus' : Arbiter) (trace : List Entry) → flat s ≡ was → Settled s
     → (controller_on was c).up ≡ true → IsDue (controller_on was c) i
     → at ≡ get_or s.seats c at → IsTied at.controller at.machine → MayAnswer at.machine i o → seat ≡ acted_at at i o
-    → bus ≡ (if gives_up s.bus c o then lapsed s.bus else s.bus) → trace ≡ (if gives_up s.bus c o then [] else s.trace) → bus' ≡ put_after bus c o
-    → IsDone was (event.Acted c i o) (record { fitted = s.fitted; bus = bus'; trace = trace; seats = with_place s.seats c seat })
+    → bus ≡ (if gives_up s.bus c o then bus_lapsed s.bus else s.bus) → trace ≡ (if gives_up s.bus c o then [] else s.trace) → bus' ≡ put_after bus c o
+    → IsDone was (event.Acted c i o) (record { fitted = s.fitted; bus = bus'; trace = trace; seats = with_seat s.seats c seat })
 act_done s was c i o at seat bus bus' trace view settled up due read tied answer seat_is bus_is trace_is bus'_is =
-    let here : (place_at s c).controller.up ≡ true = subst (λ (k : Controller). k.up ≡ true) (on_place s was c view) up in
-    let due_here : IsDue (place_at s c).controller i = subst (λ (k : Controller). IsDue k i) (on_place s was c view) due in
-    let is : at ≡ place_at s c = place_read s.seats c at read (up_there s.seats c here) in
-    let tied_here = subst (λ (p : Place). IsTied p.controller p.machine) is tied in
-    let answer_here = subst (λ (p : Place). MayAnswer p.machine i o) is answer in
-    subst (λ (w : Standing). IsDone w (event.Acted c i o) (record { fitted = s.fitted; bus = bus'; trace = trace; seats = with_place s.seats c seat })) view
+    let here : (seat_at s c).controller.up ≡ true = subst (λ (k : Controller). k.up ≡ true) (on_place s was c view) up in
+    let due_here : IsDue (seat_at s c).controller i = subst (λ (k : Controller). IsDue k i) (on_place s was c view) due in
+    let is : at ≡ seat_at s c = place_read s.seats c at read (up_there s.seats c here) in
+    let tied_here = subst (λ (p : Seat). IsTied p.controller p.machine) is tied in
+    let answer_here = subst (λ (p : Seat). MayAnswer p.machine i o) is answer in
+    subst (λ (w : Standing). IsDone w (event.Acted c i o) (record { fitted = s.fitted; bus = bus'; trace = trace; seats = with_seat s.seats c seat })) view
     (done_as (flat s) (event.Acted c i o) (has_acted s c i o) _
-    (rw (bus'_is, bus_is, trace_is, seat_is) (ap (λ (p : Place). record { fitted = s.fitted; bus = put_after (if gives_up s.bus c o then lapsed s.bus else s.bus) c o; trace = (if gives_up s.bus c o then [] else s.trace); seats = with_place s.seats c (acted_at p i o) }) is))
+    (rw (bus'_is, bus_is, trace_is, seat_is) (ap (λ (p : Seat). record { fitted = s.fitted; bus = put_after (if gives_up s.bus c o then bus_lapsed s.bus else s.bus) c o; trace = (if gives_up s.bus c o then [] else s.trace); seats = with_seat s.seats c (acted_at p i o) }) is))
     (record {
       moves = moved s _ _ (moves_acted s c i o here due_here tied_here answer_here (settled.places c));
       settled = settled_acted s c i o settled here due_here tied_here answer_here;
     }))
 
-pub act_answers : (s : Seated) (was : Standing) (c : ℕ) (i : Input) (o : Order) (at : Place) → flat s ≡ was → (controller_on was c).up ≡ true
+pub act_answers : (s : Seated) (was : Standing) (c : ℕ) (i : Input) (o : Order) (at : Seat) → flat s ≡ was → (controller_on was c).up ≡ true
     → at ≡ get_or s.seats c at → MayAnswer at.machine i o → MayAnswer (machine_in was.machines c) i o
 act_answers s was c i o at view up read answer =
-    let here : (place_at s c).controller.up ≡ true = subst (λ (k : Controller). k.up ≡ true) (on_place s was c view) up in
-    let is : at ≡ place_at s c = place_read s.seats c at read (up_there s.seats c here) in
-    subst (λ m. MayAnswer m i o) (sym (on_machine s was c view)) (subst (λ (p : Place). MayAnswer p.machine i o) is answer)
+    let here : (seat_at s c).controller.up ≡ true = subst (λ (k : Controller). k.up ≡ true) (on_place s was c view) up in
+    let is : at ≡ seat_at s c = place_read s.seats c at read (up_there s.seats c here) in
+    subst (λ m. MayAnswer m i o) (sym (on_machine s was c view)) (subst (λ (p : Seat). MayAnswer p.machine i o) is answer)
 
 -- ---------------------------------------------------------------- requests and frames
 
-pub offer_done : (s : Seated) (was : Standing) (c : ℕ) (f : Forward) (bus : Bus) → flat s ≡ was → Settled s → (controller_on was c).up ≡ true → IsArc f
-    → bus ≡ offered s.bus (request_of c 2 f) → IsDone was (event.Offered c f) (record { fitted = s.fitted; bus = bus; trace = s.trace; seats = s.seats })
+pub offer_done : (s : Seated) (was : Standing) (c : ℕ) (f : Forward) (bus : Arbiter) → flat s ≡ was → Settled s → (controller_on was c).up ≡ true → IsArc f
+    → bus ≡ bus_offered s.bus (request_of c 2 f) → IsDone was (event.Offered c f) (record { fitted = s.fitted; bus = bus; trace = s.trace; seats = s.seats })
 offer_done s was c f bus view settled up arc is =
-    let here : (place_at s c).controller.up ≡ true = subst (λ (k : Controller). k.up ≡ true) (on_place s was c view) up in
+    let here : (seat_at s c).controller.up ≡ true = subst (λ (k : Controller). k.up ≡ true) (on_place s was c view) up in
     subst (λ (w : Standing). IsDone w (event.Offered c f) (record { fitted = s.fitted; bus = bus; trace = s.trace; seats = s.seats })) view
     (done_as (flat s) (event.Offered c f) (has_offered s c f) _ (rw is refl) (record { moves = moved s _ _ (moves_offered s c f here arc); settled = settled_offered s c f settled here arc }))
 
@@ -145,44 +145,44 @@ frame_follows s was r t view settled first is =
     subst (λ u. IsLawful u r.frame) (sym is) (_, _, lawful)
 
 abbrev IsKind : Seated → Request → Type 0
-IsKind s r = ((is_arc (command_of r.frame) ≡ false) × ((place_at s r.sender).controller.told ≡ None) × ((place_at s r.sender).controller.last ≡ Some (Put r.priority r.frame)))
+IsKind s r = ((is_arc (command_of r.frame) ≡ false) × ((seat_at s r.sender).controller.told ≡ None) × ((seat_at s r.sender).controller.last ≡ Some (Put r.priority r.frame)))
     ⊎ ((is_arc (command_of r.frame) ≡ true) × (s.bus.owner ≡ None))
 
 -- its sender waits for it
-pub sender_hears : (s : Seated) (was : Standing) (r : Request) (at : Place) (h : Answer) (t u : List Entry) → flat s ≡ was → Settled s → next was.bus ≡ Some r → at ≡ get_or s.seats r.sender at
+pub sender_hears : (s : Seated) (was : Standing) (r : Request) (at : Seat) (h : Answer) (t u : List Entry) → flat s ≡ was → Settled s → next was.bus ≡ Some r → at ≡ get_or s.seats r.sender at
     → t ≡ (if owns s.bus.owner r.sender then s.trace else []) → u ≡ t ++ entry r.frame h ∷ [] → IsHearing at r.frame h u
 sender_hears s was r at h t u view settled first read t_is u_is scripted =
     let n = next_at s r settled (next_here s was r view first) in
-    let is : at ≡ place_at s r.sender = place_read s.seats r.sender at read (up_there s.seats r.sender n.up) in
-    let known : (frame_put (place_at s r.sender).controller.last ≡ Some r.frame) × ((place_at s r.sender).controller.told ≡ None) × (u ≡ trace_of (place_at s r.sender).machine ++ entry r.frame h ∷ []) = go n.kind in
-    subst (λ (p : Place). (frame_put p.controller.last ≡ Some r.frame) × (p.controller.told ≡ None) × (u ≡ trace_of p.machine ++ entry r.frame h ∷ [])) (sym is) known where
-      go : IsKind s r → (frame_put (place_at s r.sender).controller.last ≡ Some r.frame) × ((place_at s r.sender).controller.told ≡ None) × (u ≡ trace_of (place_at s r.sender).machine ++ entry r.frame h ∷ [])
+    let is : at ≡ seat_at s r.sender = place_read s.seats r.sender at read (up_there s.seats r.sender n.up) in
+    let known : (frame_put (seat_at s r.sender).controller.last ≡ Some r.frame) × ((seat_at s r.sender).controller.told ≡ None) × (u ≡ trace_of (seat_at s r.sender).machine ++ entry r.frame h ∷ []) = go n.kind in
+    subst (λ (p : Seat). (frame_put p.controller.last ≡ Some r.frame) × (p.controller.told ≡ None) × (u ≡ trace_of p.machine ++ entry r.frame h ∷ [])) (sym is) known where
+      go : IsKind s r → (frame_put (seat_at s r.sender).controller.last ≡ Some r.frame) × ((seat_at s r.sender).controller.told ≡ None) × (u ≡ trace_of (seat_at s r.sender).machine ++ entry r.frame h ∷ [])
       go (inl k) = (
         rw k.2 refl,
         k.1,
-        u_is ∙ ap (λ v. v ++ entry r.frame h ∷ []) (t_is ∙ running_is (owns s.bus.owner r.sender) s.trace (place_at s r.sender) r.priority r.frame k.1 k.2 (settled.places r.sender)),
+        u_is ∙ ap (λ v. v ++ entry r.frame h ∷ []) (t_is ∙ running_is (owns s.bus.owner r.sender) s.trace (seat_at s r.sender) r.priority r.frame k.1 k.2 (settled.places r.sender)),
       )
       go (inr k) = absurd (let no = k.0 in cc)
 
-pub sender_loses : (s : Seated) (was : Standing) (r : Request) (at : Place) → flat s ≡ was → Settled s → next was.bus ≡ Some r → at ≡ get_or s.seats r.sender at
+pub sender_loses : (s : Seated) (was : Standing) (r : Request) (at : Seat) → flat s ≡ was → Settled s → next was.bus ≡ Some r → at ≡ get_or s.seats r.sender at
     → is_arc (command_of r.frame) ≡ false → frame_put at.controller.last ≡ Some r.frame
 sender_loses s was r at view settled first read scripted =
     let n = next_at s r settled (next_here s was r view first) in
-    let is : at ≡ place_at s r.sender = place_read s.seats r.sender at read (up_there s.seats r.sender n.up) in
-    subst (λ (p : Place). frame_put p.controller.last ≡ Some r.frame) (sym is) (go n.kind) where
-      go : IsKind s r → frame_put (place_at s r.sender).controller.last ≡ Some r.frame
+    let is : at ≡ seat_at s r.sender = place_read s.seats r.sender at read (up_there s.seats r.sender n.up) in
+    subst (λ (p : Seat). frame_put p.controller.last ≡ Some r.frame) (sym is) (go n.kind) where
+      go : IsKind s r → frame_put (seat_at s r.sender).controller.last ≡ Some r.frame
       go (inl k) = rw k.2 refl
       go (inr k) = absurd (let no = k.0 in cc)
 
 -- what is told does not hang on whose trace it is called
 told_running : (s : Seated) (r : Request) (h : Answer) → Settled s → next s.bus ≡ Some r
-    → told_at (told_sent (trace_of (place_at s r.sender).machine) r.frame h) (place_at s r.sender) ≡ told_at (told_sent (running_in s r.sender) r.frame h) (place_at s r.sender)
+    → told_at (told_sent (trace_of (seat_at s r.sender).machine) r.frame h) (seat_at s r.sender) ≡ told_at (told_sent (running_in s r.sender) r.frame h) (seat_at s r.sender)
 told_running s r h settled first = go (next_at s r settled first).kind where
-  go : IsKind s r → told_at (told_sent (trace_of (place_at s r.sender).machine) r.frame h) (place_at s r.sender) ≡ told_at (told_sent (running_in s r.sender) r.frame h) (place_at s r.sender)
-  go (inl k) = ap (λ t. told_at (told_sent t r.frame h) (place_at s r.sender)) (sym (running_is (owns s.bus.owner r.sender) s.trace (place_at s r.sender) r.priority r.frame k.1 k.2 (settled.places r.sender)))
-  go (inr k) = arc_tells (trace_of (place_at s r.sender).machine) r.frame h (place_at s r.sender) k.0 ∙ sym (arc_tells (running_in s r.sender) r.frame h (place_at s r.sender) k.0)
+  go : IsKind s r → told_at (told_sent (trace_of (seat_at s r.sender).machine) r.frame h) (seat_at s r.sender) ≡ told_at (told_sent (running_in s r.sender) r.frame h) (seat_at s r.sender)
+  go (inl k) = ap (λ t. told_at (told_sent t r.frame h) (seat_at s r.sender)) (sym (running_is (owns s.bus.owner r.sender) s.trace (seat_at s r.sender) r.priority r.frame k.1 k.2 (settled.places r.sender)))
+  go (inr k) = arc_tells (trace_of (seat_at s r.sender).machine) r.frame h (seat_at s r.sender) k.0 ∙ sym (arc_tells (running_in s r.sender) r.frame h (seat_at s r.sender) k.0)
 
-sent_is : (b : Bus) (r : Request) (more : Bool) → next b ≡ Some r → sent b more ≡ sent_by b r.sender more
+sent_is : (b : Arbiter) (r : Request) (more : Bool) → next b ≡ Some r → bus_sent b more ≡ sent_by b r.sender more
 sent_is b r true first = rw first refl
 sent_is b r false first = refl
 
@@ -190,39 +190,39 @@ not_not : (b c : Bool) → c ≡ not b → not c ≡ b
 not_not true c e = rw e refl
 not_not false c e = rw e refl
 
-pub send_done : (s : Seated) (was : Standing) (r : Request) (h : Answer) (at seat : Place) (fitted : Fitted) (bus : Bus) (t u v : List Entry) (done : Bool) → flat s ≡ was → Settled s → next was.bus ≡ Some r
+pub send_done : (s : Seated) (was : Standing) (r : Request) (h : Answer) (at seat : Seat) (fitted : FittedGear) (bus : Arbiter) (t u v : List Entry) (done : Bool) → flat s ≡ was → Settled s → next was.bus ≡ Some r
     → draws_needed Everyone (command_of r.frame) 0 was.gear ≤ length was.left → Hears (answers_of Everyone (command_of r.frame) 0 s.fitted.gear) h
     → at ≡ get_or s.seats r.sender at → fitted ≡ taken_at Everyone (command_of r.frame) s.fitted
     → t ≡ (if owns s.bus.owner r.sender then s.trace else []) → u ≡ t ++ entry r.frame h ∷ []
     → seat ≡ told_at (told_sent (trace_of at.machine) r.frame h) at
-    → done ≡ not (may_follow seat.controller.records.block seat.controller.records.reserved (stage_of u)) → v ≡ (if not done then u else []) → bus ≡ sent s.bus (not done)
-    → IsDone was (event.Sent r.sender r.frame h) (record { fitted = fitted; bus = bus; trace = v; seats = with_place s.seats r.sender seat })
+    → done ≡ not (may_follow seat.controller.records.block seat.controller.records.reserved (stage_of u)) → v ≡ (if not done then u else []) → bus ≡ bus_sent s.bus (not done)
+    → IsDone was (event.Sent r.sender r.frame h) (record { fitted = fitted; bus = bus; trace = v; seats = with_seat s.seats r.sender seat })
 send_done s was r h at seat fitted bus t u v done view settled first draws heard read fitted_is t_is u_is seat_is done_is v_is bus_is =
     let here = next_here s was r view first in
     let n = next_at s r settled here in
-    let is : at ≡ place_at s r.sender = place_read s.seats r.sender at read (up_there s.seats r.sender n.up) in
-    let seat_so : seat ≡ told_at (told_sent (running_in s r.sender) r.frame h) (place_at s r.sender) =
-    seat_is ∙ ap (λ (p : Place). told_at (told_sent (trace_of p.machine) r.frame h) p) is ∙ told_running s r h settled here in
+    let is : at ≡ seat_at s r.sender = place_read s.seats r.sender at read (up_there s.seats r.sender n.up) in
+    let seat_so : seat ≡ told_at (told_sent (running_in s r.sender) r.frame h) (seat_at s r.sender) =
+    seat_is ∙ ap (λ (p : Seat). told_at (told_sent (trace_of p.machine) r.frame h) p) is ∙ told_running s r h settled here in
     let u_so : u ≡ running_in s r.sender ++ entry r.frame h ∷ [] = u_is ∙ ap (λ x. x ++ entry r.frame h ∷ []) t_is in
     let more_so : not done ≡ goes_on_in s r.sender (running_in s r.sender ++ entry r.frame h ∷ []) = not_not (goes_on_in s r.sender (running_in s r.sender ++ entry r.frame h ∷ [])) done
-    (done_is ∙ ap (λ (p : Place). not (may_follow p.controller.records.block p.controller.records.reserved (stage_of u))) seat_so ∙ ap (λ x. not (goes_on_in s r.sender x)) u_so) in
+    (done_is ∙ ap (λ (p : Seat). not (may_follow p.controller.records.block p.controller.records.reserved (stage_of u))) seat_so ∙ ap (λ x. not (goes_on_in s r.sender x)) u_so) in
     let draws_here = subst (λ (w : Standing). draws_needed Everyone (command_of r.frame) 0 w.gear ≤ length w.left) (sym view) draws in
-    subst (λ (w : Standing). IsDone w (event.Sent r.sender r.frame h) (record { fitted = fitted; bus = bus; trace = v; seats = with_place s.seats r.sender seat })) view
+    subst (λ (w : Standing). IsDone w (event.Sent r.sender r.frame h) (record { fitted = fitted; bus = bus; trace = v; seats = with_seat s.seats r.sender seat })) view
     (done_as (flat s) (event.Sent r.sender r.frame h) (has_sent s r.sender r.frame h) _
     (rw (fitted_is, bus_is ∙ sent_is s.bus r (not done) here, v_is, u_so, seat_so, more_so) refl)
     (record { moves = moved s _ _ (moves_sent s r.sender r.frame h n.up n.may draws_here heard); settled = settled_sent s r h settled here }))
 
-pub destroy_done : (s : Seated) (was : Standing) (r : Request) (set : GearSet) (at seat : Place) (fitted : Fitted) (bus : Bus) (t : List Entry) → flat s ≡ was → Settled s → next was.bus ≡ Some r
+pub destroy_done : (s : Seated) (was : Standing) (r : Request) (set : GearSet) (at seat : Seat) (fitted : FittedGear) (bus : Arbiter) (t : List Entry) → flat s ≡ was → Settled s → next was.bus ≡ Some r
     → draws_needed (Only set) (command_of r.frame) 0 was.gear ≤ length was.left
-    → at ≡ get_or s.seats r.sender at → fitted ≡ taken_at (Only set) (command_of r.frame) s.fitted → seat ≡ told_at (told_destroyed r.frame) at → bus ≡ destroyed s.bus → t ≡ []
-    → IsDone was (event.Destroyed r.sender r.frame set) (record { fitted = fitted; bus = bus; trace = t; seats = with_place s.seats r.sender seat })
+    → at ≡ get_or s.seats r.sender at → fitted ≡ taken_at (Only set) (command_of r.frame) s.fitted → seat ≡ told_at (told_destroyed r.frame) at → bus ≡ bus_destroyed s.bus → t ≡ []
+    → IsDone was (event.Destroyed r.sender r.frame set) (record { fitted = fitted; bus = bus; trace = t; seats = with_seat s.seats r.sender seat })
 destroy_done s was r set at seat fitted bus t view settled first draws read fitted_is seat_is bus_is t_is =
     let here = next_here s was r view first in
     let n = next_at s r settled here in
-    let is : at ≡ place_at s r.sender = place_read s.seats r.sender at read (up_there s.seats r.sender n.up) in
-    let seat_so : seat ≡ told_at (told_destroyed r.frame) (place_at s r.sender) = seat_is ∙ ap (λ (p : Place). told_at (told_destroyed r.frame) p) is in
+    let is : at ≡ seat_at s r.sender = place_read s.seats r.sender at read (up_there s.seats r.sender n.up) in
+    let seat_so : seat ≡ told_at (told_destroyed r.frame) (seat_at s r.sender) = seat_is ∙ ap (λ (p : Seat). told_at (told_destroyed r.frame) p) is in
     let draws_here = subst (λ (w : Standing). draws_needed (Only set) (command_of r.frame) 0 w.gear ≤ length w.left) (sym view) draws in
-    subst (λ (w : Standing). IsDone w (event.Destroyed r.sender r.frame set) (record { fitted = fitted; bus = bus; trace = t; seats = with_place s.seats r.sender seat })) view
+    subst (λ (w : Standing). IsDone w (event.Destroyed r.sender r.frame set) (record { fitted = fitted; bus = bus; trace = t; seats = with_seat s.seats r.sender seat })) view
     (done_as (flat s) (event.Destroyed r.sender r.frame set) (has_lost s r.sender r.frame set) _ (rw (fitted_is, bus_is, t_is, seat_so) refl)
     (record { moves = moved s _ _ (moves_lost s r.sender r.frame set n.up n.may draws_here); settled = settled_lost s r set settled here }))
 
@@ -238,13 +238,13 @@ may_hear answers what plain h plain_is is = subst (λ x. Hears answers x) (sym (
 
 -- ---------------------------------------------------------------- two frames collide
 
-alone_is : (b : Bus) → collision b.lists ≡ None → collided b ≡ destroyed b
+alone_is : (b : Arbiter) → collision b.lists ≡ None → bus_collided b ≡ bus_destroyed b
 alone_is b none = rw none refl
 
-pub alone_done : (s : Seated) (was : Standing) (r : Request) (at seat : Place) (fitted : Fitted) (bus : Bus) (t : List Entry) → flat s ≡ was → Settled s → next was.bus ≡ Some r
+pub alone_done : (s : Seated) (was : Standing) (r : Request) (at seat : Seat) (fitted : FittedGear) (bus : Arbiter) (t : List Entry) → flat s ≡ was → Settled s → next was.bus ≡ Some r
     → draws_needed (Only nobody_at_all) (command_of r.frame) 0 was.gear ≤ length was.left → collision s.bus.lists ≡ None
-    → at ≡ get_or s.seats r.sender at → fitted ≡ taken_at (Only nobody_at_all) (command_of r.frame) s.fitted → seat ≡ told_at (told_destroyed r.frame) at → bus ≡ collided s.bus → t ≡ []
-    → IsDone was (event.Destroyed r.sender r.frame nobody_at_all) (record { fitted = fitted; bus = bus; trace = t; seats = with_place s.seats r.sender seat })
+    → at ≡ get_or s.seats r.sender at → fitted ≡ taken_at (Only nobody_at_all) (command_of r.frame) s.fitted → seat ≡ told_at (told_destroyed r.frame) at → bus ≡ bus_collided s.bus → t ≡ []
+    → IsDone was (event.Destroyed r.sender r.frame nobody_at_all) (record { fitted = fitted; bus = bus; trace = t; seats = with_seat s.seats r.sender seat })
 alone_done s was r at seat fitted bus t view settled first draws none read fitted_is seat_is bus_is t_is =
     destroy_done s was r nobody_at_all at seat fitted bus t view settled first draws read fitted_is seat_is (bus_is ∙ alone_is s.bus none) t_is
 
@@ -254,44 +254,44 @@ first_frame s r free may = go (may []) where
   go (inl m) = absurd (let no : Some r.sender ≡ None = sym m.0 ∙ free in cc)
   go (inr m) = m.1
 
-first_lost : (s : Seated) (was : Standing) (r : Request) (at seat : Place) → flat s ≡ was → Settled s → next was.bus ≡ Some r → at ≡ get_or s.seats r.sender at
-    → seat ≡ told_at (told_destroyed r.frame) at → with_place s.seats r.sender seat ≡ (has_lost s r.sender r.frame nobody_at_all).seats
+first_lost : (s : Seated) (was : Standing) (r : Request) (at seat : Seat) → flat s ≡ was → Settled s → next was.bus ≡ Some r → at ≡ get_or s.seats r.sender at
+    → seat ≡ told_at (told_destroyed r.frame) at → with_seat s.seats r.sender seat ≡ (has_lost s r.sender r.frame nobody_at_all).seats
 first_lost s was r at seat view settled first read seat_is =
     let n = next_at s r settled (next_here s was r view first) in
-    let is : at ≡ place_at s r.sender = place_read s.seats r.sender at read (up_there s.seats r.sender n.up) in
-    ap (λ (p : Place). with_place s.seats r.sender p) (seat_is ∙ ap (λ (p : Place). told_at (told_destroyed r.frame) p) is)
+    let is : at ≡ seat_at s r.sender = place_read s.seats r.sender at read (up_there s.seats r.sender n.up) in
+    ap (λ (p : Seat). with_seat s.seats r.sender p) (seat_is ∙ ap (λ (p : Seat). told_at (told_destroyed r.frame) p) is)
 
 pub rival_there : (s : Seated) (was : Standing) (r q : Request) → flat s ≡ was → Settled s → next was.bus ≡ Some r → collision s.bus.lists ≡ Some q → q.sender < length s.seats
 rival_there s was r q view settled first both =
     let k = is_collision s r q settled (next_here s was r view first) both in
-    subst (λ n. q.sender < n) (length-set s.seats r.sender (told_at (told_destroyed r.frame) (place_at s r.sender))) (up_there (has_lost s r.sender r.frame nobody_at_all).seats q.sender k.second.up)
+    subst (λ n. q.sender < n) (length-set s.seats r.sender (told_at (told_destroyed r.frame) (seat_at s r.sender))) (up_there (has_lost s r.sender r.frame nobody_at_all).seats q.sender k.second.up)
 
-pub rival_loses : (s : Seated) (was : Standing) (r q : Request) (at seat at' : Place) → flat s ≡ was → Settled s → next was.bus ≡ Some r → collision s.bus.lists ≡ Some q
-    → at ≡ get_or s.seats r.sender at → seat ≡ told_at (told_destroyed r.frame) at → at' ≡ get_or (with_place s.seats r.sender seat) q.sender at'
+pub rival_loses : (s : Seated) (was : Standing) (r q : Request) (at seat at' : Seat) → flat s ≡ was → Settled s → next was.bus ≡ Some r → collision s.bus.lists ≡ Some q
+    → at ≡ get_or s.seats r.sender at → seat ≡ told_at (told_destroyed r.frame) at → at' ≡ get_or (with_seat s.seats r.sender seat) q.sender at'
     → is_arc (command_of q.frame) ≡ false → frame_put at'.controller.last ≡ Some q.frame
 rival_loses s was r q at seat at' view settled first both read seat_is read' scripted =
     let here = next_here s was r view first in
     let k = is_collision s r q settled here both in
     let lost : Seated = has_lost s r.sender r.frame nobody_at_all in
     sender_loses lost (flat lost) q at' refl (settled_lost s r nobody_at_all settled here) k.then_next
-    (subst (λ (ps : List Place). at' ≡ get_or ps q.sender at') (first_lost s was r at seat view settled first read seat_is) read') scripted
+    (subst (λ (ps : List Seat). at' ≡ get_or ps q.sender at') (first_lost s was r at seat view settled first read seat_is) read') scripted
 
-pub collide_done : (s : Seated) (was : Standing) (r q : Request) (at seat at' seat' : Place) (bus : Bus) (t : List Entry) → flat s ≡ was → Settled s → next was.bus ≡ Some r → collision s.bus.lists ≡ Some q
-    → at ≡ get_or s.seats r.sender at → seat ≡ told_at (told_destroyed r.frame) at → at' ≡ get_or (with_place s.seats r.sender seat) q.sender at' → seat' ≡ told_at (told_destroyed q.frame) at'
-    → bus ≡ collided s.bus → t ≡ []
-    → IsDone was (event.Collided r.sender r.frame q.sender q.frame) (record { fitted = s.fitted; bus = bus; trace = t; seats = with_place (with_place s.seats r.sender seat) q.sender seat' })
+pub collide_done : (s : Seated) (was : Standing) (r q : Request) (at seat at' seat' : Seat) (bus : Arbiter) (t : List Entry) → flat s ≡ was → Settled s → next was.bus ≡ Some r → collision s.bus.lists ≡ Some q
+    → at ≡ get_or s.seats r.sender at → seat ≡ told_at (told_destroyed r.frame) at → at' ≡ get_or (with_seat s.seats r.sender seat) q.sender at' → seat' ≡ told_at (told_destroyed q.frame) at'
+    → bus ≡ bus_collided s.bus → t ≡ []
+    → IsDone was (event.Collided r.sender r.frame q.sender q.frame) (record { fitted = s.fitted; bus = bus; trace = t; seats = with_seat (with_seat s.seats r.sender seat) q.sender seat' })
 collide_done s was r q at seat at' seat' bus t view settled first both read seat_is read' seat'_is bus_is t_is =
     let here = next_here s was r view first in
     let k = is_collision s r q settled here both in
     let lost : Seated = has_lost s r.sender r.frame nobody_at_all in
-    let seats_so : with_place s.seats r.sender seat ≡ lost.seats = first_lost s was r at seat view settled first read seat_is in
-    let at'_so : at' ≡ place_at lost q.sender =
-    place_read lost.seats q.sender at' (subst (λ (ps : List Place). at' ≡ get_or ps q.sender at') seats_so read') (up_there lost.seats q.sender k.second.up) in
-    let seat'_so : seat' ≡ told_at (told_destroyed q.frame) (place_at lost q.sender) = seat'_is ∙ ap (λ (p : Place). told_at (told_destroyed q.frame) p) at'_so in
+    let seats_so : with_seat s.seats r.sender seat ≡ lost.seats = first_lost s was r at seat view settled first read seat_is in
+    let at'_so : at' ≡ seat_at lost q.sender =
+    place_read lost.seats q.sender at' (subst (λ (ps : List Seat). at' ≡ get_or ps q.sender at') seats_so read') (up_there lost.seats q.sender k.second.up) in
+    let seat'_so : seat' ≡ told_at (told_destroyed q.frame) (seat_at lost q.sender) = seat'_is ∙ ap (λ (p : Seat). told_at (told_destroyed q.frame) p) at'_so in
     let there : q.sender < length s.seats = rival_there s was r q view settled first both in
-    let up_q : (place_at s q.sender).controller.up ≡ true =
-    subst (λ (p : Place). p.controller.up ≡ true) (place_elsewhere s.seats r.sender q.sender (told_at (told_destroyed r.frame) (place_at s r.sender)) (λ e. k.apart (sym e))) k.second.up in
-    subst (λ (w : Standing). IsDone w (event.Collided r.sender r.frame q.sender q.frame) (record { fitted = s.fitted; bus = bus; trace = t; seats = with_place (with_place s.seats r.sender seat) q.sender seat' })) view
+    let up_q : (seat_at s q.sender).controller.up ≡ true =
+    subst (λ (p : Seat). p.controller.up ≡ true) (place_elsewhere s.seats r.sender q.sender (told_at (told_destroyed r.frame) (seat_at s r.sender)) (λ e. k.apart (sym e))) k.second.up in
+    subst (λ (w : Standing). IsDone w (event.Collided r.sender r.frame q.sender q.frame) (record { fitted = s.fitted; bus = bus; trace = t; seats = with_seat (with_seat s.seats r.sender seat) q.sender seat' })) view
     (done_as (flat s) (event.Collided r.sender r.frame q.sender q.frame) (has_collided s r.sender r.frame q.sender q.frame) _ (rw (bus_is, t_is, seats_so, seat'_so) refl)
     (record {
       moves = moved s _ _ (moves_collided s r.sender r.frame q.sender q.frame k.free k.apart k.first.up up_q (first_frame s r k.free k.first.may) (first_frame lost q refl k.second.may));
@@ -300,62 +300,62 @@ collide_done s was r q at seat at' seat' bus t view settled first both read seat
 
 -- ---------------------------------------------------------------- the owner loses the bus, controllers go down and come up
 
-pub lapse_done : (s : Seated) (was : Standing) (c : ℕ) (at seat : Place) (bus : Bus) (t : List Entry) → flat s ≡ was → Settled s → s.bus.owner ≡ Some c → at ≡ get_or s.seats c at → seat ≡ told_at told_lapsed at
-    → bus ≡ lapsed s.bus → t ≡ [] → IsDone was event.Lapsed (record { fitted = s.fitted; bus = bus; trace = t; seats = with_place s.seats c seat })
+pub lapse_done : (s : Seated) (was : Standing) (c : ℕ) (at seat : Seat) (bus : Arbiter) (t : List Entry) → flat s ≡ was → Settled s → s.bus.owner ≡ Some c → at ≡ get_or s.seats c at → seat ≡ told_at told_lapsed at
+    → bus ≡ bus_lapsed s.bus → t ≡ [] → IsDone was event.Lapsed (record { fitted = s.fitted; bus = bus; trace = t; seats = with_seat s.seats c seat })
 lapse_done s was c at seat bus t view settled own read seat_is bus_is t_is =
-    let is : at ≡ place_at s c = place_read s.seats c at read (up_there s.seats c (owner_put s c settled own).0) in
-    subst (λ (w : Standing). IsDone w event.Lapsed (record { fitted = s.fitted; bus = bus; trace = t; seats = with_place s.seats c seat })) view
-    (done_as (flat s) event.Lapsed (has_lapsed s) _ (rw (bus_is, t_is, seat_is, own) (ap (λ (p : Place). record { fitted = s.fitted; bus = lapsed s.bus; trace = []; seats = with_place s.seats c (told_at told_lapsed p) }) is))
+    let is : at ≡ seat_at s c = place_read s.seats c at read (up_there s.seats c (owner_put s c settled own).0) in
+    subst (λ (w : Standing). IsDone w event.Lapsed (record { fitted = s.fitted; bus = bus; trace = t; seats = with_seat s.seats c seat })) view
+    (done_as (flat s) event.Lapsed (has_lapsed s) _ (rw (bus_is, t_is, seat_is, own) (ap (λ (p : Seat). record { fitted = s.fitted; bus = bus_lapsed s.bus; trace = []; seats = with_seat s.seats c (told_at told_lapsed p) }) is))
     (record { moves = moved s _ _ (moves_lapsed s); settled = settled_lapsed s settled }))
 
 not_if : (b c : Bool) (t : List Entry) → b ≡ c → (if not b then t else []) ≡ (if c then [] else t)
 not_if true c t e = rw (← e) refl
 not_if false c t e = rw (← e) refl
 
-pub down_done : (s : Seated) (was : Standing) (c : ℕ) (at seat : Place) (bus : Bus) (t : List Entry) (owned : Bool) → flat s ≡ was → Settled s → (controller_on was c).up ≡ true → owned ≡ owns s.bus.owner c
-    → at ≡ get_or s.seats c at → seat ≡ down_at at → bus ≡ silenced s.bus c → t ≡ (if not owned then s.trace else [])
-    → IsDone was (event.Down c) (record { fitted = s.fitted; bus = bus; trace = t; seats = with_place s.seats c seat })
+pub down_done : (s : Seated) (was : Standing) (c : ℕ) (at seat : Seat) (bus : Arbiter) (t : List Entry) (owned : Bool) → flat s ≡ was → Settled s → (controller_on was c).up ≡ true → owned ≡ owns s.bus.owner c
+    → at ≡ get_or s.seats c at → seat ≡ down_at at → bus ≡ bus_silenced s.bus c → t ≡ (if not owned then s.trace else [])
+    → IsDone was (event.Down c) (record { fitted = s.fitted; bus = bus; trace = t; seats = with_seat s.seats c seat })
 down_done s was c at seat bus t owned view settled up owned_is read seat_is bus_is t_is =
-    let here : (place_at s c).controller.up ≡ true = subst (λ (k : Controller). k.up ≡ true) (on_place s was c view) up in
-    let is : at ≡ place_at s c = place_read s.seats c at read (up_there s.seats c here) in
-    subst (λ (w : Standing). IsDone w (event.Down c) (record { fitted = s.fitted; bus = bus; trace = t; seats = with_place s.seats c seat })) view
+    let here : (seat_at s c).controller.up ≡ true = subst (λ (k : Controller). k.up ≡ true) (on_place s was c view) up in
+    let is : at ≡ seat_at s c = place_read s.seats c at read (up_there s.seats c here) in
+    subst (λ (w : Standing). IsDone w (event.Down c) (record { fitted = s.fitted; bus = bus; trace = t; seats = with_seat s.seats c seat })) view
     (done_as (flat s) (event.Down c) (has_gone_down s c) _
-    (rw (bus_is, t_is ∙ not_if owned (owns s.bus.owner c) s.trace owned_is, seat_is) (ap (λ (p : Place). record { fitted = s.fitted; bus = silenced s.bus c; trace = (if owns s.bus.owner c then [] else s.trace); seats = with_place s.seats c (down_at p) }) is))
+    (rw (bus_is, t_is ∙ not_if owned (owns s.bus.owner c) s.trace owned_is, seat_is) (ap (λ (p : Seat). record { fitted = s.fitted; bus = bus_silenced s.bus c; trace = (if owns s.bus.owner c then [] else s.trace); seats = with_seat s.seats c (down_at p) }) is))
     (record { moves = moved s _ _ (moves_down s c here); settled = settled_down s c settled here }))
 
-pub up_done : (s : Seated) (was : Standing) (c : ℕ) (kept : Bool) (at seat : Place) → flat s ≡ was → Settled s → c < length was.controllers → (controller_on was c).up ≡ false → HasOutstanding (controller_on was c) kept
-    → at ≡ get_or s.seats c at → seat ≡ up_at c kept at → IsDone was (event.Up c kept) (record { fitted = s.fitted; bus = s.bus; trace = s.trace; seats = with_place s.seats c seat })
+pub up_done : (s : Seated) (was : Standing) (c : ℕ) (kept : Bool) (at seat : Seat) → flat s ≡ was → Settled s → c < length was.controllers → (controller_on was c).up ≡ false → HasOutstanding (controller_on was c) kept
+    → at ≡ get_or s.seats c at → seat ≡ up_at c kept at → IsDone was (event.Up c kept) (record { fitted = s.fitted; bus = s.bus; trace = s.trace; seats = with_seat s.seats c seat })
 up_done s was c kept at seat view settled there down has read seat_is =
     let there_s : c < length s.seats = subst (λ n. c < n) (length-map s.seats (λ p. p.controller)) (subst (λ (w : Standing). c < length w.controllers) (sym view) there) in
-    let down_s : (place_at s c).controller.up ≡ false = subst (λ (k : Controller). k.up ≡ false) (on_place s was c view) down in
-    let has_s : HasOutstanding (place_at s c).controller kept = subst (λ (k : Controller). HasOutstanding k kept) (on_place s was c view) has in
-    let is : at ≡ place_at s c = place_read s.seats c at read there_s in
-    subst (λ (w : Standing). IsDone w (event.Up c kept) (record { fitted = s.fitted; bus = s.bus; trace = s.trace; seats = with_place s.seats c seat })) view
+    let down_s : (seat_at s c).controller.up ≡ false = subst (λ (k : Controller). k.up ≡ false) (on_place s was c view) down in
+    let has_s : HasOutstanding (seat_at s c).controller kept = subst (λ (k : Controller). HasOutstanding k kept) (on_place s was c view) has in
+    let is : at ≡ seat_at s c = place_read s.seats c at read there_s in
+    subst (λ (w : Standing). IsDone w (event.Up c kept) (record { fitted = s.fitted; bus = s.bus; trace = s.trace; seats = with_seat s.seats c seat })) view
     (done_as (flat s) (event.Up c kept) (has_come_up s c kept) _
-    (rw seat_is (ap (λ (p : Place). record { fitted = s.fitted; bus = s.bus; trace = s.trace; seats = with_place s.seats c (up_at c kept p) }) is))
+    (rw seat_is (ap (λ (p : Seat). record { fitted = s.fitted; bus = s.bus; trace = s.trace; seats = with_seat s.seats c (up_at c kept p) }) is))
     (record { moves = moved s _ _ (moves_up s c kept there_s down_s has_s); settled = settled_up s c kept settled there_s down_s }))
 
 -- a seat that came up with what agrees, or was refused
-came_up : (res : Result (Unit {0}) Refusal) (s : Seated) (was : Standing) (c : ℕ) (copy : Records) (kept : Bool) (at seat : Place) → flat s ≡ was → c < length was.controllers → Agrees (controller_on was c) copy kept
+came_up : (res : Result (Unit {0}) Refusal) (s : Seated) (was : Standing) (c : ℕ) (copy : Kept) (kept : Bool) (at seat : Seat) → flat s ≡ was → c < length was.controllers → Agrees (controller_on was c) copy kept
     → at ≡ get_or s.seats c at → OnOk res ((k : Bool) → Agrees at.controller copy k → seat ≡ up_at c k at) → OnOk res (seat ≡ up_at c kept at)
 came_up (Err e) s was c copy kept at seat view there agrees read ok = tt
 came_up (Ok x) s was c copy kept at seat view there agrees read ok =
     let there_s : c < length s.seats = subst (λ n. c < n) (length-map s.seats (λ p. p.controller)) (subst (λ (w : Standing). c < length w.controllers) (sym view) there) in
-    let is : at ≡ place_at s c = place_read s.seats c at read there_s in
-    ok kept (subst (λ (p : Place). Agrees p.controller copy kept) (sym is) (subst (λ (k : Controller). Agrees k copy kept) (on_place s was c view) agrees))
+    let is : at ≡ seat_at s c = place_read s.seats c at read there_s in
+    ok kept (subst (λ (p : Seat). Agrees p.controller copy kept) (sym is) (subst (λ (k : Controller). Agrees k copy kept) (on_place s was c view) agrees))
 
-pub up_settles : (res : Result (Unit {0}) Refusal) (s : Seated) (was : Standing) (c : ℕ) (copy : Records) (kept : Bool) (at seat : Place) → flat s ≡ was → Settled s → c < length was.controllers → (controller_on was c).up ≡ false
+pub up_settles : (res : Result (Unit {0}) Refusal) (s : Seated) (was : Standing) (c : ℕ) (copy : Kept) (kept : Bool) (at seat : Seat) → flat s ≡ was → Settled s → c < length was.controllers → (controller_on was c).up ≡ false
     → Agrees (controller_on was c) copy kept → at ≡ get_or s.seats c at → OnOk res ((k : Bool) → Agrees at.controller copy k → seat ≡ up_at c k at) → OnErr res (seat ≡ at)
-    → Settled (record { fitted = s.fitted; bus = s.bus; trace = s.trace; seats = with_place s.seats c seat })
+    → Settled (record { fitted = s.fitted; bus = s.bus; trace = s.trace; seats = with_seat s.seats c seat })
 up_settles (Ok x) s was c copy kept at seat view settled there down agrees read ok same =
     (up_done s was c kept at seat view settled there down agrees.0 read (came_up (Ok x) s was c copy kept at seat view there agrees read ok)).settled
 up_settles (Err e) s was c copy kept at seat view settled there down agrees read ok same =
-    let unchanged : with_place s.seats c seat ≡ s.seats = ap (λ (p : Place). with_place s.seats c p) (same ∙ read) ∙ set-get_or s.seats c at in
+    let unchanged : with_seat s.seats c seat ≡ s.seats = ap (λ (p : Seat). with_seat s.seats c p) (same ∙ read) ∙ set-get_or s.seats c at in
     rw unchanged settled
 
-pub up_moves : (res : Result (Unit {0}) Refusal) (s : Seated) (was : Standing) (c : ℕ) (copy : Records) (at seat : Place) → flat s ≡ was → Settled s → c < length was.controllers → (controller_on was c).up ≡ false
+pub up_moves : (res : Result (Unit {0}) Refusal) (s : Seated) (was : Standing) (c : ℕ) (copy : Kept) (at seat : Seat) → flat s ≡ was → Settled s → c < length was.controllers → (controller_on was c).up ≡ false
     → at ≡ get_or s.seats c at → OnOk res ((k : Bool) → Agrees at.controller copy k → seat ≡ up_at c k at)
-    → OnOk res ((k : Bool) → Agrees (controller_on was c) copy k → Moves was (event.Up c k) (flat (record { fitted = s.fitted; bus = s.bus; trace = s.trace; seats = with_place s.seats c seat })))
+    → OnOk res ((k : Bool) → Agrees (controller_on was c) copy k → Moves was (event.Up c k) (flat (record { fitted = s.fitted; bus = s.bus; trace = s.trace; seats = with_seat s.seats c seat })))
 up_moves (Ok x) s was c copy at seat view settled there down read ok = λ k agrees.
     (up_done s was c k at seat view settled there down agrees.0 read (came_up (Ok x) s was c copy k at seat view there agrees read ok)).moves
 up_moves (Err e) s was c copy at seat view settled there down read ok = tt
@@ -366,7 +366,7 @@ pub may_be_sent : (s : Seated) (was : Standing) (r : Request) → flat s ≡ was
 may_be_sent s was r view settled first w ms same =
     let n = next_at s r settled (next_here s was r view first) in
     subst (λ (v : World). IsUp v r.sender × MaySend v r.sender r.frame) (drawn_in s was w ms view same) (is_up s r.sender w.drawn n.up, n.may w.drawn) where
-      drawn_in : (s : Seated) (was : Standing) (w : World) (ms : List (Option Progress)) → flat s ≡ was → was ≡ stand_of w ms → world_of s w.drawn ≡ w
+      drawn_in : (s : Seated) (was : Standing) (w : World) (ms : List (Option Machine)) → flat s ≡ was → was ≡ stand_of w ms → world_of s w.drawn ≡ w
       drawn_in s was w ms view same = ap (λ (t : Standing). with_draws t w.drawn) (view ∙ same)
 
 pub first_may_be_sent : (s : Seated) (was : Standing) (o : Option Request) → flat s ≡ was → Settled s → o ≡ next was.bus → IfSome o (MayBeSent was)
@@ -379,13 +379,13 @@ arc_power f = (λ e. let g = is_arc_of (command_of f) e in g.1 ∙ ap Arc (arc_o
 
 -- ---------------------------------------------------------------- a controller that acted, before it did
 
-pub was_placed : (s : Seated) (was : Standing) (c : ℕ) (at : Place) → flat s ≡ was → Settled s → (controller_on was c).up ≡ true → at ≡ get_or s.seats c at → IsTied at.controller at.machine → IsPlacedOn was c
+pub was_placed : (s : Seated) (was : Standing) (c : ℕ) (at : Seat) → flat s ≡ was → Settled s → (controller_on was c).up ≡ true → at ≡ get_or s.seats c at → IsTied at.controller at.machine → IsPlacedOn was c
 was_placed s was c at view settled up read tied m machine =
-    let here : (place_at s c).controller.up ≡ true = subst (λ (k : Controller). k.up ≡ true) (on_place s was c view) up in
-    let is : at ≡ place_at s c = place_read s.seats c at read (up_there s.seats c here) in
-    let has : (place_at s c).machine ≡ Some m = sym (on_machine s was c view) ∙ machine in
-    let tied_here : IsRunning (place_at s c).controller m = subst (λ o. IsTied (place_at s c).controller o) has (subst (λ (p : Place). IsTied p.controller p.machine) is tied) in
-    let placed : IsPlacedBy (owns s.bus.owner c) s.trace (place_at s c).controller (Some m) = subst (λ o. IsPlacedBy (owns s.bus.owner c) s.trace (place_at s c).controller o) has (settled.places c) in
+    let here : (seat_at s c).controller.up ≡ true = subst (λ (k : Controller). k.up ≡ true) (on_place s was c view) up in
+    let is : at ≡ seat_at s c = place_read s.seats c at read (up_there s.seats c here) in
+    let has : (seat_at s c).machine ≡ Some m = sym (on_machine s was c view) ∙ machine in
+    let tied_here : IsRunning (seat_at s c).controller m = subst (λ o. IsTied (seat_at s c).controller o) has (subst (λ (p : Seat). IsTied p.controller p.machine) is tied) in
+    let placed : IsPlacedBy (owns s.bus.owner c) s.trace (seat_at s c).controller (Some m) = subst (λ o. IsPlacedBy (owns s.bus.owner c) s.trace (seat_at s c).controller o) has (settled.places c) in
     let both : IsRunning (controller_on was c) m × IsPlacedBy (owns s.bus.owner c) s.trace (controller_on was c) (Some m) =
     subst (λ (k : Controller). IsRunning k m × IsPlacedBy (owns s.bus.owner c) s.trace k (Some m)) (sym (on_place s was c view)) (tied_here, placed) in
     subst (λ (w : Standing). IsRunning (controller_on was c) m × IsPlacedBy (owns w.bus.owner c) w.trace (controller_on was c) (Some m)) view both

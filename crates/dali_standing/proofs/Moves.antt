@@ -7,25 +7,25 @@ use Rattle.dali_frame.specs.declared.frames.Answer.{Answer}
 use Rattle.dali_special.specs.Command.{command_of}
 use Rattle.dali_gear.specs.declared.row.GearSet.{GearSet}
 use Rattle.dali_gear.specs.declared.row.Reach.TheVariants.{Everyone, Only}
-use Rattle.dali_gear.specs.ControlGear.{expired, quieted}
+use Rattle.dali_gear.specs.Gear.{gear_expired, gear_quieted}
 use Rattle.dali_gear.specs.Row.{answers_of, draws_needed}
-use Rattle.dali_arbiter.specs.Bus.{owns}
+use Rattle.dali_arbiter.specs.Arbiter.{owns}
 use Rattle.dali_script.specs.declared.block.Block.{Block}
 use Rattle.dali_script.specs.Records.{without_records}
-use Rattle.dali_events.specs.Plan.{SitePlan}
+use Rattle.dali_events.specs.Plan.{Plan}
 use Rattle.dali_script.specs.Scripts.{IsFirst}
 use Rattle.dali_orders.specs.declared.orders.Input.{Input}
 use Rattle.dali_orders.specs.declared.orders.Order.{Order}
-use Rattle.dali_controller.specs.Progress.{Progress, at_first}
-use Rattle.dali_controller.specs.Orders.{after}
+use Rattle.dali_controller.specs.Machine.{Machine, at_first}
+use Rattle.dali_controller.specs.Orders.{machine_after}
 use Rattle.dali_events.specs.declared.event.Event.TheVariants as event
-use Rattle.dali_events.specs.World.{World, Controller, nobody, changed, changed_gear, begun, start}
-use Rattle.dali_events.specs.Happens.{happens, informed, acted, told_sent, told_destroyed, told_lapsed, owner_told, powered, gone_down, come_up}
+use Rattle.dali_events.specs.World.{World, Controller, nobody, controllers_changed, gear_changed, controller_begun, start}
+use Rattle.dali_events.specs.Happens.{happens, controller_informed, controller_acted, told_sent, told_destroyed, told_lapsed, owner_told, gear_powered, gone_down, come_up}
 use Rattle.dali_events.specs.Allowed.{Hears, IsUp, IsDue, IsArc, MaySend, MayOrder, HasOutstanding}
-use Rattle.dali_standing.specs.Fitted.{changed_at}
-use Rattle.dali_standing.specs.Places.{Place, IsTied, MayAnswer, acted_at, down_at, up_at, told_at}
-use Rattle.dali_standing.specs.Standing.{Seated, empty_place, place_in, controllers_of, machines_of, machine_in, flat, stand_of, seats_from, machines_at}
-use Rattle.dali_standing.proofs.Seats.{place_at, world_of, with_place, running_in, has_acted, has_offered, has_sent, has_lost, has_collided, owner_lapsed, has_lapsed, with_gear, has_gone_down, has_come_up, IsMove, seated_at}
+use Rattle.dali_standing.specs.FittedGear.{changed_at}
+use Rattle.dali_standing.specs.Seats.{Seat, IsTied, MayAnswer, acted_at, down_at, up_at, told_at}
+use Rattle.dali_standing.specs.Standing.{Seated, empty_seat, seat_in, controllers_of, machines_of, machine_in, flat, stand_of, seats_from, machines_at}
+use Rattle.dali_standing.proofs.Seats.{seat_at, world_of, with_seat, running_in, has_acted, has_offered, has_sent, has_lost, has_collided, owner_lapsed, has_lapsed, with_gear, has_gone_down, has_come_up, IsMove, seated_at}
 use Rattle.dali_standing.specs.Settled.{IsPlaced}
 use Rattle.dali_standing.proofs.Acts.{may_order}
 
@@ -33,50 +33,50 @@ use Rattle.dali_standing.proofs.Acts.{may_order}
 
 -- ---------------------------------------------------------------- places, controllers and machines
 
-pub controller_in : (seats : List Place) (c : ℕ) → get_or (controllers_of seats) c nobody ≡ (place_in seats c).controller
+pub controller_in : (seats : List Seat) (c : ℕ) → get_or (controllers_of seats) c nobody ≡ (seat_in seats c).controller
 controller_in [] c = refl
 controller_in (p ∷ seats) zero = refl
 controller_in (p ∷ seats) (suc c) = controller_in seats c
 
-pub machine_of : (seats : List Place) (c : ℕ) → get_or (machines_of seats) c None ≡ (place_in seats c).machine
+pub machine_of : (seats : List Seat) (c : ℕ) → get_or (machines_of seats) c None ≡ (seat_in seats c).machine
 machine_of [] c = refl
 machine_of (p ∷ seats) zero = refl
 machine_of (p ∷ seats) (suc c) = machine_of seats c
 
-controllers_set : (seats : List Place) (c : ℕ) (p : Place) → controllers_of (with_place seats c p) ≡ set (controllers_of seats) c p.controller
+controllers_set : (seats : List Seat) (c : ℕ) (p : Seat) → controllers_of (with_seat seats c p) ≡ set (controllers_of seats) c p.controller
 controllers_set [] c p = refl
 controllers_set (q ∷ seats) zero p = refl
 controllers_set (q ∷ seats) (suc c) p = ap (λ cs. q.controller ∷ cs) (controllers_set seats c p)
 
-machines_set : (seats : List Place) (c : ℕ) (p : Place) → machines_of (with_place seats c p) ≡ set (machines_of seats) c p.machine
+machines_set : (seats : List Seat) (c : ℕ) (p : Seat) → machines_of (with_seat seats c p) ≡ set (machines_of seats) c p.machine
 machines_set [] c p = refl
 machines_set (q ∷ seats) zero p = refl
 machines_set (q ∷ seats) (suc c) p = ap (λ cs. q.machine ∷ cs) (machines_set seats c p)
 
 -- a change of one controller at its place
-pub changed_is : (seats : List Place) (c : ℕ) (change : Controller → Controller) (p : Place) → p.controller ≡ change (place_in seats c).controller
-    → controllers_of (with_place seats c p) ≡ changed (controllers_of seats) c change
+pub changed_is : (seats : List Seat) (c : ℕ) (change : Controller → Controller) (p : Seat) → p.controller ≡ change (seat_in seats c).controller
+    → controllers_of (with_seat seats c p) ≡ controllers_changed (controllers_of seats) c change
 changed_is seats c change p e = controllers_set seats c p ∙ ap (λ k. set (controllers_of seats) c k) (e ∙ ap change (sym (controller_in seats c)))
 
 -- the machines, where only a controller was told something
-pub machines_same : (seats : List Place) (c : ℕ) (p : Place) → p.machine ≡ (place_in seats c).machine → machines_of (with_place seats c p) ≡ machines_of seats
+pub machines_same : (seats : List Seat) (c : ℕ) (p : Seat) → p.machine ≡ (seat_in seats c).machine → machines_of (with_seat seats c p) ≡ machines_of seats
 machines_same [] c p e = refl
 machines_same (q ∷ seats) zero p e = ap (λ m. m ∷ machines_of seats) e
 machines_same (q ∷ seats) (suc c) p e = ap (λ ms. q.machine ∷ ms) (machines_same seats c p e)
 
-pub place_here : (seats : List Place) (c : ℕ) (p : Place) → c < length seats → place_in (with_place seats c p) c ≡ p
-place_here seats c p there = get_or-set_same seats c p empty_place there
+pub place_here : (seats : List Seat) (c : ℕ) (p : Seat) → c < length seats → seat_in (with_seat seats c p) c ≡ p
+place_here seats c p there = get_or-set_same seats c p empty_seat there
 
-pub place_elsewhere : (seats : List Place) (c d : ℕ) (p : Place) → (d ≡ c → ⊥) → place_in (with_place seats c p) d ≡ place_in seats d
-place_elsewhere seats c d p other = get_or-set_other seats c d p empty_place other
+pub place_elsewhere : (seats : List Seat) (c d : ℕ) (p : Seat) → (d ≡ c → ⊥) → seat_in (with_seat seats c p) d ≡ seat_in seats d
+place_elsewhere seats c d p other = get_or-set_other seats c d p empty_seat other
 
 -- a controller that is up is there
-pub up_there : (seats : List Place) (c : ℕ) → (place_in seats c).controller.up ≡ true → c < length seats
+pub up_there : (seats : List Seat) (c : ℕ) → (seat_in seats c).controller.up ≡ true → c < length seats
 up_there [] c up = cc
 up_there (p ∷ seats) zero up = omega arith
 up_there (p ∷ seats) (suc c) up = let there = up_there seats c up in omega arith
 
-pub is_up : (s : Seated) (c : ℕ) (drawn : List (ℕ × ℕ)) → (place_at s c).controller.up ≡ true → IsUp (world_of s drawn) c
+pub is_up : (s : Seated) (c : ℕ) (drawn : List (ℕ × ℕ)) → (seat_at s c).controller.up ≡ true → IsUp (world_of s drawn) c
 is_up s c drawn up = record {
   known = subst (λ n. c < n) (sym (length-map s.seats (λ p. p.controller))) (up_there s.seats c up);
   up = subst (λ (k : Controller). k.up ≡ true) (sym (controller_in s.seats c)) up;
@@ -85,28 +85,28 @@ is_up s c drawn up = record {
 -- ---------------------------------------------------------------- a controller acts
 
 acted_world : (s : Seated) (c : ℕ) (i : Input) (o : Order) (drawn : List (ℕ × ℕ)) → world_of (has_acted s c i o) drawn ≡ happens (world_of s drawn) (event.Acted c i o)
-acted_world s c i o drawn = rw (changed_is s.seats c (λ k. acted k i o) (acted_at (place_at s c) i o) refl) refl
+acted_world s c i o drawn = rw (changed_is s.seats c (λ k. controller_acted k i o) (acted_at (seat_at s c) i o) refl) refl
 
-acted_machines : (seats : List Place) (c : ℕ) (i : Input) (o : Order)
-    → machines_of (with_place seats c (acted_at (place_in seats c) i o)) ≡ set (machines_of seats) c (option_map (λ m. after m i o) (machine_in (machines_of seats) c))
-acted_machines seats c i o = machines_set seats c (acted_at (place_in seats c) i o) ∙ ap (λ m. set (machines_of seats) c (option_map (λ n. after n i o) m)) (sym (machine_of seats c))
+acted_machines : (seats : List Seat) (c : ℕ) (i : Input) (o : Order)
+    → machines_of (with_seat seats c (acted_at (seat_in seats c) i o)) ≡ set (machines_of seats) c (option_map (λ m. machine_after m i o) (machine_in (machines_of seats) c))
+acted_machines seats c i o = machines_set seats c (acted_at (seat_in seats c) i o) ∙ ap (λ m. set (machines_of seats) c (option_map (λ n. machine_after n i o) m)) (sym (machine_of seats c))
 
-may_order_at : (w : World) (c : ℕ) (p : Place) (i : Input) (o : Order) → IsDue p.controller i → IsTied p.controller p.machine → MayAnswer p.machine i o
-    → IsPlaced (owns w.bus.owner c) w.trace p → MayOrder w c (informed p.controller i) o
+may_order_at : (w : World) (c : ℕ) (p : Seat) (i : Input) (o : Order) → IsDue p.controller i → IsTied p.controller p.machine → MayAnswer p.machine i o
+    → IsPlaced (owns w.bus.owner c) w.trace p → MayOrder w c (controller_informed p.controller i) o
 may_order_at w c p i o due tied answer placed = go p.machine tied answer placed where
-  go : (m : Option Progress) → IsTied p.controller m → MayAnswer m i o → IsPlaced (owns w.bus.owner c) w.trace (record { controller = p.controller; machine = m })
-      → MayOrder w c (informed p.controller i) o
+  go : (m : Option Machine) → IsTied p.controller m → MayAnswer m i o → IsPlaced (owns w.bus.owner c) w.trace (record { controller = p.controller; machine = m })
+      → MayOrder w c (controller_informed p.controller i) o
   go None tied answer placed = elim answer [ ]
   go (Some m) tied answer placed = (may_order w c p.controller m i o due tied answer placed).may
 
-pub moves_acted : (s : Seated) (c : ℕ) (i : Input) (o : Order) → (place_at s c).controller.up ≡ true → IsDue (place_at s c).controller i
-    → IsTied (place_at s c).controller (place_at s c).machine → MayAnswer (place_at s c).machine i o → IsPlaced (owns s.bus.owner c) s.trace (place_at s c)
+pub moves_acted : (s : Seated) (c : ℕ) (i : Input) (o : Order) → (seat_at s c).controller.up ≡ true → IsDue (seat_at s c).controller i
+    → IsTied (seat_at s c).controller (seat_at s c).machine → MayAnswer (seat_at s c).machine i o → IsPlaced (owns s.bus.owner c) s.trace (seat_at s c)
     → IsMove s (event.Acted c i o) (has_acted s c i o)
 moves_acted s c i o up due tied answer placed = record {
   allowed = λ drawn. record {
     up = is_up s c drawn up;
     due = subst (λ (k : Controller). IsDue k i) (sym (controller_in s.seats c)) due;
-    order = subst (λ (k : Controller). MayOrder (world_of s drawn) c (informed k i) o) (sym (controller_in s.seats c)) (may_order_at (world_of s drawn) c (place_at s c) i o due tied answer placed);
+    order = subst (λ (k : Controller). MayOrder (world_of s drawn) c (controller_informed k i) o) (sym (controller_in s.seats c)) (may_order_at (world_of s drawn) c (seat_at s c) i o due tied answer placed);
   };
   world = λ drawn. acted_world s c i o drawn;
   machines = λ drawn. acted_machines s.seats c i o;
@@ -114,7 +114,7 @@ moves_acted s c i o up due tied answer placed = record {
 
 -- ---------------------------------------------------------------- frames
 
-pub moves_offered : (s : Seated) (c : ℕ) (f : Forward) → (place_at s c).controller.up ≡ true → IsArc f → IsMove s (event.Offered c f) (has_offered s c f)
+pub moves_offered : (s : Seated) (c : ℕ) (f : Forward) → (seat_at s c).controller.up ≡ true → IsArc f → IsMove s (event.Offered c f) (has_offered s c f)
 moves_offered s c f up arc = record { allowed = λ drawn. (is_up s c drawn up, arc); world = λ drawn. refl; machines = λ drawn. refl }
 
 -- who may send, by the place of the sender
@@ -123,9 +123,9 @@ MaySendAt s c f = (drawn : List (ℕ × ℕ)) → MaySend (world_of s drawn) c f
 
 sent_world : (s : Seated) (c : ℕ) (f : Forward) (h : Answer) (drawn : List (ℕ × ℕ))
     → world_of (has_sent s c f h) (happens (world_of s drawn) (event.Sent c f h)).drawn ≡ happens (world_of s drawn) (event.Sent c f h)
-sent_world s c f h drawn = rw (changed_is s.seats c (told_sent (running_in s c) f h) (told_at (told_sent (running_in s c) f h) (place_at s c)) refl, controller_in s.seats c) refl
+sent_world s c f h drawn = rw (changed_is s.seats c (told_sent (running_in s c) f h) (told_at (told_sent (running_in s c) f h) (seat_at s c)) refl, controller_in s.seats c) refl
 
-pub moves_sent : (s : Seated) (c : ℕ) (f : Forward) (h : Answer) → (place_at s c).controller.up ≡ true → MaySendAt s c f
+pub moves_sent : (s : Seated) (c : ℕ) (f : Forward) (h : Answer) → (seat_at s c).controller.up ≡ true → MaySendAt s c f
     → draws_needed Everyone (command_of f) 0 s.fitted.gear ≤ length s.fitted.left → Hears (answers_of Everyone (command_of f) 0 s.fitted.gear) h
     → IsMove s (event.Sent c f h) (has_sent s c f h)
 moves_sent s c f h up may draws heard = record {
@@ -136,9 +136,9 @@ moves_sent s c f h up may draws heard = record {
 
 lost_world : (s : Seated) (c : ℕ) (f : Forward) (set : GearSet) (drawn : List (ℕ × ℕ))
     → world_of (has_lost s c f set) (happens (world_of s drawn) (event.Destroyed c f set)).drawn ≡ happens (world_of s drawn) (event.Destroyed c f set)
-lost_world s c f set drawn = rw (changed_is s.seats c (told_destroyed f) (told_at (told_destroyed f) (place_at s c)) refl) refl
+lost_world s c f set drawn = rw (changed_is s.seats c (told_destroyed f) (told_at (told_destroyed f) (seat_at s c)) refl) refl
 
-pub moves_lost : (s : Seated) (c : ℕ) (f : Forward) (set : GearSet) → (place_at s c).controller.up ≡ true → MaySendAt s c f
+pub moves_lost : (s : Seated) (c : ℕ) (f : Forward) (set : GearSet) → (seat_at s c).controller.up ≡ true → MaySendAt s c f
     → draws_needed (Only set) (command_of f) 0 s.fitted.gear ≤ length s.fitted.left → IsMove s (event.Destroyed c f set) (has_lost s c f set)
 moves_lost s c f set up may draws = record {
   allowed = λ drawn. record { up = is_up s c drawn up; may = may drawn; draws = draws };
@@ -146,28 +146,28 @@ moves_lost s c f set up may draws = record {
   machines = λ drawn. machines_same s.seats c _ refl;
 }
 
-collided_places : (seats : List Place) (c d : ℕ) (f g : Forward)
-    → controllers_of (with_place (with_place seats c (told_at (told_destroyed f) (place_in seats c))) d (told_at (told_destroyed g) (place_in (with_place seats c (told_at (told_destroyed f) (place_in seats c))) d)))
-    ≡ changed (changed (controllers_of seats) c (told_destroyed f)) d (told_destroyed g)
+collided_places : (seats : List Seat) (c d : ℕ) (f g : Forward)
+    → controllers_of (with_seat (with_seat seats c (told_at (told_destroyed f) (seat_in seats c))) d (told_at (told_destroyed g) (seat_in (with_seat seats c (told_at (told_destroyed f) (seat_in seats c))) d)))
+    ≡ controllers_changed (controllers_changed (controllers_of seats) c (told_destroyed f)) d (told_destroyed g)
 collided_places seats c d f g =
-    changed_is (with_place seats c (told_at (told_destroyed f) (place_in seats c))) d (told_destroyed g) (told_at (told_destroyed g) (place_in (with_place seats c (told_at (told_destroyed f) (place_in seats c))) d)) refl
-    ∙ ap (λ cs. changed cs d (told_destroyed g)) (changed_is seats c (told_destroyed f) (told_at (told_destroyed f) (place_in seats c)) refl)
+    changed_is (with_seat seats c (told_at (told_destroyed f) (seat_in seats c))) d (told_destroyed g) (told_at (told_destroyed g) (seat_in (with_seat seats c (told_at (told_destroyed f) (seat_in seats c))) d)) refl
+    ∙ ap (λ cs. controllers_changed cs d (told_destroyed g)) (changed_is seats c (told_destroyed f) (told_at (told_destroyed f) (seat_in seats c)) refl)
 
 pub moves_collided : (s : Seated) (c : ℕ) (f : Forward) (d : ℕ) (g : Forward) → s.bus.owner ≡ None → (c ≡ d → ⊥)
-    → (place_at s c).controller.up ≡ true → (place_at s d).controller.up ≡ true → IsFirst f → IsFirst g → IsMove s (event.Collided c f d g) (has_collided s c f d g)
+    → (seat_at s c).controller.up ≡ true → (seat_at s d).controller.up ≡ true → IsFirst f → IsFirst g → IsMove s (event.Collided c f d g) (has_collided s c f d g)
 moves_collided s c f d g free apart up_c up_d first second = record {
   allowed = λ drawn. record { free = free; apart = apart; first_up = is_up s c drawn up_c; second_up = is_up s d drawn up_d; first = first; second = second };
   world = λ drawn. rw (collided_places s.seats c d f g) refl;
-  machines = λ drawn. machines_same (with_place s.seats c (told_at (told_destroyed f) (place_at s c))) d _ refl ∙ machines_same s.seats c (told_at (told_destroyed f) (place_at s c)) refl;
+  machines = λ drawn. machines_same (with_seat s.seats c (told_at (told_destroyed f) (seat_at s c))) d _ refl ∙ machines_same s.seats c (told_at (told_destroyed f) (seat_at s c)) refl;
 }
 
-lapsed_places : (seats : List Place) (o : Option ℕ) → controllers_of (owner_lapsed seats o) ≡ owner_told (controllers_of seats) o
+lapsed_places : (seats : List Seat) (o : Option ℕ) → controllers_of (owner_lapsed seats o) ≡ owner_told (controllers_of seats) o
 lapsed_places seats None = refl
-lapsed_places seats (Some c) = changed_is seats c told_lapsed (told_at told_lapsed (place_in seats c)) refl
+lapsed_places seats (Some c) = changed_is seats c told_lapsed (told_at told_lapsed (seat_in seats c)) refl
 
-lapsed_machines : (seats : List Place) (o : Option ℕ) → machines_of (owner_lapsed seats o) ≡ machines_of seats
+lapsed_machines : (seats : List Seat) (o : Option ℕ) → machines_of (owner_lapsed seats o) ≡ machines_of seats
 lapsed_machines seats None = refl
-lapsed_machines seats (Some c) = machines_same seats c (told_at told_lapsed (place_in seats c)) refl
+lapsed_machines seats (Some c) = machines_same seats c (told_at told_lapsed (seat_in seats c)) refl
 
 pub moves_lapsed : (s : Seated) → IsMove s event.Lapsed (has_lapsed s)
 moves_lapsed s = record {
@@ -178,25 +178,25 @@ moves_lapsed s = record {
 
 -- ---------------------------------------------------------------- gear
 
-pub moves_quiet : (s : Seated) → IsMove s event.Quiet (with_gear s (changed_at (map quieted s.fitted.gear) s.fitted))
+pub moves_quiet : (s : Seated) → IsMove s event.Quiet (with_gear s (changed_at (map gear_quieted s.fitted.gear) s.fitted))
 moves_quiet s = record { allowed = λ drawn. tt; world = λ drawn. refl; machines = λ drawn. refl }
 
-pub moves_power : (s : Seated) (g : ℕ) (on : Bool) → IsMove s (event.Power g on) (with_gear s (changed_at (changed_gear s.fitted.gear g (powered on)) s.fitted))
+pub moves_power : (s : Seated) (g : ℕ) (on : Bool) → IsMove s (event.Power g on) (with_gear s (changed_at (gear_changed s.fitted.gear g (gear_powered on)) s.fitted))
 moves_power s g on = record { allowed = λ drawn. tt; world = λ drawn. refl; machines = λ drawn. refl }
 
-pub moves_expired : (s : Seated) (g : ℕ) → IsMove s (event.Expired g) (with_gear s (changed_at (changed_gear s.fitted.gear g expired) s.fitted))
+pub moves_expired : (s : Seated) (g : ℕ) → IsMove s (event.Expired g) (with_gear s (changed_at (gear_changed s.fitted.gear g gear_expired) s.fitted))
 moves_expired s g = record { allowed = λ drawn. tt; world = λ drawn. refl; machines = λ drawn. refl }
 
 -- ---------------------------------------------------------------- controllers go down and come up
 
-pub moves_down : (s : Seated) (c : ℕ) → (place_at s c).controller.up ≡ true → IsMove s (event.Down c) (has_gone_down s c)
+pub moves_down : (s : Seated) (c : ℕ) → (seat_at s c).controller.up ≡ true → IsMove s (event.Down c) (has_gone_down s c)
 moves_down s c up = record {
   allowed = λ drawn. is_up s c drawn up;
-  world = λ drawn. rw (changed_is s.seats c gone_down (down_at (place_at s c)) refl) refl;
-  machines = λ drawn. machines_set s.seats c (down_at (place_at s c));
+  world = λ drawn. rw (changed_is s.seats c gone_down (down_at (seat_at s c)) refl) refl;
+  machines = λ drawn. machines_set s.seats c (down_at (seat_at s c));
 }
 
-pub moves_up : (s : Seated) (c : ℕ) (kept : Bool) → c < length s.seats → (place_at s c).controller.up ≡ false → HasOutstanding (place_at s c).controller kept
+pub moves_up : (s : Seated) (c : ℕ) (kept : Bool) → c < length s.seats → (seat_at s c).controller.up ≡ false → HasOutstanding (seat_at s c).controller kept
     → IsMove s (event.Up c kept) (has_come_up s c kept)
 moves_up s c kept there down has = record {
   allowed = λ drawn. (
@@ -206,19 +206,19 @@ moves_up s c kept there down has = record {
     },
     subst (λ (k : Controller). HasOutstanding k kept) (sym (controller_in s.seats c)) has,
   );
-  world = λ drawn. rw (changed_is s.seats c (come_up kept) (up_at c kept (place_at s c)) refl) refl;
-  machines = λ drawn. machines_set s.seats c (up_at c kept (place_at s c)) ∙ ap (λ (k : Controller). set (machines_of s.seats) c (Some (at_first c (come_up kept k).records))) (sym (controller_in s.seats c));
+  world = λ drawn. rw (changed_is s.seats c (come_up kept) (up_at c kept (seat_at s c)) refl) refl;
+  machines = λ drawn. machines_set s.seats c (up_at c kept (seat_at s c)) ∙ ap (λ (k : Controller). set (machines_of s.seats) c (Some (at_first c (come_up kept k).records))) (sym (controller_in s.seats c));
 }
 
 -- ---------------------------------------------------------------- the start
 
-controllers_from : (d : ℕ) (bs : List Block) → controllers_of (seats_from d bs) ≡ map begun bs
+controllers_from : (d : ℕ) (bs : List Block) → controllers_of (seats_from d bs) ≡ map controller_begun bs
 controllers_from d [] = refl
-controllers_from d (b ∷ bs) = ap (λ cs. begun b ∷ cs) (controllers_from (d + 1) bs)
+controllers_from d (b ∷ bs) = ap (λ cs. controller_begun b ∷ cs) (controllers_from (d + 1) bs)
 
 machines_from : (d : ℕ) (bs : List Block) → machines_of (seats_from d bs) ≡ machines_at d bs
 machines_from d [] = refl
 machines_from d (b ∷ bs) = ap (λ ms. Some (at_first d (without_records b)) ∷ ms) (machines_from (d + 1) bs)
 
-pub start_stands : (p : SitePlan) (capacity : ℕ) → flat (seated_at p capacity) ≡ stand_of (start p capacity) (machines_at 0 p.blocks)
+pub start_stands : (p : Plan) (capacity : ℕ) → flat (seated_at p capacity) ≡ stand_of (start p capacity) (machines_at 0 p.blocks)
 start_stands p capacity = rw (controllers_from 0 p.blocks, machines_from 0 p.blocks) refl

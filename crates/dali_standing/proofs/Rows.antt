@@ -6,29 +6,29 @@ use Rattle.dali_frame.specs.Random.{MASK24}
 use mathlib.Core.List.{append_assoc}
 use Rattle.dali_special.specs.declared.command.Command.{Command}
 use Rattle.dali_gear.specs.declared.row.Reach.{Reach}
-use Rattle.dali_gear.specs.ControlGear.{ControlGear, quieted, would_draw}
+use Rattle.dali_gear.specs.Gear.{Gear, gear_quieted, would_draw}
 use Rattle.dali_gear.specs.Row.{takes, left_after, row_left, row_after, draws_needed, stored_of}
 use Rattle.dali_script.specs.Records.{Has}
-use Rattle.dali_events.specs.Plan.{SitePlan, IsPlan}
-use Rattle.dali_standing.specs.Fitted.{Fitted, taken_at, gift_of}
+use Rattle.dali_events.specs.Plan.{Plan, IsPlan}
+use Rattle.dali_standing.specs.FittedGear.{FittedGear, taken_at, gift_of}
 
 -- gear n of the row has become quiet
-pub quiet_more : (gs : List ControlGear) (n : ℕ) (d : ControlGear) (whole : List ControlGear) → n < length gs
-    → take n gs ++ map quieted (drop n gs) ≡ whole
-    → take (n + 1) (set gs n (quieted (get_or gs n d))) ++ map quieted (drop (n + 1) (set gs n (quieted (get_or gs n d)))) ≡ whole
+pub quiet_more : (gs : List Gear) (n : ℕ) (d : Gear) (whole : List Gear) → n < length gs
+    → take n gs ++ map gear_quieted (drop n gs) ≡ whole
+    → take (n + 1) (set gs n (gear_quieted (get_or gs n d))) ++ map gear_quieted (drop (n + 1) (set gs n (gear_quieted (get_or gs n d)))) ≡ whole
 quiet_more gs n d whole here so_far =
     let beyond : n < n + 1 = omega arith in
     let known = rw (drop_more gs n d here) at so_far in
-    rw (take_more_set gs n (quieted (get_or gs n d)) here, append_assoc, drop-set-lt (n + 1) gs n (quieted (get_or gs n d)) beyond) known
+    rw (take_more_set gs n (gear_quieted (get_or gs n d)) here, append_assoc, drop-set-lt (n + 1) gs n (gear_quieted (get_or gs n d)) beyond) known
 
 -- gear n of the row has been looked at, and stores nothing, or this
-pub nothing_noted : (reach : Reach) (x : Command) (gs : List ControlGear) (n : ℕ) (d : ControlGear) (gifts whole : List (ℕ × ℕ)) → n < length gs
+pub nothing_noted : (reach : Reach) (x : Command) (gs : List Gear) (n : ℕ) (d : Gear) (gifts whole : List (ℕ × ℕ)) → n < length gs
     → gift_of reach x n (get_or gs n d) ≡ None
     → gifts ++ stored_of reach x n (drop n gs) ≡ whole
     → gifts ++ stored_of reach x (n + 1) (drop (n + 1) gs) ≡ whole
 nothing_noted reach x gs n d gifts whole here none so_far = rw (drop_more gs n d here, none) at so_far
 
-pub one_noted : (reach : Reach) (x : Command) (gs : List ControlGear) (n : ℕ) (d : ControlGear) (gifts whole : List (ℕ × ℕ)) (a : ℕ) → n < length gs
+pub one_noted : (reach : Reach) (x : Command) (gs : List Gear) (n : ℕ) (d : Gear) (gifts whole : List (ℕ × ℕ)) (a : ℕ) → n < length gs
     → gift_of reach x n (get_or gs n d) ≡ Some a
     → gifts ++ stored_of reach x n (drop n gs) ≡ whole
     → (gifts ++ (n, a) ∷ []) ++ stored_of reach x (n + 1) (drop (n + 1) gs) ≡ whole
@@ -36,7 +36,7 @@ one_noted reach x gs n d gifts whole a here some so_far =
     let known = rw (drop_more gs n d here, some) at so_far in
     rw (append_assoc) known
 
-pub has_room : (reach : Reach) (x : Command) (gs : List ControlGear) (n : ℕ) (d : ControlGear) (gifts whole : List (ℕ × ℕ)) (a : ℕ) → n < length gs
+pub has_room : (reach : Reach) (x : Command) (gs : List Gear) (n : ℕ) (d : Gear) (gifts whole : List (ℕ × ℕ)) (a : ℕ) → n < length gs
     → gift_of reach x n (get_or gs n d) ≡ Some a
     → gifts ++ stored_of reach x n (drop n gs) ≡ whole
     → length gifts < length whole
@@ -46,14 +46,14 @@ has_room reach x gs n d gifts whole a here some so_far =
     omega arith
 
 -- what is left are the numbers that were left, without those that were drawn
-left_is : (reach : Reach) (x : Command) (k : ℕ) (gs : List ControlGear) (left : List ℕ) → row_left reach x k gs left ≡ drop (draws_needed reach x k gs) left
+left_is : (reach : Reach) (x : Command) (k : ℕ) (gs : List Gear) (left : List ℕ) → row_left reach x k gs left ≡ drop (draws_needed reach x k gs) left
 left_is reach x k [] left = refl
 left_is reach x k (g ∷ gs) left = left_go (takes reach k g && would_draw x g) (row_left reach x (k + 1) gs) (draws_needed reach x (k + 1) gs) left (λ xs. left_is reach x (k + 1) gs xs) where
   left_go : (b : Bool) (rest : List ℕ → List ℕ) (n : ℕ) (left : List ℕ) → ((xs : List ℕ) → rest xs ≡ drop n xs) → rest (left_after b left) ≡ drop ((if b then 1 else 0) + n) left
   left_go true rest n left is = is (drop 1 left) ∙ drop-drop n 1 left
   left_go false rest n left is = is left ∙ ap (λ k. drop k left) (sym (zero-add n))
 
-left_then : (reach : Reach) (x : Command) (gs : List ControlGear) (draws : List ℕ) (used drawn : ℕ) → drawn ≡ draws_needed reach x 0 gs
+left_then : (reach : Reach) (x : Command) (gs : List Gear) (draws : List ℕ) (used drawn : ℕ) → drawn ≡ draws_needed reach x 0 gs
     → drop (used + drawn) draws ≡ row_left reach x 0 gs (drop used draws)
 left_then reach x gs draws used drawn is = rw is (sym (left_is reach x 0 gs (drop used draws) ∙ drop-drop (draws_needed reach x 0 gs) used draws))
 
@@ -63,11 +63,11 @@ below (x ∷ xs) m all zero d here = all x (inl refl)
 below (x ∷ xs) m all (suc k) d here = below xs m (λ r has. all r (inr has)) k d (omega arith)
 
 -- the numbers of a plan are below FFFFFF
-pub drawn_below : (p : SitePlan) (xs : List ℕ) → IsPlan p → xs ≡ p.draws → (k d : ℕ) → k < length xs → get_or xs k d < MASK24
+pub drawn_below : (p : Plan) (xs : List ℕ) → IsPlan p → xs ≡ p.draws → (k d : ℕ) → k < length xs → get_or xs k d < MASK24
 drawn_below p xs plan is k d here = below xs MASK24 (λ r has. plan.draws_below r (subst (λ ys. Has ys r) is has)) k d here
 
 -- a frame was taken: each part is what the definitions say
-pub taken_is : (reach : Reach) (x : Command) (was : Fitted) (gs after : List ControlGear) (draws : List ℕ) (used drawn : ℕ) (gifts more : List (ℕ × ℕ))
+pub taken_is : (reach : Reach) (x : Command) (was : FittedGear) (gs after : List Gear) (draws : List ℕ) (used drawn : ℕ) (gifts more : List (ℕ × ℕ))
     → record { gear = gs; left = drop used draws; gifts = gifts } ≡ was
     → drawn ≡ draws_needed reach x 0 gs
     → after ≡ row_after reach x 0 gs (drop used draws)

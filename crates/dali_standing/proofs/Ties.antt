@@ -4,7 +4,7 @@ use Rattle.dali_frame.specs.declared.frames.Answer.{Answer}
 use Rattle.dali_special.specs.Command.{command_of}
 use Rattle.dali_script.specs.declared.trace.Entry.{Entry}
 use Rattle.dali_script.specs.Records.{Assignment}
-use Rattle.dali_script.specs.Findings.{searched, found_by, later, finding_of}
+use Rattle.dali_script.specs.Findings.{search_of, found_by, later, finding_of}
 use Rattle.dali_script.proofs.Transactions.{finding_more}
 use Rattle.dali_events.specs.Happens.{entry}
 
@@ -15,5 +15,5 @@ later_same k o None has = has
 later_same k o (Some x) has = refl
 
 pub heard_finding : (k : Option Assignment) (t : List Entry) (f : Forward) (h : Answer) → later k (finding_of t) ≡ k
-    → later k (finding_of (t ++ entry f h ∷ [])) ≡ later k (found_by (searched t) (command_of f) h)
-heard_finding k t f h has = ap (later k) (finding_more t (entry f h)) ∙ later_same k (finding_of t) (found_by (searched t) (command_of f) h) has
+    → later k (finding_of (t ++ entry f h ∷ [])) ≡ later k (found_by (search_of t) (command_of f) h)
+heard_finding k t f h has = ap (later k) (finding_more t (entry f h)) ∙ later_same k (finding_of t) (found_by (search_of t) (command_of f) h) has

@@ -1,6 +1,6 @@
 pub mod Refusals
 pub mod Troubles
-pub mod Places
-pub mod Fitted
+pub mod Seats
+pub mod FittedGear
 pub mod Standing
 pub mod Settled

@@ -1,6 +1,10 @@
 use Rattle.std.specs.Prelude.{ℕ, List, codes}
 use Rattle.dali_standing.specs.declared.refusal.Refusal.{Refusal}
-use Rattle.dali_standing.specs.declared.refusal.Refusal.TheVariants.{UnknownController, UnknownGear, ControllerDown, ControllerUp, NotDue, NotArc, StoreDisagrees, DrawsSpent, QueueFull, LogFull, NoMemory}
+use Rattle.dali_standing.specs.declared.refusal.Refusal.TheVariants.{UnknownController, UnknownGear}
+use Rattle.dali_standing.specs.declared.refusal.Refusal.TheVariants.{ControllerDown, ControllerUp}
+use Rattle.dali_standing.specs.declared.refusal.Refusal.TheVariants.{NotDue, NotArc, StoreDisagrees}
+use Rattle.dali_standing.specs.declared.refusal.Refusal.TheVariants.{DrawsSpent, QueueFull, LogFull}
+use Rattle.dali_standing.specs.declared.refusal.Refusal.TheVariants.{NoMemory}
 
 -- the refusals' numbers
 abbrev pub number_of : Refusal → ℕ

@@ -1,11 +1,12 @@
-use Rattle.std.specs.Prelude.{◌≡◌, ℕ, Bool, true, false, not, List, [], ◌∷◌, ◌++◌, length, filter, Option, Some, None, is_some, ◌==◌, ◌&&◌, if◌then◌else◌}
+use Rattle.std.specs.Prelude.{◌≡◌, ℕ, Bool, true, false, not, List, [], ◌∷◌, ◌++◌, length, filter}
+use Rattle.std.specs.Prelude.{Option, Some, None, is_some, ◌==◌, ◌&&◌, if◌then◌else◌}
 use Rattle.std.specs.List.{AllByRecursion}
 use Rattle.dali_frame.specs.declared.frames.Forward.{Forward}
 use Rattle.dali_frame.specs.declared.frames.Answer.{Answer}
 use Rattle.dali_frame.specs.Priority.{FIRST, LATER}
 use Rattle.dali_special.specs.Command.{command_of}
 use Rattle.dali_arbiter.specs.declared.request.Request.{Request}
-use Rattle.dali_arbiter.specs.Bus.{Bus, owns, request_of, offer_refusal}
+use Rattle.dali_arbiter.specs.Arbiter.{Arbiter, owns, request_of, offer_refusal}
 use Rattle.dali_script.specs.declared.trace.Entry.{Entry}
 use Rattle.dali_script.specs.Scripts.{Lawful, IsFirst}
 use Rattle.dali_script.specs.Stages.{stage_of, may_follow}
@@ -14,31 +15,34 @@ use Rattle.dali_orders.specs.declared.orders.Input.TheVariants as input
 use Rattle.dali_orders.specs.declared.orders.Order.{Order}
 use Rattle.dali_orders.specs.declared.orders.Order.TheVariants.{Put, Commit, Done, Halt}
 use Rattle.dali_orders.specs.Due.{frame_put}
-use Rattle.dali_controller.specs.Progress.{Progress}
+use Rattle.dali_controller.specs.Machine.{Machine}
 use Rattle.dali_events.specs.World.{Controller}
 use Rattle.dali_events.specs.Happens.{entry, is_arc}
-use Rattle.dali_standing.specs.Places.{Place, trace_of, IsRunning}
-use Rattle.dali_standing.specs.Standing.{Standing, Seated, place_in, controller_on, machine_in}
+use Rattle.dali_standing.specs.Seats.{Seat, trace_of, IsRunning}
+use Rattle.dali_standing.specs.Standing.{Standing, Seated, seat_in, controller_on, machine_in}
 
--- HOW BUS AND CONTROLLERS GO TOGETHER on a site. It holds at each moment of a site, where each frame that is sent was next;
--- it isn't so in every run of the definitions.
+-- HOW BUS AND CONTROLLERS GO TOGETHER on a site. It holds at each moment of a site, where each
+-- frame that is sent was next; it isn't so in every run of the definitions.
 
 -- ---------------------------------------------------------------- a controller and the bus
 
--- a controller that owns the bus: its frame waits, and follows the frames of its transaction; or it was told what was heard
--- after its last one, and more may follow
-abbrev pub IsOwning : List Entry → Controller → Progress → Option Order → Option Input → Type 0
-IsOwning t k m (Some (Put p f)) None = (p ≡ LATER) × (t ≡ m.trace) × Lawful k.records.block k.records.reserved t f × (is_arc (command_of f) ≡ false)
+-- a controller that owns the bus: its frame waits, and follows the frames of its transaction; or it
+-- was told what was heard after its last one, and more may follow
+abbrev pub IsOwning : List Entry → Controller → Machine → Option Order → Option Input → Type 0
+IsOwning t k m (Some (Put p f)) None =
+    (p ≡ LATER) × (t ≡ m.trace) × Lawful k.records.block k.records.reserved t f
+    × (is_arc (command_of f) ≡ false)
 IsOwning t k m (Some (Put p f)) (Some (input.Heard h)) = t ≡ m.trace ++ entry f h ∷ []
 IsOwning t k m _ _ = ⊥
 
--- a controller that does not: its frame waits, and is a first one; or it was told what was heard after its last one, and
--- none may follow; or nothing runs
-abbrev pub IsOver : Controller → Progress → Forward → Input → Type 0
-IsOver k m f (input.Heard h) = may_follow k.records.block k.records.reserved (stage_of (m.trace ++ entry f h ∷ [])) ≡ false
+-- a controller that does not: its frame waits, and is a first one; or it was told what was heard
+-- after its last one, and none may follow; or nothing runs
+abbrev pub IsOver : Controller → Machine → Forward → Input → Type 0
+IsOver k m f (input.Heard h) =
+    may_follow k.records.block k.records.reserved (stage_of (m.trace ++ entry f h ∷ [])) ≡ false
 IsOver k m f _ = Unit {0}
 
-abbrev pub IsApart : Controller → Progress → Option Order → Option Input → Type 0
+abbrev pub IsApart : Controller → Machine → Option Order → Option Input → Type 0
 IsApart k m None told = m.trace ≡ []
 IsApart k m (Some (Put p f)) None = (p ≡ FIRST) × (m.trace ≡ []) × IsFirst f
 IsApart k m (Some (Put p f)) (Some i) = IsOver k m f i
@@ -46,12 +50,12 @@ IsApart k m (Some (Commit x)) told = m.trace ≡ []
 IsApart k m (Some (Done e)) told = Unit {0}
 IsApart k m (Some (Halt why)) told = Unit {0}
 
-abbrev pub IsPlacedBy : Bool → List Entry → Controller → Option Progress → Type 0
+abbrev pub IsPlacedBy : Bool → List Entry → Controller → Option Machine → Type 0
 IsPlacedBy owning t k None = (owning ≡ false) × (k.last ≡ None)
 IsPlacedBy true t k (Some m) = IsOwning t k m k.last k.told
 IsPlacedBy false t k (Some m) = IsApart k m k.last k.told
 
-abbrev pub IsPlaced : Bool → List Entry → Place → Type 0
+abbrev pub IsPlaced : Bool → List Entry → Seat → Type 0
 IsPlaced owning t p = IsPlacedBy owning t p.controller p.machine
 
 -- ---------------------------------------------------------------- the requests that wait
@@ -61,34 +65,36 @@ abbrev pub is_scripted : ℕ → Request → Bool
 is_scripted c r = (r.sender == c) && not (is_arc (command_of r.frame))
 
 -- the requests of some lists that pass a test
-abbrev pub picked : (Request → Bool) → List (List Request) → List Request
-picked test [] = []
-picked test (l ∷ lists) = filter test l ++ picked test lists
+abbrev pub picked_requests : (Request → Bool) → List (List Request) → List Request
+picked_requests test [] = []
+picked_requests test (l ∷ lists) = filter test l ++ picked_requests test lists
 
 -- the request that waits for a controller: that of its last order, until it is told of it
-abbrev pub awaited_by : ℕ → Option Input → Option Order → List Request
-awaited_by c None (Some (Put p f)) = request_of c p f ∷ []
-awaited_by c _ _ = []
+abbrev pub awaited_requests_by : ℕ → Option Input → Option Order → List Request
+awaited_requests_by c None (Some (Put p f)) = request_of c p f ∷ []
+awaited_requests_by c _ _ = []
 
-abbrev pub awaited : ℕ → Controller → List Request
-awaited c k = awaited_by c k.told k.last
+abbrev pub awaited_requests : ℕ → Controller → List Request
+awaited_requests c k = awaited_requests_by c k.told k.last
 
 -- list 1: what the owner waits for
-abbrev pub owners_request : Option ℕ → (ℕ → Place) → List Request
+abbrev pub owners_request : Option ℕ → (ℕ → Seat) → List Request
 owners_request None place = []
-owners_request (Some c) place = awaited c (place c).controller
+owners_request (Some c) place = awaited_requests c (place c).controller
 
-abbrev pub IsServed : List (List Request) → Option ℕ → (ℕ → Place) → Type 0
+abbrev pub IsServed : List (List Request) → Option ℕ → (ℕ → Seat) → Type 0
 IsServed [] owner place = ⊥
 IsServed (first ∷ rest) owner place = (first ≡ owners_request owner place)
-    × ((c : ℕ) → picked (is_scripted c) rest ≡ (if owns owner c then [] else awaited c (place c).controller))
+    × ((c : ℕ) → picked_requests (is_scripted c) rest
+        ≡ (if owns owner c then [] else awaited_requests c (place c).controller))
 
 -- the senders of all requests are up
-abbrev pub AreUp : List (List Request) → (ℕ → Place) → Type 0
-AreUp lists place = AllByRecursion (λ l. AllByRecursion (λ r. (place r.sender).controller.up ≡ true) l) lists
+abbrev pub AreUp : List (List Request) → (ℕ → Seat) → Type 0
+AreUp lists place =
+    AllByRecursion (λ l. AllByRecursion (λ r. (place r.sender).controller.up ≡ true) l) lists
 
 -- THE PLACES AND THE BUS: `place` is the place of each controller, and an empty one past the last.
-pub record IsSettled (bus : Bus) (trace : List Entry) (place : ℕ → Place) : Type 0 where
+pub record IsSettled (bus : Arbiter) (trace : List Entry) (place : ℕ → Seat) : Type 0 where
   pub five : length bus.lists ≡ 5
   pub running : (c : ℕ) → (place c).controller.up ≡ is_some (place c).machine
   pub places : (c : ℕ) → IsPlaced (owns bus.owner c) trace (place c)
@@ -96,19 +102,21 @@ pub record IsSettled (bus : Bus) (trace : List Entry) (place : ℕ → Place) : 
   pub up : AreUp bus.lists place
 
 -- the sender of a scripted frame waits for it, and its transaction runs with it
-abbrev pub IsHearing : Place → Forward → Answer → List Entry → Type 0
+abbrev pub IsHearing : Seat → Forward → Answer → List Entry → Type 0
 IsHearing p f h running = is_arc (command_of f) ≡ false
-    → (frame_put p.controller.last ≡ Some f) × (p.controller.told ≡ None) × (running ≡ trace_of p.machine ++ entry f h ∷ [])
+    → (frame_put p.controller.last ≡ Some f) × (p.controller.told ≡ None)
+        × (running ≡ trace_of p.machine ++ entry f h ∷ [])
 
 -- what is ordered on the bus is not refused
-abbrev pub IsAccepted : Bus → ℕ → Order → Type 0
+abbrev pub IsAccepted : Arbiter → ℕ → Order → Type 0
 IsAccepted b c (Put p f) = offer_refusal b (request_of c p f) ≡ None
 IsAccepted b c _ = Unit {0}
 
 abbrev pub Settled : Seated → Type 0
-Settled s = IsSettled s.bus s.trace (place_in s.seats)
+Settled s = IsSettled s.bus s.trace (seat_in s.seats)
 
 -- what is known of a controller with a machine, of what stands
 abbrev pub IsPlacedOn : Standing → ℕ → Type 0
-IsPlacedOn s c = (m : Progress) → machine_in s.machines c ≡ Some m
-    → IsRunning (controller_on s c) m × IsPlacedBy (owns s.bus.owner c) s.trace (controller_on s c) (Some m)
+IsPlacedOn s c = (m : Machine) → machine_in s.machines c ≡ Some m
+    → IsRunning (controller_on s c) m
+        × IsPlacedBy (owns s.bus.owner c) s.trace (controller_on s c) (Some m)

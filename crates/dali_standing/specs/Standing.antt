@@ -1,57 +1,67 @@
-use Rattle.std.specs.Prelude.{◌≡◌, ℕ, ◌+◌, List, [], ◌∷◌, map, slice_set, slice_index_or, Option, Some, None}
+use Rattle.std.specs.Prelude.{◌≡◌, ℕ, ◌+◌, List, [], ◌∷◌, map, slice_set, slice_index_or, Option}
+use Rattle.std.specs.Prelude.{Some, None}
 use Rattle.std.specs.Option.{option_map}
-use Rattle.dali_gear.specs.ControlGear.{ControlGear}
+use Rattle.dali_gear.specs.Gear.{Gear}
 use Rattle.dali_arbiter.specs.declared.request.Request.{Request}
-use Rattle.dali_arbiter.specs.Bus.{Bus}
+use Rattle.dali_arbiter.specs.Arbiter.{Arbiter}
 use Rattle.dali_script.specs.declared.block.Block.{Block}
 use Rattle.dali_script.specs.declared.trace.Entry.{Entry}
 use Rattle.dali_script.specs.Records.{without_records}
-use Rattle.dali_controller.specs.Progress.{Progress, at_first}
-use Rattle.dali_controller.specs.Orders.{after}
+use Rattle.dali_controller.specs.Machine.{Machine, at_first}
+use Rattle.dali_controller.specs.Orders.{machine_after}
 use Rattle.dali_events.specs.declared.event.Event.{Event}
 use Rattle.dali_events.specs.declared.event.Event.TheVariants as event
 use Rattle.dali_events.specs.World.{World, Controller, controller_at, nobody}
 use Rattle.dali_events.specs.Happens.{happens, come_up}
 use Rattle.dali_events.specs.Allowed.{Allowed, IsUp, MaySend}
-use Rattle.dali_standing.specs.Fitted.{Fitted}
-use Rattle.dali_standing.specs.Places.{Place, begun_at}
+use Rattle.dali_standing.specs.FittedGear.{FittedGear}
+use Rattle.dali_standing.specs.Seats.{Seat, begun_at}
 
--- WHAT STANDS on a site at one moment: a world without the history of draws, and with the machines of the controllers.
+-- WHAT STANDS on a site at one moment: a world without the history of draws, and with the machines
+-- of the controllers.
 pub record Standing : Type 0 where
-  pub gear : List ControlGear
-  pub bus : Bus
+  pub gear : List Gear
+  pub bus : Arbiter
   pub trace : List Entry
   pub controllers : List Controller
-  pub machines : List (Option Progress)
+  pub machines : List (Option Machine)
   pub left : List ℕ
   pub gifts : List (ℕ × ℕ)
 
 -- what stands in a world, with these machines
-abbrev pub stand_of : World → List (Option Progress) → Standing
-stand_of w ms = record { gear = w.gear; bus = w.bus; trace = w.trace; controllers = w.controllers; machines = ms; left = w.left; gifts = w.gifts }
+abbrev pub stand_of : World → List (Option Machine) → Standing
+stand_of w ms = record {
+  gear = w.gear;
+  bus = w.bus;
+  trace = w.trace;
+  controllers = w.controllers;
+  machines = ms;
+  left = w.left;
+  gifts = w.gifts;
+}
 
 -- a controller
 abbrev pub controller_on : Standing → ℕ → Controller
 controller_on s c = slice_index_or s.controllers c nobody
 
--- ---------------------------------------------------------------- the same, with a place for each controller
+-- ------------------------------------------------------ the same, with a place for each controller
 
 pub record Seated : Type 0 where
-  pub fitted : Fitted
-  pub bus : Bus
+  pub fitted : FittedGear
+  pub bus : Arbiter
   pub trace : List Entry
-  pub seats : List Place
+  pub seats : List Seat
 
-abbrev pub empty_place : Place
-empty_place = record { controller = nobody; machine = None }
+abbrev pub empty_seat : Seat
+empty_seat = record { controller = nobody; machine = None }
 
-abbrev pub place_in : List Place → ℕ → Place
-place_in seats c = slice_index_or seats c empty_place
+abbrev pub seat_in : List Seat → ℕ → Seat
+seat_in seats c = slice_index_or seats c empty_seat
 
-abbrev pub controllers_of : List Place → List Controller
+abbrev pub controllers_of : List Seat → List Controller
 controllers_of seats = map (λ p. p.controller) seats
 
-abbrev pub machines_of : List Place → List (Option Progress)
+abbrev pub machines_of : List Seat → List (Option Machine)
 machines_of seats = map (λ p. p.machine) seats
 
 -- what stands then
@@ -69,33 +79,39 @@ flat s = record {
 -- ---------------------------------------------------------------- the machines
 
 -- the machine of controller c
-abbrev pub machine_in : List (Option Progress) → ℕ → Option Progress
+abbrev pub machine_in : List (Option Machine) → ℕ → Option Machine
 machine_in ms c = slice_index_or ms c None
 
 -- what an event does to the machines, in the world before it
-abbrev pub machines_after : World → List (Option Progress) → Event → List (Option Progress)
-machines_after w ms (event.Acted c i o) = slice_set ms c (option_map (λ m. after m i o) (machine_in ms c))
+abbrev pub machines_after : World → List (Option Machine) → Event → List (Option Machine)
+machines_after w ms (event.Acted c i o) =
+    slice_set ms c (option_map (λ m. machine_after m i o) (machine_in ms c))
 machines_after w ms (event.Down c) = slice_set ms c None
-machines_after w ms (event.Up c kept) = slice_set ms c (Some (at_first c (come_up kept (controller_at w c)).records))
+machines_after w ms (event.Up c kept) =
+    slice_set ms c (Some (at_first c (come_up kept (controller_at w c)).records))
 machines_after w ms _ = ms
 
 -- the machines of controllers that have these blocks, from controller c on, before their start
-abbrev pub machines_at : ℕ → List Block → List (Option Progress)
+abbrev pub machines_at : ℕ → List Block → List (Option Machine)
 machines_at c [] = []
 machines_at c (b ∷ bs) = Some (at_first c (without_records b)) ∷ machines_at (c + 1) bs
 
 -- and their places
-abbrev pub seats_from : ℕ → List Block → List Place
+abbrev pub seats_from : ℕ → List Block → List Seat
 seats_from c [] = []
 seats_from c (b ∷ bs) = begun_at c b ∷ seats_from (c + 1) bs
 
 -- ---------------------------------------------------------------- one event more
 
--- WHAT AN EVENT MOVES: in each world that stands so it is allowed, and it leads to what the definitions say of the world
--- and of the machines.
+-- WHAT AN EVENT MOVES: in each world that stands so it is allowed, and it leads to what the
+-- definitions say of the world and of the machines.
 abbrev pub Moves : Standing → Event → Standing → Type 0
-Moves s e new = (w : World) (ms : List (Option Progress)) → s ≡ stand_of w ms → Allowed w e × (new ≡ stand_of (happens w e) (machines_after w ms e))
+Moves s e new =
+    (w : World) (ms : List (Option Machine)) → s ≡ stand_of w ms
+    → Allowed w e × (new ≡ stand_of (happens w e) (machines_after w ms e))
 
 -- a request that may be sent, in each world that stands so
 abbrev pub MayBeSent : Standing → Request → Type 0
-MayBeSent s r = (w : World) (ms : List (Option Progress)) → s ≡ stand_of w ms → IsUp w r.sender × MaySend w r.sender r.frame
+MayBeSent s r =
+    (w : World) (ms : List (Option Machine)) → s ≡ stand_of w ms
+    → IsUp w r.sender × MaySend w r.sender r.frame

@@ -4,7 +4,8 @@ use Rattle.dali_gear.specs.declared.row.GearSet.{GearSet}
 use Rattle.dali_gear.specs.declared.row.Reach.{Reach}
 use Rattle.dali_gear.specs.declared.row.Reach.TheVariants.{Everyone, Only}
 use Rattle.dali_standing.specs.declared.trouble.Trouble.{Trouble}
-use Rattle.dali_standing.specs.declared.trouble.Trouble.TheVariants.{AnswerLost, Noise, Destroyed, Collision}
+use Rattle.dali_standing.specs.declared.trouble.Trouble.TheVariants.{AnswerLost, Noise, Destroyed}
+use Rattle.dali_standing.specs.declared.trouble.Trouble.TheVariants.{Collision}
 
 -- what is heard under a trouble, where this would be heard without it
 abbrev pub heard_under : Trouble → Answer → Answer

@@ -1,12 +1,13 @@
-ghost use Rattle.std.specs.Prelude.{◌≡◌, ◌↔◌, ◌+◌, ◌<◌, ◌≤◌, ◌++◌, ℕ, List, [], length, map, replicate, drop, IfOk, IfErr, IsTrue, vec_len, slice_index_or};
+ghost use Rattle.std.specs.Prelude.{◌≡◌, ◌↔◌, ◌+◌, ◌<◌, ◌≤◌, ◌++◌, ℕ, List, [], length, map, replicate, drop, IfOk};
+ghost use Rattle.std.specs.Prelude.{IfErr, IsTrue, vec_len, slice_index_or};
 ghost use Rattle.std.specs.Vec.{vec_capacity};
 ghost use Rattle.dali_special.specs.Command.{command_of};
-ghost use Rattle.dali_gear.specs.ControlGear.{fresh, expired, quieted};
-ghost use Rattle.dali_gear.specs.Row.{draws_needed, answers_of, heard_of, stored, stored_of};
-ghost use Rattle.dali_events.specs.Plan.{SitePlan};
-ghost use Rattle.dali_events.specs.World.{changed_gear};
-ghost use Rattle.dali_events.specs.Happens.{powered};
-ghost use Rattle.dali_standing.specs.Fitted.{gift_of};
+ghost use Rattle.dali_gear.specs.Gear.{fresh, gear_expired, gear_quieted};
+ghost use Rattle.dali_gear.specs.Row.{draws_needed, answers_of, heard_of, stored_short, stored_of};
+ghost use Rattle.dali_events.specs.Plan.{Plan};
+ghost use Rattle.dali_events.specs.World.{gear_changed};
+ghost use Rattle.dali_events.specs.Happens.{gear_powered};
+ghost use Rattle.dali_standing.specs.FittedGear.{gift_of};
 ghost use Rattle.dali_standing.specs.declared.refusal.Refusal.TheVariants as refusal;
 
 use crate::refusal::Refusal;
@@ -30,18 +31,19 @@ impl Model for FittedGear {
     ghost use Rattle.std.specs.Prelude.{◌≤◌, ◌<◌, drop, length, All};
     ghost use Rattle.std.specs.Vec.{vec_capacity};
     ghost use Rattle.dali_frame.specs.Random.{MASK24};
-    ghost use Rattle.dali_standing.specs.Fitted.{Fitted};
+    ghost use Rattle.dali_standing.specs.FittedGear.{FittedGear};
 
-    ghost Value = { Fitted };
+    ghost Value = { FittedGear };
 
     ghost view = { λ f. record { gear = f.gear.items; left = drop f.used f.draws.items; gifts = f.gifts.items } };
 
-    ghost invariant = { λ f. (length f.gear.items ≤ 128) × (f.used ≤ length f.draws.items) × (length f.draws.items ≤ 1024)
+    ghost invariant = { λ f. (length f.gear.items ≤ 128) × (f.used ≤ length f.draws.items)
+        × (length f.draws.items ≤ 1024)
         × All (λ r. r < MASK24) f.draws.items × (length f.gear.items ≤ vec_capacity f.gifts) };
 }
 
 impl FittedGear {
-    ghost use Rattle.dali_standing.specs.Fitted.{Fitted, fitted_at, taken_at, changed_at};
+    ghost use Rattle.dali_standing.specs.FittedGear.{FittedGear, fitted_at, taken_at, changed_at};
 
     /// The gear of a plan, from the factory. It takes all the memory that it will need.
     pub(crate) fn new(alloc: Global, plan: &Plan) -> Result<FittedGear, Refusal>
@@ -69,7 +71,8 @@ impl FittedGear {
     /// The gear that the frame reaches take it. Answers what is heard where nothing disturbs the backward frames.
     pub(crate) fn take(&mut self, frame: Forward, reach: Reach) -> Answer
         requires draws { draws_needed reach (command_of frame) 0 self.old.gear ≤ length self.old.left }
-        requires room { length (self.old.gifts ++ stored_of reach (command_of frame) 0 self.old.gear) ≤ length self.old.gear }
+        requires room { length (self.old.gifts
+            ++ stored_of reach (command_of frame) 0 self.old.gear) ≤ length self.old.gear }
         ensures state { self.new ≡ taken_at reach (command_of frame) self.old }
         ensures answer { result ≡ heard_of (answers_of reach (command_of frame) 0 self.old.gear) }
     {
@@ -82,7 +85,7 @@ impl FittedGear {
     /// A gear's power comes or goes.
     pub(crate) fn power(&mut self, number: u32, on: bool)
         requires { number < length self.old.gear }
-        ensures { self.new ≡ changed_at (changed_gear self.old.gear number (powered on)) self.old }
+        ensures { self.new ≡ changed_at (gear_changed self.old.gear number (gear_powered on)) self.old }
     {
         let gear = &mut self.gear[number as usize];
         if on {
@@ -95,7 +98,7 @@ impl FittedGear {
     /// The 15 minutes of a gear's initialisation are over.
     pub(crate) fn expire(&mut self, number: u32)
         requires { number < length self.old.gear }
-        ensures { self.new ≡ changed_at (changed_gear self.old.gear number expired) self.old }
+        ensures { self.new ≡ changed_at (gear_changed self.old.gear number gear_expired) self.old }
     {
         let gear = &mut self.gear[number as usize];
         gear.expire();
@@ -103,7 +106,7 @@ impl FittedGear {
 
     /// So much time passes without a frame that half pairs are forgotten.
     pub(crate) fn quiet(&mut self)
-        ensures { self.new ≡ changed_at (map quieted self.old.gear) self.old }
+        ensures { self.new ≡ changed_at (map gear_quieted self.old.gear) self.old }
     {
         quiet(&mut self.gear);
     }
@@ -137,7 +140,7 @@ fn from_factory(alloc: Global, count: u32) -> Result<Vec<Gear>, Refusal>
 }
 
 fn quiet(gear: &mut [Gear])
-    ensures { gear.new ≡ map quieted gear.old }
+    ensures { gear.new ≡ map gear_quieted gear.old }
 {
     for one in gear.iter_mut() {
         one.quiet();
@@ -146,7 +149,7 @@ fn quiet(gear: &mut [Gear])
 
 /// The short address that a gear with power stores at this command.
 fn stored(gear: &Gear, command: &Command) -> Option<Short>
-    ensures { result ≡ stored command.now gear.now }
+    ensures { result ≡ stored_short command.now gear.now }
 {
     match *command {
         Command::Program(Some(short))

@@ -1,14 +1,15 @@
-ghost use Rattle.std.specs.Prelude.{◌≡◌, ◌++◌, ◌∷◌, [], Bool, true, false, ◌↔◌, Some, None, IfOk, OnOk, IfErr, OnErr, IsTrue, MatchOption, option_map};
+ghost use Rattle.std.specs.Prelude.{◌≡◌, ◌++◌, ◌∷◌, [], Bool, true, false, ◌↔◌, Some, None, IfOk, OnOk, IfErr, OnErr};
+ghost use Rattle.std.specs.Prelude.{IsTrue, MatchOption, option_map};
 ghost use Rattle.dali_special.specs.Command.{command_of};
 ghost use Rattle.dali_script.specs.Findings.{later};
 ghost use Rattle.dali_orders.specs.Due.{due_after, accepts, frame_put};
-ghost use Rattle.dali_controller.specs.Progress.{roster_of};
+ghost use Rattle.dali_controller.specs.Machine.{table_of};
 ghost use Rattle.dali_orders.specs.declared.orders.Due.TheVariants as due;
 ghost use Rattle.dali_orders.specs.declared.orders.Input.TheVariants as input;
 ghost use Rattle.dali_events.specs.Happens.{told_sent, told_lapsed, entry, is_arc, outstanding_told, outstanding_after};
 ghost use Rattle.dali_events.specs.Allowed.{IsDue};
-ghost use Rattle.dali_controller.specs.Orders.{after};
-ghost use Rattle.dali_standing.specs.Places.{due_of, MayAnswer, Waits};
+ghost use Rattle.dali_controller.specs.Orders.{machine_after};
+ghost use Rattle.dali_standing.specs.Seats.{due_of, MayAnswer, Waits};
 
 use crate::refusal::Refusal;
 use dali_controller::Machine;
@@ -32,18 +33,19 @@ pub(crate) struct Seat {
 }
 
 impl Model for Seat {
-    ghost use Rattle.dali_standing.specs.Places.{Place, place_by, IsPlace};
+    ghost use Rattle.dali_standing.specs.Seats.{Seat, seat_by, IsSeat};
 
-    ghost Value = { Place };
+    ghost Value = { Seat };
 
-    ghost view = { λ s. place_by s.machine s.kept s.outstanding s.finding s.told };
+    ghost view = { λ s. seat_by s.machine s.kept s.outstanding s.finding s.told };
 
-    ghost invariant = { λ s. IsPlace s.machine s.kept s.outstanding s.finding s.told };
+    ghost invariant = { λ s. IsSeat s.machine s.kept s.outstanding s.finding s.told };
 }
 
 impl Seat {
     ghost use Rattle.dali_standing.specs.declared.refusal.Refusal.TheVariants as refusal;
-    ghost use Rattle.dali_standing.specs.Places.{begun_at, acted_at, down_at, up_at, told_at, told_lost, IsTied, trace_of, Agrees};
+    ghost use Rattle.dali_standing.specs.Seats.{begun_at, acted_at, down_at, up_at, told_at, told_lost, IsTied};
+    ghost use Rattle.dali_standing.specs.Seats.{trace_of, Agrees};
 
     /// The place of controller `id`, which is up and keeps nothing yet.
     pub(crate) fn new(alloc: Global, id: u8, block: Block) -> Result<Seat, Refusal>
@@ -191,7 +193,7 @@ impl Seat {
     /// The gear that its machine has enrolled.
     pub(crate) fn table(&self) -> Option<&Table>
         ensures { MatchOption result (self.now.controller.up ≡ false)
-            (λ table. (self.now.controller.up ≡ true) × (table.now ≡ roster_of self.now.controller.records)) }
+            (λ table. (self.now.controller.up ≡ true) × (table.now ≡ table_of self.now.controller.records)) }
     {
         match &self.machine {
             Some(machine) => Some(machine.table()),
@@ -227,7 +229,7 @@ impl Seat {
 fn stepped(machine: &mut Option<Machine>, input: Input) -> Order
     requires { Waits machine.old input }
     ensures answer { MayAnswer machine.old input result }
-    ensures state { machine.new ≡ option_map (λ m. after m input result) machine.old }
+    ensures state { machine.new ≡ option_map (λ m. machine_after m input result) machine.old }
 {
     match machine {
         Some(machine) => match machine.step(input) {

@@ -1,18 +1,20 @@
-ghost use Rattle.std.specs.Prelude.{◌≡◌, ◌↔◌, ◌++◌, ◌∷◌, [], ℕ, ◌<◌, ◌≤◌, List, length, map, true, false, Some, None, IfSome, IfOk, IfErr, OnOk, OnErr, IsTrue, Bool, MatchOption, if◌then◌else◌};
+ghost use Rattle.std.specs.Prelude.{◌≡◌, ◌↔◌, ◌++◌, ◌∷◌, [], ℕ, ◌<◌, ◌≤◌, List, length, map, true, false, Some, None};
+ghost use Rattle.std.specs.Prelude.{IfSome, IfOk, IfErr, OnOk, OnErr, IsTrue, Bool, MatchOption, if◌then◌else◌};
 ghost use Rattle.dali_special.specs.Command.{command_of};
 ghost use Rattle.dali_gear.specs.declared.row.Reach.TheVariants.{Everyone, Only};
-ghost use Rattle.dali_gear.specs.ControlGear.{expired, quieted};
+ghost use Rattle.dali_gear.specs.Gear.{gear_expired, gear_quieted};
 ghost use Rattle.dali_gear.specs.Row.{draws_needed, answers_of, heard_of, stored_of};
-ghost use Rattle.dali_arbiter.specs.Bus.{next, owns, total, lapsed, request_of, offer_refusal, collision};
+ghost use Rattle.dali_arbiter.specs.Arbiter.{next, owns, total, bus_lapsed, request_of, offer_refusal, collision};
 ghost use Rattle.dali_orders.specs.Due.{frame_put};
-ghost use Rattle.dali_controller.specs.Progress.{roster_of};
+ghost use Rattle.dali_controller.specs.Machine.{table_of};
 ghost use Rattle.dali_events.specs.declared.event.Event.TheVariants as event;
 ghost use Rattle.dali_events.specs.World.{start};
-ghost use Rattle.dali_events.specs.Happens.{entry, is_arc, keeps_bus, gives_up, put_after, powered, told_sent, told_destroyed};
+ghost use Rattle.dali_events.specs.Happens.{entry, is_arc, keeps_bus, gives_up, put_after, gear_powered, told_sent};
+ghost use Rattle.dali_events.specs.Happens.{told_destroyed};
 ghost use Rattle.dali_events.specs.Allowed.{IsArc, IsDue};
-ghost use Rattle.dali_standing.specs.Fitted.{changed_at};
+ghost use Rattle.dali_standing.specs.FittedGear.{changed_at};
 ghost use Rattle.dali_standing.specs.Standing.{seats_from};
-ghost use Rattle.dali_standing.specs.Places.{MayAnswer, Agrees, trace_of, told_at, due_of};
+ghost use Rattle.dali_standing.specs.Seats.{MayAnswer, Agrees, trace_of, told_at, due_of};
 ghost use Rattle.dali_standing.specs.Troubles.{heard_under, nobody_at_all};
 ghost use Rattle.dali_standing.specs.Settled.{IsAccepted, IsHearing, IsPlacedOn};
 ghost use Rattle.dali_standing.specs.declared.refusal.Refusal.TheVariants as refusal;
@@ -35,9 +37,9 @@ use std::marker::Model;
 /// What stands on a site at one moment: its gear, the requests that wait for its bus, the frames of the running
 /// transaction, and a place for each controller.
 ///
-/// Controllers and gear are named by their numbers, which must be there. The caller tests what its call asks for: `is_up` and
-/// `may_act` before `act`, `is_crowded` before `act` and `offer`, `next_request` and `is_spent` before a request is sent,
-/// destroyed or collides, `agreement` before `up`.
+/// Controllers and gear are named by their numbers, which must be there. The caller tests what its call asks for:
+/// `is_up` and `may_act` before `act`, `is_crowded` before `act` and `offer`, `next_request` and `is_spent` before a
+/// request is sent, destroyed or collides, `agreement` before `up`.
 #[derive(Drop)]
 pub struct Standing {
     fitted: FittedGear,
@@ -47,21 +49,22 @@ pub struct Standing {
 }
 
 impl Model for Standing {
-    ghost use Rattle.dali_standing.specs.Standing.{Standing, flat, place_in};
+    ghost use Rattle.dali_standing.specs.Standing.{Standing, flat, seat_in};
     ghost use Rattle.dali_standing.specs.Settled.{IsSettled};
 
     ghost Value = { Standing };
 
     ghost view = { λ s. flat (record { fitted = s.fitted; bus = s.arbiter; trace = s.trace; seats = s.seats.items }) };
 
-    ghost invariant = { λ s. IsSettled s.arbiter s.trace (place_in s.seats.items) };
+    ghost invariant = { λ s. IsSettled s.arbiter s.trace (seat_in s.seats.items) };
 }
 
 impl Standing {
-    ghost use Rattle.dali_standing.specs.Standing.{Standing, stand_of, machines_at, controller_on, machine_in, Moves, MayBeSent};
+    ghost use Rattle.dali_standing.specs.Standing.{Standing, stand_of, machines_at, controller_on, machine_in, Moves};
+    ghost use Rattle.dali_standing.specs.Standing.{MayBeSent};
 
-    /// What stands on a site of this plan at its start. It takes all the memory that it will need until a controller comes up
-    /// anew. `queue` requests may wait.
+    /// What stands on a site of this plan at its start. It takes all the memory that it will need until a controller
+    /// comes up anew. `queue` requests may wait.
     pub fn new(alloc: Global, plan: &Plan, queue: usize) -> Result<Standing, Refusal>
         requires least { 1 ≤ queue }
         requires most { queue ≤ 1024 }
@@ -124,7 +127,8 @@ impl Standing {
     pub fn table(&self, c: u8) -> Option<&Table>
         requires { c < length self.now.controllers }
         ensures { MatchOption result ((controller_on self.now c).up ≡ false)
-            (λ table. ((controller_on self.now c).up ≡ true) × (table.now ≡ roster_of (controller_on self.now c).records)) }
+            (λ table. ((controller_on self.now c).up ≡ true)
+            × (table.now ≡ table_of (controller_on self.now c).records)) }
     {
         self.seats[c as usize].table()
     }
@@ -214,8 +218,10 @@ impl Standing {
     pub fn send(&mut self, request: Request, trouble: Trouble) -> Answer
         requires next { next self.old.bus ≡ Some request }
         requires draws { draws_needed Everyone (command_of request.frame) 0 self.old.gear ≤ length self.old.left }
-        requires room { length (self.old.gifts ++ stored_of Everyone (command_of request.frame) 0 self.old.gear) ≤ length self.old.gear }
-        ensures heard { result ≡ heard_under trouble (heard_of (answers_of Everyone (command_of request.frame) 0 self.old.gear)) }
+        requires room { length (self.old.gifts
+            ++ stored_of Everyone (command_of request.frame) 0 self.old.gear) ≤ length self.old.gear }
+        ensures heard { result
+            ≡ heard_under trouble (heard_of (answers_of Everyone (command_of request.frame) 0 self.old.gear)) }
         ensures moves { Moves self.old (event.Sent request.sender request.frame result) self.new }
     {
         let plain = self.fitted.take(request.frame, Reach::Everyone);
@@ -235,7 +241,8 @@ impl Standing {
     pub fn destroy(&mut self, request: Request, set: GearSet)
         requires next { next self.old.bus ≡ Some request }
         requires draws { draws_needed (Only set) (command_of request.frame) 0 self.old.gear ≤ length self.old.left }
-        requires room { length (self.old.gifts ++ stored_of (Only set) (command_of request.frame) 0 self.old.gear) ≤ length self.old.gear }
+        requires room { length (self.old.gifts
+            ++ stored_of (Only set) (command_of request.frame) 0 self.old.gear) ≤ length self.old.gear }
         ensures { Moves self.old (event.Destroyed request.sender request.frame set) self.new }
     {
         self.fitted.take(request.frame, Reach::Only(set));
@@ -245,14 +252,17 @@ impl Standing {
         lose(seat, request.frame);
     }
 
-    /// The request that is next collides with the one behind it in its list, where another controller has put that there;
-    /// else it is destroyed, and no gear takes its frame. Answers the other request.
+    /// The request that is next collides with the one behind it in its list, where another controller has put that
+    /// there; else it is destroyed, and no gear takes its frame. Answers the other request.
     pub fn collide(&mut self, request: Request) -> Option<Request>
         requires next { next self.old.bus ≡ Some request }
-        requires draws { draws_needed (Only nobody_at_all) (command_of request.frame) 0 self.old.gear ≤ length self.old.left }
-        requires room { length (self.old.gifts ++ stored_of (Only nobody_at_all) (command_of request.frame) 0 self.old.gear) ≤ length self.old.gear }
+        requires draws { draws_needed (Only nobody_at_all) (command_of request.frame)
+            0 self.old.gear ≤ length self.old.left }
+        requires room { length (self.old.gifts
+            ++ stored_of (Only nobody_at_all) (command_of request.frame) 0 self.old.gear) ≤ length self.old.gear }
         ensures other { result ≡ collision self.old.bus.lists }
-        ensures moves { MatchOption result (Moves self.old (event.Destroyed request.sender request.frame nobody_at_all) self.new)
+        ensures moves { MatchOption result
+            (Moves self.old (event.Destroyed request.sender request.frame nobody_at_all) self.new)
             (λ q. Moves self.old (event.Collided request.sender request.frame q.sender q.frame) self.new) }
     {
         let other = self.arbiter.collided();
@@ -320,7 +330,8 @@ impl Standing {
         seat.down();
     }
 
-    /// Whether a copy of records is what the controller keeps, without the outstanding record (false) or with it (true).
+    /// Whether a copy of records is what the controller keeps, without the outstanding record (false) or with it
+    /// (true).
     pub fn agreement(&self, c: u8, copy: &Kept) -> Option<bool>
         requires { c < length self.now.controllers }
         ensures { MatchOption result
@@ -387,7 +398,7 @@ fn keeps_bus(order: &Order) -> bool
 
 /// The owner gives up the bus with any order but a later frame of its transaction.
 fn give_up(arbiter: &mut Arbiter, trace: &mut Trace, c: u8, order: &Order)
-    ensures bus { arbiter.new ≡ (if gives_up arbiter.old c order.now then lapsed arbiter.old else arbiter.old) }
+    ensures bus { arbiter.new ≡ (if gives_up arbiter.old c order.now then bus_lapsed arbiter.old else arbiter.old) }
     ensures trace { trace.new ≡ (if gives_up arbiter.old c order.now then [] else trace.old) }
 {
     if owns(arbiter, c) && !keeps_bus(order) {

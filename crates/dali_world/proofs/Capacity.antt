@@ -1,6 +1,6 @@
 use Rattle.std.proofs.Common.{◌≡◌, ℕ, Bool, true, false, refl, is_some}
 use Rattle.std.specs.Prelude.{if◌then◌else◌}
-use Rattle.dali_arbiter.specs.Bus.{Bus, owns, lapsed, freed, muted, taken, collision, collided, silenced}
+use Rattle.dali_arbiter.specs.Arbiter.{Arbiter, owns, bus_lapsed, bus_freed, bus_muted, bus_taken, collision, bus_collided, bus_silenced}
 use Rattle.dali_orders.specs.declared.orders.Order.{Order}
 use Rattle.dali_orders.specs.declared.orders.Order.TheVariants.{Put, Commit, Done, Halt}
 use Rattle.dali_events.specs.declared.event.Event.{Event}
@@ -10,9 +10,9 @@ use Rattle.dali_events.specs.Happens.{happens, gives_up, bus_acted}
 
 -- AS MANY REQUESTS MAY WAIT as at the start, whatever happens.
 
-acted_capacity : (b : Bus) (c : ℕ) (o : Order) → (bus_acted b c o).capacity ≡ b.capacity
+acted_capacity : (b : Arbiter) (c : ℕ) (o : Order) → (bus_acted b c o).capacity ≡ b.capacity
 acted_capacity b c o = go o where
-  freed_or : (x : Bool) → (if x then lapsed b else b).capacity ≡ b.capacity
+  freed_or : (x : Bool) → (if x then bus_lapsed b else b).capacity ≡ b.capacity
   freed_or true = refl
   freed_or false = refl
 
@@ -22,15 +22,15 @@ acted_capacity b c o = go o where
   go (Done x) = freed_or (gives_up b c (Done x))
   go (Halt x) = freed_or (gives_up b c (Halt x))
 
-collided_capacity : (b : Bus) → (collided b).capacity ≡ b.capacity
+collided_capacity : (b : Arbiter) → (bus_collided b).capacity ≡ b.capacity
 collided_capacity b = go (is_some (collision b.lists)) where
-  go : (x : Bool) → (freed (if x then taken (taken b) else taken b)).capacity ≡ b.capacity
+  go : (x : Bool) → (bus_freed (if x then bus_taken (bus_taken b) else bus_taken b)).capacity ≡ b.capacity
   go true = refl
   go false = refl
 
-silenced_capacity : (b : Bus) (c : ℕ) → (silenced b c).capacity ≡ b.capacity
+silenced_capacity : (b : Arbiter) (c : ℕ) → (bus_silenced b c).capacity ≡ b.capacity
 silenced_capacity b c = go (owns b.owner c) where
-  go : (x : Bool) → (if x then freed (muted b c) else muted b c).capacity ≡ b.capacity
+  go : (x : Bool) → (if x then bus_freed (bus_muted b c) else bus_muted b c).capacity ≡ b.capacity
   go true = refl
   go false = refl
 

@@ -3,7 +3,7 @@ use Rattle.std.specs.Prelude.{IfSome}
 use Rattle.dali_script.specs.declared.block.Block.{Block}
 use Rattle.dali_script.specs.declared.records.Record.{Record}
 use Rattle.dali_script.specs.declared.records.Record.TheVariants.{Reserve, Enrol}
-use Rattle.dali_script.specs.Records.{Records, InBlock, Fits}
+use Rattle.dali_script.specs.Records.{Kept, InBlock, Fits}
 use Rattle.dali_orders.specs.declared.orders.Input.{Input}
 use Rattle.dali_orders.specs.declared.orders.Input.TheVariants as input
 use Rattle.dali_orders.specs.declared.orders.Order.{Order}
@@ -12,14 +12,14 @@ use Rattle.dali_orders.specs.Due.{record_ordered}
 use Rattle.dali_events.specs.declared.event.Event.TheVariants as event
 use Rattle.dali_events.specs.Plan.{block_at}
 use Rattle.dali_events.specs.World.{World, Controller, controller_at}
-use Rattle.dali_events.specs.Happens.{informed, with_outstanding, kept_after}
+use Rattle.dali_events.specs.Happens.{controller_informed, with_outstanding, kept_after}
 use Rattle.dali_events.specs.Allowed.{Allowed, MayCommit, MayOrder}
 use Rattle.dali_events.specs.Promises.{KeepsRecords}
-use Rattle.dali_world.specs.Site.{Site, Received, world, HasActed}
+use Rattle.dali_world.specs.Site.{SiteState, Receipt, world, HasActed}
 
 -- A RECORD THAT IS ORDERED FITS the block that the plan gives to its controller.
 
-with_outstanding_block : (k : Records) (x : Option Record) → (with_outstanding k x).block ≡ k.block
+with_outstanding_block : (k : Kept) (x : Option Record) → (with_outstanding k x).block ≡ k.block
 with_outstanding_block k None = refl
 with_outstanding_block k (Some (Reserve a r)) = refl
 with_outstanding_block k (Some (Enrol a r)) = refl
@@ -43,10 +43,10 @@ fits_order w c k b (Commit x) is may = fits_commit k b x is may.1
 fits_order w c k b (Done e) is may = tt
 fits_order w c k b (Halt e) is may = tt
 
-pub fits_acted : (s : Site) (c : ℕ) (i : Input) (r : Received) (new : Site) → KeepsRecords s.plan (world s) → HasActed s c i r new
+pub fits_acted : (s : SiteState) (c : ℕ) (i : Input) (r : Receipt) (new : SiteState) → KeepsRecords s.plan (world s) → HasActed s c i r new
     → IfSome (record_ordered (Some r.order)) (Fits (block_at s.plan c))
 fits_acted s c i r new keeps acted =
     let allowed : Allowed (world s) (event.Acted c i r.order) = acted.logs.0.allowed in
     let block : (controller_at (world s) c).records.block ≡ block_at s.plan c = keeps.block c allowed.up.known in
-    fits_order (world s) c (informed (controller_at (world s) c) i) (block_at s.plan c) r.order
+    fits_order (world s) c (controller_informed (controller_at (world s) c) i) (block_at s.plan c) r.order
     (kept_block (controller_at (world s) c) i ∙ block) allowed.order

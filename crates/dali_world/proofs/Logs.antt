@@ -4,10 +4,10 @@ use Rattle.std.proofs.lemmas.Bool.Decides.{nat_tests}
 use Rattle.std.proofs.lemmas.List.{length-map, length-replicate, append-nil}
 use Rattle.dali_orders.specs.declared.orders.Input.{Input}
 use Rattle.dali_orders.specs.declared.orders.Order.{Order}
-use Rattle.dali_controller.specs.Progress.{Progress}
+use Rattle.dali_controller.specs.Machine.{Machine}
 use Rattle.dali_events.specs.declared.event.Event.{Event}
 use Rattle.dali_events.specs.declared.event.Event.TheVariants as event
-use Rattle.dali_events.specs.Plan.{SitePlan, IsPlan}
+use Rattle.dali_events.specs.Plan.{Plan, IsPlan}
 use Rattle.dali_events.specs.World.{World, Controller, controller_at, start}
 use Rattle.dali_events.specs.Happens.{happens}
 use Rattle.dali_events.specs.Allowed.{Allowed, IsUp, IsDue, MaySend}
@@ -28,20 +28,20 @@ use Rattle.dali_gear.specs.declared.row.Reach.{Reach}
 use Rattle.dali_gear.specs.declared.row.Reach.TheVariants.{Everyone, Only}
 use Rattle.dali_gear.specs.Row.{draws_needed, stored_of}
 use Rattle.dali_arbiter.specs.declared.request.Request.{Request}
-use Rattle.dali_arbiter.specs.Bus.{owns, total, collision}
-use Rattle.dali_standing.specs.Places.{MayAnswer, IsRunning}
+use Rattle.dali_arbiter.specs.Arbiter.{owns, total, collision}
+use Rattle.dali_standing.specs.Seats.{MayAnswer, IsRunning}
 use Rattle.dali_standing.specs.Settled.{IsPlacedBy, IsPlacedOn}
 use Rattle.dali_world.proofs.Agreeing.{no_conflict}
 use Rattle.dali_orders.specs.declared.orders.Order.TheVariants.{Halt}
 use Rattle.dali_orders.specs.declared.orders.Fault.TheVariants as fault
-use Rattle.dali_world.specs.Site.{Site, world, logged, machines_all, machines, machine_at, is_step_of, share_of, IsSite, opened_site, HasRoom, IsCrowded, Logs, Received, HasActed, IsSpent, IsSendable}
+use Rattle.dali_world.specs.Site.{SiteState, world, site_logged, machines_all, machines, machine_at, is_step_of, share_of, IsSite, opened_site, HasRoom, IsCrowded, Logs, Receipt, HasActed, IsSpent, IsSendable}
 use Rattle.dali_standing.specs.Troubles.{reach_under}
 use Rattle.dali_standing.specs.declared.trouble.Trouble.{Trouble}
 use Rattle.dali_standing.specs.declared.trouble.Trouble.TheVariants as trouble
 
 -- A LOG GROWS BY ONE EVENT, and all that is read from it follows.
 
-machines_more : (w : World) (ms : List (Option Progress)) (es : List Event) (e : Event) → machines_all w ms (es ++ e ∷ []) ≡ machines_after (after_all w es) (machines_all w ms es) e
+machines_more : (w : World) (ms : List (Option Machine)) (es : List Event) (e : Event) → machines_all w ms (es ++ e ∷ []) ≡ machines_after (after_all w es) (machines_all w ms es) e
 machines_more w ms [] e = refl
 machines_more w ms (f ∷ es) e = machines_more (happens w f) (machines_after w ms f) es e
 
@@ -85,18 +85,18 @@ counted_step shares new e d four there is step =
 -- ---------------------------------------------------------------- one event more
 
 -- an event that moves what stands is allowed in the world of the site
-pub allowed_in : (s : Site) (old new : Standing) (shares : List ℕ) (room : ℕ) (e : Event) → IsSite s old shares room → Moves old e new → Allowed (world s) e
+pub allowed_in : (s : SiteState) (old new : Standing) (shares : List ℕ) (room : ℕ) (e : Event) → IsSite s old shares room → Moves old e new → Allowed (world s) e
 allowed_in s old new shares room e site moves = (moves (world s) (machines s) site.stands).0
 
-pub goes_on : (s : Site) (old new : Standing) (shares shares' : List ℕ) (room room' : ℕ) (log' : List Event) (e : Event) → IsSite s old shares room → Moves old e new → length s.log < s.room
+pub goes_on : (s : SiteState) (old new : Standing) (shares shares' : List ℕ) (room room' : ℕ) (log' : List Event) (e : Event) → IsSite s old shares room → Moves old e new → length s.log < s.room
     → log' ≡ s.log ++ e ∷ [] → room' ≡ room → IsCounted shares e shares' → IsSite (record { plan = s.plan; queue = s.queue; room = s.room; log = log' }) new shares' room'
 goes_on s old new shares shares' room room' log' e site moves free log_is room_is counted =
     subst (λ (l : List Event). IsSite (record { plan = s.plan; queue = s.queue; room = s.room; log = l }) new shares' room') (sym log_is)
-    (subst (λ n. IsSite (logged s e) new shares' n) (sym room_is) (record {
+    (subst (λ n. IsSite (site_logged s e) new shares' n) (sym room_is) (record {
       run = grown_run;
       safe = safe_history s.plan s.queue (s.log ++ e ∷ []) grown_run;
       stands = (moves (world s) (machines s) site.stands).1 ∙ ap (λ (w : World). stand_of w (machines_after (world s) (machines s) e)) (sym grown)
-          ∙ ap (stand_of (world (logged s e))) (sym (machines_more (start s.plan s.queue) (machines_at 0 s.plan.blocks) s.log e));
+          ∙ ap (stand_of (world (site_logged s e))) (sym (machines_more (start s.plan s.queue) (machines_at 0 s.plan.blocks) s.log e));
       counted = λ c there. counted.1 c there ∙ ap (λ n. n + (if is_step_of c e then 1 else 0)) (site.counted c there) ∙ sym (share_more c s.log e);
       four = counted.0;
       gear_count = ap (λ (w : World). length w.gear) grown ∙ gear_count (world s) e ∙ site.gear_count;
@@ -111,12 +111,12 @@ goes_on s old new shares shares' room room' log' e site moves free log_is room_i
       grown_run : IsRun s.plan s.queue (s.log ++ e ∷ [])
       grown_run = run_more s.plan s.queue s.log e site.run (allowed_in s old new shares room e site moves)
 
-      grown : world (logged s e) ≡ happens (world s) e
+      grown : world (site_logged s e) ≡ happens (world s) e
       grown = after_more (start s.plan s.queue) s.log e
 
 -- ---------------------------------------------------------------- the start
 
-pub opens : (p : SitePlan) (queue room capacity : ℕ) (standing : Standing) (shares : List ℕ) → IsPlan p → p.gear ≤ 128 → length p.blocks ≤ 4 → room ≤ capacity → room ≤ 65536
+pub opens : (p : Plan) (queue room capacity : ℕ) (standing : Standing) (shares : List ℕ) → IsPlan p → p.gear ≤ 128 → length p.blocks ≤ 4 → room ≤ capacity → room ≤ 65536
     → standing ≡ stand_of (start p queue) (machines_at 0 p.blocks) → shares ≡ 0 ∷ 0 ∷ 0 ∷ 0 ∷ [] → IsSite (opened_site p queue room) standing shares capacity
 opens p queue room capacity standing shares plan few_gear few_controllers reserved most is none = record {
   run = record { plan = plan; allowed = tt };
@@ -143,35 +143,35 @@ opens p queue room capacity standing shares plan few_gear few_controllers reserv
 -- ---------------------------------------------------------------- what a call did to a site
 
 -- `was` is the site as its caller sees it, and s the same by its parts
-pub site_logs : (s was : Site) (old new : Standing) (shares : List ℕ) (room : ℕ) (log' : List Event) (e : Event) → s ≡ was → IsSite s old shares room → HasRoom was → Moves old e new
+pub site_logs : (s was : SiteState) (old new : Standing) (shares : List ℕ) (room : ℕ) (log' : List Event) (e : Event) → s ≡ was → IsSite s old shares room → HasRoom was → Moves old e new
     → log' ≡ s.log ++ e ∷ [] → Logs was e (record { plan = s.plan; queue = s.queue; room = s.room; log = log' })
 site_logs s was old new shares room log' e view site free moves log_is =
-    subst (λ (w : Site). Logs w e (record { plan = s.plan; queue = s.queue; room = s.room; log = log' })) view (record {
+    subst (λ (w : SiteState). Logs w e (record { plan = s.plan; queue = s.queue; room = s.room; log = log' })) view (record {
       allowed = allowed_in s old new shares room e site moves;
-      room = subst (λ (w : Site). HasRoom w) (sym view) free;
+      room = subst (λ (w : SiteState). HasRoom w) (sym view) free;
       logged = ap (λ (l : List Event). record { plan = s.plan; queue = s.queue; room = s.room; log = l }) log_is;
     })
 
-pub site_goes_on : (s was : Site) (old new : Standing) (shares : List ℕ) (room room' : ℕ) (log' : List Event) (e : Event) → s ≡ was → IsSite s old shares room → HasRoom was → Moves old e new
+pub site_goes_on : (s was : SiteState) (old new : Standing) (shares : List ℕ) (room room' : ℕ) (log' : List Event) (e : Event) → s ≡ was → IsSite s old shares room → HasRoom was → Moves old e new
     → log' ≡ s.log ++ e ∷ [] → room' ≡ room → ((c : ℕ) → is_step_of c e ≡ false) → IsSite (record { plan = s.plan; queue = s.queue; room = s.room; log = log' }) new shares room'
 site_goes_on s was old new shares room room' log' e view site free moves log_is room_is nobodys =
-    goes_on s old new shares shares room room' log' e site moves (subst (λ (w : Site). HasRoom w) (sym view) free) log_is room_is (uncounted shares e site.four nobodys)
+    goes_on s old new shares shares room room' log' e site moves (subst (λ (w : SiteState). HasRoom w) (sym view) free) log_is room_is (uncounted shares e site.four nobodys)
 
 -- a step of controller d
-pub step_goes_on : (s was : Site) (old new : Standing) (shares shares' : List ℕ) (room room' : ℕ) (log' : List Event) (e : Event) (d : ℕ) → s ≡ was → IsSite s old shares room → HasRoom was → Moves old e new
+pub step_goes_on : (s was : SiteState) (old new : Standing) (shares shares' : List ℕ) (room room' : ℕ) (log' : List Event) (e : Event) (d : ℕ) → s ≡ was → IsSite s old shares room → HasRoom was → Moves old e new
     → log' ≡ s.log ++ e ∷ [] → room' ≡ room → d < 4 → shares' ≡ set shares d (get_or shares d 0 + 1) → ((c : ℕ) → is_step_of c e ≡ (d == c))
     → IsSite (record { plan = s.plan; queue = s.queue; room = s.room; log = log' }) new shares' room'
 step_goes_on s was old new shares shares' room room' log' e d view site free moves log_is room_is there shares_is step =
-    goes_on s old new shares shares' room room' log' e site moves (subst (λ (w : Site). HasRoom w) (sym view) free) log_is room_is (counted_step shares shares' e d site.four there shares_is step)
+    goes_on s old new shares shares' room room' log' e site moves (subst (λ (w : SiteState). HasRoom w) (sym view) free) log_is room_is (counted_step shares shares' e d site.four there shares_is step)
 
-pub step_few : (s was : Site) (old : Standing) (shares : List ℕ) (room d : ℕ) → s ≡ was → IsSite s old shares room → HasRoom was → d < 4 → get_or shares d 0 < 65536
+pub step_few : (s was : SiteState) (old : Standing) (shares : List ℕ) (room d : ℕ) → s ≡ was → IsSite s old shares room → HasRoom was → d < 4 → get_or shares d 0 < 65536
 step_few s was old shares room d view site free there =
     let fits = share_fits d s.log in
-    let here : HasRoom s = subst (λ (w : Site). HasRoom w) (sym view) free in
+    let here : HasRoom s = subst (λ (w : SiteState). HasRoom w) (sym view) free in
     let most = site.most in
     rw (site.counted d there) (omega arith)
 
-pub step_number : (s : Site) (old : Standing) (shares : List ℕ) (room d number : ℕ) (log' : List Event) (e : Event) → IsSite s old shares room → d < 4 → number ≡ get_or shares d 0 + 1
+pub step_number : (s : SiteState) (old : Standing) (shares : List ℕ) (room d number : ℕ) (log' : List Event) (e : Event) → IsSite s old shares room → d < 4 → number ≡ get_or shares d 0 + 1
     → log' ≡ s.log ++ e ∷ [] → is_step_of d e ≡ true → number ≡ share_of d log'
 step_number s old shares room d number log' e site there is log_is step =
     is ∙ ap (λ n. n + 1) (site.counted d there) ∙ sym (ap (share_of d) log_is ∙ share_more d s.log e ∙ ap (λ (b : Bool). share_of d s.log + (if b then 1 else 0)) step)
@@ -179,21 +179,21 @@ step_number s old shares room d number log' e site there is log_is step =
 self_same : (c : ℕ) → (c == c) ≡ true
 self_same c = grind (arith, nat_tests)
 
-pub not_crowded : (s was : Site) (old : Standing) (shares : List ℕ) (room : ℕ) → s ≡ was → IsSite s old shares room → total old.bus < old.bus.capacity → IsCrowded was → ⊥
+pub not_crowded : (s was : SiteState) (old : Standing) (shares : List ℕ) (room : ℕ) → s ≡ was → IsSite s old shares room → total old.bus < old.bus.capacity → IsCrowded was → ⊥
 not_crowded s was old shares room view site free crowded =
-    let here : IsCrowded s = subst (λ (w : Site). IsCrowded w) (sym view) crowded in
+    let here : IsCrowded s = subst (λ (w : SiteState). IsCrowded w) (sym view) crowded in
     let less : total (world s).bus < (world s).bus.capacity = subst (λ (t : Standing). total t.bus < t.bus.capacity) site.stands free in
     let same = site.queue in
     omega arith
 
-pub act_site : (s was : Site) (old new : Standing) (shares shares' : List ℕ) (room number c : ℕ) (i : Input) (o : Order) (r : Received) (log' : List Event) → s ≡ was → IsSite s old shares room
+pub act_site : (s was : SiteState) (old new : Standing) (shares shares' : List ℕ) (room number c : ℕ) (i : Input) (o : Order) (r : Receipt) (log' : List Event) → s ≡ was → IsSite s old shares room
     → total old.bus < old.bus.capacity → HasRoom was → Moves old (event.Acted c i o) new → MayAnswer (machine_in old.machines c) i o → log' ≡ s.log ++ event.Acted c i o ∷ [] → c < 4
     → number ≡ get_or shares c 0 + 1 → r ≡ record { controller = c; input = i; order = o; number = number }
     → HasActed was c i r (record { plan = s.plan; queue = s.queue; room = s.room; log = log' })
 act_site s was old new shares shares' room number c i o r log' view site quiet free moves answer log_is there number_is r_is =
     rw r_is (record {
       logs = (site_logs s was old new shares room log' (event.Acted c i o) view site free moves log_is, not_crowded s was old shares room view site quiet);
-      ordered = subst (λ (w : Site). MayAnswer (machine_at w c) i o) view (subst (λ (t : Standing). MayAnswer (machine_in t.machines c) i o) site.stands answer);
+      ordered = subst (λ (w : SiteState). MayAnswer (machine_at w c) i o) view (subst (λ (t : Standing). MayAnswer (machine_in t.machines c) i o) site.stands answer);
       controller = refl;
       input = refl;
       number = step_number s old shares room c number log' (event.Acted c i o) site there number_is log_is (self_same c);
@@ -201,7 +201,7 @@ act_site s was old new shares shares' room number c i o r log' view site quiet f
 
 -- ---------------------------------------------------------------- gifts have room
 
-draws_there : (s : Site) (r : Request) (t : Trouble) → (IsSpent s r t → ⊥) → draws_needed (reach_under t) (command_of r.frame) 0 (world s).gear ≤ length (world s).left
+draws_there : (s : SiteState) (r : Request) (t : Trouble) → (IsSpent s r t → ⊥) → draws_needed (reach_under t) (command_of r.frame) 0 (world s).gear ≤ length (world s).left
 draws_there s r t enough = grind (arith, enough)
 
 everyone : (t : Trouble) → IsSendable t → reach_under t ≡ Everyone
@@ -214,32 +214,32 @@ everyone trouble.Collision is = elim is [ ]
 abbrev HasGiftRoom : Standing → Reach → Request → Type 0
 HasGiftRoom old reach r = length (old.gifts ++ stored_of reach (command_of r.frame) 0 old.gear) ≤ length old.gear
 
-pub sent_room : (s was : Site) (old : Standing) (shares : List ℕ) (room : ℕ) (r : Request) (t : Trouble) → s ≡ was → IsSite s old shares room → IsUp (world was) r.sender × MaySend (world was) r.sender r.frame
+pub sent_room : (s was : SiteState) (old : Standing) (shares : List ℕ) (room : ℕ) (r : Request) (t : Trouble) → s ≡ was → IsSite s old shares room → IsUp (world was) r.sender × MaySend (world was) r.sender r.frame
     → (IsSpent was r t → ⊥) → IsSendable t → HasGiftRoom old Everyone r
 sent_room s was old shares room r t view site may enough sendable =
-    let enough_s : IsSpent s r t → ⊥ = subst (λ (w : Site). IsSpent w r t → ⊥) (sym view) enough in
-    let may_s = subst (λ (w : Site). IsUp (world w) r.sender × MaySend (world w) r.sender r.frame) (sym view) may in
+    let enough_s : IsSpent s r t → ⊥ = subst (λ (w : SiteState). IsSpent w r t → ⊥) (sym view) enough in
+    let may_s = subst (λ (w : SiteState). IsUp (world w) r.sender × MaySend (world w) r.sender r.frame) (sym view) may in
     let draws : draws_needed Everyone (command_of r.frame) 0 (world s).gear ≤ length (world s).left =
     subst (λ reach. draws_needed reach (command_of r.frame) 0 (world s).gear ≤ length (world s).left) (everyone t sendable) (draws_there s r t enough_s) in
     subst (λ (o : Standing). HasGiftRoom o Everyone r) (sym site.stands)
     (gifts_fit_after s.plan s.queue s.log (event.Sent r.sender r.frame Silence) site.run (record { up = may_s.0; may = may_s.1; draws = draws; heard = tt }))
 
-pub lost_room : (s was : Site) (old : Standing) (shares : List ℕ) (room : ℕ) (r : Request) (set : GearSet) → s ≡ was → IsSite s old shares room → IsUp (world was) r.sender × MaySend (world was) r.sender r.frame
+pub lost_room : (s was : SiteState) (old : Standing) (shares : List ℕ) (room : ℕ) (r : Request) (set : GearSet) → s ≡ was → IsSite s old shares room → IsUp (world was) r.sender × MaySend (world was) r.sender r.frame
     → (IsSpent was r (trouble.Destroyed set) → ⊥) → HasGiftRoom old (Only set) r
 lost_room s was old shares room r set view site may enough =
-    let enough_s : IsSpent s r (trouble.Destroyed set) → ⊥ = subst (λ (w : Site). IsSpent w r (trouble.Destroyed set) → ⊥) (sym view) enough in
-    let may_s = subst (λ (w : Site). IsUp (world w) r.sender × MaySend (world w) r.sender r.frame) (sym view) may in
+    let enough_s : IsSpent s r (trouble.Destroyed set) → ⊥ = subst (λ (w : SiteState). IsSpent w r (trouble.Destroyed set) → ⊥) (sym view) enough in
+    let may_s = subst (λ (w : SiteState). IsUp (world w) r.sender × MaySend (world w) r.sender r.frame) (sym view) may in
     subst (λ (o : Standing). HasGiftRoom o (Only set) r) (sym site.stands)
     (gifts_fit_after s.plan s.queue s.log (event.Destroyed r.sender r.frame set) site.run (record { up = may_s.0; may = may_s.1; draws = draws_there s r (trouble.Destroyed set) enough_s }))
 
 -- the request that is next may be sent
-pub request_may : (s was : Site) (old : Standing) (shares : List ℕ) (room : ℕ) (r : Request) → s ≡ was → IsSite s old shares room → MayBeSent old r → IsUp (world was) r.sender × MaySend (world was) r.sender r.frame
+pub request_may : (s was : SiteState) (old : Standing) (shares : List ℕ) (room : ℕ) (r : Request) → s ≡ was → IsSite s old shares room → MayBeSent old r → IsUp (world was) r.sender × MaySend (world was) r.sender r.frame
 request_may s was old shares room r view site may =
-    subst (λ (w : Site). IsUp (world w) r.sender × MaySend (world w) r.sender r.frame) view (may (world s) (machines s) site.stands)
+    subst (λ (w : SiteState). IsUp (world w) r.sender × MaySend (world w) r.sender r.frame) view (may (world s) (machines s) site.stands)
 
-pub world_lists : (s was : Site) (old : Standing) (shares : List ℕ) (room : ℕ) (q : Request) → s ≡ was → IsSite s old shares room → collision old.bus.lists ≡ Some q → collision (world was).bus.lists ≡ Some q
+pub world_lists : (s was : SiteState) (old : Standing) (shares : List ℕ) (room : ℕ) (q : Request) → s ≡ was → IsSite s old shares room → collision old.bus.lists ≡ Some q → collision (world was).bus.lists ≡ Some q
 world_lists s was old shares room q view site is =
-    subst (λ (w : Site). collision (world w).bus.lists ≡ Some q) view (subst (λ (t : Standing). collision t.bus.lists ≡ Some q) site.stands is)
+    subst (λ (w : SiteState). collision (world w).bus.lists ≡ Some q) view (subst (λ (t : Standing). collision t.bus.lists ≡ Some q) site.stands is)
 
 pub sendable_of : (t : Trouble) → (t ≡ trouble.None) ⊎ ((t ≡ trouble.AnswerLost) ⊎ (t ≡ trouble.Noise)) → IsSendable t
 sendable_of t (inl e) = rw e tt
@@ -248,16 +248,16 @@ sendable_of t (inr (inr e)) = rw e tt
 
 -- ---------------------------------------------------------------- no machine halts with a conflict
 
-pub never_conflicts : (s was : Site) (old : Standing) (shares : List ℕ) (room c : ℕ) (i : Input) → s ≡ was → IsSite s old shares room → c < length was.plan.blocks → IsDue (controller_on old c) i
+pub never_conflicts : (s was : SiteState) (old : Standing) (shares : List ℕ) (room c : ℕ) (i : Input) → s ≡ was → IsSite s old shares room → c < length was.plan.blocks → IsDue (controller_on old c) i
     → IsPlacedOn old c → MayAnswer (machine_in old.machines c) i (Halt fault.Conflict) → ⊥
 never_conflicts s was old shares room c i view site there due placed answer = go (machine_in old.machines c) refl answer where
   there_s : c < length (world s).controllers
-  there_s = subst (λ n. c < n) (sym site.controller_count) (subst (λ (w : Site). c < length w.plan.blocks) (sym view) there)
+  there_s = subst (λ n. c < n) (sym site.controller_count) (subst (λ (w : SiteState). c < length w.plan.blocks) (sym view) there)
 
   is : controller_on old c ≡ controller_at (world s) c
   is = ap (λ (t : Standing). controller_on t c) site.stands
 
-  go : (m : Option Progress) → machine_in old.machines c ≡ m → MayAnswer m i (Halt fault.Conflict) → ⊥
+  go : (m : Option Machine) → machine_in old.machines c ≡ m → MayAnswer m i (Halt fault.Conflict) → ⊥
   go None has answer = elim answer [ ]
   go (Some m) has answer =
       let known = subst (λ (k : Controller). IsRunning k m × IsPlacedBy (owns old.bus.owner c) old.trace k (Some m)) is (placed m has) in
@@ -265,11 +265,11 @@ never_conflicts s was old shares room c i view site there due placed answer = go
 
 -- ---------------------------------------------------------------- the promise, of the world now
 
-pub safe_now : (p : SitePlan) (queue : ℕ) (log : List Event) → IsRun p queue log → IsSafe (after p queue log)
+pub safe_now : (p : Plan) (queue : ℕ) (log : List Event) → IsRun p queue log → IsSafe (after p queue log)
 safe_now p queue log run = safe p (after p queue log) (holds_after p queue log run)
 
-pub records_now : (p : SitePlan) (queue : ℕ) (log : List Event) → IsRun p queue log → KeepsRecords p (after p queue log)
+pub records_now : (p : Plan) (queue : ℕ) (log : List Event) → IsRun p queue log → KeepsRecords p (after p queue log)
 records_now p queue log run = records_kept p queue log [] (subst (λ (l : List Event). IsRun p queue l) (sym (append-nil log)) run)
 
-pub agreeing_now : (p : SitePlan) (queue : ℕ) (log : List Event) → IsRun p queue log → TablesAgree (after p queue log)
+pub agreeing_now : (p : Plan) (queue : ℕ) (log : List Event) → IsRun p queue log → TablesAgree (after p queue log)
 agreeing_now p queue log run = tables_agree_in p queue log [] (subst (λ (l : List Event). IsRun p queue l) (sym (append-nil log)) run)

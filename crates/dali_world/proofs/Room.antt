@@ -2,12 +2,12 @@ use Rattle.std.proofs.Common.{◌≡◌, ℕ, ◌<◌, ◌≤◌, List, map, len
 use Rattle.std.proofs.lemmas.List.{length-map}
 use Rattle.dali_special.specs.Command.{command_of}
 use Rattle.dali_gear.specs.declared.row.Reach.TheVariants.{Everyone, Only}
-use Rattle.dali_gear.specs.ControlGear.{quieted}
+use Rattle.dali_gear.specs.Gear.{gear_quieted}
 use Rattle.dali_script.specs.Records.{Has}
 use Rattle.dali_script.proofs.Lists.{few}
 use Rattle.dali_events.specs.declared.event.Event.{Event}
 use Rattle.dali_events.specs.declared.event.Event.TheVariants as event
-use Rattle.dali_events.specs.Plan.{SitePlan}
+use Rattle.dali_events.specs.Plan.{Plan}
 use Rattle.dali_events.specs.World.{World}
 use Rattle.dali_events.specs.Happens.{happens}
 use Rattle.dali_events.specs.Allowed.{Allowed}
@@ -26,24 +26,24 @@ gear_count w (event.Sent c f h) = row_length Everyone (command_of f) 0 w.gear w.
 gear_count w (event.Destroyed c f set) = row_length (Only set) (command_of f) 0 w.gear w.left
 gear_count w (event.Collided c f d g) = refl
 gear_count w event.Lapsed = refl
-gear_count w event.Quiet = length-map w.gear quieted
+gear_count w event.Quiet = length-map w.gear gear_quieted
 gear_count w (event.Power g on) = length-set w.gear g _
 gear_count w (event.Expired g) = length-set w.gear g _
 gear_count w (event.Down c) = refl
 gear_count w (event.Up c kept) = refl
 
 -- each gear was given at most one address
-gifts_within : (p : SitePlan) (w : World) → Holds p w → length w.gifts ≤ length w.gear
+gifts_within : (p : Plan) (w : World) → Holds p w → length w.gifts ≤ length w.gear
 gifts_within p w holds =
     subst (λ n. n ≤ length w.gear) (length-map w.gifts (λ gift. gift.0)) (few (length w.gear) (map (λ gift. gift.0) w.gifts) holds.gifts.gear_once below) where
       below : (g : ℕ) → Has (map (λ gift. gift.0) w.gifts) g → g < length w.gear
       below g h = let k = mapped_from (λ gift. gift.0) w.gifts g h in subst (λ n. n < length w.gear) k.2 (holds.gifts.there k.0.0 k.0.1 k.1)
 
 -- IN EVERY RUN, and after one more event
-pub gifts_fit : (p : SitePlan) (capacity : ℕ) (log : List Event) → IsRun p capacity log → length (after p capacity log).gifts ≤ length (after p capacity log).gear
+pub gifts_fit : (p : Plan) (capacity : ℕ) (log : List Event) → IsRun p capacity log → length (after p capacity log).gifts ≤ length (after p capacity log).gear
 gifts_fit p capacity log run = gifts_within p (after p capacity log) (holds_after p capacity log run)
 
-pub gifts_fit_after : (p : SitePlan) (capacity : ℕ) (log : List Event) (e : Event) → IsRun p capacity log → Allowed (after p capacity log) e
+pub gifts_fit_after : (p : Plan) (capacity : ℕ) (log : List Event) (e : Event) → IsRun p capacity log → Allowed (after p capacity log) e
     → length (happens (after p capacity log) e).gifts ≤ length (after p capacity log).gear
 gifts_fit_after p capacity log e run here =
     subst (λ n. length (happens (after p capacity log) e).gifts ≤ n) (gear_count (after p capacity log) e)

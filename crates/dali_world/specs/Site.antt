@@ -1,4 +1,6 @@
-use Rattle.std.specs.Prelude.{◌≡◌, ℕ, ◌+◌, ◌<◌, ◌≤◌, ◌⊎◌, Bool, false, List, [], ◌∷◌, ◌++◌, length, slice_index_or, Option, Some, None, ◌==◌, if◌then◌else◌, IfOk, IfErr, OnErr}
+use Rattle.std.specs.Prelude.{◌≡◌, ℕ, ◌+◌, ◌<◌, ◌≤◌, ◌⊎◌, Bool, false, List, [], ◌∷◌, ◌++◌, length}
+use Rattle.std.specs.Prelude.{slice_index_or, Option, Some, None, ◌==◌, if◌then◌else◌, IfOk, IfErr}
+use Rattle.std.specs.Prelude.{OnErr}
 use Rattle.std.proofs.Common.{Result}
 use Rattle.dali_frame.specs.declared.frames.Forward.{Forward}
 use Rattle.dali_special.specs.Command.{command_of}
@@ -6,14 +8,14 @@ use Rattle.dali_gear.specs.declared.row.GearSet.{GearSet}
 use Rattle.dali_gear.specs.declared.row.Reach.TheVariants.{Everyone}
 use Rattle.dali_gear.specs.Row.{draws_needed, answers_of, heard_of}
 use Rattle.dali_arbiter.specs.declared.request.Request.{Request}
-use Rattle.dali_arbiter.specs.Bus.{total, next, collision}
-use Rattle.dali_script.specs.Records.{Records}
+use Rattle.dali_arbiter.specs.Arbiter.{total, next, collision}
+use Rattle.dali_script.specs.Records.{Kept}
 use Rattle.dali_orders.specs.declared.orders.Input.{Input}
 use Rattle.dali_orders.specs.declared.orders.Order.{Order}
-use Rattle.dali_controller.specs.Progress.{Progress}
+use Rattle.dali_controller.specs.Machine.{Machine}
 use Rattle.dali_events.specs.declared.event.Event.{Event}
 use Rattle.dali_events.specs.declared.event.Event.TheVariants as event
-use Rattle.dali_events.specs.Plan.{SitePlan}
+use Rattle.dali_events.specs.Plan.{Plan}
 use Rattle.dali_events.specs.World.{World, controller_at, start}
 use Rattle.dali_events.specs.Happens.{happens}
 use Rattle.dali_events.specs.Allowed.{Allowed, IsUp, IsDue, IsDown, IsArc}
@@ -25,40 +27,41 @@ use Rattle.dali_standing.specs.declared.trouble.Trouble.TheVariants as trouble
 use Rattle.dali_standing.specs.declared.trouble.Report.{Report}
 use Rattle.dali_standing.specs.declared.trouble.Report.TheVariants as report
 use Rattle.dali_standing.specs.Troubles.{heard_under, reach_under, nobody_at_all}
-use Rattle.dali_standing.specs.Places.{MayAnswer, Agrees}
-use Rattle.dali_standing.specs.Standing.{Standing, stand_of, machine_in, machines_at, machines_after}
+use Rattle.dali_standing.specs.Seats.{MayAnswer, Agrees}
+use Rattle.dali_standing.specs.Standing.{Standing, stand_of, machine_in, machines_at}
+use Rattle.dali_standing.specs.Standing.{machines_after}
 
--- A SITE, as contracts see it: its plan, how many requests may wait, how many events its log has room for, and the log.
--- Everything else follows from these.
-pub record Site : Type 0 where
-  pub plan : SitePlan
+-- A SITE, as contracts see it: its plan, how many requests may wait, how many events its log has
+-- room for, and the log. Everything else follows from these.
+pub record SiteState : Type 0 where
+  pub plan : Plan
   pub queue : ℕ
   pub room : ℕ
   pub log : List Event
 
 -- the world after its log
-abbrev pub world : Site → World
+abbrev pub world : SiteState → World
 world s = after s.plan s.queue s.log
 
 -- a site at its start, and with one event more
-abbrev pub opened_site : SitePlan → ℕ → ℕ → Site
+abbrev pub opened_site : Plan → ℕ → ℕ → SiteState
 opened_site p queue room = record { plan = p; queue = queue; room = room; log = [] }
 
-abbrev pub logged : Site → Event → Site
-logged s e = record { plan = s.plan; queue = s.queue; room = s.room; log = s.log ++ e ∷ [] }
+abbrev pub site_logged : SiteState → Event → SiteState
+site_logged s e = record { plan = s.plan; queue = s.queue; room = s.room; log = s.log ++ e ∷ [] }
 
 -- ---------------------------------------------------------------- machines, and shares of the log
 
 -- the machines after a list of events
-abbrev pub machines_all : World → List (Option Progress) → List Event → List (Option Progress)
+abbrev pub machines_all : World → List (Option Machine) → List Event → List (Option Machine)
 machines_all w ms [] = ms
 machines_all w ms (e ∷ es) = machines_all (happens w e) (machines_after w ms e) es
 
-abbrev pub machines : Site → List (Option Progress)
+abbrev pub machines : SiteState → List (Option Machine)
 machines s = machines_all (start s.plan s.queue) (machines_at 0 s.plan.blocks) s.log
 
 -- the machine of controller c: none while it is down
-abbrev pub machine_at : Site → ℕ → Option Progress
+abbrev pub machine_at : SiteState → ℕ → Option Machine
 machine_at s c = machine_in (machines s) c
 
 -- whether an event is a step of controller c
@@ -75,13 +78,14 @@ share_of c (e ∷ es) = (if is_step_of c e then 1 else 0) + share_of c es
 -- ---------------------------------------------------------------- the promise
 
 -- THE PROMISE, of a site in hand: its log is a run of the definitions, and its history is safe.
-pub record IsSound (s : Site) : Type 0 where
+pub record IsSound (s : SiteState) : Type 0 where
   pub run : IsRun s.plan s.queue s.log
   pub safe : IsSafeHistory s.plan s.queue s.log
 
--- ---------------------------------------------------------------- what holds of the parts of a site
+-- --------------------------------------------------------------- what holds of the parts of a site
 
-pub record IsSite (s : Site) (standing : Standing) (shares : List ℕ) (capacity : ℕ) : Type 0 where
+pub record IsSite (s : SiteState) (standing : Standing) (shares : List ℕ)
+    (capacity : ℕ) : Type 0 where
   pub run : IsRun s.plan s.queue s.log
   pub safe : IsSafeHistory s.plan s.queue s.log
   pub stands : standing ≡ stand_of (world s) (machines s)
@@ -99,45 +103,49 @@ pub record IsSite (s : Site) (standing : Standing) (shares : List ℕ) (capacity
 -- ---------------------------------------------------------------- why a call is refused
 
 -- the log has no room for one more event; and no request more may wait
-abbrev pub IsFull : Site → Type 0
+abbrev pub IsFull : SiteState → Type 0
 IsFull s = length s.log ≡ s.room
 
-abbrev pub IsCrowded : Site → Type 0
+abbrev pub IsCrowded : SiteState → Type 0
 IsCrowded s = total (world s).bus ≡ s.queue
 
-abbrev pub HasRoom : Site → Type 0
+abbrev pub HasRoom : SiteState → Type 0
 HasRoom s = length s.log < s.room
 
 -- controller c is not there, or is down
-abbrev pub IsBarred : Site → ℕ → Refusal → Type 0
+abbrev pub IsBarred : SiteState → ℕ → Refusal → Type 0
 IsBarred s c refusal.UnknownController = length s.plan.blocks ≤ c
-IsBarred s c refusal.ControllerDown = (c < length s.plan.blocks) × ((controller_at (world s) c).up ≡ false)
+IsBarred s c refusal.ControllerDown =
+    (c < length s.plan.blocks) × ((controller_at (world s) c).up ≡ false)
 IsBarred s c _ = ⊥
 
-abbrev pub IsActRefused : Site → ℕ → Input → Refusal → Type 0
+abbrev pub IsActRefused : SiteState → ℕ → Input → Refusal → Type 0
 IsActRefused s c i refusal.NotDue = IsUp (world s) c × (IsDue (controller_at (world s) c) i → ⊥)
-IsActRefused s c i refusal.QueueFull = IsUp (world s) c × IsDue (controller_at (world s) c) i × IsCrowded s
-IsActRefused s c i refusal.LogFull = IsUp (world s) c × IsDue (controller_at (world s) c) i × (IsCrowded s → ⊥) × IsFull s
+IsActRefused s c i refusal.QueueFull =
+    IsUp (world s) c × IsDue (controller_at (world s) c) i × IsCrowded s
+IsActRefused s c i refusal.LogFull =
+    IsUp (world s) c × IsDue (controller_at (world s) c) i × (IsCrowded s → ⊥) × IsFull s
 IsActRefused s c i e = IsBarred s c e
 
-abbrev pub IsArcRefused : Site → ℕ → Forward → Refusal → Type 0
+abbrev pub IsArcRefused : SiteState → ℕ → Forward → Refusal → Type 0
 IsArcRefused s c f refusal.NotArc = IsUp (world s) c × (IsArc f → ⊥)
 IsArcRefused s c f refusal.QueueFull = IsUp (world s) c × IsArc f × IsCrowded s
 IsArcRefused s c f refusal.LogFull = IsUp (world s) c × IsArc f × (IsCrowded s → ⊥) × IsFull s
 IsArcRefused s c f e = IsBarred s c e
 
-abbrev pub IsDownRefused : Site → ℕ → Refusal → Type 0
+abbrev pub IsDownRefused : SiteState → ℕ → Refusal → Type 0
 IsDownRefused s c refusal.LogFull = IsUp (world s) c × IsFull s
 IsDownRefused s c e = IsBarred s c e
 
--- records that are neither those that the controller keeps, nor those with the record that is outstanding
-abbrev pub Disagrees : Site → ℕ → Records → Type 0
+-- records that are neither those that the controller keeps, nor those with the record that is
+-- outstanding
+abbrev pub Disagrees : SiteState → ℕ → Kept → Type 0
 Disagrees s c copy = (kept : Bool) → Agrees (controller_at (world s) c) copy kept → ⊥
 
-abbrev pub DoesAgree : Site → ℕ → Records → Type 0
+abbrev pub DoesAgree : SiteState → ℕ → Kept → Type 0
 DoesAgree s c copy = (kept : Bool) × Agrees (controller_at (world s) c) copy kept
 
-abbrev pub IsUpRefused : Site → ℕ → Records → Refusal → Type 0
+abbrev pub IsUpRefused : SiteState → ℕ → Kept → Refusal → Type 0
 IsUpRefused s c copy refusal.UnknownController = length s.plan.blocks ≤ c
 IsUpRefused s c copy refusal.ControllerUp = IsUp (world s) c
 IsUpRefused s c copy refusal.StoreDisagrees = IsDown (world s) c × Disagrees s c copy
@@ -145,7 +153,7 @@ IsUpRefused s c copy refusal.LogFull = IsDown (world s) c × DoesAgree s c copy 
 IsUpRefused s c copy refusal.NoMemory = IsDown (world s) c × DoesAgree s c copy × HasRoom s
 IsUpRefused s c copy _ = ⊥
 
-abbrev pub IsGearRefused : Site → ℕ → Refusal → Type 0
+abbrev pub IsGearRefused : SiteState → ℕ → Refusal → Type 0
 IsGearRefused s g refusal.UnknownGear = s.plan.gear ≤ g
 IsGearRefused s g refusal.LogFull = (g < s.plan.gear) × IsFull s
 IsGearRefused s g _ = ⊥
@@ -153,30 +161,33 @@ IsGearRefused s g _ = ⊥
 -- ---------------------------------------------------------------- one event more
 
 -- A CALL THAT IS ACCEPTED adds one event, which is allowed in the world of the site.
-pub record Logs (s : Site) (e : Event) (new : Site) : Type 0 where
+pub record Logs (s : SiteState) (e : Event) (new : SiteState) : Type 0 where
   pub allowed : Allowed (world s) e
   pub room : HasRoom s
-  pub logged : new ≡ logged s e
+  pub logged : new ≡ site_logged s e
 
 -- a controller came up with a copy that agrees with what the site remembers
-abbrev pub IsUpWith : Site → ℕ → Records → Site → Type 0
-IsUpWith s c copy new = (kept : Bool) × Agrees (controller_at (world s) c) copy kept × Logs s (event.Up c kept) new
+abbrev pub IsUpWith : SiteState → ℕ → Kept → SiteState → Type 0
+IsUpWith s c copy new =
+    (kept : Bool) × Agrees (controller_at (world s) c) copy kept × Logs s (event.Up c kept) new
 
 -- and one that also asks for room among the requests
-abbrev pub LogsRequest : Site → Event → Site → Type 0
+abbrev pub LogsRequest : SiteState → Event → SiteState → Type 0
 LogsRequest s e new = Logs s e new × (IsCrowded s → ⊥)
 
 -- ---------------------------------------------------------------- a controller acts
 
 -- What a controller that acted has: the number of its step, counted from 1.
-pub record Received : Type 0 where
+pub record Receipt : Type 0 where
   pub controller : ℕ
   pub input : Input
   pub order : Order
   pub number : ℕ
 
--- THE ANSWERS of a controller that acts: an order, and the receipt of its event; or a refusal, which changes nothing.
-pub record HasActed (s : Site) (c : ℕ) (i : Input) (r : Received) (new : Site) : Type 0 where
+-- THE ANSWERS of a controller that acts: an order, and the receipt of its event; or a refusal,
+-- which changes nothing.
+pub record HasActed (s : SiteState) (c : ℕ) (i : Input) (r : Receipt)
+    (new : SiteState) : Type 0 where
   pub logs : LogsRequest s (event.Acted c i r.order) new
   pub ordered : MayAnswer (machine_at s c) i r.order
   pub controller : r.controller ≡ c
@@ -184,17 +195,20 @@ pub record HasActed (s : Site) (c : ℕ) (i : Input) (r : Received) (new : Site)
   pub number : r.number ≡ share_of c new.log
 
 -- all that `act` answers, in one closed relation, which the layers above pass on
-unfoldable pub Acts : Site → ℕ → Input → Result Received Refusal → Site → Type 0
-Acts s c i result new = IfOk result (λ r. HasActed s c i r new) × IfErr result (IsActRefused s c i) × OnErr result (new ≡ s)
+unfoldable pub Acts : SiteState → ℕ → Input → Result Receipt Refusal → SiteState → Type 0
+Acts s c i result new =
+    IfOk result (λ r. HasActed s c i r new) × IfErr result (IsActRefused s c i)
+    × OnErr result (new ≡ s)
 
 -- ---------------------------------------------------------------- the next frame
 
 -- the numbers that they will draw are there
-abbrev pub IsSpent : Site → Request → Trouble → Type 0
-IsSpent s r t = length (world s).left < draws_needed (reach_under t) (command_of r.frame) 0 (world s).gear
+abbrev pub IsSpent : SiteState → Request → Trouble → Type 0
+IsSpent s r t =
+    length (world s).left < draws_needed (reach_under t) (command_of r.frame) 0 (world s).gear
 
 -- the request that is next, if one is
-abbrev pub next_request : Site → Option Request
+abbrev pub next_request : SiteState → Option Request
 next_request s = next (world s).bus
 
 -- a frame is sent where nothing or its answers are disturbed
@@ -204,23 +218,29 @@ IsSendable trouble.Collision = ⊥
 IsSendable _ = Unit {0}
 
 -- WHAT CAME of request r, which was next, under a trouble: a report, and an event that is allowed
-abbrev pub Becomes : Site → Request → Trouble → Report → Site → Type 0
+abbrev pub Becomes : SiteState → Request → Trouble → Report → SiteState → Type 0
 Becomes s r t (report.Sent c f h) new = IsSendable t × (c ≡ r.sender) × (f ≡ r.frame)
     × (h ≡ heard_under t (heard_of (answers_of Everyone (command_of r.frame) 0 (world s).gear)))
     × Logs s (event.Sent c f h) new
 Becomes s r t (report.Destroyed c f) new = (c ≡ r.sender) × (f ≡ r.frame)
-    × ((set : GearSet) × ((t ≡ trouble.Destroyed set) ⊎ ((t ≡ trouble.Collision) × (set ≡ nobody_at_all) × (collision (world s).bus.lists ≡ None)))
+    × ((set : GearSet)
+        × ((t ≡ trouble.Destroyed set)
+        ⊎ ((t ≡ trouble.Collision) × (set ≡ nobody_at_all)
+        × (collision (world s).bus.lists ≡ None)))
     × Logs s (event.Destroyed c f set) new)
-Becomes s r t (report.Collided c f d g) new = (t ≡ trouble.Collision) × (c ≡ r.sender) × (f ≡ r.frame)
+Becomes s r t (report.Collided c f d g) new =
+    (t ≡ trouble.Collision) × (c ≡ r.sender) × (f ≡ r.frame)
     × ((q : Request) × (collision (world s).bus.lists ≡ Some q) × (d ≡ q.sender) × (g ≡ q.frame))
     × Logs s (event.Collided c f d g) new
 Becomes s r t report.Idle new = ⊥
 
-abbrev pub Pumps : Site → Trouble → Report → Site → Type 0
+abbrev pub Pumps : SiteState → Trouble → Report → SiteState → Type 0
 Pumps s t report.Idle new = (next_request s ≡ None) × (new ≡ s)
-Pumps s t x new = (r : Request) × (next_request s ≡ Some r) × (IsSpent s r t → ⊥) × Becomes s r t x new
+Pumps s t x new =
+    (r : Request) × (next_request s ≡ Some r) × (IsSpent s r t → ⊥) × Becomes s r t x new
 
-abbrev pub IsPumpRefused : Site → Trouble → Refusal → Type 0
+abbrev pub IsPumpRefused : SiteState → Trouble → Refusal → Type 0
 IsPumpRefused s t refusal.DrawsSpent = (r : Request) × (next_request s ≡ Some r) × IsSpent s r t
-IsPumpRefused s t refusal.LogFull = (r : Request) × (next_request s ≡ Some r) × (IsSpent s r t → ⊥) × IsFull s
+IsPumpRefused s t refusal.LogFull =
+    (r : Request) × (next_request s ≡ Some r) × (IsSpent s r t → ⊥) × IsFull s
 IsPumpRefused s t _ = ⊥

@@ -1,8 +1,8 @@
 //! A site: gear and controllers on one bus, and a log of all that happens on it.
 //!
-//! `SiteState` has one call for each event. What a site is follows from its plan and its log alone, by the definitions of
-//! `dali_events`: the world after the log. Each accepted call adds one event, which is allowed in that world; a refusal
-//! changes nothing.
+//! `SiteState` has one call for each event. What a site is follows from its plan and its log alone, by the definitions
+//! of `dali_events`: the world after the log. Each accepted call adds one event, which is allowed in that world; a
+//! refusal changes nothing.
 #![tactic(auto)]
 
 mod receipt;

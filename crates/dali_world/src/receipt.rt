@@ -15,9 +15,9 @@ pub struct Receipt {
 }
 
 impl Model for Receipt {
-    ghost use Rattle.dali_world.specs.Site.{Received};
+    ghost use Rattle.dali_world.specs.Site.{Receipt};
 
-    ghost Value = { Received };
+    ghost Value = { Receipt };
 
     ghost view = { λ r. record { controller = r.controller; input = r.input; order = r.order; number = r.number } };
 }

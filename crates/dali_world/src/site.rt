@@ -1,4 +1,6 @@
-ghost use Rattle.std.specs.Prelude.{◌≡◌, ℕ, ◌+◌, ◌<◌, ◌≤◌, length, map, true, false, Some, None, OnOk, IfOk, OnErr, IfErr, IfSome, IsTrue, ◌↔◌, ◌++◌, ◌∷◌, [], vec_len, MatchOption, slice_index_or, slice_set};
+ghost use Rattle.std.specs.Prelude.{◌≡◌, ℕ, ◌+◌, ◌<◌, ◌≤◌, length, map, true, false, Some, None, OnOk, IfOk, OnErr};
+ghost use Rattle.std.specs.Prelude.{IfErr, IfSome, IsTrue, ◌↔◌, ◌++◌, ◌∷◌, [], vec_len, MatchOption, slice_index_or};
+ghost use Rattle.std.specs.Prelude.{slice_set};
 ghost use Rattle.std.specs.Vec.{vec_capacity};
 ghost use Rattle.dali_events.specs.declared.event.Event.TheVariants as event;
 ghost use Rattle.dali_events.specs.World.{gear_at, controller_at};
@@ -10,7 +12,7 @@ ghost use Rattle.dali_orders.specs.Due.{record_ordered};
 ghost use Rattle.dali_events.specs.Plan.{block_at};
 ghost use Rattle.dali_orders.specs.declared.orders.Order.TheVariants as order;
 ghost use Rattle.dali_orders.specs.declared.orders.Fault.TheVariants as fault;
-ghost use Rattle.dali_controller.specs.Progress.{roster_of};
+ghost use Rattle.dali_controller.specs.Machine.{table_of};
 ghost use Rattle.dali_standing.specs.declared.trouble.Trouble.TheVariants as trouble;
 ghost use Rattle.dali_standing.specs.declared.refusal.Refusal.TheVariants as refusal;
 
@@ -28,15 +30,16 @@ use std::marker::Model;
 
 /// A site: its gear, its bus and its controllers, with a log of all that happened on it.
 ///
-/// Its calls are of four kinds. Controllers: `act`, `arc`, `down`, `up`. The bus: `pump`, `lapse`, `quiet`. Gear: `power`,
-/// `expire`. Readers change nothing: `next` and `due` say what a controller may act on, `idle` whether a request waits for
-/// `pump`; `log`, `gear`, `kept`, `table`, `gifts`, `owner` and `plan` show what there is; `is_safe` says what is promised.
+/// Its calls are of four kinds. Controllers: `act`, `arc`, `down`, `up`. The bus: `pump`, `lapse`, `quiet`. Gear:
+/// `power`, `expire`. Readers change nothing: `next` and `due` say what a controller may act on, `idle` whether a
+/// request waits for `pump`; `log`, `gear`, `kept`, `table`, `gifts`, `owner` and `plan` show what there is; `is_safe`
+/// says what is promised.
 ///
-/// A site in use: each controller that has something due acts, then `pump`, and so on; where an act ordered a `Commit`, the
-/// record is stored and `Committed` acted on. Nothing promises that this ends: bound the loop.
+/// A site in use: each controller that has something due acts, then `pump`, and so on; where an act ordered a `Commit`,
+/// the record is stored and `Committed` acted on. Nothing promises that this ends: bound the loop.
 ///
-/// Contracts see the plan, the two capacities and the log, from which everything else follows. Each accepted call adds one
-/// event to the log; a refusal changes nothing.
+/// Contracts see the plan, the two capacities and the log, from which everything else follows. Each accepted call adds
+/// one event to the log; a refusal changes nothing.
 #[derive(Drop)]
 pub struct SiteState {
     plan: Plan,
@@ -49,23 +52,27 @@ pub struct SiteState {
 
 impl Model for SiteState {
     ghost use Rattle.std.specs.Vec.{vec_capacity};
-    ghost use Rattle.dali_world.specs.Site.{Site, IsSite};
+    ghost use Rattle.dali_world.specs.Site.{SiteState, IsSite};
 
-    ghost Value = { Site };
+    ghost Value = { SiteState };
 
     ghost view = { λ s. record { plan = s.plan; queue = s.queue; room = s.room; log = s.log.items } };
 
-    ghost invariant = { λ s. IsSite (record { plan = s.plan; queue = s.queue; room = s.room; log = s.log.items }) s.standing s.shares (vec_capacity s.log) };
+    ghost invariant = { λ s. IsSite (record { plan = s.plan; queue = s.queue; room = s.room; log = s.log.items })
+        s.standing s.shares (vec_capacity s.log) };
 }
 
 impl SiteState {
-    ghost use Rattle.dali_standing.specs.Places.{due_of};
-    ghost use Rattle.dali_world.specs.Site.{Site, world, opened_site, logged, machine_at, share_of, IsSound, Acts, IsArcRefused, IsDownRefused, IsUpRefused, IsGearRefused, IsBarred, IsFull, IsCrowded, HasRoom, Pumps, IsPumpRefused, next_request, Logs, LogsRequest, IsUpWith, IsSpent, IsSendable, Becomes};
+    ghost use Rattle.dali_standing.specs.Seats.{due_of};
+    ghost use Rattle.dali_world.specs.Site.{SiteState, world, opened_site, site_logged, machine_at, share_of, IsSound};
+    ghost use Rattle.dali_world.specs.Site.{Acts, IsArcRefused, IsDownRefused, IsUpRefused, IsGearRefused, IsBarred};
+    ghost use Rattle.dali_world.specs.Site.{IsFull, IsCrowded, HasRoom, Pumps, IsPumpRefused, next_request, Logs};
+    ghost use Rattle.dali_world.specs.Site.{LogsRequest, IsUpWith, IsSpent, IsSendable, Becomes};
 
     /// A site of this plan, on which nothing happened yet. All controllers are up, and keep nothing.
     ///
-    /// Its log has room for `log_capacity` events, 1 to 65,536, and `queue_capacity` requests may wait, 1 to 1,024. All memory is
-    /// taken here, but for that of a controller that comes up anew. A refusal drops the plan.
+    /// Its log has room for `log_capacity` events, 1 to 65,536, and `queue_capacity` requests may wait, 1 to 1,024. All
+    /// memory is taken here, but for that of a controller that comes up anew. A refusal drops the plan.
     pub fn new(
         alloc: Global,
         plan: Plan,
@@ -89,21 +96,25 @@ impl SiteState {
         })
     }
 
-    /// A controller acts on an input: on what `next` says, or on the outcome of its Commit where `due` is Store. Its frame
-    /// waits for the bus from now on.
+    /// A controller acts on an input: on what `next` says, or on the outcome of its Commit where `due` is Store. Its
+    /// frame waits for the bus from now on.
     ///
-    /// It never orders `Halt(Conflict)`: a finding and an entry of a table are both true of the gear for good. A record that
-    /// it orders fits the block that the plan gives to the controller.
+    /// It never orders `Halt(Conflict)`: a finding and an entry of a table are both true of the gear for good. A record
+    /// that it orders fits the block that the plan gives to the controller.
     ///
-    /// Refusals, in this order: 1 UnknownController, 2 ControllerDown, 3 NotDue, 7 QueueFull (whatever it would order), 8 LogFull.
+    /// Refusals, in this order: 1 UnknownController, 2 ControllerDown, 3 NotDue, 7 QueueFull (whatever it would order),
+    /// 8 LogFull.
     #[tactic(auto, unfolding(crate::specs::Site::Acts))]
     pub fn act(&mut self, c: u8, input: Input) -> Result<Receipt, Refusal>
         ensures sound { IsSound self.old }
         ensures answer { Acts self.old c input result self.new }
-        ensures step { IfOk result (λ receipt. (c < 4) × (self.new ≡ logged self.old (event.Acted c input receipt.order))) }
-        ensures receipt { IfOk result (λ receipt. (receipt.controller ≡ c) × (receipt.input ≡ input) × (receipt.number ≡ share_of c self.old.log + 1)) }
+        ensures step { IfOk result (λ receipt. (c < 4)
+            × (self.new ≡ site_logged self.old (event.Acted c input receipt.order))) }
+        ensures receipt { IfOk result (λ receipt. (receipt.controller ≡ c) × (receipt.input ≡ input)
+            × (receipt.number ≡ share_of c self.old.log + 1)) }
         ensures agreed { IfOk result (λ receipt. receipt.order ≡ order.Halt fault.Conflict → ⊥) }
-        ensures fits { IfOk result (λ receipt. IfSome (record_ordered (Some receipt.order)) (Fits (block_at self.old.plan c))) }
+        ensures fits { IfOk result
+            (λ receipt. IfSome (record_ordered (Some receipt.order)) (Fits (block_at self.old.plan c))) }
         ensures unchanged { OnErr result (self.new ≡ self.old) }
     {
         let _log = &self.log;
@@ -148,10 +159,11 @@ impl SiteState {
         Ok(())
     }
 
-    /// The request that is next comes on the bus, if one is; a trouble may disturb it. The gear that have power and that the
-    /// frame reaches take it, in order of their number, and draw the plan's next numbers.
+    /// The request that is next comes on the bus, if one is; a trouble may disturb it. The gear that have power and
+    /// that the frame reaches take it, in order of their number, and draw the plan's next numbers.
     ///
-    /// Without a request it answers `Idle` before any refusal, and logs nothing. Refusals, in this order: 6 DrawsSpent, 8 LogFull.
+    /// Without a request it answers `Idle` before any refusal, and logs nothing. Refusals, in this order: 6 DrawsSpent,
+    /// 8 LogFull.
     pub fn pump(&mut self, trouble: Trouble) -> Result<Report, Refusal>
         ensures pumped { IfOk result (λ report. Pumps self.old trouble report self.new) }
         ensures refused { IfErr result (λ e. IsPumpRefused self.old trouble e) }
@@ -177,7 +189,8 @@ impl SiteState {
     ///
     /// Refusal: 8 LogFull.
     pub fn lapse(&mut self) -> Result<Option<u8>, Refusal>
-        ensures lapsed { IfOk result (λ owner. (owner ≡ (world self.old).bus.owner) × Logs self.old event.Lapsed self.new) }
+        ensures lapsed { IfOk result (λ owner. (owner ≡ (world self.old).bus.owner)
+            × Logs self.old event.Lapsed self.new) }
         ensures refused { IfErr result (λ e. (e ≡ refusal.LogFull) × IsFull self.old) }
         ensures unchanged { OnErr result (self.new ≡ self.old) }
     {
@@ -233,8 +246,8 @@ impl SiteState {
         Ok(())
     }
 
-    /// A controller goes down: its machine, its requests and its ownership go. What it keeps stays remembered, and so does the
-    /// record that is outstanding.
+    /// A controller goes down: its machine, its requests and its ownership go. What it keeps stays remembered, and so
+    /// does the record that is outstanding.
     ///
     /// Refusals, in this order: 1 UnknownController, 2 ControllerDown, 8 LogFull.
     pub fn down(&mut self, c: u8) -> Result<(), Refusal>
@@ -251,8 +264,8 @@ impl SiteState {
         Ok(())
     }
 
-    /// A controller comes up with a copy of its records: those that it kept, or these with the one that was outstanding. Its
-    /// machine starts anew.
+    /// A controller comes up with a copy of its records: those that it kept, or these with the one that was
+    /// outstanding. Its machine starts anew.
     ///
     /// Refusals, in this order: 1 UnknownController, 2 ControllerUp, 5 StoreDisagrees, 8 LogFull, 9 NoMemory.
     pub fn up(&mut self, alloc: Global, c: u8, copy: &Kept) -> Result<(), Refusal>
@@ -291,8 +304,8 @@ impl SiteState {
         &self.log
     }
 
-    /// What the bus has told controller `c`, which must be there, and it has not acted on; or Start, where it has not started:
-    /// the input that `act` takes. None while it is down.
+    /// What the bus has told controller `c`, which must be there, and it has not acted on; or Start, where it has not
+    /// started: the input that `act` takes. None while it is down.
     pub fn next(&self, c: u8) -> Option<Input>
         requires { c < length self.now.plan.blocks }
         ensures { result ≡ (controller_at (world self.now) c).told }
@@ -328,12 +341,14 @@ impl SiteState {
     pub fn table(&self, c: u8) -> Option<&Table>
         requires { c < length self.now.plan.blocks }
         ensures { MatchOption result ((controller_at (world self.now) c).up ≡ false)
-            (λ table. ((controller_at (world self.now) c).up ≡ true) × (table.now ≡ roster_of (controller_at (world self.now) c).records)) }
+            (λ table. ((controller_at (world self.now) c).up ≡ true)
+            × (table.now ≡ table_of (controller_at (world self.now) c).records)) }
     {
         self.standing.table(c)
     }
 
-    /// Which gear stored which short address, in the order of the frames: a gear at most once, and an address at most once.
+    /// Which gear stored which short address, in the order of the frames: a gear at most once, and an address at most
+    /// once.
     pub fn gifts(&self) -> &[(u32, Short)]
         ensures gifts { result.now ≡ (world self.now).gifts }
         ensures gear_once { IsOnce (map (λ gift. gift.0) result.now) }
@@ -344,10 +359,10 @@ impl SiteState {
 
     /// THE PROMISE, of this site. Calling it costs nothing; what it says is said of the whole log.
     ///
-    /// At each moment of the log no two gear hold one short address; a gear that was given one keeps it, with its random address,
-    /// ever after; and every record of enrolment that a controller keeps names the gear that holds that address, so no two tables
-    /// disagree. `dali_events` has the words: `IsSafeHistory`, with `IsSafe` and `KeepsRandom`. Each controller of the plan is there, and
-    /// keeps records of its block.
+    /// At each moment of the log no two gear hold one short address; a gear that was given one keeps it, with its
+    /// random address, ever after; and every record of enrolment that a controller keeps names the gear that holds that
+    /// address, so no two tables disagree. `dali_events` has the words: `IsSafeHistory`, with `IsSafe` and
+    /// `KeepsRandom`. Each controller of the plan is there, and keeps records of its block.
     pub fn is_safe(&self)
         ensures run { IsRun self.now.plan self.now.queue self.now.log }
         ensures safe { IsSafeHistory self.now.plan self.now.queue self.now.log }
@@ -430,7 +445,8 @@ impl SiteState {
 
     /// A gear of this number is there, and the log has room for one more event.
     fn check_gear(&self, number: u32) -> Result<(), Refusal>
-        ensures ok { OnOk result ((number < length (world self.now).gear) × HasRoom self.now × (number < self.now.plan.gear)) }
+        ensures ok { OnOk result ((number < length (world self.now).gear) × HasRoom self.now
+            × (number < self.now.plan.gear)) }
         ensures refused { IfErr result (λ e. IsGearRefused self.now number e) }
     {
         if number >= self.plan.gear() {
@@ -452,7 +468,8 @@ impl SiteState {
 
     /// Controller `c` is there, and is up.
     fn check_up(&self, c: u8) -> Result<(), Refusal>
-        ensures ok { OnOk result (IsUp (world self.now) c × (c < length self.now.plan.blocks) × (length self.now.plan.blocks ≤ 4)) }
+        ensures ok { OnOk result (IsUp (world self.now) c × (c < length self.now.plan.blocks)
+            × (length self.now.plan.blocks ≤ 4)) }
         ensures refused { IfErr result (λ e. IsBarred self.now c e) }
     {
         if (c as usize) >= self.standing.controllers() {

@@ -1,6 +1,6 @@
 use Rattle.std.proofs.Common.{◌≡◌, rules}
 use Rattle.std.proofs.lemmas.Fn.{filter_same}
-use Rattle.dali_arbiter.specs.Bus.{without_sender}
+use Rattle.dali_arbiter.specs.Arbiter.{without_sender}
 use Rattle.dali_arbiter.proofs.Lists.{lists-muted, rightful-filter}
 use Rattle.dali_arbiter.proofs.waiting.drop_sender.Goals as goal
 

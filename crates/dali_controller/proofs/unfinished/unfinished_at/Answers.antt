@@ -1,4 +1,4 @@
-use Rattle.dali_script.specs.Records.{HasNumber}
+use Rattle.dali_script.specs.Records.{HasRandom}
 use Rattle.dali_script.proofs.Lists.{has_map}
 use Rattle.dali_controller.proofs.unfinished.unfinished_at.Goals as goal
 
@@ -7,5 +7,5 @@ returns-in-None-clause-reserved c = has_map (λ q. q.1) c.args.kept.now.reserved
 
 pub returns-in-None-clause-drawn : goal.returns-in-None-clause-drawn
 returns-in-None-clause-drawn c =
-    let has : HasNumber c.args.kept.now.reserved c.in_ok-number.number = has_map (λ q. q.1) c.args.kept.now.reserved (c.args.address, c.in_ok-number.number) c.in_ok-number.ensures.value in
+    let has : HasRandom c.args.kept.now.reserved c.in_ok-number.number = has_map (λ q. q.1) c.args.kept.now.reserved (c.args.address, c.in_ok-number.number) c.in_ok-number.ensures.value in
     c.in_ok-number.ensures.kept.reserved_drawn c.in_ok-number.number has

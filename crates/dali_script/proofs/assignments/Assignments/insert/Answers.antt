@@ -1,6 +1,6 @@
 use Rattle.std.proofs.Common.{◌≡◌, ◌<◌, ◌≤◌, length, arith, true, false}
 use Rattle.std.specs.Vec.{vec_capacity}
-use Rattle.dali_script.specs.Records.{IsMap, HasAddress, HasNumber}
+use Rattle.dali_script.specs.Records.{IsMap, HasAddress, HasRandom}
 use Rattle.dali_script.proofs.Lists.{map_more, room_more}
 use Rattle.dali_script.proofs.assignments.Assignments.insert.Goals as goal
 
@@ -8,7 +8,7 @@ pub push_reserved-requires : goal.push_reserved-requires
 push_reserved-requires c =
     let capacity : 64 ≤ vec_capacity c.self.inside.pairs = c.self.invariant.1 in
     let no_address : HasAddress c.self.inside.pairs.items c.args.address → ⊥ = rw c.self.view_is (λ h. let no : false ≡ true = c.if-has_address.ensures.value.1 h in cc) in
-    let no_number : HasNumber c.self.inside.pairs.items c.args.number → ⊥ = rw c.self.view_is (λ h. let no : false ≡ true = c.if-has_number.ensures.1 h in cc) in
+    let no_number : HasRandom c.self.inside.pairs.items c.args.number → ⊥ = rw c.self.view_is (λ h. let no : false ≡ true = c.if-has_number.ensures.1 h in cc) in
     let room : length c.self.inside.pairs.items < 64 = room_more _ _ _ c.self.invariant.0 no_address no_number c.has_address.ensures.short in
     omega arith
 

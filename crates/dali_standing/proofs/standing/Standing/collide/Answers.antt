@@ -1,5 +1,5 @@
 use Rattle.std.proofs.Common.{rules, ◌≡◌, ◌<◌, ◌∙◌, length, subst, sym, Some, None}
-use Rattle.dali_arbiter.specs.Bus.{collision}
+use Rattle.dali_arbiter.specs.Arbiter.{collision}
 use Rattle.dali_standing.proofs.Done.{sender_there, sender_loses, rival_there, rival_loses, collide_done, alone_done}
 use Rattle.dali_standing.proofs.standing.Standing.collide.Goals as goal
 

@@ -2,9 +2,9 @@ use Rattle.std.proofs.Common.{rules, ◌≡◌, refl, sym, ap, subst, ◌∙◌,
 use Rattle.dali_orders.specs.declared.orders.Order.TheVariants.{Halt}
 use Rattle.dali_orders.specs.declared.orders.Fault.TheVariants as fault
 use Rattle.dali_events.specs.Allowed.{IsDue}
-use Rattle.dali_standing.specs.Places.{MayAnswer}
+use Rattle.dali_standing.specs.Seats.{MayAnswer}
 use Rattle.dali_standing.specs.Standing.{controller_on, machine_in}
-use Rattle.dali_world.specs.Site.{Received}
+use Rattle.dali_world.specs.Site.{Receipt}
 use Rattle.dali_events.specs.declared.event.Event.TheVariants as event
 use Rattle.dali_world.proofs.Logs.{step_few, step_goes_on, act_site, never_conflicts, records_now}
 use Rattle.dali_world.proofs.Fitting.{fits_acted}
@@ -39,7 +39,7 @@ pub returns-clause-agreed : goal.returns-clause-agreed
 returns-clause-agreed c halts =
     let up = c.in_ok-check_up.ensures.ok in
     let due : IsDue (controller_on c.self.inside.standing c.args.c) c.args.input = search rules in
-    let order : c.act-order.result ≡ Halt fault.Conflict = sym (ap (λ (r : Received). r.order) c.new.ensures) ∙ halts in
+    let order : c.act-order.result ≡ Halt fault.Conflict = sym (ap (λ (r : Receipt). r.order) c.new.ensures) ∙ halts in
     never_conflicts _ _ _ _ _ c.args.c c.args.input c.self.view_is c.self.invariant up.1 due c.act-order.ensures.placed
     (subst (λ o. MayAnswer (machine_in c.self.inside.standing.machines c.args.c) c.args.input o) order c.act-order.ensures.answer)
 

@@ -1,35 +1,36 @@
 use Rattle.std.specs.Prelude.{ℕ, List, [], ◌++◌, replicate, Option, None, if◌then◌else◌}
 use Rattle.dali_special.specs.declared.command.Command.{Command}
 use Rattle.dali_gear.specs.declared.row.Reach.{Reach}
-use Rattle.dali_gear.specs.ControlGear.{ControlGear, fresh}
-use Rattle.dali_gear.specs.Row.{row_after, row_left, takes, stored, stored_of}
-use Rattle.dali_events.specs.Plan.{SitePlan}
+use Rattle.dali_gear.specs.Gear.{Gear, fresh}
+use Rattle.dali_gear.specs.Row.{row_after, row_left, takes, stored_short, stored_of}
+use Rattle.dali_events.specs.Plan.{Plan}
 use Rattle.dali_events.specs.World.{World}
 
--- THE GEAR OF A SITE: its gear, the numbers that are left to be drawn, and which gear stored which short address.
-pub record Fitted : Type 0 where
-  pub gear : List ControlGear
+-- THE GEAR OF A SITE: its gear, the numbers that are left to be drawn, and which gear stored which
+-- short address.
+pub record FittedGear : Type 0 where
+  pub gear : List Gear
   pub left : List ℕ
   pub gifts : List (ℕ × ℕ)
 
 -- the part of a world that it is
-abbrev pub fitted_of : World → Fitted
+abbrev pub fitted_of : World → FittedGear
 fitted_of w = record { gear = w.gear; left = w.left; gifts = w.gifts }
 
-abbrev pub fitted_at : SitePlan → Fitted
+abbrev pub fitted_at : Plan → FittedGear
 fitted_at p = record { gear = replicate p.gear fresh; left = p.draws; gifts = [] }
 
 -- the gear that a frame reaches take it
-abbrev pub taken_at : Reach → Command → Fitted → Fitted
+abbrev pub taken_at : Reach → Command → FittedGear → FittedGear
 taken_at reach x f = record {
   gear = row_after reach x 0 f.gear f.left;
   left = row_left reach x 0 f.gear f.left;
   gifts = f.gifts ++ stored_of reach x 0 f.gear;
 }
 
-abbrev pub changed_at : List ControlGear → Fitted → Fitted
+abbrev pub changed_at : List Gear → FittedGear → FittedGear
 changed_at gs f = record { gear = gs; left = f.left; gifts = f.gifts }
 
 -- the short address that gear k stores at a command, if it takes it
-abbrev pub gift_of : Reach → Command → ℕ → ControlGear → Option ℕ
-gift_of reach x k g = if takes reach k g then stored x g else None
+abbrev pub gift_of : Reach → Command → ℕ → Gear → Option ℕ
+gift_of reach x k g = if takes reach k g then stored_short x g else None

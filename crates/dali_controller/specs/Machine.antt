@@ -1,12 +1,13 @@
-use Rattle.std.specs.Prelude.{ℕ, ◌+◌, Bool, true, false, not, ◌||◌, List, [], ◌∷◌, ◌++◌, Option, Some, None, is_some}
+use Rattle.std.specs.Prelude.{ℕ, ◌+◌, Bool, true, false, not, ◌||◌, List, [], ◌∷◌, ◌++◌, Option}
+use Rattle.std.specs.Prelude.{Some, None, is_some}
 use Rattle.dali_frame.specs.declared.frames.Forward.{Forward}
 use Rattle.dali_frame.specs.declared.frames.Answer.{Answer}
-use Rattle.dali_enrol.specs.Roster.{Roster}
+use Rattle.dali_enrol.specs.Table.{Table}
 use Rattle.dali_script.specs.declared.records.Record.{Record}
 use Rattle.dali_script.specs.declared.trace.Entry.{Entry}
 use Rattle.dali_script.specs.declared.stage.Stage.{Stage}
 use Rattle.dali_script.specs.declared.stage.Stage.TheVariants.{Opened, Inconclusive, Withdrawn}
-use Rattle.dali_script.specs.Records.{Assignment, Records, with_record}
+use Rattle.dali_script.specs.Records.{Assignment, Kept, with_record}
 use Rattle.dali_script.specs.Findings.{later, finding_of}
 use Rattle.dali_script.specs.Stages.{stage_of, may_follow}
 use Rattle.dali_orders.specs.declared.orders.Input.{Input}
@@ -15,12 +16,12 @@ use Rattle.dali_orders.specs.declared.orders.Order.{Order}
 use Rattle.dali_orders.specs.declared.orders.End.{End}
 use Rattle.dali_orders.specs.Due.{frame_put, record_ordered}
 
--- What contracts see of a machine: its number; what it keeps; the running transaction; its last finding; its last order;
--- how often the transaction was lost; how many searches in a row led to no gear; whether an opening was complete since the
--- start; and the end with which a close was begun.
-pub record Progress : Type 0 where
+-- What contracts see of a machine: its number; what it keeps; the running transaction; its last
+-- finding; its last order; how often the transaction was lost; how many searches in a row led to no
+-- gear; whether an opening was complete since the start; and the end with which a close was begun.
+pub record Machine : Type 0 where
   pub id : ℕ
-  pub kept : Records
+  pub kept : Kept
   pub trace : List Entry
   pub finding : Option Assignment
   pub last : Option Order
@@ -30,17 +31,27 @@ pub record Progress : Type 0 where
   pub closing : Option End
 
 -- before the start
-abbrev pub at_first : ℕ → Records → Progress
-at_first id k = record { id = id; kept = k; trace = []; finding = None; last = None; tries = 0; silent = 0; opened = false; closing = None }
+abbrev pub at_first : ℕ → Kept → Machine
+at_first id k = record {
+  id = id;
+  kept = k;
+  trace = [];
+  finding = None;
+  last = None;
+  tries = 0;
+  silent = 0;
+  opened = false;
+  closing = None;
+}
 
 -- the table is the enrolments
-abbrev pub roster_of : Records → Roster
-roster_of k = record { block = k.block; entries = k.enrolled }
+abbrev pub table_of : Kept → Table
+table_of k = record { block = k.block; entries = k.enrolled }
 
 -- WHAT AN INPUT TELLS.
 
 -- a transaction is complete where no frame may follow; a close is its one frame
-abbrev pub is_complete : Records → Option End → Stage → Bool
+abbrev pub is_complete : Kept → Option End → Stage → Bool
 is_complete k closing s = is_some closing || not (may_follow k.block k.reserved s)
 
 -- the tries of one transaction
@@ -48,8 +59,9 @@ abbrev pub tries_after : Bool → ℕ → ℕ
 tries_after true n = 0
 tries_after false n = n
 
--- The silent searches: one more where QUERY SHORT ADDRESS was heard as neither the address that was wanted nor MASK, but
--- not in the visits before the opening; none in a row where a gear was found and withdrawn.
+-- The silent searches: one more where QUERY SHORT ADDRESS was heard as neither the address that was
+-- wanted nor MASK, but not in the visits before the opening; none in a row where a gear was found
+-- and withdrawn.
 abbrev pub silent_after : Stage → Bool → ℕ → ℕ
 silent_after (Inconclusive r other) true n = n + 1
 silent_after (Withdrawn r b) opened n = 0
@@ -60,8 +72,8 @@ opened_after Opened opened = true
 opened_after _ opened = opened
 
 -- the transaction has these frames now
-abbrev pub heard_to : Progress → List Entry → Progress
-heard_to m t = record {
+abbrev pub machine_heard_to : Machine → List Entry → Machine
+machine_heard_to m t = record {
   id = m.id;
   kept = m.kept;
   trace = t;
@@ -74,23 +86,23 @@ heard_to m t = record {
 }
 
 -- the outstanding frame was sent, and this was heard
-abbrev pub heard : Progress → Option Forward → Answer → Progress
-heard m (Some f) h = heard_to m (m.trace ++ (record { frame = f; heard = h }) ∷ [])
-heard m None h = m
+abbrev pub machine_heard : Machine → Option Forward → Answer → Machine
+machine_heard m (Some f) h = machine_heard_to m (m.trace ++ (record { frame = f; heard = h }) ∷ [])
+machine_heard m None h = m
 
 -- the outstanding frame was not sent, or was destroyed: the transaction is over
-abbrev pub lost : Progress → Progress
-lost m = record m { trace = []; tries = m.tries + 1 }
+abbrev pub machine_lost : Machine → Machine
+machine_lost m = record m { trace = []; tries = m.tries + 1 }
 
 -- the outstanding record is kept
-abbrev pub committed : Progress → Option Record → Progress
-committed m (Some x) = record m { kept = with_record m.kept x }
-committed m None = m
+abbrev pub machine_committed : Machine → Option Record → Machine
+machine_committed m (Some x) = record m { kept = with_record m.kept x }
+machine_committed m None = m
 
-abbrev pub told : Progress → Input → Progress
-told m input.Start = m
-told m (input.Heard h) = heard m (frame_put m.last) h
-told m input.Destroyed = lost m
-told m input.Lapsed = lost m
-told m input.Committed = committed m (record_ordered m.last)
-told m input.CommitFailed = m
+abbrev pub machine_told : Machine → Input → Machine
+machine_told m input.Start = m
+machine_told m (input.Heard h) = machine_heard m (frame_put m.last) h
+machine_told m input.Destroyed = machine_lost m
+machine_told m input.Lapsed = machine_lost m
+machine_told m input.Committed = machine_committed m (record_ordered m.last)
+machine_told m input.CommitFailed = m

@@ -1,9 +1,10 @@
-use Rattle.std.specs.Prelude.{◌≡◌, ℕ, Bool, true, List, [], Option, Some, None, is_some, IsSome, if◌then◌else◌}
+use Rattle.std.specs.Prelude.{◌≡◌, ℕ, Bool, true, List, [], Option, Some, None, is_some, IsSome}
+use Rattle.std.specs.Prelude.{if◌then◌else◌}
 use Rattle.std.specs.Option.{option_map}
 use Rattle.dali_script.specs.declared.block.Block.{Block}
 use Rattle.dali_script.specs.declared.trace.Entry.{Entry}
 use Rattle.dali_script.specs.declared.records.Record.{Record}
-use Rattle.dali_script.specs.Records.{Assignment, Records, Fits, IsFresh, without_records}
+use Rattle.dali_script.specs.Records.{Assignment, Kept, Fits, IsFresh, without_records}
 use Rattle.dali_script.specs.Findings.{later, finding_of}
 use Rattle.dali_orders.specs.declared.orders.Input.{Input}
 use Rattle.dali_orders.specs.declared.orders.Input.TheVariants as input
@@ -12,68 +13,72 @@ use Rattle.dali_orders.specs.declared.orders.Order.TheVariants.{Put, Commit, Don
 use Rattle.dali_orders.specs.declared.orders.Due.{Due}
 use Rattle.dali_orders.specs.declared.orders.Due.TheVariants as due
 use Rattle.dali_orders.specs.Due.{due_after, accepts}
-use Rattle.dali_controller.specs.Progress.{Progress, at_first, told}
-use Rattle.dali_controller.specs.Orders.{IsAnswered, after}
-use Rattle.dali_events.specs.World.{Controller, begun, nobody}
+use Rattle.dali_controller.specs.Machine.{Machine, at_first, machine_told}
+use Rattle.dali_controller.specs.Orders.{IsAnswered, machine_after}
+use Rattle.dali_events.specs.World.{Controller, controller_begun, nobody}
 use Rattle.dali_events.specs.Allowed.{HasOutstanding}
-use Rattle.dali_events.specs.Happens.{acted, gone_down, come_up}
+use Rattle.dali_events.specs.Happens.{controller_acted, gone_down, come_up}
 
--- A CONTROLLER'S PLACE on a site: the controller as the site's world has it; and its machine, while it is up.
-pub record Place : Type 0 where
+-- A CONTROLLER'S PLACE on a site: the controller as the site's world has it; and its machine, while
+-- it is up.
+pub record Seat : Type 0 where
   pub controller : Controller
-  pub machine : Option Progress
+  pub machine : Option Machine
 
 -- ---------------------------------------------------------------- how the two go together
 
 -- the machine once it has heard what it was told
-abbrev pub informed_by : Progress → Option Input → Progress
+abbrev pub informed_by : Machine → Option Input → Machine
 informed_by m None = m
-informed_by m (Some i) = told m i
+informed_by m (Some i) = machine_told m i
 
 -- what is told is what the machine waits for
 abbrev pub IsTold : Option Order → Option Input → Type 0
 IsTold last None = Unit {0}
 IsTold last (Some i) = accepts (due_after last) i ≡ true
 
--- A record is outstanding from its Commit on, and may be kept then; none is while the machine waits for something else,
--- but one may have been left over where the machine has ended.
-abbrev pub IsOutstanding : Records → Option Order → Option Record → Type 0
-IsOutstanding k (Some (Commit x)) outstanding = (outstanding ≡ Some x) × Fits k.block x × IsFresh k x
+-- A record is outstanding from its Commit on, and may be kept then; none is while the machine waits
+-- for something else, but one may have been left over where the machine has ended.
+abbrev pub IsOutstanding : Kept → Option Order → Option Record → Type 0
+IsOutstanding k (Some (Commit x)) outstanding =
+    (outstanding ≡ Some x) × Fits k.block x × IsFresh k x
 IsOutstanding k (Some (Done e)) outstanding = Unit {0}
 IsOutstanding k (Some (Halt f)) outstanding = Unit {0}
 IsOutstanding k (Some (Put p f)) outstanding = outstanding ≡ None
 IsOutstanding k None outstanding = outstanding ≡ None
 
--- The finding of the running transaction, if it has one, is the last finding of the controller. The controller finds when
--- a frame is sent, the machine when it acts on what was heard; where the bus lapses between the two it never does.
-abbrev pub IsFound : Controller → Progress → Type 0
+-- The finding of the running transaction, if it has one, is the last finding of the controller. The
+-- controller finds when a frame is sent, the machine when it acts on what was heard; where the bus
+-- lapses between the two it never does.
+abbrev pub IsFound : Controller → Machine → Type 0
 IsFound k m = later k.finding (finding_of (informed_by m k.told).trace) ≡ k.finding
 
-pub record IsRunning (k : Controller) (m : Progress) : Type 0 where
+pub record IsRunning (k : Controller) (m : Machine) : Type 0 where
   pub kept : m.kept ≡ k.records
   pub last : m.last ≡ k.last
   pub told : IsTold k.last k.told
   pub outstanding : IsOutstanding k.records k.last k.outstanding
   pub found : IsFound k m
 
-abbrev pub IsTied : Controller → Option Progress → Type 0
+abbrev pub IsTied : Controller → Option Machine → Type 0
 IsTied k None = (k.told ≡ None) × (k.finding ≡ None) × (k.last ≡ None)
 IsTied k (Some m) = IsRunning k m
 
 -- ---------------------------------------------------------------- a place by its parts
 
 -- the records: the machine's while it is there, else those that stand beside it
-abbrev pub records_of : Option Progress → Option Records → Records
+abbrev pub records_of : Option Machine → Option Kept → Kept
 records_of (Some m) beside = m.kept
 records_of None (Some k) = k
 records_of None None = nobody.records
 
-abbrev pub last_of : Option Progress → Option Order
+abbrev pub last_of : Option Machine → Option Order
 last_of (Some m) = m.last
 last_of None = None
 
-abbrev pub place_by : Option Progress → Option Records → Option Record → Option Assignment → Option Input → Place
-place_by machine beside outstanding finding unread = record {
+abbrev pub seat_by : Option Machine → Option Kept → Option Record → Option Assignment → Option Input
+    → Seat
+seat_by machine beside outstanding finding unread = record {
   controller = record {
     up = is_some machine;
     records = records_of machine beside;
@@ -86,39 +91,50 @@ place_by machine beside outstanding finding unread = record {
 }
 
 -- the records stand once: beside the machine only where it is not there
-abbrev pub AreOnce : Option Progress → Option Records → Type 0
+abbrev pub AreOnce : Option Machine → Option Kept → Type 0
 AreOnce (Some m) beside = beside ≡ None
 AreOnce None beside = IsSome beside
 
-abbrev pub IsPlace : Option Progress → Option Records → Option Record → Option Assignment → Option Input → Type 0
-IsPlace machine beside outstanding finding unread =
-    IsTied (place_by machine beside outstanding finding unread).controller machine × AreOnce machine beside
+abbrev pub IsSeat : Option Machine → Option Kept → Option Record → Option Assignment → Option Input
+    → Type 0
+IsSeat machine beside outstanding finding unread =
+    IsTied (seat_by machine beside outstanding finding unread).controller machine
+        × AreOnce machine beside
 
 -- ---------------------------------------------------------------- what happens to a place
 
-abbrev pub begun_at : ℕ → Block → Place
-begun_at id b = record { controller = begun b; machine = Some (at_first id (without_records b)) }
+abbrev pub begun_at : ℕ → Block → Seat
+begun_at id b = record {
+  controller = controller_begun b;
+  machine = Some (at_first id (without_records b));
+}
 
-abbrev pub acted_at : Place → Input → Order → Place
-acted_at p i o = record { controller = acted p.controller i o; machine = option_map (λ m. after m i o) p.machine }
+abbrev pub acted_at : Seat → Input → Order → Seat
+acted_at p i o = record {
+  controller = controller_acted p.controller i o;
+  machine = option_map (λ m. machine_after m i o) p.machine;
+}
 
-abbrev pub down_at : Place → Place
+abbrev pub down_at : Seat → Seat
 down_at p = record { controller = gone_down p.controller; machine = None }
 
 -- the records that it comes up with, with the outstanding one or without it
-abbrev pub up_at : ℕ → Bool → Place → Place
-up_at id kept p = record { controller = come_up kept p.controller; machine = Some (at_first id (come_up kept p.controller).records) }
+abbrev pub up_at : ℕ → Bool → Seat → Seat
+up_at id kept p = record {
+  controller = come_up kept p.controller;
+  machine = Some (at_first id (come_up kept p.controller).records);
+}
 
-abbrev pub told_at : (Controller → Controller) → Place → Place
+abbrev pub told_at : (Controller → Controller) → Seat → Seat
 told_at change p = record { controller = change p.controller; machine = p.machine }
 
 -- an order that the machine, if there is one, may give
-abbrev pub MayAnswer : Option Progress → Input → Order → Type 0
+abbrev pub MayAnswer : Option Machine → Input → Order → Type 0
 MayAnswer None i o = ⊥
 MayAnswer (Some m) i o = IsAnswered m i o
 
 -- the frames of the machine's running transaction
-abbrev pub trace_of : Option Progress → List Entry
+abbrev pub trace_of : Option Machine → List Entry
 trace_of None = []
 trace_of (Some m) = m.trace
 
@@ -126,12 +142,13 @@ trace_of (Some m) = m.trace
 abbrev pub told_lost : Controller → Controller
 told_lost k = record k { told = Some input.Destroyed }
 
--- STORES THAT AGREE with what a site remembers: the kept records, or these with the outstanding one.
-abbrev pub Agrees : Controller → Records → Bool → Type 0
+-- STORES THAT AGREE with what a site remembers: the kept records, or these with the outstanding
+-- one.
+abbrev pub Agrees : Controller → Kept → Bool → Type 0
 Agrees k copy kept = HasOutstanding k kept × (copy ≡ (come_up kept k).records)
 
 -- the machine is there, and waits for this input
-abbrev pub Waits : Option Progress → Input → Type 0
+abbrev pub Waits : Option Machine → Input → Type 0
 Waits None i = ⊥
 Waits (Some m) i = accepts (due_after m.last) i ≡ true
 

@@ -1,16 +1,23 @@
-use Rattle.std.specs.Prelude.{ℕ, Bool, true, false, Option, Some, None, ◌==◌, ◌&&◌, nat_le, if◌then◌else◌}
+use Rattle.std.specs.Prelude.{ℕ, Bool, true, false, Option, Some, None, ◌==◌, ◌&&◌, nat_le}
+use Rattle.std.specs.Prelude.{if◌then◌else◌}
 use Rattle.dali_frame.specs.declared.numbers.SearchAddress.{SearchAddress}
 use Rattle.dali_frame.specs.Random.{value_of, MASK24}
 use Rattle.dali_special.specs.declared.command.Target.{Target}
 use Rattle.dali_special.specs.declared.command.Target.TheVariants.{All, Addressed, Unaddressed}
 use Rattle.dali_special.specs.declared.command.Command.{Command}
-use Rattle.dali_special.specs.declared.command.Command.TheVariants.{Terminate, Initialise, Randomise, Compare, Withdraw, SearchHigh, SearchMiddle, SearchLow, Program, Verify, QueryShort, Arc, Other}
+use Rattle.dali_special.specs.declared.command.Command.TheVariants.{Terminate, Initialise}
+use Rattle.dali_special.specs.declared.command.Command.TheVariants.{Randomise, Compare, Withdraw}
+use Rattle.dali_special.specs.declared.command.Command.TheVariants.{SearchHigh, SearchMiddle}
+use Rattle.dali_special.specs.declared.command.Command.TheVariants.{SearchLow, Program, Verify}
+use Rattle.dali_special.specs.declared.command.Command.TheVariants.{QueryShort, Arc, Other}
 use Rattle.dali_special.specs.Command.{program_data, is_send_twice}
 use Rattle.dali_gear.specs.declared.state.InitialisationState.{InitialisationState}
-use Rattle.dali_gear.specs.declared.state.InitialisationState.TheVariants.{Disabled, Enabled, Withdrawn}
+use Rattle.dali_gear.specs.declared.state.InitialisationState.TheVariants.{Disabled, Enabled}
+use Rattle.dali_gear.specs.declared.state.InitialisationState.TheVariants.{Withdrawn}
 
--- A control gear: whether it has power, and its variables of addressing (IEC 62386-102:2014, declaration of variables).
-pub record ControlGear : Type 0 where
+-- A control gear: whether it has power, and its variables of addressing (IEC 62386-102:2014,
+-- declaration of variables).
+pub record Gear : Type 0 where
   pub powered : Bool
   pub state : InitialisationState
   pub random : ℕ
@@ -29,7 +36,7 @@ is_active Disabled = false
 is_active _ = true
 
 -- the random address is the search address
-abbrev pub is_found : ControlGear → Bool
+abbrev pub is_found : Gear → Bool
 is_found g = g.random == value_of g.search
 
 -- the second of two equal frames, taken one directly after the other
@@ -54,36 +61,40 @@ concerns Unaddressed None = true
 
 -- What a powered gear does with a command, variable by variable.
 
-abbrev pub state_after : Command → ControlGear → InitialisationState
+abbrev pub state_after : Command → Gear → InitialisationState
 state_after Terminate g = Disabled
-state_after (Initialise target) g = if is_second (Initialise target) g.half && concerns target g.short then Enabled else g.state
+state_after (Initialise target) g =
+    if is_second (Initialise target) g.half && concerns target g.short then Enabled else g.state
 state_after Withdraw g = if is_enabled g.state && is_found g then Withdrawn else g.state
 state_after _ g = g.state
 
 -- RANDOMISE draws a number
-abbrev pub would_draw : Command → ControlGear → Bool
+abbrev pub would_draw : Command → Gear → Bool
 would_draw Randomise g = is_second Randomise g.half && is_active g.state
 would_draw _ g = false
 
-abbrev pub random_after : Command → ℕ → ControlGear → ℕ
+abbrev pub random_after : Command → ℕ → Gear → ℕ
 random_after c draw g = if would_draw c g then draw else g.random
 
-abbrev pub search_after : Command → ControlGear → SearchAddress
-search_after (SearchHigh byte) g = if is_active g.state then record g.search { high = byte } else g.search
-search_after (SearchMiddle byte) g = if is_active g.state then record g.search { middle = byte } else g.search
-search_after (SearchLow byte) g = if is_active g.state then record g.search { low = byte } else g.search
+abbrev pub search_after : Command → Gear → SearchAddress
+search_after (SearchHigh byte) g =
+    if is_active g.state then record g.search { high = byte } else g.search
+search_after (SearchMiddle byte) g =
+    if is_active g.state then record g.search { middle = byte } else g.search
+search_after (SearchLow byte) g =
+    if is_active g.state then record g.search { low = byte } else g.search
 search_after _ g = g.search
 
-abbrev pub short_after : Command → ControlGear → Option ℕ
+abbrev pub short_after : Command → Gear → Option ℕ
 short_after (Program short) g = if is_active g.state && is_found g then short else g.short
 short_after _ g = g.short
 
 -- a first frame of a pair is remembered, and any other frame makes an end of it
-abbrev pub half_after : Command → ControlGear → Option Command
+abbrev pub half_after : Command → Gear → Option Command
 half_after c g = if is_send_twice c then (if is_second c g.half then None else Some c) else None
 
-abbrev pub taken : Command → ℕ → ControlGear → ControlGear
-taken c draw g = record {
+abbrev pub gear_taken : Command → ℕ → Gear → Gear
+gear_taken c draw g = record {
   powered = g.powered;
   state = state_after c g;
   random = random_after c draw g;
@@ -101,21 +112,22 @@ has_short a None = false
 has_short a (Some short) = a == short
 
 -- the backward frame that a powered gear answers
-abbrev pub answer : Command → ControlGear → Option ℕ
-answer Compare g = if is_enabled g.state && nat_le g.random (value_of g.search) then Some YES else None
+abbrev pub answer : Command → Gear → Option ℕ
+answer Compare g =
+    if is_enabled g.state && nat_le g.random (value_of g.search) then Some YES else None
 answer (Verify a) g = if is_active g.state && has_short a g.short then Some YES else None
 answer QueryShort g = if is_active g.state && is_found g then Some (program_data g.short) else None
 answer _ g = None
 
 -- A gear without power takes nothing.
 
-abbrev pub after_frame : Command → ℕ → ControlGear → ControlGear
-after_frame c draw g = if g.powered then taken c draw g else g
+abbrev pub after_frame : Command → ℕ → Gear → Gear
+after_frame c draw g = if g.powered then gear_taken c draw g else g
 
-abbrev pub answer_to : Command → ControlGear → Option ℕ
+abbrev pub answer_to : Command → Gear → Option ℕ
 answer_to c g = if g.powered then answer c g else None
 
-abbrev pub draws : Command → ControlGear → Bool
+abbrev pub draws : Command → Gear → Bool
 draws c g = g.powered && would_draw c g
 
 -- The gear before any frame, and what befalls it without one.
@@ -123,20 +135,30 @@ draws c g = g.powered && would_draw c g
 abbrev pub search_mask : SearchAddress
 search_mask = record { high = 0xFF; middle = 0xFF; low = 0xFF }
 
-abbrev pub fresh : ControlGear
-fresh = record { powered = true; state = Disabled; random = MASK24; search = search_mask; short = None; half = None }
+abbrev pub fresh : Gear
+fresh = record {
+  powered = true;
+  state = Disabled;
+  random = MASK24;
+  search = search_mask;
+  short = None;
+  half = None;
+}
 
-abbrev pub without_power : ControlGear → ControlGear
+abbrev pub without_power : Gear → Gear
 without_power g = record g { powered = false }
 
 -- at power-on the random and the short address are those from before
-abbrev pub with_power : ControlGear → ControlGear
-with_power g = if g.powered then g else record g { powered = true; state = Disabled; search = search_mask; half = None }
+abbrev pub with_power : Gear → Gear
+with_power g =
+    if g.powered
+      then g
+      else record g { powered = true; state = Disabled; search = search_mask; half = None }
 
 -- the 15 minutes of the initialisation are over
-abbrev pub expired : ControlGear → ControlGear
-expired g = record g { state = Disabled }
+abbrev pub gear_expired : Gear → Gear
+gear_expired g = record g { state = Disabled }
 
 -- the bus was quiet for so long that no pair is left half
-abbrev pub quieted : ControlGear → ControlGear
-quieted g = record g { half = None }
+abbrev pub gear_quieted : Gear → Gear
+gear_quieted g = record g { half = None }
