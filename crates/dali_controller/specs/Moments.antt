@@ -88,7 +88,7 @@ abbrev pub Sends : Kept → SearchAddress → Purpose → Stage → Command → 
 Sends k n p Free c = c ≡ first_of p n
 Sends k n p (Unnamed r) c =
     (p ≡ Visiting) × (r ≡ n)
-        × ((a : ℕ) × (a < 64) × MayGive k.block k.reserved r a × (c ≡ Program (Some a)))
+    × ((a : ℕ) × (a < 64) × MayGive k.block k.reserved r a × (c ≡ Program (Some a)))
 Sends k n p s c =
     (turn_of p n s ≡ Some c) × IsSearched s n
     × IfSome (given s c) (λ g. MayGive k.block k.reserved g.0 g.1)
@@ -207,7 +207,7 @@ pub record Begins (w : Work) (p : Purpose) (n : SearchAddress) : Type 0 where
   pub turns : Turns w p
   pub unnamed : (r : SearchAddress) → stage_of w.trace ≡ Unnamed r
       → (HasRandom w.kept.reserved (value_of r) → ⊥) × IsFull w.kept.block w.kept.reserved
-          × (p ≡ Closing BlockFull)
+      × (p ≡ Closing BlockFull)
   pub found : (r : SearchAddress) (b : ℕ) → stage_of w.trace ≡ Withdrawn r b
       → Has w.kept.enrolled (b, value_of r)
 
@@ -222,7 +222,7 @@ pub record Closes (w : Work) (e : End) : Type 0 where
   pub cause : Cause (machine_of w) e
   pub unnamed : (r : SearchAddress) → stage_of w.trace ≡ Unnamed r
       → (HasRandom w.kept.reserved (value_of r) → ⊥) × IsFull w.kept.block w.kept.reserved
-          × (e ≡ BlockFull)
+      × (e ≡ BlockFull)
   pub found : (r : SearchAddress) (b : ℕ) → stage_of w.trace ≡ Withdrawn r b → ⊥
 
 -- an order that a machine of which this is seen may give, and what is seen after it

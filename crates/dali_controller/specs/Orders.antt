@@ -43,8 +43,8 @@ end_at _ = GaveUp
 abbrev pub closing_by : Machine → Order → Option End
 closing_by t (Put p f) =
     if (p == FIRST) && (is_terminate f && t.opened)
-      then Some (unwrap_or t.closing (end_at (stage_of t.trace)))
-      else t.closing
+    then Some (unwrap_or t.closing (end_at (stage_of t.trace)))
+    else t.closing
 closing_by t _ = t.closing
 
 -- only a later frame goes on with the transaction
@@ -70,7 +70,7 @@ machine_ordered t o = record {
 abbrev pub MayPut : Machine → ℕ → Forward → Type 0
 MayPut t p f =
     ((p ≡ FIRST) × Lawful t.kept.block t.kept.reserved [] f)
-        ⊎ ((p ≡ LATER) × (t.trace ≡ [] → ⊥) × Lawful t.kept.block t.kept.reserved t.trace f)
+    ⊎ ((p ≡ LATER) × (t.trace ≡ [] → ⊥) × Lawful t.kept.block t.kept.reserved t.trace f)
 
 -- An address is reserved for gear that has answered MASK under its number. Enrolled is the last
 -- finding, and it is the one of the running transaction.
@@ -137,9 +137,9 @@ IsCaused t (Halt fault.Store) = ⊥
 abbrev pub AfterMask : Machine → SearchAddress → Order → Type 0
 AfterMask t r (Put p f) =
     ((a : ℕ) × Has t.kept.reserved (a, value_of r) × (p ≡ LATER)
-        × (f ≡ frame_of (Program (Some a)))) ⊎
+    × (f ≡ frame_of (Program (Some a)))) ⊎
     ((HasRandom t.kept.reserved (value_of r) → ⊥) × IsFull t.kept.block t.kept.reserved
-        × (closing_by t (Put p f) ≡ Some BlockFull))
+    × (closing_by t (Put p f) ≡ Some BlockFull))
 AfterMask t r (Commit (Reserve a n)) =
     (value_of r ≡ n) × (HasRandom t.kept.reserved n → ⊥)
     × IsLeastFree t.kept.block t.kept.reserved a

@@ -47,7 +47,7 @@ pub record IsUp (w : World) (c : ℕ) : Type 0 where
 abbrev pub MaySend : World → ℕ → Forward → Type 0
 MaySend w c f =
     ((w.bus.owner ≡ Some c)
-        × Lawful (controller_at w c).records.block (controller_at w c).records.reserved w.trace f)
+    × Lawful (controller_at w c).records.block (controller_at w c).records.reserved w.trace f)
     ⊎ ((w.bus.owner ≡ None) × IsFirst f)
 
 -- the numbers that the gear which the frame reaches will draw are there

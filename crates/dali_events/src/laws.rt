@@ -129,6 +129,6 @@ pub fn all_found_is_true()
         → SearchesAll p capacity front c first opening last middle compare
         → NobodyAnswers (after p capacity (up_to_compare front c first opening last middle))
         → EachPowered
-            (after p capacity (up_to_compare front c first opening last (middle ++ sent_event c compare ∷ [])))
-            HasShort }
+        (after p capacity (up_to_compare front c first opening last (middle ++ sent_event c compare ∷ [])))
+        HasShort }
 {}

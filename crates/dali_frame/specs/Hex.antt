@@ -40,9 +40,9 @@ forward_text f = byte_text f.address_byte ++ byte_text f.opcode_byte
 abbrev pub random_of : List ℕ → Option ℕ
 random_of (a ∷ b ∷ c ∷ d ∷ e ∷ f ∷ []) =
     option_and_then
-        (λ high. option_and_then
-        (λ middle. option_map (λ low. number_of high middle low) (byte_of e f)) (byte_of c d))
-        (byte_of a b)
+    (λ high. option_and_then
+    (λ middle. option_map (λ low. number_of high middle low) (byte_of e f)) (byte_of c d))
+    (byte_of a b)
 random_of _ = None
 
 -- a number of 24 bits as six upper-case digits

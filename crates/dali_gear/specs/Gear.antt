@@ -152,8 +152,8 @@ without_power g = record g { powered = false }
 abbrev pub with_power : Gear → Gear
 with_power g =
     if g.powered
-      then g
-      else record g { powered = true; state = Disabled; search = search_mask; half = None }
+    then g
+    else record g { powered = true; state = Disabled; search = search_mask; half = None }
 
 -- the 15 minutes of the initialisation are over
 abbrev pub gear_expired : Gear → Gear

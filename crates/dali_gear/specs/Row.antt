@@ -36,7 +36,7 @@ abbrev pub row_after : Reach → Command → ℕ → List Gear → List ℕ → 
 row_after reach c k [] left = []
 row_after reach c k (g ∷ gs) left =
     one_after (takes reach k g) c left g
-        ∷ row_after reach c (k + 1) gs (left_after (takes reach k g && would_draw c g) left)
+    ∷ row_after reach c (k + 1) gs (left_after (takes reach k g && would_draw c g) left)
 
 -- how many numbers they draw
 abbrev pub draws_needed : Reach → Command → ℕ → List Gear → ℕ
@@ -81,9 +81,8 @@ drawn_one true k (draw ∷ left) more = (k, draw) ∷ more
 abbrev pub drawn_of : Reach → Command → ℕ → List Gear → List ℕ → List (ℕ × ℕ)
 drawn_of reach c k [] left = []
 drawn_of reach c k (g ∷ gs) left =
-    drawn_one (takes reach k g
-        && would_draw c g) k left (drawn_of reach c (k
-        + 1) gs (left_after (takes reach k g && would_draw c g) left))
+    drawn_one (takes reach k g && would_draw c g) k left
+    (drawn_of reach c (k + 1) gs (left_after (takes reach k g && would_draw c g) left))
 
 -- the numbers that are left then
 abbrev pub row_left : Reach → Command → ℕ → List Gear → List ℕ → List ℕ

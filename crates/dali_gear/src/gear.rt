@@ -55,13 +55,25 @@ impl Model for Gear {
 
     ghost Value = { Gear };
 
-    ghost view = { λ g. record { powered = g.powered; state = g.state; random = g.random; search = g.search;
-        short = g.short; half = g.half } };
+    ghost view = { λ g. record {
+      powered = g.powered;
+      state = g.state;
+      random = g.random;
+      search = g.search;
+      short = g.short;
+      half = g.half;
+    } };
 
     ghost invariant = { λ g. Unit {0} };
 
-    ghost inverse = { λ g. record { powered = g.powered; state = g.state; random = g.random; search = g.search;
-        short = g.short; half = g.half } };
+    ghost inverse = { λ g. record {
+      powered = g.powered;
+      state = g.state;
+      random = g.random;
+      search = g.search;
+      short = g.short;
+      half = g.half;
+    } };
 }
 
 impl Gear {

@@ -29,15 +29,15 @@ is_enough w c = nat_le (needed w c) (length w.left)
 abbrev pub after_command : World → Command → World
 after_command w c =
     if is_enough w c
-      then record { gear = row_after Everyone c 0 w.gear w.left; left = drop (needed w c) w.left }
-      else w
+    then record { gear = row_after Everyone c 0 w.gear w.left; left = drop (needed w c) w.left }
+    else w
 
 -- something befalls gear g, where there is one
 abbrev pub with_gear : World → ℕ → (Gear → Gear) → World
 with_gear w g change =
     if nat_lt g (length w.gear)
-      then record w { gear = slice_set w.gear g (change (slice_index_or w.gear g fresh)) }
-      else w
+    then record w { gear = slice_set w.gear g (change (slice_index_or w.gear g fresh)) }
+    else w
 
 abbrev pub after : World → BenchLine → World
 after w (Frame frame) = after_command w (command_of frame)

@@ -11,14 +11,14 @@ use Rattle.dali_replay.specs.Numbers.{number_of}
 abbrev pub alone_of : List ℕ → Option BenchLine
 alone_of name =
     if bytes_eq name (codes "show")
-      then Some Show
-      else if bytes_eq name (codes "quiet") then Some Quiet else None
+    then Some Show
+    else if bytes_eq name (codes "quiet") then Some Quiet else None
 
 -- the lines of a name and one more word
 abbrev pub one_word_of : List ℕ → List ℕ → Option BenchLine
 one_word_of name word =
     if bytes_eq name (codes "frame")
-        then option_map (λ frame. Frame frame) (result_ok (forward_of word))
+    then option_map (λ frame. Frame frame) (result_ok (forward_of word))
     else if bytes_eq name (codes "off") then option_map (λ g. Off g) (number_of word)
     else if bytes_eq name (codes "on") then option_map (λ g. On g) (number_of word)
     else if bytes_eq name (codes "expire") then option_map (λ g. Expire g) (number_of word)

@@ -16,8 +16,8 @@ known_text w g = if nat_lt g (length w.gear) then ok_text else refused_text Unkn
 abbrev pub report : World → BenchLine → List ℕ
 report w (Frame frame) =
     if is_enough w (command_of frame)
-      then heard_text frame (heard_of (answers_of Everyone (command_of frame) 0 w.gear))
-      else refused_text DrawsSpent
+    then heard_text frame (heard_of (answers_of Everyone (command_of frame) 0 w.gear))
+    else refused_text DrawsSpent
 report w (Off g) = known_text w g
 report w (On g) = known_text w g
 report w (Expire g) = known_text w g

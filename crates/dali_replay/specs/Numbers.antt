@@ -16,8 +16,8 @@ starts_plain (first ∷ second ∷ more) = not (first == 43) && not (first == 48
 abbrev pub number_of : List ℕ → Option ℕ
 number_of word =
     if (starts_plain word && all_ascii_digits word) && nat_le (digits_value 10 word) 1000000
-      then Some (digits_value 10 word)
-      else None
+    then Some (digits_value 10 word)
+    else None
 
 -- one that is not larger than another limit
 abbrev pub within : ℕ → ℕ → Option ℕ

@@ -109,7 +109,7 @@ Chain n [] text m = (text ≡ []) × (m ≡ n)
 Chain n (line ∷ lines) text m =
     (asked : SiteLine) × (first : List ℕ) × (between : Installation) × (rest : List ℕ)
     × (site_line_of (words_of line.1) ≡ Some asked) × Says n asked first between
-        × Chain between lines rest m × (text ≡ first ++ rest)
+    × Chain between lines rest m × (text ≡ first ++ rest)
 
 -- of the lines, those before `more` were played, and their text was written
 pub record HavePlayed (n : Installation) (lines more : NumberedLines) (m : Installation)

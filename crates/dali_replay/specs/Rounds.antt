@@ -44,7 +44,7 @@ Turns n zero acted text m = (acted ≡ false) × (text ≡ []) × (m ≡ n)
 Turns n (suc c) acted text m =
     (before : Bool) × (front : List ℕ) × (between : Installation) × Turns n c before front between
     × (went : Bool) × (last : List ℕ) × IsTurn between c (Some went) last m
-        × (acted ≡ (before || went)) × (text ≡ front ++ last)
+    × (acted ≡ (before || went)) × (text ≡ front ++ last)
 
 -- all of them had; or the turn of one was refused, after those before it
 abbrev pub controllers : Installation → ℕ
@@ -109,7 +109,7 @@ Rounds n zero frames text m = (frames ≡ 0) × (text ≡ []) × (m ≡ n)
 Rounds n (suc k) frames text m =
     (before : ℕ) × (front : List ℕ) × (between : Installation) × Rounds n k before front between
     × (sent : Bool) × (last : List ℕ) × IsRoundOf between (round.Played sent) last m
-        × (frames ≡ before + (if sent then 1 else 0)) × (text ≡ front ++ last)
+    × (frames ≡ before + (if sent then 1 else 0)) × (text ≡ front ++ last)
 
 -- How up to `limit` rounds end after k of them: k is the limit; or the next round is the last, or
 -- refused.

@@ -61,8 +61,8 @@ arc_of (Some c) None = None
 abbrev pub destroyed_of : List ℕ → List ℕ → Option SiteLine
 destroyed_of word set =
     if bytes_eq word (codes "destroyed")
-      then option_map (λ set. Pump (trouble.Destroyed (record { 0 = set }))) (set_of set)
-      else None
+    then option_map (λ set. Pump (trouble.Destroyed (record { 0 = set }))) (set_of set)
+    else None
 
 -- the lines of a name and two more words
 abbrev pub two_words_of : List ℕ → List ℕ → List ℕ → Option SiteLine

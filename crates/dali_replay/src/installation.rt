@@ -15,9 +15,9 @@ ghost use Rattle.dali_replay.specs.Calls.{Befalls, Requests, Lapses, IsLogFull, 
 ghost use Rattle.dali_standing.specs.declared.refusal.Refusal.TheVariants as refusal;
 ghost use Rattle.dali_replay.specs.Rounds.{has_turn};
 
-use dali_orders::{Due, Input, Order};
 use dali_frame::{Forward, Random24, Short};
 use dali_gear::Gear;
+use dali_orders::{Due, Input, Order};
 use dali_reserve::{Keep, MemoryKeep};
 use dali_script::{Block, Kept, Record};
 use dali_world::{Plan, Refusal, Report, SiteState, Trouble};

@@ -13,8 +13,8 @@ use crate::text::{
     push_gear, push_lapse, push_offered, push_ok, push_ordered, push_refused, push_report,
     push_table,
 };
-use dali_orders::Order;
 use dali_frame::Forward;
+use dali_orders::Order;
 use dali_world::{Refusal, Report};
 use std::alloc::{AllocError, Global};
 

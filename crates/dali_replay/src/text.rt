@@ -9,9 +9,9 @@ ghost use Rattle.dali_replay.specs.Text.{kept_text, offered_text, destroyed_text
 ghost use Rattle.dali_replay.specs.Text.{collided_text, owner_text, lapse_text, ran_text, entry_text, entries_text};
 ghost use Rattle.dali_replay.specs.Text.{table_text};
 
-use dali_orders::{End, Fault, Order};
 use dali_frame::{Answer, Forward, Priority, Random24, Short};
 use dali_gear::{Gear, InitialisationState};
+use dali_orders::{End, Fault, Order};
 use dali_script::Record;
 use dali_world::{Refusal, Report};
 use std::alloc::AllocError;

@@ -19,8 +19,8 @@ MASK = 0xFF
 abbrev pub target_of : ℕ → Option Target
 target_of byte =
     if byte == 0
-      then Some All
-      else if byte == MASK then Some Unaddressed else option_map (λ a. Addressed a) (short_of byte)
+    then Some All
+    else if byte == MASK then Some Unaddressed else option_map (λ a. Addressed a) (short_of byte)
 
 abbrev pub target_data : Target → ℕ
 target_data All = 0
@@ -69,8 +69,8 @@ row_of address byte (row ∷ more) = if address == row.0 then row.1 byte else ro
 unfoldable pub command_of : Forward → Command
 command_of f =
     if f.address_byte % 2 == 0
-      then Arc f
-      else unwrap_or (row_of f.address_byte f.opcode_byte rows) (Other f)
+    then Arc f
+    else unwrap_or (row_of f.address_byte f.opcode_byte rows) (Other f)
 
 -- the frame of two bytes
 abbrev pub frame : ℕ → ℕ → Forward

@@ -76,8 +76,8 @@ committed_last (Some (Commit x)) c = (x, refl)
 committed_last (Some (Done e)) c = elim c [ ]
 committed_last (Some (Halt w)) c = elim c [ ]
 
-pub told_accepted : (last : Option Order) (told : Option Input) (i : Input) → machine_told ≡ Some i → IsTold last machine_told → accepts (due_after last) i ≡ true
-told_accepted last machine_told i e is = subst (λ t. IsTold last t) e is
+pub told_accepted : (last : Option Order) (told : Option Input) (i : Input) → told ≡ Some i → IsTold last told → accepts (due_after last) i ≡ true
+told_accepted last told i e is = subst (λ t. IsTold last t) e is
 
 -- ---------------------------------------------------------------- who owns the bus
 

@@ -99,7 +99,7 @@ abbrev pub IsSeat : Option Machine → Option Kept → Option Record → Option 
     → Type 0
 IsSeat machine beside outstanding finding unread =
     IsTied (seat_by machine beside outstanding finding unread).controller machine
-        × AreOnce machine beside
+    × AreOnce machine beside
 
 -- ---------------------------------------------------------------- what happens to a place
 

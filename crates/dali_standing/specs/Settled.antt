@@ -86,7 +86,7 @@ abbrev pub IsServed : List (List Request) → Option ℕ → (ℕ → Seat) → 
 IsServed [] owner place = ⊥
 IsServed (first ∷ rest) owner place = (first ≡ owners_request owner place)
     × ((c : ℕ) → picked_requests (is_scripted c) rest
-        ≡ (if owns owner c then [] else awaited_requests c (place c).controller))
+    ≡ (if owns owner c then [] else awaited_requests c (place c).controller))
 
 -- the senders of all requests are up
 abbrev pub AreUp : List (List Request) → (ℕ → Seat) → Type 0
@@ -105,7 +105,7 @@ pub record IsSettled (bus : Arbiter) (trace : List Entry) (place : ℕ → Seat)
 abbrev pub IsHearing : Seat → Forward → Answer → List Entry → Type 0
 IsHearing p f h running = is_arc (command_of f) ≡ false
     → (frame_put p.controller.last ≡ Some f) × (p.controller.told ≡ None)
-        × (running ≡ trace_of p.machine ++ entry f h ∷ [])
+    × (running ≡ trace_of p.machine ++ entry f h ∷ [])
 
 -- what is ordered on the bus is not refused
 abbrev pub IsAccepted : Arbiter → ℕ → Order → Type 0
@@ -119,4 +119,4 @@ Settled s = IsSettled s.bus s.trace (seat_in s.seats)
 abbrev pub IsPlacedOn : Standing → ℕ → Type 0
 IsPlacedOn s c = (m : Machine) → machine_in s.machines c ≡ Some m
     → IsRunning (controller_on s c) m
-        × IsPlacedBy (owns s.bus.owner c) s.trace (controller_on s c) (Some m)
+    × IsPlacedBy (owns s.bus.owner c) s.trace (controller_on s c) (Some m)

@@ -3,8 +3,8 @@
 //! Orders and records are compared by their numbers, and frames are told by theirs, so that a test has few calls
 //! that may fail.
 
-use dali_orders::{End, Fault, Order};
 use dali_frame::{Forward, Random24, Short};
+use dali_orders::{End, Fault, Order};
 use dali_script::{Block, Kept, Record};
 use std::alloc::Global;
 use std::fmt::Debug;

@@ -224,9 +224,9 @@ Becomes s r t (report.Sent c f h) new = IsSendable t × (c ≡ r.sender) × (f �
     × Logs s (event.Sent c f h) new
 Becomes s r t (report.Destroyed c f) new = (c ≡ r.sender) × (f ≡ r.frame)
     × ((set : GearSet)
-        × ((t ≡ trouble.Destroyed set)
-        ⊎ ((t ≡ trouble.Collision) × (set ≡ nobody_at_all)
-        × (collision (world s).bus.lists ≡ None)))
+    × ((t ≡ trouble.Destroyed set)
+    ⊎ ((t ≡ trouble.Collision) × (set ≡ nobody_at_all)
+    × (collision (world s).bus.lists ≡ None)))
     × Logs s (event.Destroyed c f set) new)
 Becomes s r t (report.Collided c f d g) new =
     (t ≡ trouble.Collision) × (c ≡ r.sender) × (f ≡ r.frame)

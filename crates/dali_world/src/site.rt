@@ -18,11 +18,11 @@ ghost use Rattle.dali_standing.specs.declared.refusal.Refusal.TheVariants as ref
 
 use crate::receipt::Receipt;
 use dali_arbiter::Request;
-use dali_orders::{Due, Input};
 use dali_enrol::Table;
 use dali_events::{Event, Plan};
 use dali_frame::{Forward, Short};
 use dali_gear::{Gear, GearSet};
+use dali_orders::{Due, Input};
 use dali_script::Kept;
 use dali_standing::{Refusal, Report, Standing, Trouble, is_arc_power};
 use std::alloc::Global;

@@ -49,5 +49,5 @@ returns-clause-fits c =
     let four : c.args.c < 4 = let there = up.1 in let few = up.2 in omega arith in
     fits_acted _ _ _ _ _ (rw (← c.self.view_is) (records_now _ _ _ c.self.invariant.run))
     (act_site _ _ _ _ _ c.count-number.new.shares _ c.count-number.result c.args.c c.args.input c.act-order.result c.new.result _ c.self.view_is c.self.invariant
-        (c.if-is_crowded.ensures.room refl) (c.if-is_full.ensures.room refl) c.act-order.ensures.moves c.act-order.ensures.answer c.append.ensures.items four
-        c.count-number.ensures.number c.new.ensures)
+    (c.if-is_crowded.ensures.room refl) (c.if-is_full.ensures.room refl) c.act-order.ensures.moves c.act-order.ensures.answer c.append.ensures.items four
+    c.count-number.ensures.number c.new.ensures)
