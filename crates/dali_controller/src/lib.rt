@@ -1,4 +1,5 @@
-//! The application controller's machine: it gives short addresses to the gear on a bus, one input and one order at a time.
+//! The application controller's machine: it gives short addresses to the gear on a bus, one input and one order at a
+//! time.
 //!
 //! A [`Machine`] knows nothing of a bus or a store. Only `Machine::new` takes memory.
 #![tactic(auto)]

@@ -18,12 +18,14 @@ use std::marker::Model;
 
 /// The machine of one application controller, which gives the short addresses of its block to the gear on a bus.
 ///
-/// It is told what happened and orders what is to be done next, one order at a time: a frame to be sent, or a record to be
-/// kept. It finds the gear without short address one by one, by their random addresses; it reserves an address for a gear
-/// and has that kept before it programs it, asks for the address back, and enrols what was heard. What a machine did before
-/// it was lost, a new one learns from the records that were kept: it first visits each reservation whose gear is not enrolled.
+/// It is told what happened and orders what is to be done next, one order at a time: a frame to be sent, or a record to
+/// be kept. It finds the gear without short address one by one, by their random addresses; it reserves an address for a
+/// gear and has that kept before it programs it, asks for the address back, and enrols what was heard. What a machine did
+/// before it was lost, a new one learns from the records that were kept: it first visits each reservation whose gear is
+/// not enrolled.
 ///
-/// Contracts see the records, the running transaction, the last finding, the last order, and the counts by which it gives up.
+/// Contracts see the records, the running transaction, the last finding, the last order, and the counts by which it gives
+/// up.
 #[derive(Drop)]
 pub struct Machine {
     work: Work,

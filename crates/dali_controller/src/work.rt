@@ -63,7 +63,8 @@ impl Work {
     /// The tries of the running transaction: none where it is complete.
     fn tries_after(&self) -> u8
         ensures { result
-            ≡ tries_after (is_complete self.now.kept (closing_of self.now.purpose) (stage_of self.now.trace)) self.now.tries }
+            ≡ tries_after (is_complete self.now.kept (closing_of self.now.purpose) (stage_of self.now.trace))
+            self.now.tries }
     {
         if self.is_complete() { 0 } else { self.tries }
     }

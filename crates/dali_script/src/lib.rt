@@ -1,4 +1,5 @@
-//! Which transactions a controller may send while it commissions short addresses, and the records that it keeps meanwhile.
+//! Which transactions a controller may send while it commissions short addresses, and the records that it keeps
+//! meanwhile.
 //!
 //! A transaction is a front of one of six scripts ([`Trace`]); what a controller has reserved and enrolled is [`Kept`].
 //! Both lists of it are [`Assignments`]. Only `new` and `copy` of these two take memory.

@@ -457,6 +457,15 @@ fn sixteen_silent_searches_give_up(rt: HostRuntime) -> Result<(), Fail> {
 }
 
 #[test]
+fn a_machine_gives_its_records_away(rt: HostRuntime) -> Result<(), Fail> {
+    let machine = machine_of(rt.alloc(), (0, 3), &[Enrol(2, 0x123456)])?;
+    are_pairs(&rt, machine.kept().enrolled(), &[(2, 0x123456)]);
+    let kept = machine.into_kept();
+    are_pairs(&rt, kept.enrolled(), &[(2, 0x123456)]);
+    Ok(())
+}
+
+#[test]
 fn refusals_have_numbers(rt: HostRuntime) -> Result<(), Fail> {
     let machine = machine_of(rt.alloc(), (0, 3), &[Enrol(2, 0x123456)])?;
     same(&rt, &machine.id(), &0);

@@ -1,8 +1,8 @@
 //! The records that a controller keeps.
 
 use super::values::Pair::{Enrol, Reserve};
-use super::values::{Pair, are_pairs, block, random, same, short};
-use dali_script::{AddError, Kept, MakeError};
+use super::values::{Pair, are_pairs, block, kept_of, random, same, short};
+use dali_script::{AddError, Kept, MakeError, Record};
 use std::process::Abort;
 use std::test::Fail;
 
@@ -62,6 +62,27 @@ fn records_fit_their_block(rt: HostRuntime) -> Result<(), Fail> {
     ] {
         same(&rt, &kept.fits(&added.record()?), &wanted);
     }
+    Ok(())
+}
+
+/// Records are fewer ones with this one more, and not with another one.
+fn has_more<R: Abort>(rt: &R, kept: &Kept, fewer: &Kept, last: &Record, other: &Record) {
+    let told = [
+        kept.is_with(fewer, last),
+        kept.is_with(fewer, other),
+        kept.is_with(kept, last),
+    ];
+    same(rt, &told, &[true, false, false]);
+}
+
+#[test]
+fn one_record_more_is_told(rt: HostRuntime) -> Result<(), Fail> {
+    let last = Enrol(5, 0x0ABCDE).record()?;
+    let other = Reserve(5, 0x0ABCDE).record()?;
+    let fewer = kept_of(rt.alloc(), (4, 7), &[Reserve(4, 0x0ABCDE)])?;
+    let more = [Reserve(4, 0x0ABCDE), Enrol(5, 0x0ABCDE)];
+    let kept = kept_of(rt.alloc(), (4, 7), &more)?;
+    has_more(&rt, &kept, &fewer, &last, &other);
     Ok(())
 }
 
