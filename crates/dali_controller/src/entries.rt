@@ -18,18 +18,18 @@ pub(crate) fn table_of(alloc: Global, block: Block, kept: &Kept) -> Result<Table
         return Err(MachineError::NoMemory);
     };
     for entry in kept.enrolled() {
-        // In the records each address stands once, and each number.
+        // In the records each short address stands once, and each random one.
         enter(&mut table, entry.0, entry.1);
     }
     Ok(table)
 }
 
-/// Enters gear into a table that has neither its address nor its number.
-pub(crate) fn enter(table: &mut Table, short: Short, number: Random24)
+/// Enters gear into a table that has neither its short address nor its random one.
+pub(crate) fn enter(table: &mut Table, short: Short, random: Random24)
     requires address { HasAddress table.old.entries short → ⊥ }
-    requires number { HasRandom table.old.entries number → ⊥ }
-    ensures { table.new ≡ with_entry table.old short number }
+    requires random { HasRandom table.old.entries random → ⊥ }
+    ensures { table.new ≡ with_entry table.old short random }
 {
     // So it is not refused.
-    let _ = table.enrol(short, number);
+    let _ = table.enrol(short, random);
 }

@@ -13,20 +13,20 @@ pub(crate) fn next_unfinished(kept: &Kept, table: &Table, from: u8) -> Option<(u
     ensures drawn { IfSome result (λ next. next.1 < MASK24) }
 {
     for address in from..64 {
-        if let Some(number) = unfinished_at(kept, table, Short::of(address)?) {
-            return Some((address + 1, number));
+        if let Some(random) = unfinished_at(kept, table, Short::of(address)?) {
+            return Some((address + 1, random));
         }
     }
     None
 }
 
 fn unfinished_at(kept: &Kept, table: &Table, address: Short) -> Option<Random24>
-    ensures reserved { IfSome result (λ number. HasRandom kept.now.reserved number) }
-    ensures drawn { IfSome result (λ number. number < MASK24) }
+    ensures reserved { IfSome result (λ random. HasRandom kept.now.reserved random) }
+    ensures drawn { IfSome result (λ random. random < MASK24) }
 {
-    let number = kept.number_reserved(address)?;
-    match table.by_random(number) {
+    let random = kept.random_reserved(address)?;
+    match table.by_random(random) {
         Some(_) => None,
-        None => Some(number),
+        None => Some(random),
     }
 }

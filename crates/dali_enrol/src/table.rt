@@ -10,8 +10,8 @@ use std::marker::Model;
 
 /// The gear that a controller has enrolled, and the block of short addresses that it gives.
 ///
-/// Contracts see the block, and the entries as a list of pairs, oldest first. An address stands once, and a number
-/// once.
+/// Contracts see the block, and the entries as a list of pairs, oldest first. An address stands once, and a
+/// random address once.
 #[derive(Drop)]
 pub struct Table {
     block: Block,
@@ -58,16 +58,16 @@ impl Table {
     /// Adds an entry as the last one. It takes no memory.
     ///
     /// `AddressTaken` comes before `RandomTaken`.
-    pub fn enrol(&mut self, address: Short, number: Random24) -> Result<(), TableError>
+    pub fn enrol(&mut self, address: Short, random: Random24) -> Result<(), TableError>
         ensures success { IsOk result
-            ↔ ((HasAddress self.old.entries address → ⊥) × (HasRandom self.old.entries number → ⊥)) }
+            ↔ ((HasAddress self.old.entries address → ⊥) × (HasRandom self.old.entries random → ⊥)) }
         ensures address_taken { (result ≡ Err AddressTaken) ↔ HasAddress self.old.entries address }
         ensures random_taken { (result ≡ Err RandomTaken)
-            ↔ ((HasAddress self.old.entries address → ⊥) × HasRandom self.old.entries number) }
-        ensures ok { OnOk result (self.new ≡ with_entry self.old address number) }
+            ↔ ((HasAddress self.old.entries address → ⊥) × HasRandom self.old.entries random) }
+        ensures ok { OnOk result (self.new ≡ with_entry self.old address random) }
         ensures err { OnErr result (self.new ≡ self.old) }
     {
-        match self.entries.insert(address, number) {
+        match self.entries.insert(address, random) {
             Ok(()) => Ok(()),
             Err(AddError::AddressTaken) => Err(TableError::AddressTaken),
             Err(AddError::RandomTaken) => Err(TableError::RandomTaken),
@@ -78,18 +78,18 @@ impl Table {
     pub fn by_address(&self, address: Short) -> Option<Random24>
         ensures { MatchOption result
             (HasAddress self.now.entries address → ⊥)
-            (λ number. Has self.now.entries (address, number)) }
+            (λ random. Has self.now.entries (address, random)) }
     {
-        self.entries.number_at(address)
+        self.entries.random_at(address)
     }
 
     /// The short address with which the gear of a random address was enrolled.
-    pub fn by_random(&self, number: Random24) -> Option<Short>
+    pub fn by_random(&self, random: Random24) -> Option<Short>
         ensures { MatchOption result
-            (HasRandom self.now.entries number → ⊥)
-            (λ address. Has self.now.entries (address, number)) }
+            (HasRandom self.now.entries random → ⊥)
+            (λ address. Has self.now.entries (address, random)) }
     {
-        self.entries.address_for(number)
+        self.entries.address_for(random)
     }
 
     /// Whether a short address lies in the block.

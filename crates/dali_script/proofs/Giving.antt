@@ -119,7 +119,7 @@ give_some b xs n c a m drawn within h = go (c == a) refl where
       let here : Has xs (a, n) = subst (λ d. Has xs (d, n)) same h in
       sym (both _ _ (both _ _ (below_by n MASK24 (drawn n (has_map (λ q. q.1) xs (a, n) here))) (in_block_by b a (within a (has_map (λ q. q.0) xs (a, n) here)))) (test_of_pair xs a n here))
   go false is = sym (not_second _ _ (false_of_not _ (λ e.
-      let same : c ≡ a = one_address xs c a n m.number_once h (pair_of_test xs a n e) in
+      let same : c ≡ a = one_address xs c a n m.random_once h (pair_of_test xs a n e) in
       grind (arith, nat_tests))))
 
 pub give_none : (b : Block) (xs : List Assignment) (n a : ℕ) → (HasRandom xs n → ⊥) → false ≡ may_give b xs n a

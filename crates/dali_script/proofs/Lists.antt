@@ -117,14 +117,14 @@ all_after key P old new p (Ok u) all one ok err = subst (λ xs. (n : ℕ) → Ha
 
 -- a map with one more pair
 pub map_more : (xs : List Assignment) (a r : ℕ) → IsMap xs → (HasAddress xs a → ⊥) → (HasRandom xs r → ⊥) → a < 64 → IsMap (xs ++ (a, r) ∷ [])
-map_more xs a r m no_address no_number small =
+map_more xs a r m no_address no_random small =
     let there : addresses (xs ++ (a, r) ∷ []) ≡ addresses xs ++ a ∷ [] = map_append (λ p. p.0) xs (a, r) in
     let of : randoms (xs ++ (a, r) ∷ []) ≡ randoms xs ++ r ∷ [] = map_append (λ p. p.1) xs (a, r) in
     let once : IsOnce (addresses (xs ++ (a, r) ∷ [])) = subst IsOnce (sym there) (once_more (addresses xs) a m.address_once no_address) in
     let short : (b : ℕ) → HasAddress (xs ++ (a, r) ∷ []) b → b < 64 = all_more (λ p. p.0) (λ n. n < 64) xs (a, r) m.short small in
     record {
       address_once = once;
-      number_once = subst IsOnce (sym of) (once_more (randoms xs) r m.number_once no_number);
+      random_once = subst IsOnce (sym of) (once_more (randoms xs) r m.random_once no_random);
       short = short;
       room =
           let few_addresses : length (addresses (xs ++ (a, r) ∷ [])) ≤ 64 = few 64 (addresses (xs ++ (a, r) ∷ [])) once short in
@@ -133,9 +133,9 @@ map_more xs a r m no_address no_number small =
 
 -- so there is room for it
 pub room_more : (xs : List Assignment) (a r : ℕ) → IsMap xs → (HasAddress xs a → ⊥) → (HasRandom xs r → ⊥) → a < 64 → length xs < 64
-room_more xs a r m no_address no_number small =
+room_more xs a r m no_address no_random small =
     let more : length (xs ++ (a, r) ∷ []) ≡ length xs + 1 = simp (length-append) in
-    let room : length (xs ++ (a, r) ∷ []) ≤ 64 = (map_more xs a r m no_address no_number small).room in
+    let room : length (xs ++ (a, r) ∷ []) ≤ 64 = (map_more xs a r m no_address no_random small).room in
     omega arith
 
 -- a pair that a search comes to
@@ -150,9 +150,9 @@ pub address_found : (xs : List Assignment) (a : ℕ) (o : Option ℕ) → MatchO
 address_found xs a None none = (λ e. absurd (cc), λ h. absurd (none h))
 address_found xs a (Some r) here = (λ e. has_map (λ p. p.0) xs (a, r) here, λ h. refl)
 
-pub number_found : (xs : List Assignment) (r : ℕ) (o : Option ℕ) → MatchOption o (HasRandom xs r → ⊥) (λ a. Has xs (a, r)) → (is_some o ≡ true) ↔ HasRandom xs r
-number_found xs r None none = (λ e. absurd (cc), λ h. absurd (none h))
-number_found xs r (Some a) here = (λ e. has_map (λ p. p.1) xs (a, r) here, λ h. refl)
+pub random_found : (xs : List Assignment) (r : ℕ) (o : Option ℕ) → MatchOption o (HasRandom xs r → ⊥) (λ a. Has xs (a, r)) → (is_some o ≡ true) ↔ HasRandom xs r
+random_found xs r None none = (λ e. absurd (cc), λ h. absurd (none h))
+random_found xs r (Some a) here = (λ e. has_map (λ p. p.1) xs (a, r) here, λ h. refl)
 
 -- two pairs are equal where their parts are
 pub pairs_decide : (p q : Assignment) → Decides (nat_eq p.0 q.0 && nat_eq p.1 q.1) (p ≡ q)
@@ -173,7 +173,7 @@ reserved_more b xs n below here c low high = go (nat_eq c n) refl where
 
 -- RECORDS STAY KEPT
 pub map_none : IsMap []
-map_none = record { address_once = tt; number_once = tt; short = λ a h. absurd h; room = omega arith }
+map_none = record { address_once = tt; random_once = tt; short = λ a h. absurd h; room = omega arith }
 
 pub kept_none : (b : Block) → IsKept (without_records b)
 kept_none b = record { reserved = map_none; enrolled = map_none; reserved_drawn = λ r h. absurd h; enrolled_drawn = λ r h. absurd h; within = λ c h. absurd h }

@@ -48,7 +48,7 @@ InBlock b a = (b.first ≤ a) × (a ≤ b.last)
 -- once; there are 64 addresses.
 pub record IsMap (xs : List Assignment) : Type 0 where
   pub address_once : IsOnce (addresses xs)
-  pub number_once : IsOnce (randoms xs)
+  pub random_once : IsOnce (randoms xs)
   pub short : (a : ℕ) → HasAddress xs a → a < 64
   pub room : length xs ≤ 64
 

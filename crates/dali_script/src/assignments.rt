@@ -11,7 +11,7 @@ const ROOM: usize = 64;
 
 /// Short addresses, each with the random address that it is for, in the order in which they were added.
 ///
-/// Contracts see the list of pairs. An address stands once, and a number once.
+/// Contracts see the list of pairs. An address stands once, and a random address once.
 #[derive(Drop)]
 pub struct Assignments {
     pairs: Vec<(Short, Random24)>,
@@ -64,10 +64,10 @@ impl Assignments {
     }
 
     /// The random address of the pair with a short address.
-    pub fn number_at(&self, address: Short) -> Option<Random24>
+    pub fn random_at(&self, address: Short) -> Option<Random24>
         ensures found { MatchOption result
             (HasAddress self.now address → ⊥)
-            (λ number. Has self.now (address, number)) }
+            (λ random. Has self.now (address, random)) }
         ensures short { address < 64 }
     {
         let wanted = address.number();
@@ -80,13 +80,13 @@ impl Assignments {
     }
 
     /// The short address of the pair with a random address.
-    pub fn address_for(&self, number: Random24) -> Option<Short>
+    pub fn address_for(&self, random: Random24) -> Option<Short>
         ensures { MatchOption result
-            (HasRandom self.now number → ⊥)
-            (λ address. Has self.now (address, number)) }
+            (HasRandom self.now random → ⊥)
+            (λ address. Has self.now (address, random)) }
     {
         for pair in &self.pairs {
-            if pair.1 == number {
+            if pair.1 == random {
                 return Some(pair.0);
             }
         }
@@ -98,26 +98,26 @@ impl Assignments {
         ensures value { IsTrue result ↔ HasAddress self.now address }
         ensures short { address < 64 }
     {
-        self.number_at(address).is_some()
+        self.random_at(address).is_some()
     }
 
     /// Whether a pair has the random address.
-    pub fn has_number(&self, number: Random24) -> bool
-        ensures { IsTrue result ↔ HasRandom self.now number }
+    pub fn has_random(&self, random: Random24) -> bool
+        ensures { IsTrue result ↔ HasRandom self.now random }
     {
-        self.address_for(number).is_some()
+        self.address_for(random).is_some()
     }
 
     /// Adds a pair as the last one. It takes no memory.
     ///
     /// `AddressTaken` comes before `RandomTaken`.
-    pub fn insert(&mut self, address: Short, number: Random24) -> Result<(), AddError>
+    pub fn insert(&mut self, address: Short, random: Random24) -> Result<(), AddError>
         ensures success { IsOk result
-            ↔ ((HasAddress self.old address → ⊥) × (HasRandom self.old number → ⊥)) }
+            ↔ ((HasAddress self.old address → ⊥) × (HasRandom self.old random → ⊥)) }
         ensures address_taken { (result ≡ Err AddError.AddressTaken) ↔ HasAddress self.old address }
         ensures random_taken { (result ≡ Err AddError.RandomTaken)
-            ↔ ((HasAddress self.old address → ⊥) × HasRandom self.old number) }
-        ensures ok { OnOk result (self.new ≡ self.old ++ (address, number) ∷ []) }
+            ↔ ((HasAddress self.old address → ⊥) × HasRandom self.old random) }
+        ensures ok { OnOk result (self.new ≡ self.old ++ (address, random) ∷ []) }
         ensures err { OnErr result (self.new ≡ self.old) }
         ensures short { address < 64 }
         ensures map { IsMap self.new }
@@ -125,11 +125,11 @@ impl Assignments {
         if self.has_address(address) {
             return Err(AddError::AddressTaken);
         }
-        if self.has_number(number) {
+        if self.has_random(random) {
             return Err(AddError::RandomTaken);
         }
         // A further address is one of 64, so there is room for it.
-        self.pairs.push_reserved((address, number));
+        self.pairs.push_reserved((address, random));
         Ok(())
     }
 

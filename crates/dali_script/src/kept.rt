@@ -11,7 +11,7 @@ use std::marker::Model;
 
 /// The records of one controller: its block, and what it has reserved and enrolled, each in the order of the records.
 ///
-/// Contracts see the block and two lists of pairs. In each list an address stands once, and a number once.
+/// Contracts see the block and two lists of pairs. In each list an address stands once, and a random address once.
 #[derive(Drop)]
 pub struct Kept {
     block: Block,
@@ -80,7 +80,8 @@ impl Kept {
         self.enrolled.pairs()
     }
 
-    /// Whether a record may be added here: a reserved address lies in the block, and the number is below `FFFFFF`.
+    /// Whether a record may be added here: a reserved address lies in the block, and the random address is below
+    /// `FFFFFF`.
     pub fn fits(&self, added: &Record) -> bool
         ensures { IsTrue result ↔ Fits self.now.block added.now }
     {
@@ -116,8 +117,8 @@ impl Kept {
         ensures short { address_of added < 64 }
     {
         match added {
-            Record::Reserve(address, number) => self.reserved.insert(address, number),
-            Record::Enrol(address, number) => self.enrolled.insert(address, number),
+            Record::Reserve(address, random) => self.reserved.insert(address, random),
+            Record::Enrol(address, random) => self.enrolled.insert(address, random),
         }
     }
 
@@ -149,23 +150,23 @@ impl Kept {
     }
 
     /// The random address for which a short address is reserved.
-    pub fn number_reserved(&self, address: Short) -> Option<Random24>
+    pub fn random_reserved(&self, address: Short) -> Option<Random24>
         ensures value { MatchOption result
             (HasAddress self.now.reserved address → ⊥)
-            (λ number. Has self.now.reserved (address, number)) }
+            (λ random. Has self.now.reserved (address, random)) }
         ensures kept { IsKept self.now }
     {
-        self.reserved.number_at(address)
+        self.reserved.random_at(address)
     }
 
     /// The short address that is reserved for a random address.
-    pub fn reserved_for(&self, number: Random24) -> Option<Short>
+    pub fn reserved_for(&self, random: Random24) -> Option<Short>
         ensures value { MatchOption result
-            (HasRandom self.now.reserved number → ⊥)
-            (λ address. Has self.now.reserved (address, number)) }
+            (HasRandom self.now.reserved random → ⊥)
+            (λ address. Has self.now.reserved (address, random)) }
         ensures kept { IsKept self.now }
     {
-        self.reserved.address_for(number)
+        self.reserved.address_for(random)
     }
 
     /// The least short address of the block that no reservation has.
@@ -184,19 +185,19 @@ impl Kept {
     }
 
     /// Whether an address is reserved for a random address.
-    pub(crate) fn may_give(&self, number: Random24, address: Short) -> bool
-        ensures { result ≡ may_give self.now.block self.now.reserved number address }
+    pub(crate) fn may_give(&self, random: Random24, address: Short) -> bool
+        ensures { result ≡ may_give self.now.block self.now.reserved random address }
     {
-        match self.reserved.address_for(number) {
+        match self.reserved.address_for(random) {
             Some(reserved) => reserved == address,
             None => false,
         }
     }
 
     /// Whether some address is reserved for a random address.
-    pub(crate) fn may_give_some(&self, number: Random24) -> bool
-        ensures { result ≡ may_give_some self.now.block self.now.reserved number }
+    pub(crate) fn may_give_some(&self, random: Random24) -> bool
+        ensures { result ≡ may_give_some self.now.block self.now.reserved random }
     {
-        self.reserved.address_for(number).is_some()
+        self.reserved.address_for(random).is_some()
     }
 }

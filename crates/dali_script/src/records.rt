@@ -29,7 +29,7 @@ impl Record {
         ensures { result ≡ random_of self }
     {
         match self {
-            Record::Reserve(_, number) | Record::Enrol(_, number) => number,
+            Record::Reserve(_, random) | Record::Enrol(_, random) => random,
         }
     }
 }

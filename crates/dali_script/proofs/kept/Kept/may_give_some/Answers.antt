@@ -6,4 +6,4 @@ pub returns : goal.returns
 returns c =
     let k = c.self.inside in
     rw (← c.self.view_is)
-    (c.is_some.ensures ∙ goes_on_by k.block k.reserved c.args.number c.address_for.result c.self.invariant.reserved c.self.invariant.reserved_drawn c.self.invariant.within c.address_for.ensures)
+    (c.is_some.ensures ∙ goes_on_by k.block k.reserved c.args.random c.address_for.result c.self.invariant.reserved c.self.invariant.reserved_drawn c.self.invariant.within c.address_for.ensures)

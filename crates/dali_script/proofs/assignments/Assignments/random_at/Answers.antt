@@ -1,6 +1,6 @@
 use Rattle.std.proofs.Common.{◌≡◌}
 use Rattle.dali_script.proofs.Lists.{pair_there}
-use Rattle.dali_script.proofs.assignments.Assignments.number_at.Goals as goal
+use Rattle.dali_script.proofs.assignments.Assignments.random_at.Goals as goal
 
 pub returns-then-number-wanted-clause-found : goal.returns-then-number-wanted-clause-found
 returns-then-number-wanted-clause-found c =
