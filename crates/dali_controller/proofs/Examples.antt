@@ -5,12 +5,12 @@ use Rattle.dali_special.specs.Command.{frame}
 use Rattle.dali_script.specs.declared.stage.Stage.TheVariants.{Probed, Inconclusive, Withdrawn}
 use Rattle.dali_script.specs.Records.{Kept}
 use Rattle.dali_script.specs.Stages.{stage_of}
-use Rattle.dali_orders.specs.declared.orders.Input.{Input}
-use Rattle.dali_orders.specs.declared.orders.Input.TheVariants as input
-use Rattle.dali_orders.specs.declared.orders.Order.TheVariants.{Put, Done}
-use Rattle.dali_orders.specs.declared.orders.End.{End}
-use Rattle.dali_orders.specs.declared.orders.End.TheVariants.{AllFound}
-use Rattle.dali_orders.specs.Due.{due_after, accepts}
+use Rattle.dali_script.specs.declared.orders.Input.{Input}
+use Rattle.dali_script.specs.declared.orders.Input.TheVariants as input
+use Rattle.dali_script.specs.declared.orders.Order.TheVariants.{Put, Done}
+use Rattle.dali_script.specs.declared.orders.End.{End}
+use Rattle.dali_script.specs.declared.orders.End.TheVariants.{AllFound}
+use Rattle.dali_script.specs.Due.{due_after, accepts}
 use Rattle.dali_controller.specs.Machine.{Machine, at_first, machine_lost, silent_after}
 use Rattle.dali_controller.specs.Orders.{closing_by}
 

@@ -10,11 +10,11 @@ use Rattle.dali_script.specs.declared.stage.Stage.TheVariants.{Opened, Inconclus
 use Rattle.dali_script.specs.Records.{Assignment, Kept, with_record}
 use Rattle.dali_script.specs.Findings.{later, finding_of}
 use Rattle.dali_script.specs.Stages.{stage_of, may_follow}
-use Rattle.dali_orders.specs.declared.orders.Input.{Input}
-use Rattle.dali_orders.specs.declared.orders.Input.TheVariants as input
-use Rattle.dali_orders.specs.declared.orders.Order.{Order}
-use Rattle.dali_orders.specs.declared.orders.End.{End}
-use Rattle.dali_orders.specs.Due.{frame_put, record_ordered}
+use Rattle.dali_script.specs.declared.orders.Input.{Input}
+use Rattle.dali_script.specs.declared.orders.Input.TheVariants as input
+use Rattle.dali_script.specs.declared.orders.Order.{Order}
+use Rattle.dali_script.specs.declared.orders.End.{End}
+use Rattle.dali_script.specs.Due.{frame_put, record_ordered}
 
 -- What contracts see of a machine: its number; what it keeps; the running transaction; its last
 -- finding; its last order; how often the transaction was lost; how many searches in a row led to no

@@ -22,11 +22,11 @@ use Rattle.dali_script.specs.Findings.{finding_of}
 use Rattle.dali_script.specs.Stages.{stage_of, given, IsSearched}
 use Rattle.dali_search.specs.declared.step.Step.TheVariants.{Again}
 use Rattle.dali_search.specs.Least.{Search}
-use Rattle.dali_orders.specs.declared.orders.Input.{Input}
-use Rattle.dali_orders.specs.declared.orders.Order.{Order}
-use Rattle.dali_orders.specs.declared.orders.Order.TheVariants.{Put, Commit, Done, Halt}
-use Rattle.dali_orders.specs.declared.orders.End.{End}
-use Rattle.dali_orders.specs.declared.orders.End.TheVariants.{BlockFull, GaveUp}
+use Rattle.dali_script.specs.declared.orders.Input.{Input}
+use Rattle.dali_script.specs.declared.orders.Order.{Order}
+use Rattle.dali_script.specs.declared.orders.Order.TheVariants.{Put, Commit, Done, Halt}
+use Rattle.dali_script.specs.declared.orders.End.{End}
+use Rattle.dali_script.specs.declared.orders.End.TheVariants.{BlockFull, GaveUp}
 use Rattle.dali_controller.specs.declared.purpose.Purpose.{Purpose}
 use Rattle.dali_controller.specs.declared.purpose.Purpose.TheVariants.{Opening, Probing, Visiting}
 use Rattle.dali_controller.specs.declared.purpose.Purpose.TheVariants.{Closing}

@@ -18,13 +18,13 @@ use Rattle.dali_script.specs.Records.{IsFull}
 use Rattle.dali_script.specs.Scripts.{Lawful}
 use Rattle.dali_script.specs.Findings.{finding_of}
 use Rattle.dali_script.specs.Stages.{stage_of}
-use Rattle.dali_orders.specs.declared.orders.Input.{Input}
-use Rattle.dali_orders.specs.declared.orders.Input.TheVariants as input
-use Rattle.dali_orders.specs.declared.orders.Order.{Order}
-use Rattle.dali_orders.specs.declared.orders.Order.TheVariants.{Put, Commit, Done, Halt}
-use Rattle.dali_orders.specs.declared.orders.End.{End}
-use Rattle.dali_orders.specs.declared.orders.End.TheVariants.{AllFound, BlockFull, GaveUp}
-use Rattle.dali_orders.specs.declared.orders.Fault.TheVariants as fault
+use Rattle.dali_script.specs.declared.orders.Input.{Input}
+use Rattle.dali_script.specs.declared.orders.Input.TheVariants as input
+use Rattle.dali_script.specs.declared.orders.Order.{Order}
+use Rattle.dali_script.specs.declared.orders.Order.TheVariants.{Put, Commit, Done, Halt}
+use Rattle.dali_script.specs.declared.orders.End.{End}
+use Rattle.dali_script.specs.declared.orders.End.TheVariants.{AllFound, BlockFull, GaveUp}
+use Rattle.dali_script.specs.declared.orders.Fault.TheVariants as fault
 use Rattle.dali_controller.specs.Machine.{Machine, machine_told}
 
 -- WHAT AN ORDER DOES, to a machine that was told an input.

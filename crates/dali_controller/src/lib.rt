@@ -12,6 +12,6 @@ mod purpose;
 mod unfinished;
 mod work;
 
-pub use dali_orders::{Due, End, Fault, Input, Order};
+pub use dali_script::{Due, End, Fault, Input, Order};
 pub use error::{MachineError, StepError};
 pub use machine::Machine;

@@ -1,6 +1,6 @@
 ghost use Rattle.std.specs.Prelude.{◌≡◌, ◌↔◌, true, Some, IsOk, IfOk, OnErr, IfSome};
 ghost use Rattle.dali_script.specs.Records.{Fits};
-ghost use Rattle.dali_orders.specs.Due.{due_after, accepts, record_ordered};
+ghost use Rattle.dali_script.specs.Due.{due_after, accepts, record_ordered};
 ghost use Rattle.dali_controller.specs.Machine.{at_first, table_of};
 ghost use Rattle.dali_controller.specs.Orders.{IsAnswered, machine_after};
 
@@ -10,8 +10,7 @@ use crate::purpose::Purpose;
 use crate::work::Work;
 use dali_enrol::Table;
 use dali_frame::SearchAddress;
-use dali_orders::{Due, Input, Order};
-use dali_script::{Block, Kept, Trace};
+use dali_script::{Block, Due, Input, Kept, Order, Trace};
 use dali_search::Search;
 use std::alloc::Global;
 use std::marker::Model;

@@ -6,10 +6,10 @@ ghost use Rattle.dali_script.specs.declared.stage.Stage.TheVariants as stage;
 ghost use Rattle.dali_script.specs.Records.{Fits, IsFresh, HasAddress, HasRandom, with_record};
 ghost use Rattle.dali_enrol.specs.Table.{with_entry};
 ghost use Rattle.dali_search.specs.declared.step.Step.TheVariants as search;
-ghost use Rattle.dali_orders.specs.declared.orders.Input.TheVariants as input;
-ghost use Rattle.dali_orders.specs.declared.orders.Order.TheVariants as order;
-ghost use Rattle.dali_orders.specs.Due.{due_after, frame_put, record_ordered};
-ghost use Rattle.dali_orders.specs.declared.orders.Due.TheVariants as due;
+ghost use Rattle.dali_script.specs.declared.orders.Input.TheVariants as input;
+ghost use Rattle.dali_script.specs.declared.orders.Order.TheVariants as order;
+ghost use Rattle.dali_script.specs.Due.{due_after, frame_put, record_ordered};
+ghost use Rattle.dali_script.specs.declared.orders.Due.TheVariants as due;
 ghost use Rattle.dali_controller.specs.Machine.{machine_lost, table_of};
 
 use crate::entries::enter;
@@ -17,8 +17,7 @@ use crate::purpose::Purpose;
 use crate::unfinished::next_unfinished;
 use crate::work::Work;
 use dali_frame::{Answer, Forward, Random24, SearchAddress, Short};
-use dali_orders::{End, Fault, Order};
-use dali_script::{Record, Stage, Trace};
+use dali_script::{End, Fault, Order, Record, Stage, Trace};
 use dali_search::{Search, Step};
 use dali_special::Command;
 

@@ -2,8 +2,7 @@ ghost use Rattle.std.specs.Prelude.{◌≡◌};
 ghost use Rattle.dali_controller.specs.Moments.{search_turn};
 
 use dali_frame::SearchAddress;
-use dali_orders::End;
-use dali_script::Stage;
+use dali_script::{End, Stage};
 use dali_special::{Command, Target};
 
 /// What the running transaction is for. How far it is, its trace says.

@@ -8,8 +8,8 @@ use Rattle.dali_script.specs.declared.records.Record.TheVariants.{Reserve, Enrol
 use Rattle.dali_script.specs.Records.{Assignment, Kept, InBlock, IsKept, IsFresh, Fits, address_of}
 use Rattle.dali_script.specs.Findings.{search_of, found_by, later}
 use Rattle.dali_script.proofs.Lists.{kept_none, kept_more}
-use Rattle.dali_orders.specs.declared.orders.Order.{Order}
-use Rattle.dali_orders.specs.declared.orders.Order.TheVariants.{Put, Commit, Done, Halt}
+use Rattle.dali_script.specs.declared.orders.Order.{Order}
+use Rattle.dali_script.specs.declared.orders.Order.TheVariants.{Put, Commit, Done, Halt}
 use Rattle.dali_events.specs.declared.event.Event.{Event}
 use Rattle.dali_events.specs.declared.event.Event.TheVariants as event
 use Rattle.dali_events.specs.Plan.{Plan, IsPlan, block_at, no_block}

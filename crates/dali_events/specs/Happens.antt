@@ -18,10 +18,10 @@ use Rattle.dali_script.specs.declared.records.Record.{Record}
 use Rattle.dali_script.specs.Records.{Kept, with_record}
 use Rattle.dali_script.specs.Findings.{search_of, found_by, later}
 use Rattle.dali_script.specs.Stages.{stage_of, may_follow}
-use Rattle.dali_orders.specs.declared.orders.Input.{Input}
-use Rattle.dali_orders.specs.declared.orders.Input.TheVariants as input
-use Rattle.dali_orders.specs.declared.orders.Order.{Order}
-use Rattle.dali_orders.specs.declared.orders.Order.TheVariants.{Put, Commit}
+use Rattle.dali_script.specs.declared.orders.Input.{Input}
+use Rattle.dali_script.specs.declared.orders.Input.TheVariants as input
+use Rattle.dali_script.specs.declared.orders.Order.{Order}
+use Rattle.dali_script.specs.declared.orders.Order.TheVariants.{Put, Commit}
 use Rattle.dali_events.specs.declared.event.Event.{Event}
 use Rattle.dali_events.specs.declared.event.Event.TheVariants as event
 use Rattle.dali_events.specs.World.{Controller, World, controller_at, gear_changed}

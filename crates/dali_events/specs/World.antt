@@ -6,9 +6,9 @@ use Rattle.dali_script.specs.declared.block.Block.{Block}
 use Rattle.dali_script.specs.declared.trace.Entry.{Entry}
 use Rattle.dali_script.specs.declared.records.Record.{Record}
 use Rattle.dali_script.specs.Records.{Assignment, Kept, without_records}
-use Rattle.dali_orders.specs.declared.orders.Input.{Input}
-use Rattle.dali_orders.specs.declared.orders.Input.TheVariants.{Start}
-use Rattle.dali_orders.specs.declared.orders.Order.{Order}
+use Rattle.dali_script.specs.declared.orders.Input.{Input}
+use Rattle.dali_script.specs.declared.orders.Input.TheVariants.{Start}
+use Rattle.dali_script.specs.declared.orders.Order.{Order}
 use Rattle.dali_events.specs.Plan.{Plan, no_block}
 
 -- A controller, as a site knows it. It has no phase, no probe and no count of the machine.

@@ -1,6 +1,6 @@
 use dali_frame::{Answer, Forward};
 use dali_gear::GearSet;
-use dali_orders::{Input, Order};
+use dali_script::{Input, Order};
 
 /// What happened on a site. Each accepted call adds one event to its log.
 ///

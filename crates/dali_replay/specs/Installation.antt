@@ -3,12 +3,12 @@ use Rattle.std.specs.Prelude.{Option, Some, None, Result, Ok, Err}
 use Rattle.dali_script.specs.declared.block.Block.{Block}
 use Rattle.dali_script.specs.declared.records.Record.{Record}
 use Rattle.dali_script.specs.Records.{Kept, without_records}
-use Rattle.dali_orders.specs.declared.orders.Input.{Input}
-use Rattle.dali_orders.specs.declared.orders.Input.TheVariants as input
-use Rattle.dali_orders.specs.declared.orders.Order.{Order}
-use Rattle.dali_orders.specs.declared.orders.Due.{Due}
-use Rattle.dali_orders.specs.declared.orders.Due.TheVariants as due
-use Rattle.dali_orders.specs.Due.{record_ordered}
+use Rattle.dali_script.specs.declared.orders.Input.{Input}
+use Rattle.dali_script.specs.declared.orders.Input.TheVariants as input
+use Rattle.dali_script.specs.declared.orders.Order.{Order}
+use Rattle.dali_script.specs.declared.orders.Due.{Due}
+use Rattle.dali_script.specs.declared.orders.Due.TheVariants as due
+use Rattle.dali_script.specs.Due.{record_ordered}
 use Rattle.dali_events.specs.Plan.{Plan, no_block, block_at}
 use Rattle.dali_events.specs.World.{Controller, controller_at}
 use Rattle.dali_events.specs.Happens.{with_outstanding}

@@ -1,8 +1,8 @@
 use Rattle.std.specs.Prelude.{◌≡◌, ◌⊎◌, ℕ, zero, suc, ◌+◌, ◌<◌, Bool, true, false, List, [], ◌++◌}
 use Rattle.std.specs.Prelude.{length, Option, Some, None, Ok, Err, is_some, ◌||◌, if◌then◌else◌}
-use Rattle.dali_orders.specs.declared.orders.Order.{Order}
-use Rattle.dali_orders.specs.declared.orders.Due.{Due}
-use Rattle.dali_orders.specs.declared.orders.Due.TheVariants as due
+use Rattle.dali_script.specs.declared.orders.Order.{Order}
+use Rattle.dali_script.specs.declared.orders.Due.{Due}
+use Rattle.dali_script.specs.declared.orders.Due.TheVariants as due
 use Rattle.dali_events.specs.World.{Controller}
 use Rattle.dali_standing.specs.Seats.{due_of}
 use Rattle.dali_standing.specs.declared.refusal.Refusal.{Refusal}

@@ -13,12 +13,12 @@ use Rattle.dali_gear.specs.Gear.{Gear}
 use Rattle.dali_script.specs.declared.records.Record.{Record}
 use Rattle.dali_script.specs.declared.records.Record.TheVariants.{Reserve, Enrol}
 use Rattle.dali_script.specs.Records.{Assignment}
-use Rattle.dali_orders.specs.declared.orders.Order.{Order}
-use Rattle.dali_orders.specs.declared.orders.Order.TheVariants.{Put, Commit, Done, Halt}
-use Rattle.dali_orders.specs.declared.orders.End.{End}
-use Rattle.dali_orders.specs.declared.orders.End.TheVariants.{AllFound, BlockFull, GaveUp}
-use Rattle.dali_orders.specs.declared.orders.Fault.{Fault}
-use Rattle.dali_orders.specs.declared.orders.Fault.TheVariants.{Conflict, Store}
+use Rattle.dali_script.specs.declared.orders.Order.{Order}
+use Rattle.dali_script.specs.declared.orders.Order.TheVariants.{Put, Commit, Done, Halt}
+use Rattle.dali_script.specs.declared.orders.End.{End}
+use Rattle.dali_script.specs.declared.orders.End.TheVariants.{AllFound, BlockFull, GaveUp}
+use Rattle.dali_script.specs.declared.orders.Fault.{Fault}
+use Rattle.dali_script.specs.declared.orders.Fault.TheVariants.{Conflict, Store}
 use Rattle.dali_standing.specs.declared.refusal.Refusal.{Refusal}
 use Rattle.dali_standing.specs.declared.trouble.Report.{Report}
 use Rattle.dali_standing.specs.declared.trouble.Report.TheVariants as report

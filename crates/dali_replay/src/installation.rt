@@ -3,7 +3,7 @@
 ghost use Rattle.std.specs.Prelude.{false, ◌≡◌, ◌<◌, ◌≤◌, length, map, slice_index_or, slice_set, Some, IfOk, IfErr};
 ghost use Rattle.std.specs.Prelude.{IfSome, MatchOption, IsTrue, ◌↔◌, OnErr, IfNone, is_some};
 ghost use Rattle.dali_script.specs.Records.{Fits, IsFresh};
-ghost use Rattle.dali_orders.specs.Due.{record_ordered};
+ghost use Rattle.dali_script.specs.Due.{record_ordered};
 ghost use Rattle.dali_events.specs.World.{gear_at};
 ghost use Rattle.dali_events.specs.declared.event.Event.TheVariants as event;
 ghost use Rattle.dali_standing.specs.Seats.{due_of};
@@ -17,9 +17,8 @@ ghost use Rattle.dali_replay.specs.Rounds.{has_turn};
 
 use dali_frame::{Forward, Random24, Short};
 use dali_gear::Gear;
-use dali_orders::{Due, Input, Order};
 use dali_reserve::{Keep, MemoryKeep};
-use dali_script::{Block, Kept, Record};
+use dali_script::{Block, Due, Input, Kept, Order, Record};
 use dali_world::{Plan, Refusal, Report, SiteState, Trouble};
 use std::alloc::{AllocError, Global};
 use std::marker::Model;

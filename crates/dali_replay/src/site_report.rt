@@ -14,7 +14,7 @@ use crate::text::{
     push_table,
 };
 use dali_frame::Forward;
-use dali_orders::Order;
+use dali_script::Order;
 use dali_world::{Refusal, Report};
 use std::alloc::{AllocError, Global};
 

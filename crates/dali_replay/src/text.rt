@@ -11,8 +11,7 @@ ghost use Rattle.dali_replay.specs.Text.{table_text};
 
 use dali_frame::{Answer, Forward, Priority, Random24, Short};
 use dali_gear::{Gear, InitialisationState};
-use dali_orders::{End, Fault, Order};
-use dali_script::Record;
+use dali_script::{End, Fault, Order, Record};
 use dali_world::{Refusal, Report};
 use std::alloc::AllocError;
 

@@ -5,3 +5,4 @@ pub mod Scripts
 pub mod Findings
 pub mod Stages
 pub mod Laws
+pub mod Due

@@ -2,13 +2,15 @@
 //! meanwhile.
 //!
 //! A transaction is a front of one of six scripts ([`Trace`]); what a controller has reserved and enrolled is [`Kept`].
-//! Both lists of it are [`Assignments`]. Only `new` and `copy` of these two take memory.
+//! Both lists of it are [`Assignments`]. Only `new` and `copy` of these two take memory. [`Input`] and [`Order`] are what
+//! a machine that runs the scripts is told, and what it orders.
 #![tactic(auto)]
 
 mod assignments;
 mod block;
 mod kept;
 pub mod laws;
+mod orders;
 mod records;
 mod stage;
 mod trace;
@@ -16,6 +18,7 @@ mod trace;
 pub use assignments::Assignments;
 pub use block::Block;
 pub use kept::Kept;
+pub use orders::{Due, End, Fault, Input, Order};
 pub use records::{AddError, MakeError, Record};
 pub use stage::Stage;
 pub use trace::{Entry, Trace};

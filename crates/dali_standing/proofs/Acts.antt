@@ -15,11 +15,11 @@ use Rattle.dali_script.specs.Findings.{finding_of, later}
 use Rattle.dali_script.specs.Scripts.{Lawful, IsFirst}
 use Rattle.dali_script.specs.Stages.{stage_of, may_follow}
 use Rattle.dali_script.proofs.Transactions.{over, follows_lawful}
-use Rattle.dali_orders.specs.declared.orders.Input.{Input}
-use Rattle.dali_orders.specs.declared.orders.Input.TheVariants as input
-use Rattle.dali_orders.specs.declared.orders.Order.{Order}
-use Rattle.dali_orders.specs.declared.orders.Order.TheVariants.{Put, Commit, Done, Halt}
-use Rattle.dali_orders.specs.Due.{due_after, accepts}
+use Rattle.dali_script.specs.declared.orders.Input.{Input}
+use Rattle.dali_script.specs.declared.orders.Input.TheVariants as input
+use Rattle.dali_script.specs.declared.orders.Order.{Order}
+use Rattle.dali_script.specs.declared.orders.Order.TheVariants.{Put, Commit, Done, Halt}
+use Rattle.dali_script.specs.Due.{due_after, accepts}
 use Rattle.dali_controller.specs.Machine.{Machine, machine_told}
 use Rattle.dali_controller.specs.Orders.{IsOrdered, IsAnswered, IsAllowed, IsAddressing, machine_ordered, machine_after}
 use Rattle.dali_events.specs.World.{World, Controller}

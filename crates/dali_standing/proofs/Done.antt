@@ -12,10 +12,10 @@ use Rattle.dali_arbiter.specs.Arbiter.{Arbiter, owns, total, next, request_of, b
 use Rattle.dali_script.specs.declared.trace.Entry.{Entry}
 use Rattle.dali_script.specs.Scripts.{IsLawful, IsFirst}
 use Rattle.dali_script.specs.Stages.{stage_of, may_follow}
-use Rattle.dali_orders.specs.declared.orders.Input.{Input}
-use Rattle.dali_orders.specs.declared.orders.Order.{Order}
-use Rattle.dali_orders.specs.declared.orders.Order.TheVariants.{Put}
-use Rattle.dali_orders.specs.Due.{frame_put}
+use Rattle.dali_script.specs.declared.orders.Input.{Input}
+use Rattle.dali_script.specs.declared.orders.Order.{Order}
+use Rattle.dali_script.specs.declared.orders.Order.TheVariants.{Put}
+use Rattle.dali_script.specs.Due.{frame_put}
 use Rattle.dali_events.specs.declared.event.Event.{Event}
 use Rattle.dali_events.specs.declared.event.Event.TheVariants as event
 use Rattle.dali_events.specs.World.{World, Controller}

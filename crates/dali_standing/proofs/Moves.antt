@@ -14,8 +14,8 @@ use Rattle.dali_script.specs.declared.block.Block.{Block}
 use Rattle.dali_script.specs.Records.{without_records}
 use Rattle.dali_events.specs.Plan.{Plan}
 use Rattle.dali_script.specs.Scripts.{IsFirst}
-use Rattle.dali_orders.specs.declared.orders.Input.{Input}
-use Rattle.dali_orders.specs.declared.orders.Order.{Order}
+use Rattle.dali_script.specs.declared.orders.Input.{Input}
+use Rattle.dali_script.specs.declared.orders.Order.{Order}
 use Rattle.dali_controller.specs.Machine.{Machine, at_first}
 use Rattle.dali_controller.specs.Orders.{machine_after}
 use Rattle.dali_events.specs.declared.event.Event.TheVariants as event

@@ -7,10 +7,10 @@ use Rattle.dali_special.specs.Command.{command_of}
 use Rattle.dali_arbiter.specs.Arbiter.{Arbiter, owns, bus_lapsed}
 use Rattle.dali_script.specs.declared.trace.Entry.{Entry}
 use Rattle.dali_script.specs.Stages.{stage_of, may_follow}
-use Rattle.dali_orders.specs.declared.orders.Input.{Input}
-use Rattle.dali_orders.specs.declared.orders.Input.TheVariants as input
-use Rattle.dali_orders.specs.declared.orders.Order.{Order}
-use Rattle.dali_orders.specs.declared.orders.Order.TheVariants.{Put, Commit, Done, Halt}
+use Rattle.dali_script.specs.declared.orders.Input.{Input}
+use Rattle.dali_script.specs.declared.orders.Input.TheVariants as input
+use Rattle.dali_script.specs.declared.orders.Order.{Order}
+use Rattle.dali_script.specs.declared.orders.Order.TheVariants.{Put, Commit, Done, Halt}
 use Rattle.dali_controller.specs.Machine.{Machine}
 use Rattle.dali_controller.specs.Orders.{machine_after}
 use Rattle.dali_events.specs.World.{World, Controller}

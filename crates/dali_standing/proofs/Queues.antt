@@ -9,9 +9,9 @@ use Rattle.dali_special.specs.Command.{command_of}
 use Rattle.dali_arbiter.specs.declared.request.Request.{Request}
 use Rattle.dali_arbiter.specs.Arbiter.{Arbiter, owns, request_of, idle, bus_offered, put_last, bus_freed, first_emptied, bus_lapsed, without_first, bus_taken, next, first_waiting, collision, bus_collided, bus_destroyed, bus_silenced, bus_muted, without_sender}
 use Rattle.dali_arbiter.proofs.Collisions.{unequal, collision_first, first_of_all, collision_apart}
-use Rattle.dali_orders.specs.declared.orders.Input.{Input}
-use Rattle.dali_orders.specs.declared.orders.Order.{Order}
-use Rattle.dali_orders.specs.declared.orders.Order.TheVariants.{Put, Commit, Done, Halt}
+use Rattle.dali_script.specs.declared.orders.Input.{Input}
+use Rattle.dali_script.specs.declared.orders.Order.{Order}
+use Rattle.dali_script.specs.declared.orders.Order.TheVariants.{Put, Commit, Done, Halt}
 use Rattle.dali_events.specs.Happens.{bus_acted, gives_up, put_after, sent_by, is_arc}
 use Rattle.dali_standing.specs.Seats.{Seat}
 use Rattle.dali_standing.specs.Settled.{is_scripted, picked_requests, awaited_requests_by, awaited_requests, owners_request, IsServed, AreUp}

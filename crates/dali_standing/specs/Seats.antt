@@ -6,13 +6,13 @@ use Rattle.dali_script.specs.declared.trace.Entry.{Entry}
 use Rattle.dali_script.specs.declared.records.Record.{Record}
 use Rattle.dali_script.specs.Records.{Assignment, Kept, Fits, IsFresh, without_records}
 use Rattle.dali_script.specs.Findings.{later, finding_of}
-use Rattle.dali_orders.specs.declared.orders.Input.{Input}
-use Rattle.dali_orders.specs.declared.orders.Input.TheVariants as input
-use Rattle.dali_orders.specs.declared.orders.Order.{Order}
-use Rattle.dali_orders.specs.declared.orders.Order.TheVariants.{Put, Commit, Done, Halt}
-use Rattle.dali_orders.specs.declared.orders.Due.{Due}
-use Rattle.dali_orders.specs.declared.orders.Due.TheVariants as due
-use Rattle.dali_orders.specs.Due.{due_after, accepts}
+use Rattle.dali_script.specs.declared.orders.Input.{Input}
+use Rattle.dali_script.specs.declared.orders.Input.TheVariants as input
+use Rattle.dali_script.specs.declared.orders.Order.{Order}
+use Rattle.dali_script.specs.declared.orders.Order.TheVariants.{Put, Commit, Done, Halt}
+use Rattle.dali_script.specs.declared.orders.Due.{Due}
+use Rattle.dali_script.specs.declared.orders.Due.TheVariants as due
+use Rattle.dali_script.specs.Due.{due_after, accepts}
 use Rattle.dali_controller.specs.Machine.{Machine, at_first, machine_told}
 use Rattle.dali_controller.specs.Orders.{IsAnswered, machine_after}
 use Rattle.dali_events.specs.World.{Controller, controller_begun, nobody}

@@ -2,10 +2,10 @@ ghost use Rattle.std.specs.Prelude.{◌≡◌, ◌++◌, ◌∷◌, [], Bool, tr
 ghost use Rattle.std.specs.Prelude.{IsTrue, MatchOption, option_map};
 ghost use Rattle.dali_special.specs.Command.{command_of};
 ghost use Rattle.dali_script.specs.Findings.{later};
-ghost use Rattle.dali_orders.specs.Due.{due_after, accepts, frame_put};
+ghost use Rattle.dali_script.specs.Due.{due_after, accepts, frame_put};
 ghost use Rattle.dali_controller.specs.Machine.{table_of};
-ghost use Rattle.dali_orders.specs.declared.orders.Due.TheVariants as due;
-ghost use Rattle.dali_orders.specs.declared.orders.Input.TheVariants as input;
+ghost use Rattle.dali_script.specs.declared.orders.Due.TheVariants as due;
+ghost use Rattle.dali_script.specs.declared.orders.Input.TheVariants as input;
 ghost use Rattle.dali_events.specs.Happens.{told_sent, told_lapsed, entry, is_arc, outstanding_told, outstanding_after};
 ghost use Rattle.dali_events.specs.Allowed.{IsDue};
 ghost use Rattle.dali_controller.specs.Orders.{machine_after};
@@ -15,8 +15,7 @@ use crate::refusal::Refusal;
 use dali_controller::Machine;
 use dali_enrol::Table;
 use dali_frame::{Answer, Forward, Random24, Short};
-use dali_orders::{Due, Input, Order};
-use dali_script::{Block, Kept, Record, Trace};
+use dali_script::{Block, Due, Input, Kept, Order, Record, Trace};
 use std::alloc::Global;
 use std::marker::Model;
 

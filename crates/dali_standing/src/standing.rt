@@ -5,7 +5,7 @@ ghost use Rattle.dali_gear.specs.declared.row.Reach.TheVariants.{Everyone, Only}
 ghost use Rattle.dali_gear.specs.Gear.{gear_expired, gear_quieted};
 ghost use Rattle.dali_gear.specs.Row.{draws_needed, answers_of, heard_of, stored_of};
 ghost use Rattle.dali_arbiter.specs.Arbiter.{next, owns, total, bus_lapsed, request_of, offer_refusal, collision};
-ghost use Rattle.dali_orders.specs.Due.{frame_put};
+ghost use Rattle.dali_script.specs.Due.{frame_put};
 ghost use Rattle.dali_controller.specs.Machine.{table_of};
 ghost use Rattle.dali_events.specs.declared.event.Event.TheVariants as event;
 ghost use Rattle.dali_events.specs.World.{start};
@@ -28,8 +28,7 @@ use dali_enrol::Table;
 use dali_events::Plan;
 use dali_frame::{Answer, Forward, Priority, Short};
 use dali_gear::{Gear, GearSet, Reach};
-use dali_orders::{Due, Input, Order};
-use dali_script::{Block, Kept, Trace};
+use dali_script::{Block, Due, Input, Kept, Order, Trace};
 use dali_special::Command;
 use std::alloc::Global;
 use std::marker::Model;

@@ -5,7 +5,7 @@ use super::values::Pair::{Enrol, Reserve};
 use super::values::{Ordered, Pair, are_pairs, kept_of, same};
 use dali_controller::{Machine, MachineError, StepError};
 use dali_frame::Answer;
-use dali_orders::{End, Fault, Input};
+use dali_script::{End, Fault, Input};
 use std::alloc::Global;
 use std::process::Abort;
 use std::test::Fail;

@@ -8,7 +8,7 @@ use super::values::Ordered::{Commit, Done, Halt, Put};
 use super::values::Pair::{Enrol, Reserve};
 use super::values::{Ordered, Pair, are_pairs, forward, kept_of, same};
 use dali_frame::Answer;
-use dali_orders::{Due, End, Fault, Input};
+use dali_script::{Due, End, Fault, Input};
 use dali_world::{Event, GearSet, Plan, Receipt, Refusal, Report, SiteState, Trouble};
 use std::alloc::Global;
 use std::process::Abort;

@@ -4,8 +4,7 @@
 //! that may fail.
 
 use dali_frame::{Forward, Random24, Short};
-use dali_orders::{End, Fault, Order};
-use dali_script::{Block, Kept, Record};
+use dali_script::{Block, End, Fault, Kept, Order, Record};
 use std::alloc::Global;
 use std::fmt::Debug;
 use std::process::Abort;

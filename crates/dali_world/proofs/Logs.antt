@@ -2,8 +2,8 @@ use Rattle.std.proofs.Common.{◌≡◌, ℕ, ◌+◌, ◌<◌, ◌≤◌, ◌�
 use Rattle.std.specs.Prelude.{◌==◌, if◌then◌else◌, zero, suc}
 use Rattle.std.proofs.lemmas.Bool.Decides.{nat_tests}
 use Rattle.std.proofs.lemmas.List.{length-map, length-replicate, append-nil}
-use Rattle.dali_orders.specs.declared.orders.Input.{Input}
-use Rattle.dali_orders.specs.declared.orders.Order.{Order}
+use Rattle.dali_script.specs.declared.orders.Input.{Input}
+use Rattle.dali_script.specs.declared.orders.Order.{Order}
 use Rattle.dali_controller.specs.Machine.{Machine}
 use Rattle.dali_events.specs.declared.event.Event.{Event}
 use Rattle.dali_events.specs.declared.event.Event.TheVariants as event
@@ -32,8 +32,8 @@ use Rattle.dali_arbiter.specs.Arbiter.{owns, total, collision}
 use Rattle.dali_standing.specs.Seats.{MayAnswer, IsRunning}
 use Rattle.dali_standing.specs.Settled.{IsPlacedBy, IsPlacedOn}
 use Rattle.dali_world.proofs.Agreeing.{no_conflict}
-use Rattle.dali_orders.specs.declared.orders.Order.TheVariants.{Halt}
-use Rattle.dali_orders.specs.declared.orders.Fault.TheVariants as fault
+use Rattle.dali_script.specs.declared.orders.Order.TheVariants.{Halt}
+use Rattle.dali_script.specs.declared.orders.Fault.TheVariants as fault
 use Rattle.dali_world.specs.Site.{SiteState, world, site_logged, machines_all, machines, machine_at, is_step_of, share_of, IsSite, opened_site, HasRoom, IsCrowded, Logs, Receipt, HasActed, IsSpent, IsSendable}
 use Rattle.dali_standing.specs.Troubles.{reach_under}
 use Rattle.dali_standing.specs.declared.trouble.Trouble.{Trouble}

@@ -1,6 +1,6 @@
 ghost use Rattle.std.specs.Prelude.{◌≡◌};
 
-use dali_orders::{Input, Order};
+use dali_script::{Input, Order};
 use std::marker::Model;
 
 /// What a controller that acted has to show for it: the input, the order, and the number of its step.

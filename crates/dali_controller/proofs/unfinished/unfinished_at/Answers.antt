@@ -3,9 +3,9 @@ use Rattle.dali_script.proofs.Lists.{has_map}
 use Rattle.dali_controller.proofs.unfinished.unfinished_at.Goals as goal
 
 pub returns-in-None-clause-reserved : goal.returns-in-None-clause-reserved
-returns-in-None-clause-reserved c = has_map (λ q. q.1) c.args.kept.now.reserved (c.args.address, c.in_ok-number.number) c.in_ok-number.ensures.value
+returns-in-None-clause-reserved c = has_map (λ q. q.1) c.args.kept.now.reserved (c.args.address, c.in_ok-random.random) c.in_ok-random.ensures.value
 
 pub returns-in-None-clause-drawn : goal.returns-in-None-clause-drawn
 returns-in-None-clause-drawn c =
-    let has : HasRandom c.args.kept.now.reserved c.in_ok-number.number = has_map (λ q. q.1) c.args.kept.now.reserved (c.args.address, c.in_ok-number.number) c.in_ok-number.ensures.value in
-    c.in_ok-number.ensures.kept.reserved_drawn c.in_ok-number.number has
+    let has : HasRandom c.args.kept.now.reserved c.in_ok-random.random = has_map (λ q. q.1) c.args.kept.now.reserved (c.args.address, c.in_ok-random.random) c.in_ok-random.ensures.value in
+    c.in_ok-random.ensures.kept.reserved_drawn c.in_ok-random.random has

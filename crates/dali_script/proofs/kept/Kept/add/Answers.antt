@@ -12,9 +12,9 @@ invariant_of-self c =
     record {
       reserved = c.insert.ensures.map;
       enrolled = kept.enrolled;
-      reserved_drawn = all_after (λ p. p.1) (λ n. n < MASK24) k.reserved c.insert.new.self (c.in-Reserve.address, c.in-Reserve.number) c.insert.result kept.reserved_drawn fits.1 c.insert.ensures.ok c.insert.ensures.err;
+      reserved_drawn = all_after (λ p. p.1) (λ n. n < MASK24) k.reserved c.insert.new.self (c.in-Reserve.address, c.in-Reserve.random) c.insert.result kept.reserved_drawn fits.1 c.insert.ensures.ok c.insert.ensures.err;
       enrolled_drawn = kept.enrolled_drawn;
-      within = all_after (λ p. p.0) (InBlock k.block) k.reserved c.insert.new.self (c.in-Reserve.address, c.in-Reserve.number) c.insert.result kept.within fits.0 c.insert.ensures.ok c.insert.ensures.err;
+      within = all_after (λ p. p.0) (InBlock k.block) k.reserved c.insert.new.self (c.in-Reserve.address, c.in-Reserve.random) c.insert.result kept.within fits.0 c.insert.ensures.ok c.insert.ensures.err;
     }
 
 pub invariant_of-self-in-Enrol : goal.invariant_of-self-in-Enrol
@@ -26,6 +26,6 @@ invariant_of-self-in-Enrol c =
       reserved = kept.reserved;
       enrolled = c.insert-in-Enrol.ensures.map;
       reserved_drawn = kept.reserved_drawn;
-      enrolled_drawn = all_after (λ p. p.1) (λ n. n < MASK24) k.enrolled c.insert-in-Enrol.new.self (c.in-Enrol.address, c.in-Enrol.number) c.insert-in-Enrol.result kept.enrolled_drawn fits c.insert-in-Enrol.ensures.ok c.insert-in-Enrol.ensures.err;
+      enrolled_drawn = all_after (λ p. p.1) (λ n. n < MASK24) k.enrolled c.insert-in-Enrol.new.self (c.in-Enrol.address, c.in-Enrol.random) c.insert-in-Enrol.result kept.enrolled_drawn fits c.insert-in-Enrol.ensures.ok c.insert-in-Enrol.ensures.err;
       within = kept.within;
     }

@@ -1,6 +1,6 @@
 use Rattle.std.proofs.Common.{rules, ◌≡◌, refl, sym, ap, subst, ◌∙◌, ◌<◌, arith}
-use Rattle.dali_orders.specs.declared.orders.Order.TheVariants.{Halt}
-use Rattle.dali_orders.specs.declared.orders.Fault.TheVariants as fault
+use Rattle.dali_script.specs.declared.orders.Order.TheVariants.{Halt}
+use Rattle.dali_script.specs.declared.orders.Fault.TheVariants as fault
 use Rattle.dali_events.specs.Allowed.{IsDue}
 use Rattle.dali_standing.specs.Seats.{MayAnswer}
 use Rattle.dali_standing.specs.Standing.{controller_on, machine_in}

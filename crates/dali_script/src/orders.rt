@@ -1,5 +1,5 @@
+use crate::records::Record;
 use dali_frame::{Answer, Forward, Priority};
-use dali_script::Record;
 
 /// What a machine is told.
 #[derive(Clone, Copy, Debug, PartialEq, Eq)]
