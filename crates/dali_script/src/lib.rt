@@ -2,8 +2,8 @@
 //! meanwhile.
 //!
 //! A transaction is a front of one of six scripts ([`Trace`]); what a controller has reserved and enrolled is [`Kept`].
-//! Both lists of it are [`Assignments`]. Only `new` and `copy` of these two take memory. [`Input`] and [`Order`] are what
-//! a machine that runs the scripts is told, and what it orders.
+//! Both lists of it are [`Assignments`]. Only `new` and `copy` of these two take memory. [`Input`] and [`Order`] are
+//! what a machine that runs the scripts is told, and what it orders.
 #![tactic(auto)]
 
 mod assignments;
