@@ -4,8 +4,9 @@ use Rattle.dali_events.specs.declared.event.Event.{Event}
 use Rattle.dali_events.specs.Plan.{Plan}
 use Rattle.dali_events.specs.World.{World, gear_at, controller_at}
 use Rattle.dali_events.specs.Happens.{happens}
-use Rattle.dali_events.specs.Runs.{after, after_all, IsRun, AreDrawn, Names, IsSafe}
-use Rattle.dali_events.specs.Promises.{GiftsAreReserved, IsEnrolled, NamesGear, TablesAgree, HasFound, FindingsAgree}
+use Rattle.dali_events.specs.Runs.{after, after_all, IsRun, AreDrawn}
+use Rattle.dali_events.specs.Promise.{IsEnrolled, NamesGear, Names, IsSafe}
+use Rattle.dali_events.specs.Laws.{GiftsAreReserved, TablesAgree, HasFound, FindingsAgree}
 use Rattle.dali_script.proofs.Members.{same_member}
 use Rattle.dali_events.proofs.Controllers.{controllers_count}
 use Rattle.dali_events.proofs.Reserves.{still_reserved}
@@ -36,32 +37,26 @@ module _ (w : World) (s : IsSafe w) where
       let random : (gear_at w g).random ≡ y.1 = subst (λ k. (gear_at w k).random ≡ y.1) (sym same) m.random in
       pair x y (ap (λ gift. gift.1) (same_member (λ gift. gift.0) w.gifts (g, x.0) (g, y.0) s.gear_once n.given given refl)) (sym n.random ∙ random)
 
-  named : (c : ℕ) (x : Assignment) → IsEnrolled w c x → (g : ℕ) × NamesGear w x g
-  named c x h = let n = s.tables c h.0 x h.1 in (n.0, record { drawer = n.2; given = n.3; random = n.4 })
-
-  one_address : (x y : Assignment) → (g : ℕ) × NamesGear w x g → (g : ℕ) × NamesGear w y g → x.0 ≡ y.0 → x ≡ y
+  one_address : (x y : Assignment) → Names w x → Names w y → x.0 ≡ y.0 → x ≡ y
   one_address x y n m same =
-      let given : Has w.gifts (n.0, y.0) = subst (λ a. Has w.gifts (n.0, a)) same n.1.given in
-      one_entry x y n.0 m.0 n.1 m.1 (ap (λ gift. gift.0) (same_member (λ gift. gift.1) w.gifts (n.0, y.0) (m.0, y.0) s.address_once given m.1.given refl))
+      let given : Has w.gifts (n.0, y.0) = subst (λ a. Has w.gifts (n.0, a)) same n.2.given in
+      one_entry x y n.0 m.0 n.2 m.2 (ap (λ gift. gift.0) (same_member (λ gift. gift.1) w.gifts (n.0, y.0) (m.0, y.0) s.address_once given m.2.given refl))
 
-  one_number : AreDrawn w → (x y : Assignment) → (g : ℕ) × NamesGear w x g → (g : ℕ) × NamesGear w y g → x.1 ≡ y.1 → x ≡ y
+  one_number : AreDrawn w → (x y : Assignment) → Names w x → Names w y → x.1 ≡ y.1 → x ≡ y
   one_number d x y n m same =
-      let drew : Has w.drawn (n.0, y.1) = subst (λ r. Has w.drawn (n.0, r)) same n.1.drawer in
-      one_entry x y n.0 m.0 n.1 m.1 (ap (λ draw. draw.0) (same_member (λ draw. draw.1) w.drawn (n.0, y.1) (m.0, y.1) d.once drew m.1.drawer refl))
-
-  found_named : (x : Assignment) → Names w x → (g : ℕ) × NamesGear w x g
-  found_named x n = (n.0, record { drawer = n.2; given = n.3; random = n.4 })
+      let drew : Has w.drawn (n.0, y.1) = subst (λ r. Has w.drawn (n.0, r)) same n.2.drawer in
+      one_entry x y n.0 m.0 n.2 m.2 (ap (λ draw. draw.0) (same_member (λ draw. draw.1) w.drawn (n.0, y.1) (m.0, y.1) d.once drew m.2.drawer refl))
 
   pub found_address : (d : ℕ) (x y : Assignment) → Names w x → IsEnrolled w d y → x.0 ≡ y.0 → x ≡ y
-  found_address d x y n h same = one_address x y (found_named x n) (named d y h) same
+  found_address d x y n h same = one_address x y n (s.tables d y h) same
 
   pub found_number : AreDrawn w → (d : ℕ) (x y : Assignment) → Names w x → IsEnrolled w d y → x.1 ≡ y.1 → x ≡ y
-  found_number a d x y n h same = one_number a x y (found_named x n) (named d y h) same
+  found_number a d x y n h same = one_number a x y n (s.tables d y h) same
 
   pub tables_agree : AreDrawn w → TablesAgree w
   tables_agree d = record {
-    address = λ c k x y h i same. one_address x y (named c x h) (named k y i) same;
-    number = λ c k x y h i same. one_number d x y (named c x h) (named k y i) same;
+    address = λ c k x y h i same. one_address x y (s.tables c x h) (s.tables k y i) same;
+    number = λ c k x y h i same. one_number d x y (s.tables c x h) (s.tables k y i) same;
     gear = λ c k g x y h i n m. one_entry x y g g n m refl;
   }
 

@@ -17,7 +17,7 @@ use Rattle.dali_events.specs.World.{World, Controller, controller_at, nobody, co
 use Rattle.dali_events.specs.Happens.{happens, with_outstanding, controller_informed, trace_running}
 use Rattle.dali_events.specs.Allowed.{Allowed, MayOrder}
 use Rattle.dali_events.specs.Runs.{after, after_all, AllAllowed, IsRun}
-use Rattle.dali_events.specs.Promises.{KeepsRecords}
+use Rattle.dali_events.specs.Laws.{KeepsRecords}
 use Rattle.dali_events.proofs.Growing.{allowed_front}
 use Rattle.dali_script.proofs.Members.{Each}
 use Rattle.dali_events.proofs.Controllers.{Property, Stands, Of, AddsOrder, Adds, controllers_step, controllers_count}

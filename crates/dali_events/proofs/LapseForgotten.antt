@@ -21,7 +21,7 @@ use Rattle.dali_events.specs.Plan.{Plan}
 use Rattle.dali_events.specs.World.{World, controller_at, gear_at, controllers_changed, start}
 use Rattle.dali_events.specs.Happens.{happens, entry, goes_on, sent_by, told_sent, taken_by, trace_sent}
 use Rattle.dali_events.specs.Allowed.{Allowed, IsUp, HasDraws, Hears}
-use Rattle.dali_events.specs.Runs.{KeepsRandom}
+use Rattle.dali_events.specs.Promise.{KeepsGifts}
 
 -- A LAPSE MATTERS. A variant of the rules in which nobody owns the bus after a lapse, others may begin, and the old owner may
 -- still go on with its trace; and a list of events that it allows, in which a gear with a short address draws another number.
@@ -194,6 +194,6 @@ drew = refl
 differ : (n : ℕ) → n ≡ 0x0ABCDE → n ≡ 0x123456 → ⊥
 differ n first second = omega arith
 
-random_changes : KeepsRandom (after_on site giving).world (after_on site (giving ++ going_on)).world → ⊥
+random_changes : KeepsGifts (after_on site giving).world (after_on site (giving ++ going_on)).world → ⊥
 unfolding command_of stage_of
 random_changes keeps = differ (gear_at (after_on site (giving ++ going_on)).world 0).random refl (keeps 0 4 (inl refl)).1

@@ -28,7 +28,7 @@ use Rattle.dali_events.specs.Plan.{Plan, no_block}
 use Rattle.dali_events.specs.World.{World, Controller, gear_at, controller_at, nobody, controller_begun, start}
 use Rattle.dali_events.specs.Happens.{happens, with_outstanding, controller_informed, trace_running}
 use Rattle.dali_events.specs.Allowed.{Allowed, MayOrder}
-use Rattle.dali_events.specs.Runs.{Names}
+use Rattle.dali_events.specs.Promise.{Names}
 use Rattle.dali_script.proofs.Members.{Each}
 use Rattle.dali_events.proofs.Answers.{answered, byte_answered}
 use Rattle.dali_events.proofs.Known.{Knows, IsActive, some_of_code, found_random, search_known}
@@ -165,4 +165,4 @@ found_names R w c f h here known gifts x e =
     let random : (gear_at w who.0).random ≡ x.1 = found_random (gear_at w who.0) (search_of (trace_running w c)) search reply.found ∙ is.number in
     let short : (gear_at w who.0).short ≡ Some x.0 = some_of_code (gear_at w who.0).short is.byte x.0 (known.short who.0 who.1) is.short reply.reply in
     let gift : Has w.gifts (who.0, x.0) = (gifts.holds who.0 x.0 who.1).0 short in
-    (who.0, who.1, subst (λ r. Has w.drawn (who.0, r)) random (gifts.drawn who.0 x.0 gift), gift, random)
+    (who.0, who.1, record { drawer = subst (λ r. Has w.drawn (who.0, r)) random (gifts.drawn who.0 x.0 gift); given = gift; random = random })

@@ -25,7 +25,7 @@ use Rattle.dali_events.specs.Plan.{Plan}
 use Rattle.dali_events.specs.World.{World, controller_at, gear_at, controllers_changed, start}
 use Rattle.dali_events.specs.Happens.{happens, trace_running, entry, goes_on, sent_by, told_sent, taken_by}
 use Rattle.dali_events.specs.Allowed.{Allowed, IsUp, HasDraws, Hears}
-use Rattle.dali_events.specs.Runs.{KeepsRandom}
+use Rattle.dali_events.specs.Promise.{KeepsGifts}
 
 -- TERMINATE MATTERS. A variant of the rules, and a list of events that it allows, in which a gear with a short address draws
 -- another number.
@@ -187,6 +187,6 @@ drew = refl
 differ : (n : ℕ) → n ≡ 0x0ABCDE → n ≡ 0x123456 → ⊥
 differ n first second = omega arith
 
-random_changes : KeepsRandom (after_or_alone (start plan 8) giving) (after_or_alone (start plan 8) (giving ++ drawing_again)) → ⊥
+random_changes : KeepsGifts (after_or_alone (start plan 8) giving) (after_or_alone (start plan 8) (giving ++ drawing_again)) → ⊥
 unfolding command_of stage_of
 random_changes keeps = differ (gear_at (after_or_alone (start plan 8) (giving ++ drawing_again)) 0).random refl (keeps 0 0 (inl refl)).1

@@ -1,4 +1,4 @@
-use Rattle.std.proofs.Common.{◌≡◌, ℕ, List, [], ◌∷◌, ◌++◌, refl, inl, inr, lit<, lit≤}
+use Rattle.std.proofs.Common.{◌≡◌, ℕ, List, [], ◌∷◌, ◌++◌, refl, inl, inr, lit<, lit≤, arith, Some}
 use Rattle.dali_frame.specs.declared.frames.Answer.TheVariants.{Silence, Byte}
 use Rattle.dali_frame.specs.declared.numbers.SearchAddress.{SearchAddress}
 use Rattle.dali_special.specs.Command.{command_of, frame}
@@ -11,11 +11,13 @@ use Rattle.dali_script.specs.declared.orders.Order.TheVariants.{Put, Commit}
 use Rattle.dali_events.specs.declared.event.Event.{Event}
 use Rattle.dali_events.specs.declared.event.Event.TheVariants as event
 use Rattle.dali_events.specs.Plan.{Plan}
-use Rattle.dali_events.specs.World.{start}
-use Rattle.dali_events.specs.Runs.{after, AllAllowed, IsSafe}
+use Rattle.dali_gear.specs.Gear.{fresh}
+use Rattle.dali_events.specs.World.{World, gear_at, start}
+use Rattle.dali_events.specs.Runs.{after, after_all, AllAllowed}
+use Rattle.dali_events.specs.Promise.{KeepsPromiseNow, IsSafe}
 
--- THE PLAN MATTERS. Two plans that are refused, each with a list of events that are all allowed, and with an address that two
--- gear hold in the end.
+-- PLAN AND FACTORY MATTER. Two plans that are refused, and a gear that does not come from the factory; each with a list of
+-- events that are all allowed, and with an address that two gear hold in the end.
 abbrev block : Block
 block = record { first = 0; last = 3 }
 
@@ -197,3 +199,80 @@ overlapping_gifts = refl
 overlapping_is_unsafe : IsSafe (after overlapping 8 giving_each) → ⊥
 unfolding command_of stage_of
 overlapping_is_unsafe safe = safe.address_once.0 (inl refl)
+
+-- ------------------------------------------------------ a gear that does not come from the factory
+
+-- its short address was erased, and it has its random address still: the number that gear 0 will draw
+abbrev not_new : Plan
+not_new = record { gear = 2; blocks = block ∷ []; draws = 0x123456 ∷ [] }
+
+abbrev with_erased : World
+with_erased = record (start not_new 8) { gear = fresh ∷ record fresh { random = 0x123456 } ∷ [] }
+
+-- gear 0 alone takes the second RANDOMISE; then a reservation, and both gear at 123456 store the address 0
+abbrev giving_both : List Event
+giving_both =
+    silent 0 0xA1 0 ∷
+    silent 0 0xA5 0xFF ∷
+    silent 0 0xA5 0xFF ∷
+    silent 0 0xA7 0 ∷
+    event.Destroyed 0 (frame 0xA7 0) (record { 0 = 1 }) ∷
+    event.Acted 0 input.Destroyed (Commit (Reserve 0 0x123456)) ∷
+    event.Acted 0 input.Committed (Put 3 (frame 0xB1 0x12)) ∷
+    silent 0 0xB1 0x12 ∷
+    silent 0 0xB3 0x34 ∷
+    silent 0 0xB5 0x56 ∷
+    query 0 0xFF ∷
+    silent 0 0xB7 0x01 ∷
+    []
+
+with_erased_allowed : AllAllowed with_erased giving_both
+unfolding command_of stage_of
+with_erased_allowed = (
+  record { up = record { known = lit< tt; up = refl }; may = inr (refl, (block, [], (Open, tt, refl))); draws = lit≤ tt; heard = tt },
+  (
+    record { up = record { known = lit< tt; up = refl }; may = inl (refl, (Open, tt, (refl, tt, refl))); draws = lit≤ tt; heard = tt },
+    (
+      record { up = record { known = lit< tt; up = refl }; may = inl (refl, (Open, tt, (refl, tt, (refl, tt, refl)))); draws = lit≤ tt; heard = tt },
+      (
+        record { up = record { known = lit< tt; up = refl }; may = inl (refl, (Open, tt, (refl, tt, (refl, tt, (refl, tt, refl))))); draws = lit≤ tt; heard = tt },
+        (
+          record { up = record { known = lit< tt; up = refl }; may = inl (refl, (Open, tt, (refl, tt, (refl, tt, (refl, tt, (refl, tt, refl)))))); draws = lit≤ tt },
+          (
+            record { up = record { known = lit< tt; up = refl }; due = refl; order = (refl, ((lit≤ tt, lit≤ tt), lit< tt, (λ h. h, λ h. h))) },
+            (
+              record { up = record { known = lit< tt; up = refl }; due = tt; order = inl (refl, (block, [], (Probe at_123456, tt, refl))) },
+              (
+                record { up = record { known = lit< tt; up = refl }; may = inr (refl, (block, [], (Probe at_123456, tt, refl))); draws = lit≤ tt; heard = tt },
+                (
+                  record { up = record { known = lit< tt; up = refl }; may = inl (refl, (Probe at_123456, tt, (refl, tt, refl))); draws = lit≤ tt; heard = tt },
+                  (
+                    record { up = record { known = lit< tt; up = refl }; may = inl (refl, (Probe at_123456, tt, (refl, tt, (refl, tt, refl)))); draws = lit≤ tt; heard = tt },
+                    (
+                      record { up = record { known = lit< tt; up = refl }; may = inl (refl, (Look at_123456, tt, (refl, tt, (refl, tt, (refl, tt, refl))))); draws = lit≤ tt; heard = (λ e. cc, (refl, (refl, tt))) },
+                      (
+                        record { up = record { known = lit< tt; up = refl }; may = inl (refl, (Give at_123456 0, may_give_123456, (refl, tt, (refl, tt, (refl, tt, (refl, refl, refl)))))); draws = lit≤ tt; heard = tt },
+                        tt,
+                      ),
+                    ),
+                  ),
+                ),
+              ),
+            ),
+          ),
+        ),
+      ),
+    ),
+  ),
+)
+
+both_hold : ((gear_at (after_all with_erased giving_both) 0).short ≡ Some 0) × ((gear_at (after_all with_erased giving_both) 1).short ≡ Some 0)
+unfolding command_of stage_of
+both_hold = (refl, refl)
+
+two_gear : (g h : ℕ) → g ≡ 0 → h ≡ 1 → g ≡ h → ⊥
+two_gear g h zero one same = omega arith
+
+with_erased_is_unsafe : KeepsPromiseNow (after_all with_erased giving_both) → ⊥
+unfolding command_of stage_of
+with_erased_is_unsafe kept = two_gear 0 1 refl refl (kept.one_gear 0 1 0 (lit< tt, refl) (lit< tt, refl))

@@ -1,4 +1,4 @@
-use Rattle.std.proofs.Common.{◌≡◌, ℕ, ◌<◌, Bool, true, false, List, [], ◌∷◌, ◌++◌, refl, sym, ap, subst, ◌∙◌, length, length-set, get_or, Some, None}
+use Rattle.std.proofs.Common.{◌≡◌, ℕ, ◌<◌, Bool, true, false, List, [], ◌∷◌, ◌++◌, refl, sym, ap, subst, ◌∙◌, append_assoc, length, length-set, get_or, Some, None}
 use Rattle.std.proofs.lemmas.List.{length-map, length-replicate, get_or-replicate}
 use Rattle.std.specs.Prelude.{if◌then◌else◌}
 use Rattle.dali_frame.specs.declared.frames.Forward.{Forward}
@@ -15,9 +15,10 @@ use Rattle.dali_events.specs.Plan.{Plan, IsPlan}
 use Rattle.dali_events.specs.World.{World, gear_at, controller_at, nobody, start, gear_changed}
 use Rattle.dali_events.specs.Happens.{happens, trace_running, gear_powered}
 use Rattle.dali_events.specs.Allowed.{Allowed, IsUp, MaySend}
-use Rattle.dali_events.specs.Runs.{after, after_all, AllAllowed, IsRun, Names, IsSafe, KeepsRandom, IsSafeHistory}
+use Rattle.dali_events.specs.Runs.{after, after_all, AllAllowed, IsRun}
+use Rattle.dali_events.specs.Promise.{HoldsShort, KeepsPromiseNow, KeepsAddresses, KeepsPromise, Names, IsSafe, KeepsGifts, IsSafeHistory}
 use Rattle.dali_events.proofs.Growing.{after_both, allowed_front, allowed_rest}
-use Rattle.dali_script.proofs.Members.{Each, each_changed, each_map}
+use Rattle.dali_script.proofs.Members.{Each, each_changed, each_map, same_member}
 use Rattle.dali_events.proofs.Drawn.{Draws, draws_step, draws_start, are_drawn}
 use Rattle.dali_events.proofs.Controllers.{Of}
 use Rattle.dali_events.proofs.Reserves.{AllReserve, reserves_step, reserves_start, IsReserved, reserved_stays, one_number}
@@ -85,10 +86,10 @@ gifts_more R S gs ds gf more k = record {
   address_once = k.address_once;
 }
 
-names_stay : (w v : World) → ChangeOf w v → ((x : ℕ × ℕ) → Has w.drawn x → Has v.drawn x) → KeepsRandom w v → (x : Assignment) → Names w x → Names v x
+names_stay : (w v : World) → ChangeOf w v → ((x : ℕ × ℕ) → Has w.drawn x → Has v.drawn x) → KeepsGifts w v → (x : Assignment) → Names w x → Names v x
 names_stay w v ch drawn keeps x n =
-    let kept = keeps n.0 x.0 n.3 in
-    (n.0, subst (λ m. n.0 < m) (sym ch.count) n.1, drawn (n.0, x.1) n.2, kept.0, kept.1 ∙ n.4)
+    let kept = keeps n.0 x.0 n.2.given in
+    (n.0, subst (λ m. n.0 < m) (sym ch.count) n.1, record { drawer = drawn (n.0, x.1) n.2.drawer; given = kept.0; random = kept.1 ∙ n.2.random })
 
 found_of : (p : Plan) (w : World) (e : Event) (M : Assignment → Type 0) → Allowed w e → Holds p w → ((x : Assignment) → Names w x → M x) → FoundBy M w e
 found_of p w (event.Sent c f h) M here k more = λ x e. more x (found_names (IsReserved w.controllers) w c f h here k.known k.gifts x e)
@@ -98,7 +99,7 @@ module _ (p : Plan) (plan : IsPlan p) (w : World) (e : Event) (here : Allowed w 
   ch : ChangeOf w (happens w e)
   ch = change_of p w e here k
 
-  keeps : KeepsRandom w (happens w e)
+  keeps : KeepsGifts w (happens w e)
   keeps g a h = (
     gift_stays (IsReserved w.controllers) (one_number p w.controllers plan k.reserves) w.gear _ w.drawn w.gifts _ _ (are_drawn p w plan k.draws).once k.gifts ch g a h,
     gift_random (IsReserved w.controllers) (one_number p w.controllers plan k.reserves) w.gear _ w.drawn w.gifts _ _ (are_drawn p w plan k.draws).once k.gifts ch g a h,
@@ -108,7 +109,7 @@ module _ (p : Plan) (plan : IsPlan p) (w : World) (e : Event) (here : Allowed w 
   names x n = names_stay w (happens w e) ch
       (draw_stays (IsReserved w.controllers) (one_number p w.controllers plan k.reserves) w.gear _ w.drawn w.gifts _ _ (are_drawn p w plan k.draws).once k.gifts ch) keeps x n
 
-  pub keeps_step : KeepsRandom w (happens w e)
+  pub keeps_step : KeepsGifts w (happens w e)
   keeps_step = keeps
 
   pub holds_step : Holds p (happens w e)
@@ -150,11 +151,11 @@ holds_all p plan w (e ∷ es) all k = holds_all p plan (happens w e) es all.1 (h
 pub holds_after : (p : Plan) (capacity : ℕ) (log : List Event) → IsRun p capacity log → Holds p (after p capacity log)
 holds_after p capacity log run = holds_all p run.plan (start p capacity) log run.allowed (holds_start p capacity)
 
-pub keeps_all : (p : Plan) → IsPlan p → (w : World) (es : List Event) → AllAllowed w es → Holds p w → KeepsRandom w (after_all w es)
+pub keeps_all : (p : Plan) → IsPlan p → (w : World) (es : List Event) → AllAllowed w es → Holds p w → KeepsGifts w (after_all w es)
 keeps_all p plan w [] all k = λ g a h. (h, refl)
 keeps_all p plan w (e ∷ es) all k =
     both (keeps_step p plan w e all.0 k) (keeps_all p plan (happens w e) es all.1 (holds_step p plan w e all.0 k)) where
-      both : KeepsRandom w (happens w e) → KeepsRandom (happens w e) (after_all (happens w e) es) → KeepsRandom w (after_all (happens w e) es)
+      both : KeepsGifts w (happens w e) → KeepsGifts (happens w e) (after_all (happens w e) es) → KeepsGifts w (after_all (happens w e) es)
       both first rest g a h = let one = first g a h in let two = rest g a one.0 in (two.0, two.1 ∙ one.1)
 
 -- A WORLD OF A RUN IS SAFE
@@ -163,7 +164,7 @@ safe p w k = record {
   gear_once = k.gifts.gear_once;
   address_once = k.gifts.address_once;
   holds = k.gifts.holds;
-  tables = λ c there entry h. (k.says c there).enrolled entry h;
+  tables = λ c entry h. (k.says c h.0).enrolled entry h.1;
 }
 
 pub run_front : (p : Plan) (capacity : ℕ) (front rest : List Event) → IsRun p capacity (front ++ rest) → IsRun p capacity front
@@ -175,9 +176,32 @@ safe_history p capacity log run = record {
       (holds_after p capacity earlier (run_front p capacity earlier more (subst (λ es. IsRun p capacity es) (sym e) run)));
   ever_after = λ earlier later rest e. since earlier later rest (subst (λ es. IsRun p capacity es) (sym e) run);
 } where
-  since : (earlier later rest : List Event) → IsRun p capacity (earlier ++ (later ++ rest)) → KeepsRandom (after p capacity earlier) (after p capacity (earlier ++ later))
+  since : (earlier later rest : List Event) → IsRun p capacity (earlier ++ (later ++ rest)) → KeepsGifts (after p capacity earlier) (after p capacity (earlier ++ later))
   since earlier later rest r =
       let allowed : AllAllowed (after p capacity earlier) later =
       allowed_front (after p capacity earlier) later rest (allowed_rest (start p capacity) earlier (later ++ rest) r.allowed) in
-      subst (λ v. KeepsRandom (after p capacity earlier) v) (sym (after_both (start p capacity) earlier later))
+      subst (λ v. KeepsGifts (after p capacity earlier) v) (sym (after_both (start p capacity) earlier later))
       (keeps_all p r.plan (after p capacity earlier) later allowed (holds_after p capacity earlier (run_front p capacity earlier (later ++ rest) r)))
+
+-- THE PROMISE, BY GEAR AND TABLES ALONE
+promise_now : (p : Plan) (w : World) → Holds p w → KeepsPromiseNow w
+promise_now p w k = record {
+  one_gear = λ g h a one two.
+      ap (λ gift. gift.0) (same_member (λ gift. gift.1) w.gifts (g, a) (h, a) k.gifts.address_once ((k.gifts.holds g a one.0).0 one.1) ((k.gifts.holds h a two.0).0 two.1) refl);
+  tables = λ c entry h. let n = (k.says c h.0).enrolled entry h.1 in (n.0, (n.1, (k.gifts.holds n.0 entry.0 n.1).1 n.2.given), n.2.random);
+}
+
+keeps_addresses : (p : Plan) (w v : World) → Holds p w → Holds p v → KeepsGifts w v → KeepsAddresses w v
+keeps_addresses p w v k m keeps g a h =
+    let kept = keeps g a ((k.gifts.holds g a h.0).0 h.1) in
+    let there : g < length v.gear = m.gifts.there g a kept.0 in
+    ((there, (m.gifts.holds g a there).1 kept.0), kept.1)
+
+pub keeps_promise : (p : Plan) (capacity : ℕ) (log : List Event) → IsRun p capacity log → KeepsPromise p capacity log
+keeps_promise p capacity log run = record {
+  always = λ earlier more e. promise_now p (after p capacity earlier) (front earlier more e);
+  ever_after = λ earlier later rest e. keeps_addresses p (after p capacity earlier) (after p capacity (earlier ++ later)) (front earlier (later ++ rest) e)
+      (front (earlier ++ later) rest (append_assoc earlier later rest ∙ e)) ((safe_history p capacity log run).ever_after earlier later rest e);
+} where
+  front : (es more : List Event) → es ++ more ≡ log → Holds p (after p capacity es)
+  front es more e = holds_after p capacity es (run_front p capacity es more (subst (λ l. IsRun p capacity l) (sym e) run))

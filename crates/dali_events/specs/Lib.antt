@@ -3,5 +3,6 @@ pub mod World
 pub mod Happens
 pub mod Allowed
 pub mod Runs
-pub mod Promises
+pub mod Promise
+pub mod Laws
 pub mod Searching

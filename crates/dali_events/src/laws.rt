@@ -21,8 +21,9 @@ ghost use Rattle.dali_events.specs.World.{World, controller_at};
 ghost use Rattle.dali_events.specs.Happens.{happens};
 ghost use Rattle.dali_events.specs.Allowed.{Allowed, Hears};
 ghost use Rattle.dali_events.specs.Plan.{Plan};
-ghost use Rattle.dali_events.specs.Runs.{after, after_all, AllAllowed, IsRun, AreDrawn, IsSafe, IsSafeHistory};
-ghost use Rattle.dali_events.specs.Promises.{GiftsAreReserved, TablesAgree, FindingsAgree, KeepsRecords};
+ghost use Rattle.dali_events.specs.Runs.{after, after_all, AllAllowed, IsRun, AreDrawn};
+ghost use Rattle.dali_events.specs.Promise.{KeepsPromise, IsSafe, IsSafeHistory};
+ghost use Rattle.dali_events.specs.Laws.{GiftsAreReserved, TablesAgree, FindingsAgree, KeepsRecords};
 ghost use Rattle.dali_events.specs.Searching.{EachPowered, EachActive, frame_in, number_at, sent_event, up_to_compare};
 ghost use Rattle.dali_events.specs.Searching.{SearchesAll, NobodyAnswers, HasShort};
 ghost use Rattle.dali_script.specs.Records.{Assignment, Has};
@@ -82,12 +83,18 @@ pub fn gifts_stay_reserved()
         → Has (controller_at (after_all w es) c).records.reserved x }
 {}
 
-/// EVERY RUN IS SAFE. In every world of every run each gear was given at most one short address, and each short address
+/// EVERY RUN IS SAFE. In every world of every run no two gear hold one short address; a gear that holds one holds it,
+/// with its random address, in every later world; and for every kept enrolment of every controller there is the gear
+/// that holds its address and has its number.
+///
+/// That follows from what was given and drawn: each gear was given at most one short address, and each short address
 /// was given to at most one gear; a gear holds an address exactly where it was given it, and from then on has one
-/// random address for good; and every kept enrolment of every controller names the gear that drew its number and was
-/// given its address.
+/// random address for good; and every kept enrolment names the gear that drew its number and was given its address.
 pub fn every_run_is_safe()
-    ensures { (p : Plan) (capacity : ℕ) (log : List Event) → IsRun p capacity log → IsSafeHistory p capacity log }
+    ensures promise { (p : Plan) (capacity : ℕ) (log : List Event) → IsRun p capacity log
+        → KeepsPromise p capacity log }
+    ensures history { (p : Plan) (capacity : ℕ) (log : List Event) → IsRun p capacity log
+        → IsSafeHistory p capacity log }
 {}
 
 /// NO TWO TABLES DISAGREE. At each moment of every run, two kept enrolments with one short address, one number or one

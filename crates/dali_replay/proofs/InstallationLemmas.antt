@@ -17,7 +17,7 @@ use Rattle.dali_events.specs.Plan.{block_at}
 use Rattle.dali_events.specs.World.{World, Controller, controller_at}
 use Rattle.dali_events.specs.Happens.{controller_informed, with_outstanding, kept_after}
 use Rattle.dali_events.specs.Allowed.{Allowed, MayCommit, MayOrder}
-use Rattle.dali_events.specs.Promises.{KeepsRecords}
+use Rattle.dali_events.specs.Laws.{KeepsRecords}
 use Rattle.dali_standing.specs.declared.refusal.Refusal.{Refusal}
 use Rattle.dali_standing.specs.declared.refusal.Refusal.TheVariants as refusal
 use Rattle.dali_standing.specs.Seats.{due_of}

@@ -1,7 +1,7 @@
 //! A run from the bytes of a script to the bytes of its reports.
 
 ghost use Rattle.std.specs.Prelude.{◌≡◌, ℕ, ◌+◌, ◌<◌, ◌≤◌, ◌⊎◌, List, length, Some, None, Ok, Err, IfOk, IfErr, IfSome};
-ghost use Rattle.std.specs.Prelude.{MatchResult, IsErrOf};
+ghost use Rattle.std.specs.Prelude.{MatchResult, IsErrOf, IsErrAnd};
 ghost use Rattle.std.specs.Io.KnownBytes.{Consumes};
 ghost use Rattle.dali_replay.specs.Lines.{lines_of, numbered_after};
 ghost use Rattle.dali_replay.specs.Bench.{start};
@@ -201,7 +201,7 @@ pub fn run_replay<R: Read, W: Write>(
     ensures told { IfSome (R.remaining reader.old)
         (λ input. Tells (setting_of input) (W.contents writer.old) (W.contents writer.new) result) }
     ensures long { IfSome (R.remaining reader.old) (λ input. 1048576 < length input
-        → IfErr result (λ e. (e ≡ ReplayFault.Memory) ⊎ (e ≡ ReplayFault.Read))) }
+        → IsErrAnd result (λ e. (e ≡ ReplayFault.Memory) ⊎ (e ≡ ReplayFault.Read))) }
 {
     let input = read_input(alloc, reader)?;
     replay(alloc, &input, writer)

@@ -14,7 +14,7 @@ use Rattle.dali_events.specs.Plan.{Plan}
 use Rattle.dali_events.specs.World.{World, Controller, controller_at}
 use Rattle.dali_events.specs.Allowed.{IsDue}
 use Rattle.dali_events.specs.Runs.{after, IsRun}
-use Rattle.dali_events.specs.Promises.{HasFound, FindingsAgree}
+use Rattle.dali_events.specs.Laws.{HasFound, FindingsAgree}
 use Rattle.dali_events.proofs.Agreeing.{findings_agree_in}
 use Rattle.dali_standing.specs.Seats.{IsRunning}
 use Rattle.dali_standing.specs.Settled.{IsPlacedBy}

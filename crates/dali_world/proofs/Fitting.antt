@@ -14,7 +14,7 @@ use Rattle.dali_events.specs.Plan.{block_at}
 use Rattle.dali_events.specs.World.{World, Controller, controller_at}
 use Rattle.dali_events.specs.Happens.{controller_informed, with_outstanding, kept_after}
 use Rattle.dali_events.specs.Allowed.{Allowed, MayCommit, MayOrder}
-use Rattle.dali_events.specs.Promises.{KeepsRecords}
+use Rattle.dali_events.specs.Laws.{KeepsRecords}
 use Rattle.dali_world.specs.Site.{SiteState, Receipt, world, HasActed}
 
 -- A RECORD THAT IS ORDERED FITS the block that the plan gives to its controller.

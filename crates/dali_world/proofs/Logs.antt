@@ -11,13 +11,14 @@ use Rattle.dali_events.specs.Plan.{Plan, IsPlan}
 use Rattle.dali_events.specs.World.{World, Controller, controller_at, start}
 use Rattle.dali_events.specs.Happens.{happens}
 use Rattle.dali_events.specs.Allowed.{Allowed, IsUp, IsDue, MaySend}
-use Rattle.dali_events.specs.Runs.{after, after_all, IsRun, IsSafe}
+use Rattle.dali_events.specs.Runs.{after, after_all, IsRun}
+use Rattle.dali_events.specs.Promise.{IsSafe}
 use Rattle.dali_events.proofs.Growing.{after_more, run_more}
 use Rattle.dali_events.proofs.Controllers.{controllers_count}
 use Rattle.dali_events.proofs.Safe.{safe_history, safe, holds_after}
 use Rattle.dali_events.proofs.Agreeing.{tables_agree_in}
 use Rattle.dali_events.proofs.Keeping.{records_kept}
-use Rattle.dali_events.specs.Promises.{TablesAgree, KeepsRecords}
+use Rattle.dali_events.specs.Laws.{TablesAgree, KeepsRecords}
 use Rattle.dali_standing.specs.Standing.{Standing, stand_of, machines_at, machines_after, machine_in, controller_on, Moves, MayBeSent}
 use Rattle.dali_world.proofs.Capacity.{capacity_kept}
 use Rattle.dali_world.proofs.Room.{gear_count, gifts_fit_after}
@@ -262,6 +263,15 @@ never_conflicts s was old shares room c i view site there due placed answer = go
   go (Some m) has answer =
       let known = subst (λ (k : Controller). IsRunning k m × IsPlacedBy (owns old.bus.owner c) old.trace k (Some m)) is (placed m has) in
       no_conflict s.plan s.queue s.log c m i (owns old.bus.owner c) old.trace site.run there_s (subst (λ (k : Controller). IsDue k i) is due) known.0 known.1 answer
+
+-- ---------------------------------------------------------------- a machine keeps its controller's records
+
+pub own_records : (s was : SiteState) (old : Standing) (shares : List ℕ) (room c : ℕ) → s ≡ was → IsSite s old shares room → IsPlacedOn old c
+    → (m : Machine) → machine_at was c ≡ Some m → m.kept ≡ (controller_at (world was) c).records
+own_records s was old shares room c view site placed m has =
+    let has_s : machine_in (machines s) c ≡ Some m = subst (λ (w : SiteState). machine_at w c ≡ Some m) (sym view) has in
+    let has_old : machine_in old.machines c ≡ Some m = ap (λ (t : Standing). machine_in t.machines c) site.stands ∙ has_s in
+    (placed m has_old).0.kept ∙ ap (λ (t : Standing). (controller_on t c).records) site.stands ∙ ap (λ (w : SiteState). (controller_at (world w) c).records) view
 
 -- ---------------------------------------------------------------- the promise, of the world now
 

@@ -19,7 +19,8 @@ use Rattle.dali_events.specs.Plan.{Plan}
 use Rattle.dali_events.specs.World.{World, controller_at, start}
 use Rattle.dali_events.specs.Happens.{happens}
 use Rattle.dali_events.specs.Allowed.{Allowed, IsUp, IsDue, IsDown, IsArc}
-use Rattle.dali_events.specs.Runs.{after, IsRun, IsSafeHistory}
+use Rattle.dali_events.specs.Runs.{after, IsRun}
+use Rattle.dali_events.specs.Promise.{IsSafeHistory}
 use Rattle.dali_standing.specs.declared.refusal.Refusal.{Refusal}
 use Rattle.dali_standing.specs.declared.refusal.Refusal.TheVariants as refusal
 use Rattle.dali_standing.specs.declared.trouble.Trouble.{Trouble}
@@ -75,9 +76,9 @@ abbrev pub share_of : ℕ → List Event → ℕ
 share_of c [] = 0
 share_of c (e ∷ es) = (if is_step_of c e then 1 else 0) + share_of c es
 
--- ---------------------------------------------------------------- the promise
+-- ---------------------------------------------------------------- what is true of every site
 
--- THE PROMISE, of a site in hand: its log is a run of the definitions, and its history is safe.
+-- OF A SITE IN HAND: its log is a run of the definitions, and its history is safe.
 pub record IsSound (s : SiteState) : Type 0 where
   pub run : IsRun s.plan s.queue s.log
   pub safe : IsSafeHistory s.plan s.queue s.log

@@ -2,7 +2,7 @@
 //!
 //! `SiteState` has one call for each event. What a site is follows from its plan and its log alone, by the definitions
 //! of `dali_events`: the world after the log. Each accepted call adds one event, which is allowed in that world; a
-//! refusal changes nothing.
+//! refusal changes nothing. `SiteState::is_safe` says what is promised of each site.
 #![tactic(auto)]
 
 mod receipt;

@@ -5,14 +5,15 @@ ghost use Rattle.std.specs.Vec.{vec_capacity};
 ghost use Rattle.dali_events.specs.declared.event.Event.TheVariants as event;
 ghost use Rattle.dali_events.specs.World.{gear_at, controller_at};
 ghost use Rattle.dali_events.specs.Allowed.{IsUp, MaySend, IsArc};
-ghost use Rattle.dali_events.specs.Runs.{IsRun, IsSafe, IsSafeHistory};
-ghost use Rattle.dali_events.specs.Promises.{TablesAgree, KeepsRecords};
+ghost use Rattle.dali_events.specs.Runs.{IsRun};
+ghost use Rattle.dali_events.specs.Promise.{KeepsPromise, IsSafe, IsSafeHistory};
+ghost use Rattle.dali_events.specs.Laws.{TablesAgree, KeepsRecords};
 ghost use Rattle.dali_script.specs.Records.{IsOnce, Fits};
 ghost use Rattle.dali_script.specs.Due.{record_ordered};
 ghost use Rattle.dali_events.specs.Plan.{block_at};
 ghost use Rattle.dali_script.specs.declared.orders.Order.TheVariants as order;
 ghost use Rattle.dali_script.specs.declared.orders.Fault.TheVariants as fault;
-ghost use Rattle.dali_controller.specs.Machine.{table_of};
+ghost use Rattle.dali_controller.specs.Machine.{Machine, table_of};
 ghost use Rattle.dali_standing.specs.declared.trouble.Trouble.TheVariants as trouble;
 ghost use Rattle.dali_standing.specs.declared.refusal.Refusal.TheVariants as refusal;
 
@@ -114,6 +115,9 @@ impl SiteState {
         ensures agreed { IfOk result (λ receipt. receipt.order ≡ order.Halt fault.Conflict → ⊥) }
         ensures fits { IfOk result
             (λ receipt. IfSome (record_ordered (Some receipt.order)) (Fits (block_at self.old.plan c))) }
+        // So each cause of an end is told of the records that `kept` reads.
+        ensures records { IfOk result (λ receipt. (m : Machine) → machine_at self.old c ≡ Some m
+            → m.kept ≡ (controller_at (world self.old) c).records) }
         ensures unchanged { OnErr result (self.new ≡ self.old) }
     {
         let _log = &self.log;
@@ -358,16 +362,19 @@ impl SiteState {
 
     /// THE PROMISE, of this site. Calling it costs nothing; what it says is said of the whole log.
     ///
-    /// At each moment of the log no two gear hold one short address; a gear that was given one keeps it, with its
-    /// random address, ever after; and every record of enrolment that a controller keeps names the gear that holds that
-    /// address, so no two tables disagree. `dali_events` has the words: `IsSafeHistory`, with `IsSafe` and
-    /// `KeepsRandom`. Each controller of the plan is there, and keeps records of its block.
+    /// At each moment of the log no two gear hold one short address; a gear that holds one keeps it, with its random
+    /// address, ever after; and for each record of enrolment that a controller keeps there is the gear that holds that
+    /// address and has that number, so no two tables disagree. `KeepsPromise` says it, in `specs/Promise` of
+    /// `dali_events`; the other clauses say more, of what was given and drawn. All gear and all controllers of the plan
+    /// are there, and each controller keeps records of its block.
     pub fn is_safe(&self)
+        ensures promise { KeepsPromise self.now.plan self.now.queue self.now.log }
         ensures run { IsRun self.now.plan self.now.queue self.now.log }
         ensures safe { IsSafeHistory self.now.plan self.now.queue self.now.log }
         ensures now { IsSafe (world self.now) }
         ensures agree { TablesAgree (world self.now) }
         ensures records { KeepsRecords self.now.plan (world self.now) }
+        ensures gear { length (world self.now).gear ≡ self.now.plan.gear }
         ensures controllers { length (world self.now).controllers ≡ length self.now.plan.blocks }
     {
         let _log = &self.log;

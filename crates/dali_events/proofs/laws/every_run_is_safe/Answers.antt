@@ -1,5 +1,5 @@
-use Rattle.dali_events.proofs.Safe.{safe_history}
+use Rattle.dali_events.proofs.Safe.{keeps_promise, safe_history}
 use Rattle.dali_events.proofs.laws.every_run_is_safe.Goals as goal
 
 pub returns : goal.returns
-returns c = safe_history
+returns c = record { promise = keeps_promise; history = safe_history }

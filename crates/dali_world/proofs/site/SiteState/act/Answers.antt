@@ -6,7 +6,7 @@ use Rattle.dali_standing.specs.Seats.{MayAnswer}
 use Rattle.dali_standing.specs.Standing.{controller_on, machine_in}
 use Rattle.dali_world.specs.Site.{Receipt}
 use Rattle.dali_events.specs.declared.event.Event.TheVariants as event
-use Rattle.dali_world.proofs.Logs.{step_few, step_goes_on, act_site, never_conflicts, records_now}
+use Rattle.dali_world.proofs.Logs.{step_few, step_goes_on, act_site, never_conflicts, own_records, records_now}
 use Rattle.dali_world.proofs.Fitting.{fits_acted}
 use Rattle.dali_world.proofs.site.SiteState.act.Goals as goal
 
@@ -51,3 +51,6 @@ returns-clause-fits c =
     (act_site _ _ _ _ _ c.count-number.new.shares _ c.count-number.result c.args.c c.args.input c.act-order.result c.new.result _ c.self.view_is c.self.invariant
     (c.if-is_crowded.ensures.room refl) (c.if-is_full.ensures.room refl) c.act-order.ensures.moves c.act-order.ensures.answer c.append.ensures.items four
     c.count-number.ensures.number c.new.ensures)
+
+pub returns-clause-records : goal.returns-clause-records
+returns-clause-records c = own_records _ _ _ _ _ c.args.c c.self.view_is c.self.invariant c.act-order.ensures.placed

@@ -1,5 +1,9 @@
+use Rattle.dali_events.proofs.Safe.{keeps_promise}
 use Rattle.dali_world.proofs.Logs.{safe_now, agreeing_now, records_now}
 use Rattle.dali_world.proofs.site.SiteState.is_safe.Goals as goal
+
+pub returns-clause-promise : goal.returns-clause-promise
+returns-clause-promise c = rw (← c.self.view_is) (keeps_promise _ _ _ c.self.invariant.run)
 
 pub returns-clause-now : goal.returns-clause-now
 returns-clause-now c = rw (← c.self.view_is) (safe_now _ _ _ c.self.invariant.run)

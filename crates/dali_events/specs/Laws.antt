@@ -3,9 +3,9 @@ use Rattle.dali_script.specs.declared.records.Record.{Record}
 use Rattle.dali_script.specs.Records.{Assignment, Has, IsKept, IsFresh, Fits}
 use Rattle.dali_events.specs.Plan.{Plan, block_at}
 use Rattle.dali_events.specs.World.{World, gear_at, controller_at}
-use Rattle.dali_events.specs.Runs.{IsDrawer, Names}
+use Rattle.dali_events.specs.Promise.{IsEnrolled, NamesGear, Names}
 
--- WHAT THE LAWS SAY OF ONE WORLD.
+-- WHAT ELSE THE LAWS SAY OF ONE WORLD.
 
 -- ---------------------------------------------------------------- reservations
 
@@ -19,16 +19,6 @@ abbrev pub GiftsAreReserved : World → Type 0
 GiftsAreReserved w = (g a : ℕ) → Has w.gifts (g, a) → IsReservedFor w a (gear_at w g).random
 
 -- ---------------------------------------------------------------- tables of enrolled gear
-
--- controller c keeps the enrolment
-abbrev pub IsEnrolled : World → ℕ → Assignment → Type 0
-IsEnrolled w c entry = (c < length w.controllers) × Has (controller_at w c).records.enrolled entry
-
--- the entry (a, r) names gear g: g drew r, was given a, and its random address is r
-pub record NamesGear (w : World) (entry : Assignment) (g : ℕ) : Type 0 where
-  pub drawer : IsDrawer w g entry.1
-  pub given : Has w.gifts (g, entry.0)
-  pub random : (gear_at w g).random ≡ entry.1
 
 -- two kept enrolments, of one controller or of two, are the same entry where they have one address,
 -- one number or one gear
