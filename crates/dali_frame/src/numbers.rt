@@ -92,7 +92,7 @@ impl Model for Random24 {
 impl Random24 {
     ghost use Rattle.dali_frame.specs.Random.{high_of, middle_of, low_of, number_of};
 
-    /// MASK: the random address of a gear that has drawn none.
+    /// MASK: the random address at reset, which no gear draws.
     pub const MASK: Random24 = Random24 { value: 0xFFFFFF };
 
     /// The number, where it has at most 24 bits.
@@ -192,7 +192,10 @@ impl SearchAddress {
     }
 }
 
-/// The priority of a request for the bus, 1 (highest) to 5 (IEC 62386-101:2014, priorities of transactions).
+/// The priority of a forward frame, 1 (highest) to 5 (IEC 62386-101:2014, multi-master transmitters).
+///
+/// In the standard it is the time for which a transmitter waits before it sends, and so decides who is first. Here it
+/// decides in which list a request waits (this project's profile).
 ///
 /// Contracts see the number.
 #[derive(Clone, Copy, Debug, PartialEq, Eq, PartialOrd, Ord)]

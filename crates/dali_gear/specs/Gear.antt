@@ -39,13 +39,14 @@ is_active _ = true
 abbrev pub is_found : Gear → Bool
 is_found g = g.random == value_of g.search
 
--- the second of two equal frames, taken one directly after the other
+-- the same gear are meant
 abbrev pub same_target : Target → Target → Bool
 same_target All All = true
 same_target (Addressed a) (Addressed b) = a == b
 same_target Unaddressed Unaddressed = true
 same_target _ _ = false
 
+-- the second of two equal send-twice frames, taken one directly after the other
 abbrev pub is_second : Command → Option Command → Bool
 is_second (Initialise target) (Some (Initialise first)) = same_target target first
 is_second Randomise (Some Randomise) = true

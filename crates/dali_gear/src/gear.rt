@@ -82,7 +82,7 @@ impl Gear {
     ghost use Rattle.dali_gear.specs.Gear.{gear_expired, gear_quieted, would_draw, is_active, is_found, answer};
     ghost use Rattle.dali_gear.specs.Gear.{gear_taken, concerns, is_second};
 
-    /// A gear from the factory: powered, DISABLED, with no address drawn or stored.
+    /// A gear from the factory: powered, DISABLED, without short address and with random address `FFFFFF`.
     pub fn new() -> Gear
         ensures { result ≡ fresh }
     {

@@ -17,13 +17,18 @@ use std::alloc::Global;
 ///
 /// Contracts see the store by six ghost members:
 ///
-/// - `block`: the block of short addresses that the records are of. It never changes. - `holds`: the list of records,
-/// oldest first, that is stored. - `kept`: what the store knows of that list, as records that are kept: its replay (the
-/// law `replay`), unless `must_read`. - `must_read`: a commit failed, and no read has answered since. Then it isn't
-/// known whether its record is stored. - `is_sound`: a list is stored, and what the store knows of it is true. It stays
-/// so from call to call. - `is_up`: what lies under the store is open, and has so far given back what was written to
-/// it. Clauses on the list ask for it after a call, since a disk may fail within one; a later `is_up` says it of all
-/// calls before (the clauses `up`).
+/// - `block`: the block of short addresses that the records are of. It never changes.
+/// - `holds`: the list of records, oldest first, that is stored.
+/// - `kept`: what the store knows of that list, as records that are kept: its replay (the law `replay`), unless
+///   `must_read`.
+/// - `must_read`: a commit failed, and no read has answered since. Then it isn't known whether its record is stored.
+/// - `is_sound`: a list is stored, and what the store knows of it is true. It stays so from call to call.
+/// - `is_up`: what lies under the store is open, and has so far given back what was written to it. Clauses on the list
+///   ask for it after a call, since a disk may fail within one; a later `is_up` says it of all calls before (the
+///   clauses `up`).
+///
+/// Nothing here says that a store is ever sound: what this trait promises of a list begins with a store that is. So
+/// whatever makes a store, as `MemoryKeep::new`, or opens one has to promise it, with the list that it holds then.
 ///
 /// After an `Ok` of `read` the answer is `kept`, and of the store's block. After an `Ok` of `commit` the list has the
 /// record as its last. After a failed commit the list has the record or not, and the next `read` tells.

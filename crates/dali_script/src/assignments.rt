@@ -1,9 +1,11 @@
-ghost use Rattle.std.specs.Prelude.{◌≡◌, ◌↔◌, ◌<◌, [], ◌∷◌, ◌++◌, IsTrue, IsOk, IfOk, OnOk, OnErr, MatchOption};
+ghost use Rattle.std.specs.Prelude.{◌≡◌, ◌↔◌, ◌<◌, ◌≤◌, [], ◌∷◌, ◌++◌, length, IsTrue, IsOk, IfOk, OnOk, OnErr};
+ghost use Rattle.std.specs.Prelude.{MatchOption};
+ghost use Rattle.std.specs.Vec.{vec_capacity};
 ghost use Rattle.dali_script.specs.Records.{Has, HasAddress, HasRandom};
 
 use crate::records::{AddError, MakeError};
 use dali_frame::{Random24, Short};
-use std::alloc::Global;
+use std::alloc::{AllocError, Global};
 use std::marker::Model;
 
 /// Room for a pair of every short address.
@@ -11,14 +13,15 @@ const ROOM: usize = 64;
 
 /// Short addresses, each with the random address that it is for, in the order in which they were added.
 ///
-/// Contracts see the list of pairs. An address stands once, and a random address once.
+/// Contracts see the list of pairs. An address stands once, and a random address once. The room is 64 places from the
+/// first moment to the last: no call takes more.
 #[derive(Drop)]
 pub struct Assignments {
     pairs: Vec<(Short, Random24)>,
 }
 
 impl Model for Assignments {
-    ghost use Rattle.std.specs.Prelude.{◌≤◌, List};
+    ghost use Rattle.std.specs.Prelude.{◌≡◌, List};
     ghost use Rattle.std.specs.Vec.{vec_capacity};
     ghost use Rattle.dali_script.specs.Records.{Assignment, IsMap};
 
@@ -26,7 +29,7 @@ impl Model for Assignments {
 
     ghost view = { λ a. a.pairs.items };
 
-    ghost invariant = { λ a. IsMap a.pairs.items × (64 ≤ vec_capacity a.pairs) };
+    ghost invariant = { λ a. IsMap a.pairs.items × (vec_capacity a.pairs ≡ 64) };
 }
 
 impl Assignments {
@@ -46,13 +49,10 @@ impl Assignments {
     pub fn copy(&self, alloc: Global) -> Result<Assignments, MakeError>
         ensures { IfOk result (λ a. a ≡ self.now) }
     {
-        let Ok(mut pairs) = Vec::with_capacity(alloc, ROOM) else {
-            return Err(MakeError::NoMemory);
-        };
-        if pairs.extend_from_slice(&self.pairs).is_err() {
-            return Err(MakeError::NoMemory);
+        match copied(alloc, &self.pairs) {
+            Ok(pairs) => Ok(Assignments { pairs }),
+            Err(_) => Err(MakeError::NoMemory),
         }
-        Ok(Assignments { pairs })
     }
 
     /// The pairs, oldest first.
@@ -146,6 +146,22 @@ impl Assignments {
     {
         are_with(&self.pairs, &other.pairs, last)
     }
+}
+
+/// The pairs once more, with room for all that there can be.
+fn copied(
+    alloc: Global,
+    pairs: &[(Short, Random24)],
+) -> Result<Vec<(Short, Random24)>, AllocError>
+    requires { length pairs.now ≤ 64 }
+    ensures items { IfOk result (λ copy. copy.items ≡ pairs.now) }
+    ensures room { IfOk result (λ copy. vec_capacity copy ≡ 64) }
+{
+    let mut copy = Vec::with_capacity(alloc, ROOM)?;
+    for pair in pairs {
+        copy.push_reserved(*pair);
+    }
+    Ok(copy)
 }
 
 fn are_same(pairs: &[(Short, Random24)], others: &[(Short, Random24)]) -> bool

@@ -41,7 +41,7 @@ pub enum Stage {
     Confirmed(SearchAddress, Short),
     /// WITHDRAW was sent to the gear with this short address.
     Withdrawn(SearchAddress, Short),
-    /// Direct arc power was sent: the transaction is over.
+    /// Nothing may follow: direct arc power was sent; or the frames are the front of no script.
     Over,
 }
 

@@ -6,7 +6,7 @@ use Rattle.dali_script.proofs.assignments.Assignments.insert.Goals as goal
 
 pub push_reserved-requires : goal.push_reserved-requires
 push_reserved-requires c =
-    let capacity : 64 ≤ vec_capacity c.self.inside.pairs = c.self.invariant.1 in
+    let capacity : vec_capacity c.self.inside.pairs ≡ 64 = c.self.invariant.1 in
     let no_address : HasAddress c.self.inside.pairs.items c.args.address → ⊥ = rw c.self.view_is (λ h. let no : false ≡ true = c.if-has_address.ensures.value.1 h in cc) in
     let no_random : HasRandom c.self.inside.pairs.items c.args.random → ⊥ = rw c.self.view_is (λ h. let no : false ≡ true = c.if-has_random.ensures.1 h in cc) in
     let room : length c.self.inside.pairs.items < 64 = room_more _ _ _ c.self.invariant.0 no_address no_random c.has_address.ensures.short in
@@ -19,7 +19,7 @@ is_map c =
 
 pub invariant_of-self : goal.invariant_of-self
 invariant_of-self c =
-    let capacity : 64 ≤ vec_capacity c.self.inside.pairs = c.self.invariant.1 in
+    let capacity : vec_capacity c.self.inside.pairs ≡ 64 = c.self.invariant.1 in
     (is_map c, omega (arith, c.push_reserved.ensures.capacity))
 
 pub returns-clause-map : goal.returns-clause-map
