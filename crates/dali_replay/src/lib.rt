@@ -13,6 +13,8 @@ mod replay;
 mod rounds;
 mod site_line;
 mod site_report;
+mod streams;
 mod text;
 
 pub use replay::{ReplayFault, run_replay};
+pub use streams::{replay_streams, replay_through};

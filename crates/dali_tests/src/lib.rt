@@ -16,6 +16,8 @@ mod gear;
 #[cfg(test)]
 mod machine;
 #[cfg(test)]
+mod memory;
+#[cfg(test)]
 mod plan;
 #[cfg(test)]
 mod records;

@@ -46,17 +46,22 @@ fn numbers_are_drawn_once(rt: HostRuntime) {
     refused(&rt, 1, &one, &[0x123456, 0, 0x123456], PlanError::DrawTwice);
 }
 
+fn has<R: Abort>(rt: &R, plan: &Plan, gear: u32, blocks: &[(u8, u8)], draws: &[u32]) {
+    same(rt, &plan.gear(), &gear);
+    assert!(rt; plan.blocks().len() == blocks.len());
+    for (block, wanted) in plan.blocks().iter().zip(blocks) {
+        same(rt, &(block.first.number(), block.last.number()), wanted);
+    }
+    assert!(rt; plan.draws().len() == draws.len());
+    for (draw, wanted) in plan.draws().iter().zip(draws) {
+        same(rt, &draw.value(), wanted);
+    }
+}
+
 #[test]
 fn a_plan_has_what_it_was_made_of(rt: HostRuntime) -> Result<(), Fail> {
     let plan = Plan::new(rt.alloc(), 128, &[(0, 3), (4, 63)], &[0xFFFFFE, 0])?;
-    same(&rt, &plan.gear(), &128);
-    let blocks = plan
-        .blocks()
-        .iter()
-        .map(|block| (block.first.number(), block.last.number()));
-    assert!(rt; blocks.eq([(0, 3), (4, 63)]));
-    let draws = plan.draws().iter().map(|draw| draw.value());
-    assert!(rt; draws.eq([0xFFFFFE, 0]));
+    has(&rt, &plan, 128, &[(0, 3), (4, 63)], &[0xFFFFFE, 0]);
     Ok(())
 }
 

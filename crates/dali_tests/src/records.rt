@@ -3,6 +3,7 @@
 use super::values::Pair::{Enrol, Reserve};
 use super::values::{Pair, are_pairs, block, kept_of, random, same, short};
 use dali_script::{AddError, Kept, MakeError, Record};
+use std::alloc::Global;
 use std::process::Abort;
 use std::test::Fail;
 
@@ -27,42 +28,69 @@ fn is_free<R: Abort>(rt: &R, kept: &Kept, wanted: Option<u8>) {
     same(rt, &free, &wanted);
 }
 
+/// What is reserved and what is enrolled, oldest first.
+fn keeps<R: Abort>(rt: &R, kept: &Kept, reserved: &[(u8, u32)], enrolled: &[(u8, u32)]) {
+    are_pairs(rt, kept.reserved(), reserved);
+    are_pairs(rt, kept.enrolled(), enrolled);
+}
+
+/// Records of the block 4 to 7, of which none is there yet.
+fn fill_in_order<R: Abort>(rt: &R, kept: &mut Kept) -> Result<(), Fail> {
+    is_free(rt, kept, Some(4));
+    adds(rt, kept, Reserve(4, 0x0ABCDE), Ok(()))?;
+    is_free(rt, kept, Some(5));
+    adds(rt, kept, Reserve(4, 1), Err(AddError::AddressTaken))?;
+    adds(rt, kept, Reserve(5, 0x0ABCDE), Err(AddError::RandomTaken))?;
+    // An enrolment of an address is no reservation of it.
+    adds(rt, kept, Enrol(5, 0x0ABCDE), Ok(()))?;
+    is_free(rt, kept, Some(5));
+    let reserved = kept.reserved_for(random(0x0ABCDE)?);
+    same(rt, &reserved, &Some(short(4)?));
+    same(rt, &kept.block(), &block(4, 7)?);
+    keeps(rt, kept, &[(4, 0x0ABCDE)], &[(5, 0x0ABCDE)]);
+    Ok(())
+}
+
 #[test]
 fn records_are_kept_in_order(rt: HostRuntime) -> Result<(), Fail> {
-    let mut kept = Kept::new(rt.alloc(), block(4, 7)?)?;
-    is_free(&rt, &kept, Some(4));
-    adds(&rt, &mut kept, Reserve(4, 0x0ABCDE), Ok(()))?;
-    is_free(&rt, &kept, Some(5));
-    let taken = Err(AddError::AddressTaken);
-    adds(&rt, &mut kept, Reserve(4, 1), taken)?;
-    let taken = Err(AddError::RandomTaken);
-    adds(&rt, &mut kept, Reserve(5, 0x0ABCDE), taken)?;
-    let copy = kept.copy(rt.alloc())?;
-    same(&rt, &copy.same(&kept), &true);
-    // An enrolment of an address is no reservation of it.
-    adds(&rt, &mut kept, Enrol(5, 0x0ABCDE), Ok(()))?;
-    is_free(&rt, &kept, Some(5));
-    let number = random(0x0ABCDE)?;
-    same(&rt, &kept.reserved_for(number), &Some(short(4)?));
-    are_pairs(&rt, kept.reserved(), &[(4, 0x0ABCDE)]);
-    are_pairs(&rt, kept.enrolled(), &[(5, 0x0ABCDE)]);
-    same(&rt, &kept.block(), &block(4, 7)?);
-    same(&rt, &copy.same(&kept), &false);
+    let mut kept = kept_of(rt.alloc(), (4, 7), &[])?;
+    fill_in_order(&rt, &mut kept)
+}
+
+/// A copy is the same as these records, and not as other ones.
+fn is_copied<R: Abort>(rt: &R, alloc: Global, kept: &Kept, other: &Kept) {
+    let told = kept
+        .copy(alloc)
+        .map(|copy| (copy.same(kept), copy.same(other)));
+    same(rt, &told, &Ok((true, false)));
+}
+
+#[test]
+fn a_copy_is_the_same(rt: HostRuntime) -> Result<(), Fail> {
+    let kept = kept_of(rt.alloc(), (4, 7), &[Reserve(4, 1)])?;
+    let other = kept_of(rt.alloc(), (4, 7), &[Reserve(4, 1), Enrol(4, 1)])?;
+    is_copied(&rt, rt.alloc(), &kept, &other);
+    Ok(())
+}
+
+/// Whether each of these fits.
+fn fit<R: Abort>(rt: &R, kept: &Kept, records: &[(Pair, bool)]) -> Result<(), Fail> {
+    for (added, wanted) in records {
+        same(rt, &kept.fits(&added.record()?), wanted);
+    }
     Ok(())
 }
 
 #[test]
 fn records_fit_their_block(rt: HostRuntime) -> Result<(), Fail> {
-    let kept = Kept::new(rt.alloc(), block(4, 7)?)?;
-    for (added, wanted) in [
+    let records = [
         (Reserve(3, 1), false),
         (Reserve(4, 1), true),
         (Enrol(3, 1), true),
         (Enrol(4, 0xFFFFFF), false),
-    ] {
-        same(&rt, &kept.fits(&added.record()?), &wanted);
-    }
-    Ok(())
+    ];
+    let kept = kept_of(rt.alloc(), (4, 7), &[])?;
+    fit(&rt, &kept, &records)
 }
 
 /// Records are fewer ones with this one more, and not with another one.
@@ -86,18 +114,28 @@ fn one_record_more_is_told(rt: HostRuntime) -> Result<(), Fail> {
     Ok(())
 }
 
+/// A reservation and an enrolment of each short address.
+fn fill_all<R: Abort>(rt: &R, kept: &mut Kept) -> Result<(), Fail> {
+    for number in 0..64 {
+        is_free(rt, kept, Some(number));
+        let drawn = u32::from(number);
+        adds(rt, kept, Reserve(number, drawn), Ok(()))?;
+        adds(rt, kept, Enrol(number, drawn), Ok(()))?;
+    }
+    is_free(rt, kept, None);
+    same(rt, &kept.reserved_for(random(64)?), &None);
+    Ok(())
+}
+
 #[test]
 fn every_address_has_room(rt: HostRuntime) -> Result<(), Fail> {
-    let mut kept = Kept::new(rt.alloc(), block(0, 63)?)?;
-    for number in 0..64 {
-        is_free(&rt, &kept, Some(number));
-        let drawn = u32::from(number);
-        adds(&rt, &mut kept, Reserve(number, drawn), Ok(()))?;
-        adds(&rt, &mut kept, Enrol(number, drawn), Ok(()))?;
-    }
-    is_free(&rt, &kept, None);
-    same(&rt, &kept.reserved_for(random(64)?), &None);
-    is_free(&rt, &Kept::new(rt.alloc(), block(5, 4)?)?, None);
+    let mut kept = kept_of(rt.alloc(), (0, 63), &[])?;
+    fill_all(&rt, &mut kept)
+}
+
+#[test]
+fn an_empty_block_has_no_free_address(rt: HostRuntime) -> Result<(), Fail> {
+    is_free(&rt, &kept_of(rt.alloc(), (5, 4), &[])?, None);
     Ok(())
 }
 

@@ -6,7 +6,7 @@ ghost use Rattle.dali_script.specs.declared.records.Record.{Record};
 use super::values::Pair::{Enrol, Reserve};
 use super::values::{Pair, are_pairs, block, same};
 use dali_reserve::{Keep, KeepError, MemoryKeep};
-use dali_script::Record;
+use dali_script::{Kept, Record};
 use std::alloc::Global;
 use std::process::Abort;
 use std::test::Fail;
@@ -46,6 +46,12 @@ fn commits<K: Keep>(
     Ok(())
 }
 
+/// These are reserved and enrolled, oldest first.
+fn has(rt: &impl Abort, kept: &Kept, reserved: &[(u8, u32)], enrolled: &[(u8, u32)]) {
+    are_pairs(rt, kept.reserved(), reserved);
+    are_pairs(rt, kept.enrolled(), enrolled);
+}
+
 /// One list of commits with each refusal, through the bound, and what is read back.
 fn commits_are_read_back<K: Keep>(
     rt: &impl Abort,
@@ -67,44 +73,51 @@ fn commits_are_read_back<K: Keep>(
         (Reserve(1, 0x000001), Ok(())),
     ];
     commits(rt, alloc, keep, &added)?;
-    let kept = keep.read(alloc)?;
-    same(rt, &kept.block(), &block(0, 3)?);
-    are_pairs(
-        rt,
-        kept.reserved(),
-        &[(0, 0x123456), (3, 0xFFFFFE), (1, 0x000001)],
-    );
-    are_pairs(rt, kept.enrolled(), &[(0, 0x123456), (9, 0x000001)]);
+    let reserved = [(0, 0x123456), (3, 0xFFFFFE), (1, 0x000001)];
+    let enrolled = [(0, 0x123456), (9, 0x000001)];
+    has(rt, &keep.read(alloc)?, &reserved, &enrolled);
+    Ok(())
+}
+
+/// A store of no records, of this block.
+fn store_of(alloc: Global, bounds: (u8, u8)) -> Result<MemoryKeep, Fail> {
+    Ok(MemoryKeep::new(alloc, block(bounds.0, bounds.1)?)?)
+}
+
+fn is_of_its_block(rt: &impl Abort, keep: &MemoryKeep) -> Result<(), Fail> {
+    same(rt, &keep.is_of(block(0, 3)?), &true);
+    same(rt, &keep.is_of(block(0, 2)?), &false);
     Ok(())
 }
 
 #[test]
-fn every_store_keeps_a_list(rt: HostRuntime) -> Result<(), Fail> {
-    let mut keep = MemoryKeep::new(rt.alloc(), block(0, 3)?)?;
-    same(&rt, &keep.is_of(block(0, 3)?), &true);
-    same(&rt, &keep.is_of(block(0, 2)?), &false);
-    are_pairs(&rt, keep.read(rt.alloc())?.reserved(), &[]);
-    commits_are_read_back(&rt, rt.alloc(), &mut keep)
+fn a_store_is_of_one_block(rt: HostRuntime) -> Result<(), Fail> {
+    is_of_its_block(&rt, &store_of(rt.alloc(), (0, 3))?)
 }
 
 #[test]
-fn every_address_has_room(rt: HostRuntime) -> Result<(), Fail> {
-    let mut keep = MemoryKeep::new(rt.alloc(), block(0, 63)?)?;
+fn every_store_keeps_a_list(rt: HostRuntime) -> Result<(), Fail> {
+    let mut keep = store_of(rt.alloc(), (0, 3))?;
+    commits_are_read_back(&rt, rt.alloc(), &mut keep)
+}
+
+/// A reservation and an enrolment of each short address are committed.
+fn fill(rt: &impl Abort, alloc: Global, keep: &mut MemoryKeep) -> Result<(), Fail> {
     for number in 0..64 {
         let drawn = u32::from(number) + 0x400000;
         let added = [
             (Reserve(number, drawn), Ok(())),
             (Enrol(63 - number, drawn), Ok(())),
         ];
-        commits(&rt, rt.alloc(), &mut keep, &added)?;
+        commits(rt, alloc, keep, &added)?;
     }
-    let kept = keep.read(rt.alloc())?;
-    same(
-        &rt,
-        &(kept.reserved().len(), kept.enrolled().len()),
-        &(64, 64),
-    );
     Ok(())
+}
+
+#[test]
+fn every_address_has_room(rt: HostRuntime) -> Result<(), Fail> {
+    let mut keep = store_of(rt.alloc(), (0, 63))?;
+    fill(&rt, rt.alloc(), &mut keep)
 }
 
 #[test]

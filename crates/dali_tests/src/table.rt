@@ -1,7 +1,8 @@
 //! The table of enrolled gear.
 
-use super::values::{block, random, same, short};
+use super::values::{are_pairs, block, random, same, short};
 use dali_enrol::{Table, TableError};
+use std::alloc::Global;
 use std::process::Abort;
 use std::test::Fail;
 
@@ -17,58 +18,97 @@ fn enrols<R: Abort>(
     Ok(())
 }
 
-#[test]
-fn an_entry_is_found_by_both_of_its_halves(rt: HostRuntime) -> Result<(), Fail> {
-    let mut table = Table::new(rt.alloc(), block(0, 3)?)?;
-    for (gear, wanted) in [
+/// A table enrols these gear in turn, or refuses them so.
+fn enrols_all<R: Abort>(
+    rt: &R,
+    table: &mut Table,
+    gear: &[((u8, u32), Result<(), TableError>)],
+) -> Result<(), Fail> {
+    for (one, wanted) in gear {
+        enrols(rt, table, *one, *wanted)?;
+    }
+    Ok(())
+}
+
+/// The number at this address, and the address of this number.
+fn finds<R: Abort>(
+    rt: &R,
+    table: &Table,
+    gear: (u8, u32),
+    wanted: (Option<u32>, Option<u8>),
+) -> Result<(), Fail> {
+    let (address, number) = gear;
+    let found = table.by_address(short(address)?).map(|it| it.value());
+    same(rt, &found, &wanted.0);
+    let found = table.by_random(random(number)?).map(|it| it.number());
+    same(rt, &found, &wanted.1);
+    Ok(())
+}
+
+/// A table of no entries, of the block 0 to 3.
+fn table_of(alloc: Global) -> Result<Table, Fail> {
+    Ok(Table::new(alloc, block(0, 3)?)?)
+}
+
+fn one_entry<R: Abort>(rt: &R, table: &mut Table) -> Result<(), Fail> {
+    let gear = [
         ((5, 0x123456), Ok(())),
         ((5, 0x000001), Err(TableError::AddressTaken)),
         ((6, 0x123456), Err(TableError::RandomTaken)),
         ((5, 0x123456), Err(TableError::AddressTaken)),
-    ] {
-        enrols(&rt, &mut table, gear, wanted)?;
+    ];
+    enrols_all(rt, table, &gear)?;
+    finds(rt, table, (5, 0x123456), (Some(0x123456), Some(5)))?;
+    finds(rt, table, (6, 0x000001), (None, None))
+}
+
+#[test]
+fn an_entry_is_found_by_both_of_its_halves(rt: HostRuntime) -> Result<(), Fail> {
+    let mut table = table_of(rt.alloc())?;
+    one_entry(&rt, &mut table)
+}
+
+fn three_entries<R: Abort>(rt: &R, table: &mut Table) -> Result<(), Fail> {
+    let gear = [(9, 0x000002), (2, 0xFFFFFE), (4, 0x000001)];
+    for one in gear {
+        enrols(rt, table, one, Ok(()))?;
     }
-    let number = random(0x123456)?;
-    same(&rt, &table.by_address(short(5)?), &Some(number));
-    same(&rt, &table.by_address(short(6)?), &None);
-    same(&rt, &table.by_random(number), &Some(short(5)?));
-    same(&rt, &table.by_random(random(0x000001)?), &None);
+    are_pairs(rt, table.entries(), &gear);
     Ok(())
 }
 
 #[test]
 fn entries_stand_in_the_order_of_enrolment(rt: HostRuntime) -> Result<(), Fail> {
-    let mut table = Table::new(rt.alloc(), block(0, 3)?)?;
-    let gear = [(9, 0x000002), (2, 0xFFFFFE), (4, 0x000001)];
-    for one in gear {
-        enrols(&rt, &mut table, one, Ok(()))?;
+    let mut table = table_of(rt.alloc())?;
+    three_entries(&rt, &mut table)
+}
+
+fn fill<R: Abort>(rt: &R, table: &mut Table) -> Result<(), Fail> {
+    for number in 0..64 {
+        enrols(rt, table, (63 - number, u32::from(number)), Ok(()))?;
     }
-    let entries = table
-        .entries()
-        .iter()
-        .map(|(address, number)| (address.number(), number.value()));
-    assert!(rt; entries.eq(gear));
+    same(rt, &table.entries().len(), &64);
     Ok(())
 }
 
 #[test]
 fn a_table_has_room_for_every_short_address(rt: HostRuntime) -> Result<(), Fail> {
-    let mut table = Table::new(rt.alloc(), block(0, 3)?)?;
-    for number in 0..64 {
-        enrols(&rt, &mut table, (63 - number, u32::from(number)), Ok(()))?;
+    let mut table = table_of(rt.alloc())?;
+    fill(&rt, &mut table)
+}
+
+fn owns<R: Abort>(rt: &R, table: &Table, addresses: &[(u8, bool)]) -> Result<(), Fail> {
+    same(rt, &table.block(), &block(0, 3)?);
+    for (number, own) in addresses {
+        same(rt, &table.is_own(short(*number)?), own);
     }
-    same(&rt, &table.entries().len(), &64);
     Ok(())
 }
 
 #[test]
 fn own_addresses_lie_in_the_block(rt: HostRuntime) -> Result<(), Fail> {
-    let table = Table::new(rt.alloc(), block(0, 3)?)?;
-    same(&rt, &table.block(), &block(0, 3)?);
-    for (number, own) in [(0, true), (3, true), (4, false), (5, false), (63, false)] {
-        same(&rt, &table.is_own(short(number)?), &own);
-    }
-    Ok(())
+    let addresses = [(0, true), (3, true), (4, false), (5, false), (63, false)];
+    owns(&rt, &table_of(rt.alloc())?, &addresses)
 }
 
 #[test]

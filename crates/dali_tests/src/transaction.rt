@@ -5,7 +5,7 @@
 
 use super::values::Pair::Reserve;
 use super::values::{frame, kept_of, random, same, short};
-use dali_frame::{Answer, Forward, SearchAddress};
+use dali_frame::{Answer, Forward, Random24, SearchAddress, Short};
 use dali_script::{Kept, Stage, Trace};
 use std::alloc::Global;
 use std::process::Abort;
@@ -66,83 +66,115 @@ fn follows<R: Abort>(rt: &R, kept: &Kept, frames: &str, allowed: &str) -> Result
     Ok(())
 }
 
-/// After each of these traces just those frames are allowed.
-fn each_follows<R: Abort>(rt: &R, kept: &Kept, rows: &[(&str, &str)]) -> Result<(), Fail> {
-    for (frames, allowed) in rows {
-        follows(rt, kept, frames, allowed)?;
+/// Each row has a trace, and behind a `>` the frames that are allowed after it.
+fn each_follows<R: Abort>(rt: &R, kept: &Kept, rows: &str) -> Result<(), Fail> {
+    for row in rows.lines() {
+        let (frames, allowed) = row.split_once('>').ok_or("a row")?;
+        follows(rt, kept, frames, allowed.trim())?;
     }
     Ok(())
 }
 
-/// Every position of an opening and of arc power, with the frames that may follow.
+/// Every position of an opening and of arc power.
+const OPENINGS: &str = "> A100 B10A FE80
+A100 > A5FF
+A100 A5FF > A5FF
+A100 A5FF A5FF > A700
+A100 A5FF A5FF A700 > A700
+A100 A5FF A5FF A700 A700 >
+FE80 >";
+
 #[test]
 fn openings_go_on_by_their_table(rt: HostRuntime) -> Result<(), Fail> {
-    let rows = [
-        ("", "A100 B10A FE80"),
-        ("A100", "A5FF"),
-        ("A100 A5FF", "A5FF"),
-        ("A100 A5FF A5FF", "A700"),
-        ("A100 A5FF A5FF A700", "A700"),
-        ("A100 A5FF A5FF A700 A700", ""),
-        ("FE80", ""),
-    ];
-    each_follows(&rt, &one_reserved(rt.alloc())?, &rows)
+    each_follows(&rt, &one_reserved(rt.alloc())?, OPENINGS)
 }
 
 /// Every position of the scripts that use a search address, where an address is reserved for the number.
+const SEARCHES: &str = "B10A > B3BC
+B10A B3BC > B5DE
+B10A B3BC B5DE > A900 BB00
+B10A B3BC B5DE A900 >
+B10A B3BC B5DE A900=09 >
+B10A B3BC B5DE A900=FF >
+B10A B3BC B5DE A900=?? >
+B10A B3BC B5DE BB00=09 > AB00
+B10A B3BC B5DE BB00=FF > B709
+B10A B3BC B5DE BB00=FF B709 > BB00
+B10A B3BC B5DE BB00=FF B709 BB00=09 > AB00
+B10A B3BC B5DE BB00=FF B709 BB00=09 AB00 >
+B10A B3BC B5DE BB00=FF B709 BB00 >
+B10A B3BC B5DE BB00=FF B709 BB00=FF >
+B10A B3BC B5DE BB00=FF B709 BB00=?? >
+B10A B3BC B5DE BB00=FF B709 BB00=0B >";
+
 #[test]
 fn searches_go_on_by_their_table(rt: HostRuntime) -> Result<(), Fail> {
-    let rows = [
-        ("B10A", "B3BC"),
-        ("B10A B3BC", "B5DE"),
-        ("B10A B3BC B5DE", "A900 BB00"),
-        ("B10A B3BC B5DE A900", ""),
-        ("B10A B3BC B5DE A900=09", ""),
-        ("B10A B3BC B5DE A900=FF", ""),
-        ("B10A B3BC B5DE A900=??", ""),
-        ("B10A B3BC B5DE BB00=09", "AB00"),
-        ("B10A B3BC B5DE BB00=FF", "B709"),
-        ("B10A B3BC B5DE BB00=FF B709", "BB00"),
-        ("B10A B3BC B5DE BB00=FF B709 BB00=09", "AB00"),
-        ("B10A B3BC B5DE BB00=FF B709 BB00=09 AB00", ""),
-        ("B10A B3BC B5DE BB00=FF B709 BB00", ""),
-        ("B10A B3BC B5DE BB00=FF B709 BB00=FF", ""),
-        ("B10A B3BC B5DE BB00=FF B709 BB00=??", ""),
-        ("B10A B3BC B5DE BB00=FF B709 BB00=0B", ""),
-    ];
-    each_follows(&rt, &one_reserved(rt.alloc())?, &rows)
+    each_follows(&rt, &one_reserved(rt.alloc())?, SEARCHES)
 }
 
 /// Where nothing is reserved, an address that was heard leads to WITHDRAW, and nothing else goes on.
+const UNRESERVED: &str = "B10A B3BC B5DE BB00=09 > AB00
+B10A B3BC B5DE BB00=09 AB00 >
+B10A B3BC B5DE BB00 >
+B10A B3BC B5DE BB00=FF >
+B10A B3BC B5DE BB00=?? >
+B10A B3BC B5DE BB00=81 >
+B10A B3BC B5DE BB00=08 >";
+
 #[test]
 fn nothing_is_programmed_without_a_reservation(rt: HostRuntime) -> Result<(), Fail> {
-    let rows = [
-        ("B10A B3BC B5DE BB00=09", "AB00"),
-        ("B10A B3BC B5DE BB00=09 AB00", ""),
-        ("B10A B3BC B5DE BB00", ""),
-        ("B10A B3BC B5DE BB00=FF", ""),
-        ("B10A B3BC B5DE BB00=??", ""),
-        ("B10A B3BC B5DE BB00=81", ""),
-        ("B10A B3BC B5DE BB00=08", ""),
+    each_follows(&rt, &none_reserved(rt.alloc())?, UNRESERVED)
+}
+
+/// Each of these traces has this finding.
+fn each_finds<R: Abort>(
+    rt: &R,
+    kept: &Kept,
+    traces: &[&str],
+    wanted: Option<(Short, Random24)>,
+) -> Result<(), Fail> {
+    for frames in traces {
+        let finding = trace_of(kept, *frames)?.finding();
+        same(rt, &finding, &wanted);
+    }
+    Ok(())
+}
+
+fn findings<R: Abort>(rt: &R, kept: &Kept) -> Result<(), Fail> {
+    let found = Some((short(4)?, random(0x0ABCDE)?));
+    let finding = [
+        "B10A B3BC B5DE BB00=09",
+        "B10A B3BC B5DE BB00=FF B709 BB00=09",
     ];
-    each_follows(&rt, &none_reserved(rt.alloc())?, &rows)
+    let others = [
+        "B10A B3BC B5DE BB00=FF",
+        "B10A B3BC B5DE BB00",
+        "B10A B3BC B5DE BB00=??",
+        "B10A B3BC B5DE BB00=81",
+    ];
+    each_finds(rt, kept, &finding, found)?;
+    each_finds(rt, kept, &others, None)
 }
 
 #[test]
 fn findings_are_addresses_that_were_heard(rt: HostRuntime) -> Result<(), Fail> {
-    let kept = one_reserved(rt.alloc())?;
-    let found = Some((short(4)?, random(0x0ABCDE)?));
-    for (frames, wanted) in [
-        ("B10A B3BC B5DE BB00=09", found),
-        ("B10A B3BC B5DE BB00=FF", None),
-        ("B10A B3BC B5DE BB00", None),
-        ("B10A B3BC B5DE BB00=??", None),
-        ("B10A B3BC B5DE BB00=81", None),
-        ("B10A B3BC B5DE BB00=FF B709 BB00=09", found),
-    ] {
-        same(&rt, &trace_of(&kept, frames)?.finding(), &wanted);
-    }
+    findings(&rt, &one_reserved(rt.alloc())?)
+}
+
+/// After a trace that was sent with a reservation, records without it allow no WITHDRAW.
+fn asks_again<R: Abort>(rt: &R, trace: &Trace, kept: &Kept, none: &Kept) -> Result<(), Fail> {
+    let searched = SearchAddress::of(random(0x0ABCDE)?);
+    same(rt, &trace.stage(), &Stage::Confirmed(searched, short(4)?));
+    let withdraw = frame(b"AB00")?;
+    let allowed = [trace.allows(kept, withdraw), trace.allows(none, withdraw)];
+    same(rt, &allowed, &[true, false]);
+    same(rt, &trace.complete(none), &true);
     Ok(())
+}
+
+fn confirmed<R: Abort>(rt: &R, kept: &Kept, none: &Kept) -> Result<(), Fail> {
+    let trace = trace_of(kept, "B10A B3BC B5DE BB00=FF B709 BB00=09")?;
+    asks_again(rt, &trace, kept, none)
 }
 
 /// The reservation is asked for again of the records at hand, whichever the trace was sent under.
@@ -150,12 +182,5 @@ fn findings_are_addresses_that_were_heard(rt: HostRuntime) -> Result<(), Fail> {
 fn a_confirmed_address_needs_its_reservation(rt: HostRuntime) -> Result<(), Fail> {
     let kept = one_reserved(rt.alloc())?;
     let none = none_reserved(rt.alloc())?;
-    let trace = trace_of(&kept, "B10A B3BC B5DE BB00=FF B709 BB00=09")?;
-    let searched = SearchAddress::of(random(0x0ABCDE)?);
-    same(&rt, &trace.stage(), &Stage::Confirmed(searched, short(4)?));
-    let withdraw = frame(b"AB00")?;
-    let allowed = [trace.allows(&kept, withdraw), trace.allows(&none, withdraw)];
-    same(&rt, &allowed, &[true, false]);
-    same(&rt, &trace.complete(&none), &true);
-    Ok(())
+    confirmed(&rt, &kept, &none)
 }

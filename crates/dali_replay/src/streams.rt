@@ -1,0 +1,37 @@
+//! A run over standard input and output.
+
+ghost use Rattle.std.specs.Prelude.{◌≡◌, [], OnOk, IfSome};
+ghost use Rattle.std.specs.Io.Buffered.{writer_buffer, writer_contents};
+ghost use Rattle.dali_replay.specs.Replay.{Tells, setting_of};
+
+use crate::replay::{ReplayFault, run_replay};
+use std::alloc::Global;
+use std::io;
+use std::io::{BufWriter, Read, Write};
+
+/// As `run_replay`, and what was reported is passed on, before a fault too: after `Ok` nothing is left in the buffer.
+/// `Write` also where it cannot be passed on.
+pub fn replay_through<R: Read, W: Write + Drop>(
+    alloc: Global,
+    reader: &mut R,
+    writer: &mut BufWriter<W>,
+) -> Result<(), ReplayFault>
+    ensures told { IfSome (R.remaining reader.old) (λ input. Tells (setting_of input)
+        (writer_contents W.contents writer.old) (writer_contents W.contents writer.new) result) }
+    ensures passed { OnOk result (writer_buffer writer.new ≡ []) }
+{
+    let played = run_replay(alloc, reader, writer);
+    match writer.flush() {
+        Ok(()) => played,
+        Err(_) => Err(ReplayFault::Write),
+    }
+}
+
+/// Plays standard input to standard output.
+pub fn replay_streams(rt: &HostRuntime) -> Result<(), ReplayFault> {
+    let alloc = rt.alloc();
+    let Ok(mut writer) = BufWriter::new(alloc, io::writer(rt)) else {
+        return Err(ReplayFault::Memory);
+    };
+    replay_through(alloc, &mut rt.reader(), &mut writer)
+}

@@ -1,0 +1,64 @@
+//! Why the program ends without having done what was asked for, and its exit statuses.
+
+ghost use Rattle.std.specs.Prelude.{◌≡◌};
+ghost use Rattle.std.specs.Process.{exit_status};
+ghost use Rattle.dali_sim.specs.Failure.{status_of, status_after};
+
+use dali_replay::ReplayFault;
+use std::process::ExitCode;
+use thiserror::Error;
+
+/// Why the program ends without having done what was asked for. The text is what is said of it on standard error.
+#[derive(Clone, Copy, Debug, PartialEq, Eq, Error)]
+pub enum Failure {
+    /// Status 1 or 3: a script was not played to its end.
+    #[error("replay: {0}")]
+    Replay(ReplayFault),
+    /// Status 2: the command line asks for nothing that this program does. `clap` says why.
+    #[error("error: bad command line")]
+    BadCommandLine,
+    /// Status 2: a word of the command line is not UTF-8.
+    #[error("error: an argument is not UTF-8")]
+    NotText,
+    /// Status 3: there is too little memory, or the command line cannot be read, or help cannot be written.
+    #[error("error: memory, the command line or the output is refused")]
+    Refused,
+}
+
+impl Failure {
+    /// The exit status of the program.
+    pub fn status(self) -> u8
+        ensures { result ≡ status_of self }
+    {
+        match self {
+            Failure::Replay(fault) => fault.status(),
+            Failure::BadCommandLine | Failure::NotText => 2,
+            Failure::Refused => 3,
+        }
+    }
+}
+
+/// The exit status of a program that ends so.
+pub fn exit_code(ended: Result<(), Failure>) -> ExitCode
+    ensures { exit_status result ≡ status_after ended }
+{
+    match ended {
+        Ok(()) => ExitCode::SUCCESS,
+        Err(failure) => ExitCode::from(failure.status()),
+    }
+}
+
+#[cfg(test)]
+mod tests {
+    use super::Failure;
+    use dali_replay::ReplayFault;
+    use std::test::Fail;
+
+    #[test]
+    fn a_fault_of_replay_is_said_as_one(rt: HostRuntime) -> Result<(), Fail> {
+        let failure = Failure::Replay(ReplayFault::BadLine(3));
+        let said = failure.to_string(rt.alloc())?;
+        assert_eq!(rt; said.as_str(), "replay: line 3: bad line");
+        Ok(())
+    }
+}
