@@ -5,7 +5,7 @@ use std::marker::Model;
 /// A short address, 0 to 63 (IEC 62386-102:2014, short address).
 ///
 /// Contracts see the number.
-#[derive(Clone, Copy, Debug, PartialEq, Eq, PartialOrd, Ord, Hash)]
+#[derive(Clone, Copy, Debug, PartialEq, Eq, PartialOrd, Ord)]
 pub struct Short {
     number: u8,
 }
@@ -72,7 +72,7 @@ impl Short {
 /// A random address, or another number of 24 bits (IEC 62386-102:2014, random address).
 ///
 /// Contracts see the number.
-#[derive(Clone, Copy, Debug, PartialEq, Eq, PartialOrd, Ord, Hash)]
+#[derive(Clone, Copy, Debug, PartialEq, Eq, PartialOrd, Ord)]
 pub struct Random24 {
     value: u32,
 }
@@ -198,7 +198,7 @@ impl SearchAddress {
 /// decides in which list a request waits (this project's profile).
 ///
 /// Contracts see the number.
-#[derive(Clone, Copy, Debug, PartialEq, Eq, PartialOrd, Ord)]
+#[derive(Clone, Copy, Debug, PartialEq, Eq)]
 pub struct Priority {
     number: u8,
 }

@@ -1,14 +1,30 @@
-use Rattle.std.proofs.Common.{◌≡◌, ℕ, ◌+◌, ◌<◌, Bool, true, false, ◌&&◌, List, [], ◌∷◌, ◌++◌, take, length, get_or, set, drop, refl, sym, ap, ◌∙◌, arith, add-zero, add_assoc}
+use Rattle.std.proofs.Common.{◌≡◌, ℕ, ◌+◌, ◌<◌, Bool, true, false, ◌&&◌, List, [], ◌∷◌, ◌++◌, take, length, get_or, set, drop, refl, sym, ap, ◌∙◌, arith, add-zero, zero-add, add_assoc}
 use Rattle.std.proofs.lemmas.List.{drop-drop, drop_more, drop-set-lt, take_more_set}
 use mathlib.Core.List.{append_assoc}
 use Rattle.dali_special.specs.declared.command.Command.{Command}
+use Rattle.dali_special.specs.declared.command.Command.TheVariants.{Randomise}
 use Rattle.dali_gear.specs.declared.row.Reach.{Reach}
 use Rattle.dali_gear.specs.Gear.{Gear, would_draw, answer}
 use mir.Val.{bool_byte}
 use Rattle.std.specs.Prelude.{Option, Some, None, if◌then◌else◌}
 use Rattle.dali_frame.specs.declared.frames.Answer.{Answer}
 use Rattle.dali_frame.specs.declared.frames.Answer.TheVariants.{Silence, Byte, Damaged}
-use Rattle.dali_gear.specs.Row.{reaches, one_after, row_after, draws_needed, answers_of, option_cons, heard_of, joined_answer, joined_all, left_after}
+use Rattle.dali_gear.specs.Row.{reaches, takes, one_after, row_after, draws_needed, answers_of, option_cons, heard_of, joined_answer, joined_all, left_after}
+
+-- no gear draws at a command other than RANDOMISE
+no_draw : (c : Command) → (c ≡ Randomise → ⊥) → (g : Gear) → would_draw c g ≡ false
+no_draw Randomise other g = absurd (other refl)
+no_draw _ other g = refl
+
+draws_none : (taken draws : Bool) → draws ≡ false → ◌≡◌ {A = ℕ} (if taken && draws then 1 else 0) 0
+draws_none true draws none = rw none refl
+draws_none false draws none = refl
+
+pub needs_none : (reach : Reach) (c : Command) (k : ℕ) (gs : List Gear) → (c ≡ Randomise → ⊥) → draws_needed reach c k gs ≡ 0
+needs_none reach c k [] other = refl
+needs_none reach c k (g ∷ gs) other =
+    ap (λ n. n + draws_needed reach c (k + 1) gs) (draws_none (takes reach k g) (would_draw c g) (no_draw c other g))
+    ∙ zero-add (draws_needed reach c (k + 1) gs) ∙ needs_none reach c (k + 1) gs other
 
 damaged_stays : (bytes : List ℕ) → joined_all Damaged bytes ≡ Damaged
 damaged_stays [] = refl

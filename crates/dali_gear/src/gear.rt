@@ -31,7 +31,7 @@ fn half_pair(command: &Command, is_second: bool) -> Option<Command>
 }
 
 /// What a gear did with a frame.
-#[derive(Clone, Copy, Debug, PartialEq, Eq)]
+#[derive(Clone, Copy)]
 pub struct Effect {
     /// The backward frame that it answers, if any.
     pub answer: Option<u8>,
@@ -104,16 +104,25 @@ impl Gear {
         ensures answer { result.answer ≡ answer_to (command_of frame) self.old }
         ensures drew { result.drew ≡ draws (command_of frame) self.old }
     {
+        self.take_command(&Command::read(frame), draw)
+    }
+
+    /// As `take`, with the command of the frame.
+    pub(crate) fn take_command(&mut self, command: &Command, draw: Random24) -> Effect
+        requires { IsTrue (draws command.now self.old) → draw < MASK24 }
+        ensures gear { self.new ≡ after_frame command.now draw self.old }
+        ensures answer { result.answer ≡ answer_to command.now self.old }
+        ensures drew { result.drew ≡ draws command.now self.old }
+    {
         if !self.powered {
             return Effect {
                 answer: None,
                 drew: false,
             };
         }
-        let command = Command::read(frame);
-        let answer = self.answer(&command);
-        let drew = self.draws(&command);
-        self.execute(&command, draw);
+        let answer = self.answer(command);
+        let drew = self.draws(command);
+        self.execute(command, draw);
         Effect { answer, drew }
     }
 
@@ -121,7 +130,14 @@ impl Gear {
     pub fn would_draw(&self, frame: &Forward) -> bool
         ensures { result ≡ draws (command_of frame.now) self.now }
     {
-        self.powered && self.draws(&Command::read(*frame))
+        self.would_draw_at(&Command::read(*frame))
+    }
+
+    /// As `would_draw`, with the command of the frame.
+    pub(crate) fn would_draw_at(&self, command: &Command) -> bool
+        ensures { result ≡ draws command.now self.now }
+    {
+        self.powered && self.draws(command)
     }
 
     /// Whether a command would make it draw, without regard to power.

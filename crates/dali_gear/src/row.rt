@@ -3,18 +3,20 @@
 ghost use Rattle.std.specs.Prelude.{◌≡◌, ◌<◌, ◌≤◌, ◌&&◌, length, All, IsTrue, None, if◌then◌else◌};
 ghost use Rattle.dali_frame.specs.Random.{MASK24};
 ghost use Rattle.dali_special.specs.Command.{command_of};
+ghost use Rattle.dali_special.specs.declared.command.Command.TheVariants.{Randomise};
 ghost use Rattle.dali_gear.specs.Gear.{would_draw, answer};
 ghost use Rattle.dali_gear.specs.Row.{reaches, row_after, answers_of, heard_of, draws_needed, one_after, joined_answer};
 
 use crate::gear::{Effect, Gear};
 use dali_frame::{Answer, Forward, Random24};
+use dali_special::Command;
 
 /// Some of the gear of a row: gear g is the bit of value 2^g. A bit past the last gear has no effect.
 #[derive(Clone, Copy, Debug, PartialEq, Eq)]
 pub struct GearSet(pub u128);
 
 /// Which gear a frame reaches.
-#[derive(Clone, Copy, Debug, PartialEq, Eq)]
+#[derive(Clone, Copy)]
 pub enum Reach {
     /// All of them, as an undestroyed frame does.
     Everyone,
@@ -36,7 +38,7 @@ impl Reach {
 }
 
 /// What came of a frame.
-#[derive(Clone, Copy, Debug, PartialEq, Eq)]
+#[derive(Clone, Copy)]
 pub struct Heard {
     /// What is heard, where nothing disturbs the backward frames: two or more together are heard as `Damaged`
     /// (this project's profile).
@@ -50,9 +52,20 @@ pub fn draws_needed(gear: &[Gear], frame: Forward, reach: Reach) -> usize
     requires { length gear.now ≤ 128 }
     ensures { result ≡ draws_needed reach (command_of frame) 0 gear.now }
 {
+    match Command::read(frame) {
+        Command::Randomise => draws_of_randomise(gear, reach),
+        _ => 0,
+    }
+}
+
+/// How many would draw at RANDOMISE, the one command at which gear draw.
+fn draws_of_randomise(gear: &[Gear], reach: Reach) -> usize
+    requires { length gear.now ≤ 128 }
+    ensures { result ≡ draws_needed reach Randomise 0 gear.now }
+{
     let mut needed = 0;
     for (number, one) in gear.iter().enumerate() {
-        let draws = one.would_draw(&frame) && reach.includes(number);
+        let draws = one.would_draw_at(&Command::Randomise) && reach.includes(number);
         needed += usize::from(draws);
     }
     needed
@@ -68,10 +81,22 @@ pub fn take(gear: &mut [Gear], frame: Forward, reach: Reach, draws: &[Random24])
     ensures drawn { result.drawn ≡ draws_needed reach (command_of frame) 0 gear.old }
     ensures answer { result.answer ≡ heard_of (answers_of reach (command_of frame) 0 gear.old) }
 {
+    take_command(gear, &Command::read(frame), reach, draws)
+}
+
+/// As `take`, with the command of the frame.
+fn take_command(gear: &mut [Gear], command: &Command, reach: Reach, draws: &[Random24]) -> Heard
+    requires few { length gear.old ≤ 128 }
+    requires enough { draws_needed reach command.now 0 gear.old ≤ length draws.now }
+    requires below_mask { All (λ r. r < MASK24) draws.now }
+    ensures gear { gear.new ≡ row_after reach command.now 0 gear.old draws.now }
+    ensures drawn { result.drawn ≡ draws_needed reach command.now 0 gear.old }
+    ensures answer { result.answer ≡ heard_of (answers_of reach command.now 0 gear.old) }
+{
     let mut answer = Answer::Silence;
     let mut drawn = 0;
     for (number, one) in gear.iter_mut().enumerate() {
-        let effect = take_one(one, frame, reach.includes(number), &draws[drawn..]);
+        let effect = take_one(one, command, reach.includes(number), &draws[drawn..]);
         answer = joined(answer, effect.answer);
         drawn += usize::from(effect.drew);
     }
@@ -79,14 +104,14 @@ pub fn take(gear: &mut [Gear], frame: Forward, reach: Reach, draws: &[Random24])
 }
 
 /// One gear of the row, which a frame reaches or not.
-fn take_one(gear: &mut Gear, frame: Forward, reached: bool, draws: &[Random24]) -> Effect
-    requires enough { IsTrue ((gear.old.powered && reached) && would_draw (command_of frame) gear.old)
+fn take_one(gear: &mut Gear, command: &Command, reached: bool, draws: &[Random24]) -> Effect
+    requires enough { IsTrue ((gear.old.powered && reached) && would_draw command.now gear.old)
         → 0 < length draws.now }
     requires below_mask { All (λ r. r < MASK24) draws.now }
-    ensures gear { gear.new ≡ one_after (gear.old.powered && reached) (command_of frame) draws.now gear.old }
+    ensures gear { gear.new ≡ one_after (gear.old.powered && reached) command.now draws.now gear.old }
     ensures answer { result.answer
-        ≡ (if gear.old.powered && reached then answer (command_of frame) gear.old else None) }
-    ensures drew { result.drew ≡ ((gear.old.powered && reached) && would_draw (command_of frame) gear.old) }
+        ≡ (if gear.old.powered && reached then answer command.now gear.old else None) }
+    ensures drew { result.drew ≡ ((gear.old.powered && reached) && would_draw command.now gear.old) }
 {
     if !reached {
         return Effect {
@@ -98,7 +123,7 @@ fn take_one(gear: &mut Gear, frame: Forward, reached: bool, draws: &[Random24]) 
         Some(draw) => *draw,
         None => gear.random(),
     };
-    gear.take(frame, draw)
+    gear.take_command(command, draw)
 }
 
 /// What is heard when one more gear answers, or does not.

@@ -6,7 +6,7 @@ use dali_frame::{Answer, Random24, SearchAddress, Short};
 use dali_special::{Command, Target};
 
 /// How far a transaction is.
-#[derive(Clone, Copy, Debug, PartialEq, Eq)]
+#[derive(Clone, Copy)]
 pub enum Stage {
     /// No frame was sent.
     Free,

@@ -10,7 +10,7 @@ use dali_special::Command;
 use std::marker::Model;
 
 /// One frame of a transaction, and what was heard after it.
-#[derive(Clone, Copy, Debug, PartialEq, Eq)]
+#[derive(Clone, Copy)]
 pub struct Entry {
     pub frame: Forward,
     pub heard: Answer,

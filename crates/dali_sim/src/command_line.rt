@@ -9,7 +9,7 @@ use clap::{Command, Error};
 use std::alloc::{AllocError, Global};
 
 /// What a command line asks for.
-#[derive(Clone, Copy, Debug, PartialEq, Eq)]
+#[derive(Clone, Copy)]
 pub enum Task {
     /// A script is to be played.
     Replay,

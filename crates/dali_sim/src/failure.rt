@@ -5,24 +5,34 @@ ghost use Rattle.std.specs.Process.{exit_status};
 ghost use Rattle.dali_sim.specs.Failure.{status_of, status_after};
 
 use dali_replay::ReplayFault;
+use std::fmt;
 use std::process::ExitCode;
-use thiserror::Error;
 
-/// Why the program ends without having done what was asked for. The text is what is said of it on standard error.
-#[derive(Clone, Copy, Debug, PartialEq, Eq, Error)]
+/// Why the program ends without having done what was asked for.
+#[derive(Clone, Copy)]
 pub enum Failure {
     /// Status 1 or 3: a script was not played to its end.
-    #[error("replay: {0}")]
     Replay(ReplayFault),
     /// Status 2: the command line asks for nothing that this program does. `clap` says why.
-    #[error("error: bad command line")]
     BadCommandLine,
     /// Status 2: a word of the command line is not UTF-8.
-    #[error("error: an argument is not UTF-8")]
     NotText,
     /// Status 3: there is too little memory, or the command line cannot be read, or help cannot be written.
-    #[error("error: memory, the command line or the output is refused")]
     Refused,
+}
+
+/// What is said of it on standard error.
+impl fmt::Display for Failure {
+    fn fmt<W: fmt::Write>(&self, f: &mut fmt::Formatter<W>) -> fmt::Result {
+        match self {
+            Failure::Replay(fault) => write!(f, "replay: {fault}"),
+            Failure::BadCommandLine => f.write_str("error: bad command line"),
+            Failure::NotText => f.write_str("error: an argument is not UTF-8"),
+            Failure::Refused => {
+                f.write_str("error: memory, the command line or the output is refused")
+            }
+        }
+    }
 }
 
 impl Failure {

@@ -1,4 +1,4 @@
-use Rattle.std.proofs.Common.{◌≡◌, ℕ, ◌+◌, ◌<◌, List, [], ◌∷◌, ◌++◌, map, take, drop, length, get_or, set, refl, sym, ap, subst, ◌∙◌, arith, Some, None, Bool, true, false, inl, inr, zero-add}
+use Rattle.std.proofs.Common.{◌≡◌, ℕ, ◌+◌, ◌<◌, List, [], ◌∷◌, ◌++◌, map, take, drop, length, get_or, set, refl, sym, ap, subst, ◌∙◌, arith, Option, Some, None, Bool, true, false, inl, inr, zero-add}
 use Rattle.std.specs.Prelude.{◌&&◌, if◌then◌else◌, zero, suc}
 use Rattle.std.proofs.lemmas.List.{drop-drop, drop_more, drop-set-lt, take_more_set, length-append, append-nil}
 use Rattle.std.proofs.Math.Seq.{take-length, drop-length}
@@ -7,10 +7,25 @@ use mathlib.Core.List.{append_assoc}
 use Rattle.dali_special.specs.declared.command.Command.{Command}
 use Rattle.dali_gear.specs.declared.row.Reach.{Reach}
 use Rattle.dali_gear.specs.Gear.{Gear, gear_quieted, would_draw}
-use Rattle.dali_gear.specs.Row.{takes, left_after, row_left, row_after, draws_needed, stored_of}
+use Rattle.dali_special.specs.declared.command.Command.TheVariants.{Program}
+use Rattle.dali_gear.specs.Row.{takes, left_after, row_left, row_after, draws_needed, stored_short, stored_one, stored_of}
 use Rattle.dali_script.specs.Records.{Has}
 use Rattle.dali_events.specs.Plan.{Plan, IsPlan}
 use Rattle.dali_standing.specs.FittedGear.{FittedGear, taken_at, gift_of}
+
+-- no gear stores a short address at a command other than PROGRAM SHORT ADDRESS
+no_store : (x : Command) → ((short : Option ℕ) → x ≡ Program short → ⊥) → (g : Gear) → stored_short x g ≡ None
+no_store (Program short) other g = absurd (other short refl)
+no_store _ other g = refl
+
+stored_none : (taken : Bool) (k : ℕ) (short : Option ℕ) (more : List (ℕ × ℕ)) → short ≡ None → stored_one k (if taken then short else None) more ≡ more
+stored_none true k short more none = rw none refl
+stored_none false k short more none = refl
+
+pub none_stored : (reach : Reach) (x : Command) (k : ℕ) (gs : List Gear) → ((short : Option ℕ) → x ≡ Program short → ⊥) → stored_of reach x k gs ≡ []
+none_stored reach x k [] other = refl
+none_stored reach x k (g ∷ gs) other =
+    stored_none (takes reach k g) k (stored_short x g) (stored_of reach x (k + 1) gs) (no_store x other g) ∙ none_stored reach x (k + 1) gs other
 
 -- gear n of the row has become quiet
 pub quiet_more : (gs : List Gear) (n : ℕ) (d : Gear) (whole : List Gear) → n < length gs

@@ -179,8 +179,21 @@ fn note_gifts(gifts: &mut Vec<(u32, Short)>, gear: &[Gear], frame: Forward, reac
     ensures capacity { vec_capacity gifts.new ≡ vec_capacity gifts.old }
 {
     let command = Command::read(frame);
+    match command {
+        Command::Program(_) => note_stored(gifts, gear, &command, reach),
+        _ => {}
+    }
+}
+
+/// Notes which gear will store which short address at PROGRAM SHORT ADDRESS, the one command at which gear store one.
+fn note_stored(gifts: &mut Vec<(u32, Short)>, gear: &[Gear], command: &Command, reach: Reach)
+    requires few { length gear.now ≤ 128 }
+    requires room { length (gifts.old.items ++ stored_of reach command.now 0 gear.now) ≤ vec_capacity gifts.old }
+    ensures gifts { gifts.new.items ≡ gifts.old.items ++ stored_of reach command.now 0 gear.now }
+    ensures capacity { vec_capacity gifts.new ≡ vec_capacity gifts.old }
+{
     for (number, one) in gear.iter().enumerate() {
-        if let Some(short) = gift(one, number, &command, reach) {
+        if let Some(short) = gift(one, number, command, reach) {
             gifts.push_reserved((number as u32, short));
         }
     }

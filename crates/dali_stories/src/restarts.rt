@@ -147,3 +147,38 @@ fn a_controller_that_goes_down_gives_up_the_bus(rt: HostRuntime) -> Result<(), F
          lapse > lapse -",
     )
 }
+
+/// No memory is refused to a controller that comes up, however many records it has: none, one pair, and three.
+#[test]
+fn a_controller_comes_up_with_as_many_records_as_it_has(rt: HostRuntime) -> Result<(), Fail> {
+    plays(
+        &rt,
+        "site 3 0-3
+         draws 100000 200000 300000 110000 210000 310000 120000 220000 320000 130000 230000 330000
+         down 0 > ok
+         up 0 > ok
+         run 110 > 0: commit reserve 0 100000
+         > ran 109
+         down 0 > ok
+         up 0 > ok
+         run 130 > 0: commit reserve 0 110000
+         > 0: commit enrol 0 110000
+         > ran 128
+         down 0 > ok
+         up 0 > ok
+         run 1000 > 0: commit reserve 1 120000
+         > 0: commit enrol 1 120000
+         > 0: commit reserve 2 220000
+         > 0: commit enrol 2 220000
+         > 0: done all-found
+         > ran 232
+         down 0 > ok
+         up 0 > ok
+         run 1000 > 0: done all-found
+         > ran 10
+         show > gear 0 on disabled 110000 3FFFFF 0
+         > gear 1 on disabled 120000 FFFFFE 1
+         > gear 2 on disabled 220000 FFFFFE 2
+         > table 0: 0=110000 1=120000 2=220000",
+    )
+}

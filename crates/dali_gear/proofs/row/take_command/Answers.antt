@@ -1,8 +1,7 @@
 use Rattle.std.proofs.Common.{refl, zero-add, ◌<◌, length, drop, get_or, arith}
 use Rattle.std.proofs.lemmas.List.{take_rest}
-use Rattle.dali_special.specs.Command.{command_of}
 use Rattle.dali_gear.proofs.RowLemmas.{all_joined, rest_is, next_is, Turn, gear_more, drawn_more, answer_more}
-use Rattle.dali_gear.proofs.row.take.Goals as goal
+use Rattle.dali_gear.proofs.row.take_command.Goals as goal
 
 pub loop-number-init : goal.loop-number-init
 loop-number-init c = record { untouched = refl; gear = refl; drawn = zero-add _; answer = all_joined _ }
@@ -10,7 +9,7 @@ loop-number-init c = record { untouched = refl; gear = refl; drawn = zero-add _;
 pub loop-number-preserved : goal.loop-number-preserved
 loop-number-preserved c =
     let here : c.loop-number.number < length c.loop-number.gear = omega arith in
-    let turn : Turn c.args.reach (command_of c.args.frame) c.loop-number.gear c.args.gear.now c.loop-number.number
+    let turn : Turn c.args.reach c.args.command.now c.loop-number.gear c.args.gear.now c.loop-number.number
     (drop c.loop-number.drawn c.args.draws.now) (get_or c.loop-number.gear c.loop-number.number c.index-gear-number.result)
     c.take_one-effect.new.gear c.take_one-effect.result.drew = record {
       here = here;
