@@ -13,6 +13,7 @@ const YES: u8 = 0xFF;
 /// The backward frame of a gear that has no short address.
 const NO_ADDRESS: u8 = 0xFF;
 
+#[inline(always)]
 fn yes_where(holds: bool) -> Option<u8>
     ensures { result ≡ (if holds then Some 255 else None) }
 {
@@ -20,6 +21,7 @@ fn yes_where(holds: bool) -> Option<u8>
 }
 
 /// The half pair that a command leaves.
+#[inline(always)]
 fn half_pair(command: &Command, is_second: bool) -> Option<Command>
     ensures { result ≡ (if is_send_twice command.now then (if is_second then None else Some command.now) else None) }
 {
@@ -108,6 +110,7 @@ impl Gear {
     }
 
     /// As `take`, with the command of the frame.
+    #[inline(always)]
     pub(crate) fn take_command(&mut self, command: &Command, draw: Random24) -> Effect
         requires { IsTrue (draws command.now self.old) → draw < MASK24 }
         ensures gear { self.new ≡ after_frame command.now draw self.old }
@@ -141,6 +144,7 @@ impl Gear {
     }
 
     /// Whether a command would make it draw, without regard to power.
+    #[inline(always)]
     fn draws(&self, command: &Command) -> bool
         ensures { result ≡ would_draw command.now self.now }
     {
@@ -148,18 +152,21 @@ impl Gear {
     }
 
     /// Whether a send-twice command is the second of a pair.
+    #[inline(always)]
     fn is_second(&self, command: &Command) -> bool
         ensures { result ≡ is_second command.now self.now.half }
     {
         command.is_send_twice() && self.half.as_ref() == Some(command)
     }
 
+    #[inline(always)]
     fn is_active(&self) -> bool
         ensures { result ≡ is_active self.now.state }
     {
         self.state != InitialisationState::Disabled
     }
 
+    #[inline(always)]
     fn is_found(&self) -> bool
         ensures { result ≡ is_found self.now }
     {
@@ -167,6 +174,7 @@ impl Gear {
     }
 
     /// Whether an INITIALISE of this target speaks to the gear.
+    #[inline(always)]
     fn is_concerned(&self, target: Target) -> bool
         ensures { result ≡ concerns target self.now.short }
     {
@@ -178,6 +186,7 @@ impl Gear {
     }
 
     /// The answer to a command, without regard to power.
+    #[inline(always)]
     fn answer(&self, command: &Command) -> Option<u8>
         ensures { result ≡ answer command.now self.now }
     {
@@ -195,6 +204,7 @@ impl Gear {
     }
 
     /// Changes the variables as a command says, without regard to power.
+    #[inline(always)]
     fn execute(&mut self, command: &Command, draw: Random24)
         ensures { self.new ≡ gear_taken command.now draw self.old }
     {

@@ -26,6 +26,7 @@ pub enum Reach {
 
 impl Reach {
     /// Whether it reaches the gear of this number, 0 to 127.
+    #[inline(always)]
     pub fn includes(self, number: usize) -> bool
         requires { number < 128 }
         ensures { result ≡ reaches self number }
@@ -81,10 +82,42 @@ pub fn take(gear: &mut [Gear], frame: Forward, reach: Reach, draws: &[Random24])
     ensures drawn { result.drawn ≡ draws_needed reach (command_of frame) 0 gear.old }
     ensures answer { result.answer ≡ heard_of (answers_of reach (command_of frame) 0 gear.old) }
 {
-    take_command(gear, &Command::read(frame), reach, draws)
+    let command = Command::read(frame);
+    match reach {
+        Reach::Everyone => take_by_command(gear, &command, Reach::Everyone, draws),
+        Reach::Only(_) => take_command(gear, &command, reach, draws),
+    }
 }
 
-/// As `take`, with the command of the frame.
+/// As `take`, with the command of the frame. Most frames of a search have an arm of their own: with the command known,
+/// the compiler makes a loop for each that does no more than the command asks.
+#[inline(always)]
+fn take_by_command(gear: &mut [Gear], command: &Command, reach: Reach, draws: &[Random24]) -> Heard
+    requires few { length gear.old ≤ 128 }
+    requires enough { draws_needed reach command.now 0 gear.old ≤ length draws.now }
+    requires below_mask { All (λ r. r < MASK24) draws.now }
+    ensures gear { gear.new ≡ row_after reach command.now 0 gear.old draws.now }
+    ensures drawn { result.drawn ≡ draws_needed reach command.now 0 gear.old }
+    ensures answer { result.answer ≡ heard_of (answers_of reach command.now 0 gear.old) }
+{
+    match *command {
+        Command::Compare => take_command(gear, &Command::Compare, reach, draws),
+        Command::SearchHigh(byte) => {
+            take_command(gear, &Command::SearchHigh(byte), reach, draws)
+        }
+        Command::SearchMiddle(byte) => {
+            take_command(gear, &Command::SearchMiddle(byte), reach, draws)
+        }
+        Command::SearchLow(byte) => take_command(gear, &Command::SearchLow(byte), reach, draws),
+        Command::QueryShort => take_command(gear, &Command::QueryShort, reach, draws),
+        Command::Arc(frame) => take_command(gear, &Command::Arc(frame), reach, draws),
+        Command::Other(frame) => take_command(gear, &Command::Other(frame), reach, draws),
+        _ => take_command(gear, command, reach, draws),
+    }
+}
+
+/// One gear after the other.
+#[inline(always)]
 fn take_command(gear: &mut [Gear], command: &Command, reach: Reach, draws: &[Random24]) -> Heard
     requires few { length gear.old ≤ 128 }
     requires enough { draws_needed reach command.now 0 gear.old ≤ length draws.now }
@@ -104,6 +137,7 @@ fn take_command(gear: &mut [Gear], command: &Command, reach: Reach, draws: &[Ran
 }
 
 /// One gear of the row, which a frame reaches or not.
+#[inline(always)]
 fn take_one(gear: &mut Gear, command: &Command, reached: bool, draws: &[Random24]) -> Effect
     requires enough { IsTrue ((gear.old.powered && reached) && would_draw command.now gear.old)
         → 0 < length draws.now }
@@ -127,6 +161,7 @@ fn take_one(gear: &mut Gear, command: &Command, reached: bool, draws: &[Random24
 }
 
 /// What is heard when one more gear answers, or does not.
+#[inline(always)]
 fn joined(heard: Answer, answer: Option<u8>) -> Answer
     ensures { result ≡ joined_answer heard answer }
 {
