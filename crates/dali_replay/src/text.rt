@@ -8,12 +8,14 @@ ghost use Rattle.dali_replay.specs.Text.{commit_text, end_text, fault_text, put_
 ghost use Rattle.dali_replay.specs.Text.{kept_text, offered_text, destroyed_text, sent_text, report_text};
 ghost use Rattle.dali_replay.specs.Text.{collided_text, owner_text, lapse_text, ran_text, entry_text, entries_text};
 ghost use Rattle.dali_replay.specs.Text.{table_text};
+ghost use Rattle.dali_frame.specs.Hex.{forward_text};
 
 use dali_frame::{Answer, Forward, Priority, Random24, Short};
 use dali_gear::{Gear, InitialisationState};
 use dali_script::{End, Fault, Order, Record};
 use dali_world::{Refusal, Report};
 use std::alloc::AllocError;
+use std::str;
 
 /// The line of a call that answers nothing.
 pub fn push_ok(text: &mut String) -> Result<(), AllocError>
@@ -32,11 +34,25 @@ fn push_answer(text: &mut String, answer: Answer) -> Result<(), AllocError>
     }
 }
 
+/// The four digits of a frame.
+fn push_frame(text: &mut String, frame: Forward) -> Result<(), AllocError>
+    ensures { OnOk result (string_bytes text.new ≡ string_bytes text.old ++ forward_text frame) }
+{
+    let mut digits = [0; 4];
+    frame.write_hex(&mut digits);
+    match str::from_utf8(&digits) {
+        Ok(digits) => text.push_str(digits),
+        // Never so, since digits are text; the frame spells itself all the same.
+        Err(_) => write!(text, "{frame}"),
+    }
+}
+
 /// A frame, and what was heard after it.
 pub fn push_heard(text: &mut String, frame: Forward, answer: Answer) -> Result<(), AllocError>
     ensures { OnOk result (string_bytes text.new ≡ string_bytes text.old ++ heard_text frame answer) }
 {
-    write!(text, "{frame} ")?;
+    push_frame(text, frame)?;
+    text.push_str(" ")?;
     push_answer(text, answer)?;
     text.push_str("\n")
 }
