@@ -110,6 +110,9 @@ fn take_by_command(gear: &mut [Gear], command: &Command, reach: Reach, draws: &[
         }
         Command::SearchLow(byte) => take_command(gear, &Command::SearchLow(byte), reach, draws),
         Command::QueryShort => take_command(gear, &Command::QueryShort, reach, draws),
+        Command::Withdraw => take_command(gear, &Command::Withdraw, reach, draws),
+        Command::Verify(short) => take_command(gear, &Command::Verify(short), reach, draws),
+        Command::Program(short) => take_command(gear, &Command::Program(short), reach, draws),
         Command::Arc(frame) => take_command(gear, &Command::Arc(frame), reach, draws),
         Command::Other(frame) => take_command(gear, &Command::Other(frame), reach, draws),
         _ => take_command(gear, command, reach, draws),

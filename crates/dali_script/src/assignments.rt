@@ -149,10 +149,7 @@ impl Assignments {
 }
 
 /// The pairs once more, with room for all that there can be.
-fn copied(
-    alloc: Global,
-    pairs: &[(Short, Random24)],
-) -> Result<Vec<(Short, Random24)>, AllocError>
+fn copied(alloc: Global, pairs: &[(Short, Random24)]) -> Result<Vec<(Short, Random24)>, AllocError>
     requires { length pairs.now ≤ 64 }
     ensures items { IfOk result (λ copy. copy.items ≡ pairs.now) }
     ensures room { IfOk result (λ copy. vec_capacity copy ≡ 64) }
