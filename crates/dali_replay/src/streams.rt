@@ -28,7 +28,7 @@ pub fn replay_through<R: Read, W: Write + Drop>(
 }
 
 /// Plays standard input to standard output.
-pub fn replay_streams(rt: &HostRuntime) -> Result<(), ReplayFault> {
+pub fn replay_streams<R: Input + Print + AllocGlobal>(rt: &R) -> Result<(), ReplayFault> {
     let alloc = rt.alloc();
     let Ok(mut writer) = BufWriter::new(alloc, io::writer(rt)) else {
         return Err(ReplayFault::Memory);

@@ -7,6 +7,7 @@ use crate::failure::Failure;
 use clap::error::ErrorKind;
 use clap::{Command, Error};
 use std::alloc::{AllocError, Global};
+use std::io::Eprint;
 
 /// What a command line asks for.
 #[derive(Clone, Copy)]
@@ -47,52 +48,9 @@ fn answered(kind: ErrorKind, printed: bool) -> Result<Task, Failure>
 }
 
 /// What the words of a command line ask for. Help is printed, and what is wrong is said on standard error.
-pub fn asked(rt: &HostRuntime, words: &[String]) -> Result<Task, Failure> {
+pub fn asked<R: Print + Eprint + AllocGlobal>(rt: &R, words: &[String]) -> Result<Task, Failure> {
     match read(rt.alloc(), words) {
         Ok(()) => Ok(Task::Replay),
         Err(error) => answered(error.kind(), error.print(rt).is_ok()),
-    }
-}
-
-#[cfg(test)]
-mod tests {
-    use super::read;
-    use clap::error::ErrorKind;
-    use std::process::Abort;
-    use std::test::Fail;
-
-    /// A command line of these words is answered by this kind of text.
-    fn answers<R: Abort + AllocGlobal>(
-        rt: &R,
-        words: &str,
-        wanted: ErrorKind,
-        text: &str,
-    ) -> Result<(), Fail> {
-        let mut list = Vec::new(rt.alloc());
-        for word in words.split_ascii_whitespace() {
-            list.push(String::from_str(rt.alloc(), word)?)?;
-        }
-        match read(rt.alloc(), &list) {
-            Ok(()) => Err(Fail::from("an answer")),
-            Err(error) => {
-                assert!(rt; error.kind() == wanted);
-                assert!(rt; error.to_string(rt.alloc())?.contains(text));
-                Ok(())
-            }
-        }
-    }
-
-    #[test]
-    fn words_that_ask_for_nothing_are_answered(rt: HostRuntime) -> Result<(), Fail> {
-        let usage = "Usage: dali_sim <COMMAND>";
-        answers(&rt, "dali_sim", ErrorKind::MissingSubcommand, usage)?;
-        answers(&rt, "dali_sim play", ErrorKind::InvalidSubcommand, "'play'")?;
-        answers(&rt, "dali_sim --help", ErrorKind::DisplayHelp, usage)?;
-        answers(
-            &rt,
-            "dali_sim replay now",
-            ErrorKind::UnknownArgument,
-            "'now'",
-        )
     }
 }

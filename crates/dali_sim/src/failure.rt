@@ -57,18 +57,3 @@ pub fn exit_code(ended: Result<(), Failure>) -> ExitCode
         Err(failure) => ExitCode::from(failure.status()),
     }
 }
-
-#[cfg(test)]
-mod tests {
-    use super::Failure;
-    use dali_replay::ReplayFault;
-    use std::test::Fail;
-
-    #[test]
-    fn a_fault_of_replay_is_said_as_one(rt: HostRuntime) -> Result<(), Fail> {
-        let failure = Failure::Replay(ReplayFault::BadLine(3));
-        let said = failure.to_string(rt.alloc())?;
-        assert_eq!(rt; said.as_str(), "replay: line 3: bad line");
-        Ok(())
-    }
-}
