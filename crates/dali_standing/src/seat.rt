@@ -44,7 +44,8 @@ impl Model for Seat {
 impl Seat {
     ghost use Rattle.dali_standing.specs.declared.refusal.Refusal.TheVariants as refusal;
     ghost use Rattle.dali_standing.specs.Seats.{begun_at, acted_at, down_at, up_at, told_at, told_lost, IsTied};
-    ghost use Rattle.dali_standing.specs.Seats.{trace_of, Agrees};
+    ghost use Rattle.dali_standing.specs.Seats.{trace_of, Agrees, seat_by};
+    ghost use Rattle.dali_script.specs.declared.orders.Input.TheVariants as input;
 
     /// The place of controller `id`, which is up and keeps nothing yet.
     pub(crate) fn new(alloc: Global, id: u8, block: Block) -> Result<Seat, Refusal>
@@ -57,13 +58,21 @@ impl Seat {
         let Ok(machine) = Machine::new(alloc, id, kept.block(), &kept) else {
             return Err(Refusal::NoMemory);
         };
-        Ok(Seat {
+        Ok(Seat::begun(machine))
+    }
+
+    /// The place of a controller that begins, with a machine that has ordered nothing yet.
+    fn begun(machine: Machine) -> Seat
+        requires { machine.last ≡ None }
+        ensures { result ≡ seat_by (Some machine) None None None (Some input.Start) }
+    {
+        Seat {
             machine: Some(machine),
             kept: None,
             outstanding: None,
             finding: None,
             told: Some(Input::Start),
-        })
+        }
     }
 
     /// Whether the controller may act on this input.
@@ -157,11 +166,7 @@ impl Seat {
         let Ok(machine) = Machine::new(alloc, id, copy.block(), copy) else {
             return Err(Refusal::NoMemory);
         };
-        self.machine = Some(machine);
-        self.kept = None;
-        self.outstanding = None;
-        self.finding = None;
-        self.told = Some(Input::Start);
+        *self = Seat::begun(machine);
         Ok(())
     }
 
