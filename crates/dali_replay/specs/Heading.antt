@@ -1,4 +1,4 @@
-use Rattle.std.specs.Prelude.{ℕ, List, [], ◌∷◌, length, Bool, true, false, Option, Some, None, ◌&&◌}
+use Rattle.std.specs.Prelude.{ℕ, List, [], ◌∷◌, length, Bool, true, false, Option, Some, None}
 use Rattle.std.specs.Prelude.{bytes_eq, codes, nat_le, if◌then◌else◌, option_map, option_and_then}
 use Rattle.dali_replay.specs.declared.heading.Heading as code
 use Rattle.dali_replay.specs.Numbers.{number_of, randoms_of, blocks_of}
@@ -42,7 +42,9 @@ abbrev pub heading_of : List (List ℕ) → Option Heading
 heading_of words = or_site (bench_of words) (site_of words)
 
 -- THE SECOND LINE: `draws HHHHHH ..`, at most 1,024 of them
+abbrev pub drawn_of : List (List ℕ) → Option (List ℕ)
+drawn_of words = if nat_le (length words) 1024 then randoms_of words else None
+
 abbrev pub draws_of : List (List ℕ) → Option (List ℕ)
 draws_of [] = None
-draws_of (name ∷ words) =
-    if bytes_eq name (codes "draws") && nat_le (length words) 1024 then randoms_of words else None
+draws_of (name ∷ words) = if bytes_eq name (codes "draws") then drawn_of words else None

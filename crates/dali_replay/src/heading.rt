@@ -1,9 +1,9 @@
 //! The first two lines: what is set up, and the numbers that its gear will draw.
 
-ghost use Rattle.std.specs.Prelude.{◌≡◌, ◌≤◌, length, map, IfOk, IfSome, option_map};
+ghost use Rattle.std.specs.Prelude.{◌≡◌, ◌≤◌, [], ◌∷◌, length, map, IfOk, IfSome, option_map};
 ghost use Rattle.dali_replay.specs.Lines.{words_of, parts_after};
-ghost use Rattle.dali_replay.specs.Numbers.{blocks_of, randoms_of};
-ghost use Rattle.dali_replay.specs.Heading.{bench_of, site_of, heading_of, draws_of, shown};
+ghost use Rattle.dali_replay.specs.Numbers.{blocks_of};
+ghost use Rattle.dali_replay.specs.Heading.{bench_of, site_of, heading_of, draws_of, drawn_of, shown};
 
 use crate::lines::{cut, words};
 use crate::numbers::{block_of, number_of};
@@ -26,8 +26,19 @@ fn bench_of_words(words: &[&[u8]]) -> Option<u32>
     ensures { result ≡ bench_of (map (λ word. word.now) words.now) }
 {
     match words {
-        [name, word] if *name == b"bench".as_slice() => number_of(word),
+        [name, word] => bench_named(name, word),
         _ => None,
+    }
+}
+
+/// As `bench_of_words`, for two words.
+fn bench_named(name: &[u8], word: &[u8]) -> Option<u32>
+    ensures { result ≡ bench_of (name.now ∷ word.now ∷ []) }
+{
+    if name == b"bench".as_slice() {
+        number_of(word)
+    } else {
+        None
     }
 }
 
@@ -100,13 +111,24 @@ pub fn draws_of(alloc: Global, line: &[u8]) -> Result<Option<Vec<u32>>, AllocErr
     ensures draws { IfOk result (λ draws. option_map (λ draws. draws.items) draws ≡ draws_of (words_of line.now)) }
     ensures few { IfOk result (λ draws. IfSome draws (λ draws. length draws.items ≤ 1024)) }
 {
-    let (name, mut rest) = cut(line, b' ');
+    let (name, rest) = cut(line, b' ');
     if name != b"draws".as_slice() {
         return Ok(None);
     }
+    drawn_of(alloc, rest)
+}
+
+/// The random addresses in a list of words, which begins after a space, if there is one: at most 1,024; `None` where
+/// there are more, or a word is none.
+fn drawn_of(alloc: Global, words: Option<&[u8]>) -> Result<Option<Vec<u32>>, AllocError>
+    ensures draws { IfOk result (λ draws. option_map (λ draws. draws.items) draws
+        ≡ drawn_of (parts_after 32 (option_map (λ text. text.now) words.entry))) }
+    ensures few { IfOk result (λ draws. IfSome draws (λ draws. length draws.items ≤ 1024)) }
+{
     let mut draws = Vec::new(alloc);
-    while let Some(line) = rest {
-        let (word, more) = cut(line, b' ');
+    let mut rest = words;
+    while let Some(list) = rest {
+        let (word, more) = cut(list, b' ');
         let Some(draw) = Random24::read_hex(word) else {
             return Ok(None);
         };

@@ -1,6 +1,6 @@
 //! Decimal numbers, blocks of short addresses, and sets of gear.
 
-ghost use Rattle.std.specs.Prelude.{◌≡◌, map, option_map};
+ghost use Rattle.std.specs.Prelude.{◌≡◌, [], ◌∷◌, map, option_map};
 ghost use Rattle.dali_replay.specs.Numbers.{number_of, number_to, starts_plain, block_of, block_of_parts, set_of};
 
 use crate::lines::{cut, parts};
@@ -56,9 +56,16 @@ fn block_of_parts(parts: &[&[u8]]) -> Option<(u8, u8)>
     ensures { result ≡ block_of_parts (map (λ part. part.now) parts.now) }
 {
     match parts {
-        [first, last] => Some((byte_of(first)?, byte_of(last)?)),
+        [first, last] => block_between(first, last),
         _ => None,
     }
+}
+
+/// The block from one address to another.
+fn block_between(first: &[u8], last: &[u8]) -> Option<(u8, u8)>
+    ensures { result ≡ block_of_parts (first.now ∷ last.now ∷ []) }
+{
+    Some((byte_of(first)?, byte_of(last)?))
 }
 
 /// A block `a-b`: the numbers of its first and its last address, each at most 255.

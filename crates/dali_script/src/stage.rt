@@ -154,13 +154,14 @@ impl Stage {
     pub(crate) fn finding(self) -> Option<(Short, Random24)>
         ensures { result ≡ finding_at self }
     {
-        match self {
+        let (number, found) = match self {
             Stage::Found(number, short)
             | Stage::Confirmed(number, short)
-            | Stage::Withdrawn(number, short) => Some((short, number.value())),
-            Stage::Inconclusive(number, other) => Some((other?, number.value())),
-            _ => None,
-        }
+            | Stage::Withdrawn(number, short) => (number, Some(short)),
+            Stage::Inconclusive(number, other) => (number, other),
+            _ => return None,
+        };
+        Some((found?, number.value()))
     }
 
     /// The stage after the first QUERY SHORT ADDRESS.

@@ -3,7 +3,7 @@ use Rattle.std.specs.Prelude.{option_map}
 use Rattle.std.specs.Option.{option_map_or}
 use Rattle.dali_replay.specs.Lines.{parts_after}
 use Rattle.dali_replay.specs.Numbers.{randoms_of}
-use Rattle.dali_replay.proofs.heading.draws_of.Given as goal
+use Rattle.dali_replay.proofs.heading.drawn_of.Given as goal
 
 abbrev pub invariant-loop-rest : goal.invariant-loop-rest
 invariant-loop-rest l = record {
