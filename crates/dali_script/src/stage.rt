@@ -62,8 +62,8 @@ impl Stage {
             },
             Stage::Terminated if is_initialise(command) => Some(Stage::InitialisedOnce),
             Stage::InitialisedOnce if is_initialise(command) => Some(Stage::Initialised),
-            Stage::Initialised if command == Command::Randomise => Some(Stage::RandomisedOnce),
-            Stage::RandomisedOnce if command == Command::Randomise => Some(Stage::Opened),
+            Stage::Initialised if matches!(command, Command::Randomise) => Some(Stage::RandomisedOnce),
+            Stage::RandomisedOnce if matches!(command, Command::Randomise) => Some(Stage::Opened),
             Stage::HighSent(high) => match command {
                 Command::SearchMiddle(middle) => Some(Stage::MiddleSent(high, middle)),
                 _ => None,
@@ -83,11 +83,11 @@ impl Stage {
                 Command::Program(short) => Some(Stage::Programmed(number, short?)),
                 _ => None,
             },
-            Stage::Programmed(number, short) if command == Command::QueryShort => {
+            Stage::Programmed(number, short) if matches!(command, Command::QueryShort) => {
                 Some(Stage::verified(number, short, heard))
             }
             Stage::Found(number, short) | Stage::Confirmed(number, short)
-                if command == Command::Withdraw => { Some(Stage::Withdrawn(number, short)) }
+                if matches!(command, Command::Withdraw) => { Some(Stage::Withdrawn(number, short)) }
             _ => None,
         }
     }
