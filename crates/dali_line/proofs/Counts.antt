@@ -16,6 +16,7 @@ use Rattle.dali_standing.specs.declared.trouble.Report.TheVariants as report
 use Rattle.dali_world.specs.Site.{SiteState, is_step_of, share_of, site_logged, Pumps}
 use Rattle.dali_line.specs.Shares.{Tally, count_at, raised, raised_driver}
 use Rattle.dali_line.specs.Counts.{is_other, others_of, counts_of}
+use Rattle.dali_line.specs.Found.{events_in}
 
 -- A LOG GROWS BY ONE EVENT, and so does one of its five shares.
 
@@ -112,3 +113,9 @@ pump_counted old new t t' trouble (report.Collided c f d g) exact raised_is pump
 
 pub nobody_there : (w : World) (c : ℕ) → length w.controllers ≤ c → controller_at w c ≡ nobody
 nobody_there w c past = get_or_past w.controllers c nobody past
+
+pub few_events : (r : Report) → events_in r ≤ 1
+few_events report.Idle = omega arith
+few_events (report.Sent c f h) = omega arith
+few_events (report.Destroyed c f) = omega arith
+few_events (report.Collided c f d g) = omega arith
