@@ -14,7 +14,7 @@ use Rattle.dali_standing.specs.declared.trouble.Trouble.{Trouble}
 use Rattle.dali_standing.specs.declared.trouble.Report.{Report}
 use Rattle.dali_standing.specs.declared.trouble.Report.TheVariants as report
 use Rattle.dali_world.specs.Site.{SiteState, is_step_of, share_of, site_logged, Pumps}
-use Rattle.dali_line.specs.Shares.{Tally, count_at, raised, raised_driver}
+use Rattle.dali_line.specs.Shares.{Tally, total_of, count_at, raised, raised_driver}
 use Rattle.dali_line.specs.Counts.{is_other, others_of, counts_of}
 use Rattle.dali_line.specs.Found.{events_in}
 
@@ -98,6 +98,33 @@ count_at-counts_of p queue log (suc zero) run few = refl
 count_at-counts_of p queue log (suc (suc zero)) run few = refl
 count_at-counts_of p queue log (suc (suc (suc zero))) run few = refl
 count_at-counts_of p queue log (suc (suc (suc (suc c)))) run few = sym (strangers p queue log (suc (suc (suc (suc c)))) run (omega arith))
+
+-- ---------------------------------------------------------------- each event is in one share, and in one alone
+
+abbrev IsInOne : Event → List Event → Type 0
+IsInOne e es = total_of (counts_of (e ∷ es)) ≡ total_of (counts_of es) + 1
+
+of_step : (e : Event) (es : List Event) (d : ℕ) → d < 4 → is_other e ≡ false → ((c : ℕ) → is_step_of c e ≡ (d == c)) → IsInOne e es
+of_step e es zero there own step = rw (step 0, step 1, step 2, step 3, own) (omega arith)
+of_step e es (suc zero) there own step = rw (step 0, step 1, step 2, step 3, own) (omega arith)
+of_step e es (suc (suc zero)) there own step = rw (step 0, step 1, step 2, step 3, own) (omega arith)
+of_step e es (suc (suc (suc zero))) there own step = rw (step 0, step 1, step 2, step 3, own) (omega arith)
+of_step e es (suc (suc (suc (suc d)))) there own step = absurd (omega arith)
+
+in_one : (w : World) (e : Event) (es : List Event) → Allowed w e → length w.controllers ≤ 4 → IsInOne e es
+in_one w (event.Acted d i o) es allowed few = let known = allowed.up.known in of_step (event.Acted d i o) es d (omega arith) refl (λ c. refl)
+in_one w (event.Offered d f) es allowed few = let known = allowed.0.known in of_step (event.Offered d f) es d (omega arith) refl (λ c. refl)
+in_one w _ es allowed few = omega arith
+
+whole_from : (w : World) (log : List Event) → AllAllowed w log → length w.controllers ≤ 4 → total_of (counts_of log) ≡ length log
+whole_from w [] all few = refl
+whole_from w (e ∷ es) all few =
+    let rest = whole_from (happens w e) es all.1 (rw (controllers_count w e) few) in
+    let one = in_one w e es all.0 few in
+    omega arith
+
+pub whole : (p : Plan) (queue : ℕ) (log : List Event) → IsRun p queue log → length p.blocks ≤ 4 → total_of (counts_of log) ≡ length log
+whole p queue log run few = whole_from (start p queue) log run.allowed (rw (length-map p.blocks _) few)
 
 -- ---------------------------------------------------------------- what came of a pump
 

@@ -1,7 +1,5 @@
 use Rattle.std.specs.Prelude.{◌≡◌, List, ◌++◌}
 use Rattle.dali_script.specs.declared.records.Record.{Record}
-use Rattle.dali_line.specs.Shares.{Seat}
-use Rattle.std.specs.Prelude.{ℕ, ◌+◌, ◌≤◌}
 
 -- HOW A STORE IS LEFT, by what every store promises: while what lies under it is open, it holds the
 -- list that it held, and then maybe more.
@@ -11,9 +9,3 @@ pub record Leaves {S : Type 0} (is_up is_sound : S → Type 0)
   pub sound : is_sound old → is_up new → is_sound new
   pub list : is_sound old → is_up new → (xs : List Record) → holds old xs
       → (more : List Record) × holds new (xs ++ more)
-
--- a seat after at most so many steps
-pub record Follows (old new : Seat) (steps : ℕ) : Type 0 where
-  pub controller : new.controller ≡ old.controller
-  pub least : old.share ≤ new.share
-  pub most : new.share ≤ old.share + steps

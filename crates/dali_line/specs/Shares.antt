@@ -1,4 +1,4 @@
-use Rattle.std.specs.Prelude.{ℕ, zero, suc, ◌+◌}
+use Rattle.std.specs.Prelude.{◌≡◌, ℕ, zero, suc, ◌+◌, ◌≤◌}
 
 -- A SEAT at a line, as contracts see a port: the controller that it speaks for, and how many events
 -- of the line's log are steps of that controller, as far as its holder knows.
@@ -13,6 +13,12 @@ seat c share = record { controller = c; share = share }
 abbrev pub raised_seat : Seat → Seat
 raised_seat s = seat s.controller (s.share + 1)
 
+-- a seat after at most so many steps
+pub record Follows (old new : Seat) (steps : ℕ) : Type 0 where
+  pub controller : new.controller ≡ old.controller
+  pub least : old.share ≤ new.share
+  pub most : new.share ≤ old.share + steps
+
 -- a spare seat: no controller has this number
 abbrev pub no_seat : Seat
 no_seat = seat 255 0
@@ -25,6 +31,10 @@ pub record Tally : Type 0 where
   pub third : ℕ
   pub fourth : ℕ
   pub driver : ℕ
+
+-- all of them together
+abbrev pub total_of : Tally → ℕ
+total_of t = t.first + t.second + t.third + t.fourth + t.driver
 
 -- the count of controller c: there are four at most
 abbrev pub count_at : Tally → ℕ → ℕ

@@ -1,10 +1,10 @@
-ghost use Rattle.std.specs.Prelude.{◌≡◌, ◌+◌, ◌<◌, ◌≤◌, ℕ, All, [], ◌∷◌, take, IfOk, IfErr, OnOk, OnErr, IsTrue};
+ghost use Rattle.std.specs.Prelude.{◌≡◌, ◌+◌, ◌<◌, ◌≤◌, ℕ, length, All, [], ◌∷◌, take, IfOk, IfErr, OnOk, OnErr, IsTrue};
 ghost use Rattle.dali_events.specs.World.{controller_at};
 ghost use Rattle.dali_standing.specs.Seats.{due_of};
 ghost use Rattle.dali_events.specs.Promise.{KeepsPromise};
 ghost use Rattle.dali_world.specs.Site.{SiteState, world, Acts, share_of, IsSound};
-ghost use Rattle.dali_line.specs.Counts.{seats_of, others_of};
-ghost use Rattle.dali_line.specs.Shares.{raised_seat, seat};
+ghost use Rattle.dali_line.specs.Counts.{seats_of, counts_of, others_of};
+ghost use Rattle.dali_line.specs.Shares.{raised_seat, seat, total_of};
 ghost use Rattle.dali_line.specs.Found.{FromSeat, FromDriver, HasDue, IsReady, events_in};
 ghost use Rattle.dali_line.specs.Calls.{Offers, PumpsOnce, Lapses, FallsQuiet, Powers, Expires, GoesDown, ComesUp};
 
@@ -79,7 +79,7 @@ impl<P0: Ledger, P1: Ledger, P2: Ledger, P3: Ledger, D: Ledger> Line<P0, P1, P2,
     }
 
     /// The site, out of the lock. Each port's share is how many events of its log are steps of the port's controller,
-    /// and the driver's share is how many are nobody's.
+    /// and the driver's share is how many are nobody's. Each event is in one of these shares, and in one alone.
     pub fn close(
         self,
         ports: ArrayVec<Port<P0, P1, P2, P3, D>, 4>,
@@ -87,6 +87,7 @@ impl<P0: Ledger, P1: Ledger, P2: Ledger, P3: Ledger, D: Ledger> Line<P0, P1, P2,
     ) -> SiteState
         ensures ports { All (λ seat. share_of seat.controller result.log ≡ seat.share) ports.items }
         ensures driver { others_of result.log ≡ driver }
+        ensures whole { total_of (counts_of result.log) ≡ length result.log }
         ensures promise { KeepsPromise result.plan result.queue result.log }
         ensures sound { IsSound result }
     {

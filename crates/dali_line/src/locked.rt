@@ -27,7 +27,7 @@ pub(crate) struct Locked<P0: Ledger, P1: Ledger, P2: Ledger, P3: Ledger, D: Ledg
 
 impl<P0: Ledger, P1: Ledger, P2: Ledger, P3: Ledger, D: Ledger> Locked<P0, P1, P2, P3, D> {
     ghost use Rattle.dali_world.specs.Site.{Acts, world, next_request, share_of, IsSound};
-    ghost use Rattle.dali_line.specs.Shares.{raised_seat};
+    ghost use Rattle.dali_line.specs.Shares.{raised_seat, total_of};
     ghost use Rattle.dali_line.specs.Found.{IsFoundFrom, IsFoundByDriver, HasDue, IsReady, events_in};
     ghost use Rattle.dali_line.specs.Calls.{Offers, PumpsOnce, Lapses, FallsQuiet, Powers, Expires, GoesDown, ComesUp};
 
@@ -164,10 +164,12 @@ impl<P0: Ledger, P1: Ledger, P2: Ledger, P3: Ledger, D: Ledger> Locked<P0, P1, P
     /// Says what the driver's holder knows of the site. It changes nothing.
     fn audit_driver(&mut self, driver: &mut Driver<P0, P1, P2, P3, D>)
         ensures found { IsFoundByDriver driver.old self.old.site }
+        ensures whole { total_of (counts_of self.old.site.log) ≡ length self.old.site.log }
         ensures site { self.new.site ≡ self.old.site }
         ensures driver { driver.new ≡ driver.old }
     {
         self.site.is_safe();
+        let _blocks = self.site.plan().blocks();
         self.tally.audit_driver(driver);
     }
 
@@ -368,6 +370,7 @@ impl<P0: Ledger, P1: Ledger, P2: Ledger, P3: Ledger, D: Ledger> Locked<P0, P1, P
         ensures site { result ≡ self.site }
         ensures ports { All (λ seat. share_of seat.controller result.log ≡ seat.share) ports.items }
         ensures driver { others_of result.log ≡ driver }
+        ensures whole { total_of (counts_of result.log) ≡ length result.log }
         ensures promise { KeepsPromise result.plan result.queue result.log }
         ensures sound { IsSound result }
     {

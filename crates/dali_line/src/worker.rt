@@ -1,6 +1,8 @@
-ghost use Rattle.std.specs.Prelude.{◌≡◌, ◌+◌, ◌≤◌, ◌⊎◌, List, [], ◌∷◌, ◌++◌, true, Some};
+ghost use Rattle.std.specs.Prelude.{◌≡◌, ◌+◌, ◌≤◌, ◌⊎◌, List, [], ◌∷◌, ◌++◌, true, IsSomeAnd};
+ghost use Rattle.dali_script.specs.declared.orders.Input.TheVariants as input;
 ghost use Rattle.dali_script.specs.declared.records.Record.{Record};
-ghost use Rattle.dali_line.specs.Leaves.{Leaves, Follows};
+ghost use Rattle.dali_line.specs.Leaves.{Leaves};
+ghost use Rattle.dali_line.specs.Shares.{Follows};
 
 use crate::bus::Bus;
 use crate::gate::{Gate, Moment};
@@ -108,15 +110,26 @@ struct Shift<P, K, G> {
 }
 
 impl<P, K: Keep, G: Gate> Shift<P, K, G> {
-    /// Commits the record that was ordered, if there is one. Whether it is kept.
+    /// What became of the commit that is due: the record that was ordered is committed, if there is one.
     #[tactic(auto, using(crate::proofs::Leaving::leaves_none, crate::proofs::Leaving::leaves_one))]
-    fn commit(&mut self, alloc: Global) -> bool
+    fn commit(&mut self, alloc: Global) -> Input
         ensures keep { Leaves K.is_up K.is_sound K.holds self.old.keep self.new.keep }
+        ensures told { (result ≡ input.Committed) ⊎ (result ≡ input.CommitFailed) }
+        // Committed is told of a record that the store has.
+        ensures kept { result ≡ input.Committed → IsSomeAnd self.old.ordered
+            (λ added. K.is_sound self.old.keep → K.is_up self.new.keep → (xs : List Record) → K.holds self.old.keep xs
+            → K.holds self.new.keep (xs ++ added ∷ [])) }
         ensures port { self.new.port ≡ self.old.port }
     {
         match self.ordered.take() {
-            Some(added) => try_commit(&mut self.keep, alloc, &added),
-            None => false,
+            Some(added) => {
+                if try_commit(&mut self.keep, alloc, &added) {
+                    Input::Committed
+                } else {
+                    Input::CommitFailed
+                }
+            }
+            None => Input::CommitFailed,
         }
     }
 
@@ -135,13 +148,9 @@ impl<P, K: Keep, G: Gate> Shift<P, K, G> {
         }
         let controller = bus.controller(&self.port);
         self.gate.at(rt, controller, Moment::BeforeCommit);
-        let kept = self.commit(alloc);
+        let outcome = self.commit(alloc);
         self.gate.at(rt, controller, Moment::AfterCommit);
-        Some(if kept {
-            Input::Committed
-        } else {
-            Input::CommitFailed
-        })
+        Some(outcome)
     }
 
     /// The end that an order is, if it is one. A record that is ordered is to be committed.

@@ -1,4 +1,5 @@
-use Rattle.dali_line.specs.Leaves.{Leaves, Follows}
+use Rattle.dali_line.specs.Leaves.{Leaves}
+use Rattle.dali_line.specs.Shares.{Follows}
 use Rattle.dali_line.proofs.worker.Worker.run.Given as goal
 
 abbrev pub invariant-loop : goal.invariant-loop
