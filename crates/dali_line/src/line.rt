@@ -23,7 +23,17 @@ use std::alloc::Global;
 use std::sync::ledger::{Blank, Ledger};
 use std::sync::{Condvar, Mutex, Wait};
 
-/// A site under a lock.
+/// A site under a lock, which threads share by reference.
+///
+/// Its calls are those of `SiteState`, one at a time. Whoever calls has the right to it: a controller's `act`, `arc`,
+/// `next`, `due` and `wait` want its port, and all others the driver; `stop` is anybody's.
+///
+/// Each call says of its answer: there is a site (`FromSeat`, `FromDriver` in `specs/Found`) whose promise holds, whose
+/// log has as many of the caller's events as the caller's share says, and which answers so. An accepted call raises
+/// that share by one, a refused one leaves it.
+///
+/// A line in use: a `Worker` for each port and a `Pumper` for the driver, each in a thread of its own. A call that waits
+/// (`wait`, `ready`) sleeps; nothing promises that it ends.
 #[derive(Drop)]
 pub struct Line<P0: Ledger, P1: Ledger, P2: Ledger, P3: Ledger, D: Ledger> {
     locked: Mutex<Locked<P0, P1, P2, P3, D>>,

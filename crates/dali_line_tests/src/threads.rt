@@ -426,3 +426,72 @@ fn ports_list<R: Threads + Wait + Abort + Sync + AllocGlobal>(rt: &R) -> Result<
 fn port_lists(rt: HostRuntime) -> Result<(), Fail> {
     ports_list(&rt)
 }
+
+/// What a run that was stopped from outside left: it ended by itself, or by the stop.
+fn was_stopped<P, R: Abort>(rt: &R, left: &Option<Left<P>>) {
+    if let Some((outcome, _, _)) = left {
+        assert!(rt; matches!(outcome, Outcome::Stopped | Outcome::Ended(_)));
+    }
+}
+
+fn stops_all<P0, P1, P2, P3, D, R>(
+    rt: &R,
+    alloc: Global,
+    site: SiteState,
+    blanks: Blanks,
+    keeps: (MemoryKeep, MemoryKeep),
+)
+where
+    P0: Ledger + Send + Sync,
+    P1: Ledger + Send + Sync,
+    P2: Ledger + Send + Sync,
+    P3: Ledger + Send + Sync,
+    D: Ledger + Send + Sync,
+    R: Threads + Wait + Abort + Sync,
+    requires first { (blanks.0.name ≡ P0.name) × (blanks.0.parts ≡ P0.parts) × (0 < P0.parts) }
+    requires second { (blanks.1.name ≡ P1.name) × (blanks.1.parts ≡ P1.parts) × (0 < P1.parts) }
+    requires third { (blanks.2.name ≡ P2.name) × (blanks.2.parts ≡ P2.parts) × (0 < P2.parts) }
+    requires fourth { (blanks.3.name ≡ P3.name) × (blanks.3.parts ≡ P3.parts) × (0 < P3.parts) }
+    requires driver { (blanks.4.name ≡ D.name) × (blanks.4.parts ≡ D.parts) × (0 < D.parts) }
+{
+    let (first, second, third, fourth, driver) = blanks;
+    let (line, mut ports, driver) = Line::<P0, P1, P2, P3, D>::new(
+        site, first, second, third, fourth, driver,
+    );
+    let other = ports.pop().unwrap_or_default();
+    let one = ports.pop().unwrap_or_default();
+    // Nobody acts for the second controller, so the pumper would wait for it.
+    let workers = (
+        Some(Worker::new(one, keeps.0, OpenGate)),
+        Some(Worker::new(Port::default(), keeps.1, OpenGate)),
+        None,
+        None,
+    );
+    let pumper = Pumper::new(driver, OpenGate);
+    let bus = &line;
+    let ((left, pumped), ()) = join(
+        rt,
+        move || all_run(rt, alloc, bus, workers, pumper),
+        move || bus.stop(rt),
+    );
+    was_stopped(rt, &left.0);
+    was_stopped(rt, &left.1);
+    same(rt, &pumped.1, &None);
+    drop(other);
+    line.close(ports, pumped.0).is_safe();
+}
+
+/// A stop ends all runs, whatever they wait for.
+fn stop_all<R: Threads + Wait + Abort + Sync + AllocGlobal>(rt: &R) -> Result<(), Fail> {
+    let alloc = rt.alloc();
+    let keeps = (store_of(alloc, (0, 3))?, store_of(alloc, (4, 7))?);
+    let site = site_with(alloc, 2, &[(0, 3), (4, 7)])?;
+    let blanks = blanks();
+    stops_all::<Brand, Brand, Brand, Brand, Brand, R>(rt, alloc, site, blanks, keeps);
+    Ok(())
+}
+
+#[test]
+fn a_stop_from_outside_ends_all(rt: HostRuntime) -> Result<(), Fail> {
+    stop_all(&rt)
+}
