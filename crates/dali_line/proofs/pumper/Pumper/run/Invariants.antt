@@ -1,0 +1,5 @@
+use Rattle.std.proofs.Common.{◌+◌, ◌≤◌}
+use Rattle.dali_line.proofs.pumper.Pumper.run.Given as goal
+
+abbrev pub invariant-loop : goal.invariant-loop
+invariant-loop g l = (g.B.Bus.driven l.fn.self.driver ≤ g.B.Bus.driven l.driver) × (g.B.Bus.driven l.driver ≤ g.B.Bus.driven l.fn.self.driver + l.counter)

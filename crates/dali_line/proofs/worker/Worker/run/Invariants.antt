@@ -1,0 +1,9 @@
+use Rattle.dali_line.specs.Leaves.{Leaves}
+use Rattle.dali_line.specs.Shares.{Follows}
+use Rattle.dali_line.proofs.worker.Worker.run.Given as goal
+
+abbrev pub invariant-loop : goal.invariant-loop
+invariant-loop g l = record {
+  port : Follows (g.B.Bus.seat l.fn.self.port) (g.B.Bus.seat l.shift.port) l.counter;
+  keep : Leaves g.K.Keep.is_up g.K.Keep.is_sound g.K.Keep.holds l.fn.self.keep l.shift.keep;
+}

@@ -1,0 +1,35 @@
+use Rattle.std.specs.Prelude.{ℕ, ◌+◌, Bool, true, false, List, [], ◌∷◌, length, take}
+use Rattle.std.specs.Prelude.{if◌then◌else◌}
+use Rattle.dali_events.specs.declared.event.Event.{Event}
+use Rattle.dali_events.specs.declared.event.Event.TheVariants as event
+use Rattle.dali_world.specs.Site.{SiteState, share_of}
+use Rattle.dali_line.specs.Shares.{Seat, seat, Tally}
+
+-- whether an event is no controller's step
+abbrev pub is_other : Event → Bool
+is_other (event.Acted c i o) = false
+is_other (event.Offered c f) = false
+is_other _ = true
+
+-- THE DRIVER'S SHARE of a log: how many of its events are no controller's steps
+abbrev pub others_of : List Event → ℕ
+others_of [] = 0
+others_of (e ∷ es) = (if is_other e then 1 else 0) + others_of es
+
+-- THE FIVE SHARES of a log
+abbrev pub counts_of : List Event → Tally
+counts_of log = record {
+  first = share_of 0 log;
+  second = share_of 1 log;
+  third = share_of 2 log;
+  fourth = share_of 3 log;
+  driver = others_of log;
+}
+
+-- the seats of a site: one for each controller, in order, each with its share of the log
+abbrev pub seat_in : SiteState → ℕ → Seat
+seat_in s c = seat c (share_of c s.log)
+
+abbrev pub seats_of : SiteState → List Seat
+seats_of s =
+    take (length s.plan.blocks) (seat_in s 0 ∷ seat_in s 1 ∷ seat_in s 2 ∷ seat_in s 3 ∷ [])

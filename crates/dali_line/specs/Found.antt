@@ -1,0 +1,58 @@
+use Rattle.std.specs.Prelude.{◌≡◌, ◌⊎◌, ℕ, ◌<◌, length, None, IsSome}
+use Rattle.dali_script.specs.declared.orders.Due.TheVariants as due
+use Rattle.dali_events.specs.World.{controller_at}
+use Rattle.dali_events.specs.Promise.{KeepsPromise}
+use Rattle.dali_standing.specs.Seats.{due_of}
+use Rattle.dali_standing.specs.declared.trouble.Report.{Report}
+use Rattle.dali_standing.specs.declared.trouble.Report.TheVariants as report
+use Rattle.dali_world.specs.Site.{SiteState, world, share_of, next_request, IsSound}
+use Rattle.dali_line.specs.Shares.{Seat}
+use Rattle.dali_line.specs.Counts.{others_of}
+use Rattle.dali_line.specs.declared.ready.Ready.{Ready}
+use Rattle.dali_line.specs.declared.ready.Ready.TheVariants as ready
+
+-- A SITE AS IT IS FOUND UNDER THE LOCK by whoever knows one share of its log: it keeps its promise,
+-- and `count`, how many of its events are the finder's, is that share.
+pub record IsFound (s : SiteState) (count known : ℕ) : Type 0 where
+  pub sound : IsSound s
+  pub promise : KeepsPromise s.plan s.queue s.log
+  pub share : count ≡ known
+
+-- by the port of a seat, and by the driver
+abbrev pub IsFoundFrom : Seat → SiteState → Type 0
+IsFoundFrom seat s = IsFound s (share_of seat.controller s.log) seat.share
+
+abbrev pub IsFoundByDriver : ℕ → SiteState → Type 0
+IsFoundByDriver share s = IsFound s (others_of s.log) share
+
+-- a report tells of one event, unless nothing was next
+abbrev pub events_in : Report → ℕ
+events_in report.Idle = 0
+events_in _ = 1
+
+-- A CALL of a port, or of the driver, is one of a site found under the lock.
+abbrev pub FromSeat : Seat → (SiteState → Type 0) → Type 0
+FromSeat seat Answers = (s : SiteState) × IsFoundFrom seat s × Answers s
+
+abbrev pub FromDriver : ℕ → (SiteState → Type 0) → Type 0
+FromDriver share Answers = (s : SiteState) × IsFoundByDriver share s × Answers s
+
+-- something is due for controller c: the bus has told it something, or it is to start; or its
+-- commit is to be made
+abbrev pub HasDue : SiteState → ℕ → Type 0
+HasDue s c =
+    IsSome (controller_at (world s) c).told ⊎ (due_of (controller_at (world s) c) ≡ due.Store)
+
+-- nobody owns the bus, no request waits for it, and nothing is due for any controller: each has
+-- ended, has halted or is down
+pub record IsOver (s : SiteState) : Type 0 where
+  pub free : (world s).bus.owner ≡ None
+  pub idle : next_request s ≡ None
+  pub ended : (c : ℕ) → c < length s.plan.blocks
+      → due_of (controller_at (world s) c) ≡ due.Nothing
+
+-- what the driver is told of the line
+abbrev pub IsReady : SiteState → Ready → Type 0
+IsReady s ready.Stopped = Unit {0}
+IsReady s ready.Next = IsSome (next_request s)
+IsReady s ready.Over = IsOver s

@@ -1,0 +1,6 @@
+pub mod Calls
+pub mod Counts
+pub mod Found
+pub mod Leaves
+pub mod Seats
+pub mod Shares

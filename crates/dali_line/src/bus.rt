@@ -1,0 +1,123 @@
+ghost use Rattle.std.specs.Prelude.{◌≡◌, ℕ, ◌+◌, IfOk, OnOk, OnErr};
+ghost use Rattle.dali_line.specs.Shares.{Seat, raised_seat};
+ghost use Rattle.dali_line.specs.Found.{events_in};
+
+use crate::driver::Driver;
+use crate::line::Line;
+use crate::port::Port;
+use crate::ready::Ready;
+use dali_script::{Due, Input};
+use dali_world::{Receipt, Refusal, Report, Trouble};
+use std::sync::Wait;
+use std::sync::ledger::Ledger;
+
+/// A site that threads share: all that a worker and a pumper need of it. A [`Line`] is one; a vendor may write another,
+/// as one round a line that counts its calls.
+///
+/// No call hands out a lock, so none is held from one call to the next.
+///
+/// Contracts see a port by `seat`: the controller that it speaks for, and its share, how many events are steps of that
+/// controller. They see a driver by `driven`, its share: how many events are no controller's step.
+pub trait Bus {
+    /// The right to act for one controller.
+    type Port;
+
+    /// The right to drive the bus.
+    type Driver;
+
+    ghost seat: { Self.Port → Seat };
+
+    ghost driven: { Self.Driver → ℕ };
+
+    /// The number of the port's controller; 255 where it speaks for nobody.
+    fn controller(&self, port: &Self::Port) -> u8
+        ensures { result ≡ (seat port.now).controller };
+
+    /// The port's controller acts on an input.
+    fn act<R: Wait>(&self, rt: &R, port: &mut Self::Port, input: Input) -> Result<Receipt, Refusal>
+        ensures accepted { OnOk result (seat port.new ≡ raised_seat (seat port.old)) }
+        ensures refused { OnErr result (seat port.new ≡ seat port.old) }
+        ensures receipt { IfOk result (λ r. (r.controller ≡ (seat port.old).controller) × (r.input ≡ input)
+            × (r.number ≡ (seat port.new).share)) };
+
+    /// What the bus has told the port's controller, and it has not acted on; or Start.
+    fn next<R: Wait>(&self, rt: &R, port: &mut Self::Port) -> Option<Input>
+        ensures { seat port.new ≡ seat port.old };
+
+    /// What is due for the port's controller.
+    fn due<R: Wait>(&self, rt: &R, port: &mut Self::Port) -> Due
+        ensures { seat port.new ≡ seat port.old };
+
+    /// Waits until something is due for the port's controller (true), or all is stopped (false).
+    fn wait<R: Wait>(&self, rt: &R, port: &mut Self::Port) -> bool
+        ensures { seat port.new ≡ seat port.old };
+
+    /// The request that is next comes on the bus; Idle where none is.
+    fn pump<R: Wait>(
+        &self,
+        rt: &R,
+        driver: &mut Self::Driver,
+        trouble: Trouble,
+    ) -> Result<Report, Refusal>
+        ensures accepted { IfOk result (λ r. driven driver.new ≡ driven driver.old + events_in r) }
+        ensures refused { OnErr result (driven driver.new ≡ driven driver.old) };
+
+    /// Waits until all is stopped, a request is next, or all is over.
+    fn ready<R: Wait>(&self, rt: &R, driver: &mut Self::Driver) -> Ready
+        ensures { driven driver.new ≡ driven driver.old };
+
+    /// All is stopped, for good: who waits now or later is told so.
+    fn stop<R: Wait>(&self, rt: &R);
+}
+
+impl<P0: Ledger, P1: Ledger, P2: Ledger, P3: Ledger, D: Ledger> Bus for Line<P0, P1, P2, P3, D> {
+    type Port = Port<P0, P1, P2, P3, D>;
+
+    type Driver = Driver<P0, P1, P2, P3, D>;
+
+    ghost seat = { λ port. port };
+
+    ghost driven = { λ driver. driver };
+
+    fn controller(&self, port: &Port<P0, P1, P2, P3, D>) -> u8 {
+        port.controller()
+    }
+
+    fn act<R: Wait>(
+        &self,
+        rt: &R,
+        port: &mut Port<P0, P1, P2, P3, D>,
+        input: Input,
+    ) -> Result<Receipt, Refusal> {
+        self.act(rt, port, input)
+    }
+
+    fn next<R: Wait>(&self, rt: &R, port: &mut Port<P0, P1, P2, P3, D>) -> Option<Input> {
+        self.next(rt, port)
+    }
+
+    fn due<R: Wait>(&self, rt: &R, port: &mut Port<P0, P1, P2, P3, D>) -> Due {
+        self.due(rt, port)
+    }
+
+    fn wait<R: Wait>(&self, rt: &R, port: &mut Port<P0, P1, P2, P3, D>) -> bool {
+        self.wait(rt, port)
+    }
+
+    fn pump<R: Wait>(
+        &self,
+        rt: &R,
+        driver: &mut Driver<P0, P1, P2, P3, D>,
+        trouble: Trouble,
+    ) -> Result<Report, Refusal> {
+        self.pump(rt, driver, trouble)
+    }
+
+    fn ready<R: Wait>(&self, rt: &R, driver: &mut Driver<P0, P1, P2, P3, D>) -> Ready {
+        self.ready(rt, driver)
+    }
+
+    fn stop<R: Wait>(&self, rt: &R) {
+        self.stop(rt)
+    }
+}

@@ -1,0 +1,361 @@
+ghost use Rattle.std.specs.Prelude.{◌≡◌, ◌+◌, ◌<◌, ◌≤◌, ℕ, length, All, [], ◌∷◌, take, IfOk, IfErr, OnOk, OnErr, IsTrue};
+ghost use Rattle.dali_events.specs.World.{controller_at};
+ghost use Rattle.dali_standing.specs.Seats.{due_of};
+ghost use Rattle.dali_events.specs.Promise.{KeepsPromise};
+ghost use Rattle.dali_world.specs.Site.{SiteState, world, Acts, share_of, IsSound};
+ghost use Rattle.dali_line.specs.Counts.{seats_of, counts_of, others_of};
+ghost use Rattle.dali_line.specs.Shares.{raised_seat, seat, total_of};
+ghost use Rattle.dali_line.specs.Found.{FromSeat, FromDriver, HasDue, IsReady, events_in};
+ghost use Rattle.dali_line.specs.Calls.{Offers, PumpsOnce, Lapses, FallsQuiet, Powers, Expires, GoesDown, ComesUp};
+
+use crate::count::{others, steps};
+use crate::driver::Driver;
+use crate::locked::Locked;
+use crate::own::Own;
+use crate::port::{Kind, Port};
+use crate::ready::Ready;
+use crate::tally::Tally;
+use arrayvec::ArrayVec;
+use dali_frame::Forward;
+use dali_script::{Due, Input, Kept};
+use dali_world::{Receipt, Refusal, Report, SiteState, Trouble};
+use std::alloc::Global;
+use std::sync::ledger::{Blank, Ledger};
+use std::sync::{Condvar, Mutex, Wait};
+
+/// A site under a lock, which threads share by reference.
+///
+/// Its calls are those of `SiteState`, one at a time. Whoever calls has the right to it: a controller's `act`, `arc`,
+/// `next`, `due` and `wait` want its port, and all others the driver; `stop` is anybody's.
+///
+/// Each call says of its answer: there is a site (`FromSeat`, `FromDriver` in `specs/Found`) whose promise holds, whose
+/// log has as many of the caller's events as the caller's share says, and which answers so. An accepted call raises
+/// that share by one, a refused one leaves it.
+///
+/// A line in use: a `Worker` for each port and a `Pumper` for the driver, each in a thread of its own. A call that waits
+/// (`wait`, `ready`) sleeps; nothing promises that it ends.
+#[derive(Drop)]
+pub struct Line<P0: Ledger, P1: Ledger, P2: Ledger, P3: Ledger, D: Ledger> {
+    locked: Mutex<Locked<P0, P1, P2, P3, D>>,
+    moved: Condvar,
+}
+
+impl<P0: Ledger, P1: Ledger, P2: Ledger, P3: Ledger, D: Ledger> Line<P0, P1, P2, P3, D> {
+    /// A line round this site, with a port for each of its controllers, in order of their numbers, and the driver.
+    ///
+    /// The shares begin at what the site's log has. It takes no memory.
+    pub fn new(
+        site: SiteState,
+        first: Blank,
+        second: Blank,
+        third: Blank,
+        fourth: Blank,
+        driver: Blank,
+    ) -> (
+        Line<P0, P1, P2, P3, D>,
+        ArrayVec<Port<P0, P1, P2, P3, D>, 4>,
+        Driver<P0, P1, P2, P3, D>,
+    )
+        requires first { (first.name ≡ P0.name) × (first.parts ≡ P0.parts) × (0 < P0.parts) }
+        requires second { (second.name ≡ P1.name) × (second.parts ≡ P1.parts) × (0 < P1.parts) }
+        requires third { (third.name ≡ P2.name) × (third.parts ≡ P2.parts) × (0 < P2.parts) }
+        requires fourth { (fourth.name ≡ P3.name) × (fourth.parts ≡ P3.parts) × (0 < P3.parts) }
+        requires driver { (driver.name ≡ D.name) × (driver.parts ≡ D.parts) × (0 < D.parts) }
+        ensures ports { result.1.items ≡ seats_of site }
+        ensures driver { result.2 ≡ others_of site.log }
+        ensures promise { KeepsPromise site.plan site.queue site.log }
+        ensures sound { IsSound site }
+    {
+        site.is_safe();
+        let log = site.log();
+        let (first, one) = Own::open(first, steps(0, log));
+        let (second, two) = Own::open(second, steps(1, log));
+        let (third, three) = Own::open(third, steps(2, log));
+        let (fourth, four) = Own::open(fourth, steps(3, log));
+        let (driver, own) = Own::open(driver, others(log));
+        let count = site.plan().blocks().len();
+        let tally = Tally {
+            first,
+            second,
+            third,
+            fourth,
+            driver,
+        };
+        let line = Line {
+            locked: Mutex::new(Locked::new(site, tally)),
+            moved: Condvar::new(),
+        };
+        (line, ports(count, one, two, three, four), Driver::of(own))
+    }
+
+    /// The site, out of the lock. Each port's share is how many events of its log are steps of the port's controller,
+    /// and the driver's share is how many are nobody's. Each event is in one of these shares, and in one alone.
+    pub fn close(
+        self,
+        ports: ArrayVec<Port<P0, P1, P2, P3, D>, 4>,
+        driver: Driver<P0, P1, P2, P3, D>,
+    ) -> SiteState
+        ensures ports { All (λ seat. share_of seat.controller result.log ≡ seat.share) ports.items }
+        ensures driver { others_of result.log ≡ driver }
+        ensures whole { total_of (counts_of result.log) ≡ length result.log }
+        ensures promise { KeepsPromise result.plan result.queue result.log }
+        ensures sound { IsSound result }
+    {
+        let Line { locked, moved: _ } = self;
+        locked.into_inner().close(ports, driver)
+    }
+
+    /// The port's controller acts on an input, as `SiteState::act` says: on what `next` says, or on the outcome of its
+    /// commit where `due` is Store. The receipt's number is the port's share with this step.
+    ///
+    /// Refusals, in this order: 1 UnknownController, 2 ControllerDown, 3 NotDue, 7 QueueFull, 8 LogFull.
+    pub fn act<R: Wait>(
+        &self,
+        rt: &R,
+        port: &mut Port<P0, P1, P2, P3, D>,
+        input: Input,
+    ) -> Result<Receipt, Refusal>
+        ensures answer { FromSeat port.old
+            (λ s. (new : SiteState) × Acts s port.old.controller input result new) }
+        ensures accepted { OnOk result (port.new ≡ raised_seat port.old) }
+        ensures refused { OnErr result (port.new ≡ port.old) }
+        ensures receipt { IfOk result (λ r. (r.controller ≡ port.old.controller) × (r.input ≡ input)
+            × (r.number ≡ port.new.share)) }
+    {
+        let answer = self.locked.lock(rt).act(port, input);
+        self.moved.notify_all();
+        answer
+    }
+
+    /// The port's controller asks to send a frame of direct arc power, as `SiteState::arc` says.
+    ///
+    /// Refusals, in this order: 1 UnknownController, 2 ControllerDown, 4 NotArc, 7 QueueFull, 8 LogFull.
+    pub fn arc<R: Wait>(
+        &self,
+        rt: &R,
+        port: &mut Port<P0, P1, P2, P3, D>,
+        frame: Forward,
+    ) -> Result<(), Refusal>
+        ensures answer { FromSeat port.old
+            (λ s. (new : SiteState) × Offers s port.old.controller frame result new) }
+        ensures accepted { OnOk result (port.new ≡ raised_seat port.old) }
+        ensures refused { OnErr result (port.new ≡ port.old) }
+    {
+        let answer = self.locked.lock(rt).arc(port, frame);
+        self.moved.notify_all();
+        answer
+    }
+
+    /// What the bus has told the port's controller, and it has not acted on, as `SiteState::next` says; None of a spare
+    /// port.
+    pub fn next<R: Wait>(&self, rt: &R, port: &mut Port<P0, P1, P2, P3, D>) -> Option<Input>
+        ensures answer { FromSeat port.old
+            (λ s. result ≡ (controller_at (world s) port.old.controller).told) }
+        ensures same { port.new ≡ port.old }
+    {
+        self.locked.lock(rt).next(port)
+    }
+
+    /// What is due for the port's controller, as `SiteState::due` says; Nothing for a spare port.
+    pub fn due<R: Wait>(&self, rt: &R, port: &mut Port<P0, P1, P2, P3, D>) -> Due
+        ensures answer { FromSeat port.old
+            (λ s. result ≡ due_of (controller_at (world s) port.old.controller)) }
+        ensures same { port.new ≡ port.old }
+    {
+        self.locked.lock(rt).due(port)
+    }
+
+    /// Waits until something is due for the port's controller (true), or the line is stopped (false).
+    ///
+    /// Something is due where `next` says something, or where `due` is Store. It may wait forever, as with a port whose
+    /// controller has ended.
+    pub fn wait<R: Wait>(&self, rt: &R, port: &mut Port<P0, P1, P2, P3, D>) -> bool
+        ensures due { IsTrue result → FromSeat port.old (λ s. HasDue s port.old.controller) }
+        ensures same { port.new ≡ port.old }
+    {
+        let controller = port.controller();
+        let mut locked = self
+            .moved
+            .wait_while(rt, self.locked.lock(rt), |l| !l.wakes(controller));
+        locked.waits(port)
+    }
+
+    /// The request that is next comes on the bus, as `SiteState::pump` says.
+    ///
+    /// Without a request it answers Idle, and logs nothing. Refusals, in this order: 6 DrawsSpent, 8 LogFull.
+    pub fn pump<R: Wait>(
+        &self,
+        rt: &R,
+        driver: &mut Driver<P0, P1, P2, P3, D>,
+        trouble: Trouble,
+    ) -> Result<Report, Refusal>
+        ensures answer { FromDriver driver.old
+            (λ s. (new : SiteState) × PumpsOnce s trouble result new) }
+        ensures accepted { IfOk result (λ r. driver.new ≡ driver.old + events_in r) }
+        ensures refused { OnErr result (driver.new ≡ driver.old) }
+    {
+        let answer = self.locked.lock(rt).pump(driver, trouble);
+        self.moved.notify_all();
+        answer
+    }
+
+    /// The owner loses the bus, as `SiteState::lapse` says. Answers who it was, if anybody.
+    ///
+    /// Refusal: 8 LogFull.
+    pub fn lapse<R: Wait>(
+        &self,
+        rt: &R,
+        driver: &mut Driver<P0, P1, P2, P3, D>,
+    ) -> Result<Option<u8>, Refusal>
+        ensures answer { FromDriver driver.old (λ s. (new : SiteState) × Lapses s result new) }
+        ensures accepted { OnOk result (driver.new ≡ driver.old + 1) }
+        ensures refused { OnErr result (driver.new ≡ driver.old) }
+    {
+        let answer = self.locked.lock(rt).lapse(driver);
+        self.moved.notify_all();
+        answer
+    }
+
+    /// The bus is quiet for so long that half of a send-twice pair is forgotten.
+    ///
+    /// Refusal: 8 LogFull.
+    pub fn quiet<R: Wait>(
+        &self,
+        rt: &R,
+        driver: &mut Driver<P0, P1, P2, P3, D>,
+    ) -> Result<(), Refusal>
+        ensures answer { FromDriver driver.old (λ s. (new : SiteState) × FallsQuiet s result new) }
+        ensures accepted { OnOk result (driver.new ≡ driver.old + 1) }
+        ensures refused { OnErr result (driver.new ≡ driver.old) }
+    {
+        self.locked.lock(rt).quiet(driver)
+    }
+
+    /// The power of gear `number`, 0 to 127, comes (true) or goes.
+    ///
+    /// Refusals, in this order: 1 UnknownGear, 8 LogFull.
+    pub fn power<R: Wait>(
+        &self,
+        rt: &R,
+        driver: &mut Driver<P0, P1, P2, P3, D>,
+        number: u32,
+        on: bool,
+    ) -> Result<(), Refusal>
+        ensures answer { FromDriver driver.old (λ s. (new : SiteState) × Powers s number on result new) }
+        ensures accepted { OnOk result (driver.new ≡ driver.old + 1) }
+        ensures refused { OnErr result (driver.new ≡ driver.old) }
+    {
+        self.locked.lock(rt).power(driver, number, on)
+    }
+
+    /// The 15 minutes of the initialisation of gear `number`, 0 to 127, are over.
+    ///
+    /// Refusals, in this order: 1 UnknownGear, 8 LogFull.
+    pub fn expire<R: Wait>(
+        &self,
+        rt: &R,
+        driver: &mut Driver<P0, P1, P2, P3, D>,
+        number: u32,
+    ) -> Result<(), Refusal>
+        ensures answer { FromDriver driver.old (λ s. (new : SiteState) × Expires s number result new) }
+        ensures accepted { OnOk result (driver.new ≡ driver.old + 1) }
+        ensures refused { OnErr result (driver.new ≡ driver.old) }
+    {
+        self.locked.lock(rt).expire(driver, number)
+    }
+
+    /// Controller `c`, 0 to 3, goes down, as `SiteState::down` says.
+    ///
+    /// Refusals, in this order: 1 UnknownController, 2 ControllerDown, 8 LogFull.
+    pub fn down<R: Wait>(
+        &self,
+        rt: &R,
+        driver: &mut Driver<P0, P1, P2, P3, D>,
+        c: u8,
+    ) -> Result<(), Refusal>
+        ensures answer { FromDriver driver.old (λ s. (new : SiteState) × GoesDown s c result new) }
+        ensures accepted { OnOk result (driver.new ≡ driver.old + 1) }
+        ensures refused { OnErr result (driver.new ≡ driver.old) }
+    {
+        let answer = self.locked.lock(rt).down(driver, c);
+        self.moved.notify_all();
+        answer
+    }
+
+    /// Controller `c`, 0 to 3, comes up with a copy of its records: those that the site under the lock remembers, or
+    /// these with the one that was outstanding.
+    ///
+    /// Refusals, in this order: 1 UnknownController, 2 ControllerUp, 5 StoreDisagrees, 8 LogFull, 9 NoMemory. It alone
+    /// of a line's calls takes memory, and it does so under the lock.
+    pub fn up<R: Wait>(
+        &self,
+        rt: &R,
+        driver: &mut Driver<P0, P1, P2, P3, D>,
+        alloc: Global,
+        c: u8,
+        copy: &Kept,
+    ) -> Result<(), Refusal>
+        ensures answer { FromDriver driver.old (λ s. (new : SiteState) × ComesUp s c copy.now result new) }
+        ensures accepted { OnOk result (driver.new ≡ driver.old + 1) }
+        ensures refused { OnErr result (driver.new ≡ driver.old) }
+    {
+        let answer = self.locked.lock(rt).up(driver, alloc, c, copy);
+        self.moved.notify_all();
+        answer
+    }
+
+    /// Waits until there is something to say to the driver: the line is stopped, a request is next, or all is over.
+    ///
+    /// It may wait forever, as where a controller is due and nobody acts for it.
+    pub fn ready<R: Wait>(&self, rt: &R, driver: &mut Driver<P0, P1, P2, P3, D>) -> Ready
+        ensures answer { FromDriver driver.old (λ s. IsReady s result) }
+        ensures same { driver.new ≡ driver.old }
+    {
+        for _ in rt.forever() {
+            let mut locked = self
+                .moved
+                .wait_while(rt, self.locked.lock(rt), |l| !l.wakes_driver());
+            if let Some(ready) = locked.ready(driver) {
+                return ready;
+            }
+        }
+        unreachable!()
+    }
+
+    /// The line is stopped, for good: who waits now or later is told so. Its other calls go on as before.
+    pub fn stop<R: Wait>(&self, rt: &R) {
+        self.locked.lock(rt).stop();
+        self.moved.notify_all();
+    }
+}
+
+/// The ports of the first `count` controllers.
+fn ports<P0: Ledger, P1: Ledger, P2: Ledger, P3: Ledger, D: Ledger>(
+    count: usize,
+    first: Own<P0>,
+    second: Own<P1>,
+    third: Own<P2>,
+    fourth: Own<P3>,
+) -> ArrayVec<Port<P0, P1, P2, P3, D>, 4>
+    requires { count ≤ 4 }
+    ensures { result.items ≡ take count (seat 0 first ∷ seat 1 second ∷ seat 2 third ∷ seat 3 fourth ∷ []) }
+{
+    let mut ports = ArrayVec::new();
+    if count == 0 {
+        return ports;
+    }
+    ports.push(Port::of(Kind::First(first)));
+    if count == 1 {
+        return ports;
+    }
+    ports.push(Port::of(Kind::Second(second)));
+    if count == 2 {
+        return ports;
+    }
+    ports.push(Port::of(Kind::Third(third)));
+    if count == 3 {
+        return ports;
+    }
+    ports.push(Port::of(Kind::Fourth(fourth)));
+    ports
+}

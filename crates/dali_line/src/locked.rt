@@ -1,0 +1,387 @@
+ghost use Rattle.std.specs.Prelude.{◌≡◌, ◌+◌, ◌<◌, ◌≤◌, ℕ, length, All, IfOk, IfErr, OnOk, OnErr, IfSome, IsTrue, true};
+ghost use Rattle.dali_events.specs.World.{controller_at};
+ghost use Rattle.dali_standing.specs.Seats.{due_of};
+ghost use Rattle.dali_script.specs.declared.orders.Due.TheVariants as due;
+ghost use Rattle.dali_events.specs.Promise.{KeepsPromise};
+ghost use Rattle.dali_line.specs.Counts.{counts_of, others_of};
+
+use crate::driver::Driver;
+use crate::port::Port;
+use crate::ready::Ready;
+use crate::tally::Tally;
+use arrayvec::ArrayVec;
+use dali_frame::Forward;
+use dali_script::{Due, Input, Kept};
+use dali_world::{Receipt, Refusal, Report, SiteState, Trouble};
+use std::alloc::Global;
+use std::sync::ledger::Ledger;
+
+/// What lies under a line's lock: a site, how many events of its log are whose, and whether the line is stopped.
+#[derive(Drop)]
+pub(crate) struct Locked<P0: Ledger, P1: Ledger, P2: Ledger, P3: Ledger, D: Ledger> {
+    site: SiteState,
+    tally: Tally<P0, P1, P2, P3, D>,
+    stopped: bool,
+    ghost exact: { tally ≡ counts_of site.log },
+}
+
+impl<P0: Ledger, P1: Ledger, P2: Ledger, P3: Ledger, D: Ledger> Locked<P0, P1, P2, P3, D> {
+    ghost use Rattle.dali_world.specs.Site.{Acts, world, next_request, share_of, IsSound};
+    ghost use Rattle.dali_line.specs.Shares.{raised_seat, total_of};
+    ghost use Rattle.dali_line.specs.Found.{IsFoundFrom, IsFoundByDriver, HasDue, IsReady, events_in};
+    ghost use Rattle.dali_line.specs.Calls.{Offers, PumpsOnce, Lapses, FallsQuiet, Powers, Expires, GoesDown, ComesUp};
+
+    /// A site with the tally of its log.
+    pub(crate) fn new(site: SiteState, tally: Tally<P0, P1, P2, P3, D>) -> Locked<P0, P1, P2, P3, D>
+        requires { tally ≡ counts_of site.log }
+        ensures { result.site ≡ site }
+    {
+        Locked {
+            site,
+            tally,
+            stopped: false,
+        }
+    }
+
+    /// Says what the port's holder knows of the site. It changes nothing.
+    fn audit(&mut self, port: &mut Port<P0, P1, P2, P3, D>)
+        ensures found { IsFoundFrom port.old self.old.site }
+        ensures few { length (world self.new.site).controllers ≤ 4 }
+        ensures site { self.new.site ≡ self.old.site }
+        ensures port { port.new ≡ port.old }
+    {
+        self.site.is_safe();
+        let _blocks = self.site.plan().blocks();
+        self.tally.audit(port);
+    }
+
+    /// A controller acts.
+    pub(crate) fn act(
+        &mut self,
+        port: &mut Port<P0, P1, P2, P3, D>,
+        input: Input,
+    ) -> Result<Receipt, Refusal>
+        ensures found { IsFoundFrom port.old self.old.site }
+        ensures answer { Acts self.old.site port.old.controller input result self.new.site }
+        ensures accepted { OnOk result (port.new ≡ raised_seat port.old) }
+        ensures refused { OnErr result (port.new ≡ port.old) }
+        ensures receipt { IfOk result (λ r. (r.controller ≡ port.old.controller) × (r.input ≡ input)
+            × (r.number ≡ port.new.share)) }
+    {
+        self.audit(port);
+        let receipt = self.site.act(port.controller(), input)?;
+        self.tally.raise(port);
+        Ok(receipt)
+    }
+
+    /// A controller offers a frame of direct arc power.
+    #[tactic(auto, unfolding(crate::specs::Calls::Offers))]
+    pub(crate) fn arc(
+        &mut self,
+        port: &mut Port<P0, P1, P2, P3, D>,
+        frame: Forward,
+    ) -> Result<(), Refusal>
+        ensures found { IsFoundFrom port.old self.old.site }
+        ensures answer { Offers self.old.site port.old.controller frame result self.new.site }
+        ensures accepted { OnOk result (port.new ≡ raised_seat port.old) }
+        ensures refused { OnErr result (port.new ≡ port.old) }
+    {
+        self.audit(port);
+        self.site.arc(port.controller(), frame)?;
+        self.tally.raise(port);
+        Ok(())
+    }
+
+    /// What a controller is told. Nothing, if it is not there.
+    #[tactic(auto, using(crate::proofs::Counts::nobody_there))]
+    fn told(&self, c: u8) -> Option<Input>
+        ensures { result ≡ (controller_at (world self.now.site) c).told }
+    {
+        self.site.is_safe();
+        if (c as usize) >= self.site.plan().blocks().len() {
+            return None;
+        }
+        self.site.next(c)
+    }
+
+    /// What is due for a controller. Nothing, if it is not there.
+    #[tactic(auto, using(crate::proofs::Counts::nobody_there))]
+    fn due_for(&self, c: u8) -> Due
+        ensures { result ≡ due_of (controller_at (world self.now.site) c) }
+    {
+        self.site.is_safe();
+        if (c as usize) >= self.site.plan().blocks().len() {
+            return Due::Nothing;
+        }
+        self.site.due(c)
+    }
+
+    /// What the port's controller may act on.
+    pub(crate) fn next(&mut self, port: &mut Port<P0, P1, P2, P3, D>) -> Option<Input>
+        ensures found { IsFoundFrom port.old self.old.site }
+        ensures answer { result ≡ (controller_at (world self.old.site) port.old.controller).told }
+        ensures same { port.new ≡ port.old }
+        ensures site { self.new.site ≡ self.old.site }
+    {
+        self.audit(port);
+        self.told(port.controller())
+    }
+
+    /// What is due for the port's controller.
+    pub(crate) fn due(&mut self, port: &mut Port<P0, P1, P2, P3, D>) -> Due
+        ensures found { IsFoundFrom port.old self.old.site }
+        ensures answer { result ≡ due_of (controller_at (world self.old.site) port.old.controller) }
+        ensures same { port.new ≡ port.old }
+        ensures site { self.new.site ≡ self.old.site }
+    {
+        self.audit(port);
+        self.due_for(port.controller())
+    }
+
+    /// Whether something is due for a controller: it was told something, or its commit is to be made.
+    fn has_due(&self, c: u8) -> bool
+        ensures { IsTrue result → HasDue self.now.site c }
+    {
+        self.told(c).is_some() || self.due_for(c) == Due::Store
+    }
+
+    /// Whether a controller has no reason to wait: the line is stopped, or something is due for it.
+    pub(crate) fn wakes(&self, c: u8) -> bool {
+        self.stopped || self.has_due(c)
+    }
+
+    /// Whether something is due for the port's controller, and the line is not stopped.
+    pub(crate) fn waits(&mut self, port: &mut Port<P0, P1, P2, P3, D>) -> bool
+        ensures found { IsFoundFrom port.old self.old.site }
+        ensures answer { IsTrue result → HasDue self.old.site port.old.controller }
+        ensures same { port.new ≡ port.old }
+        ensures site { self.new.site ≡ self.old.site }
+    {
+        self.audit(port);
+        !self.stopped && self.has_due(port.controller())
+    }
+
+    /// Says what the driver's holder knows of the site. It changes nothing.
+    fn audit_driver(&mut self, driver: &mut Driver<P0, P1, P2, P3, D>)
+        ensures found { IsFoundByDriver driver.old self.old.site }
+        ensures whole { total_of (counts_of self.old.site.log) ≡ length self.old.site.log }
+        ensures site { self.new.site ≡ self.old.site }
+        ensures driver { driver.new ≡ driver.old }
+    {
+        self.site.is_safe();
+        let _blocks = self.site.plan().blocks();
+        self.tally.audit_driver(driver);
+    }
+
+    /// The request that is next comes on the bus.
+    #[tactic(auto, unfolding(crate::specs::Calls::PumpsOnce))]
+    pub(crate) fn pump(
+        &mut self,
+        driver: &mut Driver<P0, P1, P2, P3, D>,
+        trouble: Trouble,
+    ) -> Result<Report, Refusal>
+        ensures found { IsFoundByDriver driver.old self.old.site }
+        ensures answer { PumpsOnce self.old.site trouble result self.new.site }
+        ensures accepted { IfOk result (λ r. driver.new ≡ driver.old + events_in r) }
+        ensures refused { OnErr result (driver.new ≡ driver.old) }
+    {
+        self.audit_driver(driver);
+        let report = self.site.pump(trouble)?;
+        if report != Report::Idle {
+            self.tally.raise_driver(driver);
+        }
+        Ok(report)
+    }
+
+    /// The owner loses the bus.
+    #[tactic(auto, unfolding(crate::specs::Calls::Lapses))]
+    pub(crate) fn lapse(
+        &mut self,
+        driver: &mut Driver<P0, P1, P2, P3, D>,
+    ) -> Result<Option<u8>, Refusal>
+        ensures found { IsFoundByDriver driver.old self.old.site }
+        ensures answer { Lapses self.old.site result self.new.site }
+        ensures accepted { OnOk result (driver.new ≡ driver.old + 1) }
+        ensures refused { OnErr result (driver.new ≡ driver.old) }
+    {
+        self.audit_driver(driver);
+        let owner = self.site.lapse()?;
+        self.tally.raise_driver(driver);
+        Ok(owner)
+    }
+
+    /// Half pairs are forgotten.
+    #[tactic(auto, unfolding(crate::specs::Calls::FallsQuiet))]
+    pub(crate) fn quiet(&mut self, driver: &mut Driver<P0, P1, P2, P3, D>) -> Result<(), Refusal>
+        ensures found { IsFoundByDriver driver.old self.old.site }
+        ensures answer { FallsQuiet self.old.site result self.new.site }
+        ensures accepted { OnOk result (driver.new ≡ driver.old + 1) }
+        ensures refused { OnErr result (driver.new ≡ driver.old) }
+    {
+        self.audit_driver(driver);
+        self.site.quiet()?;
+        self.tally.raise_driver(driver);
+        Ok(())
+    }
+
+    /// A gear's power comes or goes.
+    #[tactic(auto, unfolding(crate::specs::Calls::Powers))]
+    pub(crate) fn power(
+        &mut self,
+        driver: &mut Driver<P0, P1, P2, P3, D>,
+        number: u32,
+        on: bool,
+    ) -> Result<(), Refusal>
+        ensures found { IsFoundByDriver driver.old self.old.site }
+        ensures answer { Powers self.old.site number on result self.new.site }
+        ensures accepted { OnOk result (driver.new ≡ driver.old + 1) }
+        ensures refused { OnErr result (driver.new ≡ driver.old) }
+    {
+        self.audit_driver(driver);
+        self.site.power(number, on)?;
+        self.tally.raise_driver(driver);
+        Ok(())
+    }
+
+    /// A gear's initialisation is over.
+    #[tactic(auto, unfolding(crate::specs::Calls::Expires))]
+    pub(crate) fn expire(
+        &mut self,
+        driver: &mut Driver<P0, P1, P2, P3, D>,
+        number: u32,
+    ) -> Result<(), Refusal>
+        ensures found { IsFoundByDriver driver.old self.old.site }
+        ensures answer { Expires self.old.site number result self.new.site }
+        ensures accepted { OnOk result (driver.new ≡ driver.old + 1) }
+        ensures refused { OnErr result (driver.new ≡ driver.old) }
+    {
+        self.audit_driver(driver);
+        self.site.expire(number)?;
+        self.tally.raise_driver(driver);
+        Ok(())
+    }
+
+    /// A controller goes down.
+    #[tactic(auto, unfolding(crate::specs::Calls::GoesDown))]
+    pub(crate) fn down(
+        &mut self,
+        driver: &mut Driver<P0, P1, P2, P3, D>,
+        c: u8,
+    ) -> Result<(), Refusal>
+        ensures found { IsFoundByDriver driver.old self.old.site }
+        ensures answer { GoesDown self.old.site c result self.new.site }
+        ensures accepted { OnOk result (driver.new ≡ driver.old + 1) }
+        ensures refused { OnErr result (driver.new ≡ driver.old) }
+    {
+        self.audit_driver(driver);
+        self.site.down(c)?;
+        self.tally.raise_driver(driver);
+        Ok(())
+    }
+
+    /// A controller comes up with a copy of its records.
+    #[tactic(auto, unfolding(crate::specs::Calls::ComesUp))]
+    pub(crate) fn up(
+        &mut self,
+        driver: &mut Driver<P0, P1, P2, P3, D>,
+        alloc: Global,
+        c: u8,
+        copy: &Kept,
+    ) -> Result<(), Refusal>
+        ensures found { IsFoundByDriver driver.old self.old.site }
+        ensures answer { ComesUp self.old.site c copy.now result self.new.site }
+        ensures accepted { OnOk result (driver.new ≡ driver.old + 1) }
+        ensures refused { OnErr result (driver.new ≡ driver.old) }
+    {
+        self.audit_driver(driver);
+        self.site.up(alloc, c, copy)?;
+        self.tally.raise_driver(driver);
+        Ok(())
+    }
+
+    /// Whether nothing is due for any controller: each has ended, has halted or is down.
+    fn have_ended(&self) -> bool
+        ensures { IsTrue result → (c : ℕ) → c < length self.now.site.plan.blocks
+            → due_of (controller_at (world self.now.site) c) ≡ due.Nothing }
+    {
+        let count = self.site.plan().blocks().len() as u8;
+        for c in 0..count {
+            if self.site.due(c) != Due::Nothing {
+                return false;
+            }
+        }
+        true
+    }
+
+    /// What a driver may do, if there is anything to say.
+    fn may_do(&self) -> Option<Ready>
+        ensures { IfSome result (IsReady self.now.site) }
+    {
+        if self.stopped {
+            return Some(Ready::Stopped);
+        }
+        if !self.site.idle() {
+            return Some(Ready::Next);
+        }
+        if self.site.owner().is_none() && self.have_ended() {
+            return Some(Ready::Over);
+        }
+        None
+    }
+
+    /// Whether a driver has no reason to wait.
+    pub(crate) fn wakes_driver(&self) -> bool {
+        self.may_do().is_some()
+    }
+
+    /// What a driver may do, if there is anything to say.
+    pub(crate) fn ready(&mut self, driver: &mut Driver<P0, P1, P2, P3, D>) -> Option<Ready>
+        ensures found { IsFoundByDriver driver.old self.old.site }
+        ensures answer { IfSome result (IsReady self.old.site) }
+        ensures same { driver.new ≡ driver.old }
+        ensures site { self.new.site ≡ self.old.site }
+    {
+        self.audit_driver(driver);
+        self.may_do()
+    }
+
+    /// Nobody waits any more.
+    pub(crate) fn stop(&mut self)
+        ensures { self.new.site ≡ self.old.site }
+    {
+        self.stopped = true;
+    }
+
+    /// A port goes. Its share was how many events of the log are its controller's steps.
+    fn take_back(&mut self, port: Port<P0, P1, P2, P3, D>)
+        ensures share { share_of port.controller self.old.site.log ≡ port.share }
+        ensures site { self.new.site ≡ self.old.site }
+    {
+        let mut port = port;
+        self.audit(&mut port);
+    }
+
+    /// The site, of which each share is what its log has.
+    pub(crate) fn close(
+        self,
+        ports: ArrayVec<Port<P0, P1, P2, P3, D>, 4>,
+        driver: Driver<P0, P1, P2, P3, D>,
+    ) -> SiteState
+        ensures site { result ≡ self.site }
+        ensures ports { All (λ seat. share_of seat.controller result.log ≡ seat.share) ports.items }
+        ensures driver { others_of result.log ≡ driver }
+        ensures whole { total_of (counts_of result.log) ≡ length result.log }
+        ensures promise { KeepsPromise result.plan result.queue result.log }
+        ensures sound { IsSound result }
+    {
+        let mut locked = self;
+        let mut driver = driver;
+        let mut ports = ports;
+        locked.audit_driver(&mut driver);
+        while let Some(port) = ports.pop() {
+            locked.take_back(port);
+        }
+        let Locked { site, .. } = locked;
+        site
+    }
+}

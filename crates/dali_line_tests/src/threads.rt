@@ -1,0 +1,497 @@
+//! Workers and a pumper, each in a thread of its own.
+
+ghost use Rattle.std.specs.Prelude.{◌≡◌, ◌<◌};
+
+use super::listed::{Listed, ListedBus};
+use super::values::{block, same, site_of};
+use arrayvec::ArrayVec;
+use dali_line::{Bus, Driver, Gate, Line, Moment, OpenGate, Outcome, Port, Pumper, Worker};
+use dali_reserve::{Keep, MemoryKeep};
+use dali_script::{End, Kept};
+use dali_world::{Event, Refusal, SiteState};
+use std::alloc::Global;
+use std::marker::Brand;
+use std::process::Abort;
+use std::sync::ledger::{Blank, Ledger};
+use std::sync::{Mutex, Wait};
+use std::test::Fail;
+use std::thread::{Threads, join};
+
+/// How often a gate looks before it gives up.
+const LOOKS: u32 = 100_000_000;
+
+/// How many turns a worker and a pumper may take.
+const TURNS: u32 = 100_000;
+
+/// What a gate has seen.
+#[derive(Drop)]
+struct Seen {
+    /// Controller 0 is before its first commit, or was.
+    first: bool,
+    /// Another controller is before a commit, or was.
+    second: bool,
+    /// Neither came within so many looks.
+    has_failed: bool,
+}
+
+/// A gate that holds the first commit of controller 0 until another controller is before a commit of its own.
+#[derive(Drop)]
+struct Holding {
+    seen: Mutex<Seen>,
+}
+
+impl Holding {
+    /// Whether controller 0 is before its first commit now.
+    fn comes_first<R: Wait>(&self, rt: &R) -> bool {
+        let mut seen = self.seen.lock(rt);
+        let comes = !seen.first;
+        seen.first = true;
+        comes
+    }
+
+    /// Waits until another controller is before a commit.
+    fn await_second<R: Wait>(&self, rt: &R) {
+        for _ in 0..LOOKS {
+            if self.seen.lock(rt).second {
+                return;
+            }
+        }
+        self.seen.lock(rt).has_failed = true;
+    }
+
+    /// Waits until controller 0 is before its first commit.
+    fn await_first<R: Wait>(&self, rt: &R) {
+        for _ in 0..LOOKS {
+            if self.seen.lock(rt).first {
+                return;
+            }
+        }
+        self.seen.lock(rt).has_failed = true;
+    }
+}
+
+impl Gate for &Holding {
+    fn at<R: Wait>(&self, rt: &R, controller: u8, moment: Moment) {
+        if moment != Moment::BeforeCommit {
+            return;
+        }
+        if controller != 0 {
+            self.seen.lock(rt).second = true;
+        } else if self.comes_first(rt) {
+            self.await_second(rt);
+        }
+    }
+}
+
+/// What a worker leaves: how it ended, its port, and what its store reads.
+type Left<P> = (Outcome, P, Option<Kept>);
+
+/// A worker runs, and its store is read.
+fn works<B: Bus, G: Gate, R: Wait>(
+    rt: &R,
+    alloc: Global,
+    bus: &B,
+    worker: Worker<B::Port, MemoryKeep, G>,
+) -> Left<B::Port> {
+    let (outcome, port, mut keep) = worker.run(rt, alloc, bus, TURNS);
+    (outcome, port, keep.read(alloc).ok())
+}
+
+/// Two workers and a pumper, of which the second worker begins when the first one's gate has seen it before its first
+/// commit.
+fn two_run<P0, P1, P2, P3, D, R>(
+    rt: &R,
+    alloc: Global,
+    line: &Line<P0, P1, P2, P3, D>,
+    gate: &Holding,
+    ports: (Port<P0, P1, P2, P3, D>, Port<P0, P1, P2, P3, D>),
+    keeps: (MemoryKeep, MemoryKeep),
+    driver: Driver<P0, P1, P2, P3, D>,
+) -> (
+    Left<Port<P0, P1, P2, P3, D>>,
+    Left<Port<P0, P1, P2, P3, D>>,
+    (Driver<P0, P1, P2, P3, D>, Option<Refusal>),
+)
+where
+    P0: Ledger + Send + Sync,
+    P1: Ledger + Send + Sync,
+    P2: Ledger + Send + Sync,
+    P3: Ledger + Send + Sync,
+    D: Ledger + Send + Sync,
+    R: Threads + Wait + Sync,
+{
+    let first = Worker::new(ports.0, keeps.0, gate);
+    let second = Worker::new(ports.1, keeps.1, gate);
+    let pumper = Pumper::new(driver, OpenGate);
+    let (one, (other, pumped)) = join(
+        rt,
+        move || works(rt, alloc, line, first),
+        move || {
+            join(
+                rt,
+                move || {
+                    gate.await_first(rt);
+                    works(rt, alloc, line, second)
+                },
+                move || pumper.run(rt, line, TURNS),
+            )
+        },
+    );
+    (one, other, pumped)
+}
+
+/// So many gear, and the numbers that they may draw.
+fn site_with(alloc: Global, gear: u32, blocks: &[(u8, u8)]) -> Result<SiteState, Fail> {
+    let mut draws = Vec::new(alloc);
+    for number in 0..64u32 {
+        draws.push(number * 0x010203 + 5)?;
+    }
+    site_of(alloc, gear, blocks, draws.as_slice())
+}
+
+/// An empty store for a controller with this block.
+fn store_of(alloc: Global, bounds: (u8, u8)) -> Result<MemoryKeep, Fail> {
+    Ok(MemoryKeep::new(alloc, block(bounds.0, bounds.1)?)?)
+}
+
+/// The right to make the five ledgers of a line.
+type Blanks = (Blank, Blank, Blank, Blank, Blank);
+
+fn blanks() -> Blanks
+    ensures first { 0 < result.0.parts }
+    ensures second { 0 < result.1.parts }
+    ensures third { 0 < result.2.parts }
+    ensures fourth { 0 < result.3.parts }
+    ensures driver { 0 < result.4.parts }
+{
+    (
+        Blank::new(1),
+        Blank::new(1),
+        Blank::new(1),
+        Blank::new(1),
+        Blank::new(1),
+    )
+}
+
+/// Its worker found all gear, and its store has the records that the site remembers of this controller.
+fn has_found<P, R: Abort>(rt: &R, site: &SiteState, c: u8, left: &Left<P>) {
+    same(rt, &left.0, &Outcome::Ended(End::AllFound));
+    assert!(rt; usize::from(c) < site.plan().blocks().len());
+    match &left.2 {
+        Some(kept) => assert!(rt; kept.same(site.kept(c))),
+        None => assert!(rt; false),
+    }
+}
+
+fn commits_apart<P0, P1, P2, P3, D, R>(
+    rt: &R,
+    alloc: Global,
+    site: SiteState,
+    blanks: Blanks,
+    keeps: (MemoryKeep, MemoryKeep),
+)
+where
+    P0: Ledger + Send + Sync,
+    P1: Ledger + Send + Sync,
+    P2: Ledger + Send + Sync,
+    P3: Ledger + Send + Sync,
+    D: Ledger + Send + Sync,
+    R: Threads + Wait + Abort + Sync,
+    requires first { (blanks.0.name ≡ P0.name) × (blanks.0.parts ≡ P0.parts) × (0 < P0.parts) }
+    requires second { (blanks.1.name ≡ P1.name) × (blanks.1.parts ≡ P1.parts) × (0 < P1.parts) }
+    requires third { (blanks.2.name ≡ P2.name) × (blanks.2.parts ≡ P2.parts) × (0 < P2.parts) }
+    requires fourth { (blanks.3.name ≡ P3.name) × (blanks.3.parts ≡ P3.parts) × (0 < P3.parts) }
+    requires driver { (blanks.4.name ≡ D.name) × (blanks.4.parts ≡ D.parts) × (0 < D.parts) }
+{
+    let (first, second, third, fourth, driver) = blanks;
+    let (line, mut ports, driver) = Line::<P0, P1, P2, P3, D>::new(
+        site, first, second, third, fourth, driver,
+    );
+    let other = ports.pop().unwrap_or_default();
+    let one = ports.pop().unwrap_or_default();
+    let gate = Holding {
+        seen: Mutex::new(Seen {
+            first: false,
+            second: false,
+            has_failed: false,
+        }),
+    };
+    let (one, other, pumped) = two_run(rt, alloc, &line, &gate, (one, other), keeps, driver);
+    assert!(rt; !gate.seen.lock(rt).has_failed);
+    same(rt, &pumped.1, &None);
+    let site = line.close(ports, pumped.0);
+    has_found(rt, &site, 0, &one);
+    has_found(rt, &site, 1, &other);
+}
+
+/// Two controllers are before a commit of their own at the same time.
+fn commit_apart<R: Threads + Wait + Abort + Sync + AllocGlobal>(rt: &R) -> Result<(), Fail> {
+    let alloc = rt.alloc();
+    let keeps = (store_of(alloc, (0, 3))?, store_of(alloc, (4, 7))?);
+    let site = site_of(alloc, 2, &[(0, 3), (4, 7)], &[1, 2, 3, 4])?;
+    let blanks = blanks();
+    commits_apart::<Brand, Brand, Brand, Brand, Brand, R>(rt, alloc, site, blanks, keeps);
+    Ok(())
+}
+
+#[test]
+fn commit_outside_lock(rt: HostRuntime) -> Result<(), Fail> {
+    commit_apart(&rt)
+}
+
+/// A worker runs, if there is one.
+fn works_if<B: Bus, R: Wait>(
+    rt: &R,
+    alloc: Global,
+    bus: &B,
+    worker: Option<Worker<B::Port, MemoryKeep, OpenGate>>,
+) -> Option<Left<B::Port>> {
+    match worker {
+        Some(worker) => Some(works(rt, alloc, bus, worker)),
+        None => None,
+    }
+}
+
+/// Four of a thing, of which some may be missing.
+type Four<T> = (Option<T>, Option<T>, Option<T>, Option<T>);
+
+/// Up to four workers and a pumper run, each in a thread of its own.
+fn all_run<B, R>(
+    rt: &R,
+    alloc: Global,
+    bus: &B,
+    workers: Four<Worker<B::Port, MemoryKeep, OpenGate>>,
+    pumper: Pumper<B::Driver, OpenGate>,
+) -> (Four<Left<B::Port>>, (B::Driver, Option<Refusal>))
+where
+    B: Bus + Sync,
+    B::Port: Send + Drop,
+    B::Driver: Send + Drop,
+    R: Threads + Wait + Sync,
+{
+    let (first, second, third, fourth) = workers;
+    let ((one, two), (three, (four, pumped))) = join(
+        rt,
+        move || {
+            join(
+                rt,
+                move || works_if(rt, alloc, bus, first),
+                move || works_if(rt, alloc, bus, second),
+            )
+        },
+        move || {
+            join(
+                rt,
+                move || works_if(rt, alloc, bus, third),
+                move || {
+                    join(
+                        rt,
+                        move || works_if(rt, alloc, bus, fourth),
+                        move || pumper.run(rt, bus, TURNS),
+                    )
+                },
+            )
+        },
+    );
+    ((one, two, three, four), pumped)
+}
+
+/// A port or a driver with an empty list.
+fn listed<T>(alloc: Global, inner: T) -> Listed<T> {
+    Listed {
+        inner,
+        list: Vec::new(alloc),
+        is_whole: true,
+    }
+}
+
+/// Whose step an event is: a controller's, or 255.
+fn owner_of(event: &Event) -> u8 {
+    match event {
+        Event::Acted(c, ..) | Event::Offered(c, _) => *c,
+        Event::Sent(..)
+        | Event::Destroyed(..)
+        | Event::Collided(..)
+        | Event::Lapsed
+        | Event::Quiet
+        | Event::Power(..)
+        | Event::Expired(_)
+        | Event::Down(_)
+        | Event::Up(..) => 255,
+    }
+}
+
+/// The list is whole, and is what the log has in this name.
+fn is_logged<T, R: Abort>(rt: &R, log: &[Event], name: u8, listed: &Listed<T>) {
+    assert!(rt; listed.is_whole);
+    let mut rest = listed.list.iter();
+    for event in log {
+        if owner_of(event) == name {
+            assert!(rt; rest.next() == Some(event));
+        }
+    }
+    assert!(rt; rest.next().is_none());
+}
+
+/// What a worker left, if there was one: it ended, and its list is what the log has of its controller.
+fn left_its_list<P, R: Abort>(rt: &R, log: &[Event], name: u8, left: &Option<Left<Listed<P>>>) {
+    let Some((outcome, port, _)) = left else {
+        return;
+    };
+    assert!(rt; matches!(outcome, Outcome::Ended(_)));
+    is_logged(rt, log, name, port);
+}
+
+/// A worker for a port and a store, if there are both.
+fn worker_of<P: Drop>(
+    alloc: Global,
+    port: Option<P>,
+    keep: Option<MemoryKeep>,
+) -> Option<Worker<Listed<P>, MemoryKeep, OpenGate>> {
+    match (port, keep) {
+        (Some(port), Some(keep)) => Some(Worker::new(listed(alloc, port), keep, OpenGate)),
+        _ => None,
+    }
+}
+
+fn lists_are_logged<P0, P1, P2, P3, D, R>(
+    rt: &R,
+    alloc: Global,
+    site: SiteState,
+    blanks: Blanks,
+    keeps: Four<MemoryKeep>,
+)
+where
+    P0: Ledger + Send + Sync,
+    P1: Ledger + Send + Sync,
+    P2: Ledger + Send + Sync,
+    P3: Ledger + Send + Sync,
+    D: Ledger + Send + Sync,
+    R: Threads + Wait + Abort + Sync,
+    requires first { (blanks.0.name ≡ P0.name) × (blanks.0.parts ≡ P0.parts) × (0 < P0.parts) }
+    requires second { (blanks.1.name ≡ P1.name) × (blanks.1.parts ≡ P1.parts) × (0 < P1.parts) }
+    requires third { (blanks.2.name ≡ P2.name) × (blanks.2.parts ≡ P2.parts) × (0 < P2.parts) }
+    requires fourth { (blanks.3.name ≡ P3.name) × (blanks.3.parts ≡ P3.parts) × (0 < P3.parts) }
+    requires driver { (blanks.4.name ≡ D.name) × (blanks.4.parts ≡ D.parts) × (0 < D.parts) }
+{
+    let (first, second, third, fourth, driver) = blanks;
+    let (line, mut ports, driver) = Line::<P0, P1, P2, P3, D>::new(
+        site, first, second, third, fourth, driver,
+    );
+    let (fourth, third) = (ports.pop(), ports.pop());
+    let (second, first) = (ports.pop(), ports.pop());
+    let workers = (
+        worker_of(alloc, first, keeps.0),
+        worker_of(alloc, second, keeps.1),
+        worker_of(alloc, third, keeps.2),
+        worker_of(alloc, fourth, keeps.3),
+    );
+    let pumper = Pumper::new(listed(alloc, driver), OpenGate);
+    let bus = ListedBus { bus: &line };
+    let (left, pumped) = all_run(rt, alloc, &bus, workers, pumper);
+    let Listed {
+        inner,
+        list,
+        is_whole,
+    } = pumped.0;
+    let site = line.close(ports, inner);
+    let drove = Listed {
+        inner: (),
+        list,
+        is_whole,
+    };
+    is_logged(rt, site.log(), 255, &drove);
+    left_its_list(rt, site.log(), 0, &left.0);
+    left_its_list(rt, site.log(), 1, &left.1);
+    left_its_list(rt, site.log(), 2, &left.2);
+    left_its_list(rt, site.log(), 3, &left.3);
+}
+
+/// What the holders of the ports and of the driver asked and were answered is what the log has in each name.
+fn ports_list<R: Threads + Wait + Abort + Sync + AllocGlobal>(rt: &R) -> Result<(), Fail> {
+    let alloc = rt.alloc();
+    let keeps = (
+        Some(store_of(alloc, (0, 1))?),
+        Some(store_of(alloc, (2, 3))?),
+        Some(store_of(alloc, (4, 5))?),
+        Some(store_of(alloc, (6, 7))?),
+    );
+    let site = site_with(alloc, 8, &[(0, 1), (2, 3), (4, 5), (6, 7)])?;
+    let blanks = blanks();
+    lists_are_logged::<Brand, Brand, Brand, Brand, Brand, R>(rt, alloc, site, blanks, keeps);
+    Ok(())
+}
+
+#[test]
+fn port_lists(rt: HostRuntime) -> Result<(), Fail> {
+    ports_list(&rt)
+}
+
+/// What a run that was stopped from outside left: it ended by itself, or by the stop.
+fn was_stopped<P, R: Abort>(rt: &R, left: &Option<Left<P>>) {
+    if let Some((outcome, _, _)) = left {
+        assert!(rt; matches!(outcome, Outcome::Stopped | Outcome::Ended(_)));
+    }
+}
+
+fn stops_all<P0, P1, P2, P3, D, R>(
+    rt: &R,
+    alloc: Global,
+    site: SiteState,
+    blanks: Blanks,
+    keeps: (MemoryKeep, MemoryKeep),
+)
+where
+    P0: Ledger + Send + Sync,
+    P1: Ledger + Send + Sync,
+    P2: Ledger + Send + Sync,
+    P3: Ledger + Send + Sync,
+    D: Ledger + Send + Sync,
+    R: Threads + Wait + Abort + Sync,
+    requires first { (blanks.0.name ≡ P0.name) × (blanks.0.parts ≡ P0.parts) × (0 < P0.parts) }
+    requires second { (blanks.1.name ≡ P1.name) × (blanks.1.parts ≡ P1.parts) × (0 < P1.parts) }
+    requires third { (blanks.2.name ≡ P2.name) × (blanks.2.parts ≡ P2.parts) × (0 < P2.parts) }
+    requires fourth { (blanks.3.name ≡ P3.name) × (blanks.3.parts ≡ P3.parts) × (0 < P3.parts) }
+    requires driver { (blanks.4.name ≡ D.name) × (blanks.4.parts ≡ D.parts) × (0 < D.parts) }
+{
+    let (first, second, third, fourth, driver) = blanks;
+    let (line, mut ports, driver) = Line::<P0, P1, P2, P3, D>::new(
+        site, first, second, third, fourth, driver,
+    );
+    let other = ports.pop().unwrap_or_default();
+    let one = ports.pop().unwrap_or_default();
+    // Nobody acts for the second controller, so the pumper would wait for it.
+    let workers = (
+        Some(Worker::new(one, keeps.0, OpenGate)),
+        Some(Worker::new(Port::default(), keeps.1, OpenGate)),
+        None,
+        None,
+    );
+    let pumper = Pumper::new(driver, OpenGate);
+    let bus = &line;
+    let ((left, pumped), ()) = join(
+        rt,
+        move || all_run(rt, alloc, bus, workers, pumper),
+        move || bus.stop(rt),
+    );
+    was_stopped(rt, &left.0);
+    was_stopped(rt, &left.1);
+    same(rt, &pumped.1, &None);
+    drop(other);
+    line.close(ports, pumped.0).is_safe();
+}
+
+/// A stop ends all runs, whatever they wait for.
+fn stop_all<R: Threads + Wait + Abort + Sync + AllocGlobal>(rt: &R) -> Result<(), Fail> {
+    let alloc = rt.alloc();
+    let keeps = (store_of(alloc, (0, 3))?, store_of(alloc, (4, 7))?);
+    let site = site_with(alloc, 2, &[(0, 3), (4, 7)])?;
+    let blanks = blanks();
+    stops_all::<Brand, Brand, Brand, Brand, Brand, R>(rt, alloc, site, blanks, keeps);
+    Ok(())
+}
+
+#[test]
+fn a_stop_from_outside_ends_all(rt: HostRuntime) -> Result<(), Fail> {
+    stop_all(&rt)
+}

@@ -1,0 +1,99 @@
+//! Values by their numbers, and the one assertion that compares two of them.
+
+ghost use Rattle.std.specs.Prelude.{IfOk};
+
+use dali_frame::{Forward, Random24, Short};
+use dali_script::{Block, End, Fault, Kept, Order, Record};
+use dali_world::{Plan, SiteState};
+use std::alloc::Global;
+use std::fmt::Debug;
+use std::process::Abort;
+use std::test::Fail;
+
+/// What a call answered is what was wanted.
+pub fn same<T: PartialEq + Debug>(rt: &impl Abort, was: &T, wanted: &T) {
+    assert_eq!(rt; was, wanted);
+}
+
+fn short(number: u8) -> Result<Short, Fail> {
+    Ok(Short::of(number).ok_or("a short address")?)
+}
+
+fn random(number: u32) -> Result<Random24, Fail> {
+    Ok(Random24::of(number).ok_or("a random address")?)
+}
+
+/// The frame of these two bytes.
+pub fn forward(bytes: u16) -> Forward {
+    let [address_byte, opcode_byte] = bytes.to_be_bytes();
+    Forward {
+        address_byte,
+        opcode_byte,
+    }
+}
+
+/// The two bytes of a frame.
+fn bytes_of(frame: Forward) -> u16 {
+    u16::from_be_bytes([frame.address_byte, frame.opcode_byte])
+}
+
+/// An order, by its numbers: the bytes of its frame, or the short address of its record.
+#[derive(Clone, Copy, Debug, PartialEq, Eq)]
+pub enum Ordered {
+    Put(u16),
+    Reserve(u8),
+    Enrol(u8),
+    Done(End),
+    Halt(Fault),
+}
+
+impl Ordered {
+    fn commit(record: Record) -> Ordered {
+        match record {
+            Record::Reserve(address, _) => Ordered::Reserve(address.number()),
+            Record::Enrol(address, _) => Ordered::Enrol(address.number()),
+        }
+    }
+
+    pub fn of(order: Order) -> Ordered {
+        match order {
+            Order::Put(_, frame) => Ordered::Put(bytes_of(frame)),
+            Order::Commit(record) => Ordered::commit(record),
+            Order::Done(end) => Ordered::Done(end),
+            Order::Halt(fault) => Ordered::Halt(fault),
+        }
+    }
+}
+
+pub fn block(first: u8, last: u8) -> Result<Block, Fail> {
+    Ok(Block {
+        first: short(first)?,
+        last: short(last)?,
+    })
+}
+
+/// The records of a controller with block 0-3 that has reserved this address for this number, and no more.
+pub fn one_reserved(alloc: Global, address: u8, number: u32) -> Result<Kept, Fail> {
+    let mut kept = Kept::new(alloc, block(0, 3)?)?;
+    let added = Record::Reserve(short(address)?, random(number)?);
+    if !kept.fits(&added) {
+        return Err(Fail::from("a record that fits"));
+    }
+    kept.add(added)?;
+    Ok(kept)
+}
+
+/// A site of so many gear with these blocks and draws, whose log has room for 65,536 events and whose queue for 64
+/// requests.
+pub fn site_of(
+    alloc: Global,
+    gear: u32,
+    blocks: &[(u8, u8)],
+    draws: &[u32],
+) -> Result<SiteState, Fail> {
+    if draws.len() > 1024 {
+        return Err(Fail::from("at most 1,024 draws"));
+    }
+    let plan = Plan::new(alloc, gear, blocks, draws)?;
+    Ok(SiteState::new(alloc, plan, 65_536, 64)?)
+}
