@@ -31,13 +31,19 @@ impl HexError {
     }
 }
 
+#[inline(always)]
 fn digit(c: u8) -> Option<u8>
     ensures { result ≡ digit_of c }
 {
-    let value = char::from(c).to_digit(16)?;
-    Some(value as u8)
+    match c {
+        b'0'..=b'9' => Some(c - b'0'),
+        b'A'..=b'F' => Some(c - b'A' + 10),
+        b'a'..=b'f' => Some(c - b'a' + 10),
+        _ => None,
+    }
 }
 
+#[inline(always)]
 fn byte(high: u8, low: u8) -> Option<u8>
     ensures { result ≡ byte_of high low }
 {

@@ -1,15 +1,118 @@
-use Rattle.std.proofs.Common.{◌≡◌, ℕ, ◌+◌, ◌<◌, Bool, true, false, ◌&&◌, List, [], ◌∷◌, ◌++◌, take, length, get_or, set, drop, refl, sym, ap, ◌∙◌, arith, add-zero, zero-add, add_assoc}
-use Rattle.std.proofs.lemmas.List.{drop-drop, drop_more, drop-set-lt, take_more_set}
+use Rattle.std.proofs.Common.{◌≡◌, ◌≢◌, ℕ, ◌+◌, ◌*◌, ◌<◌, ◌≤◌, ◌⊎◌, Bool, true, false, ◌&&◌, List, [], ◌∷◌, ◌++◌, map, take, length, get_or, set, drop, replicate, refl, sym, ap, ◌∙◌, arith, add-zero, zero-add, add_assoc, inl, inr, length-set}
+use Rattle.std.proofs.lemmas.List.{drop-drop, drop_more, drop-set-lt, take_more_set, same_lists, get_or-set_same, get_or-set_other, get_or_default, get_or-replicate, length-replicate}
+use Rattle.std.proofs.lemmas.List.FromFn.{length-map-range_with_len, get_or-map-range_with_len}
+use Rattle.std.proofs.lemmas.Bool.{cases_eq}
+use Rattle.std.specs.List.{range_with_len}
 use mathlib.Core.List.{append_assoc}
 use Rattle.dali_special.specs.declared.command.Command.{Command}
-use Rattle.dali_special.specs.declared.command.Command.TheVariants.{Randomise}
+use Rattle.dali_special.specs.declared.command.Command.TheVariants.{Randomise, Terminate}
+use Rattle.dali_gear.specs.declared.state.InitialisationState.TheVariants.{Disabled}
 use Rattle.dali_gear.specs.declared.row.Reach.{Reach}
-use Rattle.dali_gear.specs.Gear.{Gear, would_draw, answer}
+use Rattle.dali_gear.specs.declared.row.Row.TheInside.{Inside}
+use Rattle.dali_gear.specs.Gear.{Gear, fresh, would_draw, answer}
+use Rattle.dali_gear.specs.Columns.{gear_in, all_gear}
 use mir.Val.{bool_byte}
-use Rattle.std.specs.Prelude.{Option, Some, None, if◌then◌else◌}
-use Rattle.dali_frame.specs.declared.frames.Answer.{Answer}
-use Rattle.dali_frame.specs.declared.frames.Answer.TheVariants.{Silence, Byte, Damaged}
-use Rattle.dali_gear.specs.Row.{reaches, takes, one_after, row_after, draws_needed, answers_of, option_cons, heard_of, joined_answer, joined_all, left_after}
+use Rattle.std.specs.Prelude.{Option, Some, None, if◌then◌else◌, is_some, unwrap_or}
+use Rattle.dali_frame.specs.declared.frames.Answer.TheVariants.{Byte}
+use Rattle.dali_gear.specs.Row.{reaches, takes, one_after, row_after, draws_needed, answers_of, option_cons, heard_of, heard_by, left_after}
+
+-- ---------------------------------------------------------------- the columns
+
+-- there are as many gear as are counted
+pub row_len : (r : Inside) → length (all_gear r) ≡ r.count
+row_len r = length-map-range_with_len (gear_in r) 0 r.count
+
+-- where one gear has changed, and no other has
+pub row_set : (f new : ℕ → Gear) (n i : ℕ) (g : Gear) → i < n → new i ≡ g → ((k : ℕ) → k ≢ i → new k ≡ f k)
+    → map new (range_with_len 0 n) ≡ set (map f (range_with_len 0 n)) i g
+row_set f new n i g here is others =
+    same_lists _ _ (length-map-range_with_len new 0 n ∙ sym (length-set (map f (range_with_len 0 n)) i g ∙ length-map-range_with_len f 0 n)) (λ k d below.
+    let inside : k < n = rw (length-map-range_with_len new 0 n) at below in
+    get_or-map-range_with_len new 0 n k k d inside (zero-add k) ∙ at k d inside (cases_eq k i))
+  where
+    len : i < length (map f (range_with_len 0 n))
+    len = rw (length-map-range_with_len f 0 n) here
+
+    at : (k : ℕ) (d : Gear) → k < n → (k ≡ i) ⊎ (k ≢ i) → new k ≡ get_or (set (map f (range_with_len 0 n)) i g) k d
+    at k d inside (inl same) = ap new same ∙ is ∙ sym (ap (λ j. get_or (set (map f (range_with_len 0 n)) i g) j d) same ∙ get_or-set_same (map f (range_with_len 0 n)) i g d len)
+    at k d inside (inr other) = others k other ∙ sym (get_or-set_other (map f (range_with_len 0 n)) i k g d other ∙ get_or-map-range_with_len f 0 n k k d inside (zero-add k))
+
+gear_at : (r : Inside) (k : ℕ) → k < r.count → get_or (all_gear r) k fresh ≡ gear_in r k
+gear_at r k here = get_or-map-range_with_len (gear_in r) 0 r.count k k fresh here (zero-add k)
+
+-- a gear is read from the columns
+pub gear_is : (r : Inside) (k random : ℕ) (short : Option ℕ) (half : Option Command) → k < r.count → k < length r.random → k < length r.short
+    → half ≡ (gear_in r k).half
+    → record { powered = get_or r.powered k false; state = get_or r.state k Disabled; random = get_or r.random k random; search = (gear_in r k).search; short = get_or r.short k short; half = half }
+    ≡ get_or (all_gear r) k fresh
+gear_is r k random short half here in_random in_short is =
+    rw (gear_at r k here, is, get_or_default r.random k random 0 in_random, get_or_default r.short k short None in_short) refl
+
+pub half_there : (paired : List Bool) (first : List Command) (i : ℕ) (c : Command) → i < length first → get_or paired i false ≡ true
+    → Some (get_or first i c) ≡ (if get_or paired i false then Some (get_or first i Terminate) else None)
+half_there paired first i c here set = rw set (ap (λ x. Some x) (get_or_default first i c Terminate here))
+
+pub half_gone : (paired : List Bool) (first : List Command) (i : ℕ) → get_or paired i false ≡ false
+    → None ≡ (if get_or paired i false then Some (get_or first i Terminate) else None)
+half_gone paired first i unset = rw unset refl
+
+half_kept : (half : Option Command) (paired : Bool) (first : Command) → (half ≡ None) ⊎ (half ≡ (if paired then Some first else None))
+    → (if is_some half then Some first else None) ≡ half
+half_kept half paired first (inl none) = rw none refl
+half_kept half true first (inr same) = rw same refl
+half_kept half false first (inr same) = rw same refl
+
+-- there is a place for each gear in all columns
+pub record Wide (r : Inside) (i : ℕ) : Type 0 where
+  pub powered : i < length r.powered
+  pub state : i < length r.state
+  pub random : i < length r.random
+  pub search_high : i < length r.search_high
+  pub search_middle : i < length r.search_middle
+  pub search_low : i < length r.search_low
+  pub short : i < length r.short
+  pub paired : i < length r.paired
+  pub first : i < length r.first
+
+module _ (r : Inside) (i : ℕ) (here : i < r.count) (wide : Wide r i) where
+  -- the variables of a gear are written, whose half pair is gone or stays
+  pub put_is : (g : Gear) (paired : Bool) → paired ≡ is_some g.half → (g.half ≡ None) ⊎ (g.half ≡ (get_or (all_gear r) i fresh).half)
+      → all_gear (record {
+        count = r.count;
+        powered = set r.powered i g.powered;
+        state = set r.state i g.state;
+        random = set r.random i g.random;
+        search_high = set r.search_high i g.search.high;
+        search_middle = set r.search_middle i g.search.middle;
+        search_low = set r.search_low i g.search.low;
+        short = set r.short i g.short;
+        paired = set r.paired i paired;
+        first = r.first;
+      }) ≡ set (all_gear r) i g
+  put_is g paired is half =
+      let kept : (if is_some g.half then Some (get_or r.first i Terminate) else None) ≡ g.half = half_kept g.half (get_or r.paired i false) (get_or r.first i Terminate) (rw (gear_at r i here) at half) in
+      row_set (gear_in r) _ r.count i g here
+      (rw (get_or-set_same r.powered i g.powered false wide.powered, get_or-set_same r.state i g.state Disabled wide.state, get_or-set_same r.random i g.random 0 wide.random, get_or-set_same r.search_high i g.search.high 0 wide.search_high, get_or-set_same r.search_middle i g.search.middle 0 wide.search_middle, get_or-set_same r.search_low i g.search.low 0 wide.search_low, get_or-set_same r.short i g.short None wide.short, get_or-set_same r.paired i paired false wide.paired, is, kept) refl)
+      (λ k other. rw (get_or-set_other r.powered i k g.powered false other, get_or-set_other r.state i k g.state Disabled other, get_or-set_other r.random i k g.random 0 other, get_or-set_other r.search_high i k g.search.high 0 other, get_or-set_other r.search_middle i k g.search.middle 0 other, get_or-set_other r.search_low i k g.search.low 0 other, get_or-set_other r.short i k g.short None other, get_or-set_other r.paired i k paired false other) refl)
+
+  -- a gear has another half pair
+  pub pair_is : (c : Command) → all_gear (record {
+    count = r.count;
+    powered = r.powered;
+    state = r.state;
+    random = r.random;
+    search_high = r.search_high;
+    search_middle = r.search_middle;
+    search_low = r.search_low;
+    short = r.short;
+    paired = set r.paired i true;
+    first = set r.first i c;
+  }) ≡ set (all_gear r) i (record (get_or (all_gear r) i fresh) { half = Some c })
+  pair_is c = row_set (gear_in r) _ r.count i _ here
+      (rw (gear_at r i here, get_or-set_same r.paired i true false wide.paired, get_or-set_same r.first i c Terminate wide.first) refl)
+      (λ k other. rw (get_or-set_other r.paired i k true false other, get_or-set_other r.first i k c Terminate other) refl)
+
+-- ---------------------------------------------------------------- a frame
 
 -- no gear draws at a command other than RANDOMISE
 no_draw : (c : Command) → (c ≡ Randomise → ⊥) → (g : Gear) → would_draw c g ≡ false
@@ -25,16 +128,6 @@ needs_none reach c k [] other = refl
 needs_none reach c k (g ∷ gs) other =
     ap (λ n. n + draws_needed reach c (k + 1) gs) (draws_none (takes reach k g) (would_draw c g) (no_draw c other g))
     ∙ zero-add (draws_needed reach c (k + 1) gs) ∙ needs_none reach c (k + 1) gs other
-
-damaged_stays : (bytes : List ℕ) → joined_all Damaged bytes ≡ Damaged
-damaged_stays [] = refl
-damaged_stays (byte ∷ bytes) = damaged_stays bytes
-
--- hearing one answer after another is hearing them all
-pub all_joined : (bytes : List ℕ) → joined_all Silence bytes ≡ heard_of bytes
-all_joined [] = refl
-all_joined (byte ∷ []) = refl
-all_joined (byte ∷ more ∷ rest) = damaged_stays rest
 
 -- what is left after gear that draws, or doesn't
 pub left_is : (drew : Bool) (drawn : ℕ) (draws : List ℕ) → drop (drawn + bool_byte drew) draws ≡ left_after drew (drop drawn draws)
@@ -85,18 +178,62 @@ drawn_more reach c now before n drawn left old new drew whole t so_far =
     one true = refl
     one false = refl
 
-joined_cons : (heard : Answer) (o : Option ℕ) (bytes : List ℕ) → joined_all heard (option_cons o bytes) ≡ joined_all (joined_answer heard o) bytes
-joined_cons heard None bytes = refl
-joined_cons heard (Some byte) bytes = refl
+-- ---------------------------------------------------------------- what is heard
 
-pub answer_more : (reach : Reach) (c : Command) (now before : List Gear) (n : ℕ) (left : List ℕ) (old new : Gear) (drew : Bool)
-    (heard after whole : Answer) (byte : Option ℕ)
-    → (t : Turn reach c now before n left old new drew)
-    → byte ≡ (if (old).powered && t.reached then answer c (old) else None)
-    → after ≡ joined_answer heard byte
-    → joined_all heard (answers_of reach c n (drop n before)) ≡ whole
-    → joined_all after (answers_of reach c (n + 1) (drop (n + 1) before)) ≡ whole
-answer_more reach c now before n left old new drew heard after whole byte t answered joined so_far =
-    let known = rw (t.next, ← t.reaches_it, ← answered) at so_far in
-    ap (λ h. joined_all h (answers_of reach c (n + 1) (drop (n + 1) before))) joined
-    ∙ sym (joined_cons heard byte (answers_of reach c (n + 1) (drop (n + 1) before))) ∙ known
+-- one more answer, or none, counts
+counted_cons : (o : Option ℕ) (bytes : List ℕ) → length (option_cons o bytes) ≡ bool_byte (is_some o) + length bytes
+counted_cons None bytes = sym (zero-add (length bytes))
+counted_cons (Some byte) bytes = omega arith
+
+abbrev pub total : List ℕ → ℕ
+total [] = 0
+total (byte ∷ bytes) = byte + total bytes
+
+summed_cons : (o : Option ℕ) (bytes : List ℕ) → total (option_cons o bytes) ≡ unwrap_or o 0 + total bytes
+summed_cons None bytes = sym (zero-add (total bytes))
+summed_cons (Some byte) bytes = refl
+
+module _ (reach : Reach) (c : Command) (now before : List Gear) (n : ℕ) (left : List ℕ) (old new : Gear) (drew : Bool)
+    (t : Turn reach c now before n left old new drew) (o : Option ℕ) (answered : o ≡ (if (old).powered && t.reached then answer c (old) else None)) where
+  answers_next : answers_of reach c n (drop n before) ≡ option_cons o (answers_of reach c (n + 1) (drop (n + 1) before))
+  answers_next = rw (t.next, ← t.reaches_it, ← answered) refl
+
+  pub counted_more : (answers whole : ℕ) → answers + length (answers_of reach c n (drop n before)) ≡ whole
+      → answers + bool_byte (is_some o) + length (answers_of reach c (n + 1) (drop (n + 1) before)) ≡ whole
+  counted_more answers whole so_far =
+      let more = ap (λ xs. length xs) answers_next ∙ counted_cons o (answers_of reach c (n + 1) (drop (n + 1) before)) in
+      omega arith
+
+  pub summed_more : (bytes whole : ℕ) → bytes + total (answers_of reach c n (drop n before)) ≡ whole
+      → bytes + unwrap_or o 0 + total (answers_of reach c (n + 1) (drop (n + 1) before)) ≡ whole
+  summed_more bytes whole so_far =
+      let more = ap (λ xs. total xs) answers_next ∙ summed_cons o (answers_of reach c (n + 1) (drop (n + 1) before)) in
+      omega arith
+
+pub bit_bound : (b : Bool) → bool_byte b ≤ 1
+bit_bound true = omega arith
+bit_bound false = omega arith
+
+-- who does not answer adds nothing
+pub byte_bound : (o : Option ℕ) → unwrap_or o 0 < 256 → unwrap_or o 0 ≤ 255 * bool_byte (is_some o)
+byte_bound None small = omega arith
+byte_bound (Some byte) small = omega arith
+
+pub heard_is : (bytes : List ℕ) → heard_by (length bytes) (total bytes) ≡ heard_of bytes
+heard_is [] = refl
+heard_is (byte ∷ []) = ap (λ b. Byte b) (add-zero byte)
+heard_is (byte ∷ more ∷ rest) = refl
+
+-- ---------------------------------------------------------------- gear from the factory
+
+pub factory_is : (r : Inside) (n : ℕ) → r.count ≡ n → n ≤ 128
+    → r.powered ≡ replicate 128 true → r.state ≡ replicate 128 Disabled → r.random ≡ replicate 128 0xFFFFFF
+    → r.search_high ≡ replicate 128 0xFF → r.search_middle ≡ replicate 128 0xFF → r.search_low ≡ replicate 128 0xFF
+    → r.short ≡ replicate 128 None → r.paired ≡ replicate 128 false
+    → all_gear r ≡ replicate n fresh
+factory_is r n count few powered state random high middle low short paired =
+    same_lists _ _ (row_len r ∙ count ∙ sym (length-replicate n fresh)) (λ k d below.
+    let inside : k < r.count = rw (row_len r) at below in
+    let there : k < 128 = omega arith in
+    get_or-map-range_with_len (gear_in r) 0 r.count k k d inside (zero-add k)
+    ∙ rw (powered, state, random, high, middle, low, short, paired, get_or-replicate 128 k true false there, get_or-replicate 128 k Disabled Disabled there, get_or-replicate {A = ℕ} 128 k 0xFFFFFF 0 there, get_or-replicate {A = ℕ} 128 k 0xFF 0 there, get_or-replicate {A = Option ℕ} 128 k None None there, get_or-replicate 128 k false false there, get_or-replicate n k fresh d (omega arith)) refl)

@@ -9,7 +9,7 @@ use Rattle.dali_special.specs.declared.command.Command.TheVariants.{Terminate, I
 use Rattle.dali_special.specs.declared.command.Command.TheVariants.{Randomise, Compare, Withdraw}
 use Rattle.dali_special.specs.declared.command.Command.TheVariants.{SearchHigh, SearchMiddle}
 use Rattle.dali_special.specs.declared.command.Command.TheVariants.{SearchLow, Program, Verify}
-use Rattle.dali_special.specs.declared.command.Command.TheVariants.{QueryShort, Arc, Other}
+use Rattle.dali_special.specs.declared.command.Command.TheVariants.{QueryShort}
 use Rattle.dali_special.specs.Command.{program_data, is_send_twice}
 use Rattle.dali_gear.specs.declared.state.InitialisationState.{InitialisationState}
 use Rattle.dali_gear.specs.declared.state.InitialisationState.TheVariants.{Disabled, Enabled}

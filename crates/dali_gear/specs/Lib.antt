@@ -1,2 +1,3 @@
+pub mod Columns
 pub mod Gear
 pub mod Row

@@ -1,4 +1,4 @@
-use Rattle.std.specs.Prelude.{ℕ, ◌+◌, ◌/◌, ◌%◌, ◌^◌, List, [], ◌∷◌, drop, Bool, true, false, Option}
+use Rattle.std.specs.Prelude.{ℕ, zero, suc, ◌+◌, ◌/◌, ◌%◌, ◌^◌, List, [], ◌∷◌, drop, Bool, true, false, Option}
 use Rattle.std.specs.Prelude.{Some, None, ◌==◌, ◌&&◌, if◌then◌else◌}
 use Rattle.dali_frame.specs.declared.frames.Answer.{Answer}
 use Rattle.dali_frame.specs.declared.frames.Answer.TheVariants.{Silence, Byte, Damaged}
@@ -61,16 +61,11 @@ heard_of [] = Silence
 heard_of (byte ∷ []) = Byte byte
 heard_of (byte ∷ more ∷ rest) = Damaged
 
--- what is heard when one more gear answers, or does not
-abbrev pub joined_answer : Answer → Option ℕ → Answer
-joined_answer heard None = heard
-joined_answer Silence (Some byte) = Byte byte
-joined_answer (Byte first) (Some byte) = Damaged
-joined_answer Damaged (Some byte) = Damaged
-
-abbrev pub joined_all : Answer → List ℕ → Answer
-joined_all heard [] = heard
-joined_all heard (byte ∷ bytes) = joined_all (joined_answer heard (Some byte)) bytes
+-- the same, by how many there are and the sum of their bytes
+abbrev pub heard_by : ℕ → ℕ → Answer
+heard_by zero sum = Silence
+heard_by (suc zero) sum = Byte sum
+heard_by (suc (suc more)) sum = Damaged
 
 -- which gear draws which number; where none is left, nothing is drawn
 abbrev pub drawn_one : Bool → ℕ → List ℕ → List (ℕ × ℕ) → List (ℕ × ℕ)

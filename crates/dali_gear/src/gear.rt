@@ -1,6 +1,5 @@
 ghost use Rattle.std.specs.Prelude.{◌≡◌, ◌<◌, IsTrue, Some, None, if◌then◌else◌};
 ghost use Rattle.dali_frame.specs.Random.{MASK24};
-ghost use Rattle.dali_special.specs.Command.{is_send_twice};
 
 use crate::state::InitialisationState;
 use dali_frame::{Forward, Random24, SearchAddress, Short};
@@ -20,18 +19,6 @@ fn yes_where(holds: bool) -> Option<u8>
     if holds { Some(YES) } else { None }
 }
 
-/// The half pair that a command leaves.
-#[inline(always)]
-fn half_pair(command: &Command, is_second: bool) -> Option<Command>
-    ensures { result ≡ (if is_send_twice command.now then (if is_second then None else Some command.now) else None) }
-{
-    if command.is_send_twice() && !is_second {
-        Some(*command)
-    } else {
-        None
-    }
-}
-
 /// What a gear did with a frame.
 #[derive(Clone, Copy)]
 pub struct Effect {
@@ -44,12 +31,12 @@ pub struct Effect {
 /// A control gear's addressing variables. It keeps random and short address without power.
 #[derive(Clone, Copy, Debug)]
 pub struct Gear {
-    powered: bool,
-    state: InitialisationState,
-    random: Random24,
-    search: SearchAddress,
-    short: Option<Short>,
-    half: Option<Command>,
+    pub(crate) powered: bool,
+    pub(crate) state: InitialisationState,
+    pub(crate) random: Random24,
+    pub(crate) search: SearchAddress,
+    pub(crate) short: Option<Short>,
+    pub(crate) half: Option<Command>,
 }
 
 impl Model for Gear {
@@ -82,7 +69,8 @@ impl Gear {
     ghost use Rattle.dali_special.specs.Command.{command_of};
     ghost use Rattle.dali_gear.specs.Gear.{after_frame, answer_to, draws, fresh, without_power, with_power};
     ghost use Rattle.dali_gear.specs.Gear.{gear_expired, gear_quieted, would_draw, is_active, is_found, answer};
-    ghost use Rattle.dali_gear.specs.Gear.{gear_taken, concerns, is_second};
+    ghost use Rattle.dali_gear.specs.Gear.{gear_taken, state_after, random_after, search_after, short_after, half_after};
+    ghost use Rattle.dali_gear.specs.Gear.{concerns, is_second};
 
     /// A gear from the factory: powered, DISABLED, without short address and with random address `FFFFFF`.
     pub fn new() -> Gear
@@ -106,26 +94,16 @@ impl Gear {
         ensures answer { result.answer ≡ answer_to (command_of frame) self.old }
         ensures drew { result.drew ≡ draws (command_of frame) self.old }
     {
-        self.take_command(&Command::read(frame), draw)
-    }
-
-    /// As `take`, with the command of the frame.
-    #[inline(always)]
-    pub(crate) fn take_command(&mut self, command: &Command, draw: Random24) -> Effect
-        requires { IsTrue (draws command.now self.old) → draw < MASK24 }
-        ensures gear { self.new ≡ after_frame command.now draw self.old }
-        ensures answer { result.answer ≡ answer_to command.now self.old }
-        ensures drew { result.drew ≡ draws command.now self.old }
-    {
         if !self.powered {
             return Effect {
                 answer: None,
                 drew: false,
             };
         }
-        let answer = self.answer(command);
-        let drew = self.draws(command);
-        self.execute(command, draw);
+        let command = Command::read(frame);
+        let answer = self.answer(&command);
+        let drew = self.draws(&command);
+        *self = self.after(&command, draw);
         Effect { answer, drew }
     }
 
@@ -145,7 +123,7 @@ impl Gear {
 
     /// Whether a command would make it draw, without regard to power.
     #[inline(always)]
-    fn draws(&self, command: &Command) -> bool
+    pub(crate) fn draws(&self, command: &Command) -> bool
         ensures { result ≡ would_draw command.now self.now }
     {
         *command == Command::Randomise && self.is_second(command) && self.is_active()
@@ -187,7 +165,7 @@ impl Gear {
 
     /// The answer to a command, without regard to power.
     #[inline(always)]
-    fn answer(&self, command: &Command) -> Option<u8>
+    pub(crate) fn answer(&self, command: &Command) -> Option<u8>
         ensures { result ≡ answer command.now self.now }
     {
         match *command {
@@ -203,57 +181,97 @@ impl Gear {
         }
     }
 
-    /// Changes the variables as a command says, without regard to power.
+    /// The gear after a command, variable by variable, without regard to power.
     #[inline(always)]
-    fn execute(&mut self, command: &Command, draw: Random24)
-        ensures { self.new ≡ gear_taken command.now draw self.old }
+    pub(crate) fn after(&self, command: &Command, draw: Random24) -> Gear
+        ensures { result ≡ gear_taken command.now draw self.now }
     {
-        let is_second = self.is_second(command);
-        let is_active = self.is_active();
-        let is_found = is_active && self.is_found();
-        self.half = half_pair(command, is_second);
+        Gear {
+            powered: self.powered,
+            state: self.state_after(command),
+            random: self.random_after(command, draw),
+            search: self.search_after(command),
+            short: self.short_after(command),
+            half: self.half_after(command),
+        }
+    }
+
+    #[inline(always)]
+    fn state_after(&self, command: &Command) -> InitialisationState
+        ensures { result ≡ state_after command.now self.now }
+    {
         match *command {
-            Command::Terminate => self.state = InitialisationState::Disabled,
+            Command::Terminate => InitialisationState::Disabled,
             Command::Initialise(target) => {
-                if is_second && self.is_concerned(target) {
-                    self.state = InitialisationState::Enabled;
-                }
-            }
-            Command::Randomise => {
-                if is_second && is_active {
-                    self.random = draw;
+                if self.is_second(command) && self.is_concerned(target) {
+                    InitialisationState::Enabled
+                } else {
+                    self.state
                 }
             }
             Command::Withdraw => {
-                if is_found && self.state == InitialisationState::Enabled {
-                    self.state = InitialisationState::Withdrawn;
+                if self.state == InitialisationState::Enabled && self.is_found() {
+                    InitialisationState::Withdrawn
+                } else {
+                    self.state
                 }
             }
-            Command::SearchHigh(byte) => {
-                if is_active {
-                    self.search.high = byte;
-                }
+            _ => self.state,
+        }
+    }
+
+    #[inline(always)]
+    fn random_after(&self, command: &Command, draw: Random24) -> Random24
+        ensures { result ≡ random_after command.now draw self.now }
+    {
+        if self.draws(command) {
+            draw
+        } else {
+            self.random
+        }
+    }
+
+    #[inline(always)]
+    fn search_after(&self, command: &Command) -> SearchAddress
+        ensures { result ≡ search_after command.now self.now }
+    {
+        let mut search = self.search;
+        if self.is_active() {
+            match *command {
+                Command::SearchHigh(byte) => search.high = byte,
+                Command::SearchMiddle(byte) => search.middle = byte,
+                Command::SearchLow(byte) => search.low = byte,
+                _ => {}
             }
-            Command::SearchMiddle(byte) => {
-                if is_active {
-                    self.search.middle = byte;
-                }
-            }
-            Command::SearchLow(byte) => {
-                if is_active {
-                    self.search.low = byte;
-                }
-            }
+        }
+        search
+    }
+
+    #[inline(always)]
+    fn short_after(&self, command: &Command) -> Option<Short>
+        ensures { result ≡ short_after command.now self.now }
+    {
+        match *command {
             Command::Program(short) => {
-                if is_found {
-                    self.short = short;
+                if self.is_active() && self.is_found() {
+                    short
+                } else {
+                    self.short
                 }
             }
-            Command::Compare
-            | Command::Verify(_)
-            | Command::QueryShort
-            | Command::Arc(_)
-            | Command::Other(_) => {}
+            _ => self.short,
+        }
+    }
+
+    /// The half pair that a command leaves.
+    #[inline(always)]
+    fn half_after(&self, command: &Command) -> Option<Command>
+        ensures { result ≡ half_after command.now self.now }
+    {
+        if command.is_send_twice() && !self.is_second(command) {
+            Some(*command)
+        } else {
+            None
         }
     }
 

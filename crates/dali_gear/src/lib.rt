@@ -5,9 +5,9 @@
 #![tactic(auto)]
 
 mod gear;
-pub mod row;
+mod row;
 mod state;
 
 pub use gear::{Effect, Gear};
-pub use row::{GearSet, Heard, Reach};
+pub use row::{GearSet, Heard, Reach, Row};
 pub use state::InitialisationState;

@@ -1,15 +1,15 @@
 //! A row of gear on one bus: all that a frame reaches take it, in order of their number.
 
-ghost use Rattle.std.specs.Prelude.{◌≡◌, ◌<◌, ◌≤◌, ◌&&◌, length, All, IsTrue, None, if◌then◌else◌};
-ghost use Rattle.dali_frame.specs.Random.{MASK24};
-ghost use Rattle.dali_special.specs.Command.{command_of};
-ghost use Rattle.dali_special.specs.declared.command.Command.TheVariants.{Randomise};
-ghost use Rattle.dali_gear.specs.Gear.{would_draw, answer};
-ghost use Rattle.dali_gear.specs.Row.{reaches, row_after, answers_of, heard_of, draws_needed, one_after, joined_answer};
+ghost use Rattle.std.specs.Prelude.{◌≡◌, ◌+◌, ◌*◌, ◌<◌, ◌≤◌, ◌&&◌, ◌⊎◌, length, map, replicate, All, IsTrue, None, Some};
+ghost use Rattle.std.specs.Prelude.{slice_index_or, slice_set, if◌then◌else◌};
+ghost use Rattle.dali_gear.specs.Gear.{fresh};
+ghost use Rattle.dali_gear.specs.Row.{reaches, heard_by};
 
 use crate::gear::{Effect, Gear};
-use dali_frame::{Answer, Forward, Random24};
+use crate::state::InitialisationState;
+use dali_frame::{Answer, Random24, SearchAddress, Short};
 use dali_special::Command;
+use std::marker::Model;
 
 /// Some of the gear of a row: gear g is the bit of value 2^g. A bit past the last gear has no effect.
 #[derive(Clone, Copy, Debug, PartialEq, Eq)]
@@ -48,129 +48,327 @@ pub struct Heard {
     pub drawn: usize,
 }
 
-/// How many numbers the gear, at most 128, would draw if this frame reached them now: so many `take` needs.
-pub fn draws_needed(gear: &[Gear], frame: Forward, reach: Reach) -> usize
-    requires { length gear.now ≤ 128 }
-    ensures { result ≡ draws_needed reach (command_of frame) 0 gear.now }
-{
-    match Command::read(frame) {
-        Command::Randomise => draws_of_randomise(gear, reach),
-        _ => 0,
-    }
+/// Gear on one bus, in order of their number, at most 128.
+///
+/// Contracts see the list of gear. Inside, each variable of all gear stands in an array of its own, so that a frame goes
+/// over no more arrays than its command asks for, and the compiler takes many gear at a time.
+#[derive(Drop)]
+pub struct Row {
+    count: usize,
+    powered: [bool; 128],
+    state: [InitialisationState; 128],
+    random: [Random24; 128],
+    search_high: [u8; 128],
+    search_middle: [u8; 128],
+    search_low: [u8; 128],
+    short: [Option<Short>; 128],
+    /// Whether there is a half pair.
+    paired: [bool; 128],
+    /// The half pair, where there is one.
+    first: [Command; 128],
 }
 
-/// How many would draw at RANDOMISE, the one command at which gear draw.
-fn draws_of_randomise(gear: &[Gear], reach: Reach) -> usize
-    requires { length gear.now ≤ 128 }
-    ensures { result ≡ draws_needed reach Randomise 0 gear.now }
-{
-    let mut needed = 0;
-    for (number, one) in gear.iter().enumerate() {
-        let draws = one.would_draw_at(&Command::Randomise) && reach.includes(number);
-        needed += usize::from(draws);
-    }
-    needed
+impl Model for Row {
+    ghost use Rattle.std.specs.Prelude.{List};
+    ghost use Rattle.dali_gear.specs.Gear.{Gear};
+
+    ghost Value = { List Gear };
+
+    ghost use Rattle.dali_gear.specs.Columns.{all_gear, IsRow};
+
+    ghost view = { all_gear };
+
+    ghost invariant = { IsRow };
 }
 
-/// The gear that the frame reaches take it, in order of their number. Those that draw take the numbers in order: as
-/// many as `draws_needed` says must be there, each below `FFFFFF`. At most 128 gear.
-pub fn take(gear: &mut [Gear], frame: Forward, reach: Reach, draws: &[Random24]) -> Heard
-    requires few { length gear.old ≤ 128 }
-    requires enough { draws_needed reach (command_of frame) 0 gear.old ≤ length draws.now }
-    requires below_mask { All (λ r. r < MASK24) draws.now }
-    ensures gear { gear.new ≡ row_after reach (command_of frame) 0 gear.old draws.now }
-    ensures drawn { result.drawn ≡ draws_needed reach (command_of frame) 0 gear.old }
-    ensures answer { result.answer ≡ heard_of (answers_of reach (command_of frame) 0 gear.old) }
-{
-    let command = Command::read(frame);
-    match reach {
-        Reach::Everyone => take_by_command(gear, &command, Reach::Everyone, draws),
-        Reach::Only(_) => take_command(gear, &command, reach, draws),
-    }
-}
+impl Row {
+    ghost use Rattle.dali_frame.specs.Random.{MASK24};
+    ghost use Rattle.dali_special.specs.declared.command.Command.TheVariants.{Randomise};
+    ghost use Rattle.dali_gear.specs.Gear.{would_draw, answer, without_power, with_power, gear_expired, gear_quieted};
+    ghost use Rattle.dali_gear.specs.Row.{row_after, answers_of, heard_of, draws_needed, one_after};
 
-/// As `take`, with the command of the frame. Most frames of a search have an arm of their own: with the command known,
-/// the compiler makes a loop for each that does no more than the command asks.
-#[inline(always)]
-fn take_by_command(gear: &mut [Gear], command: &Command, reach: Reach, draws: &[Random24]) -> Heard
-    requires few { length gear.old ≤ 128 }
-    requires enough { draws_needed reach command.now 0 gear.old ≤ length draws.now }
-    requires below_mask { All (λ r. r < MASK24) draws.now }
-    ensures gear { gear.new ≡ row_after reach command.now 0 gear.old draws.now }
-    ensures drawn { result.drawn ≡ draws_needed reach command.now 0 gear.old }
-    ensures answer { result.answer ≡ heard_of (answers_of reach command.now 0 gear.old) }
-{
-    match *command {
-        Command::Compare => take_command(gear, &Command::Compare, reach, draws),
-        Command::SearchHigh(byte) => {
-            take_command(gear, &Command::SearchHigh(byte), reach, draws)
+    /// So many gear from the factory.
+    pub fn new(count: usize) -> Row
+        requires { count ≤ 128 }
+        ensures { result ≡ replicate count fresh }
+    {
+        Row {
+            count,
+            powered: [true; 128],
+            state: [InitialisationState::Disabled; 128],
+            random: [Random24::MASK; 128],
+            search_high: [0xFF; 128],
+            search_middle: [0xFF; 128],
+            search_low: [0xFF; 128],
+            short: [None; 128],
+            paired: [false; 128],
+            first: [Command::Terminate; 128],
         }
-        Command::SearchMiddle(byte) => {
-            take_command(gear, &Command::SearchMiddle(byte), reach, draws)
+    }
+
+    /// How many gear there are.
+    #[tactic(auto, using(crate::proofs::RowLemmas::row_len))]
+    pub fn len(&self) -> usize
+        ensures value { result ≡ length self.now }
+        ensures most { length self.now ≤ 128 }
+    {
+        self.count
+    }
+
+    /// The gear of a number, which must be there.
+    #[tactic(auto, using(crate::proofs::RowLemmas::row_len))]
+    #[inline(always)]
+    pub fn gear(&self, number: usize) -> Gear
+        requires { number < length self.now }
+        ensures { result ≡ slice_index_or self.now number fresh }
+    {
+        Gear {
+            powered: self.powered[number],
+            state: self.state[number],
+            random: self.random[number],
+            search: SearchAddress {
+                high: self.search_high[number],
+                middle: self.search_middle[number],
+                low: self.search_low[number],
+            },
+            short: self.short[number],
+            half: if self.paired[number] {
+                Some(self.first[number])
+            } else {
+                None
+            },
         }
-        Command::SearchLow(byte) => take_command(gear, &Command::SearchLow(byte), reach, draws),
-        Command::QueryShort => take_command(gear, &Command::QueryShort, reach, draws),
-        Command::Withdraw => take_command(gear, &Command::Withdraw, reach, draws),
-        Command::Verify(short) => take_command(gear, &Command::Verify(short), reach, draws),
-        Command::Program(short) => take_command(gear, &Command::Program(short), reach, draws),
-        Command::Arc(frame) => take_command(gear, &Command::Arc(frame), reach, draws),
-        Command::Other(frame) => take_command(gear, &Command::Other(frame), reach, draws),
-        _ => take_command(gear, command, reach, draws),
     }
-}
 
-/// One gear after the other.
-#[inline(always)]
-fn take_command(gear: &mut [Gear], command: &Command, reach: Reach, draws: &[Random24]) -> Heard
-    requires few { length gear.old ≤ 128 }
-    requires enough { draws_needed reach command.now 0 gear.old ≤ length draws.now }
-    requires below_mask { All (λ r. r < MASK24) draws.now }
-    ensures gear { gear.new ≡ row_after reach command.now 0 gear.old draws.now }
-    ensures drawn { result.drawn ≡ draws_needed reach command.now 0 gear.old }
-    ensures answer { result.answer ≡ heard_of (answers_of reach command.now 0 gear.old) }
-{
-    let mut answer = Answer::Silence;
-    let mut drawn = 0;
-    for (number, one) in gear.iter_mut().enumerate() {
-        let effect = take_one(one, command, reach.includes(number), &draws[drawn..]);
-        answer = joined(answer, effect.answer);
-        drawn += usize::from(effect.drew);
+    /// Writes the variables of a gear, whose half pair is gone or stays.
+    #[tactic(auto, using(crate::proofs::RowLemmas::row_len))]
+    #[inline(always)]
+    fn put(&mut self, number: usize, gear: Gear)
+        requires there { number < length self.old }
+        requires half { (gear.half ≡ None) ⊎ (gear.half ≡ (slice_index_or self.old number fresh).half) }
+        ensures { self.new ≡ slice_set self.old number gear }
+    {
+        self.powered[number] = gear.powered;
+        self.state[number] = gear.state;
+        self.random[number] = gear.random;
+        self.short[number] = gear.short;
+        self.search_high[number] = gear.search.high;
+        self.search_middle[number] = gear.search.middle;
+        self.search_low[number] = gear.search.low;
+        self.paired[number] = gear.half.is_some();
     }
-    Heard { answer, drawn }
-}
 
-/// One gear of the row, which a frame reaches or not.
-#[inline(always)]
-fn take_one(gear: &mut Gear, command: &Command, reached: bool, draws: &[Random24]) -> Effect
-    requires enough { IsTrue ((gear.old.powered && reached) && would_draw command.now gear.old)
-        → 0 < length draws.now }
-    requires below_mask { All (λ r. r < MASK24) draws.now }
-    ensures gear { gear.new ≡ one_after (gear.old.powered && reached) command.now draws.now gear.old }
-    ensures answer { result.answer
-        ≡ (if gear.old.powered && reached then answer command.now gear.old else None) }
-    ensures drew { result.drew ≡ ((gear.old.powered && reached) && would_draw command.now gear.old) }
-{
-    if !reached {
-        return Effect {
-            answer: None,
-            drew: false,
+    /// A gear has this half pair.
+    #[tactic(auto, using(crate::proofs::RowLemmas::row_len))]
+    fn pair(&mut self, number: usize, first: Command)
+        requires { number < length self.old }
+        ensures { self.new
+            ≡ slice_set self.old number (record (slice_index_or self.old number fresh) { half = Some first }) }
+    {
+        self.paired[number] = true;
+        self.first[number] = first;
+    }
+
+    /// Writes all variables of a gear.
+    fn set(&mut self, number: usize, gear: Gear)
+        requires { number < length self.old }
+        ensures { self.new ≡ slice_set self.old number gear }
+    {
+        let half = gear.half;
+        if let Some(first) = half {
+            self.pair(number, first);
+        }
+        self.put(number, gear);
+    }
+
+    /// A gear, which must be there, loses its power.
+    pub fn power_off(&mut self, number: usize)
+        requires { number < length self.old }
+        ensures { self.new ≡ slice_set self.old number (without_power (slice_index_or self.old number fresh)) }
+    {
+        let mut gear = self.gear(number);
+        gear.power_off();
+        self.set(number, gear);
+    }
+
+    /// The power of a gear, which must be there, comes back.
+    pub fn power_on(&mut self, number: usize)
+        requires { number < length self.old }
+        ensures { self.new ≡ slice_set self.old number (with_power (slice_index_or self.old number fresh)) }
+    {
+        let mut gear = self.gear(number);
+        gear.power_on();
+        self.set(number, gear);
+    }
+
+    /// The 15 minutes of the initialisation of a gear, which must be there, are over.
+    pub fn expire(&mut self, number: usize)
+        requires { number < length self.old }
+        ensures { self.new ≡ slice_set self.old number (gear_expired (slice_index_or self.old number fresh)) }
+    {
+        let mut gear = self.gear(number);
+        gear.expire();
+        self.set(number, gear);
+    }
+
+    /// So much time passes without a frame that half pairs are forgotten.
+    pub fn quiet(&mut self)
+        ensures { self.new ≡ map gear_quieted self.old }
+    {
+        for number in 0..self.len() {
+            let mut gear = self.gear(number);
+            gear.quiet();
+            self.put(number, gear);
+        }
+    }
+
+    /// How many numbers the gear would draw if the frame of this command reached them now: so many `take` needs.
+    pub fn draws_needed(&self, command: &Command, reach: Reach) -> usize
+        ensures { result ≡ draws_needed reach command.now 0 self.now }
+    {
+        match *command {
+            Command::Randomise => self.draws_of_randomise(reach),
+            _ => 0,
+        }
+    }
+
+    /// How many would draw at RANDOMISE, the one command at which gear draw.
+    fn draws_of_randomise(&self, reach: Reach) -> usize
+        ensures { result ≡ draws_needed reach Randomise 0 self.now }
+    {
+        let mut needed = 0;
+        for number in 0..self.len() {
+            let gear = self.gear(number);
+            let draws = gear.would_draw_at(&Command::Randomise) && reach.includes(number);
+            needed += usize::from(draws);
+        }
+        needed
+    }
+
+    /// The gear that the frame of this command reaches take it, in order of their number. Those that draw take the
+    /// numbers in order: as many as `draws_needed` says must be there, each below `FFFFFF`.
+    pub fn take(&mut self, command: &Command, reach: Reach, draws: &[Random24]) -> Heard
+        requires enough { draws_needed reach command.now 0 self.old ≤ length draws.now }
+        requires below_mask { All (λ r. r < MASK24) draws.now }
+        ensures gear { self.new ≡ row_after reach command.now 0 self.old draws.now }
+        ensures drawn { result.drawn ≡ draws_needed reach command.now 0 self.old }
+        ensures answer { result.answer ≡ heard_of (answers_of reach command.now 0 self.old) }
+    {
+        match reach {
+            Reach::Everyone => self.take_by_command(command, Reach::Everyone, draws),
+            Reach::Only(_) => self.take_command(command, reach, draws),
+        }
+    }
+
+    /// As `take`. Most frames of a search have an arm of their own: with the command known, the compiler makes a loop
+    /// for each that does no more than the command asks.
+    #[inline(always)]
+    fn take_by_command(&mut self, command: &Command, reach: Reach, draws: &[Random24]) -> Heard
+        requires enough { draws_needed reach command.now 0 self.old ≤ length draws.now }
+        requires below_mask { All (λ r. r < MASK24) draws.now }
+        ensures gear { self.new ≡ row_after reach command.now 0 self.old draws.now }
+        ensures drawn { result.drawn ≡ draws_needed reach command.now 0 self.old }
+        ensures answer { result.answer ≡ heard_of (answers_of reach command.now 0 self.old) }
+    {
+        match *command {
+            Command::Compare => self.take_command(&Command::Compare, reach, draws),
+            Command::SearchHigh(byte) => {
+                self.take_command(&Command::SearchHigh(byte), reach, draws)
+            }
+            Command::SearchMiddle(byte) => {
+                self.take_command(&Command::SearchMiddle(byte), reach, draws)
+            }
+            Command::SearchLow(byte) => {
+                self.take_command(&Command::SearchLow(byte), reach, draws)
+            }
+            Command::QueryShort => self.take_command(&Command::QueryShort, reach, draws),
+            Command::Withdraw => self.take_command(&Command::Withdraw, reach, draws),
+            Command::Verify(short) => self.take_command(&Command::Verify(short), reach, draws),
+            Command::Program(short) => self.take_command(&Command::Program(short), reach, draws),
+            Command::Arc(frame) => self.take_command(&Command::Arc(frame), reach, draws),
+            Command::Other(frame) => self.take_command(&Command::Other(frame), reach, draws),
+            _ => self.take_command(command, reach, draws),
+        }
+    }
+
+    /// One gear after the other.
+    #[inline(always)]
+    fn take_command(&mut self, command: &Command, reach: Reach, draws: &[Random24]) -> Heard
+        requires enough { draws_needed reach command.now 0 self.old ≤ length draws.now }
+        requires below_mask { All (λ r. r < MASK24) draws.now }
+        ensures gear { self.new ≡ row_after reach command.now 0 self.old draws.now }
+        ensures drawn { result.drawn ≡ draws_needed reach command.now 0 self.old }
+        ensures answer { result.answer ≡ heard_of (answers_of reach command.now 0 self.old) }
+    {
+        let mut answers = 0;
+        let mut bytes = 0;
+        let mut drawn = 0;
+        for number in 0..self.len() {
+            let effect = self.take_at(number, command, reach.includes(number), &draws[drawn..]);
+            answers += u32::from(effect.answer.is_some());
+            bytes += u32::from(effect.answer.unwrap_or(0));
+            drawn += usize::from(effect.drew);
+        }
+        Heard {
+            answer: heard_together(answers, bytes),
+            drawn,
+        }
+    }
+
+    /// One gear of the row, which a frame reaches or not.
+    #[inline(always)]
+    fn take_at(
+        &mut self,
+        number: usize,
+        command: &Command,
+        reached: bool,
+        draws: &[Random24],
+    ) -> Effect
+        requires there { number < length self.old }
+        requires enough { IsTrue (((slice_index_or self.old number fresh).powered && reached)
+            && would_draw command.now (slice_index_or self.old number fresh)) → 0 < length draws.now }
+        requires below_mask { All (λ r. r < MASK24) draws.now }
+        ensures gear { self.new ≡ slice_set self.old number
+            (one_after ((slice_index_or self.old number fresh).powered && reached) command.now draws.now
+            (slice_index_or self.old number fresh)) }
+        ensures answer { result.answer ≡ (if (slice_index_or self.old number fresh).powered && reached
+            then answer command.now (slice_index_or self.old number fresh) else None) }
+        ensures drew { result.drew ≡ (((slice_index_or self.old number fresh).powered && reached)
+            && would_draw command.now (slice_index_or self.old number fresh)) }
+    {
+        let gear = self.gear(number);
+        let taken = gear.powered && reached;
+        let draw = match draws.first() {
+            Some(draw) => *draw,
+            None => gear.random,
         };
+        let after = if taken {
+            gear.after(command, draw)
+        } else {
+            gear
+        };
+        if command.is_send_twice() {
+            self.set(number, after);
+        } else {
+            self.put(number, after);
+        }
+        let answer = gear.answer(command);
+        Effect {
+            answer: if taken { answer } else { None },
+            drew: taken && gear.draws(command),
+        }
     }
-    let draw = match draws.first() {
-        Some(draw) => *draw,
-        None => gear.random(),
-    };
-    gear.take_command(command, draw)
 }
 
-/// What is heard when one more gear answers, or does not.
+/// What is heard of so many answers, whose bytes have this sum.
 #[inline(always)]
-fn joined(heard: Answer, answer: Option<u8>) -> Answer
-    ensures { result ≡ joined_answer heard answer }
+fn heard_together(answers: u32, sum: u32) -> Answer
+    requires { sum ≤ 255 * answers }
+    ensures { result ≡ heard_by answers sum }
 {
-    match (heard, answer) {
-        (heard, None) => heard,
-        (Answer::Silence, Some(byte)) => Answer::Byte(byte),
-        (Answer::Byte(_) | Answer::Damaged, Some(_)) => Answer::Damaged,
+    match (answers, u8::try_from(sum)) {
+        (0, _) => Answer::Silence,
+        (1, Ok(byte)) => Answer::Byte(byte),
+        _ => Answer::Damaged,
     }
 }

@@ -1,6 +1,5 @@
 pub mod LineLemmas
 pub mod NumberLemmas
-pub mod MapLemmas
 pub mod BenchLemmas
 pub mod TextLemmas
 pub mod InStepLemmas

@@ -4,6 +4,9 @@ use Rattle.std.specs.Prelude.{◌==◌}
 use Rattle.dali_replay.specs.Lines.{lines_of, parts_of}
 use Rattle.dali_replay.specs.Numbers.{block_of_parts}
 use Rattle.dali_replay.specs.SiteLine.{site_line_of}
+use Rattle.dali_replay.specs.BenchLine.{bench_line_of}
+use Rattle.std.specs.List.{count_by}
+use Rattle.std.proofs.lemmas.List.Splits.{length-slice_split}
 
 is_not : (b c : ℕ) → b ≢ c → (b == c) ≡ false
 is_not b c ne = grind (arith, nat_tests)
@@ -66,3 +69,10 @@ no_site_line_above (a ∷ []) many = absurd (omega arith)
 no_site_line_above (a ∷ b ∷ []) many = absurd (omega arith)
 no_site_line_above (a ∷ b ∷ c ∷ []) many = absurd (omega arith)
 no_site_line_above (a ∷ b ∷ c ∷ d ∷ words) many = refl
+
+-- a line of three words or more asks for nothing on a bench
+pub no_bench_line_above : (name word text : List ℕ) → None ≡ bench_line_of (name ∷ word ∷ parts_of 32 text)
+no_bench_line_above name word text = go (parts_of 32 text) (length-slice_split (λ b. b == 32) text) where
+  go : (words : List (List ℕ)) → length words ≡ count_by (λ b. b == 32) text + 1 → None ≡ bench_line_of (name ∷ word ∷ words)
+  go [] len = absurd (omega arith)
+  go (more ∷ words) len = refl

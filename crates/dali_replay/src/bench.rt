@@ -1,22 +1,22 @@
 //! A bench: gear on one bus, and the numbers that they will draw.
 
-ghost use Rattle.std.specs.Prelude.{◌≡◌, ◌<◌, IfOk, Some, None, length, map, nat_lt, if◌then◌else◌};
+ghost use Rattle.std.specs.Prelude.{◌≡◌, ◌<◌, Some, None, length, nat_lt, if◌then◌else◌};
 ghost use Rattle.dali_special.specs.Command.{command_of};
-ghost use Rattle.dali_gear.specs.Gear.{without_power, with_power, gear_expired, gear_quieted};
+ghost use Rattle.dali_gear.specs.Gear.{without_power, with_power, gear_expired};
 ghost use Rattle.dali_gear.specs.Row.{answers_of, heard_of};
 ghost use Rattle.dali_gear.specs.declared.row.Reach.TheVariants.{Everyone};
 
 use dali_frame::{Answer, Forward};
-use dali_gear::{Gear, Reach, row};
+use dali_gear::{Reach, Row};
+use dali_special::Command;
 use dali_world::Plan;
-use std::alloc::{AllocError, Global};
 use std::marker::Model;
 
 /// Gear on one bus, and the numbers that are left to be drawn.
 #[derive(Drop)]
 pub struct Bench {
     plan: Plan,
-    gear: Vec<Gear>,
+    gear: Row,
     drawn: usize,
 }
 
@@ -26,9 +26,9 @@ impl Model for Bench {
 
     ghost Value = { World };
 
-    ghost view = { λ b. record { gear = b.gear.items; left = drop b.drawn b.plan.draws } };
+    ghost view = { λ b. record { gear = b.gear; left = drop b.drawn b.plan.draws } };
 
-    ghost invariant = { λ b. (length b.gear.items ≤ 128) × (b.drawn ≤ length b.plan.draws) };
+    ghost invariant = { λ b. b.drawn ≤ length b.plan.draws };
 }
 
 impl Bench {
@@ -36,22 +36,22 @@ impl Bench {
     ghost use Rattle.dali_replay.specs.declared.bench_line.BenchLine.TheVariants.{Quiet};
 
     /// The gear of a plan, from the factory.
-    pub fn new(alloc: Global, plan: Plan) -> Result<Bench, AllocError>
-        ensures { IfOk result (λ bench. bench ≡ start plan.gear plan.draws) }
+    pub fn new(plan: Plan) -> Bench
+        ensures { result ≡ start plan.gear plan.draws }
     {
-        let gear = vec![in alloc; Gear::new(); plan.gear() as usize]?;
-        Ok(Bench {
+        let gear = Row::new(plan.gear() as usize);
+        Bench {
             plan,
             gear,
             drawn: 0,
-        })
+        }
     }
 
     /// The gear, in order of their number.
-    pub fn gear(&self) -> &[Gear]
+    pub fn gear(&self) -> &Row
         ensures { result.now ≡ self.now.gear }
     {
-        self.gear.as_slice()
+        &self.gear
     }
 
     /// All powered gear take a frame; what is heard. `None` where too few numbers are left to be drawn: then
@@ -62,11 +62,12 @@ impl Bench {
             ≡ (if is_enough self.old (command_of frame)
             then Some (heard_of (answers_of Everyone (command_of frame) 0 self.old.gear)) else None) }
     {
+        let command = Command::read(frame);
         let left = &self.plan.draws()[self.drawn..];
-        if row::draws_needed(&self.gear, frame, Reach::Everyone) > left.len() {
+        if self.gear.draws_needed(&command, Reach::Everyone) > left.len() {
             return None;
         }
-        let heard = row::take(&mut self.gear, frame, Reach::Everyone, left);
+        let heard = self.gear.take(&command, Reach::Everyone, left);
         self.drawn += heard.drawn;
         Some(heard.answer)
     }
@@ -80,7 +81,7 @@ impl Bench {
         if number >= self.gear.len() {
             return false;
         }
-        self.gear[number].power_off();
+        self.gear.power_off(number);
         true
     }
 
@@ -93,7 +94,7 @@ impl Bench {
         if number >= self.gear.len() {
             return false;
         }
-        self.gear[number].power_on();
+        self.gear.power_on(number);
         true
     }
 
@@ -106,7 +107,7 @@ impl Bench {
         if number >= self.gear.len() {
             return false;
         }
-        self.gear[number].expire();
+        self.gear.expire(number);
         true
     }
 
@@ -114,14 +115,6 @@ impl Bench {
     pub fn quiet(&mut self)
         ensures { self.new ≡ after self.old Quiet }
     {
-        quiet_all(&mut self.gear);
-    }
-}
-
-fn quiet_all(gear: &mut [Gear])
-    ensures { gear.new ≡ map gear_quieted gear.old }
-{
-    for one in gear.iter_mut() {
-        one.quiet();
+        self.gear.quiet();
     }
 }

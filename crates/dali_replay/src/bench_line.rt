@@ -1,10 +1,10 @@
 //! What a line asks for on a bench.
 
-ghost use Rattle.std.specs.Prelude.{◌≡◌, map};
+ghost use Rattle.std.specs.Prelude.{◌≡◌};
 ghost use Rattle.dali_replay.specs.Lines.{words_of};
 ghost use Rattle.dali_replay.specs.BenchLine.{alone_of, one_word_of, bench_line_of};
 
-use crate::lines::words;
+use crate::lines::cut;
 use crate::numbers::number_of;
 use dali_frame::Forward;
 
@@ -53,19 +53,17 @@ fn one_word(name: &[u8], word: &[u8]) -> Option<BenchLine>
     }
 }
 
-fn of_words(words: &[&[u8]]) -> Option<BenchLine>
-    ensures { result ≡ bench_line_of (map (λ word. word.now) words.now) }
-{
-    match words {
-        [name] => alone(name),
-        [name, word] => one_word(name, word),
-        _ => None,
-    }
-}
-
 /// What a line asks for on a bench; `None` where it is a bad line.
+#[tactic(auto, using(crate::proofs::LineLemmas::no_bench_line_above))]
 pub fn bench_line_of(line: &[u8]) -> Option<BenchLine>
     ensures { result ≡ bench_line_of (words_of line.now) }
 {
-    of_words(words(line)?.as_slice())
+    let (name, rest) = cut(line, b' ');
+    let Some(rest) = rest else {
+        return alone(name);
+    };
+    match cut(rest, b' ') {
+        (word, None) => one_word(name, word),
+        (_, Some(_)) => None,
+    }
 }

@@ -326,9 +326,9 @@ impl Installation {
     }
 
     /// A gear.
-    pub fn gear(&self, number: u32) -> &Gear
+    pub fn gear(&self, number: u32) -> Gear
         requires { number < self.now.site.plan.gear }
-        ensures { result.now ≡ gear_at (world self.now.site) number }
+        ensures { result ≡ gear_at (world self.now.site) number }
     {
         self.site.gear(number)
     }

@@ -176,7 +176,7 @@ fn replay<W: Write>(alloc: Global, input: &[u8], writer: &mut W) -> Result<(), R
     let mut script = Script::new(input);
     let (is_bench, plan) = plan(alloc, &mut script)?;
     if is_bench {
-        let mut bench = Bench::new(alloc, plan)?;
+        let mut bench = Bench::new(plan);
         play_bench(alloc, &mut script, &mut bench, writer)
     } else {
         let mut installation = Installation::new(alloc, plan)?;

@@ -80,7 +80,8 @@ fn push_gear_lines(text: &mut String, installation: &Installation) -> Result<(),
         ++ gear_lines (world installation.now.site) installation.now.site.plan.gear) }
 {
     for number in 0..installation.gear_count() {
-        push_gear(text, number as usize, installation.gear(number))?;
+        let gear = installation.gear(number);
+        push_gear(text, number as usize, &gear)?;
     }
     Ok(())
 }

@@ -2,7 +2,7 @@
 #![tactic(auto, using(std::proofs::lemmas::List::append_assoc, std::proofs::lemmas::Fmt::hex_byte))]
 
 ghost use Rattle.std.specs.Prelude.{◌≡◌, ◌++◌, OnOk, string_bytes};
-ghost use Rattle.dali_replay.specs.Text.{answer_text, heard_text, power_text, state_text, short_text, condition_text};
+ghost use Rattle.dali_replay.specs.Text.{heard_text, power_text, state_text, short_text, condition_text};
 ghost use Rattle.dali_replay.specs.Text.{addresses_text, gear_text, gear_texts, ok_text, refused_text, assignment_text};
 ghost use Rattle.dali_replay.specs.Text.{commit_text, end_text, fault_text, put_text, order_text, ordered_text};
 ghost use Rattle.dali_replay.specs.Text.{kept_text, offered_text, destroyed_text, sent_text, report_text};
@@ -11,7 +11,7 @@ ghost use Rattle.dali_replay.specs.Text.{table_text};
 ghost use Rattle.dali_frame.specs.Hex.{forward_text};
 
 use dali_frame::{Answer, Forward, Priority, Random24, Short};
-use dali_gear::{Gear, InitialisationState};
+use dali_gear::{Gear, InitialisationState, Row};
 use dali_script::{End, Fault, Order, Record};
 use dali_world::{Refusal, Report};
 use std::alloc::AllocError;
@@ -22,16 +22,6 @@ pub fn push_ok(text: &mut String) -> Result<(), AllocError>
     ensures { OnOk result (string_bytes text.new ≡ string_bytes text.old ++ ok_text) }
 {
     text.push_str("ok\n")
-}
-
-fn push_answer(text: &mut String, answer: Answer) -> Result<(), AllocError>
-    ensures { OnOk result (string_bytes text.new ≡ string_bytes text.old ++ answer_text answer) }
-{
-    match answer {
-        Answer::Silence => text.push_str("silence"),
-        Answer::Byte(byte) => write!(text, "byte {byte:02X}"),
-        Answer::Damaged => text.push_str("damaged"),
-    }
 }
 
 /// The four digits of a frame.
@@ -52,9 +42,14 @@ pub fn push_heard(text: &mut String, frame: Forward, answer: Answer) -> Result<(
     ensures { OnOk result (string_bytes text.new ≡ string_bytes text.old ++ heard_text frame answer) }
 {
     push_frame(text, frame)?;
-    text.push_str(" ")?;
-    push_answer(text, answer)?;
-    text.push_str("\n")
+    match answer {
+        Answer::Silence => text.push_str(" silence\n"),
+        Answer::Byte(byte) => {
+            write!(text, " byte {byte:02X}")?;
+            text.push_str("\n")
+        }
+        Answer::Damaged => text.push_str(" damaged\n"),
+    }
 }
 
 fn power_name(powered: bool) -> &'static str
@@ -113,11 +108,12 @@ pub fn push_gear(text: &mut String, number: usize, gear: &Gear) -> Result<(), Al
 }
 
 /// The states of a row of gear.
-pub fn push_all_gear(text: &mut String, gear: &[Gear]) -> Result<(), AllocError>
-    ensures { OnOk result (string_bytes text.new ≡ string_bytes text.old ++ gear_texts 0 gear.now) }
+pub fn push_all_gear(text: &mut String, row: &Row) -> Result<(), AllocError>
+    ensures { OnOk result (string_bytes text.new ≡ string_bytes text.old ++ gear_texts 0 row.now) }
 {
-    for (number, one) in gear.iter().enumerate() {
-        push_gear(text, number, one)?;
+    for number in 0..row.len() {
+        let gear = row.gear(number);
+        push_gear(text, number, &gear)?;
     }
     Ok(())
 }
@@ -250,9 +246,9 @@ fn push_collided(
 fn push_sent(text: &mut String, c: u8, frame: Forward, answer: Answer) -> Result<(), AllocError>
     ensures { OnOk result (string_bytes text.new ≡ string_bytes text.old ++ sent_text c frame answer) }
 {
-    write!(text, "{c}: sent {frame} ")?;
-    push_answer(text, answer)?;
-    text.push_str("\n")
+    write!(text, "{c}: sent ")?;
+    push_heard(text, frame, answer)?;
+    Ok(())
 }
 
 /// What came on the bus.

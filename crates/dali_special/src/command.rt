@@ -101,6 +101,7 @@ impl Command {
 
     /// The command of a frame.
     #[tactic(auto, using(crate::proofs::Table::written_read), unfolding(crate::specs::Command::command_of))]
+    #[inline]
     pub fn read(frame: Forward) -> Command
         ensures table { result ≡ command_of frame }
         ensures written { frame_of result ≡ frame }

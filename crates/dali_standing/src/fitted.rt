@@ -1,8 +1,8 @@
-ghost use Rattle.std.specs.Prelude.{◌≡◌, ◌↔◌, ◌+◌, ◌<◌, ◌≤◌, ◌++◌, ℕ, List, [], length, map, replicate, drop, IfOk};
-ghost use Rattle.std.specs.Prelude.{IfErr, IsTrue, vec_len, slice_index_or};
+ghost use Rattle.std.specs.Prelude.{◌≡◌, ◌↔◌, ◌<◌, ◌≤◌, ◌++◌, length, map, IfOk};
+ghost use Rattle.std.specs.Prelude.{IfErr, IsTrue};
 ghost use Rattle.std.specs.Vec.{vec_capacity};
 ghost use Rattle.dali_special.specs.Command.{command_of};
-ghost use Rattle.dali_gear.specs.Gear.{fresh, gear_expired, gear_quieted};
+ghost use Rattle.dali_gear.specs.Gear.{gear_expired, gear_quieted};
 ghost use Rattle.dali_gear.specs.Row.{draws_needed, answers_of, heard_of, stored_short, stored_of};
 ghost use Rattle.dali_events.specs.Plan.{Plan};
 ghost use Rattle.dali_events.specs.World.{gear_changed};
@@ -13,7 +13,7 @@ ghost use Rattle.dali_standing.specs.declared.refusal.Refusal.TheVariants as ref
 use crate::refusal::Refusal;
 use dali_events::Plan;
 use dali_frame::{Answer, Forward, Random24, Short};
-use dali_gear::{Gear, InitialisationState, Reach, row};
+use dali_gear::{Gear, InitialisationState, Reach, Row};
 use dali_special::Command;
 use std::alloc::Global;
 use std::marker::Model;
@@ -21,7 +21,7 @@ use std::marker::Model;
 /// The gear of a site, with the numbers that they draw and the short addresses that they were given.
 #[derive(Drop)]
 pub(crate) struct FittedGear {
-    gear: Vec<Gear>,
+    gear: Row,
     draws: Vec<Random24>,
     used: usize,
     gifts: Vec<(u32, Short)>,
@@ -35,11 +35,10 @@ impl Model for FittedGear {
 
     ghost Value = { FittedGear };
 
-    ghost view = { λ f. record { gear = f.gear.items; left = drop f.used f.draws.items; gifts = f.gifts.items } };
+    ghost view = { λ f. record { gear = f.gear; left = drop f.used f.draws.items; gifts = f.gifts.items } };
 
-    ghost invariant = { λ f. (length f.gear.items ≤ 128) × (f.used ≤ length f.draws.items)
-        × (length f.draws.items ≤ 1024)
-        × All (λ r. r < MASK24) f.draws.items × (length f.gear.items ≤ vec_capacity f.gifts) };
+    ghost invariant = { λ f. (f.used ≤ length f.draws.items) × (length f.draws.items ≤ 1024)
+        × All (λ r. r < MASK24) f.draws.items × (length f.gear ≤ vec_capacity f.gifts) };
 }
 
 impl FittedGear {
@@ -50,7 +49,7 @@ impl FittedGear {
         ensures ok { IfOk result (λ f. f ≡ fitted_at plan.now) }
         ensures err { IfErr result (λ e. e ≡ refusal.NoMemory) }
     {
-        let gear = from_factory(alloc, plan.gear())?;
+        let gear = Row::new(plan.gear() as usize);
         let draws = Vec::from_slice(alloc, plan.draws())?;
         let gifts = Vec::with_capacity(alloc, gear.len())?;
         Ok(FittedGear {
@@ -65,7 +64,7 @@ impl FittedGear {
     pub(crate) fn is_spent(&self, frame: Forward, reach: Reach) -> bool
         ensures { IsTrue result ↔ (length self.now.left < draws_needed reach (command_of frame) 0 self.now.gear) }
     {
-        self.draws.len() - self.used < row::draws_needed(&self.gear, frame, reach)
+        self.draws.len() - self.used < self.gear.draws_needed(&Command::read(frame), reach)
     }
 
     /// The gear that the frame reaches take it. Answers what is heard where nothing disturbs the backward frames.
@@ -76,8 +75,9 @@ impl FittedGear {
         ensures state { self.new ≡ taken_at reach (command_of frame) self.old }
         ensures answer { result ≡ heard_of (answers_of reach (command_of frame) 0 self.old.gear) }
     {
-        note_gifts(&mut self.gifts, &self.gear, frame, reach);
-        let heard = row::take(&mut self.gear, frame, reach, &self.draws[self.used..]);
+        let command = Command::read(frame);
+        note_gifts(&mut self.gifts, &self.gear, &command, reach);
+        let heard = self.gear.take(&command, reach, &self.draws[self.used..]);
         self.used += heard.drawn;
         heard.answer
     }
@@ -87,11 +87,10 @@ impl FittedGear {
         requires { number < length self.old.gear }
         ensures { self.new ≡ changed_at (gear_changed self.old.gear number (gear_powered on)) self.old }
     {
-        let gear = &mut self.gear[number as usize];
         if on {
-            gear.power_on();
+            self.gear.power_on(number as usize);
         } else {
-            gear.power_off();
+            self.gear.power_off(number as usize);
         }
     }
 
@@ -100,19 +99,18 @@ impl FittedGear {
         requires { number < length self.old.gear }
         ensures { self.new ≡ changed_at (gear_changed self.old.gear number gear_expired) self.old }
     {
-        let gear = &mut self.gear[number as usize];
-        gear.expire();
+        self.gear.expire(number as usize);
     }
 
     /// So much time passes without a frame that half pairs are forgotten.
     pub(crate) fn quiet(&mut self)
         ensures { self.new ≡ changed_at (map gear_quieted self.old.gear) self.old }
     {
-        quiet(&mut self.gear);
+        self.gear.quiet();
     }
 
     /// All gear, in order of their number.
-    pub(crate) fn gear(&self) -> &[Gear]
+    pub(crate) fn gear(&self) -> &Row
         ensures { result.now ≡ self.now.gear }
     {
         &self.gear
@@ -123,27 +121,6 @@ impl FittedGear {
         ensures { result.now ≡ self.now.gifts }
     {
         &self.gifts
-    }
-}
-
-/// So many gear from the factory.
-fn from_factory(alloc: Global, count: u32) -> Result<Vec<Gear>, Refusal>
-    ensures ok { IfOk result (λ gear. gear.items ≡ replicate count fresh) }
-    ensures len { IfOk result (λ gear. length gear.items ≡ count) }
-    ensures err { IfErr result (λ e. e ≡ refusal.NoMemory) }
-{
-    let mut gear = Vec::with_capacity(alloc, count as usize)?;
-    for _i in 0..count {
-        gear.push_reserved(Gear::new());
-    }
-    Ok(gear)
-}
-
-fn quiet(gear: &mut [Gear])
-    ensures { gear.new ≡ map gear_quieted gear.old }
-{
-    for one in gear.iter_mut() {
-        one.quiet();
     }
 }
 
@@ -171,29 +148,27 @@ fn gift(gear: &Gear, number: usize, command: &Command, reach: Reach) -> Option<S
     }
 }
 
-/// Notes which gear will store which short address at this frame.
-fn note_gifts(gifts: &mut Vec<(u32, Short)>, gear: &[Gear], frame: Forward, reach: Reach)
-    requires few { length gear.now ≤ 128 }
-    requires room { length (gifts.old.items ++ stored_of reach (command_of frame) 0 gear.now) ≤ vec_capacity gifts.old }
-    ensures gifts { gifts.new.items ≡ gifts.old.items ++ stored_of reach (command_of frame) 0 gear.now }
+/// Notes which gear will store which short address at this command.
+fn note_gifts(gifts: &mut Vec<(u32, Short)>, gear: &Row, command: &Command, reach: Reach)
+    requires room { length (gifts.old.items ++ stored_of reach command.now 0 gear.now) ≤ vec_capacity gifts.old }
+    ensures gifts { gifts.new.items ≡ gifts.old.items ++ stored_of reach command.now 0 gear.now }
     ensures capacity { vec_capacity gifts.new ≡ vec_capacity gifts.old }
 {
-    let command = Command::read(frame);
-    match command {
-        Command::Program(_) => note_stored(gifts, gear, &command, reach),
+    match *command {
+        Command::Program(_) => note_stored(gifts, gear, command, reach),
         _ => {}
     }
 }
 
 /// Notes which gear will store which short address at PROGRAM SHORT ADDRESS, the one command at which gear store one.
-fn note_stored(gifts: &mut Vec<(u32, Short)>, gear: &[Gear], command: &Command, reach: Reach)
-    requires few { length gear.now ≤ 128 }
+fn note_stored(gifts: &mut Vec<(u32, Short)>, gear: &Row, command: &Command, reach: Reach)
     requires room { length (gifts.old.items ++ stored_of reach command.now 0 gear.now) ≤ vec_capacity gifts.old }
     ensures gifts { gifts.new.items ≡ gifts.old.items ++ stored_of reach command.now 0 gear.now }
     ensures capacity { vec_capacity gifts.new ≡ vec_capacity gifts.old }
 {
-    for (number, one) in gear.iter().enumerate() {
-        if let Some(short) = gift(one, number, command, reach) {
+    for number in 0..gear.len() {
+        let one = gear.gear(number);
+        if let Some(short) = gift(&one, number, command, reach) {
             gifts.push_reserved((number as u32, short));
         }
     }

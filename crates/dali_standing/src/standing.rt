@@ -27,7 +27,7 @@ use dali_arbiter::{Arbiter, Request};
 use dali_enrol::Table;
 use dali_events::Plan;
 use dali_frame::{Answer, Forward, Priority, Short};
-use dali_gear::{Gear, GearSet, Reach};
+use dali_gear::{GearSet, Reach, Row};
 use dali_script::{Block, Due, Input, Kept, Order, Trace};
 use dali_special::Command;
 use std::alloc::Global;
@@ -133,7 +133,7 @@ impl Standing {
     }
 
     /// The gear, in order of their number.
-    pub fn gear(&self) -> &[Gear]
+    pub fn gear(&self) -> &Row
         ensures { result.now ≡ self.now.gear }
     {
         self.fitted.gear()

@@ -4,7 +4,7 @@ ghost use Rattle.std.specs.Prelude.{◌<◌, ◌↔◌, IsTrue, All};
 
 use super::values::{frame, random, same};
 use dali_frame::{Answer, Random24, SearchAddress, Short};
-use dali_gear::{Gear, GearSet, InitialisationState, Reach, row};
+use dali_gear::{Gear, GearSet, InitialisationState, Reach, Row};
 use dali_special::{Command, Target};
 use std::process::Abort;
 use std::test::Fail;
@@ -52,16 +52,15 @@ fn one_gear_is_addressed(rt: HostRuntime) -> Result<(), Fail> {
 /// A frame comes to a row of gear that may draw these numbers: what is heard, and how many were drawn.
 fn hear<R: Abort>(
     rt: &R,
-    gear: &mut [Gear],
+    row: &mut Row,
     text: &[u8; 4],
     reach: Reach,
     draws: &[Random24],
 ) -> Result<(Answer, usize), Fail> {
-    let frame = frame(text)?;
-    assert!(rt; gear.len() <= 128);
+    let command = Command::read(frame(text)?);
     assert!(rt; are_drawable(draws));
-    assert!(rt; row::draws_needed(gear, frame, reach) <= draws.len());
-    let heard = row::take(gear, frame, reach, draws);
+    assert!(rt; row.draws_needed(&command, reach) <= draws.len());
+    let heard = row.take(&command, reach, draws);
     Ok((heard.answer, heard.drawn))
 }
 
@@ -74,41 +73,44 @@ fn are_drawable(draws: &[Random24]) -> bool
 
 #[test]
 fn gear_of_a_row_draw_in_order(rt: HostRuntime) -> Result<(), Fail> {
-    let mut gear = [Gear::new(), Gear::new()];
-    let gear = &mut gear[..];
+    let mut row = Row::new(2);
     let draws = [random(0x000001)?, random(0x000002)?];
     for (text, drawn) in [(b"A5FF", 0), (b"A5FF", 0), (b"A700", 0), (b"A700", 2)] {
-        let heard = hear(&rt, gear, text, Reach::Everyone, &draws)?;
+        let heard = hear(&rt, &mut row, text, Reach::Everyone, &draws)?;
         same(&rt, &heard, &(Answer::Silence, drawn));
     }
-    same(&rt, &gear.first().map(|one| one.random()), &Some(draws[0]));
-    same(&rt, &gear.last().map(|one| one.random()), &Some(draws[1]));
+    assert!(rt; row.len() == 2);
+    same(&rt, &row.gear(0).random().value(), &1);
+    same(&rt, &row.gear(1).random().value(), &2);
     Ok(())
 }
 
 /// What a row of gear answers to COMPARE, where no number is left to be drawn.
-fn compared<R: Abort>(rt: &R, gear: &mut [Gear]) -> Result<Answer, Fail> {
-    let (answer, _) = hear(rt, gear, b"A900", Reach::Everyone, &[])?;
+fn compared<R: Abort>(rt: &R, row: &mut Row) -> Result<Answer, Fail> {
+    let (answer, _) = hear(rt, row, b"A900", Reach::Everyone, &[])?;
     Ok(answer)
 }
 
 #[test]
 fn some_gear_of_a_row_take_a_frame(rt: HostRuntime) -> Result<(), Fail> {
-    let mut gear = [Gear::new(), Gear::new(), Gear::new()];
-    let gear = &mut gear[..];
-    hear(&rt, gear, b"A5FF", Reach::Everyone, &[])?;
-    hear(&rt, gear, b"A5FF", Reach::Only(GearSet(0b101)), &[])?;
-    assert!(rt; gear.len() == 3);
+    let mut row = Row::new(3);
+    hear(&rt, &mut row, b"A5FF", Reach::Everyone, &[])?;
+    hear(&rt, &mut row, b"A5FF", Reach::Only(GearSet(0b101)), &[])?;
+    assert!(rt; row.len() == 3);
     let initialise = Command::Initialise(Target::Unaddressed);
-    same(&rt, &gear[1].half_pair(), &Some(initialise));
-    gear[1].quiet();
-    same(&rt, &gear[1].half_pair(), &None);
-    same(&rt, &compared(&rt, gear)?, &Answer::Damaged);
-    assert!(rt; gear.len() == 3);
-    gear[0].expire();
-    same(&rt, &compared(&rt, gear)?, &Answer::Byte(0xFF));
-    assert!(rt; gear.len() == 3);
-    gear[2].power_off();
-    same(&rt, &compared(&rt, gear)?, &Answer::Silence);
+    same(&rt, &row.gear(1).half_pair(), &Some(initialise));
+    row.quiet();
+    assert!(rt; row.len() == 3);
+    same(&rt, &row.gear(1).half_pair(), &None);
+    same(&rt, &compared(&rt, &mut row)?, &Answer::Damaged);
+    assert!(rt; row.len() == 3);
+    row.expire(0);
+    same(&rt, &compared(&rt, &mut row)?, &Answer::Byte(0xFF));
+    assert!(rt; row.len() == 3);
+    row.power_off(2);
+    same(&rt, &compared(&rt, &mut row)?, &Answer::Silence);
+    assert!(rt; row.len() == 3);
+    row.power_on(2);
+    same(&rt, &row.gear(2).is_powered(), &true);
     Ok(())
 }

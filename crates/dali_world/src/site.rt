@@ -325,11 +325,11 @@ impl SiteState {
     }
 
     /// Gear `number`, which must be there.
-    pub fn gear(&self, number: u32) -> &Gear
+    pub fn gear(&self, number: u32) -> Gear
         requires { number < self.now.plan.gear }
-        ensures { result.now ≡ gear_at (world self.now) number }
+        ensures { result ≡ gear_at (world self.now) number }
     {
-        &self.standing.gear()[number as usize]
+        self.standing.gear().gear(number as usize)
     }
 
     /// The records that controller `c`, which must be there, keeps, whether it is up or down.

@@ -9,24 +9,19 @@ returns-in_err-is_bench g c =
     rw is (replays_no_plan (Unit {0}) _ _ c.in_err-is_bench.field-0.0
     (rw (c.new-script.ensures.read, c.new-script.ensures.rest, zero-add) at c.in_err-is_bench.ensures.refused))
 
-pub returns-in_err-bench : goal.returns-in_err-bench
-returns-in_err-bench g c =
-    let is : c.from_residual-in_err-bench.result ≡ Err Memory = search rules in
-    replays_want _ _ _ is
-
 pub returns-in_err-installation : goal.returns-in_err-installation
 returns-in_err-installation g c =
     let is : c.from_residual-in_err-installation.result ≡ Err Memory = search rules in
     replays_want _ _ _ is
-
-pub returns-in_ok-bench : goal.returns-in_ok-bench
-returns-in_ok-bench g c =
-    replays_bench _ _ _ c.in_ok-is_bench.is_bench c.in_ok-is_bench.plan _ c.in_ok-bench.bench c.play_bench.result
-    (rw (c.new-script.ensures.read, c.new-script.ensures.rest, zero-add) at c.in_ok-is_bench.ensures.planned)
-    c.if-is_bench.true c.in_ok-bench.ensures c.play_bench.ensures
 
 pub returns-in_ok-installation : goal.returns-in_ok-installation
 returns-in_ok-installation g c =
     replays_site _ _ _ c.in_ok-is_bench.is_bench c.in_ok-is_bench.plan _ c.in_ok-installation.installation c.play_site.result
     (rw (c.new-script.ensures.read, c.new-script.ensures.rest, zero-add) at c.in_ok-is_bench.ensures.planned)
     c.if-is_bench.false c.in_ok-installation.ensures c.play_site.ensures
+
+pub returns-then-is_bench : goal.returns-then-is_bench
+returns-then-is_bench g c =
+    replays_bench _ _ _ c.in_ok-is_bench.is_bench c.in_ok-is_bench.plan _ c.new-bench.result c.play_bench.result
+    (rw (c.new-script.ensures.read, c.new-script.ensures.rest, zero-add) at c.in_ok-is_bench.ensures.planned)
+    c.if-is_bench.true c.new-bench.ensures c.play_bench.ensures

@@ -4,4 +4,4 @@ use Rattle.dali_replay.proofs.site_report.push_gear_lines.Goals as goal
 
 pub loop-number-preserved : goal.loop-number-preserved
 loop-number-preserved c =
-    rw (add-one, ← c.gear.ensures) (line_more _ _ _ _ _ c.in_ok-push_gear.ensures c.loop-number.invariant)
+    rw (add-one, ← c.gear-gear.ensures) (line_more _ _ _ _ _ c.in_ok-push_gear.ensures c.loop-number.invariant)

@@ -4,7 +4,6 @@ use Rattle.dali_standing.proofs.fitted.FittedGear.new.Goals as goal
 
 pub invariant_of-result : goal.invariant_of-result
 invariant_of-result c = (
-  rw (c.in_ok-gear.ensures.len, c.gear.ensures.value) c.gear.ensures.most,
   search rules,
   search rules,
   λ k d here. drawn_below c.args.plan.now c.in_ok-draws.draws.items c.draws.ensures.plan (c.in_ok-draws.ensures.items ∙ c.draws.ensures.value) k d here,

@@ -1,6 +1,0 @@
-use Rattle.std.proofs.Common.{sym, ◌∙◌}
-use Rattle.dali_gear.proofs.RowLemmas.{needs_none}
-use Rattle.dali_gear.proofs.row.draws_needed.Goals as goal
-
-pub returns-in_default : goal.returns-in_default
-returns-in_default c = sym (needs_none c.args.reach _ 0 c.args.gear.now (λ is. c.in_default.not-Randomise (c.read.ensures.table ∙ is)))
