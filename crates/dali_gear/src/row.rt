@@ -357,14 +357,15 @@ impl Row {
 fn after_one(gear: &Gear, command: &Command, taken: bool, draws: &[Random24]) -> Gear
     ensures { result ≡ one_after taken command.now draws.now gear.now }
 {
-    if !taken {
-        return *gear;
-    }
     let draw = match draws.first() {
         Some(draw) => *draw,
         None => gear.random,
     };
-    gear.after(command, draw)
+    if taken {
+        gear.after(command, draw)
+    } else {
+        *gear
+    }
 }
 
 /// What is heard of so many answers, whose bytes have this sum.
