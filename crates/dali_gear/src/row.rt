@@ -3,7 +3,7 @@
 ghost use Rattle.std.specs.Prelude.{◌≡◌, ◌+◌, ◌*◌, ◌<◌, ◌≤◌, ◌&&◌, ◌⊎◌, length, map, replicate, All, IsTrue, None, Some};
 ghost use Rattle.std.specs.Prelude.{slice_index_or, slice_set, if◌then◌else◌};
 ghost use Rattle.dali_gear.specs.Gear.{fresh};
-ghost use Rattle.dali_gear.specs.Row.{reaches, heard_by};
+ghost use Rattle.dali_gear.specs.Row.{reaches, heard_by, one_after};
 
 use crate::gear::{Effect, Gear};
 use crate::state::InitialisationState;
@@ -85,7 +85,7 @@ impl Row {
     ghost use Rattle.dali_frame.specs.Random.{MASK24};
     ghost use Rattle.dali_special.specs.declared.command.Command.TheVariants.{Randomise};
     ghost use Rattle.dali_gear.specs.Gear.{would_draw, answer, without_power, with_power, gear_expired, gear_quieted};
-    ghost use Rattle.dali_gear.specs.Row.{row_after, answers_of, heard_of, draws_needed, one_after};
+    ghost use Rattle.dali_gear.specs.Row.{row_after, answers_of, heard_of, draws_needed};
 
     /// So many gear from the factory.
     pub fn new(count: usize) -> Row
@@ -338,15 +338,7 @@ impl Row {
     {
         let gear = self.gear(number);
         let taken = gear.powered && reached;
-        let draw = match draws.first() {
-            Some(draw) => *draw,
-            None => gear.random,
-        };
-        let after = if taken {
-            gear.after(command, draw)
-        } else {
-            gear
-        };
+        let after = after_one(&gear, command, taken, draws);
         if command.is_send_twice() {
             self.set(number, after);
         } else {
@@ -357,6 +349,22 @@ impl Row {
             answer: if taken { answer } else { None },
             drew: taken && gear.draws(command),
         }
+    }
+}
+
+/// A gear after a command, which it takes or not; it draws the first number, if it draws.
+#[inline(always)]
+fn after_one(gear: &Gear, command: &Command, taken: bool, draws: &[Random24]) -> Gear
+    ensures { result ≡ one_after taken command.now draws.now gear.now }
+{
+    let draw = match draws.first() {
+        Some(draw) => *draw,
+        None => gear.random,
+    };
+    if taken {
+        gear.after(command, draw)
+    } else {
+        *gear
     }
 }
 
