@@ -18,7 +18,10 @@ gear_in r k = record {
     low = slice_index r.search_low k;
   };
   short = slice_index_or r.short k None;
-  half = if slice_index_or r.paired k false then Some (slice_index_or r.first k Terminate) else None;
+  half =
+      if slice_index_or r.paired k false
+      then Some (slice_index_or r.first k Terminate)
+      else None;
 }
 
 abbrev pub all_gear : Inside → List Gear

@@ -1,7 +1,7 @@
 //! A row of gear on one bus: all that a frame reaches take it, in order of their number.
 
-ghost use Rattle.std.specs.Prelude.{◌≡◌, ◌+◌, ◌*◌, ◌<◌, ◌≤◌, ◌&&◌, ◌⊎◌, length, map, replicate, All, IsTrue, None, Some};
-ghost use Rattle.std.specs.Prelude.{slice_index_or, slice_set, if◌then◌else◌};
+ghost use Rattle.std.specs.Prelude.{◌≡◌, ◌+◌, ◌*◌, ◌<◌, ◌≤◌, ◌&&◌, ◌⊎◌, length, map, replicate, All, IsTrue, None};
+ghost use Rattle.std.specs.Prelude.{Some, slice_index_or, slice_set, if◌then◌else◌};
 ghost use Rattle.dali_gear.specs.Gear.{fresh};
 ghost use Rattle.dali_gear.specs.Row.{reaches, heard_by, one_after};
 
@@ -50,8 +50,8 @@ pub struct Heard {
 
 /// Gear on one bus, in order of their number, at most 128.
 ///
-/// Contracts see the list of gear. Inside, each variable of all gear stands in an array of its own, so that a frame goes
-/// over no more arrays than its command asks for, and the compiler takes many gear at a time.
+/// Contracts see the list of gear. Inside, each variable of all gear stands in an array of its own, so that a frame
+/// goes over no more arrays than its command asks for, and the compiler takes many gear at a time.
 #[derive(Drop)]
 pub struct Row {
     count: usize,
