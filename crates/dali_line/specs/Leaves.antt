@@ -1,4 +1,4 @@
-use Rattle.std.specs.Prelude.{◌≡◌, List, ◌++◌}
+use Rattle.std.specs.Prelude.{List, ◌++◌}
 use Rattle.dali_script.specs.declared.records.Record.{Record}
 
 -- HOW A STORE IS LEFT, by what every store promises: while what lies under it is open, it holds the

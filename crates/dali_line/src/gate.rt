@@ -15,6 +15,7 @@ pub enum Moment {
 ///
 /// The controller's number is 255 where a pumper asks.
 pub trait Gate: Drop {
+    /// The worker of this controller, or the pumper, is at this moment. It goes on when the call returns.
     fn at<R: Wait>(&self, rt: &R, controller: u8, moment: Moment);
 }
 

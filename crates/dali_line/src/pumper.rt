@@ -14,7 +14,9 @@ const PUMPER: u8 = 255;
 /// The gate is asked after each turn, by the number 255.
 #[derive(Drop)]
 pub struct Pumper<D, G> {
+    /// The right to drive the bus.
     pub driver: D,
+    /// What is asked after each turn.
     pub gate: G,
 }
 

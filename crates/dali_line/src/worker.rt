@@ -40,8 +40,11 @@ fn try_commit<K: Keep>(keep: &mut K, alloc: Global, added: &Record) -> bool
 /// each `Moment`, without a lock.
 #[derive(Drop)]
 pub struct Worker<P, K, G> {
+    /// The right to act for the controller.
     pub port: P,
+    /// The store of the controller's records.
     pub keep: K,
+    /// What is asked at each moment of a turn.
     pub gate: G,
 }
 

@@ -151,9 +151,13 @@ fn restarts<P0: Ledger, P1: Ledger, P2: Ledger, P3: Ledger, D: Ledger, R: Abort 
     driver: &mut Driver<P0, P1, P2, P3, D>,
     site: &mut SiteState,
     kept: &Kept,
+    wrong: &Kept,
 ) {
     reserves(rt, line, port, driver, site);
     does(rt, line.down(rt, driver, 0), site.down(0));
+    let refused = Err(Refusal::StoreDisagrees);
+    same(rt, &line.up(rt, driver, alloc, 0, wrong), &refused);
+    same(rt, &site.up(alloc, 0, wrong), &refused);
     does(
         rt,
         line.up(rt, driver, alloc, 0, kept),
@@ -236,6 +240,7 @@ fn beside<P0: Ledger, P1: Ledger, P2: Ledger, P3: Ledger, D: Ledger, R: Abort + 
     sites: (SiteState, SiteState),
     blanks: (Blank, Blank, Blank, Blank, Blank),
     kept: &Kept,
+    wrong: &Kept,
     story: Story,
 )
     requires first { (blanks.0.name ≡ P0.name) × (blanks.0.parts ≡ P0.parts) × (0 < P0.parts) }
@@ -252,7 +257,16 @@ fn beside<P0: Ledger, P1: Ledger, P2: Ledger, P3: Ledger, D: Ledger, R: Abort + 
     let mut other = ports.pop().unwrap_or_default();
     let mut port = ports.pop().unwrap_or_default();
     match story {
-        Story::Restart => restarts(rt, alloc, &line, &mut other, &mut driver, &mut site, kept),
+        Story::Restart => restarts(
+            rt,
+            alloc,
+            &line,
+            &mut other,
+            &mut driver,
+            &mut site,
+            kept,
+            wrong,
+        ),
         Story::Lapse => lapses(rt, &line, &mut other, &mut driver, &mut site),
         Story::Collision => {
             collides(rt, &line, &mut port, &mut other, &mut driver, &mut site);
@@ -275,6 +289,7 @@ fn plays<R: Abort + Wait + AllocGlobal>(
 ) -> Result<(), Fail> {
     let alloc = rt.alloc();
     let kept = one_reserved(alloc, 0, 0x123456)?;
+    let wrong = one_reserved(alloc, 1, 0x123456)?;
     let under = site_of(alloc, 1, blocks, &[0x123456, 0x654321])?;
     let site = site_of(alloc, 1, blocks, &[0x123456, 0x654321])?;
     let blanks = (
@@ -284,7 +299,15 @@ fn plays<R: Abort + Wait + AllocGlobal>(
         Blank::new(1),
         Blank::new(1),
     );
-    beside::<Brand, Brand, Brand, Brand, Brand, R>(rt, alloc, (under, site), blanks, &kept, story);
+    beside::<Brand, Brand, Brand, Brand, Brand, R>(
+        rt,
+        alloc,
+        (under, site),
+        blanks,
+        &kept,
+        &wrong,
+        story,
+    );
     Ok(())
 }
 

@@ -18,7 +18,7 @@ pub struct Listed<T> {
 
 impl<T> Listed<T> {
     /// Puts one event more at the end of the list.
-    fn note(&mut self, event: &Event)
+    fn append(&mut self, event: &Event)
         ensures { self.new.inner ≡ self.old.inner }
     {
         if !put(&mut self.list, event) {
@@ -58,7 +58,7 @@ impl<B: Bus> Bus for ListedBus<'_, B> {
         input: Input,
     ) -> Result<Receipt, Refusal> {
         let receipt = self.bus.act(rt, &mut port.inner, input)?;
-        port.note(&Event::Acted(receipt.controller(), receipt.input(), receipt.order()));
+        port.append(&Event::Acted(receipt.controller(), receipt.input(), receipt.order()));
         Ok(receipt)
     }
 
@@ -82,7 +82,7 @@ impl<B: Bus> Bus for ListedBus<'_, B> {
     ) -> Result<Report, Refusal> {
         let report = self.bus.pump(rt, &mut driver.inner, trouble)?;
         if let Report::Sent(c, frame, heard) = report {
-            driver.note(&Event::Sent(c, frame, heard));
+            driver.append(&Event::Sent(c, frame, heard));
         }
         Ok(report)
     }
