@@ -7,6 +7,8 @@ mod calls;
 #[cfg(test)]
 mod listed;
 #[cfg(test)]
+mod runs;
+#[cfg(test)]
 mod threads;
 #[cfg(test)]
 mod values;

@@ -18,3 +18,4 @@ mod text;
 
 pub use replay::{ReplayFault, run_replay};
 pub use streams::{replay_streams, replay_through};
+pub use text::{push_gear, push_table};

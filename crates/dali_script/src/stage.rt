@@ -62,7 +62,9 @@ impl Stage {
             },
             Stage::Terminated if is_initialise(command) => Some(Stage::InitialisedOnce),
             Stage::InitialisedOnce if is_initialise(command) => Some(Stage::Initialised),
-            Stage::Initialised if matches!(command, Command::Randomise) => Some(Stage::RandomisedOnce),
+            Stage::Initialised if matches!(command, Command::Randomise) => Some(
+                Stage::RandomisedOnce,
+            ),
             Stage::RandomisedOnce if matches!(command, Command::Randomise) => Some(Stage::Opened),
             Stage::HighSent(high) => match command {
                 Command::SearchMiddle(middle) => Some(Stage::MiddleSent(high, middle)),

@@ -1,0 +1,246 @@
+//! A run: a worker for each controller and a pumper, in threads of their own, over one line.
+
+ghost use Rattle.std.specs.Prelude.{◌≡◌, ◌<◌, ◌≤◌, [], None, OnOk, IfSome, IsErrOf, length};
+ghost use Rattle.dali_events.specs.Plan.{refusal_of};
+ghost use Rattle.dali_threads.specs.declared.setup.ThreadsFault.TheVariants.{BadPlan};
+
+use crate::draws::drawn;
+use crate::report::report;
+use crate::setup::{Setup, ThreadsFault};
+use arrayvec::ArrayVec;
+use dali_line::{Bus, Driver, Line, OpenGate, Outcome, Port, Pumper, Worker};
+use dali_reserve::MemoryKeep;
+use dali_script::Block;
+use dali_world::{Plan, PlanError, SiteState};
+use std::alloc::{AllocError, Global};
+use std::io::Write;
+use std::marker::Brand;
+use std::sync::Wait;
+use std::sync::ledger::{Blank, Ledger};
+use std::thread;
+use std::thread::Threads;
+
+/// How many events a site's log holds.
+const LOG_ROOM: usize = 65_536;
+
+/// How many requests may wait on a site.
+const QUEUE_ROOM: usize = 64;
+
+/// A worker runs over an empty store of its own. Where there is no memory for the store, the line is stopped.
+fn works<B: Bus, R: Wait>(
+    rt: &R,
+    alloc: Global,
+    bus: &B,
+    port: B::Port,
+    block: Block,
+    turns: u32,
+) -> (Outcome, B::Port) {
+    match MemoryKeep::new(alloc, block) {
+        Ok(keep) => {
+            let (outcome, port, _keep) = Worker::new(port, keep, OpenGate).run(
+                rt, alloc, bus, turns,
+            );
+            (outcome, port)
+        }
+        Err(_) => {
+            bus.stop(rt);
+            (Outcome::NoMemory, port)
+        }
+    }
+}
+
+/// What the threads of a run leave: how each worker ended and its port, in order of the controllers' numbers, and the
+/// driver.
+#[derive(Drop)]
+struct Left<P0: Ledger, P1: Ledger, P2: Ledger, P3: Ledger, D: Ledger> {
+    outcomes: Vec<Outcome>,
+    ports: ArrayVec<Port<P0, P1, P2, P3, D>, 4>,
+    driver: Driver<P0, P1, P2, P3, D>,
+}
+
+/// A worker runs for each port, and a pumper, until all have ended. Where a thread cannot be made the line is stopped.
+fn all_run<P0, P1, P2, P3, D, R>(
+    rt: &R,
+    alloc: Global,
+    line: &Line<P0, P1, P2, P3, D>,
+    ports: ArrayVec<Port<P0, P1, P2, P3, D>, 4>,
+    driver: Driver<P0, P1, P2, P3, D>,
+    blocks: &[Block],
+    turns: u32,
+) -> Result<Left<P0, P1, P2, P3, D>, ThreadsFault>
+where
+    P0: Ledger + Send + Sync,
+    P1: Ledger + Send + Sync,
+    P2: Ledger + Send + Sync,
+    P3: Ledger + Send + Sync,
+    D: Ledger + Send + Sync,
+    R: Threads + Wait + Sync,
+{
+    thread::scope(
+        thread::scope_env(),
+        rt,
+        move |scope| -> Result<Left<P0, P1, P2, P3, D>, ThreadsFault> {
+            let mut workers = Vec::new(alloc);
+            let mut refused = false;
+            for (port, block) in ports.into_iter().zip(blocks) {
+                let block = *block;
+                match scope.spawn(move || works(rt, alloc, line, port, block, turns)) {
+                    Ok(worker) => {
+                        if workers.push(worker).is_err() {
+                            refused = true;
+                        }
+                    }
+                    Err(_) => refused = true,
+                }
+            }
+            if refused {
+                line.stop(rt);
+            }
+            let (driver, _) = Pumper::new(driver, OpenGate).run(rt, line, turns);
+            let mut outcomes = Vec::new(alloc);
+            let mut ports = ArrayVec::new();
+            for worker in workers {
+                let (outcome, port) = worker.join(rt);
+                if outcomes.push(outcome).is_err() {
+                    refused = true;
+                }
+                let _ = ports.try_push(port);
+            }
+            if refused {
+                return Err(ThreadsFault::Memory);
+            }
+            Ok(Left {
+                outcomes,
+                ports,
+                driver,
+            })
+        },
+    )
+}
+
+/// The right to make the five ledgers of a line.
+type Blanks = (Blank, Blank, Blank, Blank, Blank);
+
+fn blanks() -> Blanks
+    ensures first { 0 < result.0.parts }
+    ensures second { 0 < result.1.parts }
+    ensures third { 0 < result.2.parts }
+    ensures fourth { 0 < result.3.parts }
+    ensures driver { 0 < result.4.parts }
+{
+    (
+        Blank::new(1),
+        Blank::new(1),
+        Blank::new(1),
+        Blank::new(1),
+        Blank::new(1),
+    )
+}
+
+/// All run over a line round this site. Answers how the workers ended, and the site.
+fn commission<P0, P1, P2, P3, D, R>(
+    rt: &R,
+    alloc: Global,
+    site: SiteState,
+    blanks: Blanks,
+    turns: u32,
+) -> Result<(Vec<Outcome>, SiteState), ThreadsFault>
+where
+    P0: Ledger + Send + Sync,
+    P1: Ledger + Send + Sync,
+    P2: Ledger + Send + Sync,
+    P3: Ledger + Send + Sync,
+    D: Ledger + Send + Sync,
+    R: Threads + Wait + Sync,
+    requires first { (blanks.0.name ≡ P0.name) × (blanks.0.parts ≡ P0.parts) × (0 < P0.parts) }
+    requires second { (blanks.1.name ≡ P1.name) × (blanks.1.parts ≡ P1.parts) × (0 < P1.parts) }
+    requires third { (blanks.2.name ≡ P2.name) × (blanks.2.parts ≡ P2.parts) × (0 < P2.parts) }
+    requires fourth { (blanks.3.name ≡ P3.name) × (blanks.3.parts ≡ P3.parts) × (0 < P3.parts) }
+    requires driver { (blanks.4.name ≡ D.name) × (blanks.4.parts ≡ D.parts) × (0 < D.parts) }
+{
+    let blocks = Vec::from_slice(alloc, site.plan().blocks())?;
+    let (first, second, third, fourth, driver) = blanks;
+    let (line, ports, driver) = Line::<P0, P1, P2, P3, D>::new(
+        site, first, second, third, fourth, driver,
+    );
+    let left = all_run(rt, alloc, &line, ports, driver, &blocks, turns)?;
+    let Left {
+        outcomes,
+        ports,
+        driver,
+    } = left;
+    Ok((outcomes, line.close(ports, driver)))
+}
+
+/// A plan of this gear, these blocks and these numbers to be drawn.
+fn planned(
+    alloc: Global,
+    gear: u32,
+    blocks: &[(u8, u8)],
+    draws: &[u32],
+) -> Result<Plan, ThreadsFault>
+    requires { length draws.now ≤ 1024 }
+    ensures allowed { OnOk result (refusal_of gear blocks.now draws.now ≡ None) }
+    ensures refused { IfSome (refusal_of gear blocks.now draws.now) (λ e. IsErrOf result (BadPlan e)) }
+{
+    match Plan::new(alloc, gear, blocks, draws) {
+        Ok(plan) => Ok(plan),
+        Err(PlanError::NoMemory) => Err(ThreadsFault::Memory),
+        Err(error) => Err(ThreadsFault::BadPlan(error)),
+    }
+}
+
+/// Runs a worker in a thread of its own for each block, and a pumper, on so many gear from the factory, and writes what
+/// became of them: how each worker ended, the states of all gear, the controllers' tables, and how many gear have a
+/// short address.
+///
+/// The gear draw numbers of a generator from the seed: the same for the same seed, though which controller gives which
+/// address is open.
+pub fn run_threads<R: Threads + Wait + Sync, W: Write>(
+    rt: &R,
+    alloc: Global,
+    setup: Setup,
+    writer: &mut W,
+) -> Result<(), ThreadsFault>
+    ensures refused { IfSome (refusal_of setup.gear setup.blocks.items [])
+        (λ e. IsErrOf result (BadPlan e) × (writer.new ≡ writer.old)) }
+{
+    match planned(alloc, setup.gear, setup.blocks.as_slice(), &[]) {
+        Ok(plan) => run_on(rt, alloc, &plan, &setup, writer),
+        Err(fault) => Err(fault),
+    }
+}
+
+/// As `run_threads`, of a plan of the same gear and blocks in which no numbers are drawn.
+fn run_on<R: Threads + Wait + Sync, W: Write>(
+    rt: &R,
+    alloc: Global,
+    undrawn: &Plan,
+    setup: &Setup,
+    writer: &mut W,
+) -> Result<(), ThreadsFault> {
+    let most = undrawn.gear() as usize * undrawn.blocks().len();
+    let numbers = drawn(alloc, setup.seed, most)?;
+    let plan = planned(
+        alloc,
+        setup.gear,
+        setup.blocks.as_slice(),
+        numbers.as_slice(),
+    )?;
+    let Ok(site) = SiteState::new(alloc, plan, LOG_ROOM, QUEUE_ROOM) else {
+        return Err(ThreadsFault::Memory);
+    };
+    let blanks = blanks();
+    let (outcomes, site) = commission::<Brand, Brand, Brand, Brand, Brand, R>(
+        rt,
+        alloc,
+        site,
+        blanks,
+        setup.turns,
+    )?;
+    let text = report(alloc, &outcomes, &site)?;
+    if writer.write_all(text.as_bytes()).is_err() || writer.flush().is_err() {
+        return Err(ThreadsFault::Write);
+    }
+    Ok(())
+}
