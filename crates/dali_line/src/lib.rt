@@ -1,24 +1,25 @@
 //! A site that threads share: a lock round it, a right to act for each controller, and one to drive the bus.
 //!
 //! A [`Line`] is a `SiteState` under a lock. `Line::new` gives a [`Port`] for each controller and one [`Driver`]. Its
-//! calls are the site's, one for each event, and each wants the right to it: `act` and `arc` the controller's port, all
-//! others the driver. `wait` and `ready` sleep until there is something to do.
+//! calls are the site's, one for each event, and each wants the right to it: `act` and `arc` the controller's port,
+//! all others the driver. `wait` and `ready` sleep until there is something to do.
 //!
-//! A [`Worker`] runs a controller in a thread of its own, with a store of records (`Keep`); a [`Pumper`] runs the bus.
-//! They know a line as a [`Bus`], which hands out no lock: a record is committed without it. A [`Gate`] is asked at some
-//! moments of a turn. A vendor writes a `Keep`, a `Bus` or a `Gate` of their own; `dali_line_tests` has one of each.
+//! A [`Worker`] runs a controller in a thread of its own, with a store of records (`Keep`); a [`Pumper`] runs the
+//! bus. They know a line as a [`Bus`], which hands out no lock: a record is committed without it. A [`Gate`] is asked
+//! at some moments of a turn. A vendor may write a `Keep`, a `Bus` or a `Gate` of their own; `dali_line_tests` has a
+//! bus that keeps lists (`listed`) and a gate that holds a commit (`threads`).
 //!
 //! What is proved of threads: a port knows how many steps its controller has taken (its share), the driver how many
-//! events are no controller's step, and whenever the lock is taken the log has just as many. No clause can name the site
-//! under the lock, so each call says of its answer that there is a site, whose promise holds and whose log has as many
-//! of the caller's events as its share says, which answers so. `Line::close` gives the site back, of which each share
-//! is exact; each event of its log is in one share, and in one alone.
+//! events are no controller's step, and whenever the lock is taken the log has just as many. No clause can name the
+//! site under the lock, so each call says of its answer that there is a site, whose promise holds and whose log has
+//! as many of the caller's events as its share says, which answers so. `Line::close` gives the site back, of which
+//! each share is exact; each event of its log is in one share, and in one alone.
 //!
 //! Not proved: that a thread runs, that a wait ends, any order between threads.
 //!
 //! A line has five type parameters, the ledgers of its shares. A function over them is called with
-//! `std::marker::Brand` five times and five blanks of one part each, `Blank::new(1)`; the caller's proof says that they
-//! are of those blanks, a line each.
+//! `std::marker::Brand` five times and five blanks of one part each, `Blank::new(1)`; the caller's proof says that
+//! they are of those blanks, a line each.
 #![tactic(auto)]
 
 mod bus;

@@ -1,4 +1,4 @@
-ghost use Rattle.std.specs.Prelude.{◌≡◌, ◌+◌, ◌<◌, ◌≤◌, ℕ, length, All, [], ◌∷◌, take, IfOk, IfErr, OnOk, OnErr, IsTrue};
+ghost use Rattle.std.specs.Prelude.{◌≡◌, ◌+◌, ◌<◌, ◌≤◌, ℕ, length, All, [], ◌∷◌, take, IfOk, OnOk, OnErr, IsTrue};
 ghost use Rattle.dali_events.specs.World.{controller_at};
 ghost use Rattle.dali_standing.specs.Seats.{due_of};
 ghost use Rattle.dali_events.specs.Promise.{KeepsPromise};
@@ -32,8 +32,8 @@ use std::sync::{Condvar, Mutex, Wait};
 /// log has as many of the caller's events as the caller's share says, and which answers so. An accepted call raises
 /// that share by one, a refused one leaves it.
 ///
-/// A line in use: a `Worker` for each port and a `Pumper` for the driver, each in a thread of its own. A call that waits
-/// (`wait`, `ready`) sleeps; nothing promises that it ends.
+/// A line in use: a `Worker` for each port and a `Pumper` for the driver, each in a thread of its own. A call that
+/// waits (`wait`, `ready`) sleeps; nothing promises that it ends.
 #[derive(Drop)]
 pub struct Line<P0: Ledger, P1: Ledger, P2: Ledger, P3: Ledger, D: Ledger> {
     locked: Mutex<Locked<P0, P1, P2, P3, D>>,

@@ -61,10 +61,10 @@ impl<P, K: Keep, G: Gate> Worker<P, K, G> {
     /// All but the first two stop the line. Answers how it ended, and gives port and store back.
     ///
     /// A turn waits until something is due, and acts on it at most once. Where that is the outcome of a commit, the
-    /// store is read and commits the record, between BeforeCommit and AfterCommit, and the controller is told: Committed
-    /// where the store answered Ok; else CommitFailed, also where the store did not answer its records, the record does
-    /// not fit them, or the run began with the commit due, so that its record is not known. Where the bus lapsed
-    /// meanwhile (NotDue), the turn ends.
+    /// store is read and commits the record, between BeforeCommit and AfterCommit, and the controller is told:
+    /// Committed where the store answered Ok; else CommitFailed, also where the store did not answer its records, the
+    /// record does not fit them, or the run began with the commit due, so that its record is not known. Where the bus
+    /// lapsed meanwhile (NotDue), the turn ends.
     #[tactic(auto, using(crate::proofs::Leaving::leaves_none, crate::proofs::Leaving::leaves_more))]
     pub fn run<B: Bus<Port = P>, R: Wait>(
         self,

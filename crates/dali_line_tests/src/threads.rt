@@ -255,13 +255,14 @@ fn works_if<B: Bus, R: Wait>(
 /// Four of a thing, of which some may be missing.
 type Four<T> = (Option<T>, Option<T>, Option<T>, Option<T>);
 
-/// Up to four workers and a pumper run, each in a thread of its own.
+/// Up to four workers and a pumper run, each in a thread of its own. The bus may be stopped while the workers run.
 fn all_run<B, R>(
     rt: &R,
     alloc: Global,
     bus: &B,
     workers: Four<Worker<B::Port, MemoryKeep, OpenGate>>,
     pumper: Pumper<B::Driver, OpenGate>,
+    stops: bool,
 ) -> (Four<Left<B::Port>>, (B::Driver, Option<Refusal>))
 where
     B: Bus + Sync,
@@ -287,7 +288,12 @@ where
                     join(
                         rt,
                         move || works_if(rt, alloc, bus, fourth),
-                        move || pumper.run(rt, bus, TURNS),
+                        move || {
+                            if stops {
+                                bus.stop(rt);
+                            }
+                            pumper.run(rt, bus, TURNS)
+                        },
                     )
                 },
             )
@@ -333,12 +339,22 @@ fn is_logged<T, R: Abort>(rt: &R, log: &[Event], name: u8, listed: &Listed<T>) {
     assert!(rt; rest.next().is_none());
 }
 
-/// What a worker left, if there was one: it ended, and its list is what the log has of its controller.
-fn left_its_list<P, R: Abort>(rt: &R, log: &[Event], name: u8, left: &Option<Left<Listed<P>>>) {
+/// What a worker left, if there was one: it ended, or was stopped, and its list is what the log has of its controller.
+fn left_its_list<P, R: Abort>(
+    rt: &R,
+    log: &[Event],
+    name: u8,
+    left: &Option<Left<Listed<P>>>,
+    stops: bool,
+) {
     let Some((outcome, port, _)) = left else {
         return;
     };
-    assert!(rt; matches!(outcome, Outcome::Ended(_)));
+    match outcome {
+        Outcome::Ended(_) => {}
+        Outcome::Stopped => assert!(rt; stops),
+        _ => assert!(rt; false),
+    }
     is_logged(rt, log, name, port);
 }
 
@@ -360,6 +376,7 @@ fn lists_are_logged<P0, P1, P2, P3, D, R>(
     site: SiteState,
     blanks: Blanks,
     keeps: Four<MemoryKeep>,
+    stops: bool,
 )
 where
     P0: Ledger + Send + Sync,
@@ -388,7 +405,7 @@ where
     );
     let pumper = Pumper::new(listed(alloc, driver), OpenGate);
     let bus = ListedBus { bus: &line };
-    let (left, pumped) = all_run(rt, alloc, &bus, workers, pumper);
+    let (left, pumped) = all_run(rt, alloc, &bus, workers, pumper, stops);
     let Listed {
         inner,
         list,
@@ -401,14 +418,17 @@ where
         is_whole,
     };
     is_logged(rt, site.log(), 255, &drove);
-    left_its_list(rt, site.log(), 0, &left.0);
-    left_its_list(rt, site.log(), 1, &left.1);
-    left_its_list(rt, site.log(), 2, &left.2);
-    left_its_list(rt, site.log(), 3, &left.3);
+    left_its_list(rt, site.log(), 0, &left.0, stops);
+    left_its_list(rt, site.log(), 1, &left.1, stops);
+    left_its_list(rt, site.log(), 2, &left.2, stops);
+    left_its_list(rt, site.log(), 3, &left.3, stops);
 }
 
 /// What the holders of the ports and of the driver asked and were answered is what the log has in each name.
-fn ports_list<R: Threads + Wait + Abort + Sync + AllocGlobal>(rt: &R) -> Result<(), Fail> {
+fn ports_list<R: Threads + Wait + Abort + Sync + AllocGlobal>(
+    rt: &R,
+    stops: bool,
+) -> Result<(), Fail> {
     let alloc = rt.alloc();
     let keeps = (
         Some(store_of(alloc, (0, 1))?),
@@ -418,80 +438,16 @@ fn ports_list<R: Threads + Wait + Abort + Sync + AllocGlobal>(rt: &R) -> Result<
     );
     let site = site_with(alloc, 8, &[(0, 1), (2, 3), (4, 5), (6, 7)])?;
     let blanks = blanks();
-    lists_are_logged::<Brand, Brand, Brand, Brand, Brand, R>(rt, alloc, site, blanks, keeps);
+    lists_are_logged::<Brand, Brand, Brand, Brand, Brand, R>(rt, alloc, site, blanks, keeps, stops);
     Ok(())
 }
 
 #[test]
 fn port_lists(rt: HostRuntime) -> Result<(), Fail> {
-    ports_list(&rt)
-}
-
-/// What a run that was stopped from outside left: it ended by itself, or by the stop.
-fn was_stopped<P, R: Abort>(rt: &R, left: &Option<Left<P>>) {
-    if let Some((outcome, _, _)) = left {
-        assert!(rt; matches!(outcome, Outcome::Stopped | Outcome::Ended(_)));
-    }
-}
-
-fn stops_all<P0, P1, P2, P3, D, R>(
-    rt: &R,
-    alloc: Global,
-    site: SiteState,
-    blanks: Blanks,
-    keeps: (MemoryKeep, MemoryKeep),
-)
-where
-    P0: Ledger + Send + Sync,
-    P1: Ledger + Send + Sync,
-    P2: Ledger + Send + Sync,
-    P3: Ledger + Send + Sync,
-    D: Ledger + Send + Sync,
-    R: Threads + Wait + Abort + Sync,
-    requires first { (blanks.0.name ≡ P0.name) × (blanks.0.parts ≡ P0.parts) × (0 < P0.parts) }
-    requires second { (blanks.1.name ≡ P1.name) × (blanks.1.parts ≡ P1.parts) × (0 < P1.parts) }
-    requires third { (blanks.2.name ≡ P2.name) × (blanks.2.parts ≡ P2.parts) × (0 < P2.parts) }
-    requires fourth { (blanks.3.name ≡ P3.name) × (blanks.3.parts ≡ P3.parts) × (0 < P3.parts) }
-    requires driver { (blanks.4.name ≡ D.name) × (blanks.4.parts ≡ D.parts) × (0 < D.parts) }
-{
-    let (first, second, third, fourth, driver) = blanks;
-    let (line, mut ports, driver) = Line::<P0, P1, P2, P3, D>::new(
-        site, first, second, third, fourth, driver,
-    );
-    let other = ports.pop().unwrap_or_default();
-    let one = ports.pop().unwrap_or_default();
-    // Nobody acts for the second controller, so the pumper would wait for it.
-    let workers = (
-        Some(Worker::new(one, keeps.0, OpenGate)),
-        Some(Worker::new(Port::default(), keeps.1, OpenGate)),
-        None,
-        None,
-    );
-    let pumper = Pumper::new(driver, OpenGate);
-    let bus = &line;
-    let ((left, pumped), ()) = join(
-        rt,
-        move || all_run(rt, alloc, bus, workers, pumper),
-        move || bus.stop(rt),
-    );
-    was_stopped(rt, &left.0);
-    was_stopped(rt, &left.1);
-    same(rt, &pumped.1, &None);
-    drop(other);
-    line.close(ports, pumped.0).is_safe();
-}
-
-/// A stop ends all runs, whatever they wait for.
-fn stop_all<R: Threads + Wait + Abort + Sync + AllocGlobal>(rt: &R) -> Result<(), Fail> {
-    let alloc = rt.alloc();
-    let keeps = (store_of(alloc, (0, 3))?, store_of(alloc, (4, 7))?);
-    let site = site_with(alloc, 2, &[(0, 3), (4, 7)])?;
-    let blanks = blanks();
-    stops_all::<Brand, Brand, Brand, Brand, Brand, R>(rt, alloc, site, blanks, keeps);
-    Ok(())
+    ports_list(&rt, false)
 }
 
 #[test]
 fn a_stop_from_outside_ends_all(rt: HostRuntime) -> Result<(), Fail> {
-    stop_all(&rt)
+    ports_list(&rt, true)
 }
