@@ -27,8 +27,8 @@ fn add(numbers: &mut IndexSet<u32>, word: u32, most: usize) -> Result<(), AllocE
 }
 
 /// At most so many numbers, pairwise different and below `FFFFFF`, in the order in which they were drawn: the low 24
-/// bits of each word that PCG32 gives from this seed, until there are so many, or until so many words and 64 were used
-/// four times over.
+/// bits of each word that PCG32 gives from this seed, until there are so many, or four words for each of them and 64
+/// more were used.
 pub(crate) fn drawn(alloc: Global, seed: u64, most: usize) -> Result<IndexSet<u32>, AllocError>
     requires { most ≤ 512 }
     ensures { IfOk result (λ numbers. AreDrawn most numbers.keys) }
