@@ -102,10 +102,15 @@ fn is_too_large(draws: &[u32]) -> bool
     draws.iter().any(|draw| *draw > 0xFFFFFE)
 }
 
+/// Looks at all of them, also past the first that is the same: so the compiler takes several at a time.
 fn is_among(draw: u32, others: &[u32]) -> bool
     ensures { result ≡ list_any (λ other. draw == other) others.now }
 {
-    others.iter().any(|other| draw == *other)
+    let mut found = false;
+    for other in others {
+        found |= draw == *other;
+    }
+    found
 }
 
 fn some_twice(draws: &[u32]) -> bool

@@ -1,12 +1,14 @@
-use Rattle.std.proofs.Common.{◌≡◌, ℕ, ◌+◌, ◌<◌, ◌≤◌, ◌⊎◌, inl, inr, Bool, true, false, Option, Some, None, List, [], ◌∷◌, ◌++◌, refl, sym, ap, subst, ◌∙◌, arith, length, length-append, map, get_or, nat_eq, Decides, Result, Ok, Err}
+use Rattle.std.proofs.Common.{◌≡◌, ℕ, ◌+◌, ◌<◌, ◌≤◌, ◌⊎◌, inl, inr, Bool, true, false, Option, Some, None, List, [], ◌∷◌, ◌++◌, refl, sym, ap, subst, ◌∙◌, arith, length, length-append, map, get_or, nat_eq, Decides, Result, Ok, Err, ◌≢◌, replicate, drop, set, length-set, get_or-set_same, get_or-set_other}
 use Rattle.std.specs.Prelude.{◌==◌, ◌&&◌, ◌↔◌, MatchOption, OnOk, OnErr, if◌then◌else◌, zero, suc}
 use Rattle.std.specs.Option.{is_some}
+use Rattle.std.proofs.lemmas.Bool.{cases_eq}
 use Rattle.std.proofs.lemmas.Bool.Decides.{nat_tests}
+use Rattle.std.proofs.lemmas.List.{drop_more, at_drop_all, get_or-replicate}
 use Rattle.dali_frame.specs.Random.{MASK24}
 use Rattle.dali_script.specs.declared.block.Block.{Block}
 use Rattle.dali_script.specs.declared.records.Record.{Record}
 use Rattle.dali_script.specs.declared.records.Record.TheVariants.{Reserve, Enrol}
-use Rattle.dali_script.specs.Records.{Kept, IsKept, without_records, Fits, IsFresh, address_of, with_record, Assignment, Has, IsOnce, addresses, randoms, HasAddress, HasRandom, InBlock, IsMap}
+use Rattle.dali_script.specs.Records.{Kept, IsKept, without_records, Fits, IsFresh, address_of, with_record, Assignment, Has, IsOnce, addresses, randoms, HasAddress, HasRandom, InBlock, IsMap, Marks}
 
 -- membership and an append
 pub has_last : {A : Type 0} (xs : List A) (x : A) → Has (xs ++ x ∷ []) x
@@ -193,3 +195,48 @@ kept_more k (Enrol a r) m fits small fresh = record {
   enrolled_drawn = all_more (λ p. p.1) (λ n. n < MASK24) k.enrolled (a, r) m.enrolled_drawn fits;
   within = m.within;
 }
+
+-- THE MARKS OF ADDRESSES, while these pairs are still to be looked at
+pub record Marking (xs rest : List Assignment) (marks : List Bool) : Type 0 where
+  pub all : length marks ≡ 64
+  pub only : (a : ℕ) → a < 64 → get_or marks a false ≡ true → HasAddress xs a
+  pub other : (a : ℕ) → HasAddress xs a → (get_or marks a false ≡ true) ⊎ HasAddress rest a
+
+pub marking_none : (xs : List Assignment) → Marking xs xs (replicate 64 false)
+marking_none xs = record {
+  all = refl;
+  only = λ a small is. let no : false ≡ true = sym (get_or-replicate 64 a false false small) ∙ is in cc;
+  other = λ a h. inr h;
+}
+
+pub marking_more : (xs : List Assignment) (i : ℕ) (p : Assignment) (marks : List Bool) → i < length xs → p ≡ get_or xs i p → p.0 < 64
+    → Marking xs (drop i xs) marks → Marking xs (drop (i + 1) xs) (set marks p.0 true)
+marking_more xs i p marks inside is small m = record {
+  all = length-set marks p.0 true ∙ m.all;
+  only = λ a below marked. only a below (cases_eq a p.0) marked;
+  other = λ a h. other a (cases_eq a p.0) (m.other a h);
+} where
+  there : p.0 < length marks
+  there = rw m.all small
+
+  only : (a : ℕ) → a < 64 → (a ≡ p.0) ⊎ (a ≢ p.0) → get_or (set marks p.0 true) a false ≡ true → HasAddress xs a
+  only a below (inl same) marked = subst (λ b. HasAddress xs b) (sym same) (has_map (λ q. q.0) xs p (subst (λ q. Has xs q) (sym is) (has_at xs i p inside)))
+  only a below (inr not_it) marked = m.only a below (sym (get_or-set_other marks p.0 a true false not_it) ∙ marked)
+
+  other : (a : ℕ) → (a ≡ p.0) ⊎ (a ≢ p.0) → (get_or marks a false ≡ true) ⊎ HasAddress (drop i xs) a
+      → (get_or (set marks p.0 true) a false ≡ true) ⊎ HasAddress (drop (i + 1) xs) a
+  other a (inl same) before = inl (ap (λ b. get_or (set marks p.0 true) b false) same ∙ get_or-set_same marks p.0 true false there)
+  other a (inr not_it) (inl marked) = inl (get_or-set_other marks p.0 a true false not_it ∙ marked)
+  other a (inr not_it) (inr later) = go (subst (λ ys. HasAddress ys a) (drop_more xs i p inside) later) where
+    go : HasAddress (get_or xs i p ∷ drop (i + 1) xs) a → (get_or (set marks p.0 true) a false ≡ true) ⊎ HasAddress (drop (i + 1) xs) a
+    go (inl e) = absurd (not_it (sym e ∙ ap (λ q. q.0) (sym is)))
+    go (inr h) = inr h
+
+pub marking_all : (xs : List Assignment) (i : ℕ) (marks : List Bool) → length xs ≤ i → Marking xs (drop i xs) marks → Marks xs marks
+marking_all xs i marks past m = record {
+  all = m.all;
+  marked = λ a small. (m.only a small, λ h. go a (m.other a h));
+} where
+  go : (a : ℕ) → (get_or marks a false ≡ true) ⊎ HasAddress (drop i xs) a → get_or marks a false ≡ true
+  go a (inl marked) = marked
+  go a (inr h) = absurd (subst (λ ys. HasAddress ys a) (at_drop_all (λ ys. ys) xs i past) h)

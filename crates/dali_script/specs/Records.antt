@@ -1,4 +1,5 @@
-use Rattle.std.specs.Prelude.{◌≡◌, ℕ, ◌<◌, ◌≤◌, ◌⊎◌, List, [], ◌∷◌, ◌++◌, map, length}
+use Rattle.std.specs.Prelude.{◌≡◌, ℕ, ◌<◌, ◌≤◌, ◌⊎◌, ◌↔◌, List, [], ◌∷◌, ◌++◌, map, length}
+use Rattle.std.specs.Prelude.{Bool, true, false, slice_index_or}
 use Rattle.dali_frame.specs.Random.{MASK24}
 use Rattle.dali_script.specs.declared.block.Block.{Block}
 use Rattle.dali_script.specs.declared.records.Record.{Record}
@@ -39,6 +40,11 @@ HasAddress xs a = Has (addresses xs) a
 
 abbrev pub HasRandom : List Assignment → ℕ → Type 0
 HasRandom xs r = Has (randoms xs) r
+
+-- for each of the 64 short addresses, whether a pair has it
+pub record Marks (xs : List Assignment) (marks : List Bool) : Type 0 where
+  pub all : length marks ≡ 64
+  pub marked : (a : ℕ) → a < 64 → (slice_index_or marks a false ≡ true) ↔ HasAddress xs a
 
 -- the short address lies in the block
 abbrev pub InBlock : Block → ℕ → Type 0

@@ -1,7 +1,7 @@
 ghost use Rattle.std.specs.Prelude.{◌≡◌, ◌↔◌, ◌<◌, ◌≤◌, [], ◌∷◌, ◌++◌, length, IsTrue, IsOk, IfOk, OnOk, OnErr};
 ghost use Rattle.std.specs.Prelude.{MatchOption};
 ghost use Rattle.std.specs.Vec.{vec_capacity};
-ghost use Rattle.dali_script.specs.Records.{Has, HasAddress, HasRandom};
+ghost use Rattle.dali_script.specs.Records.{Has, HasAddress, HasRandom, Marks};
 
 use crate::records::{AddError, MakeError};
 use dali_frame::{Random24, Short};
@@ -91,6 +91,17 @@ impl Assignments {
             }
         }
         None
+    }
+
+    /// For each of the 64 short addresses, whether a pair has it.
+    pub fn marks(&self) -> [bool; 64]
+        ensures { Marks self.now result }
+    {
+        let mut marks = [false; 64];
+        for pair in &self.pairs {
+            marks[pair.0.number() as usize] = true;
+        }
+        marks
     }
 
     /// Whether a pair has the short address.

@@ -175,9 +175,10 @@ impl Kept {
             (IsFull self.now.block self.now.reserved)
             (IsLeastFree self.now.block self.now.reserved) }
     {
+        let taken = self.reserved.marks();
         for number in self.block.first.number()..self.block.last.number() + 1 {
             let address = Short::of(number)?;
-            if !self.reserved.has_address(address) {
+            if !taken[number as usize] {
                 return Some(address);
             }
         }

@@ -101,7 +101,7 @@ impl Command {
 
     /// The command of a frame.
     #[tactic(auto, using(crate::proofs::Table::written_read), unfolding(crate::specs::Command::command_of))]
-    #[inline]
+    #[inline(always)]
     pub fn read(frame: Forward) -> Command
         ensures table { result ≡ command_of frame }
         ensures written { frame_of result ≡ frame }
@@ -116,6 +116,7 @@ impl Command {
     }
 
     /// The special command of a frame, by the table.
+    #[inline(always)]
     fn special(frame: Forward) -> Option<Command>
         ensures { result ≡ row_of frame.address_byte frame.opcode_byte rows }
     {

@@ -1,4 +1,4 @@
-use Rattle.std.proofs.Common.{◌≡◌, ◌<◌, ◌≤◌, length, arith, true, false}
+use Rattle.std.proofs.Common.{◌≡◌, ◌<◌, length, arith, true, false}
 use Rattle.std.specs.Vec.{vec_capacity}
 use Rattle.dali_script.specs.Records.{IsMap, HasAddress, HasRandom}
 use Rattle.dali_script.proofs.Lists.{map_more, room_more}
