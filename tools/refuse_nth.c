@@ -1,18 +1,32 @@
-/* Preloaded before a program, this refuses its Nth allocation, N from the variable REFUSE_NTH, and each later one too
-   where REFUSE_REST is set. It writes how many there were to the file that REFUSE_COUNT names. */
+/* Preloaded before a program, this refuses its Nth allocation, N from the variable REFUSE_NTH, and each later one
+   too where REFUSE_REST is set. It writes how many there were to the file that REFUSE_COUNT names. It refuses the Nth
+   thread, N from REFUSE_THREAD. */
 #define _GNU_SOURCE
 #include <dlfcn.h>
+#include <errno.h>
+#include <pthread.h>
 #include <stdio.h>
 #include <stdlib.h>
 
 static unsigned long calls;
+static unsigned long threads;
 
 static int refused(void) {
     const char *nth = getenv("REFUSE_NTH");
-    calls++;
+    unsigned long call = __atomic_add_fetch(&calls, 1, __ATOMIC_SEQ_CST);
     if (!nth) return 0;
     unsigned long n = strtoul(nth, 0, 10);
-    return calls == n || (getenv("REFUSE_REST") && calls > n);
+    return call == n || (getenv("REFUSE_REST") && call > n);
+}
+
+typedef int make_thread(pthread_t *, const pthread_attr_t *, void *(*)(void *), void *);
+
+int pthread_create(pthread_t *made, const pthread_attr_t *attributes, void *(*begin)(void *), void *argument) {
+    static make_thread *next;
+    const char *nth = getenv("REFUSE_THREAD");
+    if (!next) next = (make_thread *)dlsym(RTLD_NEXT, "pthread_create");
+    if (nth && __atomic_add_fetch(&threads, 1, __ATOMIC_SEQ_CST) == strtoul(nth, 0, 10)) return EAGAIN;
+    return next(made, attributes, begin, argument);
 }
 
 void *malloc(size_t size) {

@@ -392,11 +392,12 @@ where
     requires driver { (blanks.4.name ≡ D.name) × (blanks.4.parts ≡ D.parts) × (0 < D.parts) }
 {
     let (first, second, third, fourth, driver) = blanks;
-    let (line, mut ports, driver) = Line::<P0, P1, P2, P3, D>::new(
+    let (line, ports, driver) = Line::<P0, P1, P2, P3, D>::new(
         site, first, second, third, fourth, driver,
     );
-    let (fourth, third) = (ports.pop(), ports.pop());
-    let (second, first) = (ports.pop(), ports.pop());
+    let mut ports = ports.into_iter();
+    let (first, second) = (ports.next(), ports.next());
+    let (third, fourth) = (ports.next(), ports.next());
     let workers = (
         worker_of(alloc, first, keeps.0),
         worker_of(alloc, second, keeps.1),
@@ -411,7 +412,7 @@ where
         list,
         is_whole,
     } = pumped.0;
-    let site = line.close(ports, inner);
+    let site = line.close(ArrayVec::new(), inner);
     let drove = Listed {
         inner: (),
         list,
@@ -424,19 +425,29 @@ where
     left_its_list(rt, site.log(), 3, &left.3, stops);
 }
 
-/// What the holders of the ports and of the driver asked and were answered is what the log has in each name.
+/// An empty store for the controller of this number, if there is one.
+fn store_at(alloc: Global, blocks: &[(u8, u8)], c: usize) -> Result<Option<MemoryKeep>, Fail> {
+    match blocks.get(c) {
+        Some(bounds) => Ok(Some(store_of(alloc, *bounds)?)),
+        None => Ok(None),
+    }
+}
+
+/// What the holders of the ports and of the driver asked and were answered is what the log has in each name, with a
+/// controller for each block.
 fn ports_list<R: Threads + Wait + Abort + Sync + AllocGlobal>(
     rt: &R,
+    blocks: &[(u8, u8)],
     stops: bool,
 ) -> Result<(), Fail> {
     let alloc = rt.alloc();
     let keeps = (
-        Some(store_of(alloc, (0, 1))?),
-        Some(store_of(alloc, (2, 3))?),
-        Some(store_of(alloc, (4, 5))?),
-        Some(store_of(alloc, (6, 7))?),
+        store_at(alloc, blocks, 0)?,
+        store_at(alloc, blocks, 1)?,
+        store_at(alloc, blocks, 2)?,
+        store_at(alloc, blocks, 3)?,
     );
-    let site = site_with(alloc, 8, &[(0, 1), (2, 3), (4, 5), (6, 7)])?;
+    let site = site_with(alloc, 8, blocks)?;
     let blanks = blanks();
     lists_are_logged::<Brand, Brand, Brand, Brand, Brand, R>(rt, alloc, site, blanks, keeps, stops);
     Ok(())
@@ -444,10 +455,15 @@ fn ports_list<R: Threads + Wait + Abort + Sync + AllocGlobal>(
 
 #[test]
 fn port_lists(rt: HostRuntime) -> Result<(), Fail> {
-    ports_list(&rt, false)
+    ports_list(&rt, &[(0, 1), (2, 3), (4, 5), (6, 7)], false)
+}
+
+#[test]
+fn port_lists_of_two_controllers(rt: HostRuntime) -> Result<(), Fail> {
+    ports_list(&rt, &[(0, 3), (4, 7)], false)
 }
 
 #[test]
 fn a_stop_from_outside_ends_all(rt: HostRuntime) -> Result<(), Fail> {
-    ports_list(&rt, true)
+    ports_list(&rt, &[(0, 1), (2, 3), (4, 5), (6, 7)], true)
 }

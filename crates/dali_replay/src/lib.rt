@@ -16,6 +16,7 @@ mod site_report;
 mod streams;
 mod text;
 
+pub use numbers::block_of;
 pub use replay::{ReplayFault, run_replay};
 pub use streams::{replay_streams, replay_through};
 pub use text::{push_gear, push_table};

@@ -3,15 +3,17 @@ use Rattle.clap.specs.declared.error.kind.ErrorKind.{ErrorKind}
 use Rattle.clap.specs.declared.error.kind.ErrorKind.TheVariants.{DisplayHelp, DisplayVersion}
 use Rattle.clap.specs.declared.error.kind.ErrorKind.TheVariants.{OutOfMemory}
 use Rattle.dali_replay.specs.ReplayFault as replay
+use Rattle.dali_threads.specs.Setup as threads
 use Rattle.dali_sim.specs.declared.failure.Failure.{Failure}
-use Rattle.dali_sim.specs.declared.failure.Failure.TheVariants.{Replay, BadCommandLine, NotText}
-use Rattle.dali_sim.specs.declared.failure.Failure.TheVariants.{Refused}
+use Rattle.dali_sim.specs.declared.failure.Failure.TheVariants.{Replay, Threads}
+use Rattle.dali_sim.specs.declared.failure.Failure.TheVariants.{BadCommandLine, NotText, Refused}
 use Rattle.dali_sim.specs.declared.command_line.Task.{Task}
 use Rattle.dali_sim.specs.declared.command_line.Task.TheVariants.{Help}
 
 -- THE EXIT STATUSES of the program
 abbrev pub status_of : Failure → ℕ
 status_of (Replay fault) = replay.status_of fault
+status_of (Threads fault) = threads.status_of fault
 status_of BadCommandLine = 2
 status_of NotText = 2
 status_of Refused = 3

@@ -4,35 +4,64 @@ ghost use Rattle.std.specs.Prelude.{◌≡◌};
 ghost use Rattle.dali_sim.specs.Failure.{answered};
 
 use crate::failure::Failure;
+use crate::threads_words::{setup, threads};
 use clap::error::ErrorKind;
 use clap::{Command, Error};
+use dali_threads::Setup;
 use std::alloc::{AllocError, Global};
 use std::io::Eprint;
 
 /// What a command line asks for.
-#[derive(Clone, Copy)]
+#[derive(Drop)]
 pub enum Task {
     /// A script is to be played.
     Replay,
-    /// Help, which is printed.
+    /// Controllers are to be run in threads.
+    Threads(Setup),
+    /// Help or the version, which is printed.
     Help,
 }
 
+const REPLAY: &str = "\
+Plays a script of what happens on a bench of gear or on a whole site, and reports what comes of each line.
+
+The script is read from standard input. Its first two lines set up the gear, the controllers and the numbers that gear
+draw; each further line is one event. The reports are written to standard output.";
+
+const AFTER_REPLAY: &str = "\
+Example: dali_sim replay < examples/plain-path.txt
+
+docs/FORMAT.md of the repository has each line, its report and the exit statuses; README.md says where to begin.";
+
+const AFTER_HELP: &str = "\
+Examples:
+  dali_sim replay < examples/plain-path.txt
+  dali_sim threads --gear 8 --seed 1 --turns 100000 0-1 2-3 4-5 6-7
+
+The manual is README.md of the repository, and docs/FORMAT.md for each line that is read or written.";
+
 /// The words that the program knows.
 fn command<'a>(alloc: Global) -> Result<Command<'a>, AllocError> {
-    let replay = Command::new(alloc, "replay").about(
-        "Reads a script of events from standard input and reports each",
-    );
+    let replay = Command::new(alloc, "replay")
+        .about("Reads a script of events from standard input and reports each")
+        .long_about(REPLAY)
+        .after_help(AFTER_REPLAY);
     Command::new(alloc, "dali_sim")
+        .version("0.1.0")
         .about("Short address commissioning of DALI control gear, simulated")
+        .after_help(AFTER_HELP)
         .subcommand_required(true)
-        .subcommand(replay)
+        .subcommand(replay)?
+        .subcommand(threads(alloc)?)
 }
 
-/// Reads the words of a command line, the program's name first: whether they ask for `replay`.
-fn read<'a>(alloc: Global, words: &'a [String]) -> Result<(), Error> {
-    command(alloc)?.try_get_matches_from(words)?;
-    Ok(())
+/// Reads the words of a command line, the program's name first.
+fn read(alloc: Global, words: &[String]) -> Result<Task, Error> {
+    let found = command(alloc)?.try_get_matches_from(words)?;
+    match found.subcommand_matches("threads") {
+        Some(found) => Ok(Task::Threads(setup(alloc, found)?)),
+        None => Ok(Task::Replay),
+    }
 }
 
 /// What a command line comes to that `clap` answered, with its answer printed or not.
@@ -50,7 +79,7 @@ fn answered(kind: ErrorKind, printed: bool) -> Result<Task, Failure>
 /// What the words of a command line ask for. Help is printed, and what is wrong is said on standard error.
 pub fn asked<R: Print + Eprint + AllocGlobal>(rt: &R, words: &[String]) -> Result<Task, Failure> {
     match read(rt.alloc(), words) {
-        Ok(()) => Ok(Task::Replay),
+        Ok(task) => Ok(task),
         Err(error) => answered(error.kind(), error.print(rt).is_ok()),
     }
 }

@@ -5,6 +5,7 @@ ghost use Rattle.std.specs.Process.{exit_status};
 ghost use Rattle.dali_sim.specs.Failure.{status_of, status_after};
 
 use dali_replay::ReplayFault;
+use dali_threads::ThreadsFault;
 use std::fmt;
 use std::process::ExitCode;
 
@@ -13,6 +14,8 @@ use std::process::ExitCode;
 pub enum Failure {
     /// Status 1 or 3: a script was not played to its end.
     Replay(ReplayFault),
+    /// Status 2 or 3: a run of threads did not come to its report.
+    Threads(ThreadsFault),
     /// Status 2: the command line asks for nothing that this program does. `clap` says why.
     BadCommandLine,
     /// Status 2: a word of the command line is not UTF-8.
@@ -26,6 +29,7 @@ impl fmt::Display for Failure {
     fn fmt<W: fmt::Write>(&self, f: &mut fmt::Formatter<W>) -> fmt::Result {
         match self {
             Failure::Replay(fault) => write!(f, "replay: {fault}"),
+            Failure::Threads(fault) => write!(f, "threads: {fault}"),
             Failure::BadCommandLine => f.write_str("error: bad command line"),
             Failure::NotText => f.write_str("error: an argument is not UTF-8"),
             Failure::Refused => {
@@ -42,6 +46,7 @@ impl Failure {
     {
         match self {
             Failure::Replay(fault) => fault.status(),
+            Failure::Threads(fault) => fault.status(),
             Failure::BadCommandLine | Failure::NotText => 2,
             Failure::Refused => 3,
         }

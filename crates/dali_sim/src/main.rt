@@ -1,15 +1,19 @@
 //! `dali_sim replay` reads a script of what happens on a bench of DALI control gear, or on a site with application
-//! controllers, and reports what comes of it.
+//! controllers, and reports what comes of it. `dali_sim threads` runs application controllers in threads of their own,
+//! and reports what became of the gear.
 #![tactic(auto)]
 
 mod command_line;
 mod failure;
 mod program;
+#[cfg(test)]
+mod tests;
+mod threads_words;
 
 use failure::exit_code;
 use program::run_and_say;
 use std::process::ExitCode;
 
 fn main(rt: HostRuntime) -> ExitCode {
-    exit_code(run_and_say(&rt))
+    exit_code(run_and_say(&rt, &rt))
 }

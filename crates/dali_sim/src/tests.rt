@@ -1,0 +1,333 @@
+//! The program, played whole by its command line.
+
+use crate::program::run_and_say;
+use std::alloc::{Alloc, Allocator, Global};
+use std::cell::RefCell;
+use std::env::{Env, FillError};
+use std::fmt::Display;
+use std::io::{BufRead, Eprint, ErrorKind, Lines, Write};
+use std::process::Abort;
+use std::sync::Wait;
+use std::thread::Threads;
+use std::{io, str};
+
+/// A system with a command line and an input, which keeps what is written and what is said beside it. Where its output
+/// is full, that takes nothing.
+#[derive(Drop)]
+struct Desk<'a> {
+    alloc: Global,
+    words: &'a [u8],
+    input: &'a str,
+    is_full: bool,
+    written: RefCell<Vec<u8>>,
+    said: RefCell<Vec<u8>>,
+}
+
+/// One more text at the end of what is kept.
+fn keep<D: Display + Drop>(kept: &RefCell<Vec<u8>>, value: D, end: &str) -> io::Result<()> {
+    match kept.try_borrow_mut() {
+        Ok(mut bytes) => write!(bytes, "{value}{end}"),
+        Err(_) => Err(io::Error::from(ErrorKind::Other)),
+    }
+}
+
+impl Desk<'_> {
+    /// Whether the output takes anything.
+    fn room(&self) -> io::Result<()> {
+        if self.is_full {
+            Err(io::Error::from(ErrorKind::StorageFull))
+        } else {
+            Ok(())
+        }
+    }
+}
+
+impl Alloc for Desk<'_> {
+    type A = Global;
+
+    fn alloc(&self) -> Global {
+        self.alloc
+    }
+}
+
+impl Env for Desk<'_> {
+    fn arg(&self, i: usize, buf: &mut [u8]) -> Result<usize, FillError> {
+        let Some(bytes) = self.words.split(|byte| *byte == b' ').nth(i) else {
+            return Err(FillError::NotPresent);
+        };
+        if buf.len() < bytes.len() {
+            return Err(FillError::TooLong);
+        }
+        buf[..bytes.len()].copy_from_slice(bytes);
+        Ok(bytes.len())
+    }
+
+    fn var(&self, _name: &str, _buf: &mut [u8]) -> Result<usize, FillError> {
+        Err(FillError::NotPresent)
+    }
+
+    fn var_at(&self, _i: usize, _buf: &mut [u8]) -> Result<usize, FillError> {
+        Err(FillError::NotPresent)
+    }
+}
+
+impl<'a> Input for Desk<'a> {
+    type Reader = &'a [u8];
+
+    fn read_line<A: Allocator + Clone>(&self, _buf: &mut String<A>) -> io::Result<usize> {
+        Err(io::Error::from(ErrorKind::Unsupported))
+    }
+
+    fn lines<A: Allocator>(&self, alloc: A) -> Lines<&'a [u8], A> {
+        self.reader().lines(alloc)
+    }
+
+    fn reader(&self) -> &'a [u8] {
+        self.input.as_bytes()
+    }
+}
+
+impl Print for Desk<'_> {
+    fn print<D: Display + Drop>(&self, value: D) -> io::Result<()> {
+        self.room()?;
+        keep(&self.written, value, "")
+    }
+
+    fn println<D: Display + Drop>(&self, value: D) -> io::Result<()> {
+        self.room()?;
+        keep(&self.written, value, "\n")
+    }
+
+    fn write_all(&self, bytes: &[u8]) -> io::Result<()> {
+        self.room()?;
+        match self.written.try_borrow_mut() {
+            Ok(mut written) => written.write_all(bytes),
+            Err(_) => Err(io::Error::from(ErrorKind::Other)),
+        }
+    }
+}
+
+impl Eprint for Desk<'_> {
+    fn eprint<D: Display + Drop>(&self, value: D) -> io::Result<()> {
+        keep(&self.said, value, "")
+    }
+
+    fn eprintln<D: Display + Drop>(&self, value: D) -> io::Result<()> {
+        keep(&self.said, value, "\n")
+    }
+}
+
+/// Whether what is kept has this text, or is empty where the text is.
+fn has(kept: &RefCell<Vec<u8>>, text: &str) -> bool {
+    let Ok(bytes) = kept.try_borrow() else {
+        return false;
+    };
+    match str::from_utf8(bytes.as_slice()) {
+        Ok(kept) => kept.contains(text) && kept.is_empty() == text.is_empty(),
+        Err(_) => false,
+    }
+}
+
+/// What the program is to end with: its status, what it has written and what it has said.
+type End<'a> = (u8, &'a str, &'a str);
+
+/// The program at this desk ends so. Its threads run in the runtime of the test.
+fn ends_at<R: Abort + Threads + Wait + Sync>(rt: &R, desk: &Desk<'_>, end: End<'_>) {
+    let status = match run_and_say(desk, rt) {
+        Ok(()) => 0,
+        Err(failure) => failure.status(),
+    };
+    assert!(rt; status == end.0);
+    assert!(rt; has(&desk.written, end.1));
+    assert!(rt; has(&desk.said, end.2));
+}
+
+/// A system with this command line and this input, and an empty output.
+fn desk<'a>(alloc: Global, words: &'a [u8], input: &'a str) -> Desk<'a> {
+    Desk {
+        alloc,
+        words,
+        input,
+        is_full: false,
+        written: RefCell::new(Vec::new(alloc)),
+        said: RefCell::new(Vec::new(alloc)),
+    }
+}
+
+/// The program with this command line and this input ends so.
+fn ends<R: Abort + AllocGlobal + Threads + Wait + Sync>(
+    rt: &R,
+    words: &[u8],
+    input: &str,
+    end: End<'_>,
+) {
+    ends_at(rt, &desk(rt.alloc(), words, input), end);
+}
+
+/// The program with this command line and this input ends with status 3 where its output takes nothing.
+fn is_refused<R: Abort + AllocGlobal + Threads + Wait + Sync>(
+    rt: &R,
+    words: &[u8],
+    input: &str,
+    said: &str,
+) {
+    let mut desk = desk(rt.alloc(), words, input);
+    desk.is_full = true;
+    ends_at(rt, &desk, (3, "", said));
+}
+
+#[test]
+fn command_lines_are_answered(rt: HostRuntime) {
+    let usage = "Usage: dali_sim <COMMAND>";
+    for (words, said) in [
+        (b"dali_sim".as_slice(), usage),
+        (b"dali_sim play".as_slice(), "'play'"),
+        (b"dali_sim replay now".as_slice(), "'now'"),
+        (
+            b"dali_sim \xFF".as_slice(),
+            "error: an argument is not UTF-8\n",
+        ),
+    ] {
+        ends(&rt, words, "", (2, "", said));
+    }
+    for (words, written) in [
+        (b"dali_sim --help".as_slice(), usage),
+        (b"dali_sim --help".as_slice(), "The manual is README.md"),
+        (b"dali_sim --version".as_slice(), "dali_sim 0.1.0\n"),
+        (
+            b"dali_sim replay --help".as_slice(),
+            "dali_sim replay < examples/plain-path.txt",
+        ),
+        (b"dali_sim threads --help".as_slice(), "addressed K of N"),
+    ] {
+        ends(&rt, words, "", (0, written, ""));
+    }
+}
+
+/// The words of `threads`, of which something is missing or is no number or no block, and what is said of them.
+const BAD: [(&[u8], &str); 14] = [
+    (
+        b"dali_sim threads --seed 1 --turns 9 0-3",
+        "provided:\n  --gear <N>\n",
+    ),
+    (
+        b"dali_sim threads --gear 1 --turns 9 0-3",
+        "provided:\n  --seed <S>\n",
+    ),
+    (
+        b"dali_sim threads --gear 1 --seed 1 0-3",
+        "provided:\n  --turns <T>\n",
+    ),
+    (
+        b"dali_sim threads --gear 1 --seed 1 --turns 9",
+        "provided:\n  <BLOCK>...\n",
+    ),
+    (
+        b"dali_sim threads --gear x --seed 1 --turns 9 0-3",
+        "'x' for '--gear <N>'",
+    ),
+    (b"dali_sim threads --gear -1 --seed 1 --turns 9 0-3", "'-1'"),
+    (
+        b"dali_sim threads --gear 4294967296 --seed 1 --turns 9 0-3",
+        "'4294967296' for '--gear <N>'",
+    ),
+    (
+        b"dali_sim threads --gear 1 --seed 18446744073709551616 --turns 9 0-3",
+        "for '--seed <S>'",
+    ),
+    (
+        b"dali_sim threads --gear 1 --seed 1 --turns 4294967296 0-3",
+        "'4294967296' for '--turns <T>'",
+    ),
+    (
+        b"dali_sim threads --gear 1 --seed 1 --turns 9 3",
+        "'3' for '<BLOCK>...'",
+    ),
+    (
+        b"dali_sim threads --gear 1 --seed 1 --turns 9 0-3-5",
+        "'0-3-5' for '<BLOCK>...'",
+    ),
+    (
+        b"dali_sim threads --gear 1 --seed 1 --turns 9 a-b",
+        "'a-b' for '<BLOCK>...'",
+    ),
+    (
+        b"dali_sim threads --gear 1 --seed 1 --turns 9 0-256",
+        "'0-256' for '<BLOCK>...'",
+    ),
+    (
+        b"dali_sim threads --gear 1 --seed 1 --turns 9 0-1 2-3 4-5 6-7 8-9",
+        "'8-9' for '<BLOCK>...'",
+    ),
+];
+
+#[test]
+fn bad_words_of_threads_are_refused(rt: HostRuntime) {
+    for (words, said) in BAD {
+        ends(&rt, words, "", (2, "", said));
+    }
+}
+
+#[test]
+fn a_refused_plan_of_threads_is_said(rt: HostRuntime) {
+    for (words, said) in [
+        (
+            b"dali_sim threads --gear 0 --seed 1 --turns 9 0-3".as_slice(),
+            "threads: plan refused: GearCount\n",
+        ),
+        (
+            b"dali_sim threads --gear 1 --seed 1 --turns 9 3-0".as_slice(),
+            "threads: plan refused: BlockOrder\n",
+        ),
+        (
+            b"dali_sim threads --gear 1 --seed 1 --turns 9 0-3 3-5".as_slice(),
+            "threads: plan refused: BlockOverlap\n",
+        ),
+    ] {
+        ends(&rt, words, "", (2, "", said));
+    }
+}
+
+#[test]
+fn controllers_run_in_threads(rt: HostRuntime) {
+    let words = b"dali_sim threads --gear 3 --seed 1 --turns 10000 0-63";
+    let report = "controller 0: all-found\ngear 0 on disabled ";
+    ends(&rt, words, "", (0, report, ""));
+    ends(&rt, words, "", (0, "addressed 3 of 3\n", ""));
+}
+
+#[test]
+fn a_script_is_played_and_its_fault_is_said(rt: HostRuntime) {
+    let words = b"dali_sim replay";
+    let script = "bench 1\ndraws\nframe A900\n";
+    ends(&rt, words, script, (0, "A900 silence\n", ""));
+    let bad = "bench 1\ndraws\nframe A900\nframe A1\n";
+    ends(
+        &rt,
+        words,
+        bad,
+        (1, "A900 silence\n", "replay: line 4: bad line\n"),
+    );
+    let refused = "bench 0\ndraws\n";
+    ends(
+        &rt,
+        words,
+        refused,
+        (1, "", "replay: plan refused: GearCount\n"),
+    );
+}
+
+#[test]
+fn a_full_output_is_said(rt: HostRuntime) {
+    let threads = b"dali_sim threads --gear 1 --seed 1 --turns 9 0-3";
+    is_refused(&rt, threads, "", "threads: the output cannot be written\n");
+    let script = "bench 1\ndraws\nframe A900\n";
+    is_refused(
+        &rt,
+        b"dali_sim replay",
+        script,
+        "replay: the output cannot be written\n",
+    );
+    let said = "error: memory, the command line or the output is refused\n";
+    is_refused(&rt, b"dali_sim --help", "", said);
+}

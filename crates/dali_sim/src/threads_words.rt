@@ -1,0 +1,114 @@
+//! The words of `threads`, and what they say is to be run.
+
+use arrayvec::ArrayVec;
+use clap::error::ErrorKind;
+use clap::{Arg, ArgAction, ArgMatches, Command, Error, value_parser};
+use dali_replay::block_of;
+use dali_threads::Setup;
+use std::alloc::{AllocError, Global};
+use std::str::FromStr;
+
+const ABOUT: &str = "Runs controllers in threads of their own, and reports what became of the gear";
+
+const LONG_ABOUT: &str = "\
+Runs application controllers in threads of their own over one bus, and reports what became of the gear.
+
+The gear come from the factory. Each controller searches them and gives them addresses of its block, until it ends or
+has had its turns. Standard input is not read. The report is written when all have ended, a line for
+  controller C: END                        how each controller ended
+  gear G POWER STATE RANDOM SEARCH SHORT   each gear with its short address, or - where it has none
+  table C: A=RANDOM ..                     the gear that each controller enrolled, by address
+  addressed K of N                         how many gear have a short address
+What the threads do when is open, so two runs of one command line may give different addresses.";
+
+const AFTER_HELP: &str = "\
+Example: dali_sim threads --gear 8 --seed 1 --turns 100000 0-1 2-3 4-5 6-7
+
+README.md of the repository shows what it writes, docs/FORMAT.md has each line and the exit statuses.";
+
+/// A required option with a value.
+fn option<'a>(alloc: Global, name: &'a str, value: &'a str) -> Arg<'a> {
+    Arg::new(alloc, name)
+        .long(name)
+        .value_name(value)
+        .required(true)
+        .action(ArgAction::Set)
+}
+
+/// The subcommand `threads`.
+pub fn threads<'a>(alloc: Global) -> Result<Command<'a>, AllocError> {
+    let gear = option(alloc, "gear", "N")
+        .value_parser(value_parser!(u32))
+        .help("How many gear there are, 1 to 128");
+    let seed = option(alloc, "seed", "S")
+        .value_parser(value_parser!(u64))
+        .help("Where the random addresses come from: a seed always gives the same ones");
+    let turns = option(alloc, "turns", "T")
+        .value_parser(value_parser!(u32))
+        .help("How many turns each controller may take, and how many the bus");
+    let blocks = Arg::new(alloc, "blocks")
+        .value_name("BLOCK")
+        .required(true)
+        .num_args(1..)
+        .action(ArgAction::Append)
+        .help("A controller each, 1 to 4: the first and the last address of its block, as 0-15");
+    Command::new(alloc, "threads")
+        .about(ABOUT)
+        .long_about(LONG_ABOUT)
+        .after_help(AFTER_HELP)
+        .arg(gear)?
+        .arg(seed)?
+        .arg(turns)?
+        .arg(blocks)
+}
+
+/// What is wrong with the words of `threads`, with its usage.
+fn fault(alloc: Global, kind: ErrorKind, message: &str) -> Result<Error, AllocError> {
+    threads(alloc)?
+        .bin_name("dali_sim threads")?
+        .error(kind, message)
+}
+
+/// The number that an option has.
+fn number<T: FromStr>(alloc: Global, found: &ArgMatches<'_>, name: &str) -> Result<T, Error>
+where
+    T::Err: Drop,
+{
+    match found.get_one(name) {
+        Some(number) => Ok(number),
+        None => {
+            let message = format!(in alloc; "a number is required for '--{name}'")?;
+            Err(fault(alloc, ErrorKind::MissingRequiredArgument, &message)?)
+        }
+    }
+}
+
+/// The blocks that some words are, spelled as in the line `site` of a script.
+fn blocks(alloc: Global, words: &[&str]) -> Result<ArrayVec<(u8, u8), 4>, Error> {
+    let mut blocks = ArrayVec::new();
+    for word in words {
+        let Some(block) = block_of(word.as_bytes()) else {
+            let message = format!(in alloc;
+                "invalid value '{word}' for '<BLOCK>...': not a block such as 0-15"
+            )?;
+            return Err(fault(alloc, ErrorKind::ValueValidation, &message)?);
+        };
+        if blocks.try_push(block).is_err() {
+            let message = format!(in alloc;
+                "unexpected value '{word}' for '<BLOCK>...' found; no more were expected"
+            )?;
+            return Err(fault(alloc, ErrorKind::TooManyValues, &message)?);
+        }
+    }
+    Ok(blocks)
+}
+
+/// What is to be run.
+pub fn setup(alloc: Global, found: &ArgMatches<'_>) -> Result<Setup, Error> {
+    Ok(Setup {
+        gear: number(alloc, found, "gear")?,
+        seed: number(alloc, found, "seed")?,
+        turns: number(alloc, found, "turns")?,
+        blocks: blocks(alloc, found.get_raw("blocks").unwrap_or_default())?,
+    })
+}
