@@ -1,8 +1,9 @@
-ghost use Rattle.std.specs.Prelude.{◌≡◌, ℕ, ◌<◌, IfOk, IfErr, IfSome, OnOk, MatchOption};
+ghost use Rattle.std.specs.Prelude.{◌≡◌, ℕ, ◌<◌, IfOk, IfErr, IfSome, IfNone, OnOk, OnErr};
 ghost use Rattle.std.specs.declared.option.Option.TheVariants.{None, Some};
 ghost use Rattle.std.specs.Vec.{vec_len};
-ghost use Rattle.once_cell.specs.Once.{cell_name, Agrees};
+ghost use Rattle.once_cell.specs.Once.{cell_name};
 ghost use Rattle.dali_enrol.specs.declared.error.DirectoryError.TheVariants.{NoMemory};
+ghost use Rattle.dali_enrol.specs.Directory.{IsOfAddress};
 
 use crate::enrolled::Enrolled;
 use crate::error::DirectoryError;
@@ -59,7 +60,7 @@ impl Model for Pass {
 }
 
 impl Directory {
-    ghost use Rattle.dali_enrol.specs.Directory.{IsNothing};
+    ghost use Rattle.dali_enrol.specs.Directory.{IsNothing, Keeps, known_at};
 
     /// A directory in which nothing stands. It takes all the memory that it will need beside its cards.
     pub fn new(alloc: Global) -> Result<Directory, DirectoryError>
@@ -88,4 +89,104 @@ impl Directory {
         }
         Ok(Pass { notes })
     }
+
+    /// The entry of a short address; `None` where none is there yet. It waits for nobody and takes no memory.
+    ///
+    /// Once a pass got an entry, it gets this same one each time.
+    pub fn look(&self, pass: &mut Pass, address: Short) -> Option<&Enrolled>
+        requires { pass.old.places ≡ self.now }
+        ensures places { pass.new.places ≡ pass.old.places }
+        ensures address { IfSome result (λ e. e.now.short ≡ address) }
+        ensures known { IfSome result (λ e. known_at pass.new address ≡ Some e.now) }
+        ensures kept { Keeps pass.old pass.new }
+        ensures none { IfNone result (known_at pass.old address ≡ None) }
+        ensures unchanged { IfNone result (pass.new ≡ pass.old) }
+    {
+        let at = usize::from(address.number());
+        ask(&self.places[at], &mut pass.notes[at], address)
+    }
+
+    /// Puts an entry at its short address, for good. It waits for nobody and takes no memory.
+    ///
+    /// Where one was put there before, the card is handed back.
+    pub fn post(&self, pass: &mut Pass, card: Box<Enrolled>) -> Result<(), Box<Enrolled>>
+        requires { pass.old.places ≡ self.now }
+        ensures places { pass.new.places ≡ pass.old.places }
+        ensures posted { OnOk result (known_at pass.new card.value.short ≡ Some card.value) }
+        ensures first { OnOk result (known_at pass.old card.value.short ≡ None) }
+        ensures kept { Keeps pass.old pass.new }
+        ensures back { IfErr result (λ back. back.value ≡ card.value) }
+        ensures unchanged { OnErr result (pass.new ≡ pass.old) }
+    {
+        let at = usize::from(card.short().number());
+        offer(&self.places[at], &mut pass.notes[at], card)
+    }
+
+    /// Two passes of one directory that both know an entry of a short address know the same one. It waits for nobody
+    /// and takes no memory.
+    pub fn agree(one: &mut Pass, other: &mut Pass, address: Short)
+        requires { one.old.places ≡ other.old.places }
+        ensures same { IfSome (known_at one.old address) (λ e. IfSome (known_at other.old address) (λ f. e ≡ f)) }
+        ensures one { one.new ≡ one.old }
+        ensures other { other.new ≡ other.old }
+    {
+        let at = usize::from(address.number());
+        compare(&mut one.notes[at], &mut other.notes[at]);
+    }
+}
+
+/// The entry of a short address that stands in a place. An entry of another address is no answer, and is not noted.
+fn ask<'a>(
+    place: &'a OnceBox<Enrolled>,
+    note: &mut Note<Enrolled>,
+    address: Short,
+) -> Option<&'a Enrolled>
+    requires place { note.old.cell ≡ cell_name place.now }
+    requires own { IsOfAddress note.old.known address }
+    ensures place { note.new.cell ≡ note.old.cell }
+    ensures own { IsOfAddress note.new.known address }
+    ensures found { IfSome result (λ e. (e.now.short ≡ address) × (note.new.known ≡ Some e.now)) }
+    ensures kept { IfSome note.old.known (λ e. note.new.known ≡ Some e) }
+    ensures none { IfNone result ((note.old.known ≡ None) × (note.new ≡ note.old)) }
+{
+    let was = note.again();
+    match place.get_as(note) {
+        Some(entry) if entry.short() == address => Some(entry),
+        _ => {
+            *note = was;
+            None
+        }
+    }
+}
+
+/// Puts a card into a place, where nothing stands there.
+fn offer(
+    place: &OnceBox<Enrolled>,
+    note: &mut Note<Enrolled>,
+    card: Box<Enrolled>,
+) -> Result<(), Box<Enrolled>>
+    requires place { note.old.cell ≡ cell_name place.now }
+    requires own { IsOfAddress note.old.known card.value.short }
+    ensures place { note.new.cell ≡ note.old.cell }
+    ensures own { IsOfAddress note.new.known card.value.short }
+    ensures kept { IfSome note.old.known (λ e. note.new.known ≡ Some e) }
+    ensures posted { OnOk result ((note.old.known ≡ None) × (note.new.known ≡ Some card.value)) }
+    ensures back { IfErr result (λ back. (back.value ≡ card.value) × (note.new ≡ note.old)) }
+{
+    let was = note.again();
+    let posted = place.set_as(card, note);
+    if posted.is_err() {
+        *note = was;
+    }
+    posted
+}
+
+/// Two notes of one place that know an entry know the same one.
+fn compare(one: &mut Note<Enrolled>, other: &mut Note<Enrolled>)
+    requires { one.old.cell ≡ other.old.cell }
+    ensures same { IfSome one.old.known (λ e. IfSome other.old.known (λ f. e ≡ f)) }
+    ensures one { one.new ≡ one.old }
+    ensures other { other.new ≡ other.old }
+{
+    one.compare(other.again());
 }
