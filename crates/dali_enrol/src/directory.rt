@@ -1,6 +1,5 @@
-ghost use Rattle.std.specs.Prelude.{◌≡◌, ℕ, ◌<◌, IfOk, IfErr, IfSome, IfNone, OnOk, OnErr};
+ghost use Rattle.std.specs.Prelude.{◌≡◌, IfOk, IfErr, IfSome, IfNone, OnOk, OnErr};
 ghost use Rattle.std.specs.declared.option.Option.TheVariants.{None, Some};
-ghost use Rattle.std.specs.Vec.{vec_len};
 ghost use Rattle.once_cell.specs.Once.{cell_name};
 ghost use Rattle.dali_enrol.specs.declared.error.DirectoryError.TheVariants.{NoMemory};
 ghost use Rattle.dali_enrol.specs.Directory.{IsOfAddress};
@@ -150,6 +149,7 @@ fn ask<'a>(
     ensures none { IfNone result ((note.old.known ≡ None) × (note.new ≡ note.old)) }
 {
     let was = note.again();
+    // Only by its address is it known to be the entry that was asked for: the type of a place does not say it.
     match place.get_as(note) {
         Some(entry) if entry.short() == address => Some(entry),
         _ => {
