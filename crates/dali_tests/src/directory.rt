@@ -4,7 +4,6 @@ ghost use Rattle.std.specs.Prelude.{◌≡◌};
 
 use super::values::{block, random, same, short};
 use dali_enrol::{Directory, Enrolled, Pass, Table};
-use dali_frame::Short;
 use std::alloc::Global;
 use std::process::Abort;
 use std::test::Fail;
@@ -31,70 +30,85 @@ fn card_of(alloc: Global, table: &Table, address: u8) -> Result<Box<Enrolled>, F
     Ok(table.card(alloc, short(address)?)?.ok_or("a card")?)
 }
 
-#[test]
-fn an_entry_has_a_card(rt: HostRuntime) -> Result<(), Fail> {
-    let table = table_of(rt.alloc())?;
-    let card = card_of(rt.alloc(), &table, 5)?;
-    same(&rt, &numbers(&*card), &(5, 0x123456));
-    same(&rt, &table.card(rt.alloc(), short(6)?)?.is_none(), &true);
+fn cards<R: Abort>(rt: &R, alloc: Global, table: &Table) -> Result<(), Fail> {
+    let card = card_of(alloc, table, 5)?;
+    same(rt, &numbers(&*card), &(5, 0x123456));
+    same(rt, &table.card(alloc, short(6)?)?.is_none(), &true);
     Ok(())
 }
 
-/// What a pass sees at an address.
-fn seen(directory: &Directory, pass: &mut Pass, address: Short) -> Option<(u8, u32)>
+#[test]
+fn an_entry_has_a_card(rt: HostRuntime) -> Result<(), Fail> {
+    cards(&rt, rt.alloc(), &table_of(rt.alloc())?)
+}
+
+/// A pass sees this at an address.
+fn sees<R: Abort>(
+    rt: &R,
+    directory: &Directory,
+    pass: &mut Pass,
+    address: u8,
+    wanted: Option<(u8, u32)>,
+) -> Result<(), Fail>
     requires { pass.old.places ≡ directory.now }
     ensures { pass.new.places ≡ pass.old.places }
 {
-    directory.look(pass, address).map(numbers)
+    let found = directory.look(pass, short(address)?).map(numbers);
+    same(rt, &found, &wanted);
+    Ok(())
 }
 
-/// A card is posted; the numbers of the one that comes back.
-fn post(directory: &Directory, pass: &mut Pass, card: Box<Enrolled>) -> Option<(u8, u32)>
+/// A card is posted, and this comes back.
+fn posts<R: Abort>(
+    rt: &R,
+    directory: &Directory,
+    pass: &mut Pass,
+    card: Box<Enrolled>,
+    wanted: Option<(u8, u32)>,
+)
     requires { pass.old.places ≡ directory.now }
     ensures { pass.new.places ≡ pass.old.places }
 {
-    match directory.post(pass, card) {
-        Ok(()) => None,
-        Err(back) => Some(numbers(&*back)),
-    }
+    let back = directory.post(pass, card).err().map(|it| numbers(&*it));
+    same(rt, &back, &wanted);
 }
 
-/// Two passes of one directory; one posts, the other sees it.
+/// Two passes of one directory: one posts, the other sees it.
 fn two_passes<R: Abort>(
     rt: &R,
+    alloc: Global,
+    table: &Table,
     directory: &Directory,
     one: &mut Pass,
     other: &mut Pass,
-    cards: [Box<Enrolled>; 3],
-    five: Short,
-)
+) -> Result<(), Fail>
     requires one { one.old.places ≡ directory.now }
     requires other { other.old.places ≡ directory.now }
 {
-    let [first, second, third] = cards;
-    same(rt, &seen(directory, other, five), &None);
-    same(rt, &post(directory, one, first), &None);
-    same(rt, &seen(directory, other, five), &Some((5, 0x123456)));
-    same(rt, &post(directory, other, second), &Some((5, 0x123456)));
-    same(rt, &post(directory, other, third), &None);
-    same(rt, &seen(directory, other, five), &Some((5, 0x123456)));
-    Directory::agree(one, other, five);
-    same(rt, &seen(directory, one, five), &Some((5, 0x123456)));
+    sees(rt, directory, other, 5, None)?;
+    posts(rt, directory, one, card_of(alloc, table, 5)?, None);
+    sees(rt, directory, other, 5, Some((5, 0x123456)))?;
+    posts(
+        rt,
+        directory,
+        other,
+        card_of(alloc, table, 5)?,
+        Some((5, 0x123456)),
+    );
+    posts(rt, directory, other, card_of(alloc, table, 7)?, None);
+    sees(rt, directory, other, 5, Some((5, 0x123456)))?;
+    Directory::agree(one, other, short(5)?);
+    sees(rt, directory, one, 5, Some((5, 0x123456)))
+}
+
+fn on_a_directory<R: Abort>(rt: &R, alloc: Global, table: &Table) -> Result<(), Fail> {
+    let directory = Directory::new(alloc)?;
+    let mut one = directory.pass(alloc)?;
+    let mut other = directory.pass(alloc)?;
+    two_passes(rt, alloc, table, &directory, &mut one, &mut other)
 }
 
 #[test]
 fn an_entry_is_posted_once_and_seen_by_each_pass(rt: HostRuntime) -> Result<(), Fail> {
-    let alloc = rt.alloc();
-    let five = short(5)?;
-    let table = table_of(alloc)?;
-    let cards = [
-        card_of(alloc, &table, 5)?,
-        card_of(alloc, &table, 5)?,
-        card_of(alloc, &table, 7)?,
-    ];
-    let directory = Directory::new(alloc)?;
-    let mut one = directory.pass(alloc)?;
-    let mut other = directory.pass(alloc)?;
-    two_passes(&rt, &directory, &mut one, &mut other, cards, five);
-    Ok(())
+    on_a_directory(&rt, rt.alloc(), &table_of(rt.alloc())?)
 }
