@@ -1,2 +1,3 @@
+pub mod Directory
 pub mod Refusals
 pub mod Table

@@ -2,6 +2,7 @@ ghost use Rattle.std.specs.Prelude.{◌≡◌, ℕ, ◌≤◌, ◌↔◌, Err, I
 ghost use Rattle.dali_script.specs.Records.{Has, HasAddress, HasRandom, InBlock, IsMap};
 ghost use Rattle.dali_enrol.specs.declared.error.TableError.TheVariants.{AddressTaken, RandomTaken, NoMemory};
 
+use crate::enrolled::Enrolled;
 use crate::error::TableError;
 use dali_frame::{Random24, Short};
 use dali_script::{AddError, Assignments, Block};
@@ -90,6 +91,24 @@ impl Table {
             (λ address. Has self.now.entries (address, random)) }
     {
         self.entries.address_for(random)
+    }
+
+    /// The entry of a short address, to be handed on; `None` where there is none. Only a card takes memory.
+    ///
+    /// `NoMemory` is the only refusal.
+    pub fn card(&self, alloc: Global, address: Short) -> Result<Option<Box<Enrolled>>, TableError>
+        ensures card { IfOk result (λ found. MatchOption found
+            (HasAddress self.now.entries address → ⊥)
+            (λ card. (card.value.short ≡ address) × Has self.now.entries (card.value.short, card.value.random))) }
+        ensures refusal { IfErr result (λ e. e ≡ NoMemory) }
+    {
+        let Some(random) = self.by_address(address) else {
+            return Ok(None);
+        };
+        match Box::new(alloc, Enrolled::of(address, random)) {
+            Ok(card) => Ok(Some(card)),
+            Err(_) => Err(TableError::NoMemory),
+        }
     }
 
     /// Whether a short address lies in the block.

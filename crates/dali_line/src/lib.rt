@@ -31,6 +31,7 @@ mod locked;
 mod outcome;
 mod own;
 mod port;
+mod posting;
 mod pumper;
 mod ready;
 mod tally;

@@ -14,7 +14,7 @@ pub enum Outcome {
     TurnsSpent,
     /// The line was stopped.
     Stopped,
-    /// Its store could not be opened for want of memory.
+    /// There was no memory for its store, or for the card of an enrolment.
     NoMemory,
 }
 

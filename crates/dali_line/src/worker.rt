@@ -3,10 +3,13 @@ ghost use Rattle.dali_script.specs.declared.orders.Input.TheVariants as input;
 ghost use Rattle.dali_script.specs.declared.records.Record.{Record};
 ghost use Rattle.dali_line.specs.Leaves.{Leaves};
 ghost use Rattle.dali_line.specs.Shares.{Follows};
+ghost use Rattle.dali_enrol.specs.Directory.{Keeps};
 
 use crate::bus::Bus;
 use crate::gate::{Gate, Moment};
 use crate::outcome::Outcome;
+use crate::posting::post;
+use dali_enrol::{Directory, Pass};
 use dali_reserve::Keep;
 use dali_script::{Due, Input, Order, Record};
 use dali_world::Refusal;
@@ -64,17 +67,24 @@ impl<P, K: Keep, G: Gate> Worker<P, K, G> {
     /// store is read and commits the record, between BeforeCommit and AfterCommit, and the controller is told:
     /// Committed where the store answered Ok; else CommitFailed, also where the store did not answer its records, the
     /// record does not fit them, or the run began with the commit due, so that its record is not known. Where the bus
-    /// lapsed meanwhile (NotDue), the turn ends.
+    /// lapsed meanwhile (NotDue), the turn ends. An enrolment that the controller was told to be committed is posted in
+    /// the directory; where there is no memory for its card, the run ends with NoMemory. The pass is given back, with
+    /// what the worker has learned.
     #[tactic(auto, using(crate::proofs::Leaving::leaves_none, crate::proofs::Leaving::leaves_more))]
     pub fn run<B: Bus<Port = P>, R: Wait>(
         self,
         rt: &R,
         alloc: Global,
         bus: &B,
+        directory: &Directory,
+        mut pass: Pass,
         turns: u32,
-    ) -> (Outcome, P, K)
+    ) -> (Outcome, P, K, Pass)
+        requires { pass.places ≡ directory.now }
         ensures port { Follows (B.seat self.port) (B.seat result.1) turns }
         ensures keep { Leaves K.is_up K.is_sound K.holds self.keep result.2 }
+        ensures pass { result.3.places ≡ directory.now }
+        ensures known { Keeps pass result.3 }
     {
         let Worker { port, keep, gate } = self;
         let mut shift = Shift {
@@ -85,7 +95,7 @@ impl<P, K: Keep, G: Gate> Worker<P, K, G> {
         };
         let mut outcome = Outcome::TurnsSpent;
         for _ in 0..turns {
-            if let Some(end) = shift.take_turn(rt, alloc, bus) {
+            if let Some(end) = shift.take_turn(rt, alloc, bus, directory, &mut pass) {
                 outcome = end;
                 break;
             }
@@ -100,7 +110,7 @@ impl<P, K: Keep, G: Gate> Worker<P, K, G> {
             ordered: _,
         } = shift;
         drop(gate);
-        (outcome, port, keep)
+        (outcome, port, keep, pass)
     }
 }
 
@@ -179,17 +189,26 @@ impl<P, K: Keep, G: Gate> Shift<P, K, G> {
         rt: &R,
         alloc: Global,
         bus: &B,
+        directory: &Directory,
+        pass: &mut Pass,
     ) -> Option<Outcome>
+        requires { pass.old.places ≡ directory.now }
         ensures keep { Leaves K.is_up K.is_sound K.holds self.old.keep self.new.keep }
         ensures port { Follows (B.seat self.old.port) (B.seat self.new.port) 1 }
+        ensures pass { pass.new.places ≡ pass.old.places }
+        ensures known { Keeps pass.old pass.new }
     {
         if !bus.wait(rt, &mut self.port) {
             return Some(Outcome::Stopped);
         }
+        let ordered = self.ordered;
         let outcome = match self.given(rt, alloc, bus) {
             None => None,
             Some(input) => match bus.act(rt, &mut self.port, input) {
-                Ok(receipt) => self.obey(receipt.order()),
+                Ok(receipt) => match post(alloc, directory, pass, input, &ordered) {
+                    Ok(()) => self.obey(receipt.order()),
+                    Err(_) => Some(Outcome::NoMemory),
+                },
                 Err(Refusal::NotDue) => None,
                 Err(refusal) => Some(Outcome::Refused(refusal)),
             },

@@ -10,6 +10,8 @@ mod arbiter;
 #[cfg(test)]
 mod command;
 #[cfg(test)]
+mod directory;
+#[cfg(test)]
 mod frame;
 #[cfg(test)]
 mod gear;

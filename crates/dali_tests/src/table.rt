@@ -1,7 +1,7 @@
 //! The table of enrolled gear.
 
 use super::values::{are_pairs, block, random, same, short};
-use dali_enrol::{Table, TableError};
+use dali_enrol::{DirectoryError, Table, TableError};
 use std::alloc::Global;
 use std::process::Abort;
 use std::test::Fail;
@@ -117,6 +117,7 @@ fn refusals_have_numbers(rt: HostRuntime) {
         TableError::AddressTaken.number(),
         TableError::RandomTaken.number(),
         TableError::NoMemory.number(),
+        DirectoryError::NoMemory.number(),
     ];
-    same(&rt, &numbers, &[1, 2, 3]);
+    same(&rt, &numbers, &[1, 2, 3, 1]);
 }

@@ -1,3 +1,5 @@
+use Rattle.std.proofs.Common.{◌≡◌}
+use Rattle.dali_enrol.specs.Directory.{Keeps}
 use Rattle.dali_line.specs.Leaves.{Leaves}
 use Rattle.dali_line.specs.Shares.{Follows}
 use Rattle.dali_line.proofs.worker.Worker.run.Given as goal
@@ -6,4 +8,6 @@ abbrev pub invariant-loop : goal.invariant-loop
 invariant-loop g l = record {
   port : Follows (g.B.Bus.seat l.fn.self.port) (g.B.Bus.seat l.shift.port) l.counter;
   keep : Leaves g.K.Keep.is_up g.K.Keep.is_sound g.K.Keep.holds l.fn.self.keep l.shift.keep;
+  pass : l.pass.places ≡ l.directory;
+  known : Keeps l.fn.pass l.pass;
 }

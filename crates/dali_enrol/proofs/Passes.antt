@@ -1,0 +1,55 @@
+-- One place of a list: what stands there, and what a write there leaves of the list's values.
+use Rattle.std.proofs.Common.{◌≡◌, ◌≢◌, ℕ, ◌<◌, List, map, length, get_or, set, sym, ap, ◌∙◌, refl, ⊎_elim, subst}
+use Rattle.std.proofs.lemmas.List.{get_or-map, get_or-set_same, get_or-set_other, map-set, set-get_or, length-map}
+use Rattle.std.proofs.lemmas.Bool.{cases_eq}
+use Rattle.std.specs.declared.option.Option.{Option}
+use Rattle.std.specs.declared.option.Option.TheVariants.{None, Some}
+use Rattle.std.specs.Option.{IfSome}
+use Rattle.dali_enrol.specs.Directory.{Enrolled, IsOfAddress, AtItsAddress}
+
+module _ {A X : Type 0} (f : A → X) (xs : List A) (i : ℕ) (x : A) (within : i < length xs) (here : x ≡ get_or xs i x) where
+  -- what the list of values has where x stands
+  pub value_at : (d : X) → get_or (map f xs) i d ≡ f x
+  value_at d = get_or-map f xs i x d within ∙ ap f (sym here)
+
+  -- a write of the same value leaves the values
+  pub values_set : (y : A) → f y ≡ f x → map f (set xs i y) ≡ map f xs
+  values_set y same =
+      map-set f xs i y ∙ ap (set (map f xs) i) (same ∙ sym (value_at (f x))) ∙ set-get_or (map f xs) i (f x)
+
+-- Where two lists have the same values, so have two that stand at one place.
+pub same_at : {A B X : Type 0} (f : A → X) (g : B → X) (xs : List A) (ys : List B) (i : ℕ) (x : A) (y : B)
+    → map f xs ≡ map g ys → i < length xs → i < length ys → x ≡ get_or xs i x → y ≡ get_or ys i y → f x ≡ g y
+same_at f g xs ys i x y same p q h k =
+    sym (value_at f xs i x p h (f x)) ∙ ap (λ l. get_or l i (f x)) same ∙ value_at g ys i y q k (f x)
+
+itself : {X : Type 0} (o : Option X) → IfSome o (λ e. o ≡ Some e)
+itself None = tt
+itself (Some e) = refl
+
+module _ {A : Type 0} (known : A → Option Enrolled) (xs : List A) (i : ℕ) (y : A) (within : i < length xs) where
+  -- what is known at the place after the write
+  pub known_set : get_or (map known (set xs i y)) i None ≡ known y
+  known_set = ap (λ l. get_or l i None) (map-set known xs i y)
+      ∙ get_or-set_same (map known xs) i (known y) None (subst (λ n. i < n) (sym (length-map xs known)) within)
+
+  -- what is known at another place
+  known_other : (a : ℕ) → a ≢ i → get_or (map known (set xs i y)) a None ≡ get_or (map known xs) a None
+  known_other a other = ap (λ l. get_or l a None) (map-set known xs i y)
+      ∙ get_or-set_other (map known xs) i a (known y) None other
+
+  pub own_set : AtItsAddress (map known xs) → IsOfAddress (known y) i → AtItsAddress (map known (set xs i y))
+  own_set all own a = ⊎_elim
+      (λ (here : a ≡ i). subst (λ k. IsOfAddress (get_or (map known (set xs i y)) k None) k) (sym here)
+      (subst (λ k. IsOfAddress k i) (sym known_set) own))
+      (λ there. subst (λ k. IsOfAddress k a) (sym (known_other a there)) (all a))
+      (cases_eq a i)
+
+  pub kept_set : IfSome (get_or (map known xs) i None) (λ e. known y ≡ Some e)
+      → (a : ℕ) → IfSome (get_or (map known xs) a None) (λ e. get_or (map known (set xs i y)) a None ≡ Some e)
+  kept_set kept a = ⊎_elim
+      (λ (here : a ≡ i). subst (λ k. IfSome (get_or (map known xs) k None) (λ e. get_or (map known (set xs i y)) k None ≡ Some e)) (sym here)
+      (subst (λ k. IfSome (get_or (map known xs) i None) (λ e. k ≡ Some e)) (sym known_set) kept))
+      (λ there. subst (λ k. IfSome (get_or (map known xs) a None) (λ e. k ≡ Some e)) (sym (known_other a there))
+      (itself (get_or (map known xs) a None)))
+      (cases_eq a i)

@@ -1,0 +1,34 @@
+use Rattle.std.specs.Prelude.{◌≡◌, ℕ, List, Option, Some, None, IfSome, slice_index_or}
+
+-- an entry of a table: the short address and the random address of an enrolled gear
+pub record Enrolled : Type 0 where
+  pub short : ℕ
+  pub random : ℕ
+
+abbrev pub entry : ℕ → ℕ → Enrolled
+entry short random = record { short = short; random = random }
+
+-- A pass: the names of the places of the directory that it is of, and for each short address, from 0
+-- on, the entry that it knows to stand there for good.
+pub record Pass : Type 0 where
+  pub places : List ℕ
+  pub known : List (Option Enrolled)
+
+-- the entry that a pass knows at a short address
+abbrev pub known_at : Pass → ℕ → Option Enrolled
+known_at p a = slice_index_or p.known a None
+
+abbrev pub IsNothing : Pass → Type 0
+IsNothing p = (a : ℕ) → known_at p a ≡ None
+
+-- the entry, if there is one, is of this short address
+abbrev pub IsOfAddress : Option Enrolled → ℕ → Type 0
+IsOfAddress o a = IfSome o (λ e. e.short ≡ a)
+
+-- each entry that is known is of the address at which it is known
+abbrev pub AtItsAddress : List (Option Enrolled) → Type 0
+AtItsAddress known = (a : ℕ) → IsOfAddress (slice_index_or known a None) a
+
+-- what was known is known still
+abbrev pub Keeps : Pass → Pass → Type 0
+Keeps old new = (a : ℕ) → IfSome (known_at old a) (λ e. known_at new a ≡ Some e)

@@ -1,0 +1,54 @@
+ghost use Rattle.std.specs.Prelude.{◌≡◌, IfOk, IfErr, IsSomeAnd};
+ghost use Rattle.dali_enrol.specs.declared.error.TableError.TheVariants.{NoMemory};
+ghost use Rattle.dali_enrol.specs.Directory.{Keeps, entry};
+
+use dali_enrol::{Directory, Enrolled, Pass, Table, TableError};
+use dali_frame::{Random24, Short};
+use dali_script::{Block, Input, Record};
+use std::alloc::Global;
+
+/// The card of an enrolment, from a table of its own.
+fn card_of(
+    alloc: Global,
+    address: Short,
+    random: Random24,
+) -> Result<Option<Box<Enrolled>>, TableError>
+    ensures card { IfOk result (λ found. IsSomeAnd found (λ card. card.value ≡ entry address random)) }
+    ensures refusal { IfErr result (λ e. e ≡ NoMemory) }
+{
+    let block = Block {
+        first: address,
+        last: address,
+    };
+    let mut table = Table::new(alloc, block)?;
+    table.enrol(address, random)?;
+    table.card(alloc, address)
+}
+
+/// Posts the record that a controller was told to be committed, if it is an enrolment. Where an entry of that address
+/// was posted before, that one stays.
+pub(crate) fn post(
+    alloc: Global,
+    directory: &Directory,
+    pass: &mut Pass,
+    told: Input,
+    ordered: &Option<Record>,
+) -> Result<(), TableError>
+    requires { pass.old.places ≡ directory.now }
+    ensures places { pass.new.places ≡ pass.old.places }
+    ensures known { Keeps pass.old pass.new }
+    ensures refusal { IfErr result (λ e. e ≡ NoMemory) }
+{
+    if !matches!(told, Input::Committed) {
+        return Ok(());
+    }
+    let Some(Record::Enrol(address, random)) = ordered else {
+        return Ok(());
+    };
+    if let Some(card) = card_of(alloc, *address, *random)? {
+        if let Err(back) = directory.post(pass, card) {
+            drop(back);
+        }
+    }
+    Ok(())
+}
