@@ -7,6 +7,8 @@
 #include <pthread.h>
 #include <stdio.h>
 #include <stdlib.h>
+#include <sys/syscall.h>
+#include <unistd.h>
 
 static unsigned long calls;
 static unsigned long threads;
@@ -60,4 +62,11 @@ __attribute__((destructor)) static void told(void) {
         fprintf(file, "%lu\n", calls);
         fclose(file);
     }
+}
+
+/* A program with threads may end so, and then no destructor runs. */
+void _exit(int status) {
+    told();
+    syscall(SYS_exit_group, status);
+    __builtin_unreachable();
 }

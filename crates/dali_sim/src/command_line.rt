@@ -4,7 +4,7 @@ ghost use Rattle.std.specs.Prelude.{◌≡◌};
 ghost use Rattle.dali_sim.specs.Failure.{answered};
 
 use crate::failure::Failure;
-use crate::threads_words::{setup, threads};
+use crate::threads_words::{setup, threads_command};
 use clap::error::ErrorKind;
 use clap::{Command, Error};
 use dali_threads::Setup;
@@ -52,7 +52,7 @@ fn command<'a>(alloc: Global) -> Result<Command<'a>, AllocError> {
         .after_help(AFTER_HELP)
         .subcommand_required(true)
         .subcommand(replay)?
-        .subcommand(threads(alloc)?)
+        .subcommand(threads_command(alloc, "threads")?)
 }
 
 /// Reads the words of a command line, the program's name first.

@@ -143,7 +143,7 @@ fn ends_at<R: Abort + Threads + Wait + Sync>(rt: &R, desk: &Desk<'_>, end: End<'
 }
 
 /// A system with this command line and this input, and an empty output.
-fn desk<'a>(alloc: Global, words: &'a [u8], input: &'a str) -> Desk<'a> {
+fn empty_desk<'a>(alloc: Global, words: &'a [u8], input: &'a str) -> Desk<'a> {
     Desk {
         alloc,
         words,
@@ -161,7 +161,7 @@ fn ends<R: Abort + AllocGlobal + Threads + Wait + Sync>(
     input: &str,
     end: End<'_>,
 ) {
-    ends_at(rt, &desk(rt.alloc(), words, input), end);
+    ends_at(rt, &empty_desk(rt.alloc(), words, input), end);
 }
 
 /// The program with this command line and this input ends with status 3 where its output takes nothing.
@@ -171,7 +171,7 @@ fn is_refused<R: Abort + AllocGlobal + Threads + Wait + Sync>(
     input: &str,
     said: &str,
 ) {
-    let mut desk = desk(rt.alloc(), words, input);
+    let mut desk = empty_desk(rt.alloc(), words, input);
     desk.is_full = true;
     ends_at(rt, &desk, (3, "", said));
 }

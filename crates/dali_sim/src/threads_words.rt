@@ -35,8 +35,8 @@ fn option<'a>(alloc: Global, name: &'a str, value: &'a str) -> Arg<'a> {
         .action(ArgAction::Set)
 }
 
-/// The subcommand `threads`.
-pub fn threads<'a>(alloc: Global) -> Result<Command<'a>, AllocError> {
+/// The words of `threads`, in a command of this name.
+pub fn threads_command<'a>(alloc: Global, name: &'a str) -> Result<Command<'a>, AllocError> {
     let gear = option(alloc, "gear", "N")
         .value_parser(value_parser!(u32))
         .help("How many gear there are, 1 to 128");
@@ -52,7 +52,7 @@ pub fn threads<'a>(alloc: Global) -> Result<Command<'a>, AllocError> {
         .num_args(1..)
         .action(ArgAction::Append)
         .help("A controller each, 1 to 4: the first and the last address of its block, as 0-15");
-    Command::new(alloc, "threads")
+    Command::new(alloc, name)
         .about(ABOUT)
         .long_about(LONG_ABOUT)
         .after_help(AFTER_HELP)
@@ -64,9 +64,7 @@ pub fn threads<'a>(alloc: Global) -> Result<Command<'a>, AllocError> {
 
 /// What is wrong with the words of `threads`, with its usage.
 fn fault(alloc: Global, kind: ErrorKind, message: &str) -> Result<Error, AllocError> {
-    threads(alloc)?
-        .bin_name("dali_sim threads")?
-        .error(kind, message)
+    threads_command(alloc, "dali_sim threads")?.error(kind, message)
 }
 
 /// The number that an option has.
