@@ -34,7 +34,7 @@ module _ {A : Type 0} (known : A → Option Enrolled) (xs : List A) (i : ℕ) (y
       ∙ get_or-set_same (map known xs) i (known y) None (subst (λ n. i < n) (sym (length-map xs known)) within)
 
   -- what is known at another place
-  known_other : (a : ℕ) → a ≢ i → get_or (map known (set xs i y)) a None ≡ get_or (map known xs) a None
+  pub known_other : (a : ℕ) → a ≢ i → get_or (map known (set xs i y)) a None ≡ get_or (map known xs) a None
   known_other a other = ap (λ l. get_or l a None) (map-set known xs i y)
       ∙ get_or-set_other (map known xs) i a (known y) None other
 

@@ -8,8 +8,8 @@ pub record Enrolled : Type 0 where
 abbrev pub entry : ℕ → ℕ → Enrolled
 entry short random = record { short = short; random = random }
 
--- A pass: the names of the places of the directory that it is of, and for each short address, from 0
--- on, the entry that it knows to stand there for good.
+-- A pass: the names of the places of the directory that it is of, and for each short address, from
+-- 0 on, the entry that it knows to stand there for good.
 pub record Pass : Type 0 where
   pub places : List ℕ
   pub known : List (Option Enrolled)

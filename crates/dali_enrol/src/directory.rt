@@ -1,4 +1,4 @@
-ghost use Rattle.std.specs.Prelude.{◌≡◌, IfOk, IfErr, IfSome, IfNone, OnOk, OnErr};
+ghost use Rattle.std.specs.Prelude.{◌≡◌, ◌≢◌, ℕ, IfOk, IfErr, IfSome, IfNone, OnOk, OnErr};
 ghost use Rattle.std.specs.declared.option.Option.TheVariants.{None, Some};
 ghost use Rattle.once_cell.specs.Once.{cell_name};
 ghost use Rattle.dali_enrol.specs.declared.error.DirectoryError.TheVariants.{NoMemory};
@@ -97,6 +97,7 @@ impl Directory {
         ensures places { pass.new.places ≡ pass.old.places }
         ensures address { IfSome result (λ e. e.now.short ≡ address) }
         ensures known { IfSome result (λ e. known_at pass.new address ≡ Some e.now) }
+        ensures others { (a : ℕ) → a ≢ address → known_at pass.new a ≡ known_at pass.old a }
         ensures kept { Keeps pass.old pass.new }
         ensures none { IfNone result (known_at pass.old address ≡ None) }
         ensures unchanged { IfNone result (pass.new ≡ pass.old) }
@@ -112,6 +113,7 @@ impl Directory {
         requires { pass.old.places ≡ self.now }
         ensures places { pass.new.places ≡ pass.old.places }
         ensures posted { OnOk result (known_at pass.new card.value.short ≡ Some card.value) }
+        ensures others { (a : ℕ) → a ≢ card.value.short → known_at pass.new a ≡ known_at pass.old a }
         ensures first { OnOk result (known_at pass.old card.value.short ≡ None) }
         ensures kept { Keeps pass.old pass.new }
         ensures back { IfErr result (λ back. back.value ≡ card.value) }

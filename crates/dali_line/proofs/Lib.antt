@@ -1,3 +1,4 @@
 pub mod Counts
 pub mod Closing
 pub mod Leaving
+mod Learning

@@ -1,10 +1,11 @@
-ghost use Rattle.std.specs.Prelude.{◌≡◌, IfOk, IfErr, IsSomeAnd};
+ghost use Rattle.std.specs.Prelude.{◌≡◌, [], ◌∷◌, IfOk, IfErr, IfSome, IfNone, IsSomeAnd};
 ghost use Rattle.dali_enrol.specs.declared.error.TableError.TheVariants.{NoMemory};
 ghost use Rattle.dali_enrol.specs.Directory.{Keeps, entry};
+ghost use Rattle.dali_line.specs.Leaves.{Learns};
 
 use dali_enrol::{Directory, Enrolled, Pass, Table, TableError};
 use dali_frame::{Random24, Short};
-use dali_script::{Block, Input, Record};
+use dali_script::{Block, Record};
 use std::alloc::Global;
 
 /// The card of an enrolment, from a table of its own.
@@ -25,24 +26,22 @@ fn card_of(
     table.card(alloc, address)
 }
 
-/// Posts the record that a controller was told to be committed, if it is an enrolment. Where an entry of that address
-/// was posted before, that one stays.
+/// Posts the record that is kept, if it is an enrolment. Where an entry of that address was posted before, that one
+/// stays.
 pub(crate) fn post(
     alloc: Global,
     directory: &Directory,
     pass: &mut Pass,
-    told: Input,
-    ordered: &Option<Record>,
+    kept: &Option<Record>,
 ) -> Result<(), TableError>
     requires { pass.old.places ≡ directory.now }
     ensures places { pass.new.places ≡ pass.old.places }
     ensures known { Keeps pass.old pass.new }
+    ensures learned { IfSome kept.now (λ r. Learns pass.old pass.new (r ∷ [])) }
+    ensures none { IfNone kept.now (pass.new ≡ pass.old) }
     ensures refusal { IfErr result (λ e. e ≡ NoMemory) }
 {
-    if !matches!(told, Input::Committed) {
-        return Ok(());
-    }
-    let Some(Record::Enrol(address, random)) = ordered else {
+    let Some(Record::Enrol(address, random)) = kept else {
         return Ok(());
     };
     if let Some(card) = card_of(alloc, *address, *random)? {

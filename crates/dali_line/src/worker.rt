@@ -1,7 +1,7 @@
-ghost use Rattle.std.specs.Prelude.{◌≡◌, ◌+◌, ◌≤◌, ◌⊎◌, List, [], ◌∷◌, ◌++◌, true, IsSomeAnd};
+ghost use Rattle.std.specs.Prelude.{◌≡◌, ◌+◌, ◌≤◌, ◌⊎◌, List, [], ◌∷◌, ◌++◌, true, None, IsSomeAnd, IfSome};
 ghost use Rattle.dali_script.specs.declared.orders.Input.TheVariants as input;
 ghost use Rattle.dali_script.specs.declared.records.Record.{Record};
-ghost use Rattle.dali_line.specs.Leaves.{Leaves};
+ghost use Rattle.dali_line.specs.Leaves.{Leaves, Posts};
 ghost use Rattle.dali_line.specs.Shares.{Follows};
 ghost use Rattle.dali_enrol.specs.Directory.{Keeps};
 
@@ -70,7 +70,7 @@ impl<P, K: Keep, G: Gate> Worker<P, K, G> {
     /// lapsed meanwhile (NotDue), the turn ends. An enrolment that the controller was told to be committed is posted in
     /// the directory; where there is no memory for its card, the run ends with NoMemory. The pass is given back, with
     /// what the worker has learned.
-    #[tactic(auto, using(crate::proofs::Leaving::leaves_none, crate::proofs::Leaving::leaves_more))]
+    #[tactic(auto, using(crate::proofs::Learning::turns))]
     pub fn run<B: Bus<Port = P>, R: Wait>(
         self,
         rt: &R,
@@ -85,6 +85,7 @@ impl<P, K: Keep, G: Gate> Worker<P, K, G> {
         ensures keep { Leaves K.is_up K.is_sound K.holds self.keep result.2 }
         ensures pass { result.3.places ≡ directory.now }
         ensures known { Keeps pass result.3 }
+        ensures posted { Posts K.is_up K.is_sound K.holds self.keep result.2 pass result.3 }
     {
         let Worker { port, keep, gate } = self;
         let mut shift = Shift {
@@ -92,6 +93,7 @@ impl<P, K: Keep, G: Gate> Worker<P, K, G> {
             keep,
             gate,
             ordered: None,
+            kept: None,
         };
         let mut outcome = Outcome::TurnsSpent;
         for _ in 0..turns {
@@ -108,28 +110,35 @@ impl<P, K: Keep, G: Gate> Worker<P, K, G> {
             keep,
             gate,
             ordered: _,
+            kept: _,
         } = shift;
         drop(gate);
         (outcome, port, keep, pass)
     }
 }
 
-/// A worker in its run: its store, and the record that its controller ordered and that is still to be committed.
+/// A worker in its run: its store, the record that its controller ordered and that is still to be committed, and the
+/// one that was committed in this turn.
 struct Shift<P, K, G> {
     port: P,
     keep: K,
     gate: G,
     ordered: Option<Record>,
+    kept: Option<Record>,
 }
 
 impl<P, K: Keep, G: Gate> Shift<P, K, G> {
     /// What became of the commit that is due: the record that was ordered is committed, if there is one.
     #[tactic(auto, using(crate::proofs::Leaving::leaves_none, crate::proofs::Leaving::leaves_one))]
     fn commit(&mut self, alloc: Global) -> Input
+        requires { self.old.kept ≡ None }
         ensures keep { Leaves K.is_up K.is_sound K.holds self.old.keep self.new.keep }
         ensures told { (result ≡ input.Committed) ⊎ (result ≡ input.CommitFailed) }
         // Committed is told of a record that the store has.
         ensures kept { result ≡ input.Committed → IsSomeAnd self.old.ordered
+            (λ added. K.is_sound self.old.keep → K.is_up self.new.keep → (xs : List Record) → K.holds self.old.keep xs
+            → K.holds self.new.keep (xs ++ added ∷ [])) }
+        ensures stored { IfSome self.new.kept
             (λ added. K.is_sound self.old.keep → K.is_up self.new.keep → (xs : List Record) → K.holds self.old.keep xs
             → K.holds self.new.keep (xs ++ added ∷ [])) }
         ensures port { self.new.port ≡ self.old.port }
@@ -137,6 +146,7 @@ impl<P, K: Keep, G: Gate> Shift<P, K, G> {
         match self.ordered.take() {
             Some(added) => {
                 if try_commit(&mut self.keep, alloc, &added) {
+                    self.kept = Some(added);
                     Input::Committed
                 } else {
                     Input::CommitFailed
@@ -151,8 +161,12 @@ impl<P, K: Keep, G: Gate> Shift<P, K, G> {
     #[tactic(auto, using(crate::proofs::Leaving::leaves_none, crate::proofs::Leaving::leaves_one))]
     fn given<B: Bus<Port = P>, R: Wait>(&mut self, rt: &R, alloc: Global, bus: &B) -> Option<Input>
         ensures keep { Leaves K.is_up K.is_sound K.holds self.old.keep self.new.keep }
+        ensures stored { IfSome self.new.kept
+            (λ added. K.is_sound self.old.keep → K.is_up self.new.keep → (xs : List Record) → K.holds self.old.keep xs
+            → K.holds self.new.keep (xs ++ added ∷ [])) }
         ensures port { B.seat self.new.port ≡ B.seat self.old.port }
     {
+        self.kept = None;
         if let Some(input) = bus.next(rt, &mut self.port) {
             return Some(input);
         }
@@ -197,15 +211,15 @@ impl<P, K: Keep, G: Gate> Shift<P, K, G> {
         ensures port { Follows (B.seat self.old.port) (B.seat self.new.port) 1 }
         ensures pass { pass.new.places ≡ pass.old.places }
         ensures known { Keeps pass.old pass.new }
+        ensures posted { Posts K.is_up K.is_sound K.holds self.old.keep self.new.keep pass.old pass.new }
     {
         if !bus.wait(rt, &mut self.port) {
             return Some(Outcome::Stopped);
         }
-        let ordered = self.ordered;
         let outcome = match self.given(rt, alloc, bus) {
             None => None,
             Some(input) => match bus.act(rt, &mut self.port, input) {
-                Ok(receipt) => match post(alloc, directory, pass, input, &ordered) {
+                Ok(receipt) => match post(alloc, directory, pass, &self.kept) {
                     Ok(()) => self.obey(receipt.order()),
                     Err(_) => Some(Outcome::NoMemory),
                 },

@@ -7,6 +7,8 @@ mod calls;
 #[cfg(test)]
 mod listed;
 #[cfg(test)]
+mod reading;
+#[cfg(test)]
 mod runs;
 #[cfg(test)]
 mod threads;

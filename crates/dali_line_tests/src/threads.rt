@@ -1,10 +1,12 @@
 //! Workers and a pumper, each in a thread of its own.
 
-ghost use Rattle.std.specs.Prelude.{◌≡◌, ◌<◌};
+ghost use Rattle.std.specs.Prelude.{◌≡◌, ◌<◌, IfSome};
 
 use super::listed::{Listed, ListedBus};
+use super::reading::{Reading, has_read, reads, see_table};
 use super::values::{block, same, site_of};
 use arrayvec::ArrayVec;
+use dali_enrol::{Directory, Pass};
 use dali_line::{Bus, Driver, Gate, Line, Moment, OpenGate, Outcome, Port, Pumper, Worker};
 use dali_reserve::{Keep, MemoryKeep};
 use dali_script::{End, Kept};
@@ -12,6 +14,8 @@ use dali_world::{Event, Refusal, SiteState};
 use std::alloc::Global;
 use std::marker::Brand;
 use std::process::Abort;
+use std::sync::atomic::AtomicBool;
+use std::sync::atomic::Ordering::SeqCst;
 use std::sync::ledger::{Blank, Ledger};
 use std::sync::{Mutex, Wait};
 use std::test::Fail;
@@ -83,61 +87,96 @@ impl Gate for &Holding {
     }
 }
 
-/// What a worker leaves: how it ended, its port, and what its store reads.
-type Left<P> = (Outcome, P, Option<Kept>);
+/// What a worker leaves: how it ended, its port, what its store reads, and its pass.
+type Left<P> = (Outcome, P, Option<Kept>, Option<Pass>);
 
-/// A worker runs, and its store is read.
+/// A worker runs with a pass of its own, and its store is read.
 fn works<B: Bus, G: Gate, R: Wait>(
     rt: &R,
     alloc: Global,
     bus: &B,
+    directory: &Directory,
     worker: Worker<B::Port, MemoryKeep, G>,
-) -> Left<B::Port> {
-    let (outcome, port, mut keep) = worker.run(rt, alloc, bus, TURNS);
-    (outcome, port, keep.read(alloc).ok())
+) -> Left<B::Port>
+    ensures { IfSome result.3 (λ p. p.places ≡ directory.now) }
+{
+    match directory.pass(alloc) {
+        Ok(pass) => {
+            let (outcome, port, mut keep, pass) = worker.run(
+                rt, alloc, bus, directory, pass, TURNS,
+            );
+            (outcome, port, keep.read(alloc).ok(), Some(pass))
+        }
+        Err(_) => {
+            bus.stop(rt);
+            (Outcome::NoMemory, worker.port, None, None)
+        }
+    }
 }
 
-/// Two workers and a pumper, of which the second worker begins when the first one's gate has seen it before its first
-/// commit.
-fn two_run<P0, P1, P2, P3, D, R>(
+/// What two workers, a pumper and a reader leave.
+type Run<P, D> = (Left<P>, Left<P>, (D, Option<Refusal>), Option<Reading>);
+
+/// Two workers, a pumper and a reader of the directory. The second worker begins when the first one's gate has seen it
+/// before its first commit; the reader ends when both workers have.
+fn two_run<B, R>(
     rt: &R,
     alloc: Global,
-    line: &Line<P0, P1, P2, P3, D>,
+    bus: &B,
+    directory: &Directory,
     gate: &Holding,
-    ports: (Port<P0, P1, P2, P3, D>, Port<P0, P1, P2, P3, D>),
-    keeps: (MemoryKeep, MemoryKeep),
-    driver: Driver<P0, P1, P2, P3, D>,
-) -> (
-    Left<Port<P0, P1, P2, P3, D>>,
-    Left<Port<P0, P1, P2, P3, D>>,
-    (Driver<P0, P1, P2, P3, D>, Option<Refusal>),
-)
+    workers: (
+        Worker<B::Port, MemoryKeep, &Holding>,
+        Worker<B::Port, MemoryKeep, &Holding>,
+    ),
+    pumper: Pumper<B::Driver, OpenGate>,
+) -> Run<B::Port, B::Driver>
 where
-    P0: Ledger + Send + Sync,
-    P1: Ledger + Send + Sync,
-    P2: Ledger + Send + Sync,
-    P3: Ledger + Send + Sync,
-    D: Ledger + Send + Sync,
+    B: Bus + Sync,
+    B::Port: Send + Drop,
+    B::Driver: Send + Drop,
     R: Threads + Wait + Sync,
+    ensures one { IfSome result.0.3 (λ p. p.places ≡ directory.now) }
+    ensures other { IfSome result.1.3 (λ p. p.places ≡ directory.now) }
+    ensures reader { IfSome result.3 (λ r. r.pass.places ≡ directory.now) }
 {
-    let first = Worker::new(ports.0, keeps.0, gate);
-    let second = Worker::new(ports.1, keeps.1, gate);
-    let pumper = Pumper::new(driver, OpenGate);
-    let (one, (other, pumped)) = join(
+    let (first, second) = workers;
+    let ended = AtomicBool::new(false);
+    let flag = &ended;
+    let ((one, other), (pumped, reading)) = join(
         rt,
-        move || works(rt, alloc, line, first),
-        move || {
+        move || -> (Left<B::Port>, Left<B::Port>)
+            ensures one { IfSome result.0.3 (λ p. p.places ≡ directory.entry.now) }
+            ensures other { IfSome result.1.3 (λ p. p.places ≡ directory.entry.now) }
+        {
+            let both = join(
+                rt,
+                move || -> Left<B::Port>
+                    ensures { IfSome result.3 (λ p. p.places ≡ directory.entry.now) }
+                { works(rt, alloc, bus, directory, first) },
+                move || -> Left<B::Port>
+                    ensures { IfSome result.3 (λ p. p.places ≡ directory.entry.now) }
+                {
+                    gate.await_first(rt);
+                    works(rt, alloc, bus, directory, second)
+                },
+            );
+            flag.store(true, SeqCst);
+            both
+        },
+        move || -> ((B::Driver, Option<Refusal>), Option<Reading>)
+            ensures { IfSome result.1 (λ r. r.pass.places ≡ directory.entry.now) }
+        {
             join(
                 rt,
-                move || {
-                    gate.await_first(rt);
-                    works(rt, alloc, line, second)
-                },
-                move || pumper.run(rt, line, TURNS),
+                move || pumper.run(rt, bus, TURNS),
+                move || -> Option<Reading>
+                    ensures { IfSome result (λ r. r.pass.places ≡ directory.entry.now) }
+                { reads(alloc, directory, flag) },
             )
         },
     );
-    (one, other, pumped)
+    (one, other, pumped, reading)
 }
 
 /// So many gear, and the numbers that they may draw.
@@ -183,12 +222,38 @@ fn has_found<P, R: Abort>(rt: &R, site: &SiteState, c: u8, left: &Left<P>) {
     }
 }
 
+/// What the reader saw stands in a table, and the passes of both workers see all that stands in one.
+fn was_read<R: Abort>(
+    rt: &R,
+    directory: &Directory,
+    site: &SiteState,
+    passes: (Option<Pass>, Option<Pass>),
+    reading: Option<Reading>,
+)
+    requires one { IfSome passes.0 (λ p. p.places ≡ directory.now) }
+    requires other { IfSome passes.1 (λ p. p.places ≡ directory.now) }
+{
+    assert!(rt; site.plan().blocks().len() == 2);
+    let (Some(mut one), Some(mut other), Some(reading)) = (passes.0, passes.1, reading) else {
+        assert!(rt; false);
+        return;
+    };
+    let (Some(first), Some(second)) = (site.table(0), site.table(1)) else {
+        assert!(rt; false);
+        return;
+    };
+    has_read(rt, &reading, first, second);
+    see_table(rt, directory, &mut one, &mut other, first);
+    see_table(rt, directory, &mut one, &mut other, second);
+}
+
 fn commits_apart<P0, P1, P2, P3, D, R>(
     rt: &R,
     alloc: Global,
     site: SiteState,
     blanks: Blanks,
     keeps: (MemoryKeep, MemoryKeep),
+    directory: &Directory,
 )
 where
     P0: Ledger + Send + Sync,
@@ -216,27 +281,46 @@ where
             has_failed: false,
         }),
     };
-    let (one, other, pumped) = two_run(rt, alloc, &line, &gate, (one, other), keeps, driver);
+    let workers = (
+        Worker::new(one, keeps.0, &gate),
+        Worker::new(other, keeps.1, &gate),
+    );
+    let pumper = Pumper::new(driver, OpenGate);
+    let (one, other, pumped, reading) = two_run(
+        rt, alloc, &line, directory, &gate, workers, pumper,
+    );
     assert!(rt; !gate.seen.lock(rt).has_failed);
     same(rt, &pumped.1, &None);
     let site = line.close(ports, pumped.0);
     has_found(rt, &site, 0, &one);
     has_found(rt, &site, 1, &other);
+    was_read(rt, directory, &site, (one.3, other.3), reading);
 }
 
-/// Two controllers are before a commit of their own at the same time.
-fn commit_apart<R: Threads + Wait + Abort + Sync + AllocGlobal>(rt: &R) -> Result<(), Fail> {
+/// Two controllers are before a commit of their own at the same time, and what they post is read meanwhile.
+fn commit_apart<R: Threads + Wait + Abort + Sync + AllocGlobal>(
+    rt: &R,
+    directory: &Directory,
+    gear: u32,
+) -> Result<(), Fail> {
     let alloc = rt.alloc();
     let keeps = (store_of(alloc, (0, 3))?, store_of(alloc, (4, 7))?);
-    let site = site_of(alloc, 2, &[(0, 3), (4, 7)], &[1, 2, 3, 4])?;
+    let site = site_with(alloc, gear, &[(0, 3), (4, 7)])?;
     let blanks = blanks();
-    commits_apart::<Brand, Brand, Brand, Brand, Brand, R>(rt, alloc, site, blanks, keeps);
+    commits_apart::<Brand, Brand, Brand, Brand, Brand, R>(
+        rt, alloc, site, blanks, keeps, directory,
+    );
     Ok(())
 }
 
 #[test]
 fn commit_outside_lock(rt: HostRuntime) -> Result<(), Fail> {
-    commit_apart(&rt)
+    commit_apart(&rt, &Directory::new(rt.alloc())?, 2)
+}
+
+#[test]
+fn look_while_running(rt: HostRuntime) -> Result<(), Fail> {
+    commit_apart(&rt, &Directory::new(rt.alloc())?, 4)
 }
 
 /// A worker runs, if there is one.
@@ -244,10 +328,11 @@ fn works_if<B: Bus, R: Wait>(
     rt: &R,
     alloc: Global,
     bus: &B,
+    directory: &Directory,
     worker: Option<Worker<B::Port, MemoryKeep, OpenGate>>,
 ) -> Option<Left<B::Port>> {
     match worker {
-        Some(worker) => Some(works(rt, alloc, bus, worker)),
+        Some(worker) => Some(works(rt, alloc, bus, directory, worker)),
         None => None,
     }
 }
@@ -260,6 +345,7 @@ fn all_run<B, R>(
     rt: &R,
     alloc: Global,
     bus: &B,
+    directory: &Directory,
     workers: Four<Worker<B::Port, MemoryKeep, OpenGate>>,
     pumper: Pumper<B::Driver, OpenGate>,
     stops: bool,
@@ -276,18 +362,18 @@ where
         move || {
             join(
                 rt,
-                move || works_if(rt, alloc, bus, first),
-                move || works_if(rt, alloc, bus, second),
+                move || works_if(rt, alloc, bus, directory, first),
+                move || works_if(rt, alloc, bus, directory, second),
             )
         },
         move || {
             join(
                 rt,
-                move || works_if(rt, alloc, bus, third),
+                move || works_if(rt, alloc, bus, directory, third),
                 move || {
                     join(
                         rt,
-                        move || works_if(rt, alloc, bus, fourth),
+                        move || works_if(rt, alloc, bus, directory, fourth),
                         move || {
                             if stops {
                                 bus.stop(rt);
@@ -347,7 +433,7 @@ fn left_its_list<P, R: Abort>(
     left: &Option<Left<Listed<P>>>,
     stops: bool,
 ) {
-    let Some((outcome, port, _)) = left else {
+    let Some((outcome, port, _, _)) = left else {
         return;
     };
     match outcome {
@@ -376,6 +462,7 @@ fn lists_are_logged<P0, P1, P2, P3, D, R>(
     site: SiteState,
     blanks: Blanks,
     keeps: Four<MemoryKeep>,
+    directory: &Directory,
     stops: bool,
 )
 where
@@ -406,7 +493,7 @@ where
     );
     let pumper = Pumper::new(listed(alloc, driver), OpenGate);
     let bus = ListedBus { bus: &line };
-    let (left, pumped) = all_run(rt, alloc, &bus, workers, pumper, stops);
+    let (left, pumped) = all_run(rt, alloc, &bus, directory, workers, pumper, stops);
     let Listed {
         inner,
         list,
@@ -438,6 +525,7 @@ fn store_at(alloc: Global, blocks: &[(u8, u8)], c: usize) -> Result<Option<Memor
 fn ports_list<R: Threads + Wait + Abort + Sync + AllocGlobal>(
     rt: &R,
     blocks: &[(u8, u8)],
+    directory: &Directory,
     stops: bool,
 ) -> Result<(), Fail> {
     let alloc = rt.alloc();
@@ -449,21 +537,23 @@ fn ports_list<R: Threads + Wait + Abort + Sync + AllocGlobal>(
     );
     let site = site_with(alloc, 8, blocks)?;
     let blanks = blanks();
-    lists_are_logged::<Brand, Brand, Brand, Brand, Brand, R>(rt, alloc, site, blanks, keeps, stops);
+    lists_are_logged::<Brand, Brand, Brand, Brand, Brand, R>(
+        rt, alloc, site, blanks, keeps, directory, stops,
+    );
     Ok(())
 }
 
 #[test]
 fn port_lists(rt: HostRuntime) -> Result<(), Fail> {
-    ports_list(&rt, &[(0, 1), (2, 3), (4, 5), (6, 7)], false)
+    ports_list(&rt, &[(0, 1), (2, 3), (4, 5), (6, 7)], &Directory::new(rt.alloc())?, false)
 }
 
 #[test]
 fn port_lists_of_two_controllers(rt: HostRuntime) -> Result<(), Fail> {
-    ports_list(&rt, &[(0, 3), (4, 7)], false)
+    ports_list(&rt, &[(0, 3), (4, 7)], &Directory::new(rt.alloc())?, false)
 }
 
 #[test]
 fn a_stop_from_outside_ends_all(rt: HostRuntime) -> Result<(), Fail> {
-    ports_list(&rt, &[(0, 1), (2, 3), (4, 5), (6, 7)], true)
+    ports_list(&rt, &[(0, 1), (2, 3), (4, 5), (6, 7)], &Directory::new(rt.alloc())?, true)
 }

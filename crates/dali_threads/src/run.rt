@@ -60,8 +60,8 @@ struct Left<P0: Ledger, P1: Ledger, P2: Ledger, P3: Ledger, D: Ledger> {
     driver: Driver<P0, P1, P2, P3, D>,
 }
 
-/// A worker runs for each port, and a pumper, until all have ended. The workers share a directory. Where a thread cannot
-/// be made the line is stopped.
+/// A worker runs for each port, and a pumper, until all have ended. The workers share a directory. Where a thread
+/// cannot be made the line is stopped.
 fn all_run<P0, P1, P2, P3, D, R>(
     rt: &R,
     alloc: Global,

@@ -4,7 +4,7 @@ use Rattle.std.specs.Option.{IfSome}
 use Rattle.std.proofs.lemmas.Result.{on_ok_weaker}
 use Rattle.once_cell.specs.Once.{cell_name}
 use Rattle.dali_enrol.specs.Directory.{IsOfAddress, known_at}
-use Rattle.dali_enrol.proofs.Passes.{same_at, value_at, values_set, known_set, own_set, kept_set}
+use Rattle.dali_enrol.proofs.Passes.{same_at, value_at, values_set, known_set, known_other, own_set, kept_set}
 use Rattle.dali_enrol.proofs.directory.Directory.post.Goals as goal
 
 pub offer-requires-clause-place : goal.offer-requires-clause-place
@@ -63,3 +63,12 @@ returns-clause-kept c =
     let here = value_at (λ n. n.known) notes.items i x within c.index_mut.ensures.value None in
     subst (λ p. (a : ℕ) → IfSome (known_at p a) (λ e. get_or (map (λ n. n.known) (set notes.items i y)) a None ≡ Some e)) c.pass.view_is
     (kept_set (λ n. n.known) notes.items i y within (subst (λ o. IfSome o (λ e. y.known ≡ Some e)) (sym here) c.offer.ensures.kept))
+
+pub returns-clause-others : goal.returns-clause-others
+returns-clause-others c a other =
+    let i = c.from-at.result in
+    let notes = c.pass.inside.notes in
+    let y = c.offer.new.note in
+    let within : i < length notes.items = omega (arith, notes.ok.0) in
+    let at : i ≡ c.args.card.value.short = c.from-at.ensures ∙ c.number.ensures.value ∙ c.short.ensures ∙ ap (λ e. e.short) c.deref.ensures in
+    known_other (λ n. n.known) notes.items i y within a (λ here. other (here ∙ at)) ∙ ap (λ p. known_at p a) c.pass.view_is
