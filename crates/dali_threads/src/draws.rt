@@ -11,19 +11,16 @@ use std::alloc::{AllocError, Global};
 /// A random address of 24 bits that no gear may draw, `FFFFFF`.
 const MASK: u32 = 0xFF_FFFF;
 
-/// One number more, unless it is `FFFFFF` or is there already.
-fn add(numbers: &mut IndexSet<u32>, word: u32, most: usize) -> Result<(), AllocError>
+/// One number more, unless it is `FFFFFF` or is there already. Answers whether there are enough now.
+fn add(numbers: &mut IndexSet<u32>, word: u32, most: usize) -> Result<bool, AllocError>
     requires { AreDrawn most numbers.old.keys }
     ensures { OnOk result (AreDrawn most numbers.new.keys) }
 {
     let number = word & MASK;
-    if number == MASK || numbers.len() == most {
-        return Ok(());
+    if number != MASK && numbers.len() < most && numbers.insert(number).is_err() {
+        return Err(AllocError);
     }
-    match numbers.insert(number) {
-        Ok(_) => Ok(()),
-        Err(_) => Err(AllocError),
-    }
+    Ok(numbers.len() == most)
 }
 
 /// At most so many numbers, pairwise different and below `FFFFFF`, in the order in which they were drawn: the low 24
@@ -36,10 +33,9 @@ pub(crate) fn drawn(alloc: Global, seed: u64, most: usize) -> Result<IndexSet<u3
     let mut generator = Pcg32::seed_from_u64(seed);
     let mut numbers = IndexSet::new(alloc);
     for _ in 0..4 * most + 64 {
-        if numbers.len() == most {
+        if add(&mut numbers, generator.next_u32(), most)? {
             break;
         }
-        add(&mut numbers, generator.next_u32(), most)?;
     }
     Ok(numbers)
 }

@@ -1,6 +1,7 @@
 //! A run: a worker for each controller and a pumper, in threads of their own, over one line.
 
-ghost use Rattle.std.specs.Prelude.{◌≡◌, ◌<◌, ◌≤◌, [], None, OnOk, IfSome, IsErrOf, length};
+ghost use Rattle.std.specs.Prelude.{◌≡◌, ◌<◌, ◌≤◌, [], None, Some, OnOk, IfErr, IfSome, IsErrOf, length};
+ghost use Rattle.dali_events.specs.declared.plan.PlanError.{PlanError};
 ghost use Rattle.dali_events.specs.Plan.{refusal_of};
 ghost use Rattle.dali_threads.specs.declared.setup.ThreadsFault.TheVariants.{BadPlan};
 
@@ -182,6 +183,8 @@ fn planned(
     requires { length draws.now ≤ 1024 }
     ensures allowed { OnOk result (refusal_of gear blocks.now draws.now ≡ None) }
     ensures refused { IfSome (refusal_of gear blocks.now draws.now) (λ e. IsErrOf result (BadPlan e)) }
+    ensures cause { IfErr result (λ fault. (e : PlanError) → fault ≡ BadPlan e
+        → refusal_of gear blocks.now draws.now ≡ Some e) }
 {
     match Plan::new(alloc, gear, blocks, draws) {
         Ok(plan) => Ok(plan),
@@ -204,6 +207,8 @@ pub fn run_threads<R: Threads + Wait + Sync, W: Write>(
 ) -> Result<(), ThreadsFault>
     ensures refused { IfSome (refusal_of setup.gear setup.blocks.items [])
         (λ e. IsErrOf result (BadPlan e) × (writer.new ≡ writer.old)) }
+    ensures cause { IfErr result (λ fault. (e : PlanError) → fault ≡ BadPlan e
+        → refusal_of setup.gear setup.blocks.items [] ≡ Some e) }
 {
     match planned(alloc, setup.gear, setup.blocks.as_slice(), &[]) {
         Ok(plan) => run_on(rt, alloc, &plan, &setup, writer),
@@ -218,7 +223,10 @@ fn run_on<R: Threads + Wait + Sync, W: Write>(
     undrawn: &Plan,
     setup: &Setup,
     writer: &mut W,
-) -> Result<(), ThreadsFault> {
+) -> Result<(), ThreadsFault>
+    requires { refusal_of setup.now.gear setup.now.blocks.items [] ≡ None }
+    ensures { IfErr result (λ fault. (e : PlanError) → fault ≡ BadPlan e → ⊥) }
+{
     let most = undrawn.gear() as usize * undrawn.blocks().len();
     let numbers = drawn(alloc, setup.seed, most)?;
     let plan = planned(
