@@ -9,6 +9,7 @@ use crate::draws::drawn;
 use crate::report::report;
 use crate::setup::{Setup, ThreadsFault};
 use arrayvec::ArrayVec;
+use dali_enrol::Directory;
 use dali_line::{Bus, Driver, Line, OpenGate, Outcome, Port, Pumper, Worker};
 use dali_reserve::MemoryKeep;
 use dali_script::Block;
@@ -27,23 +28,24 @@ const LOG_ROOM: usize = 65_536;
 /// How many requests may wait on a site.
 const QUEUE_ROOM: usize = 64;
 
-/// A worker runs over an empty store of its own. Where there is no memory for the store, the line is stopped.
+/// A worker runs over an empty store of its own, with a pass of its own of the directory. Where there is no memory for
+/// the two, the line is stopped.
 fn works<B: Bus, R: Wait>(
     rt: &R,
     alloc: Global,
     bus: &B,
     port: B::Port,
     block: Block,
+    directory: &Directory,
     turns: u32,
 ) -> (Outcome, B::Port) {
-    match MemoryKeep::new(alloc, block) {
-        Ok(keep) => {
-            let (outcome, port, _keep) = Worker::new(port, keep, OpenGate).run(
-                rt, alloc, bus, turns,
-            );
+    match (MemoryKeep::new(alloc, block), directory.pass(alloc)) {
+        (Ok(keep), Ok(pass)) => {
+            let worker = Worker::new(port, keep, OpenGate);
+            let (outcome, port, _keep, _pass) = worker.run(rt, alloc, bus, directory, pass, turns);
             (outcome, port)
         }
-        Err(_) => {
+        _ => {
             bus.stop(rt);
             (Outcome::NoMemory, port)
         }
@@ -59,7 +61,8 @@ struct Left<P0: Ledger, P1: Ledger, P2: Ledger, P3: Ledger, D: Ledger> {
     driver: Driver<P0, P1, P2, P3, D>,
 }
 
-/// A worker runs for each port, and a pumper, until all have ended. Where a thread cannot be made the line is stopped.
+/// A worker runs for each port, and a pumper, until all have ended. The workers share a directory. Where a thread cannot
+/// be made the line is stopped.
 fn all_run<P0, P1, P2, P3, D, R>(
     rt: &R,
     alloc: Global,
@@ -77,6 +80,10 @@ where
     D: Ledger + Send + Sync,
     R: Threads + Wait + Sync,
 {
+    let Ok(directory) = Directory::new(alloc) else {
+        return Err(ThreadsFault::Memory);
+    };
+    let shared = &directory;
     thread::scope(
         thread::scope_env(),
         rt,
@@ -85,7 +92,7 @@ where
             let mut refused = false;
             for (port, block) in ports.into_iter().zip(blocks) {
                 let block = *block;
-                match scope.spawn(move || works(rt, alloc, line, port, block, turns)) {
+                match scope.spawn(move || works(rt, alloc, line, port, block, shared, turns)) {
                     Ok(worker) => {
                         if workers.push(worker).is_err() {
                             refused = true;
