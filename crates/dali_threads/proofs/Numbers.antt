@@ -1,18 +1,16 @@
-use Rattle.std.proofs.Common.{◌≡◌, ◌==◌, ◌<◌, ℕ, Bool, true, false, List, [], ◌∷◌, All, length, nat_eq, nat_lt, refl, sym, ap, ◌∙◌, arith, Option, None, suc, zero}
-use Rattle.std.specs.Prelude.{◌||◌, AllByRecursion}
-use Rattle.std.specs.List.{list_any, IsDistinct}
+use Rattle.std.proofs.Common.{◌≡◌, ◌==◌, ◌<◌, ℕ, false, List, [], ◌∷◌, All, nat_eq, nat_lt, refl, arith, suc}
+use Rattle.std.specs.List.{list_any, AllByRecursion, IsDistinct}
 use Rattle.std.proofs.lemmas.Bool.Decides.{nat_tests}
 use Rattle.dali_frame.specs.Random.{MASK24}
-use Rattle.dali_events.specs.declared.plan.PlanError.{PlanError}
-use Rattle.dali_events.specs.Plan.{any_pair, refusal_of}
-use Rattle.dali_threads.specs.Drawn.{AreDrawn}
+use Rattle.dali_events.specs.Plan.{refusal_of}
+use Rattle.dali_threads.specs.Drawn.{AreDrawn, StandOnce}
 
 -- the numbers of a set stand once
 none_same : (x : ℕ) (xs : List ℕ) → AllByRecursion (λ y. nat_eq x y ≡ false) xs → list_any (λ y. x == y) xs ≡ false
 none_same x [] all = refl
 none_same x (y ∷ ys) all = rw (all.0, none_same x ys all.1) refl
 
-pub stand_once : (xs : List ℕ) → IsDistinct nat_eq xs → any_pair (λ draw other. draw == other) xs ≡ false
+pub stand_once : (xs : List ℕ) → IsDistinct nat_eq xs → StandOnce xs
 unfolding IsDistinct
 stand_once [] distinct = refl
 stand_once (x ∷ xs) distinct = rw (none_same x xs distinct.0, stand_once xs distinct.1) refl
@@ -25,5 +23,5 @@ none_large (x ∷ xs) below =
     rw (small, none_large xs (λ k d inside. below (suc k) d (omega arith))) refl
 
 -- so a plan is refused with them only where it is refused without them
-pub refused_without : (gear : ℕ) (blocks : List (ℕ × ℕ)) (most : ℕ) (numbers : List ℕ) → AreDrawn most numbers → refusal_of gear blocks numbers ≡ refusal_of gear blocks []
-refused_without gear blocks most numbers drawn = rw (none_large numbers drawn.below, drawn.once) refl
+pub refused_without : (gear : ℕ) (blocks : List (ℕ × ℕ)) (most : ℕ) (numbers : List ℕ) → AreDrawn most numbers → StandOnce numbers → refusal_of gear blocks numbers ≡ refusal_of gear blocks []
+refused_without gear blocks most numbers drawn once = rw (none_large numbers drawn.below, once) refl

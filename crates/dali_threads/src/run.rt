@@ -71,7 +71,7 @@ fn all_run<P0, P1, P2, P3, D, R>(
     driver: Driver<P0, P1, P2, P3, D>,
     blocks: &[Block],
     turns: u32,
-) -> Result<Left<P0, P1, P2, P3, D>, ThreadsFault>
+) -> Result<Left<P0, P1, P2, P3, D>, AllocError>
 where
     P0: Ledger + Send + Sync,
     P1: Ledger + Send + Sync,
@@ -81,13 +81,13 @@ where
     R: Threads + Wait + Sync,
 {
     let Ok(directory) = Directory::new(alloc) else {
-        return Err(ThreadsFault::Memory);
+        return Err(AllocError);
     };
     let shared = &directory;
     thread::scope(
         thread::scope_env(),
         rt,
-        move |scope| -> Result<Left<P0, P1, P2, P3, D>, ThreadsFault> {
+        move |scope| -> Result<Left<P0, P1, P2, P3, D>, AllocError> {
             let mut workers = Vec::new(alloc);
             let mut refused = false;
             for (port, block) in ports.into_iter().zip(blocks) {
@@ -115,7 +115,7 @@ where
                 let _ = ports.try_push(port);
             }
             if refused {
-                return Err(ThreadsFault::Memory);
+                return Err(AllocError);
             }
             Ok(Left {
                 outcomes,
@@ -152,7 +152,7 @@ fn commission<P0, P1, P2, P3, D, R>(
     site: SiteState,
     blanks: Blanks,
     turns: u32,
-) -> Result<(Vec<Outcome>, SiteState), ThreadsFault>
+) -> Result<(Vec<Outcome>, SiteState), AllocError>
 where
     P0: Ledger + Send + Sync,
     P1: Ledger + Send + Sync,
@@ -223,6 +223,21 @@ pub fn run_threads<R: Threads + Wait + Sync, W: Write>(
     }
 }
 
+/// A plan of the same gear and blocks as one without numbers, with numbers drawn from the seed.
+fn drawn_plan(alloc: Global, setup: &Setup, undrawn: &Plan) -> Result<Plan, AllocError>
+    requires { refusal_of setup.now.gear setup.now.blocks.items [] ≡ None }
+{
+    let most = undrawn.gear() as usize * undrawn.blocks().len();
+    let numbers = drawn(alloc, setup.seed, most)?;
+    let blocks = setup.blocks.as_slice();
+    match planned(alloc, setup.gear, blocks, numbers.as_slice()) {
+        Ok(plan) => Ok(plan),
+        // None of the numbers is too large, and none stands twice.
+        Err(ThreadsFault::BadPlan(_)) => unreachable!(),
+        Err(ThreadsFault::Memory | ThreadsFault::Write) => Err(AllocError),
+    }
+}
+
 /// As `run_threads`, of a plan of the same gear and blocks in which no numbers are drawn.
 fn run_on<R: Threads + Wait + Sync, W: Write>(
     rt: &R,
@@ -234,14 +249,7 @@ fn run_on<R: Threads + Wait + Sync, W: Write>(
     requires { refusal_of setup.now.gear setup.now.blocks.items [] ≡ None }
     ensures { IfErr result (λ fault. (e : PlanError) → fault ≡ BadPlan e → ⊥) }
 {
-    let most = undrawn.gear() as usize * undrawn.blocks().len();
-    let numbers = drawn(alloc, setup.seed, most)?;
-    let plan = planned(
-        alloc,
-        setup.gear,
-        setup.blocks.as_slice(),
-        numbers.as_slice(),
-    )?;
+    let plan = drawn_plan(alloc, setup, undrawn)?;
     let Ok(site) = SiteState::new(alloc, plan, LOG_ROOM, QUEUE_ROOM) else {
         return Err(ThreadsFault::Memory);
     };
