@@ -1,7 +1,7 @@
 //! The random addresses that the gear of a run may draw.
 
 ghost use Rattle.std.specs.Prelude.{◌≡◌, ◌≤◌, ◌<◌, IfOk, OnOk};
-ghost use Rattle.dali_threads.specs.Drawn.{AreDrawn};
+ghost use Rattle.dali_threads.specs.Drawn.{AreDrawn, StandOnce};
 
 use indexmap::IndexSet;
 use rand_core::{Rng, SeedableRng};
@@ -31,7 +31,8 @@ fn add(numbers: &mut IndexSet<u32>, word: u32, most: usize) -> Result<(), AllocE
 /// more were used.
 pub(crate) fn drawn(alloc: Global, seed: u64, most: usize) -> Result<IndexSet<u32>, AllocError>
     requires { most ≤ 512 }
-    ensures { IfOk result (λ numbers. AreDrawn most numbers.keys) }
+    ensures drawn { IfOk result (λ numbers. AreDrawn most numbers.keys) }
+    ensures once { IfOk result (λ numbers. StandOnce numbers.keys) }
 {
     let mut generator = Pcg32::seed_from_u64(seed);
     let mut numbers = IndexSet::new(alloc);
@@ -41,5 +42,7 @@ pub(crate) fn drawn(alloc: Global, seed: u64, most: usize) -> Result<IndexSet<u3
         }
         add(&mut numbers, generator.next_u32(), most)?;
     }
+    // They are a set, so none stands twice.
+    let _ = numbers.len();
     Ok(numbers)
 }

@@ -1,6 +1,7 @@
 //! A run: a worker for each controller and a pumper, in threads of their own, over one line.
 
-ghost use Rattle.std.specs.Prelude.{◌≡◌, ◌<◌, ◌≤◌, [], None, OnOk, IfSome, IsErrOf, length};
+ghost use Rattle.std.specs.Prelude.{◌≡◌, ◌<◌, ◌≤◌, [], None, Some, OnOk, IfErr, IfSome, IsErrOf, length};
+ghost use Rattle.dali_events.specs.declared.plan.PlanError.{PlanError};
 ghost use Rattle.dali_events.specs.Plan.{refusal_of};
 ghost use Rattle.dali_threads.specs.declared.setup.ThreadsFault.TheVariants.{BadPlan};
 
@@ -70,7 +71,7 @@ fn all_run<P0, P1, P2, P3, D, R>(
     driver: Driver<P0, P1, P2, P3, D>,
     blocks: &[Block],
     turns: u32,
-) -> Result<Left<P0, P1, P2, P3, D>, ThreadsFault>
+) -> Result<Left<P0, P1, P2, P3, D>, AllocError>
 where
     P0: Ledger + Send + Sync,
     P1: Ledger + Send + Sync,
@@ -80,13 +81,13 @@ where
     R: Threads + Wait + Sync,
 {
     let Ok(directory) = Directory::new(alloc) else {
-        return Err(ThreadsFault::Memory);
+        return Err(AllocError);
     };
     let shared = &directory;
     thread::scope(
         thread::scope_env(),
         rt,
-        move |scope| -> Result<Left<P0, P1, P2, P3, D>, ThreadsFault> {
+        move |scope| -> Result<Left<P0, P1, P2, P3, D>, AllocError> {
             let mut workers = Vec::new(alloc);
             let mut refused = false;
             for (port, block) in ports.into_iter().zip(blocks) {
@@ -114,7 +115,7 @@ where
                 let _ = ports.try_push(port);
             }
             if refused {
-                return Err(ThreadsFault::Memory);
+                return Err(AllocError);
             }
             Ok(Left {
                 outcomes,
@@ -151,7 +152,7 @@ fn commission<P0, P1, P2, P3, D, R>(
     site: SiteState,
     blanks: Blanks,
     turns: u32,
-) -> Result<(Vec<Outcome>, SiteState), ThreadsFault>
+) -> Result<(Vec<Outcome>, SiteState), AllocError>
 where
     P0: Ledger + Send + Sync,
     P1: Ledger + Send + Sync,
@@ -189,6 +190,8 @@ fn planned(
     requires { length draws.now ≤ 1024 }
     ensures allowed { OnOk result (refusal_of gear blocks.now draws.now ≡ None) }
     ensures refused { IfSome (refusal_of gear blocks.now draws.now) (λ e. IsErrOf result (BadPlan e)) }
+    ensures cause { IfErr result (λ fault. (e : PlanError) → fault ≡ BadPlan e
+        → refusal_of gear blocks.now draws.now ≡ Some e) }
 {
     match Plan::new(alloc, gear, blocks, draws) {
         Ok(plan) => Ok(plan),
@@ -211,10 +214,27 @@ pub fn run_threads<R: Threads + Wait + Sync, W: Write>(
 ) -> Result<(), ThreadsFault>
     ensures refused { IfSome (refusal_of setup.gear setup.blocks.items [])
         (λ e. IsErrOf result (BadPlan e) × (writer.new ≡ writer.old)) }
+    ensures cause { IfErr result (λ fault. (e : PlanError) → fault ≡ BadPlan e
+        → refusal_of setup.gear setup.blocks.items [] ≡ Some e) }
 {
     match planned(alloc, setup.gear, setup.blocks.as_slice(), &[]) {
         Ok(plan) => run_on(rt, alloc, &plan, &setup, writer),
         Err(fault) => Err(fault),
+    }
+}
+
+/// A plan of the same gear and blocks as one without numbers, with numbers drawn from the seed.
+fn drawn_plan(alloc: Global, setup: &Setup, undrawn: &Plan) -> Result<Plan, AllocError>
+    requires { refusal_of setup.now.gear setup.now.blocks.items [] ≡ None }
+{
+    let most = undrawn.gear() as usize * undrawn.blocks().len();
+    let numbers = drawn(alloc, setup.seed, most)?;
+    let blocks = setup.blocks.as_slice();
+    match planned(alloc, setup.gear, blocks, numbers.as_slice()) {
+        Ok(plan) => Ok(plan),
+        // None of the numbers is too large, and none stands twice.
+        Err(ThreadsFault::BadPlan(_)) => unreachable!(),
+        Err(ThreadsFault::Memory | ThreadsFault::Write) => Err(AllocError),
     }
 }
 
@@ -225,15 +245,11 @@ fn run_on<R: Threads + Wait + Sync, W: Write>(
     undrawn: &Plan,
     setup: &Setup,
     writer: &mut W,
-) -> Result<(), ThreadsFault> {
-    let most = undrawn.gear() as usize * undrawn.blocks().len();
-    let numbers = drawn(alloc, setup.seed, most)?;
-    let plan = planned(
-        alloc,
-        setup.gear,
-        setup.blocks.as_slice(),
-        numbers.as_slice(),
-    )?;
+) -> Result<(), ThreadsFault>
+    requires { refusal_of setup.now.gear setup.now.blocks.items [] ≡ None }
+    ensures { IfErr result (λ fault. (e : PlanError) → fault ≡ BadPlan e → ⊥) }
+{
+    let plan = drawn_plan(alloc, setup, undrawn)?;
     let Ok(site) = SiteState::new(alloc, plan, LOG_ROOM, QUEUE_ROOM) else {
         return Err(ThreadsFault::Memory);
     };
