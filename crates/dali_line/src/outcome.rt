@@ -14,7 +14,7 @@ pub enum Outcome {
     TurnsSpent,
     /// The line was stopped.
     Stopped,
-    /// There was no memory for its store, or for the card of an enrolment.
+    /// There was no memory for its store, its pass, or the card of an enrolment.
     NoMemory,
 }
 
