@@ -545,7 +545,12 @@ fn ports_list<R: Threads + Wait + Abort + Sync + AllocGlobal>(
 
 #[test]
 fn port_lists(rt: HostRuntime) -> Result<(), Fail> {
-    ports_list(&rt, &[(0, 1), (2, 3), (4, 5), (6, 7)], &Directory::new(rt.alloc())?, false)
+    ports_list(
+        &rt,
+        &[(0, 1), (2, 3), (4, 5), (6, 7)],
+        &Directory::new(rt.alloc())?,
+        false,
+    )
 }
 
 #[test]
@@ -555,5 +560,10 @@ fn port_lists_of_two_controllers(rt: HostRuntime) -> Result<(), Fail> {
 
 #[test]
 fn a_stop_from_outside_ends_all(rt: HostRuntime) -> Result<(), Fail> {
-    ports_list(&rt, &[(0, 1), (2, 3), (4, 5), (6, 7)], &Directory::new(rt.alloc())?, true)
+    ports_list(
+        &rt,
+        &[(0, 1), (2, 3), (4, 5), (6, 7)],
+        &Directory::new(rt.alloc())?,
+        true,
+    )
 }
