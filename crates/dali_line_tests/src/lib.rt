@@ -5,6 +5,8 @@
 #[cfg(test)]
 mod calls;
 #[cfg(test)]
+mod failing;
+#[cfg(test)]
 mod listed;
 #[cfg(test)]
 mod reading;

@@ -25,7 +25,7 @@ use std::thread::{Threads, join};
 const LOOKS: u32 = 100_000_000;
 
 /// How many turns a worker and a pumper may take.
-const TURNS: u32 = 100_000;
+pub const TURNS: u32 = 100_000;
 
 /// What a gate has seen.
 #[derive(Drop)]
@@ -88,15 +88,15 @@ impl Gate for &Holding {
 }
 
 /// What a worker leaves: how it ended, its port, what its store reads, and its pass.
-type Left<P> = (Outcome, P, Option<Kept>, Option<Pass>);
+pub type Left<P> = (Outcome, P, Option<Kept>, Option<Pass>);
 
 /// A worker runs with a pass of its own, and its store is read.
-fn works<B: Bus, G: Gate, R: Wait>(
+pub fn works<B: Bus, K: Keep + Drop, G: Gate, R: Wait>(
     rt: &R,
     alloc: Global,
     bus: &B,
     directory: &Directory,
-    worker: Worker<B::Port, MemoryKeep, G>,
+    worker: Worker<B::Port, K, G>,
 ) -> Left<B::Port>
     ensures { IfSome result.3 (λ p. p.places ≡ directory.now) }
 {
@@ -180,7 +180,7 @@ where
 }
 
 /// So many gear, and the numbers that they may draw.
-fn site_with(alloc: Global, gear: u32, blocks: &[(u8, u8)]) -> Result<SiteState, Fail> {
+pub fn site_with(alloc: Global, gear: u32, blocks: &[(u8, u8)]) -> Result<SiteState, Fail> {
     let mut draws = Vec::new(alloc);
     for number in 0..64u32 {
         draws.push(number * 0x010203 + 5)?;
@@ -189,14 +189,14 @@ fn site_with(alloc: Global, gear: u32, blocks: &[(u8, u8)]) -> Result<SiteState,
 }
 
 /// An empty store for a controller with this block.
-fn store_of(alloc: Global, bounds: (u8, u8)) -> Result<MemoryKeep, Fail> {
+pub fn store_of(alloc: Global, bounds: (u8, u8)) -> Result<MemoryKeep, Fail> {
     Ok(MemoryKeep::new(alloc, block(bounds.0, bounds.1)?)?)
 }
 
 /// The right to make the five ledgers of a line.
-type Blanks = (Blank, Blank, Blank, Blank, Blank);
+pub type Blanks = (Blank, Blank, Blank, Blank, Blank);
 
-fn blanks() -> Blanks
+pub fn blanks() -> Blanks
     ensures first { 0 < result.0.parts }
     ensures second { 0 < result.1.parts }
     ensures third { 0 < result.2.parts }
