@@ -1,0 +1,10 @@
+//! Queues for what waits for the bus: a list for each priority, in slots that are taken once and linked by their
+//! numbers.
+#![tactic(auto)]
+
+mod error;
+mod sent;
+mod slots;
+
+pub use error::NewError;
+pub use sent::Sent;
