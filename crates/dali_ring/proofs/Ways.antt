@@ -62,3 +62,88 @@ module _ {X : Type 0} (link link' : ℕ → ℕ) (item item' : ℕ → X) (n : �
       let same : link' a ≡ link a = links a (suc (more xs j)) (p.0, behind) (omega (arith, more_is xs j)) (omega arith) in
       rw same (p.0, items (link a) (more xs j) behind (omega (arith, more_is xs j)) (omega arith) ∙ p.1,
       kept f j t (link a) xs p.2 q (λ i k w l m. links i k w l (omega (arith, m))) (λ i k w l m. items i k w l (omega (arith, m))))
+
+-- the last slot of what is left of a list, where the slot behind b is taken out and this is behind it
+abbrev pub last_left : {X : Type 0} → List X → ℕ → ℕ → ℕ
+last_left [] b t = b
+last_left (y ∷ ys) b t = t
+
+-- The slot behind b leaves the list that ends in e, and becomes the last of the one that ends in g.
+pub record Move {X : Type 0} (link link' : ℕ → ℕ) (item item' : ℕ → X) (n e g t a b c d : ℕ) (us rest vs : List X) (x new : X) : Type 0 where
+  pub le : n ≤ e
+  pub lg : n ≤ g
+  pub other : e ≢ g
+  pub start : Leads link item n b a us
+  pub old : IsList link item n e t a (us ++ x ∷ rest)
+  pub last : IsList link item n g c d vs
+  pub from_b : link' b ≡ link (link b)
+  pub from_at : link' (link b) ≡ g
+  pub from_c : link' c ≡ link b
+  pub item_new : item' (link b) ≡ new
+  pub links : (i : ℕ) → i ≢ b → i ≢ link b → i ≢ c → link' i ≡ link i
+  pub items : (i : ℕ) → i ≢ link b → item' i ≡ item i
+
+module _ {X : Type 0} (link link' : ℕ → ℕ) (item item' : ℕ → X) (n e g t a b c d : ℕ) (us rest vs : List X) (x new : X)
+    (m : Move link link' item item' n e g t a b c d us rest vs x new) where
+  behind : Leads link item n t b (x ∷ rest)
+  behind = parted link item n t b a us (x ∷ rest) m.start m.old.0
+
+  far_at : Far link n e (more rest 0) (link b)
+  far_at = far link item n e 0 t (link b) rest behind.2 m.old.1
+
+  far_b : Far link n e (suc (more rest 0)) b
+  far_b = (behind.0, far_at)
+
+  link_same : (f i k : ℕ) → n ≤ f → Far link n f k i → (f ≡ e → k ≢ more rest 0) → (f ≡ e → k ≢ suc (more rest 0)) → (f ≡ g → k ≢ 0) → link' i ≡ link i
+  link_same f i k lf w at before end = m.links i
+      (λ same. let o = one_way link n f e k (suc (more rest 0)) b lf m.le (subst (λ j. Far link n f k j) same w) far_b in before o.1 o.0)
+      (λ same. let o = one_way link n f e k (more rest 0) (link b) lf m.le (subst (λ j. Far link n f k j) same w) far_at in at o.1 o.0)
+      (λ same. let o = one_way link n f g k 0 c lf m.lg (subst (λ j. Far link n f k j) same w) m.last.1 in end o.1 o.0)
+
+  item_same : (f i k : ℕ) → n ≤ f → Far link n f k i → (f ≡ e → k ≢ more rest 0) → item' i ≡ item i
+  item_same f i k lf w at = m.items i
+      (λ same. let o = one_way link n f e k (more rest 0) (link b) lf m.le (subst (λ j. Far link n f k j) same w) far_at in at o.1 o.0)
+
+  -- every other list stays as it is
+  pub others : (f u h : ℕ) (xs : List X) → n ≤ f → f ≢ e → f ≢ g → IsList link item n f u h xs → IsList link' item' n f u h xs
+  others f u h xs lf fe fg p = (
+      kept link link' item item' n f 0 u h xs p.0 p.1
+      (λ i k w l q. link_same f i k lf w (λ s. absurd (fe s)) (λ s. absurd (fe s)) (λ s. absurd (fg s)))
+      (λ i k w l q. item_same f i k lf w (λ s. absurd (fe s))),
+      link_same f u 0 lf p.1 (λ s. absurd (fe s)) (λ s. absurd (fe s)) (λ s. absurd (fg s)) ∙ p.1)
+
+  -- so does the way to b
+  pub started : Leads link' item' n b a us
+  started = kept link link' item item' n e (suc (more rest 0)) b a us m.start far_b
+      (λ i k w l q. link_same e i k m.le w (λ _ s. absurd (omega (arith, l, s))) (λ _ s. absurd (omega (arith, l, s))) (λ s. absurd (m.other s)))
+      (λ i k w l q. item_same e i k m.le w (λ _ s. absurd (omega (arith, l, s))))
+
+  second : (ys : List X) → Leads link item n t (link b) ys
+      → ((i k : ℕ) → Far link n e k i → k < more ys 0 → (link' i ≡ link i) × (item' i ≡ item i))
+      → IsList link' item' n e (last_left ys b t) b ys
+  second [] p same = (refl, m.from_b ∙ rw p m.old.1)
+  second (y ∷ ys) p same =
+      let next : Far link n e (more ys 0) (link (link b)) = far link item n e 0 t (link (link b)) ys p.2 m.old.1 in
+      let rest : Leads link' item' n t (link (link b)) ys = kept link link' item item' n e 0 t (link (link b)) ys p.2 m.old.1
+      (λ i k w l q. (same i k w (omega (arith, q))).0) (λ i k w l q. (same i k w (omega (arith, q))).1) in
+      (rw m.from_b (p.0, (same (link (link b)) (more ys 0) next (omega arith)).1 ∙ p.1, rest),
+      (same t 0 m.old.1 (omega (arith, more_is ys 0))).0 ∙ m.old.1)
+
+  -- what is left of the list that the slot left
+  pub left : IsList link' item' n e (last_left rest b t) a (us ++ rest)
+  left =
+      let two : IsList link' item' n e (last_left rest b t) b rest = second rest behind.2 (λ i k w l.
+      (link_same e i k m.le w (λ _ s. absurd (omega (arith, l, s))) (λ _ s. absurd (omega (arith, l, s))) (λ s. absurd (m.other s)),
+      item_same e i k m.le w (λ _ s. absurd (omega (arith, l, s))))) in
+      (joined link' item' n (last_left rest b t) b a us rest started two.0, two.1)
+
+  -- what becomes of the one that it is the last of
+  pub grown : IsList link' item' n g (link b) d (vs ++ new ∷ [])
+  grown =
+      let first : Leads link' item' n c d vs = kept link link' item item' n g 0 c d vs m.last.0 m.last.1
+      (λ i k w l q. link_same g i k m.lg w (λ s. absurd (m.other (sym s))) (λ s. absurd (m.other (sym s))) (λ _ s. absurd (omega (arith, l, s))))
+      (λ i k w l q. item_same g i k m.lg w (λ s. absurd (m.other (sym s)))) in
+      (joined link' item' n (link b) c d vs (new ∷ []) first (rw m.from_c (behind.0, m.item_new, refl)), m.from_at)
+
+  pub at_within : link b < n
+  at_within = behind.0
