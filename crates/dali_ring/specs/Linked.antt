@@ -29,3 +29,27 @@ abbrev pub follow : {X : Type 0} → (ℕ → ℕ) → (ℕ → X) → ℕ → �
 follow link item n zero a = []
 follow link item n (suc k) a =
     if nat_lt (link a) n then item (link a) ∷ follow link item n k (link a) else []
+
+-- Six lists of n slots and six beyond them, where the lists begin: list p begins behind slot n + p,
+-- and leads back to it. Each slot below n is in one of them.
+pub record Holds {X : Type 0} (s : List (Slot X)) (n : ℕ) (tails : List ℕ) (ls : List (List (Option X))) : Type 0 where
+  pub six : length ls ≡ 6
+  pub slots : length s ≡ n + 6
+  pub ends : length tails ≡ 6
+  pub lists : (p : ℕ) → p < 6
+      → IsList (link_at s) (item_at s) n (n + p) (slice_index_or tails p 0) (n + p) (slice_index_or ls p [])
+  pub whole : sum_by length ls ≡ n
+
+-- the items of list p
+abbrev pub line : {X : Type 0} → List (Slot X) → ℕ → ℕ → List (Option X)
+line s n p = follow (link_at s) (item_at s) n n (n + p)
+
+-- the items of the six lists
+abbrev pub lines : {X : Type 0} → List (Slot X) → ℕ → List (List (Option X))
+lines s n =
+    line s n 0 ∷ line s n 1 ∷ line s n 2 ∷ line s n 3 ∷ line s n 4 ∷ line s n 5 ∷ []
+
+-- Slot b is the one before item x of list p, which has the items us before x and rest behind it.
+pub record IsBefore {X : Type 0} (s : List (Slot X)) (n p b : ℕ) (us : List (Option X)) (x : Option X) (rest : List (Option X)) : Type 0 where
+  pub items : slice_index_or (lines s n) p [] ≡ us ++ x ∷ rest
+  pub way : Leads (link_at s) (item_at s) n b (n + p) us

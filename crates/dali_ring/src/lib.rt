@@ -3,6 +3,7 @@
 #![tactic(auto)]
 
 mod error;
+mod links;
 mod sent;
 mod slots;
 

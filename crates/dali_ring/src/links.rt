@@ -1,0 +1,69 @@
+ghost use Rattle.std.specs.Prelude.{◌≡◌, ℕ, ◌+◌, ◌<◌, ◌≤◌, List, [], ◌∷◌, ◌++◌, Option, slice_set, slice_index_or, length};
+ghost use Rattle.dali_ring.specs.Linked.{Holds, lines, IsBefore};
+
+use crate::slots::{Slot, Slots};
+
+/// Six lists in slots that are linked by their numbers, of which the last is that of the free slots.
+///
+/// List `p` begins behind slot `capacity + p`, and its last slot leads back there. So each link that is below
+/// `capacity` leads to an item, and a link that is not ends its list.
+#[derive(Drop)]
+pub(crate) struct Links<T> {
+    pub(crate) slots: Slots<T>,
+    /// For each list its last slot, or where it begins, where it is empty.
+    pub(crate) tails: [usize; 6],
+    pub(crate) capacity: usize,
+}
+
+impl<T: Copy> Links<T> {
+    /// Takes the slot behind `before` out of list `from`, and puts it last in list `to`, with this item.
+    pub(crate) fn relocate(&mut self, from: usize, before: usize, to: usize, item: Option<T>)
+        requires held { Holds self.old.slots self.old.capacity self.old.tails (lines self.old.slots self.old.capacity) }
+        requires small { self.old.capacity ≤ 1024 }
+        requires from { from < 6 }
+        requires to { to < 6 }
+        requires other { from ≡ to → ⊥ }
+        requires place { (us : List (Option T)) × (x : Option T) × (rest : List (Option T))
+            × IsBefore self.old.slots self.old.capacity from before us x rest }
+        ensures capacity { self.new.capacity ≡ self.old.capacity }
+        ensures held { (us : List (Option T)) (x : Option T) (rest : List (Option T))
+            → IsBefore self.old.slots self.old.capacity from before us x rest
+            → Holds self.new.slots self.new.capacity self.new.tails
+                (slice_set (slice_set (lines self.old.slots self.old.capacity) from (us ++ rest)) to
+                    (slice_index_or (lines self.old.slots self.old.capacity) to [] ++ item ∷ [])) }
+    {
+        let last = self.tails[to];
+        let first = self.slots.read(before);
+        let at = first.link;
+        let next = self.slots.read(at).link;
+        let end = self.slots.read(last);
+        self.slots.write(
+            before,
+            Slot {
+                link: next,
+                item: first.item,
+            },
+        );
+        self.slots.write(
+            at,
+            Slot {
+                link: self.capacity + to,
+                item,
+            },
+        );
+        self.slots.write(
+            last,
+            Slot {
+                link: at,
+                item: end.item,
+            },
+        );
+        let left = if next < self.capacity {
+            self.tails[from]
+        } else {
+            before
+        };
+        self.tails[from] = left;
+        self.tails[to] = at;
+    }
+}
