@@ -1,2 +1,3 @@
 mod Ways
 mod Moves
+mod Waiting

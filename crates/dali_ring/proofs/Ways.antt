@@ -144,6 +144,3 @@ module _ {X : Type 0} (link link' : ℕ → ℕ) (item item' : ℕ → X) (n e g
       (λ i k w l q. link_same g i k m.lg w (λ s. absurd (m.other (sym s))) (λ s. absurd (m.other (sym s))) (λ _ s. absurd (omega (arith, l, s))))
       (λ i k w l q. item_same g i k m.lg w (λ s. absurd (m.other (sym s)))) in
       (joined link' item' n (link b) c d vs (new ∷ []) first (rw m.from_c (behind.0, m.item_new, refl)), m.from_at)
-
-  pub at_within : link b < n
-  at_within = behind.0

@@ -1,5 +1,5 @@
 use Rattle.std.specs.Prelude.{◌≡◌, ℕ, zero, suc, ◌+◌, ◌<◌, ◌≤◌, List, [], ◌∷◌, ◌++◌, length}
-use Rattle.std.specs.Prelude.{Option, Some, None, slice_index_or, nat_lt, if◌then◌else◌, sum_by}
+use Rattle.std.specs.Prelude.{Option, Some, None, slice_index_or, nat_lt, if◌then◌else◌, sum_by, map, take}
 use Rattle.dali_ring.specs.declared.slots.Slot.{Slot}
 
 -- the slot of a number
@@ -53,3 +53,26 @@ lines s n =
 pub record IsBefore {X : Type 0} (s : List (Slot X)) (n p b : ℕ) (us : List (Option X)) (x : Option X) (rest : List (Option X)) : Type 0 where
   pub items : slice_index_or (lines s n) p [] ≡ us ++ x ∷ rest
   pub way : Leads (link_at s) (item_at s) n b (n + p) us
+
+-- the items of a list that are there
+abbrev pub somes : {X : Type 0} → List (Option X) → List X
+somes [] = []
+somes (None ∷ xs) = somes xs
+somes (Some x ∷ xs) = x ∷ somes xs
+
+-- the items of the five lists that wait
+abbrev pub waiting : {X : Type 0} → List (Slot X) → ℕ → List (List X)
+waiting s n = map somes (take 5 (lines s n))
+
+-- Five lists of items wait, and all other slots are free.
+pub record IsLinked {X : Type 0} (s : List (Slot X)) (n : ℕ) (tails : List ℕ) : Type 0 where
+  pub held : Holds s n tails (map (map Some) (waiting s n) ++ line s n 5 ∷ [])
+  pub five : length (waiting s n) ≡ 5
+  pub least : 1 ≤ n
+  pub most : n ≤ 1024
+
+-- Slot b is the last of the items us of list p that waits, or where it begins where there are none;
+-- behind it are these.
+pub record IsAt {X : Type 0} (s : List (Slot X)) (n p b : ℕ) (us rest : List X) : Type 0 where
+  pub items : slice_index_or (waiting s n) p [] ≡ us ++ rest
+  pub way : Leads (link_at s) (item_at s) n b (n + p) (map Some us)

@@ -1,5 +1,5 @@
 ghost use Rattle.std.specs.Prelude.{◌≡◌, ℕ, ◌+◌, ◌<◌, ◌≤◌, List, [], ◌∷◌, ◌++◌, Option, slice_set, slice_index_or, length};
-ghost use Rattle.dali_ring.specs.Linked.{Holds, lines, IsBefore};
+ghost use Rattle.dali_ring.specs.Linked.{Holds, lines, IsBefore, Leads, link_at, item_at};
 
 use crate::slots::{Slot, Slots};
 
@@ -31,6 +31,9 @@ impl<T: Copy> Links<T> {
             → Holds self.new.slots self.new.capacity self.new.tails
                 (slice_set (slice_set (lines self.old.slots self.old.capacity) from (us ++ rest)) to
                     (slice_index_or (lines self.old.slots self.old.capacity) to [] ++ item ∷ [])) }
+        ensures way { (us : List (Option T)) (x : Option T) (rest : List (Option T))
+            → IsBefore self.old.slots self.old.capacity from before us x rest
+            → Leads (link_at self.new.slots) (item_at self.new.slots) self.new.capacity before (self.new.capacity + from) us }
     {
         let last = self.tails[to];
         let first = self.slots.read(before);

@@ -1,0 +1,76 @@
+-- The five lists that wait, and the free slots, as six lists.
+use Rattle.std.proofs.Common.{◌≡◌, ◌≢◌, ℕ, zero, suc, ◌+◌, ◌<◌, ◌≤◌, List, [], ◌∷◌, ◌++◌, length, refl, sym, ap, ◌∙◌, arith, subst, get_or, set, map, take, length-append, append_assoc}
+use Rattle.std.proofs.lemmas.List.{set-append_left, set_at, map-set, map-append, get_or_append_left, get_or_at, length-map, length-set, get_or-map}
+use Rattle.std.proofs.lemmas.List.Sums.{sum_by-append, sum_by-set}
+use Rattle.std.specs.List.{sum_by}
+use Rattle.std.specs.declared.option.Option.{Option}
+use Rattle.std.specs.declared.option.Option.TheVariants.{Some, None}
+use Rattle.dali_ring.specs.declared.slots.Slot.{Slot}
+use Rattle.dali_ring.specs.Linked.{Leads, IsList, follow, link_at, item_at, slot_at, Holds, line, lines, IsBefore, somes, waiting, IsLinked, IsAt}
+use Rattle.dali_ring.proofs.Moves.{line_is, lines_are, tail_within}
+
+pub somes_map : {X : Type 0} (xs : List X) → somes (map Some xs) ≡ xs
+somes_map [] = refl
+somes_map (x ∷ xs) = ap (λ l. x ∷ l) (somes_map xs)
+
+module _ {X : Type 0} where
+  abbrev pub six : List (List X) → List (Option X) → List (List (Option X))
+  six qs fs = map (map Some) qs ++ fs ∷ []
+
+  pub sum_six : (qs : List (List X)) (fs : List (Option X)) → sum_by length (six qs fs) ≡ sum_by length qs + length fs
+  sum_six qs fs = sum_by-append length (map (map Some) qs) (fs ∷ []) ∙ (omega (arith, go qs)) where
+    go : (ys : List (List X)) → sum_by length (map (map Some) ys) ≡ sum_by length ys
+    go [] = refl
+    go (y ∷ ys) = grind (arith, go ys, length-map y (Some {A = X}))
+
+  pub get_waiting : (qs : List (List X)) (fs : List (Option X)) (p : ℕ) → length qs ≡ 5 → p < 5 → get_or (six qs fs) p [] ≡ map Some (get_or qs p [])
+  get_waiting qs fs p five low =
+      get_or_append_left (map (map Some) qs) (fs ∷ []) [] p (omega (arith, length-map qs (map Some)))
+      ∙ get_or-map (map Some) qs p [] [] (omega (arith, five))
+
+  pub get_free : (qs : List (List X)) (fs : List (Option X)) → length qs ≡ 5 → get_or (six qs fs) 5 [] ≡ fs
+  get_free qs fs five = get_or_at (map (map Some) qs) fs [] [] 5 (omega (arith, length-map qs (map Some), five))
+
+  pub set_free : (qs : List (List X)) (fs gs : List (Option X)) → length qs ≡ 5 → set (six qs fs) 5 gs ≡ six qs gs
+  set_free qs fs gs five = set_at (map (map Some) qs) fs [] gs 5 (omega (arith, length-map qs (map Some), five))
+
+  pub set_waiting : (qs : List (List X)) (fs : List (Option X)) (p : ℕ) (xs : List X) → length qs ≡ 5 → p < 5 → set (six qs fs) p (map Some xs) ≡ six (set qs p xs) fs
+  set_waiting qs fs p xs five low =
+      set-append_left (map (map Some) qs) (fs ∷ []) p (map Some xs) (omega (arith, length-map qs (map Some), five))
+      ∙ ap (λ l. l ++ fs ∷ []) (sym (map-set (map Some) qs p xs))
+
+  somes_six : (qs : List (List X)) (fs : List (Option X)) → length qs ≡ 5 → map somes (take 5 (six qs fs)) ≡ qs
+  somes_six (a ∷ b ∷ c ∷ d ∷ e ∷ []) fs five = rw (somes_map a, somes_map b, somes_map c, somes_map d, somes_map e) refl
+  somes_six _ fs five = absurd (omega (arith, five))
+
+  module _ (s : List (Slot X)) (n : ℕ) (tails : List ℕ) (qs : List (List X)) (fs : List (Option X)) (five : length qs ≡ 5) (h : Holds s n tails (six qs fs)) where
+    pub waiting_is : waiting s n ≡ qs
+    waiting_is = ap (λ l. map somes (take 5 l)) (lines_are s n tails (six qs fs) h) ∙ somes_six qs fs five
+
+    pub free_is : line s n 5 ≡ fs
+    free_is = line_is s n tails (six qs fs) h 5 (omega arith) ∙ get_free qs fs five
+
+    pub linked_is : 1 ≤ n → n ≤ 1024 → IsLinked s n tails
+    linked_is least most = record {
+      held = rw (waiting_is, free_is) h;
+      five = rw waiting_is five;
+      least = least;
+      most = most;
+    }
+
+  module _ (s : List (Slot X)) (n : ℕ) (tails : List ℕ) (l : IsLinked s n tails) where
+    pub lines_six : lines s n ≡ six (waiting s n) (line s n 5)
+    lines_six = lines_are s n tails (six (waiting s n) (line s n 5)) l.held
+
+    pub held_lines : Holds s n tails (lines s n)
+    held_lines = subst (λ ls. Holds s n tails ls) (sym lines_six) l.held
+
+    pub free_length : sum_by length (waiting s n) + length (line s n 5) ≡ n
+    free_length = sym (sum_six (waiting s n) (line s n 5)) ∙ l.held.whole
+
+    -- a place in a list that waits, as one of six
+    pub place_is : (p b : ℕ) (us rest : List X) (x : X) → p < 5 → IsAt s n p b us (x ∷ rest) → IsBefore s n p b (map Some us) (Some x) (map Some rest)
+    place_is p b us rest x low at = record {
+      items = ap (λ ls. get_or ls p []) lines_six ∙ get_waiting (waiting s n) (line s n 5) p l.five low ∙ ap (map Some) at.items ∙ map-append Some us (x ∷ rest);
+      way = at.way;
+    }
