@@ -1,7 +1,7 @@
 -- The five lists that wait, and the free slots, as six lists.
 use Rattle.std.proofs.Common.{◌≡◌, ◌≢◌, ℕ, zero, suc, ◌+◌, ◌<◌, ◌≤◌, List, [], ◌∷◌, ◌++◌, length, refl, sym, ap, ◌∙◌, arith, subst, get_or, set, map, take, length-append, append_assoc}
 use Rattle.std.proofs.lemmas.List.{set-append_left, set_at, map-set, map-append, get_or_append_left, get_or_at, length-map, length-set, get_or-map}
-use Rattle.std.proofs.lemmas.List.Sums.{sum_by-append, sum_by-set}
+use Rattle.std.proofs.lemmas.List.Sums.{sum_by-append, sum_by-set, sum_by-cons}
 use Rattle.std.specs.List.{sum_by}
 use Rattle.std.specs.declared.option.Option.{Option}
 use Rattle.std.specs.declared.option.Option.TheVariants.{Some, None}
@@ -21,7 +21,7 @@ module _ {X : Type 0} where
   sum_six qs fs = sum_by-append length (map (map Some) qs) (fs ∷ []) ∙ (omega (arith, go qs)) where
     go : (ys : List (List X)) → sum_by length (map (map Some) ys) ≡ sum_by length ys
     go [] = refl
-    go (y ∷ ys) = grind (arith, go ys, length-map y (Some {A = X}))
+    go (y ∷ ys) = sum_by-cons length (map Some y) (map (map Some) ys) ∙ omega (arith, go ys, length-map y (λ (x : X). Some x), sum_by-cons length y ys)
 
   pub get_waiting : (qs : List (List X)) (fs : List (Option X)) (p : ℕ) → length qs ≡ 5 → p < 5 → get_or (six qs fs) p [] ≡ map Some (get_or qs p [])
   get_waiting qs fs p five low =
@@ -52,8 +52,9 @@ module _ {X : Type 0} where
 
     pub linked_is : 1 ≤ n → n ≤ 1024 → IsLinked s n tails
     linked_is least most = record {
-      held = rw (waiting_is, free_is) h;
-      five = rw waiting_is five;
+      held = subst (λ (q : List (List X)). Holds s n tails (six q (line s n 5))) (sym waiting_is)
+      (subst (λ (f : List (Option X)). Holds s n tails (six qs f)) (sym free_is) h);
+      five = ap length waiting_is ∙ five;
       least = least;
       most = most;
     }
