@@ -7,7 +7,8 @@ use Rattle.std.specs.declared.option.Option.{Option}
 use Rattle.std.specs.declared.option.Option.TheVariants.{Some, None}
 use Rattle.dali_ring.specs.declared.slots.Slot.{Slot}
 use Rattle.dali_ring.specs.Linked.{Leads, IsList, follow, link_at, item_at, slot_at, Holds, line, lines, IsBefore, somes, waiting, IsLinked, IsAt}
-use Rattle.dali_ring.proofs.Moves.{line_is, lines_are, tail_within}
+use Rattle.dali_ring.proofs.Moves.{line_is, lines_are, tail_within, within}
+use Rattle.dali_ring.proofs.Ways.{parted, followed, joined}
 
 pub somes_map : {X : Type 0} (xs : List X) → somes (map Some xs) ≡ xs
 somes_map [] = refl
@@ -75,3 +76,76 @@ module _ {X : Type 0} where
       items = ap (λ ls. get_or ls p []) lines_six ∙ get_waiting (waiting s n) (line s n 5) p l.five low ∙ ap (map Some) at.items ∙ map-append Some us (x ∷ rest);
       way = at.way;
     }
+
+module _ {X : Type 0} (s : List (Slot X)) (n : ℕ) (tails : List ℕ) (l : IsLinked s n tails) where
+  abbrev qs : List (List X)
+  qs = waiting s n
+
+  abbrev fs : List (Option X)
+  fs = line s n 5
+
+  pub h : Holds s n tails (lines s n)
+  h = held_lines s n tails l
+
+  -- the first free slot, where there is one
+  pub free_place : sum_by length (waiting s n) < n → (us : List (Option X)) × (x : Option X) × (rest : List (Option X)) × IsBefore s n 5 (n + 5) us x rest
+  free_place fewer = go fs refl where
+    go : (ys : List (Option X)) → ys ≡ fs → (us : List (Option X)) × (x : Option X) × (rest : List (Option X)) × IsBefore s n 5 (n + 5) us x rest
+    go [] is = absurd (omega (arith, free_length s n tails l, ap length is))
+    go (y ∷ ys) is = ([], y, ys, record { items = sym is; way = refl })
+
+  list_is : (p : ℕ) → p < 5 → get_or (lines s n) p [] ≡ map Some (get_or qs p [])
+  list_is p low = ap (λ ls. get_or ls p []) (lines_six s n tails l) ∙ get_waiting qs fs p l.five low
+
+  five_set : (p : ℕ) (xs : List X) → length (set qs p xs) ≡ 5
+  five_set p xs = length-set qs p xs ∙ l.five
+
+  -- an item that comes last in a list
+  pub appended : (s2 : List (Slot X)) (n2 : ℕ) (tails2 : List ℕ) (p : ℕ) (item : X) → p < 5 → sum_by length qs < n → n2 ≡ n
+      → ((us : List (Option X)) (x : Option X) (rest : List (Option X)) → IsBefore s n 5 (n + 5) us x rest
+        → Holds s2 n2 tails2 (set (set (lines s n) 5 (us ++ rest)) p (get_or (lines s n) p [] ++ Some item ∷ [])))
+      → (waiting s2 n2 ≡ set qs p (get_or qs p [] ++ item ∷ [])) × IsLinked s2 n2 tails2
+  appended s2 n2 tails2 p item low fewer same move =
+      let place = free_place fewer in
+      let gs : List (Option X) = place.0 ++ place.2 in
+      let now : set (set (lines s n) 5 gs) p (get_or (lines s n) p [] ++ Some item ∷ []) ≡ six (set qs p (get_or qs p [] ++ item ∷ [])) gs =
+        ap (λ ls. set (set ls 5 gs) p (get_or (lines s n) p [] ++ Some item ∷ [])) (lines_six s n tails l)
+        ∙ ap (λ ls. set ls p (get_or (lines s n) p [] ++ Some item ∷ [])) (set_free qs fs gs l.five)
+        ∙ ap (λ xs. set (six qs gs) p (xs ++ Some item ∷ [])) (list_is p low)
+        ∙ ap (λ xs. set (six qs gs) p xs) (sym (map-append Some (get_or qs p []) (item ∷ [])))
+        ∙ set_waiting qs gs p (get_or qs p [] ++ item ∷ []) l.five low in
+      let held : Holds s2 n2 tails2 (six (set qs p (get_or qs p [] ++ item ∷ [])) gs) = subst (λ ls. Holds s2 n2 tails2 ls) now (move place.0 place.1 place.2 place.3) in
+      (waiting_is s2 n2 tails2 (set qs p (get_or qs p [] ++ item ∷ [])) gs (five_set p _) held,
+      linked_is s2 n2 tails2 (set qs p (get_or qs p [] ++ item ∷ [])) gs (five_set p _) held (omega (arith, l.least)) (omega (arith, l.most)))
+
+  -- an item that leaves a list
+  pub detached : (s2 : List (Slot X)) (n2 : ℕ) (tails2 : List ℕ) (p b : ℕ) (us rest : List X) (x : X) → p < 5 → n2 ≡ n → IsAt s n p b us (x ∷ rest)
+      → ((vs : List (Option X)) (y : Option X) (ys : List (Option X)) → IsBefore s n p b vs y ys
+        → Holds s2 n2 tails2 (set (set (lines s n) p (vs ++ ys)) 5 (get_or (lines s n) 5 [] ++ None ∷ [])))
+      → (waiting s2 n2 ≡ set qs p (us ++ rest)) × IsLinked s2 n2 tails2
+  detached s2 n2 tails2 p b us rest x low same at move =
+      let gs : List (Option X) = get_or (lines s n) 5 [] ++ None ∷ [] in
+      let now : set (set (lines s n) p (map Some us ++ map Some rest)) 5 gs ≡ six (set qs p (us ++ rest)) gs =
+        ap (λ ls. set (set ls p (map Some us ++ map Some rest)) 5 gs) (lines_six s n tails l)
+        ∙ ap (λ xs. set (set (six qs fs) p xs) 5 gs) (sym (map-append Some us rest))
+        ∙ ap (λ ls. set ls 5 gs) (set_waiting qs fs p (us ++ rest) l.five low)
+        ∙ set_free (set qs p (us ++ rest)) fs gs (five_set p _) in
+      let held : Holds s2 n2 tails2 (six (set qs p (us ++ rest)) gs) =
+        subst (λ ls. Holds s2 n2 tails2 ls) now (move (map Some us) (Some x) (map Some rest) (place_is s n tails l p b us rest x low at)) in
+      (waiting_is s2 n2 tails2 (set qs p (us ++ rest)) gs (five_set p _) held,
+      linked_is s2 n2 tails2 (set qs p (us ++ rest)) gs (five_set p _) held (omega (arith, l.least)) (omega (arith, l.most)))
+
+  module _ (p b : ℕ) (us rest : List X) (low : p < 5) (at : IsAt s n p b us rest) where
+    whole : IsList (link_at s) (item_at s) n (n + p) (get_or tails p 0) (n + p) (map Some us ++ map Some rest)
+    whole = subst (λ xs. IsList (link_at s) (item_at s) n (n + p) (get_or tails p 0) (n + p) xs)
+        (list_is p low ∙ ap (map Some) at.items ∙ map-append Some us rest) (h.lists p (omega arith))
+
+    -- what is behind a place
+    pub behind_is : IsList (link_at s) (item_at s) n (n + p) (get_or tails p 0) b (map Some rest)
+    behind_is = (parted (link_at s) (item_at s) n (get_or tails p 0) b (n + p) (map Some us) (map Some rest) at.way whole.0, whole.1)
+
+    pub place_within : b < length s
+    place_within = within (link_at s) (item_at s) n (length s) b (n + p) (map Some us) (omega (arith, h.slots)) (omega (arith, h.slots)) at.way
+
+  pub first_at : (p : ℕ) → IsAt s n p (n + p) [] (get_or qs p [])
+  first_at p = record { items = refl; way = refl }
