@@ -1,6 +1,8 @@
 -- The five lists that wait, and the free slots, as six lists.
 use Rattle.std.proofs.Common.{◌≡◌, ◌≢◌, ℕ, zero, suc, ◌+◌, ◌<◌, ◌≤◌, List, [], ◌∷◌, ◌++◌, length, refl, sym, ap, ◌∙◌, arith, subst, get_or, set, map, take, length-append, append_assoc}
-use Rattle.std.proofs.lemmas.List.{set-append_left, set_at, map-set, map-append, get_or_append_left, get_or_at, length-map, length-set, get_or-map}
+use Rattle.std.proofs.lemmas.List.{set-append_left, set_at, map-set, map-append, get_or_append_left, get_or_at, length-map, length-set, get_or-map, get_or-set_same}
+use Rattle.std.proofs.lemmas.Option.{get_or_from_slice_get}
+use Rattle.std.specs.List.{slice_get}
 use Rattle.std.proofs.lemmas.List.Sums.{sum_by-append, sum_by-set, sum_by-cons}
 use Rattle.std.specs.List.{sum_by}
 use Rattle.std.specs.declared.option.Option.{Option}
@@ -149,3 +151,33 @@ module _ {X : Type 0} (s : List (Slot X)) (n : ℕ) (tails : List ℕ) (l : IsLi
 
   pub first_at : (p : ℕ) → IsAt s n p (n + p) [] (get_or qs p [])
   first_at p = record { items = refl; way = refl }
+
+-- what is read behind a place
+module _ {X : Type 0} (s : List (Slot X)) (n : ℕ) (tails : List ℕ) (l : IsLinked s n tails) (p b : ℕ) (us rest : List X) (low : p < 5) (at : IsAt s n p b us rest) where
+  pub read_some : (first second : Slot X) → slice_get s b ≡ Some first → first.link < n → slice_get s first.link ≡ Some second → second.item ≡ slice_get rest 0
+  read_some first second f1 less f2 =
+      let none : Slot X = record { link = 0; item = None } in
+      let e1 : slot_at s b ≡ first = get_or_from_slice_get s b first none f1 in
+      let e2 : slot_at s (link_at s b) ≡ second = ap (λ (q : Slot X). slot_at s q.link) e1 ∙ get_or_from_slice_get s first.link second none f2 in
+      let e3 : link_at s b < n = subst (λ (q : Slot X). q.link < n) (sym e1) less in
+      sym (ap (λ (q : Slot X). q.item) e2) ∙ go rest e3 (behind_is s n tails l p b us rest low at) where
+    go : (ys : List X) → link_at s b < n → IsList (link_at s) (item_at s) n (n + p) (get_or tails p 0) b (map Some ys) → item_at s (link_at s b) ≡ slice_get ys 0
+    go [] lt is = absurd (omega (arith, lt, ap (link_at s) is.0, is.1))
+    go (y ∷ ys) lt is = is.0.1
+
+  pub read_none : (first : Slot X) → slice_get s b ≡ Some first → n ≤ first.link → None ≡ slice_get rest 0
+  read_none first f1 more =
+      let none : Slot X = record { link = 0; item = None } in
+      let e3 : n ≤ link_at s b = subst (λ (q : Slot X). n ≤ q.link) (sym (get_or_from_slice_get s b first none f1)) more in
+      go rest e3 (behind_is s n tails l p b us rest low at) where
+    go : (ys : List X) → n ≤ link_at s b → IsList (link_at s) (item_at s) n (n + p) (get_or tails p 0) b (map Some ys) → None ≡ slice_get ys 0
+    go [] le is = refl
+    go (y ∷ ys) le is = absurd (omega (arith, le, is.0.0))
+
+-- what stands behind a place that lost the item behind it
+pub place_left : {X : Type 0} (s s2 : List (Slot X)) (n n2 p b : ℕ) (us rest : List X) → length (waiting s n) ≡ 5 → p < 5
+    → waiting s2 n2 ≡ set (waiting s n) p (us ++ rest) → Leads (link_at s2) (item_at s2) n2 b (n2 + p) (map Some us) → IsAt s2 n2 p b us rest
+place_left s s2 n n2 p b us rest five low now way = record {
+  items = ap (λ ls. get_or ls p []) now ∙ get_or-set_same (waiting s n) p (us ++ rest) [] (omega (arith, five));
+  way = way;
+}

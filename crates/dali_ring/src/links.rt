@@ -1,5 +1,5 @@
-ghost use Rattle.std.specs.Prelude.{◌≡◌, ℕ, ◌+◌, ◌<◌, ◌≤◌, List, [], ◌∷◌, ◌++◌, Option, slice_set, slice_index_or, length};
-ghost use Rattle.dali_ring.specs.Linked.{Holds, lines, IsBefore, Leads, link_at, item_at};
+ghost use Rattle.std.specs.Prelude.{◌≡◌, ℕ, ◌+◌, ◌<◌, ◌≤◌, List, [], ◌∷◌, ◌++◌, Option, slice_set, slice_index_or, length, slice_get, sum_by};
+ghost use Rattle.dali_ring.specs.Linked.{Holds, lines, IsBefore, Leads, link_at, item_at, IsLinked, waiting, IsAt};
 
 use crate::slots::{Slot, Slots};
 
@@ -68,5 +68,64 @@ impl<T: Copy> Links<T> {
         };
         self.tails[from] = left;
         self.tails[to] = at;
+    }
+
+    /// Puts an item last in a list. One slot must be free.
+    pub(crate) fn append(&mut self, list: usize, item: T)
+        requires linked { IsLinked self.old.slots self.old.capacity self.old.tails }
+        requires list { list < 5 }
+        requires room { sum_by length (waiting self.old.slots self.old.capacity) < self.old.capacity }
+        ensures capacity { self.new.capacity ≡ self.old.capacity }
+        ensures linked { IsLinked self.new.slots self.new.capacity self.new.tails }
+        ensures waiting { waiting self.new.slots self.new.capacity
+            ≡ slice_set (waiting self.old.slots self.old.capacity) list
+                (slice_index_or (waiting self.old.slots self.old.capacity) list [] ++ item ∷ []) }
+    {
+        self.relocate(5, self.capacity + 5, list, Some(item));
+    }
+
+    /// Takes the item behind `before` out of its list.
+    pub(crate) fn detach(&mut self, list: usize, before: usize)
+        requires linked { IsLinked self.old.slots self.old.capacity self.old.tails }
+        requires list { list < 5 }
+        requires place { (us : List T) × (x : T) × (rest : List T)
+            × IsAt self.old.slots self.old.capacity list before us (x ∷ rest) }
+        ensures capacity { self.new.capacity ≡ self.old.capacity }
+        ensures linked { IsLinked self.new.slots self.new.capacity self.new.tails }
+        ensures waiting { (us : List T) (x : T) (rest : List T)
+            → IsAt self.old.slots self.old.capacity list before us (x ∷ rest)
+            → waiting self.new.slots self.new.capacity
+                ≡ slice_set (waiting self.old.slots self.old.capacity) list (us ++ rest) }
+        ensures place { (us : List T) (x : T) (rest : List T)
+            → IsAt self.old.slots self.old.capacity list before us (x ∷ rest)
+            → IsAt self.new.slots self.new.capacity list before us rest }
+    {
+        self.relocate(list, before, 5, None);
+    }
+
+    /// The item behind `before`, where its list goes on there.
+    pub(crate) fn behind(&self, list: usize, before: usize) -> Option<T>
+        requires linked { IsLinked self.now.slots self.now.capacity self.now.tails }
+        requires list { list < 5 }
+        requires place { (us : List T) × (rest : List T)
+            × IsAt self.now.slots self.now.capacity list before us rest }
+        ensures { (us rest : List T) → IsAt self.now.slots self.now.capacity list before us rest
+            → result ≡ slice_get rest 0 }
+    {
+        let at = self.slots.read(before).link;
+        if at < self.capacity {
+            self.slots.read(at).item
+        } else {
+            None
+        }
+    }
+
+    /// The first item of a list.
+    pub(crate) fn first(&self, list: usize) -> Option<T>
+        requires linked { IsLinked self.now.slots self.now.capacity self.now.tails }
+        requires list { list < 5 }
+        ensures { result ≡ slice_get (slice_index_or (waiting self.now.slots self.now.capacity) list []) 0 }
+    {
+        self.behind(list, self.capacity + list)
     }
 }
