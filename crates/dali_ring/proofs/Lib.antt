@@ -1,3 +1,4 @@
 mod Ways
 mod Moves
 mod Waiting
+mod Begins

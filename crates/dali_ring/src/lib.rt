@@ -4,8 +4,10 @@
 
 mod error;
 mod links;
+mod ring;
 mod sent;
 mod slots;
 
 pub use error::NewError;
+pub use ring::Ring;
 pub use sent::Sent;

@@ -1,7 +1,9 @@
 ghost use Rattle.std.specs.Prelude.{◌≡◌, ℕ, ◌+◌, ◌<◌, ◌≤◌, List, [], ◌∷◌, ◌++◌, Option, slice_set, slice_index_or, length, slice_get, sum_by};
+ghost use Rattle.std.specs.Prelude.{IfOk, replicate};
 ghost use Rattle.dali_ring.specs.Linked.{Holds, lines, IsBefore, Leads, link_at, item_at, IsLinked, waiting, IsAt};
 
 use crate::slots::{Slot, Slots};
+use std::alloc::{AllocError, Global};
 
 /// Six lists in slots that are linked by their numbers, of which the last is that of the free slots.
 ///
@@ -16,6 +18,54 @@ pub(crate) struct Links<T> {
 }
 
 impl<T: Copy> Links<T> {
+    /// Lists in which nothing waits. All slots are free.
+    pub(crate) fn new(alloc: Global, capacity: usize) -> Result<Links<T>, AllocError>
+        requires least { 1 ≤ capacity }
+        requires most { capacity ≤ 1024 }
+        ensures capacity { IfOk result (λ l. l.capacity ≡ capacity) }
+        ensures linked { IfOk result (λ l. IsLinked l.slots l.capacity l.tails) }
+        ensures waiting { IfOk result (λ l. waiting l.slots l.capacity ≡ replicate 5 []) }
+    {
+        let last = capacity - 1;
+        let mut slots = Slots::make(alloc, capacity + 6)?;
+        for list in 0..5 {
+            let begin = capacity + list;
+            slots.write(
+                begin,
+                Slot {
+                    link: begin,
+                    item: None,
+                },
+            );
+        }
+        slots.write(
+            last,
+            Slot {
+                link: capacity + 5,
+                item: None,
+            },
+        );
+        slots.write(
+            capacity + 5,
+            Slot {
+                link: 0,
+                item: None,
+            },
+        );
+        Ok(Links {
+            slots,
+            tails: [
+                capacity,
+                capacity + 1,
+                capacity + 2,
+                capacity + 3,
+                capacity + 4,
+                last,
+            ],
+            capacity,
+        })
+    }
+
     /// Takes the slot behind `before` out of list `from`, and puts it last in list `to`, with this item.
     pub(crate) fn relocate(&mut self, from: usize, before: usize, to: usize, item: Option<T>)
         requires held { Holds self.old.slots self.old.capacity self.old.tails (lines self.old.slots self.old.capacity) }
