@@ -44,9 +44,9 @@ module _ {X : Type 0} where
     slots = ap length is ∙ length-set s (n + k) (empty (n + k)) ∙ b.slots;
     free = λ i less. ap (λ l. slot_at l i) is ∙ get_or-set_other s (n + k) i (empty (n + k)) (empty 0) (λ e. absurd (omega (arith, e, less))) ∙ b.free i less;
     begin = λ p less. ap (λ l. slot_at l (n + p)) is ∙ ⊎_elim
-      (λ (same : p ≡ k). rw same (get_or-set_same s (n + k) (empty (n + k)) (empty 0) (omega (arith, b.slots))))
-      (λ other. get_or-set_other s (n + k) (n + p) (empty (n + k)) (empty 0) (λ e. other (omega (arith, e))) ∙ b.begin p (omega (arith, less, other)))
-      (cases_eq p k);
+        (λ (same : p ≡ k). rw same (get_or-set_same s (n + k) (empty (n + k)) (empty 0) (omega (arith, b.slots))))
+        (λ other. get_or-set_other s (n + k) (n + p) (empty (n + k)) (empty 0) (λ e. other (omega (arith, e))) ∙ b.begin p (omega (arith, less, other)))
+        (cases_eq p k);
   }
 
   module _ (s one two : List (Slot X)) (n last : ℕ) (b : Begun s n 5) (before : last + 1 ≡ n)

@@ -2,3 +2,4 @@ mod Ways
 mod Moves
 mod Waiting
 mod Begins
+mod Rings

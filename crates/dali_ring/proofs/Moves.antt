@@ -158,24 +158,24 @@ module _ {X : Type 0} (s : List (Slot X)) (n from to b : ℕ) (tails : List ℕ)
     slots = omega (arith, h.slots, length-set (set (set s b A) at B) c C, length-set (set s b A) at B, length-set s b A);
     ends = omega (arith, h.ends, length-set (set tails from l) to at, length-set tails from l);
     lists = λ q low. ⊎_elim
-      (λ (same : q ≡ to). rw (same, two_first tails from to l at 0 (omega (arith, h.ends)), two_first (lines s n) from to (us ++ rest) (get_or (lines s n) to [] ++ new ∷ []) [] (omega arith))
-      (grown (link_at s) (link_at after) (item_at s) (item_at after) n (n + from) (n + to) t (n + from) b c (n + to) us rest (get_or (lines s n) to []) x new the_move))
-      (λ ut. ⊎_elim
-      (λ (same : q ≡ from). rw (same, two_second tails from to l at 0 (omega (arith, h.ends)) unlike, two_second (lines s n) from to (us ++ rest) (get_or (lines s n) to [] ++ new ∷ []) [] (omega arith) unlike, ← is)
-      (left (link_at s) (link_at after) (item_at s) (item_at after) n (n + from) (n + to) t (n + from) b c (n + to) us rest (get_or (lines s n) to []) x new the_move))
-      (λ uf. rw (two_other tails from to q l at 0 uf ut, two_other (lines s n) from to q (us ++ rest) (get_or (lines s n) to [] ++ new ∷ []) [] uf ut)
-      (others (link_at s) (link_at after) (item_at s) (item_at after) n (n + from) (n + to) t (n + from) b c (n + to) us rest (get_or (lines s n) to []) x new the_move
-      (n + q) (get_or tails q 0) (n + q) (get_or (lines s n) q []) (omega arith) (λ same. uf (omega (arith, same))) (λ same. ut (omega (arith, same))) (h.lists q low)))
-      (cases_eq q from)) (cases_eq q to);
+        (λ (same : q ≡ to). rw (same, two_first tails from to l at 0 (omega (arith, h.ends)), two_first (lines s n) from to (us ++ rest) (get_or (lines s n) to [] ++ new ∷ []) [] (omega arith))
+        (grown (link_at s) (link_at after) (item_at s) (item_at after) n (n + from) (n + to) t (n + from) b c (n + to) us rest (get_or (lines s n) to []) x new the_move))
+        (λ ut. ⊎_elim
+        (λ (same : q ≡ from). rw (same, two_second tails from to l at 0 (omega (arith, h.ends)) unlike, two_second (lines s n) from to (us ++ rest) (get_or (lines s n) to [] ++ new ∷ []) [] (omega arith) unlike, ← is)
+        (left (link_at s) (link_at after) (item_at s) (item_at after) n (n + from) (n + to) t (n + from) b c (n + to) us rest (get_or (lines s n) to []) x new the_move))
+        (λ uf. rw (two_other tails from to q l at 0 uf ut, two_other (lines s n) from to q (us ++ rest) (get_or (lines s n) to [] ++ new ∷ []) [] uf ut)
+        (others (link_at s) (link_at after) (item_at s) (item_at after) n (n + from) (n + to) t (n + from) b c (n + to) us rest (get_or (lines s n) to []) x new the_move
+        (n + q) (get_or tails q 0) (n + q) (get_or (lines s n) q []) (omega arith) (λ same. uf (omega (arith, same))) (λ same. ut (omega (arith, same))) (h.lists q low)))
+        (cases_eq q from)) (cases_eq q to);
     whole =
-      let one : sum_by length (set (lines s n) from (us ++ rest)) + length (get_or (lines s n) from []) ≡ sum_by length (lines s n) + length (us ++ rest)
+        let one : sum_by length (set (lines s n) from (us ++ rest)) + length (get_or (lines s n) from []) ≡ sum_by length (lines s n) + length (us ++ rest)
         = sum_by-set length (lines s n) from (us ++ rest) [] (omega arith) in
-      let two : sum_by length (set (set (lines s n) from (us ++ rest)) to (get_or (lines s n) to [] ++ new ∷ [])) + length (get_or (set (lines s n) from (us ++ rest)) to [])
+        let two : sum_by length (set (set (lines s n) from (us ++ rest)) to (get_or (lines s n) to [] ++ new ∷ [])) + length (get_or (set (lines s n) from (us ++ rest)) to [])
         ≡ sum_by length (set (lines s n) from (us ++ rest)) + length (get_or (lines s n) to [] ++ new ∷ [])
         = sum_by-set length (set (lines s n) from (us ++ rest)) to (get_or (lines s n) to [] ++ new ∷ []) [] (omega (arith, length-set (lines s n) from (us ++ rest))) in
-      let three : get_or (set (lines s n) from (us ++ rest)) to [] ≡ get_or (lines s n) to [] = get_or-set_other (lines s n) from to (us ++ rest) [] (λ e. unlike (sym e)) in
-      let four : length (get_or (lines s n) from []) ≡ length (us ++ x ∷ rest) = ap length p.items in
-      omega (arith, one, two, ap length three, four, h.whole, length-append us rest, length-append us (x ∷ rest), length-append (get_or (lines s n) to []) (new ∷ []));
+        let three : get_or (set (lines s n) from (us ++ rest)) to [] ≡ get_or (lines s n) to [] = get_or-set_other (lines s n) from to (us ++ rest) [] (λ e. unlike (sym e)) in
+        let four : length (get_or (lines s n) from []) ≡ length (us ++ x ∷ rest) = ap length p.items in
+        omega (arith, one, two, ap length three, four, h.whole, length-append us rest, length-append us (x ∷ rest), length-append (get_or (lines s n) to []) (new ∷ []));
   }
 
   -- the way to the slot before the one that moved

@@ -56,7 +56,7 @@ module _ {X : Type 0} where
     pub linked_is : 1 ≤ n → n ≤ 1024 → IsLinked s n tails
     linked_is least most = record {
       held = subst (λ (q : List (List X)). Holds s n tails (six q (line s n 5))) (sym waiting_is)
-      (subst (λ (f : List (Option X)). Holds s n tails (six qs f)) (sym free_is) h);
+          (subst (λ (f : List (Option X)). Holds s n tails (six qs f)) (sym free_is) h);
       five = ap length waiting_is ∙ five;
       least = least;
       most = most;
@@ -105,37 +105,39 @@ module _ {X : Type 0} (s : List (Slot X)) (n : ℕ) (tails : List ℕ) (l : IsLi
   -- an item that comes last in a list
   pub appended : (s2 : List (Slot X)) (n2 : ℕ) (tails2 : List ℕ) (p : ℕ) (item : X) → p < 5 → sum_by length qs < n → n2 ≡ n
       → ((us : List (Option X)) (x : Option X) (rest : List (Option X)) → IsBefore s n 5 (n + 5) us x rest
-        → Holds s2 n2 tails2 (set (set (lines s n) 5 (us ++ rest)) p (get_or (lines s n) p [] ++ Some item ∷ [])))
+      → Holds s2 n2 tails2 (set (set (lines s n) 5 (us ++ rest)) p (get_or (lines s n) p [] ++ Some item ∷ [])))
       → (waiting s2 n2 ≡ set qs p (get_or qs p [] ++ item ∷ [])) × IsLinked s2 n2 tails2
   appended s2 n2 tails2 p item low fewer same move =
       let place = free_place fewer in
       let gs : List (Option X) = place.0 ++ place.2 in
       let now : set (set (lines s n) 5 gs) p (get_or (lines s n) p [] ++ Some item ∷ []) ≡ six (set qs p (get_or qs p [] ++ item ∷ [])) gs =
-        ap (λ ls. set (set ls 5 gs) p (get_or (lines s n) p [] ++ Some item ∷ [])) (lines_six s n tails l)
-        ∙ ap (λ ls. set ls p (get_or (lines s n) p [] ++ Some item ∷ [])) (set_free qs fs gs l.five)
-        ∙ ap (λ xs. set (six qs gs) p (xs ++ Some item ∷ [])) (list_is p low)
-        ∙ ap (λ xs. set (six qs gs) p xs) (sym (map-append Some (get_or qs p []) (item ∷ [])))
-        ∙ set_waiting qs gs p (get_or qs p [] ++ item ∷ []) l.five low in
-      let held : Holds s2 n2 tails2 (six (set qs p (get_or qs p [] ++ item ∷ [])) gs) = subst (λ ls. Holds s2 n2 tails2 ls) now (move place.0 place.1 place.2 place.3) in
-      (waiting_is s2 n2 tails2 (set qs p (get_or qs p [] ++ item ∷ [])) gs (five_set p _) held,
-      linked_is s2 n2 tails2 (set qs p (get_or qs p [] ++ item ∷ [])) gs (five_set p _) held (omega (arith, l.least)) (omega (arith, l.most)))
+      ap (λ ls. set (set ls 5 gs) p (get_or (lines s n) p [] ++ Some item ∷ [])) (lines_six s n tails l)
+      ∙ ap (λ ls. set ls p (get_or (lines s n) p [] ++ Some item ∷ [])) (set_free qs fs gs l.five)
+      ∙ ap (λ xs. set (six qs gs) p (xs ++ Some item ∷ [])) (list_is p low)
+      ∙ ap (λ xs. set (six qs gs) p xs) (sym (map-append Some (get_or qs p []) (item ∷ [])))
+      ∙ set_waiting qs gs p (get_or qs p [] ++ item ∷ []) l.five low in
+      let held : Holds s2 n2 tails2 (six (set qs p (get_or qs p [] ++ item ∷ [])) gs) = subst (λ ls. Holds s2 n2 tails2 ls) now (move place.0 place.1 place.2 place.3) in (
+        waiting_is s2 n2 tails2 (set qs p (get_or qs p [] ++ item ∷ [])) gs (five_set p _) held,
+        linked_is s2 n2 tails2 (set qs p (get_or qs p [] ++ item ∷ [])) gs (five_set p _) held (omega (arith, l.least)) (omega (arith, l.most)),
+      )
 
   -- an item that leaves a list
   pub detached : (s2 : List (Slot X)) (n2 : ℕ) (tails2 : List ℕ) (p b : ℕ) (us rest : List X) (x : X) → p < 5 → n2 ≡ n → IsAt s n p b us (x ∷ rest)
       → ((vs : List (Option X)) (y : Option X) (ys : List (Option X)) → IsBefore s n p b vs y ys
-        → Holds s2 n2 tails2 (set (set (lines s n) p (vs ++ ys)) 5 (get_or (lines s n) 5 [] ++ None ∷ [])))
+      → Holds s2 n2 tails2 (set (set (lines s n) p (vs ++ ys)) 5 (get_or (lines s n) 5 [] ++ None ∷ [])))
       → (waiting s2 n2 ≡ set qs p (us ++ rest)) × IsLinked s2 n2 tails2
   detached s2 n2 tails2 p b us rest x low same at move =
       let gs : List (Option X) = get_or (lines s n) 5 [] ++ None ∷ [] in
       let now : set (set (lines s n) p (map Some us ++ map Some rest)) 5 gs ≡ six (set qs p (us ++ rest)) gs =
-        ap (λ ls. set (set ls p (map Some us ++ map Some rest)) 5 gs) (lines_six s n tails l)
-        ∙ ap (λ xs. set (set (six qs fs) p xs) 5 gs) (sym (map-append Some us rest))
-        ∙ ap (λ ls. set ls 5 gs) (set_waiting qs fs p (us ++ rest) l.five low)
-        ∙ set_free (set qs p (us ++ rest)) fs gs (five_set p _) in
+      ap (λ ls. set (set ls p (map Some us ++ map Some rest)) 5 gs) (lines_six s n tails l)
+      ∙ ap (λ xs. set (set (six qs fs) p xs) 5 gs) (sym (map-append Some us rest))
+      ∙ ap (λ ls. set ls 5 gs) (set_waiting qs fs p (us ++ rest) l.five low)
+      ∙ set_free (set qs p (us ++ rest)) fs gs (five_set p _) in
       let held : Holds s2 n2 tails2 (six (set qs p (us ++ rest)) gs) =
-        subst (λ ls. Holds s2 n2 tails2 ls) now (move (map Some us) (Some x) (map Some rest) (place_is s n tails l p b us rest x low at)) in
-      (waiting_is s2 n2 tails2 (set qs p (us ++ rest)) gs (five_set p _) held,
-      linked_is s2 n2 tails2 (set qs p (us ++ rest)) gs (five_set p _) held (omega (arith, l.least)) (omega (arith, l.most)))
+      subst (λ ls. Holds s2 n2 tails2 ls) now (move (map Some us) (Some x) (map Some rest) (place_is s n tails l p b us rest x low at)) in (
+        waiting_is s2 n2 tails2 (set qs p (us ++ rest)) gs (five_set p _) held,
+        linked_is s2 n2 tails2 (set qs p (us ++ rest)) gs (five_set p _) held (omega (arith, l.least)) (omega (arith, l.most)),
+      )
 
   module _ (p b : ℕ) (us rest : List X) (low : p < 5) (at : IsAt s n p b us rest) where
     whole : IsList (link_at s) (item_at s) n (n + p) (get_or tails p 0) (n + p) (map Some us ++ map Some rest)
@@ -161,18 +163,18 @@ module _ {X : Type 0} (s : List (Slot X)) (n : ℕ) (tails : List ℕ) (l : IsLi
       let e2 : slot_at s (link_at s b) ≡ second = ap (λ (q : Slot X). slot_at s q.link) e1 ∙ get_or_from_slice_get s first.link second none f2 in
       let e3 : link_at s b < n = subst (λ (q : Slot X). q.link < n) (sym e1) less in
       sym (ap (λ (q : Slot X). q.item) e2) ∙ go rest e3 (behind_is s n tails l p b us rest low at) where
-    go : (ys : List X) → link_at s b < n → IsList (link_at s) (item_at s) n (n + p) (get_or tails p 0) b (map Some ys) → item_at s (link_at s b) ≡ slice_get ys 0
-    go [] lt is = absurd (omega (arith, lt, ap (link_at s) is.0, is.1))
-    go (y ∷ ys) lt is = is.0.1
+        go : (ys : List X) → link_at s b < n → IsList (link_at s) (item_at s) n (n + p) (get_or tails p 0) b (map Some ys) → item_at s (link_at s b) ≡ slice_get ys 0
+        go [] lt is = absurd (omega (arith, lt, ap (link_at s) is.0, is.1))
+        go (y ∷ ys) lt is = is.0.1
 
   pub read_none : (first : Slot X) → slice_get s b ≡ Some first → n ≤ first.link → None ≡ slice_get rest 0
   read_none first f1 more =
       let none : Slot X = record { link = 0; item = None } in
       let e3 : n ≤ link_at s b = subst (λ (q : Slot X). n ≤ q.link) (sym (get_or_from_slice_get s b first none f1)) more in
       go rest e3 (behind_is s n tails l p b us rest low at) where
-    go : (ys : List X) → n ≤ link_at s b → IsList (link_at s) (item_at s) n (n + p) (get_or tails p 0) b (map Some ys) → None ≡ slice_get ys 0
-    go [] le is = refl
-    go (y ∷ ys) le is = absurd (omega (arith, le, is.0.0))
+        go : (ys : List X) → n ≤ link_at s b → IsList (link_at s) (item_at s) n (n + p) (get_or tails p 0) b (map Some ys) → None ≡ slice_get ys 0
+        go [] le is = refl
+        go (y ∷ ys) le is = absurd (omega (arith, le, is.0.0))
 
 -- what stands behind a place that lost the item behind it
 pub place_left : {X : Type 0} (s s2 : List (Slot X)) (n n2 p b : ℕ) (us rest : List X) → length (waiting s n) ≡ 5 → p < 5

@@ -60,8 +60,11 @@ module _ {X : Type 0} (link link' : ℕ → ℕ) (item item' : ℕ → X) (n : �
   kept f j t a (x ∷ xs) p q links items =
       let behind : Far link n f (more xs j) (link a) = far link item n f j t (link a) xs p.2 q in
       let same : link' a ≡ link a = links a (suc (more xs j)) (p.0, behind) (omega (arith, more_is xs j)) (omega arith) in
-      rw same (p.0, items (link a) (more xs j) behind (omega (arith, more_is xs j)) (omega arith) ∙ p.1,
-      kept f j t (link a) xs p.2 q (λ i k w l m. links i k w l (omega (arith, m))) (λ i k w l m. items i k w l (omega (arith, m))))
+      rw same (
+        p.0,
+        items (link a) (more xs j) behind (omega (arith, more_is xs j)) (omega arith) ∙ p.1,
+        kept f j t (link a) xs p.2 q (λ i k w l m. links i k w l (omega (arith, m))) (λ i k w l m. items i k w l (omega (arith, m))),
+      )
 
 -- the last slot of what is left of a list, where the slot behind b is taken out and this is behind it
 abbrev pub last_left : {X : Type 0} → List X → ℕ → ℕ → ℕ
@@ -107,10 +110,11 @@ module _ {X : Type 0} (link link' : ℕ → ℕ) (item item' : ℕ → X) (n e g
   -- every other list stays as it is
   pub others : (f u h : ℕ) (xs : List X) → n ≤ f → f ≢ e → f ≢ g → IsList link item n f u h xs → IsList link' item' n f u h xs
   others f u h xs lf fe fg p = (
-      kept link link' item item' n f 0 u h xs p.0 p.1
-      (λ i k w l q. link_same f i k lf w (λ s. absurd (fe s)) (λ s. absurd (fe s)) (λ s. absurd (fg s)))
-      (λ i k w l q. item_same f i k lf w (λ s. absurd (fe s))),
-      link_same f u 0 lf p.1 (λ s. absurd (fe s)) (λ s. absurd (fe s)) (λ s. absurd (fg s)) ∙ p.1)
+    kept link link' item item' n f 0 u h xs p.0 p.1
+        (λ i k w l q. link_same f i k lf w (λ s. absurd (fe s)) (λ s. absurd (fe s)) (λ s. absurd (fg s)))
+        (λ i k w l q. item_same f i k lf w (λ s. absurd (fe s))),
+    link_same f u 0 lf p.1 (λ s. absurd (fe s)) (λ s. absurd (fe s)) (λ s. absurd (fg s)) ∙ p.1,
+  )
 
   -- so does the way to b
   pub started : Leads link' item' n b a us
@@ -125,16 +129,18 @@ module _ {X : Type 0} (link link' : ℕ → ℕ) (item item' : ℕ → X) (n e g
   second (y ∷ ys) p same =
       let next : Far link n e (more ys 0) (link (link b)) = far link item n e 0 t (link (link b)) ys p.2 m.old.1 in
       let rest : Leads link' item' n t (link (link b)) ys = kept link link' item item' n e 0 t (link (link b)) ys p.2 m.old.1
-      (λ i k w l q. (same i k w (omega (arith, q))).0) (λ i k w l q. (same i k w (omega (arith, q))).1) in
-      (rw m.from_b (p.0, (same (link (link b)) (more ys 0) next (omega arith)).1 ∙ p.1, rest),
-      (same t 0 m.old.1 (omega (arith, more_is ys 0))).0 ∙ m.old.1)
+      (λ i k w l q. (same i k w (omega (arith, q))).0) (λ i k w l q. (same i k w (omega (arith, q))).1) in (
+        rw m.from_b (p.0, (same (link (link b)) (more ys 0) next (omega arith)).1 ∙ p.1, rest),
+        (same t 0 m.old.1 (omega (arith, more_is ys 0))).0 ∙ m.old.1,
+      )
 
   -- what is left of the list that the slot left
   pub left : IsList link' item' n e (last_left rest b t) a (us ++ rest)
   left =
-      let two : IsList link' item' n e (last_left rest b t) b rest = second rest behind.2 (λ i k w l.
-      (link_same e i k m.le w (λ _ s. absurd (omega (arith, l, s))) (λ _ s. absurd (omega (arith, l, s))) (λ s. absurd (m.other s)),
-      item_same e i k m.le w (λ _ s. absurd (omega (arith, l, s))))) in
+      let two : IsList link' item' n e (last_left rest b t) b rest = second rest behind.2 (λ i k w l. (
+        link_same e i k m.le w (λ _ s. absurd (omega (arith, l, s))) (λ _ s. absurd (omega (arith, l, s))) (λ s. absurd (m.other s)),
+        item_same e i k m.le w (λ _ s. absurd (omega (arith, l, s))),
+      )) in
       (joined link' item' n (last_left rest b t) b a us rest started two.0, two.1)
 
   -- what becomes of the one that it is the last of

@@ -79,8 +79,8 @@ impl<T: Copy> Links<T> {
         ensures held { (us : List (Option T)) (x : Option T) (rest : List (Option T))
             → IsBefore self.old.slots self.old.capacity from before us x rest
             → Holds self.new.slots self.new.capacity self.new.tails
-                (slice_set (slice_set (lines self.old.slots self.old.capacity) from (us ++ rest)) to
-                    (slice_index_or (lines self.old.slots self.old.capacity) to [] ++ item ∷ [])) }
+            (slice_set (slice_set (lines self.old.slots self.old.capacity) from (us ++ rest)) to
+            (slice_index_or (lines self.old.slots self.old.capacity) to [] ++ item ∷ [])) }
         ensures way { (us : List (Option T)) (x : Option T) (rest : List (Option T))
             → IsBefore self.old.slots self.old.capacity from before us x rest
             → Leads (link_at self.new.slots) (item_at self.new.slots) self.new.capacity before (self.new.capacity + from) us }
@@ -129,7 +129,7 @@ impl<T: Copy> Links<T> {
         ensures linked { IsLinked self.new.slots self.new.capacity self.new.tails }
         ensures waiting { waiting self.new.slots self.new.capacity
             ≡ slice_set (waiting self.old.slots self.old.capacity) list
-                (slice_index_or (waiting self.old.slots self.old.capacity) list [] ++ item ∷ []) }
+            (slice_index_or (waiting self.old.slots self.old.capacity) list [] ++ item ∷ []) }
     {
         self.relocate(5, self.capacity + 5, list, Some(item));
     }
@@ -145,7 +145,7 @@ impl<T: Copy> Links<T> {
         ensures waiting { (us : List T) (x : T) (rest : List T)
             → IsAt self.old.slots self.old.capacity list before us (x ∷ rest)
             → waiting self.new.slots self.new.capacity
-                ≡ slice_set (waiting self.old.slots self.old.capacity) list (us ++ rest) }
+            ≡ slice_set (waiting self.old.slots self.old.capacity) list (us ++ rest) }
         ensures place { (us : List T) (x : T) (rest : List T)
             → IsAt self.old.slots self.old.capacity list before us (x ∷ rest)
             → IsAt self.new.slots self.new.capacity list before us rest }

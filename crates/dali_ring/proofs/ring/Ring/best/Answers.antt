@@ -1,12 +1,12 @@
-use Rattle.std.proofs.Common.{rules, ◌≡◌, ◌+◌, ◌-◌, ◌<◌, ◌≤◌, ◌↔◌, ◌⊎◌, [], ◌∷◌, ◌++◌, length, drop, slice_get, IfOk, IsErrOf, OnOk, IsErr, IfErr, ℕ, ◌*◌, ◌/◌, ◌%◌, Bool, true, false, nat_eq, nat_lt, List, slice_index_or, slice_set, bit_and, bit_or, Fits, w8, w32, w64, Bor, MutBor}
-use Rattle.dali_ring.specs.declared.error.NewError.TheVariants.{BadCapacity}
-use Rattle.dali_ring.specs.Queues.{Queues, no_items, total, list_of, with_list, best}
+use Rattle.std.proofs.Common.{sym, arith}
+use Rattle.dali_ring.proofs.Rings.{best_at, best_on}
 use Rattle.dali_ring.proofs.ring.Ring.best.Goals as goal
 
--- src/ring.rt:92:17
 pub returns-then-is_some : goal.returns-then-is_some
-returns-then-is_some g c = ?
+returns-then-is_some g c =
+    best_at _ _ _ c.loop-number.number _ c.self.view_is c.from.ensures c.loop-number.auto.number _ c.first.ensures c.loop-number.invariant
+    (sym c.if-is_some.ensures) _ (c.of.ensures.range.1 (c.loop-number.auto.number, omega (arith, c.loop-number-test.true))) c.of.ensures.value
 
--- src/ring.rt:90:9
 pub loop-number-preserved : goal.loop-number-preserved
-loop-number-preserved g c = ?
+loop-number-preserved g c =
+    best_on _ _ _ c.loop-number.number _ c.self.view_is c.from.ensures c.loop-number.auto.number _ c.first.ensures c.loop-number.invariant (sym c.if-is_some.ensures)

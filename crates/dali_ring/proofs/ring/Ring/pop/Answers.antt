@@ -1,16 +1,17 @@
-use Rattle.std.proofs.Common.{rules, ◌≡◌, ◌+◌, ◌-◌, ◌<◌, ◌≤◌, ◌↔◌, ◌⊎◌, [], ◌∷◌, ◌++◌, length, drop, slice_get, IfOk, IsErrOf, OnOk, IsErr, IfErr, ℕ, ◌*◌, ◌/◌, ◌%◌, Bool, true, false, nat_eq, nat_lt, List, slice_index_or, slice_set, bit_and, bit_or, Fits, w8, w32, w64, Bor, MutBor}
-use Rattle.dali_ring.specs.declared.error.NewError.TheVariants.{BadCapacity}
-use Rattle.dali_ring.specs.Queues.{Queues, no_items, total, list_of, with_list, best}
+use Rattle.std.proofs.Common.{sym, ◌∙◌}
+use Rattle.dali_ring.proofs.Rings.{pop_place, popped, popped_sum, popped_view}
 use Rattle.dali_ring.proofs.ring.Ring.pop.Goals as goal
 
--- src/ring.rt:80:13
 pub detach-requires-clause-place : goal.detach-requires-clause-place
-detach-requires-clause-place g c = ?
+detach-requires-clause-place g c = pop_place _ _ _ c.self.invariant.0 _ c.rank-list.ensures.range _ c.first-item.ensures (sym c.if-is_some.ensures)
 
--- src/ring.rt:81:13
 pub invariant_of-self : goal.invariant_of-self
-invariant_of-self g c = ?
+invariant_of-self g c = (
+  c.detach.ensures.linked,
+  popped_sum _ _ _ c.self.invariant.0 _ c.rank-list.ensures.range _ c.first-item.ensures (sym c.if-is_some.ensures) c.detach.new.self.slots c.detach.new.self.capacity c.detach.ensures.waiting _ c.self.invariant.1,
+)
 
--- src/ring.rt:72:5
 pub returns-then-is_some-clause-rest : goal.returns-then-is_some-clause-rest
-returns-then-is_some-clause-rest g c = ?
+returns-then-is_some-clause-rest g c =
+    popped_view _ _ _ c.self.invariant.0 _ c.rank-list.ensures.range _ c.first-item.ensures (sym c.if-is_some.ensures) c.detach.new.self.slots c.detach.new.self.capacity c.detach.ensures.waiting _ _
+    c.rank-list.ensures.value c.detach.ensures.capacity c.self.view_is
