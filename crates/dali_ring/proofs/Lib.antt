@@ -3,3 +3,4 @@ mod Moves
 mod Waiting
 mod Begins
 mod Rings
+mod Sweeps

@@ -1,7 +1,9 @@
 ghost use Rattle.std.specs.Prelude.{◌≡◌, ℕ, ◌+◌, ◌<◌, ◌≤◌, List, [], ◌∷◌, ◌++◌, Option, slice_set, slice_index_or, length, slice_get, sum_by};
 ghost use Rattle.std.specs.Prelude.{IfOk, replicate};
 ghost use Rattle.dali_ring.specs.Linked.{Holds, lines, IsBefore, Leads, link_at, item_at, IsLinked, waiting, IsAt};
+ghost use Rattle.dali_ring.specs.Queues.{without};
 
+use crate::sent::Sent;
 use crate::slots::{Slot, Slots};
 use std::alloc::{AllocError, Global};
 
@@ -177,5 +179,32 @@ impl<T: Copy> Links<T> {
         ensures { result ≡ slice_get (slice_index_or (waiting self.now.slots self.now.capacity) list []) 0 }
     {
         self.behind(list, self.capacity + list)
+    }
+}
+
+impl<T: Copy + Sent> Links<T> {
+    /// Takes the items of a sender out of a list, and answers how many they were. The others keep their order.
+    pub(crate) fn sweep(&mut self, list: usize, sender: u8) -> usize
+        requires linked { IsLinked self.old.slots self.old.capacity self.old.tails }
+        requires list { list < 5 }
+        ensures capacity { self.new.capacity ≡ self.old.capacity }
+        ensures linked { IsLinked self.new.slots self.new.capacity self.new.tails }
+        ensures waiting { waiting self.new.slots self.new.capacity
+            ≡ slice_set (waiting self.old.slots self.old.capacity) list
+                (without T.from sender (slice_index_or (waiting self.old.slots self.old.capacity) list [])) }
+        ensures count { result + sum_by length (waiting self.new.slots self.new.capacity)
+            ≡ sum_by length (waiting self.old.slots self.old.capacity) }
+    {
+        let mut before = self.capacity + list;
+        let mut gone = 0;
+        while let Some(item) = self.behind(list, before) {
+            if item.sender() == sender {
+                self.detach(list, before);
+                gone += 1;
+            } else {
+                before = self.slots.read(before).link;
+            }
+        }
+        gone
     }
 }
