@@ -1,7 +1,7 @@
 -- A slot that moves, in the slots themselves.
-use Rattle.std.proofs.Common.{◌≡◌, ◌≢◌, ℕ, zero, suc, ◌+◌, ◌<◌, ◌≤◌, List, [], ◌∷◌, ◌++◌, length, refl, sym, ap, ◌∙◌, arith, subst, get_or, set, ⊎_elim, length-append}
-use Rattle.std.proofs.lemmas.List.{get_or-set_same, get_or-set_other, length-set, ext_get_or}
-use Rattle.std.proofs.lemmas.List.Sums.{sum_by-set, sum_by-take-le}
+use Rattle.std.proofs.Common.{◌≡◌, ◌≢◌, ℕ, suc, ◌+◌, ◌<◌, ◌≤◌, List, [], ◌∷◌, ◌++◌, length, refl, sym, ap, ◌∙◌, arith, subst, get_or, set, ⊎_elim, length-append}
+use Rattle.std.proofs.lemmas.List.{get_or-set_same, get_or-set_other, length-set}
+use Rattle.std.proofs.lemmas.List.Sums.{sum_by-set}
 use Rattle.std.proofs.lemmas.Bool.{cases_eq}
 use Rattle.std.proofs.lemmas.Option.{get_or_from_slice_get}
 use Rattle.std.specs.List.{slice_get}
@@ -9,8 +9,8 @@ use Rattle.std.specs.List.{sum_by}
 use Rattle.std.specs.declared.option.Option.{Option}
 use Rattle.std.specs.declared.option.Option.TheVariants.{Some, None}
 use Rattle.dali_ring.specs.declared.slots.Slot.{Slot}
-use Rattle.dali_ring.specs.Linked.{Leads, IsList, follow, link_at, item_at, slot_at, Holds, line, lines, IsBefore}
-use Rattle.dali_ring.proofs.Ways.{Far, one_way, far, more, more_is, followed, Move, last_left, others, left, grown, started, parted}
+use Rattle.dali_ring.specs.Linked.{Leads, IsList, link_at, item_at, slot_at, Holds, line, lines, IsBefore}
+use Rattle.dali_ring.proofs.Ways.{Far, one_way, far, more, followed, Move, last_left, others, left, grown, started, parted}
 
 -- a way from a slot below m leads to one
 pub within : {X : Type 0} (link : ℕ → ℕ) (item : ℕ → X) (n m t a : ℕ) (xs : List X) → n ≤ m → a < m → Leads link item n t a xs → t < m

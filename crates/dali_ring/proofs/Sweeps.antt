@@ -1,14 +1,13 @@
 -- A list that a sender's items leave, slot by slot.
-use Rattle.std.proofs.Common.{◌≡◌, ◌≢◌, ℕ, zero, suc, ◌+◌, ◌-◌, ◌<◌, ◌≤◌, List, [], ◌∷◌, ◌++◌, length, refl, sym, ap, ◌∙◌, arith, subst, get_or, set, map, true, false, Bool, filter, not, ◌==◌, append_assoc, append-nil, length-append}
-use Rattle.std.proofs.lemmas.List.{set-set, set-get_or, map-append, length-map, get_or-set_same}
+use Rattle.std.proofs.Common.{◌≡◌, ◌≢◌, ℕ, suc, ◌+◌, ◌<◌, ◌≤◌, List, [], ◌∷◌, ◌++◌, length, refl, sym, ap, ◌∙◌, arith, subst, get_or, set, map, true, false, ◌==◌, append_assoc, length-append}
+use Rattle.std.proofs.lemmas.List.{set-set, set-get_or, map-append, length-map}
 use Rattle.std.proofs.lemmas.List.Sums.{sum_by-set}
 use Rattle.std.proofs.lemmas.Bool.Decides.{nat_tests}
 use Rattle.std.proofs.lemmas.Option.{get_or_from_slice_get}
 use Rattle.std.specs.List.{sum_by, slice_get}
-use Rattle.std.specs.declared.option.Option.{Option}
 use Rattle.std.specs.declared.option.Option.TheVariants.{Some, None}
 use Rattle.dali_ring.specs.declared.slots.Slot.{Slot}
-use Rattle.dali_ring.specs.Linked.{Leads, IsList, follow, link_at, item_at, slot_at, line, waiting, IsLinked, IsAt}
+use Rattle.dali_ring.specs.Linked.{Leads, follow, link_at, item_at, waiting, IsLinked, IsAt}
 use Rattle.dali_ring.specs.Queues.{without}
 use Rattle.dali_ring.proofs.Ways.{joined, followed}
 use Rattle.dali_ring.proofs.Waiting.{behind_is, free_length, first_at}
@@ -27,14 +26,18 @@ SweptTo {X} from sender s0 n0 s n tails p b gone = (us : List X) × (rest : List
 
 pub swept_first : {X : Type 0} (from : X → ℕ) (sender : ℕ) (s : List (Slot X)) (n : ℕ) (tails : List ℕ) (p : ℕ) → IsLinked s n tails
     → SweptTo from sender s n s n tails p (n + p) 0
-swept_first from sender s n tails p l = ([], get_or (waiting s n) p [], record {
-  linked = l;
-  same = refl;
-  at = first_at s n tails l p;
-  kept = refl;
-  now = sym (set-get_or (waiting s n) p []);
-  count = omega arith;
-})
+swept_first from sender s n tails p l = (
+  [],
+  get_or (waiting s n) p [],
+  record {
+    linked = l;
+    same = refl;
+    at = first_at s n tails l p;
+    kept = refl;
+    now = sym (set-get_or (waiting s n) p []);
+    count = omega arith;
+  },
+)
 
 module _ {X : Type 0} (s : List (Slot X)) (n : ℕ) (tails : List ℕ) (p b : ℕ) (low : p < 5) where
   -- how many are left to be looked at
@@ -94,19 +97,25 @@ module _ {X : Type 0} (from : X → ℕ) (sender : ℕ) (s0 : List (Slot X)) (n0
       let test : (from x == sender) ≡ false = grind (arith, nat_tests, ap from this, other) in
       let way = behind_is s n tails w.linked p b us (x ∷ rest) low w.at in
       let there : Leads (link_at s) (item_at s) n next (n + p) (map Some us ++ Some x ∷ []) =
-        joined (link_at s) (item_at s) n next b (n + p) (map Some us) (Some x ∷ []) w.at.way (way.0.0, way.0.1, to) in
+      joined (link_at s) (item_at s) n next b (n + p) (map Some us) (Some x ∷ []) w.at.way (way.0.0, way.0.1, to) in
       let at : IsAt s n p next (us ++ x ∷ []) rest = record {
         items = w.at.items ∙ sym (append_assoc us (x ∷ []) rest);
         way = subst (λ xs. Leads (link_at s) (item_at s) n next (n + p) xs) (sym (map-append Some us (x ∷ []))) there;
-      } in
-      ((us ++ x ∷ [], rest, record {
-        linked = w.linked;
-        same = w.same;
-        at = at;
-        kept = w.kept ∙ ap (λ zs. us ++ zs) (passed x rest test) ∙ sym (append_assoc us (x ∷ []) (without from sender rest));
-        now = w.now ∙ ap (λ xs. set (waiting s0 n0) p xs) (sym (append_assoc us (x ∷ []) rest));
-        count = w.count;
-      }), omega (arith, left_is s n tails p b low us (x ∷ rest) w.linked w.at, left_is s n tails p next low (us ++ x ∷ []) rest w.linked at))
+      } in (
+        (
+          us ++ x ∷ [],
+          rest,
+          record {
+            linked = w.linked;
+            same = w.same;
+            at = at;
+            kept = w.kept ∙ ap (λ zs. us ++ zs) (passed x rest test) ∙ sym (append_assoc us (x ∷ []) (without from sender rest));
+            now = w.now ∙ ap (λ xs. set (waiting s0 n0) p xs) (sym (append_assoc us (x ∷ []) rest));
+            count = w.count;
+          },
+        ),
+        omega (arith, left_is s n tails p b low us (x ∷ rest) w.linked w.at, left_is s n tails p next low (us ++ x ∷ []) rest w.linked at),
+      )
     where
       passed : (y : X) (ys : List X) → (from y == sender) ≡ false → without from sender (y ∷ ys) ≡ y ∷ without from sender ys
       passed y ys test = rw test refl

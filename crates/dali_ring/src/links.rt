@@ -191,7 +191,7 @@ impl<T: Copy + Sent> Links<T> {
         ensures linked { IsLinked self.new.slots self.new.capacity self.new.tails }
         ensures waiting { waiting self.new.slots self.new.capacity
             ≡ slice_set (waiting self.old.slots self.old.capacity) list
-                (without T.from sender (slice_index_or (waiting self.old.slots self.old.capacity) list [])) }
+            (without T.from sender (slice_index_or (waiting self.old.slots self.old.capacity) list [])) }
         ensures count { result + sum_by length (waiting self.new.slots self.new.capacity)
             ≡ sum_by length (waiting self.old.slots self.old.capacity) }
     {

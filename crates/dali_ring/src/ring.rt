@@ -1,10 +1,11 @@
 ghost use Rattle.std.specs.Prelude.{◌≡◌, ◌+◌, ◌-◌, ◌<◌, ◌≤◌, ◌↔◌, ◌⊎◌, [], ◌∷◌, ◌++◌, length, drop, slice_get};
 ghost use Rattle.std.specs.Prelude.{IfOk, IsErrOf, OnOk, IsErr, IfErr};
 ghost use Rattle.dali_ring.specs.declared.error.NewError.TheVariants.{BadCapacity};
-ghost use Rattle.dali_ring.specs.Queues.{Queues, no_items, total, list_of, with_list, best};
+ghost use Rattle.dali_ring.specs.Queues.{Queues, no_items, total, list_of, with_list, best, all_without};
 
 use crate::error::NewError;
 use crate::links::Links;
+use crate::sent::Sent;
 use dali_frame::Priority;
 use std::alloc::Global;
 use std::marker::Model;
@@ -111,6 +112,25 @@ impl<T: Copy> Ring<T> {
         ensures most { self.now.capacity ≤ 1024 }
     {
         self.links.capacity
+    }
+}
+
+impl<T: Copy + Sent> Ring<T> {
+    /// Takes all items of a sender out, and answers how many they were. The others keep their order.
+    ///
+    /// It looks at each item that waits, once.
+    pub fn remove_of(&mut self, sender: u8) -> usize
+        ensures rest { self.new ≡ all_without T.from sender self.old }
+        ensures count { result + total self.new ≡ total self.old }
+    {
+        let first = self.links.sweep(0, sender);
+        let second = self.links.sweep(1, sender);
+        let third = self.links.sweep(2, sender);
+        let fourth = self.links.sweep(3, sender);
+        let fifth = self.links.sweep(4, sender);
+        let gone = first + second + third + fourth + fifth;
+        self.len -= gone;
+        gone
     }
 }
 

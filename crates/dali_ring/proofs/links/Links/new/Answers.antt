@@ -1,4 +1,4 @@
-use Rattle.std.proofs.Common.{◌≡◌, ℕ, ◌+◌, ◌-◌, arith, subst}
+use Rattle.std.proofs.Common.{◌-◌, arith, subst}
 use Rattle.dali_ring.proofs.Begins.{Begun, begun_first, begun_linked, begun_waiting}
 use Rattle.dali_ring.proofs.links.Links.new.Goals as goal
 

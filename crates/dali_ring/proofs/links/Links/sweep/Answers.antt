@@ -1,4 +1,4 @@
-use Rattle.std.proofs.Common.{◌≡◌, sym, ◌∙◌, List, [], ◌∷◌, ◌++◌}
+use Rattle.std.proofs.Common.{sym, ◌∙◌}
 use Rattle.dali_ring.proofs.Waiting.{place_within}
 use Rattle.dali_ring.proofs.Sweeps.{swept_first, swept_end, swept_out, swept_on, swept_place}
 use Rattle.dali_ring.proofs.links.Links.sweep.Goals as goal

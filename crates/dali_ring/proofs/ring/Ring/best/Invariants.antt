@@ -1,4 +1,4 @@
-use Rattle.std.proofs.Common.{◌≡◌, ◌-◌, ◌≤◌, drop}
+use Rattle.std.proofs.Common.{◌≡◌, ◌-◌, drop}
 use Rattle.dali_ring.specs.Queues.{first_from}
 use Rattle.dali_ring.proofs.ring.Ring.best.Given as goal
 

@@ -1,5 +1,5 @@
-use Rattle.std.proofs.Common.{sym, ◌∙◌}
-use Rattle.dali_ring.proofs.Rings.{pop_place, popped, popped_sum, popped_view}
+use Rattle.std.proofs.Common.{sym}
+use Rattle.dali_ring.proofs.Rings.{pop_place, popped_sum, popped_view}
 use Rattle.dali_ring.proofs.ring.Ring.pop.Goals as goal
 
 pub detach-requires-clause-place : goal.detach-requires-clause-place
