@@ -24,6 +24,8 @@ mod plan;
 #[cfg(test)]
 mod records;
 #[cfg(test)]
+mod ring;
+#[cfg(test)]
 mod search;
 #[cfg(test)]
 mod site;

@@ -1,0 +1,6 @@
+mod Ways
+mod Moves
+mod Waiting
+mod Begins
+mod Rings
+mod Sweeps

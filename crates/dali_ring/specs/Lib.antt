@@ -1,0 +1,4 @@
+pub mod Numbers
+pub mod Fresh
+pub mod Linked
+pub mod Queues
