@@ -1,3 +1,6 @@
+mod Held
+mod Shared
+mod Sending
 mod Ways
 mod Moves
 mod Waiting

@@ -1,4 +1,5 @@
 pub mod Numbers
+pub mod Block
 pub mod Fresh
 pub mod Linked
 pub mod Queues

@@ -2,6 +2,7 @@
 //! numbers.
 #![tactic(auto)]
 
+mod block;
 mod error;
 mod links;
 mod ring;

@@ -1,0 +1,7 @@
+use denote.Param.Send.{IsSend}
+use denote.RattleType.{RattleType}
+use Rattle.dali_ring.specs.contracts.block.Places.{the_row}
+use Rattle.dali_ring.proofs.Sending.{places_send}
+
+pub send : (R : RattleType) → IsSend R → IsSend (the_row R)
+send = places_send
