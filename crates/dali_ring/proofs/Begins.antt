@@ -13,7 +13,7 @@ abbrev empty : {X : Type 0} → ℕ → Slot X
 empty i = record { link = i; item = None }
 
 module _ (X : Type 0) where
-  fresh_length : (m : ℕ) → length (fresh_to {X = X} m) ≡ m
+  pub fresh_length : (m : ℕ) → length (fresh_to {X = X} m) ≡ m
   fresh_length zero = refl
   fresh_length (suc m) = length-append (fresh_to {X = X} m) (empty (m + 1) ∷ []) ∙ omega (arith, fresh_length m)
 

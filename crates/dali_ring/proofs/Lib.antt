@@ -5,5 +5,6 @@ mod Ways
 mod Moves
 mod Waiting
 mod Begins
+mod Puts
 mod Rings
 mod Sweeps

@@ -1,8 +1,10 @@
 ghost use Rattle.std.specs.Prelude.{◌≡◌, ℕ, ◌+◌, ◌^◌, ◌<◌, length, slice_get, slice_set, Some, IfOk};
 ghost use Rattle.dali_ring.specs.Fresh.{fresh_to};
 
+use crate::block::{Origin, Places, Release, allocate, free};
 use std::alloc::{AllocError, Global};
 use std::marker::Model;
+use std_alloc::room::may_hold;
 
 /// A place for an item, and the number of the slot behind it.
 #[derive(Clone, Copy, Drop)]
@@ -13,21 +15,42 @@ pub struct Slot<T> {
     pub item: Option<T>,
 }
 
-/// Slots by their numbers, from 0 on. Only `make` takes memory.
+/// Slots by their numbers, from 0 on, side by side in one block. Only `make` takes memory, and dropping the slots
+/// frees it.
 ///
-/// Contracts see the list of the slots.
-#[derive(Drop)]
+/// Contracts see the list of the slots. An item that is dropped with them is forgotten: it is `Copy`.
 pub struct Slots<T> {
-    slots: Vec<Slot<T>>,
+    origin: Origin<Slot<T>>,
+    capacity: usize,
+    places: Places<Slot<T>>,
+    release: Release<Slot<T>, Global>,
+    alloc: Global,
 }
 
 impl<T> Model for Slots<T> {
-    ghost use Rattle.std.specs.Prelude.{List};
+    ghost use Rattle.std.specs.Prelude.{◌≡◌, List, length};
     ghost use Rattle.dali_ring.specs.declared.slots.Slot.{Slot};
 
     ghost Value = { List (Slot T) };
 
-    ghost view = { λ s. s.slots.items };
+    ghost view = { λ s. s.places.items };
+
+    ghost invariant = { λ s. (s.places.origin ≡ s.origin.pointer) × (s.places.count ≡ s.capacity)
+        × (length s.places.items ≡ s.capacity) × (s.release.origin ≡ s.origin.pointer)
+        × (s.release.count ≡ s.capacity) × (s.release.alloc ≡ s.alloc) };
+}
+
+impl<T> Drop for Slots<T> {
+    fn drop(self) {
+        let Slots {
+            origin,
+            capacity,
+            places,
+            release,
+            alloc,
+        } = self;
+        free(&alloc, origin, capacity, places, release);
+    }
 }
 
 impl<T: Copy> Slots<T> {
@@ -36,14 +59,24 @@ impl<T: Copy> Slots<T> {
         requires { capacity < 2 ^ 32 }
         ensures { IfOk result (λ s. s ≡ fresh_to capacity) }
     {
-        let mut slots = Vec::with_capacity(alloc, capacity)?;
+        if !may_hold::<Slot<T>>(capacity) {
+            return Err(AllocError);
+        }
+        let (origin, mut places, release) = allocate(&alloc, capacity)?;
         for number in 0..capacity {
-            slots.push_reserved(Slot {
+            let slot = Slot {
                 link: number + 1,
                 item: None,
-            });
+            };
+            places.put(origin, number, slot);
         }
-        Ok(Slots { slots })
+        Ok(Slots {
+            origin,
+            capacity,
+            places,
+            release,
+            alloc,
+        })
     }
 
     /// The slot of a number.
@@ -51,7 +84,7 @@ impl<T: Copy> Slots<T> {
         requires { number < length self.now }
         ensures { slice_get self.now number ≡ Some result }
     {
-        self.slots[number]
+        *self.places.get(self.origin, number)
     }
 
     /// Sets the slot of a number.
@@ -59,6 +92,6 @@ impl<T: Copy> Slots<T> {
         requires { number < length self.old }
         ensures { self.new ≡ slice_set self.old number slot }
     {
-        self.slots[number] = slot;
+        self.places.put(self.origin, number, slot);
     }
 }
