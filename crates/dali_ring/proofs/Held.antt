@@ -19,11 +19,10 @@ use types.Kit.{‵, ◌⊛◌, some, ◌$◌, ◌∵◌, !, qed, by, move, keep,
 use denote.Index.{place}
 use denote.Laws.{Is}
 use denote.Memory.{part_at, shared_of}
-use denote.RattleType.{RattleType, Valss}
+use denote.RattleType.{RattleType, Valss, owns}
 use denote.RawPtr.{Ptr, RawPtr, ptr_val}
 use denote.Shadow.{makes_shadow}
 use denote.Slice.{elements_shared}
-use denote.Steps.{nothing}
 use denote.Struct.Struct.{Struct, within}
 use denote.Struct.Declared.{shape}
 use denote.Struct.Tuple.{Tuple, tuple_type}
@@ -42,6 +41,7 @@ use Rattle.dali_ring.specs.contracts.block.Release as release
 abbrev pub mark : Val
 mark = vstruct (vcons (vstruct vnil) vnil)
 
+-- what is owned of a struct of a marker, and of a struct of a pointer, whatever their names
 abbrev pub marked : RattleType
 marked = Struct (record { name = []; args = []; types = []; fields = Struct (record { name = []; args = []; types = []; fields = [] }) ∷ [] })
 
@@ -50,11 +50,6 @@ pointed = Struct (record { name = []; args = []; types = []; fields = RawPtr ∷
 
 pub origin_is : (T : RattleType) (x : (origin.the_row T).Denot) (vs : List Val) → Is (origin.the_row T) x vs → vs ≡ word x.pointer ∷ []
 origin_is T x vs is = is.1.0 ∙ (λ i. vstruct (of_list (is.1.1.0 i ++ [])) ∷ [])
-
-abbrev pub item_of : {X : Type 0} (xs : List X) (i : ℕ) → i < length xs → (x : X) × (slice_get xs i ≡ Some x)
-item_of [] i inside = absurd (not-suc-le-zero inside)
-item_of (x ∷ xs) zero inside = (x, refl)
-item_of (x ∷ xs) (suc i) inside = item_of xs i (le_of_suc-le-suc inside)
 
 pub places_is : (T : RattleType) (x : (places.the_row T).Denot) (vs : List Val) → Is (places.the_row T) x vs → vs ≡ mark ∷ []
 places_is T x vs is = is.0.1.0 ∙ (λ i. vstruct (of_list (is.0.1.1.0.1.0 i ++ [])) ∷ [])
@@ -72,15 +67,19 @@ module _ {M : Type 1} {𝓤 : Ura M} (𝓛 : Logic 𝓤) where
 abbrev pub three_val : Val → Val → Val → Val
 three_val u v w = vstruct (vcons u (vcons v (vcons w vnil)))
 
--- three values make a tuple
+-- a tuple is its three values, each of which is one machine value
 pub makes_three : {M : Type 1} {𝓤 : Ura M} (𝓛 : Logic 𝓤) (A B C : RattleType) (x : A.Denot) (y : B.Denot) (z : C.Denot) (u v w : Val)
-    → ent 𝓤 (sep 𝓤 (sem 𝓛 (A.own_val x (u ∷ []))) (sep 𝓤 (sem 𝓛 (B.own_val y (v ∷ []))) (sem 𝓛 (C.own_val z (w ∷ [])))))
-    (sem 𝓛 ((Tuple (A ∷ B ∷ C ∷ [])).own_val (x, y, z) (three_val u v w ∷ [])))
+    → ent 𝓤 (sem 𝓛 (owns (A ∷ B ∷ C ∷ []) (x, (y, (z, tt))) (u ∷ [], (v ∷ [], (w ∷ [], tt))))) (sem 𝓛 ((Tuple (A ∷ B ∷ C ∷ [])).own_val (x, y, z) (three_val u v w ∷ [])))
 makes_three 𝓛 A B C x y z u v w =
-    let all : Val = three_val u v w in
-    qed 𝓛 (‵ (A.own_val x (u ∷ [])) ∷ ‵ (B.own_val y (v ∷ [])) ∷ ‵ (C.own_val z (w ∷ [])) ∷ []) ∵
-    nothing ! $ move ! (3 ∷ 0 ∷ []) $ fjoin ! $ move ! (2 ∷ 0 ∷ []) $ fjoin ! $ move ! (1 ∷ 0 ∷ []) $ fjoin ! $ feq_i ! (List Val) (all ∷ []) (all ∷ []) refl $ fjoin ! $
-    fpack ! (Valss (A ∷ B ∷ C ∷ [])) (within (shape (tuple_type (A ∷ B ∷ C ∷ []))) (x, (y, (z, tt))) (all ∷ [])) (u ∷ [], (v ∷ [], (w ∷ [], tt))) $ done !
+    let all : List Val = three_val u v w ∷ [] in
+    let values : Valss (A ∷ B ∷ C ∷ []) = (u ∷ [], (v ∷ [], (w ∷ [], tt))) in
+    qed 𝓛 (‵ (owns (A ∷ B ∷ C ∷ []) (x, (y, (z, tt))) values) ∷ []) ∵ feq_i ! (List Val) all all refl $ fjoin ! $
+    fpack ! (Valss (A ∷ B ∷ C ∷ [])) (within (shape (tuple_type (A ∷ B ∷ C ∷ []))) (x, (y, (z, tt))) all) values $ done !
+
+abbrev pub item_of : {X : Type 0} (xs : List X) (i : ℕ) → i < length xs → (x : X) × (slice_get xs i ≡ Some x)
+item_of [] i inside = absurd (not-suc-le-zero inside)
+item_of (x ∷ xs) zero inside = (x, refl)
+item_of (x ∷ xs) (suc i) inside = item_of xs i (le_of_suc-le-suc inside)
 
 module _ (E : El) where
   abbrev pub step : ℕ

@@ -31,7 +31,7 @@ use prog.Capped.{capped_fits}
 use prog.Memory.{align, capped}
 use prog.Wp.{Env, Wp, WpFn, after_seq, at_return}
 use types.ByLocal.{alloc_all, pass_all, free_all, look_at, get, get_in, get_tag, sets, sets_last, is, lands_as, env}
-use types.Kit.{‵, raw, ◌⊛◌, later, prop, at_ret, any_q, ◌$◌, ◌∵◌, !, qed, by, move, drop, use0, use1, use2, use3, split, join, await, regoal, fsplit, fjoin, flt_i}
+use types.Kit.{‵, raw, ◌⊛◌, later, prop, at_ret, any_q, ◌$◌, ◌∵◌, !, qed, by, move, drop, use0, use1, use2, split, join, await, regoal, fsplit, fjoin, flt_i}
 use types.Match.{live, vrt, in_variant}
 use types.Part.{whole, agg}
 use types.Run.{stop, fld, lit, of_opd, bin, size_word, align_word, and_then, no_more, first, switches_on, exec, returns, enter}
@@ -124,7 +124,8 @@ allocate_spec 𝓤 𝓛 𝓜 𝓡 wired T A L K g d dd met md =
     exec ! C Λ En (after 3 fn.body) (at_ret En Post) $ sets ! (of_opd ! (get ! refl)) refl good $ returns ! (look_at ! 0 refl) $ free_all ! refl $
     move ! (1 ∷ []) $ use0 𝓛 (‵ (marked.own_val (tt, tt) (mark ∷ []))) (makes_mark 𝓛) $ fjoin ! $ move ! (1 ∷ []) $ flt_i ! (n * s) (2 ^ 63) asked.0 $ fjoin ! $
     use0 𝓛 (‵ (marked.own_val (tt, tt) (mark ∷ []))) (makes_mark 𝓛) $ fjoin ! $ use0 𝓛 (‵ (Start.own_val start (word r ∷ []))) (makes_origin 𝓛 r) $
-    use3 𝓛 (‵ (Parts.own_val (start, row, right) (parts ∷ []))) (makes_three 𝓛 Start Row Right start row right (word r) mark mark) $
+    nothing ! $ move ! (3 ∷ 0 ∷ []) $ fjoin ! $ move ! (2 ∷ 0 ∷ []) $ fjoin ! $ move ! (1 ∷ 0 ∷ []) $ fjoin ! $
+    use1 𝓛 (‵ (Parts.own_val (start, row, right) (parts ∷ []))) (makes_three 𝓛 Start Row Right start row right (word r) mark mark) $
     use1 𝓛 (‵ (Out.own_val (Ok (start, row, right)) (made ∷ []))) (ok_of 𝓛 Parts refusal.the_row (start, row, right) parts) $ move ! (1 ∷ 2 ∷ []) $ join ! $
     use0 𝓛 (raw (fact 𝓤 (Told (Ok (start, row, right))))) (fact_i 𝓤 (Told (Ok (start, row, right))) (emp 𝓤) (refl, refl, refl, refl, refl, refl)) $
     nothing ! $ nothing ! $ fjoin ! $ nothing ! $ fjoin ! $ move ! (2 ∷ 0 ∷ 3 ∷ 1 ∷ []) $
