@@ -66,7 +66,7 @@ class Report:
         self.holders = {}
         self.tables = [[] for _ in reading.blocks]
         self.allowed = {address for first, last in reading.blocks for address in range(first, last + 1)}
-        self.drawable = {"FFFFFF", *reading.draws}
+        self.draws = set(reading.draws)
         self.seen = collections.Counter()
 
     def next(self):
@@ -119,7 +119,16 @@ class Report:
         elif len(words) > 1 and words[1] in ("done", "halt"):
             self.seen[" ".join(words[1:])] += 1
         elif len(words) > 1 and words[1] == "commit":
+            self.check_record(report, int(words[0][:-1]), words[2], int(words[3]), words[4])
             self.seen[" ".join(words[1:3])] += 1
+
+    def check_record(self, report, controller, kind, address, random):
+        """A record has a number that was to be drawn, and an address that its controller may keep."""
+        check(controller < len(self.reading.blocks), f"no such controller: {report}")
+        first, last = self.reading.blocks[controller]
+        check(kind == "enrol" or first <= address <= last, f"an address of another block: {report}")
+        check(address in self.allowed, f"an address of no block: {report}")
+        check(random in self.draws, f"a number that was not to be drawn: {report}")
 
     def check_show(self):
         """All gear in order, and all tables; on a site what is promised of them."""
@@ -141,7 +150,7 @@ class Report:
         named = {}
         randoms = set()
         for number, (line, random, short) in enumerate(gear):
-            check(random in self.drawable, f"a random address that was not to be drawn: {line}")
+            check(random == "FFFFFF" or random in self.draws, f"a number that was not to be drawn: {line}")
             check(random == "FFFFFF" or random not in randoms, f"two gear with one random address: {line}")
             randoms.add(random)
             check(self.holders.get(number, (random, short)) == (random, short), f"another address than before: {line}")
