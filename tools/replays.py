@@ -5,10 +5,11 @@ import resource
 import subprocess
 import typing
 
-from threads_report import Disagreement, check
+from threads_report import Disagreement
 
 ROOT = pathlib.Path(__file__).resolve().parent.parent
 PROGRAM = ROOT / "crates" / "dali_sim" / "out" / "dali_sim"
+TRIES = 3
 
 
 def built(program):
@@ -34,13 +35,22 @@ def processor():
     return used.ru_utime + used.ru_stime
 
 
-def play(program, script, seconds=1):
-    """Plays a script. It may take so many seconds of the processor, and by the clock ten times as many."""
+def play_once(program, script, seconds):
     before = processor()
     try:
         done = subprocess.run([program, "replay"], input=script, capture_output=True, timeout=10 * seconds)
     except subprocess.TimeoutExpired as slow:
-        raise Disagreement(f"the run was not over after {10 * seconds} seconds") from slow
+        raise Disagreement(f"the run was not over after {10 * seconds} seconds by the clock") from slow
     taken = processor() - before
-    check(taken <= seconds, f"the run took {taken} seconds of the processor")
     return Played(done.returncode, done.stdout.decode("latin-1"), done.stderr.decode("latin-1"), taken)
+
+
+def play(program, script, seconds=1):
+    """Plays a script. It may take so many seconds of the processor, and by the clock ten times as many. Other work of
+    the machine may hold up a run, so one that is too slow is played again: it is wrong where each is too slow.
+    """
+    for _ in range(TRIES):
+        run = play_once(program, script, seconds)
+        if run.processor <= seconds:
+            return run
+    raise Disagreement(f"each of {TRIES} runs took more than {seconds} seconds of the processor")
