@@ -1,0 +1,198 @@
+"""Scripts for `dali_sim replay`: a site whose rounds are disturbed as numbers from a seed say."""
+
+import dataclasses
+import random
+import re
+
+from script_forms import MOST_BYTES
+
+MOST_GEAR = 128
+MOST_CONTROLLERS = 4
+MOST_DRAWS = 1_024
+MOST_ROUNDS = 30_000
+LAST_ADDRESS = 63
+LAST_RUN = 100_000
+LONGEST_ABSENCE = 20
+
+# What may disturb a frame: at most one of these does.
+FRAME_TROUBLES = {
+    "lost": "no answer to the frame is heard",
+    "noise": "a damaged answer is heard, whoever answered",
+    "destroyed": "the frame is destroyed, and none, one, some or all of the gear take it all the same",
+    "collision": "the frame collides with another one",
+}
+# What may happen before a round, each by itself.
+ROUND_TROUBLES = {
+    "lapse": "the bus lapses",
+    "power": f"a gear loses its power, for at most {LONGEST_ABSENCE} rounds",
+    "restart": f"a controller goes down, for at most {LONGEST_ABSENCE} rounds; every second time its store is told "
+    "before to make the commit that is due",
+    "expire": "the initialisation of a gear ends",
+    "quiet": "the bus is quiet for long",
+    "arc": "a controller asks to send a frame of direct arc power",
+    "show": "the gear and the tables are shown",
+}
+# What may happen before a controller acts. Where no commit is due, the line is refused, and changes nothing.
+COMMIT_TROUBLES = {
+    "store": "a controller's store is told to make the commit that is due, if one is",
+    "fail": "a controller is told that the commit that is due failed, if one is",
+}
+TROUBLES = {**FRAME_TROUBLES, **ROUND_TROUBLES, **COMMIT_TROUBLES}
+
+
+@dataclasses.dataclass
+class Site:
+    """What a script is made of. `chances` has the chance of each trouble in a round, from 0 to 1."""
+
+    gear: int
+    blocks: list
+    seed: object
+    rounds: int
+    draws: int
+    chances: dict
+    spell: bool = False
+
+
+def usual_rounds(gear, controllers):
+    """About as many rounds as the controllers take until all gear have addresses, where nothing disturbs them."""
+    return min(MOST_ROUNDS, 120 * gear * controllers)
+
+
+def usual_draws(gear):
+    return min(MOST_DRAWS, 64 * gear)
+
+
+def block_of(word):
+    """The first and the last address of a block `a-b`."""
+    form = re.fullmatch(r"(0|[1-9][0-9]?)-(0|[1-9][0-9]?)", word)
+    if not form:
+        raise ValueError(f"'{word}' is no block: two addresses with - between them, as in 0-15")
+    first, last = map(int, form.groups())
+    if not first <= last <= LAST_ADDRESS:
+        raise ValueError(f"'{word}' is no block: the last address is at least the first, and at most {LAST_ADDRESS}")
+    return first, last
+
+
+class Rounds:
+    """The lines of a site's rounds, one round after the other."""
+
+    def __init__(self, site):
+        self.site = site
+        self.number = random.Random(f"rounds {site.seed}")
+        self.lines = []
+        self.undisturbed = 0
+        # When each gear that is off, and each controller that is down, comes back.
+        self.off = {}
+        self.down = {}
+
+    def happens(self, trouble):
+        chance = self.site.chances.get(trouble, 0)
+        return chance > 0 and self.number.random() < chance
+
+    def pick(self, count):
+        return self.number.randrange(count)
+
+    def gear_that_take(self):
+        """The list of gear that take a destroyed frame."""
+        gear = range(self.site.gear)
+        half = [g for g in gear if self.number.random() < 0.5]
+        taking = self.number.choice([[], [self.pick(self.site.gear)], half, list(gear)])
+        return ",".join(map(str, taking)) or "-"
+
+    def turn_of_the_bus(self):
+        """The line of the bus, which at most one trouble disturbs."""
+        drawn = self.number.random()
+        for trouble in FRAME_TROUBLES:
+            drawn -= self.site.chances.get(trouble, 0)
+            if drawn < 0:
+                return f"pump {trouble} {self.gear_that_take()}" if trouble == "destroyed" else f"pump {trouble}"
+        return "pump"
+
+    def who_comes_back(self, now):
+        """The lines of the gear and controllers that come back before this round."""
+        lines = []
+        for line, away in (("on", self.off), ("up", self.down)):
+            for who in [who for who, back in away.items() if back <= now]:
+                lines.append(f"{line} {who}")
+                del away[who]
+        return lines
+
+    def who_goes(self, now):
+        """The lines of the gear that lose their power before this round, and of the controllers that go down."""
+        lines = []
+        gear = self.pick(self.site.gear)
+        if self.happens("power") and gear not in self.off:
+            lines.append(f"off {gear}")
+            self.off[gear] = now + 1 + self.pick(LONGEST_ABSENCE)
+        controller = self.pick(len(self.site.blocks))
+        if self.happens("restart") and controller not in self.down:
+            if self.pick(2):
+                lines.append(f"store {controller}")
+            lines.append(f"down {controller}")
+            self.down[controller] = now + self.pick(LONGEST_ABSENCE + 1)
+        return lines
+
+    def before(self, now):
+        """The lines of what happens before a round."""
+        lines = self.who_goes(now) + self.who_comes_back(now)
+        if self.happens("lapse"):
+            lines.append("lapse")
+        if self.happens("expire"):
+            lines.append(f"expire {self.pick(self.site.gear)}")
+        if self.happens("quiet"):
+            lines.append("quiet")
+        if self.happens("arc"):
+            frame = f"{2 * self.pick(128):02X}{self.pick(256):02X}"
+            lines.append(f"arc {self.pick(len(self.site.blocks))} {frame}")
+        if self.happens("show"):
+            lines.append("show")
+        return lines
+
+    def turns(self):
+        """The lines of the controllers that are up, and whether one of them is disturbed."""
+        lines = []
+        disturbed = False
+        for controller in range(len(self.site.blocks)):
+            if controller in self.down:
+                continue
+            for trouble in COMMIT_TROUBLES:
+                if self.happens(trouble):
+                    lines.append(f"{trouble} {controller}")
+                    disturbed = True
+            lines.append(f"go {controller}")
+        return lines, disturbed
+
+    def flush(self):
+        """The rounds since the last disturbed one, in one line."""
+        if self.undisturbed:
+            self.lines.append(f"run {self.undisturbed}")
+            self.undisturbed = 0
+
+    def add(self, now):
+        before = self.before(now)
+        turns, disturbed = self.turns()
+        bus = self.turn_of_the_bus()
+        if before:
+            self.flush()
+            self.lines += before
+        if disturbed or bus != "pump" or self.site.spell:
+            self.flush()
+            self.lines += [*turns, bus]
+        else:
+            self.undisturbed += 1
+
+    def all(self):
+        """All rounds, after which everybody comes back."""
+        for now in range(self.site.rounds):
+            self.add(now)
+        self.flush()
+        return self.lines + self.who_comes_back(self.site.rounds + LONGEST_ABSENCE + 1)
+
+
+def script_of(site):
+    """The whole script, with a last run that nothing disturbs."""
+    numbers = random.Random(f"draws {site.seed}").sample(range(0xFFFFFF), site.draws)
+    blocks = "".join(f" {first}-{last}" for first, last in site.blocks)
+    draws = "".join(f" {number:06X}" for number in numbers)
+    lines = [f"site {site.gear}{blocks}", f"draws{draws}", *Rounds(site).all(), f"run {LAST_RUN}", "show"]
+    return "\n".join(lines) + "\n"
