@@ -1,0 +1,6 @@
+mod Texts
+mod Open
+mod Ordered
+mod Inserted
+mod Effects
+mod Taken
