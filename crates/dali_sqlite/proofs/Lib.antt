@@ -4,3 +4,4 @@ mod Ordered
 mod Inserted
 mod Effects
 mod Taken
+mod Known

@@ -7,6 +7,7 @@ mod refused;
 mod replay;
 mod rows;
 mod statements;
+mod table;
 mod write;
 
 pub use keep::SqliteKeep;

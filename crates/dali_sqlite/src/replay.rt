@@ -24,8 +24,8 @@ pub fn replay<S: Alter>(
     ensures block { IfOk result (λ answer. answer.0.block ≡ block) }
     ensures known { HasCleanDisk (state S.Store conn.new) → IfOk result (λ answer. HasTable (state S.Store conn.old)
         → (xs : List Record) × Holds (state S.Store conn.new) xs × IsKnown answer.0 answer.1 xs) }
-    ensures bad { HasCleanDisk (state S.Store conn.new) → result ≡ Err BadStore → (xs : List Record)
-        → Holds (state S.Store conn.old) xs → AreGood (without_records block) xs → ⊥ }
+    ensures bad { result ≡ Err BadStore → HasCleanDisk (state S.Store conn.new) → IsUp (state S.Store conn.old)
+        × ((xs : List Record) → Holds (state S.Store conn.old) xs → AreGood (without_records block) xs → ⊥) }
     ensures same { IsUp (state S.Store conn.new) → (xs : List Record) → Holds (state S.Store conn.old) xs
         → Holds (state S.Store conn.new) xs }
     ensures up { IsUp (state S.Store conn.new) → IsUp (state S.Store conn.old) }

@@ -80,6 +80,7 @@ pub fn select<S: Alter>(conn: &mut Connection<S>) -> Result<Vec<Row>, KeepError>
         → Holds (state S.Store conn.old) xs → map four_of rows.items ≡ rows_after 0 xs) }
     ensures found { HasCleanDisk (state S.Store conn.new) → IfOk result (λ rows. HasTable (state S.Store conn.old)
         → (xs : List Record) → map four_of rows.items ≡ rows_after 0 xs → Holds (state S.Store conn.new) xs) }
+    ensures open { HasCleanDisk (state S.Store conn.new) → OnOk result (IsUp (state S.Store conn.old)) }
     ensures same { IsUp (state S.Store conn.new) → (xs : List Record) → Holds (state S.Store conn.old) xs
         → Holds (state S.Store conn.new) xs }
     ensures up { IsUp (state S.Store conn.new) → IsUp (state S.Store conn.old) }

@@ -1,4 +1,4 @@
-use Rattle.std.proofs.Common.{[], ◌∷◌, List}
+use Rattle.std.proofs.Common.{[], ◌∷◌, List, arith}
 use Rattle.sqlite.specs.Held.{state}
 use Rattle.dali_sqlite.proofs.Texts.{select_text}
 use Rattle.dali_sqlite.proofs.Open.{was_up, shown_open, query_stays, stays_open, stays_holds}
@@ -30,3 +30,6 @@ returns-in-Err-clause-same g c up =
 pub returns-in-Err-clause-up : goal.returns-in-Err-clause-up
 returns-in-Err-clause-up g c =
     was_up _ _ _ c.query_all.ensures.survives (λ clean. stays_open _ _ (query_stays select_text [] _ _ _ (c.in-Err.ensures.err clean)))
+
+pub returns-in-Ok-clause-open : goal.returns-in-Ok-clause-open
+returns-in-Ok-clause-open g c clean = (omega (arith, c.query_all.ensures.survives.clean, clean), shown_open select_text [] _ _ _ (c.in-Ok.ensures.ok clean))
