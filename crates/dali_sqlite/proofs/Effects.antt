@@ -1,5 +1,5 @@
 -- What the three texts make of a connection.
-use Rattle.std.proofs.Common.{◌≡◌, ◌⊎◌, inl, inr, ℕ, ◌+◌, ◌<◌, ℤ, pos, List, [], ◌∷◌, ◌++◌, map, flat_map, length, Bool, true, false, Option, Some, None, Ok, Err, Result, IsTrue, IsPermutation, refl, sym, ap, subst, ◌∙◌, arith, append-nil}
+use Rattle.std.proofs.Common.{◌≡◌, inl, inr, ℕ, ◌+◌, ℤ, List, [], ◌∷◌, ◌++◌, map, flat_map, length, false, None, Ok, IsTrue, IsPermutation, refl, sym, ap, subst, ◌∙◌, arith, append-nil}
 use Rattle.std.specs.Prelude.{if◌then◌else◌}
 use Rattle.std.proofs.lemmas.List.Sorted.{IsPermutation-refl, IsPermutation-sym, IsPermutation-map, IsPermutation-trans, IsPermutation-append_left, IsPermutation-to_front}
 use Rattle.sqlite.specs.declared.types.Value.TheVariants.{Null, Int}
@@ -7,7 +7,7 @@ use Rattle.sqlite.specs.Order.{Row, column}
 use Rattle.sqlite.specs.Tree.{Trees}
 use Rattle.sqlite.specs.Source.TheVariants.{Values}
 use Rattle.sqlite.specs.Command.{Command}
-use Rattle.sqlite.specs.Command.TheVariants.{Insert, Select, CreateTable}
+use Rattle.sqlite.specs.Command.TheVariants.{Insert, CreateTable}
 use Rattle.sqlite.specs.Term.{Env}
 use Rattle.sqlite.specs.Query.{IsAnswer, Output, output}
 use Rattle.sqlite.specs.Program.{overlay}
@@ -16,9 +16,8 @@ use Rattle.sqlite.specs.Schema.{Schema}
 use Rattle.sqlite.specs.Change.{created, next_tree}
 use Rattle.sqlite.specs.Does.{Tally, Does, lacks_sequence}
 use Rattle.sqlite.specs.Effect.{Database}
-use Rattle.sqlite.specs.Clock.{timed}
 use Rattle.sqlite.specs.Listing.{understood}
-use Rattle.sqlite.specs.State.{State, IsUnchanged, Shows, Writes, Executes, Shown, CommitsBy, text_of, mode_of}
+use Rattle.sqlite.specs.State.{State, IsUnchanged, Shows, Executes, Shown, CommitsBy, text_of, mode_of}
 use Rattle.sqlite.proofs.Callers.{IsPlain, command_of, statement_of, runs_as, reads_as}
 use Rattle.sqlite_keyed.proofs.ListLemmas.{map-map}
 use Rattle.dali_script.specs.declared.records.Record.{Record}

@@ -1,7 +1,7 @@
 -- What the three texts do.
-use Rattle.std.proofs.Common.{◌≡◌, ◌⊎◌, inl, inr, ℕ, ◌+◌, ℤ, pos, List, [], ◌∷◌, ◌++◌, map, length, Bool, true, false, not, cond, Option, Some, None, Ok, Err, Result, Ordering, Less, Equal, Greater, is_eq, IsPermutation, refl, sym, ap, subst, ◌∙◌}
+use Rattle.std.proofs.Common.{◌≡◌, ◌⊎◌, inl, inr, ℕ, ℤ, List, [], ◌∷◌, Bool, true, false, not, cond, Option, None, Ok, Err, Result, Ordering, Less, Equal, Greater, is_eq, IsPermutation, refl, sym, ap, subst, ◌∙◌}
 use Rattle.std.proofs.lemmas.Bool.{or_parts}
-use Rattle.std.specs.Prelude.{◌||◌, ◌&&◌}
+use Rattle.std.specs.Prelude.{◌&&◌}
 use Rattle.std.specs.Ordering.{match_ordering}
 use Rattle.std.specs.List.{list_any}
 use Rattle.std.proofs.lemmas.List.Sorted.{IsPermutation-refl, IsPermutation-cons, IsPermutation-trans, IsPermutation-middle}
@@ -12,21 +12,17 @@ use Rattle.sqlite.specs.Ops.{unary}
 use Rattle.sqlite.specs.Kind.TheVariants.{Integer}
 use Rattle.sqlite.specs.Cast.{cast}
 use Rattle.sqlite.specs.Source.TheVariants.{Values}
-use Rattle.sqlite.specs.Command.TheVariants.{Insert, CreateTable}
+use Rattle.sqlite.specs.Command.TheVariants.{Insert}
 use Rattle.sqlite.specs.Tree.{Trees, rowid, put_row}
-use Rattle.sqlite.specs.Edit.{Edit, edit_of, edited, is_taken}
+use Rattle.sqlite.specs.Edit.{edit_of, is_taken}
 use Rattle.sqlite.specs.Rowids.TheVariants.{Chosen}
-use Rattle.sqlite.specs.Change.{created, next_tree}
-use Rattle.sqlite.specs.Does.{Tally, Does, lacks_sequence}
+use Rattle.sqlite.specs.Does.{Tally, Does}
 use Rattle.sqlite.specs.Rows.{Written}
 use Rattle.sqlite.specs.Effect.{Database}
-use Rattle.sqlite.specs.State.{State, mode_of, Writes, Executes}
 use Rattle.sqlite.specs.declared.run.Mode.{Mode}
-use Rattle.sqlite.specs.Listing.{understood}
-use Rattle.sqlite.specs.declared.error.Error.{Error}
-use Rattle.sqlite.proofs.Callers.{runs_as, one_step}
-use Rattle.dali_sqlite.specs.Table.{record_table, record_schema, no_schema}
-use Rattle.dali_sqlite.proofs.Texts.{create_text, create_is, create_plain, insert_text, insert_is, insert_plain, terms}
+use Rattle.sqlite.proofs.Callers.{one_step}
+use Rattle.dali_sqlite.specs.Table.{record_table, record_schema}
+use Rattle.dali_sqlite.proofs.Texts.{terms}
 
 -- ---- a row with a new rowid, put where it belongs, is one row more
 
@@ -92,8 +88,7 @@ inserts limit mode db after text tally seq kind address random has does =
     let applies = one_step record_schema _ db.trees written.0 edit refl written.1 in
     let news : edit.news ≡ new ∷ [] = ap (λ all. (edit_of db.trees record_table [] Chosen 0 all).news) sourced.1.1 ∙ rw (whole seq, whole kind, whole address, whole random, nothing) refl in
     let free = fresh_one (is_taken (db.trees 0) new) (rw news at applies.fresh) in
-    let rows : written.0 0 ≡ put_row new (db.trees 0) = applies.rows ∙ rw news refl in
-    (
+    let rows : written.0 0 ≡ put_row new (db.trees 0) = applies.rows ∙ rw news refl in (
       ap (λ (d : Database). d.schema) now,
       subst (λ rows. IsPermutation rows (new ∷ db.trees 0)) (sym (ap (λ (d : Database). d.trees 0) now ∙ ap (λ (t : Trees). t 0) trees ∙ rows)) (put_new new (db.trees 0) free),
     )

@@ -43,10 +43,6 @@ pub still_stored : (old new : State) (kept : Kept) (count : ℕ) (must_read : Bo
 still_stored old new kept count must_read same sound =
     stored new kept count must_read sound.records (same sound.records sound.held) (λ read. sound.known read sound.records sound.held)
 
--- a read is due, so nothing is known of it
-pub unknown_stored : (old new : State) (kept now : Kept) (count next : ℕ) (must_read : Bool) → ((xs : List Record) → Holds old xs → Holds new xs) → IsStored old kept count must_read → IsStored new now next true
-unknown_stored old new kept now count next must_read same sound = stored new now next true sound.records (same sound.records sound.held) (λ read. cc)
-
 -- one record more is held and known
 pub more_stored : (old new : State) (kept now : Kept) (count next : ℕ) (x : Record) → address_of x < 64 → Fits kept.block x → IsFresh kept x → now ≡ with_record kept x → next ≡ count + 1
     → ((xs : List Record) → count ≡ length xs → Holds old xs → Holds new (xs ++ x ∷ [])) → IsStored old kept count false → IsStored new now next false

@@ -1,5 +1,5 @@
 -- A call that leaves the connection open found it open, and a refused one leaves the rows.
-use Rattle.std.proofs.Common.{◌≡◌, ◌⊎◌, inl, inr, ℕ, List, Bool, true, false, Option, Some, None, Ok, Err, Result, IsTrue, refl, sym, ap, subst, ◌∙◌, arith}
+use Rattle.std.proofs.Common.{◌≡◌, ◌⊎◌, inl, inr, ℕ, List, Bool, true, false, Option, Some, None, Ok, Err, Result, IsTrue, sym, ap, subst, ◌∙◌, arith}
 use Rattle.std.specs.Prelude.{MatchBool}
 use Rattle.sqlite.specs.Order.{Row}
 use Rattle.sqlite.specs.Command.{Command}
@@ -7,7 +7,7 @@ use Rattle.sqlite.specs.Command.TheVariants.{Select, Insert, InsertOr, Update, D
 use Rattle.sqlite_schema.specs.declared.command.Returning.{Returning}
 use Rattle.sqlite.specs.declared.error.Error.{Error}
 use Rattle.sqlite.specs.Effect.{Database}
-use Rattle.sqlite.specs.State.{State, IsUnchanged, IsRolledBack, Fails, Runs, RunsCommand, RunsAlone, IsNotRun, ExecutesIn, Executes, shows_rows, FailsToShow, FailsToQuery, ShowsRows, Shown, Survives, HasCleanDisk}
+use Rattle.sqlite.specs.State.{State, IsUnchanged, IsRolledBack, Runs, RunsCommand, IsNotRun, ExecutesIn, Executes, shows_rows, FailsToShow, FailsToQuery, ShowsRows, Shown, Survives, HasCleanDisk}
 use Rattle.sqlite.specs.Tree.{Trees}
 use Rattle.dali_script.specs.declared.records.Record.{Record}
 use Rattle.dali_sqlite.specs.Stored.{HasTable, Holds, Lists, IsUp}

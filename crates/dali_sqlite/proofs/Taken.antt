@@ -1,5 +1,5 @@
 -- Rows that are taken one after the other. What is left of them and of the records decides what all of them make.
-use Rattle.std.proofs.Common.{◌≡◌, ℕ, ◌+◌, ◌<◌, ◌≤◌, List, [], ◌∷◌, map, length, drop, get_or, refl, sym, ap, subst, ◌∙◌, arith}
+use Rattle.std.proofs.Common.{◌≡◌, ℕ, ◌+◌, ◌<◌, ◌≤◌, List, [], ◌∷◌, map, length, drop, get_or, refl, sym, ap, subst, ◌∙◌}
 use Rattle.std.proofs.lemmas.List.{drop_more, drop_all}
 use Rattle.sqlite.specs.Order.{Row}
 use Rattle.dali_script.specs.declared.records.Record.{Record}
@@ -36,15 +36,15 @@ module _ (first kept : Kept) (rows : List Row) (before : ℕ) (row : Row) (withi
   pub taken_more : (new : Kept) (x : Record) → four_of row ≡ row_of (before + 1) x → IsGood kept x → new ≡ with_record kept x → HasTaken first new rows (before + 1)
   taken_more new x one good now = record {
     left = λ xs makes.
-    let some = taken.left xs makes in
-    let next = next_is kept row (drop (before + 1) rows) before some.0 (subst (λ rs. Makes kept rs before some.0) dropped some.1) in
-    let same : next.0 ≡ x = same_record (before + 1) next.0 x (sym next.1 ∙ one) in
-    (next.3, subst (λ k. Makes k (drop (before + 1) rows) (before + 1) next.3) (ap (with_record kept) same ∙ sym now) next.4);
+        let some = taken.left xs makes in
+        let next = next_is kept row (drop (before + 1) rows) before some.0 (subst (λ rs. Makes kept rs before some.0) dropped some.1) in
+        let same : next.0 ≡ x = same_record (before + 1) next.0 x (sym next.1 ∙ one) in
+        (next.3, subst (λ k. Makes k (drop (before + 1) rows) (before + 1) next.3) (ap (with_record kept) same ∙ sym now) next.4);
     whole = λ more makes.
-    let here : map four_of (row ∷ drop (before + 1) rows) ≡ rows_after before (x ∷ more) = rw (one, makes.0) refl in
-    let made : Makes kept (row ∷ drop (before + 1) rows) before (x ∷ more) = (here, (good, subst (λ k. AreGood k more) now makes.1)) in
-    let all = taken.whole (x ∷ more) (subst (λ rs. Makes kept rs before (x ∷ more)) (sym dropped) made) in
-    (all.0, all.1, ap (λ k. replay_of k more) now ∙ all.2);
+        let here : map four_of (row ∷ drop (before + 1) rows) ≡ rows_after before (x ∷ more) = rw (one, makes.0) refl in
+        let made : Makes kept (row ∷ drop (before + 1) rows) before (x ∷ more) = (here, (good, subst (λ k. AreGood k more) now makes.1)) in
+        let all = taken.whole (x ∷ more) (subst (λ rs. Makes kept rs before (x ∷ more)) (sym dropped) made) in
+        (all.0, all.1, ap (λ k. replay_of k more) now ∙ all.2);
   }
 
   pub never_taken : ((x : Record) → four_of row ≡ row_of (before + 1) x → IsGood kept x → ⊥) → (xs : List Record) → Makes first rows 0 xs → ⊥

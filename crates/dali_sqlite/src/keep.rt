@@ -17,7 +17,26 @@ use dali_script::{AddError, Block, Kept, MakeError, Record};
 use sqlite::{Alter, Connection};
 use std::alloc::Global;
 
-/// A store in a SQLite database.
+/// A store in a SQLite database, over a connection that is handed in.
+///
+/// The database has one table, and each record is one row of it:
+///
+/// ```sql
+/// CREATE TABLE record(
+///   seq INTEGER PRIMARY KEY,
+///   kind INTEGER NOT NULL,
+///   address INTEGER NOT NULL CHECK(address BETWEEN 0 AND 63),
+///   random INTEGER NOT NULL CHECK(random BETWEEN 0 AND 16777214))
+/// ```
+///
+/// `seq` counts the records from 1 on, in the order of their commits. `kind` is 1 for `Reserve` and 2 for `Enrol`;
+/// `address` is the short address, and `random` the random address of the gear.
+///
+/// Contracts see what lies under the store as what its connection shows (`state` of `sqlite`): the list that is held
+/// is the rows of the table, and what is held is committed (`Holds` in `specs/Stored`). They are promised where the
+/// connection is open and its disk has returned what was written (`IsUp`). Memory does that always; a file does it
+/// while nobody else writes it. Nothing is promised of a database that has another table, index or view beside this
+/// one, or a table of this name that was made by another text.
 pub struct SqliteKeep<S: Alter> {
     conn: Connection<S>,
     /// What the records are known to be, and how many there are, unless a read is due.
@@ -38,7 +57,18 @@ impl<S: Alter + Drop> Drop for SqliteKeep<S> {
 }
 
 impl<S: Alter + Drop> SqliteKeep<S> {
-    /// A store over a connection.
+    /// A store over this connection, for a controller with this block. It makes the table where it isn't there, and
+    /// reads it, so that the first commit needs no read.
+    ///
+    /// The connection is to show an empty database, or one that has this table alone (`IsOurs`). A refusal drops it:
+    ///
+    /// - 5 `BadStore`: the table's rows are no list of records of this block. That is so where `seq` isn't 1, 2, ..
+    ///   without a gap, where a value is no whole number in the range of its column, where a kind is neither 1 nor 2,
+    ///   where a reservation lies outside the block, or where an address or a random address stands in two records
+    ///   of one kind. `last` of the clause `bad` is the connection as it was dropped.
+    /// - 2 `StoreFailed`: the connection is inside a transaction, a table of this name cannot be read so, or the
+    ///   disk failed.
+    /// - 1 `NoMemory`.
     pub fn over(
         alloc: Global,
         mut conn: Connection<S>,
@@ -66,7 +96,7 @@ impl<S: Alter + Drop> SqliteKeep<S> {
         })
     }
 
-    /// Gives the connection back.
+    /// The connection, with what is stored: to close its files, or to hand it to another program.
     pub fn into_connection(self) -> Connection<S>
         ensures { result ≡ self.conn }
     {
@@ -97,6 +127,7 @@ impl<S: Alter + Drop> Keep for SqliteKeep<S> {
 
     ghost replay = { λ k xs sound read held. (sound.known read xs held).0 };
 
+    /// The replay of the table's rows, by `seq`. `BadStore` as of `over`.
     fn read(&mut self, alloc: Global) -> Result<Kept, KeepError> {
         let (kept, count) = replay(alloc, &mut self.conn, self.kept.block())?;
         let answer = match kept.copy(alloc) {
@@ -109,6 +140,10 @@ impl<S: Alter + Drop> Keep for SqliteKeep<S> {
         Ok(answer)
     }
 
+    /// Adds one row, in one statement that SQLite commits. It takes memory.
+    ///
+    /// `AddressTaken` and `RandomTaken` are told before the statement. There are at most 9,223,372,036,854,775,807
+    /// records; one more is `StoreFailed`.
     fn commit(&mut self, added: Record) -> Result<(), KeepError> {
         if self.must_read {
             return Err(KeepError::StoreFailed);

@@ -15,6 +15,7 @@ use sqlite::types::ValueRef;
 
 /// The kind that the table has of a reservation, and of an enrolment.
 const RESERVE: u32 = 1;
+
 const ENROL: u32 = 2;
 
 /// The column `kind` of a record.

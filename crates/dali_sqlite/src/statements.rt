@@ -86,7 +86,10 @@ pub fn select<S: Alter>(conn: &mut Connection<S>) -> Result<Vec<Row>, KeepError>
     ensures up { IsUp (state S.Store conn.new) → IsUp (state S.Store conn.old) }
     ensures refusal { IfErr result HasFailed }
 {
-    match conn.query_all("SELECT seq, kind, address, random FROM record ORDER BY seq", &[]) {
+    match conn.query_all(
+        "SELECT seq, kind, address, random FROM record ORDER BY seq",
+        &[],
+    ) {
         Ok(rows) => Ok(rows),
         Err(error) => Err(refusal(error)),
     }

@@ -1,4 +1,4 @@
-use Rattle.std.proofs.Common.{[], ◌∷◌, inl, inr, pos, w64}
+use Rattle.std.proofs.Common.{inl, inr, pos, w64}
 use Rattle.std.proofs.lemmas.Int.{to_z-of_z}
 use Rattle.sqlite.specs.Held.{state}
 use Rattle.dali_sqlite.proofs.Texts.{insert_text}

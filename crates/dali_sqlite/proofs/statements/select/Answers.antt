@@ -1,4 +1,4 @@
-use Rattle.std.proofs.Common.{[], ◌∷◌, List, arith}
+use Rattle.std.proofs.Common.{[], arith}
 use Rattle.sqlite.specs.Held.{state}
 use Rattle.dali_sqlite.proofs.Texts.{select_text}
 use Rattle.dali_sqlite.proofs.Open.{was_up, shown_open, query_stays, stays_open, stays_holds}

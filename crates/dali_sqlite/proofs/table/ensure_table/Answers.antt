@@ -1,6 +1,5 @@
-use Rattle.std.proofs.Common.{◌≡◌, ◌⊎◌, inl, inr, Bool, true, false, not, Some, Result, Ok, Err, OnOk, refl, sym, ap, ◌∙◌, codes, [], true≢false}
+use Rattle.std.proofs.Common.{◌≡◌, inl, inr, Bool, true, false, not, Result, Ok, Err, OnOk, refl, sym, ap, ◌∙◌, codes, true≢false}
 use Rattle.std.specs.Prelude.{is_some}
-use Rattle.sqlite.specs.Held.{state}
 use Rattle.sqlite.specs.Schema.{Schema}
 use Rattle.sqlite_schema.specs.Names.{table_named}
 use Rattle.dali_sqlite.specs.Table.{record_schema}
