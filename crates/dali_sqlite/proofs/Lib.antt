@@ -1,0 +1,7 @@
+mod Texts
+mod Open
+mod Ordered
+mod Inserted
+mod Effects
+mod Taken
+mod Known

@@ -1,0 +1,161 @@
+ghost use Rattle.std.specs.Prelude.{◌≡◌, List, [], false, IfOk, IfErr, Err};
+ghost use Rattle.sqlite.specs.State.{HasCleanDisk};
+ghost use Rattle.sqlite.specs.Held.{Held, state};
+ghost use Rattle.dali_script.specs.declared.records.Record.{Record};
+ghost use Rattle.dali_script.specs.Records.{without_records};
+ghost use Rattle.dali_reserve.specs.declared.error.KeepError.TheVariants.{BadStore};
+ghost use Rattle.dali_reserve.specs.Refusals.{RefusesRead};
+ghost use Rattle.dali_reserve.specs.Store.{AreGood};
+ghost use Rattle.dali_sqlite.specs.Table.{no_schema};
+ghost use Rattle.dali_sqlite.specs.Stored.{Holds, IsUp, IsOurs, IsStored};
+
+use crate::replay::replay;
+use crate::table::ensure_table;
+use crate::write::write;
+use dali_reserve::{Keep, KeepError};
+use dali_script::{AddError, Block, Kept, MakeError, Record};
+use sqlite::{Alter, Connection};
+use std::alloc::Global;
+
+/// A store in a SQLite database, over a connection that is handed in.
+///
+/// The database has one table, and each record is one row of it:
+///
+/// ```sql
+/// CREATE TABLE record(
+///   seq INTEGER PRIMARY KEY,
+///   kind INTEGER NOT NULL,
+///   address INTEGER NOT NULL CHECK(address BETWEEN 0 AND 63),
+///   random INTEGER NOT NULL CHECK(random BETWEEN 0 AND 16777214))
+/// ```
+///
+/// `seq` counts the records from 1 on, in the order of their commits. `kind` is 1 for `Reserve` and 2 for `Enrol`;
+/// `address` is the short address, and `random` the random address of the gear.
+///
+/// Contracts see what lies under the store as what its connection shows (`state` of `sqlite`): the list that is held
+/// is the rows of the table, and what is held is committed (`Holds` in `specs/Stored`). They are promised where the
+/// connection is open and its disk has returned what was written (`IsUp`). Memory does that always; a file does it
+/// while nobody else writes it. Nothing is promised of a database that has another table, index or view beside this
+/// one, or a table of this name that was made by another text.
+pub struct SqliteKeep<S: Alter> {
+    conn: Connection<S>,
+    /// What the records are known to be, and how many there are, unless a read is due.
+    kept: Kept,
+    count: usize,
+    must_read: bool,
+}
+
+impl<S: Alter + Drop> Drop for SqliteKeep<S> {
+    fn drop(self) {
+        let SqliteKeep {
+            conn: _,
+            kept: _,
+            count: _,
+            must_read: _,
+        } = self;
+    }
+}
+
+impl<S: Alter + Drop> SqliteKeep<S> {
+    /// A store over this connection, for a controller with this block. It makes the table where it isn't there, and
+    /// reads it, so that the first commit needs no read.
+    ///
+    /// The connection is to show an empty database, or one that has this table alone (`IsOurs`). A refusal drops it:
+    ///
+    /// - 5 `BadStore`: the table's rows are no list of records of this block. That is so where `seq` isn't 1, 2, ..
+    ///   without a gap, where a value is no whole number in the range of its column, where a kind is neither 1 nor 2,
+    ///   where a reservation lies outside the block, or where an address or a random address stands in two records
+    ///   of one kind. `last` of the clause `bad` is the connection as it was dropped.
+    /// - 2 `StoreFailed`: the connection is inside a transaction, a table of this name cannot be read so, or the
+    ///   disk failed.
+    /// - 1 `NoMemory`.
+    pub fn over(
+        alloc: Global,
+        mut conn: Connection<S>,
+        block: Block,
+    ) -> Result<SqliteKeep<S>, KeepError>
+        ensures block { IfOk result (λ k. k.kept.block ≡ block) }
+        ensures read { IfOk result (λ k. k.must_read ≡ false) }
+        ensures sound { IfOk result (λ k. IsUp (state S.Store k.conn) → IsOurs (state S.Store conn)
+            → IsStored (state S.Store k.conn) k.kept k.count k.must_read) }
+        ensures same { IfOk result (λ k. IsUp (state S.Store k.conn) → (xs : List Record)
+            → Holds (state S.Store conn) xs → Holds (state S.Store k.conn) xs) }
+        ensures empty { IfOk result (λ k. IsUp (state S.Store k.conn)
+            → (state S.Store conn).now.schema ≡ no_schema → Holds (state S.Store k.conn) []) }
+        ensures refusal { IfErr result RefusesRead }
+        ensures bad { result ≡ Err BadStore → (last : Held S) × (HasCleanDisk (state S.Store last)
+            → (xs : List Record) → Holds (state S.Store conn) xs → AreGood (without_records block) xs → ⊥) }
+    {
+        ensure_table(&mut conn)?;
+        let (kept, count) = replay(alloc, &mut conn, block)?;
+        Ok(SqliteKeep {
+            conn,
+            kept,
+            count,
+            must_read: false,
+        })
+    }
+
+    /// The connection, with what is stored: to close its files, or to hand it to another program.
+    pub fn into_connection(self) -> Connection<S>
+        ensures { result ≡ self.conn }
+    {
+        let SqliteKeep {
+            conn,
+            kept: _,
+            count: _,
+            must_read: _,
+        } = self;
+        conn
+    }
+}
+
+impl<S: Alter + Drop> Keep for SqliteKeep<S> {
+    ghost block = { λ k. k.kept.block };
+
+    ghost holds = { λ k xs. Holds (state S.Store k.conn) xs };
+
+    ghost kept = { λ k. k.kept };
+
+    ghost must_read = { λ k. k.must_read };
+
+    ghost is_sound = { λ k. IsStored (state S.Store k.conn) k.kept k.count k.must_read };
+
+    ghost is_up = { λ k. IsUp (state S.Store k.conn) };
+
+    ghost has_records = { λ k sound. (sound.records, sound.held) };
+
+    ghost replay = { λ k xs sound read held. (sound.known read xs held).0 };
+
+    /// The replay of the table's rows, by `seq`. `BadStore` as of `over`.
+    fn read(&mut self, alloc: Global) -> Result<Kept, KeepError> {
+        let (kept, count) = replay(alloc, &mut self.conn, self.kept.block())?;
+        let answer = match kept.copy(alloc) {
+            Ok(answer) => answer,
+            Err(MakeError::NoMemory) => return Err(KeepError::NoMemory),
+        };
+        self.kept = kept;
+        self.count = count;
+        self.must_read = false;
+        Ok(answer)
+    }
+
+    /// Adds one row, in one statement that SQLite commits. It takes memory.
+    ///
+    /// `AddressTaken` and `RandomTaken` are told before the statement. There are at most 9,223,372,036,854,775,807
+    /// records; one more is `StoreFailed`.
+    fn commit(&mut self, added: Record) -> Result<(), KeepError> {
+        if self.must_read {
+            return Err(KeepError::StoreFailed);
+        }
+        match self.kept.add(added) {
+            Ok(()) => {}
+            Err(AddError::AddressTaken) => return Err(KeepError::AddressTaken),
+            Err(AddError::RandomTaken) => return Err(KeepError::RandomTaken),
+        }
+        self.must_read = true;
+        self.count = write(&mut self.conn, self.count, &added)?;
+        self.must_read = false;
+        Ok(())
+    }
+}

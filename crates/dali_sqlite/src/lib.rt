@@ -1,0 +1,13 @@
+//! Records in a SQLite database: a store of [`dali_reserve::Keep`] over a connection that is handed in
+//! ([`SqliteKeep`]).
+#![tactic(auto)]
+
+mod keep;
+mod refused;
+mod replay;
+mod rows;
+mod statements;
+mod table;
+mod write;
+
+pub use keep::SqliteKeep;

@@ -1,0 +1,188 @@
+//! One story over both stores, through the promises of every store.
+
+ghost use Rattle.std.specs.Prelude.{◌≡◌};
+
+use super::values::Pair::{Enrol, Reserve};
+use super::values::{Pair, are_pairs, block, number, same};
+use dali_reserve::{Keep, KeepError, MemoryKeep};
+use dali_script::{Kept, Record};
+use dali_sqlite::SqliteKeep;
+use sqlite::{Alter, Connection, MemStore};
+use std::alloc::Global;
+use std::process::Abort;
+use std::test::Fail;
+
+/// Reads, and commits what fits what was read: all that a worker does with its store.
+fn read_and_commit<K: Keep>(
+    keep: &mut K,
+    alloc: Global,
+    added: Record,
+) -> Result<Result<(), KeepError>, Fail> {
+    let kept = keep.read(alloc)?;
+    if kept.fits(&added) {
+        Ok(keep.commit(added))
+    } else {
+        Err(Fail::from("a record that does not fit"))
+    }
+}
+
+/// Commits each of these in turn, with this answer.
+pub fn commits<K: Keep>(
+    rt: &impl Abort,
+    alloc: Global,
+    keep: &mut K,
+    added: &[(Pair, Result<(), KeepError>)],
+) -> Result<(), Fail> {
+    for (one, wanted) in added {
+        same(rt, &read_and_commit(keep, alloc, one.record()?)?, wanted);
+    }
+    Ok(())
+}
+
+/// A read has these reserved and enrolled, oldest first.
+pub fn reads<K: Keep>(
+    rt: &impl Abort,
+    alloc: Global,
+    keep: &mut K,
+    reserved: &[(u8, u32)],
+    enrolled: &[(u8, u32)],
+) -> Result<(), Fail> {
+    let kept = keep.read(alloc)?;
+    are_pairs(rt, kept.reserved(), reserved);
+    are_pairs(rt, kept.enrolled(), enrolled);
+    Ok(())
+}
+
+/// A list of commits with each refusal, and what is read back.
+pub fn commits_are_read_back<K: Keep>(
+    rt: &impl Abort,
+    alloc: Global,
+    keep: &mut K,
+) -> Result<(), Fail> {
+    let added = [
+        (Reserve(0, 0x123456), Ok(())),
+        (Reserve(0, 0x000001), Err(KeepError::AddressTaken)),
+        (Reserve(1, 0x123456), Err(KeepError::RandomTaken)),
+        // Both are taken.
+        (Reserve(0, 0x123456), Err(KeepError::AddressTaken)),
+        // An enrolment is judged among enrolments alone, and may lie outside the block.
+        (Enrol(0, 0x123456), Ok(())),
+        (Enrol(9, 0x000001), Ok(())),
+        (Enrol(9, 0x000002), Err(KeepError::AddressTaken)),
+        (Enrol(1, 0x000001), Err(KeepError::RandomTaken)),
+        (Reserve(3, 0xFFFFFE), Ok(())),
+        (Reserve(1, 0x000000), Ok(())),
+    ];
+    commits(rt, alloc, keep, &added)?;
+    let reserved = [(0, 0x123456), (3, 0xFFFFFE), (1, 0x000000)];
+    let enrolled = [(0, 0x123456), (9, 0x000001)];
+    reads(rt, alloc, keep, &reserved, &enrolled)
+}
+
+/// A store over a database in memory, of this block.
+pub fn in_memory(alloc: Global, bounds: (u8, u8)) -> Result<SqliteKeep<MemStore>, Fail> {
+    let conn = Connection::open_in_memory(alloc)?;
+    Ok(SqliteKeep::over(alloc, conn, block(bounds.0, bounds.1)?)?)
+}
+
+#[test]
+fn a_store_in_memory_keeps_a_list(rt: HostRuntime) -> Result<(), Fail> {
+    let mut keep = MemoryKeep::new(rt.alloc(), block(0, 3)?)?;
+    commits_are_read_back(&rt, rt.alloc(), &mut keep)
+}
+
+#[test]
+fn a_store_in_a_database_keeps_a_list(rt: HostRuntime) -> Result<(), Fail> {
+    let mut keep = in_memory(rt.alloc(), (0, 3))?;
+    commits_are_read_back(&rt, rt.alloc(), &mut keep)
+}
+
+/// Commits a record that fits records of the store's block, with no read before it.
+fn commit_unread<K: Keep>(
+    keep: &mut K,
+    none: &Kept,
+    added: Record,
+) -> Result<Result<(), KeepError>, Fail>
+    requires { K.block keep.old ≡ none.now.block }
+    ensures { K.block keep.new ≡ K.block keep.old }
+{
+    if none.fits(&added) {
+        Ok(keep.commit(added))
+    } else {
+        Err(Fail::from("a record that does not fit"))
+    }
+}
+
+/// A new store takes its first commits without a read.
+fn begins(rt: &impl Abort, alloc: Global) -> Result<(), Fail> {
+    let bounds = block(0, 3)?;
+    let none = Kept::new(alloc, bounds)?;
+    let conn = Connection::open_in_memory(alloc)?;
+    let mut keep = SqliteKeep::over(alloc, conn, bounds)?;
+    let first = commit_unread(&mut keep, &none, Reserve(2, 1).record()?)?;
+    same(rt, &first, &Ok(()));
+    let second = commit_unread(&mut keep, &none, Reserve(2, 2).record()?)?;
+    same(rt, &second, &Err(KeepError::AddressTaken));
+    let third = commit_unread(&mut keep, &none, Enrol(2, 1).record()?)?;
+    same(rt, &third, &Ok(()));
+    reads(rt, alloc, &mut keep, &[(2, 1)], &[(2, 1)])
+}
+
+#[test]
+fn the_first_commit_needs_no_read(rt: HostRuntime) -> Result<(), Fail> {
+    begins(&rt, rt.alloc())
+}
+
+/// A reservation and an enrolment of each short address are committed.
+pub fn fill<K: Keep>(rt: &impl Abort, alloc: Global, keep: &mut K) -> Result<(), Fail> {
+    for address in 0..64 {
+        let drawn = u32::from(address) + 0x400000;
+        let added = [
+            (Reserve(address, drawn), Ok(())),
+            (Enrol(63 - address, drawn), Ok(())),
+        ];
+        commits(rt, alloc, keep, &added)?;
+    }
+    Ok(())
+}
+
+/// Every address is taken, in both kinds.
+fn is_full<K: Keep>(rt: &impl Abort, alloc: Global, keep: &mut K) -> Result<(), Fail> {
+    let kept = keep.read(alloc)?;
+    same(
+        rt,
+        &(kept.reserved().len(), kept.enrolled().len()),
+        &(64, 64),
+    );
+    same(rt, &kept.first_free().is_none(), &true);
+    Ok(())
+}
+
+#[test]
+fn every_address_has_room(rt: HostRuntime) -> Result<(), Fail> {
+    let mut keep = in_memory(rt.alloc(), (0, 63))?;
+    fill(&rt, rt.alloc(), &mut keep)?;
+    is_full(&rt, rt.alloc(), &mut keep)?;
+    let again = SqliteKeep::over(rt.alloc(), keep.into_connection(), block(0, 63)?);
+    is_full(&rt, rt.alloc(), &mut again?)
+}
+
+/// The rows are those that the documents show.
+fn shows_rows<S: Alter>(rt: &impl Abort, conn: &mut Connection<S>) -> Result<(), Fail> {
+    same(rt, &number(conn, "SELECT count(*) FROM record")?, &2);
+    let reserve =
+        "SELECT count(*) FROM record WHERE seq = 1 AND kind = 1 AND address = 2 AND random = 1193046";
+    same(rt, &number(conn, reserve)?, &1);
+    let enrol =
+        "SELECT count(*) FROM record WHERE seq = 2 AND kind = 2 AND address = 9 AND random = 16777214";
+    same(rt, &number(conn, enrol)?, &1);
+    Ok(())
+}
+
+#[test]
+fn records_are_rows_that_other_programs_read(rt: HostRuntime) -> Result<(), Fail> {
+    let mut keep = in_memory(rt.alloc(), (0, 3))?;
+    let added = [(Reserve(2, 0x123456), Ok(())), (Enrol(9, 0xFFFFFE), Ok(()))];
+    commits(&rt, rt.alloc(), &mut keep, &added)?;
+    shows_rows(&rt, &mut keep.into_connection())
+}

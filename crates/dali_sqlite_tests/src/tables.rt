@@ -1,0 +1,138 @@
+//! What other programs may leave in the table.
+
+use super::stores::reads;
+use super::values::{block, run, same};
+use dali_reserve::KeepError;
+use dali_sqlite::SqliteKeep;
+use sqlite::{Connection, MemStore};
+use std::alloc::Global;
+use std::process::Abort;
+use std::test::Fail;
+
+/// The table of a store.
+const TABLE: &str = "CREATE TABLE record(
+  seq INTEGER PRIMARY KEY,
+  kind INTEGER NOT NULL,
+  address INTEGER NOT NULL CHECK(address BETWEEN 0 AND 63),
+  random INTEGER NOT NULL CHECK(random BETWEEN 0 AND 16777214));";
+
+/// A table of the same columns, which takes all values.
+const LOOSE: &str = "CREATE TABLE record(seq INTEGER PRIMARY KEY, kind, address, random);";
+
+/// A database in memory, after these statements of another program.
+fn database(alloc: Global, table: &str, rows: &str) -> Result<Connection<MemStore>, Fail> {
+    let mut conn = Connection::open_in_memory(alloc)?;
+    run(&mut conn, table)?;
+    run(&mut conn, rows)?;
+    Ok(conn)
+}
+
+/// What a store of the block 0 to 3 over such a database answers.
+fn over(alloc: Global, table: &str, rows: &str) -> Result<Result<(), KeepError>, Fail> {
+    let conn = database(alloc, table, rows)?;
+    Ok(SqliteKeep::over(alloc, conn, block(0, 3)?).map(|_| ()))
+}
+
+/// Each of these leaves a table over which a store is refused so.
+fn are_refused(
+    rt: &impl Abort,
+    alloc: Global,
+    table: &str,
+    all: &[&str],
+    wanted: KeepError,
+) -> Result<(), Fail> {
+    for rows in all {
+        same(rt, &over(alloc, table, rows)?, &Err(wanted));
+    }
+    Ok(())
+}
+
+#[test]
+fn a_reservation_outside_the_block_is_a_bad_store(rt: HostRuntime) -> Result<(), Fail> {
+    let rows = ["INSERT INTO record VALUES (1, 1, 9, 1)"];
+    are_refused(&rt, rt.alloc(), TABLE, &rows, KeepError::BadStore)
+}
+
+#[test]
+fn rows_that_are_no_list_are_a_bad_store(rt: HostRuntime) -> Result<(), Fail> {
+    let rows = [
+        // `seq` has a gap, begins at 0, at 2, or below 0.
+        "INSERT INTO record VALUES (1, 1, 0, 1), (3, 1, 1, 2)",
+        "INSERT INTO record VALUES (0, 1, 0, 1), (1, 1, 1, 2)",
+        "INSERT INTO record VALUES (2, 1, 0, 1)",
+        "INSERT INTO record VALUES (-1, 1, 0, 1), (1, 1, 1, 2)",
+        // Kinds that are unknown.
+        "INSERT INTO record VALUES (1, 0, 0, 1)",
+        "INSERT INTO record VALUES (1, 3, 0, 1)",
+        "INSERT INTO record VALUES (1, 4, 0, 1)",
+        "INSERT INTO record VALUES (1, -1, 0, 1)",
+        "INSERT INTO record VALUES (1, 4294967297, 0, 1)",
+        // A short address, or a random address, in two records of a kind.
+        "INSERT INTO record VALUES (1, 1, 0, 1), (2, 1, 0, 2)",
+        "INSERT INTO record VALUES (1, 1, 0, 1), (2, 1, 1, 1)",
+        "INSERT INTO record VALUES (1, 2, 0, 1), (2, 2, 0, 2)",
+        "INSERT INTO record VALUES (1, 2, 0, 1), (2, 2, 1, 1)",
+    ];
+    are_refused(&rt, rt.alloc(), TABLE, &rows, KeepError::BadStore)
+}
+
+#[test]
+fn values_outside_their_columns_are_a_bad_store(rt: HostRuntime) -> Result<(), Fail> {
+    let rows = [
+        // Short addresses and random addresses that are too large, or below 0.
+        "INSERT INTO record VALUES (1, 2, 64, 1)",
+        "INSERT INTO record VALUES (1, 2, 256, 1)",
+        "INSERT INTO record VALUES (1, 2, -1, 1)",
+        "INSERT INTO record VALUES (1, 2, 0, 16777215)",
+        "INSERT INTO record VALUES (1, 2, 0, 16777216)",
+        "INSERT INTO record VALUES (1, 2, 0, 4294967297)",
+        "INSERT INTO record VALUES (1, 2, 0, -1)",
+        // NULL, a text, a real number and a blob in each column.
+        "INSERT INTO record VALUES (1, NULL, 0, 1)",
+        "INSERT INTO record VALUES (1, 2, NULL, 1)",
+        "INSERT INTO record VALUES (1, 2, 0, NULL)",
+        "INSERT INTO record VALUES (1, '2', 0, 1)",
+        "INSERT INTO record VALUES (1, 2, '0', 1)",
+        "INSERT INTO record VALUES (1, 2, 0, 'one')",
+        "INSERT INTO record VALUES (1, 2.0, 0, 1)",
+        "INSERT INTO record VALUES (1, 2, 0.5, 1)",
+        "INSERT INTO record VALUES (1, 2, 0, 1.0)",
+        "INSERT INTO record VALUES (1, x'02', 0, 1)",
+        "INSERT INTO record VALUES (1, 2, x'00', 1)",
+        "INSERT INTO record VALUES (1, 2, 0, x'01')",
+    ];
+    are_refused(&rt, rt.alloc(), LOOSE, &rows, KeepError::BadStore)
+}
+
+#[test]
+fn other_tables_of_this_name_fail(rt: HostRuntime) -> Result<(), Fail> {
+    let tables = [
+        "CREATE TABLE record(seq INTEGER PRIMARY KEY, kind INTEGER, address INTEGER)",
+        "CREATE TABLE RECORD(id INTEGER PRIMARY KEY)",
+        "CREATE VIEW record AS SELECT 1 AS seq",
+        "BEGIN",
+    ];
+    are_refused(&rt, rt.alloc(), "", &tables, KeepError::StoreFailed)
+}
+
+/// A store of the block 0 to 3 over such a database reads these.
+fn holds(
+    rt: &impl Abort,
+    alloc: Global,
+    rows: &str,
+    reserved: &[(u8, u32)],
+    enrolled: &[(u8, u32)],
+) -> Result<(), Fail> {
+    let conn = database(alloc, TABLE, rows)?;
+    let mut keep = SqliteKeep::over(alloc, conn, block(0, 3)?)?;
+    reads(rt, alloc, &mut keep, reserved, enrolled)
+}
+
+#[test]
+fn rows_may_come_in_any_order(rt: HostRuntime) -> Result<(), Fail> {
+    let rows =
+        "INSERT INTO record VALUES (3, 1, 3, 16777214), (1, 1, 0, 7), (4, 2, 9, 7), (2, 2, 0, 0)";
+    let reserved = [(0, 7), (3, 0xFFFFFE)];
+    let enrolled = [(0, 0), (9, 7)];
+    holds(&rt, rt.alloc(), rows, &reserved, &enrolled)
+}

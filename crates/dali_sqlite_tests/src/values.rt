@@ -1,0 +1,64 @@
+//! Values by their numbers, statements by their texts, and the one assertion that compares two values.
+
+use dali_frame::{Random24, Short};
+use dali_script::{Block, Record};
+use sqlite::{Alter, Connection, Error};
+use std::fmt::Debug;
+use std::process::Abort;
+use std::test::Fail;
+
+/// What a call answered is what was wanted.
+pub fn same<T: PartialEq + Debug>(rt: &impl Abort, was: &T, wanted: &T) {
+    assert_eq!(rt; was, wanted);
+}
+
+pub fn short(number: u8) -> Result<Short, Fail> {
+    Ok(Short::of(number).ok_or("a short address")?)
+}
+
+pub fn random(number: u32) -> Result<Random24, Fail> {
+    Ok(Random24::of(number).ok_or("a random address")?)
+}
+
+pub fn block(first: u8, last: u8) -> Result<Block, Fail> {
+    Ok(Block {
+        first: short(first)?,
+        last: short(last)?,
+    })
+}
+
+/// A record, by the numbers of its addresses.
+#[derive(Clone, Copy)]
+pub enum Pair {
+    Reserve(u8, u32),
+    Enrol(u8, u32),
+}
+
+impl Pair {
+    pub fn record(self) -> Result<Record, Fail> {
+        match self {
+            Pair::Reserve(address, number) => {
+                Ok(Record::Reserve(short(address)?, random(number)?))
+            }
+            Pair::Enrol(address, number) => Ok(Record::Enrol(short(address)?, random(number)?)),
+        }
+    }
+}
+
+/// These pairs of a short and a random address are these numbers, in this order.
+pub fn are_pairs(rt: &impl Abort, pairs: &[(Short, Random24)], wanted: &[(u8, u32)]) {
+    assert!(rt; pairs.len() == wanted.len());
+    for (pair, numbers) in pairs.iter().zip(wanted) {
+        same(rt, &(pair.0.number(), pair.1.value()), numbers);
+    }
+}
+
+/// Runs these statements, as another program does.
+pub fn run<S: Alter>(conn: &mut Connection<S>, sql: &str) -> Result<(), Error> {
+    conn.execute_batch(sql)
+}
+
+/// The number that a query answers.
+pub fn number<S: Alter>(conn: &mut Connection<S>, sql: &str) -> Result<i64, Error> {
+    conn.query_row(sql, &[])?.get(0)
+}
