@@ -1,2 +1,3 @@
-mod Lists
 pub mod Collisions
+mod FirstList
+mod Lists

@@ -1,3 +1,3 @@
 pub mod Numbers
 pub mod Arbiter
-pub mod Listed
+pub mod Held

@@ -1,12 +1,6 @@
 use Rattle.std.specs.Prelude.{ℕ}
-use Rattle.dali_arbiter.specs.declared.error.NewError.{NewError}
-use Rattle.dali_arbiter.specs.declared.error.NewError.TheVariants as new_error
 use Rattle.dali_arbiter.specs.declared.error.OfferError.{OfferError}
 use Rattle.dali_arbiter.specs.declared.error.OfferError.TheVariants as offer_error
-
-abbrev pub number_of_new : NewError → ℕ
-number_of_new new_error.NoMemory = 1
-number_of_new new_error.BadCapacity = 2
 
 abbrev pub number_of_offer : OfferError → ℕ
 number_of_offer offer_error.QueueFull = 1

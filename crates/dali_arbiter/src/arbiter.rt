@@ -2,15 +2,16 @@ ghost use Rattle.std.specs.Prelude.{◌≡◌, ℕ, ◌<◌, ◌≤◌, ◌↔�
 ghost use Rattle.std.specs.Prelude.{IfErr, OnErr, IsErrOf, IsTrue};
 ghost use Rattle.std.specs.List.{AllByRecursion};
 ghost use Rattle.dali_arbiter.specs.declared.request.Request.{Request};
-ghost use Rattle.dali_arbiter.specs.declared.error.NewError.TheVariants.{BadCapacity};
+ghost use Rattle.dali_ring.specs.declared.error.NewError.TheVariants.{BadCapacity};
 ghost use Rattle.dali_arbiter.specs.Arbiter.{Arbiter, idle, total, next, request_of, offer_refusal, bus_offered};
 ghost use Rattle.dali_arbiter.specs.Arbiter.{bus_sent, bus_destroyed, collision, bus_collided, bus_lapsed};
 ghost use Rattle.dali_arbiter.specs.Arbiter.{bus_silenced, first_list, bus_taken, bus_freed, is_barred};
 
-use crate::error::{NewError, OfferError};
+use crate::error::OfferError;
 use crate::request::Request;
 use crate::waiting;
 use dali_frame::{Forward, Priority};
+use dali_ring::{NewError, Ring};
 use std::alloc::Global;
 use std::marker::Model;
 
@@ -19,8 +20,7 @@ use std::marker::Model;
 /// Contracts see the five lists, the owner, and how many requests may wait.
 #[derive(Drop)]
 pub struct Arbiter {
-    waiting: Vec<Request>,
-    capacity: usize,
+    waiting: Ring<Request>,
     owner: Option<u8>,
 }
 
@@ -29,12 +29,11 @@ impl Model for Arbiter {
 
     ghost Value = { Arbiter };
 
-    ghost use Rattle.std.specs.Prelude.{vec_capacity};
-    ghost use Rattle.dali_arbiter.specs.Listed.{lists_of, IsKept};
+    ghost use Rattle.dali_arbiter.specs.Held.{IsHeld};
 
-    ghost view = { λ a. record { lists = lists_of a.waiting.items; owner = a.owner; capacity = a.capacity } };
+    ghost view = { λ a. record { lists = a.waiting.lists; owner = a.owner; capacity = a.waiting.capacity } };
 
-    ghost invariant = { λ a. IsKept a.waiting.items (vec_capacity a.waiting) a.capacity a.owner };
+    ghost invariant = { λ a. IsHeld a.waiting a.owner };
 }
 
 impl Arbiter {
@@ -45,12 +44,8 @@ impl Arbiter {
         ensures ok { IfOk result (λ a. a ≡ idle capacity) }
         ensures bad_capacity { IsErrOf result BadCapacity ↔ ((capacity ≡ 0) ⊎ (1024 < capacity)) }
     {
-        if capacity == 0 || 1024 < capacity {
-            return Err(NewError::BadCapacity);
-        }
         Ok(Arbiter {
-            waiting: Vec::with_capacity(alloc, capacity)?,
-            capacity,
+            waiting: Ring::new(alloc, capacity)?,
             owner: None,
         })
     }
@@ -72,15 +67,15 @@ impl Arbiter {
         if self.is_barred(sender, priority) {
             return Err(OfferError::NotOwner);
         }
-        if self.is_full() {
-            return Err(OfferError::QueueFull);
-        }
-        self.waiting.push_reserved(Request {
+        let request = Request {
             sender,
             priority,
             frame,
-        });
-        Ok(())
+        };
+        match self.waiting.push(priority, request) {
+            Ok(()) => Ok(()),
+            Err(_) => Err(OfferError::QueueFull),
+        }
     }
 
     /// The request that is next: of the owner of the bus its first at priority 1; where nobody owns the bus, the first
@@ -90,11 +85,8 @@ impl Arbiter {
         ensures owned { (owner : ℕ) → self.now.owner ≡ Some owner → IfSome result (λ r. r.sender ≡ owner) }
     {
         match self.owner {
-            Some(_) => waiting::oldest(&self.waiting, 1),
-            None => {
-                let (_, request) = waiting::first(&self.waiting)?;
-                Some(request)
-            }
+            Some(_) => self.waiting.front(Priority::LATER),
+            None => waiting::first(&self.waiting),
         }
     }
 
@@ -131,11 +123,7 @@ impl Arbiter {
         ensures other { result ≡ collision self.old.lists }
         ensures bus { self.new ≡ bus_collided self.old }
     {
-        let other = waiting::colliding(&self.waiting);
-        self.take();
-        if other.is_some() {
-            self.take();
-        }
+        let other = waiting::take_collision(&mut self.waiting);
         self.free();
         other
     }
@@ -156,7 +144,7 @@ impl Arbiter {
     pub fn silence(&mut self, sender: u8)
         ensures { self.new ≡ bus_silenced self.old sender }
     {
-        waiting::drop_sender(&mut self.waiting, sender);
+        self.waiting.remove_of(sender);
         if self.owner == Some(sender) {
             self.free();
         }
@@ -182,6 +170,14 @@ impl Arbiter {
         self.waiting.len()
     }
 
+    /// The requests that wait: in the ring's lists, those of priority 1 first.
+    pub fn lists(&self) -> &Ring<Request>
+        ensures lists { result.now.lists ≡ self.now.lists }
+        ensures capacity { result.now.capacity ≡ self.now.capacity }
+    {
+        &self.waiting
+    }
+
     /// Whether no request waits.
     pub fn is_empty(&self) -> bool
         ensures { IsTrue result ↔ (total self.now ≡ 0) }
@@ -193,7 +189,7 @@ impl Arbiter {
     pub fn is_full(&self) -> bool
         ensures { IsTrue result ↔ (total self.now ≡ self.now.capacity) }
     {
-        self.len() == self.capacity
+        self.len() == self.capacity()
     }
 
     /// How many requests may wait: 1 to 1024.
@@ -202,7 +198,7 @@ impl Arbiter {
         ensures least { 1 ≤ self.now.capacity }
         ensures most { self.now.capacity ≤ 1024 }
     {
-        self.capacity
+        self.waiting.capacity()
     }
 
     fn is_barred(&self, sender: u8, priority: Priority) -> bool

@@ -1,40 +1,7 @@
 ghost use Rattle.std.specs.Prelude.{◌≡◌};
-ghost use Rattle.dali_arbiter.specs.declared.error.NewError.TheVariants as new_error;
-ghost use Rattle.dali_arbiter.specs.Numbers.{number_of_new, number_of_offer};
+ghost use Rattle.dali_arbiter.specs.Numbers.{number_of_offer};
 
-use std::alloc::AllocError;
 use thiserror::Error;
-
-/// Why there is no arbiter. The numbers never change.
-#[derive(Clone, Copy, Debug, PartialEq, Eq, Error)]
-pub enum NewError {
-    /// 1: there is no memory for the requests.
-    #[error("out of memory")]
-    NoMemory,
-    /// 2: the capacity is not 1 to 1024.
-    #[error("the capacity is not 1 to 1024")]
-    BadCapacity,
-}
-
-impl NewError {
-    /// The refusal's number.
-    pub fn number(self) -> u8
-        ensures { result ≡ number_of_new self }
-    {
-        match self {
-            NewError::NoMemory => 1,
-            NewError::BadCapacity => 2,
-        }
-    }
-}
-
-impl From<AllocError> for NewError {
-    ghost from_gives = { λ _ e. e ≡ new_error.NoMemory };
-
-    fn from(_error: AllocError) -> NewError {
-        NewError::NoMemory
-    }
-}
 
 /// Why a request may not wait. The numbers never change.
 #[derive(Clone, Copy, Debug, PartialEq, Eq, Error)]

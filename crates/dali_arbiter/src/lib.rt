@@ -14,5 +14,6 @@ mod request;
 mod waiting;
 
 pub use arbiter::Arbiter;
-pub use error::{NewError, OfferError};
+pub use dali_ring::NewError;
+pub use error::OfferError;
 pub use request::Request;

@@ -1,4 +1,5 @@
 use dali_frame::{Forward, Priority};
+use dali_ring::Sent;
 
 /// One forward frame that waits for the bus.
 #[derive(Clone, Copy, Debug, PartialEq, Eq)]
@@ -9,4 +10,12 @@ pub struct Request {
     pub priority: Priority,
     /// What is sent.
     pub frame: Forward,
+}
+
+impl Sent for Request {
+    ghost from = { λ r. r.sender };
+
+    fn sender(&self) -> u8 {
+        self.sender
+    }
 }

@@ -67,6 +67,7 @@ fn owner_first<R: Abort>(rt: &R, arbiter: &mut Arbiter) -> Result<(), Fail> {
     same(rt, &arbiter.lapse(), &Some(0));
     waits(rt, arbiter, 1, None);
     same(rt, &arbiter.pick(), &Some(request(1, 3, b"B1FF")?));
+    same(rt, &arbiter.lists().best(), &Some(priority(3)?));
     arbiter.silence(1);
     same(rt, &arbiter.is_empty(), &true);
     Ok(())

@@ -1,10 +1,9 @@
-use Rattle.std.proofs.Common.{sym, arith}
-use Rattle.dali_arbiter.proofs.Lists.{first_at, none_more}
+use Rattle.std.proofs.Common.{sym, ◌∙◌}
+use Rattle.dali_arbiter.proofs.FirstList.{front_is, none_best}
 use Rattle.dali_arbiter.proofs.waiting.first.Goals as goal
 
-pub returns-in-Some-clause-some : goal.returns-in-Some-clause-some
-returns-in-Some-clause-some c =
-    first_at _ _ _ _ (omega arith) (omega arith) (sym c.in-Some.ensures.first) c.loop-priority.invariant c.index-waiting-index.is
+pub returns-in_err-priority : goal.returns-in_err-priority
+returns-in_err-priority c = c.from_residual.ensures ∙ sym (none_best c.args.waiting.now.lists 1 (sym c.best.ensures ∙ c.in_err-priority.was))
 
-pub loop-priority-preserved : goal.loop-priority-preserved
-loop-priority-preserved c = none_more _ c.args.waiting.now c.loop-priority.invariant (sym (c.in_default.ensures.first))
+pub returns : goal.returns
+returns c = c.front.ensures ∙ front_is c.args.waiting.now.lists _ (sym c.best.ensures ∙ c.in_ok-priority.was)
