@@ -10,7 +10,9 @@ use dali_enrol::{Directory, Pass};
 use dali_line::{Bus, Driver, Gate, Line, Moment, OpenGate, Outcome, Port, Pumper, Worker};
 use dali_reserve::{Keep, MemoryKeep};
 use dali_script::{End, Kept};
+use dali_sqlite::SqliteKeep;
 use dali_world::{Event, Refusal, SiteState};
+use sqlite::MemStore;
 use std::alloc::Global;
 use std::marker::Brand;
 use std::process::Abort;
@@ -87,6 +89,9 @@ impl Gate for &Holding {
     }
 }
 
+/// A store in a database in memory.
+type Database = SqliteKeep<MemStore>;
+
 /// What a worker leaves: how it ended, its port, what its store reads, and its pass.
 pub type Left<P> = (Outcome, P, Option<Kept>, Option<Pass>);
 
@@ -126,8 +131,8 @@ fn two_run<B, R>(
     directory: &Directory,
     gate: &Holding,
     workers: (
-        Worker<B::Port, MemoryKeep, &Holding>,
-        Worker<B::Port, MemoryKeep, &Holding>,
+        Worker<B::Port, Database, &Holding>,
+        Worker<B::Port, Database, &Holding>,
     ),
     pumper: Pumper<B::Driver, OpenGate>,
 ) -> Run<B::Port, B::Driver>
@@ -252,7 +257,7 @@ fn commits_apart<P0, P1, P2, P3, D, R>(
     alloc: Global,
     site: SiteState,
     blanks: Blanks,
-    keeps: (MemoryKeep, MemoryKeep),
+    keeps: (Database, Database),
     directory: &Directory,
 )
 where
@@ -297,18 +302,25 @@ where
     was_read(rt, directory, &site, (one.3, other.3), reading);
 }
 
-/// Two controllers are before a commit of their own at the same time, and what they post is read meanwhile.
+/// Two controllers, each with a database, are before a commit of their own at the same time, and what they post is read
+/// meanwhile.
 fn commit_apart<R: Threads + Wait + Abort + Sync + AllocGlobal>(
     rt: &R,
     directory: &Directory,
     gear: u32,
 ) -> Result<(), Fail> {
     let alloc = rt.alloc();
-    let keeps = (store_of(alloc, (0, 3))?, store_of(alloc, (4, 7))?);
+    let one = SqliteKeep::in_memory(alloc, block(0, 3)?)?;
+    let other = SqliteKeep::in_memory(alloc, block(4, 7)?)?;
     let site = site_with(alloc, gear, &[(0, 3), (4, 7)])?;
     let blanks = blanks();
     commits_apart::<Brand, Brand, Brand, Brand, Brand, R>(
-        rt, alloc, site, blanks, keeps, directory,
+        rt,
+        alloc,
+        site,
+        blanks,
+        (one, other),
+        directory,
     );
     Ok(())
 }

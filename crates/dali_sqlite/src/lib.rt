@@ -3,6 +3,7 @@
 #![tactic(auto)]
 
 mod keep;
+mod memory;
 mod refused;
 mod replay;
 mod rows;

@@ -11,8 +11,8 @@ use crate::setup::{Setup, ThreadsFault};
 use arrayvec::ArrayVec;
 use dali_enrol::Directory;
 use dali_line::{Bus, Driver, Line, OpenGate, Outcome, Port, Pumper, Worker};
-use dali_reserve::MemoryKeep;
 use dali_script::Block;
+use dali_sqlite::SqliteKeep;
 use dali_world::{Plan, PlanError, SiteState};
 use std::alloc::{AllocError, Global};
 use std::io::Write;
@@ -28,8 +28,8 @@ const LOG_ROOM: usize = 65_536;
 /// How many requests may wait on a site.
 const QUEUE_ROOM: usize = 64;
 
-/// A worker runs over an empty store of its own, with a pass of its own of the directory. Where there is no memory for
-/// the two, the line is stopped.
+/// A worker runs over a database in memory of its own, which is made here, in its thread, and with a pass of its own of
+/// the directory. Where one of the two is refused, the line is stopped.
 fn works<B: Bus, R: Wait>(
     rt: &R,
     alloc: Global,
@@ -39,7 +39,7 @@ fn works<B: Bus, R: Wait>(
     directory: &Directory,
     turns: u32,
 ) -> (Outcome, B::Port) {
-    match (MemoryKeep::new(alloc, block), directory.pass(alloc)) {
+    match (SqliteKeep::in_memory(alloc, block), directory.pass(alloc)) {
         (Ok(keep), Ok(pass)) => {
             let worker = Worker::new(port, keep, OpenGate);
             let (outcome, port, _keep, _pass) = worker.run(rt, alloc, bus, directory, pass, turns);
