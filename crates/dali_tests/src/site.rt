@@ -21,11 +21,11 @@ fn site_of(
     alloc: Global,
     blocks: &[(u8, u8)],
     events: u16,
-    requests: u8,
+    requests: u16,
 ) -> Result<SiteState, Fail> {
     let plan = Plan::new(alloc, 1, blocks, &[0x123456])?;
     let (events, requests) = (usize::from(events), usize::from(requests));
-    if events == 0 || requests == 0 {
+    if events == 0 || requests == 0 || 1024 < requests {
         return Err(Fail::from("room"));
     }
     Ok(SiteState::new(alloc, plan, events, requests)?)
@@ -95,6 +95,31 @@ fn a_full_queue_refuses(rt: HostRuntime) -> Result<(), Fail> {
     Ok(())
 }
 
+/// So many frames of direct arc power are offered, and wait.
+fn offers<R: Abort>(rt: &R, site: &mut SiteState, many: u16) {
+    for _ in 0..many {
+        does(rt, site.arc(0, forward(0xFE80)), Ok(()));
+    }
+}
+
+/// A site with room for as many requests as may wait: all of a controller leave with it.
+fn wide_queue<R: Abort + AllocGlobal>(rt: &R, site: &mut SiteState) -> Result<(), Fail> {
+    offers(rt, site, 1024);
+    does(rt, site.arc(0, forward(0xFE80)), Err(Refusal::QueueFull));
+    does(rt, site.down(0), Ok(()));
+    pumps(rt, site, Trouble::None, Ok(Report::Idle));
+    comes_up(rt, site, &[], Ok(()))?;
+    offers(rt, site, 1024);
+    logged(rt, site, 2050, Event::Offered(0, forward(0xFE80)));
+    Ok(())
+}
+
+#[test]
+fn a_wide_queue_is_empty_when_its_controller_went_down(rt: HostRuntime) -> Result<(), Fail> {
+    let mut site = site_of(rt.alloc(), &[(0, 3)], 4096, 1024)?;
+    wide_queue(&rt, &mut site)
+}
+
 /// A site with room for one event, which has come.
 fn small_log<R: Abort>(rt: &R, site: &mut SiteState) {
     does(rt, site.quiet(), Ok(()));
@@ -119,6 +144,43 @@ fn lapses<R: Abort>(rt: &R, site: &mut SiteState, wanted: Result<Option<u8>, Ref
 fn a_full_log_refuses(rt: HostRuntime) -> Result<(), Fail> {
     let mut site = site_of(rt.alloc(), &[(0, 3)], 1, 1)?;
     small_log(&rt, &mut site);
+    Ok(())
+}
+
+/// Controller 0 acts on what it was told, or else the bus has its turn.
+fn goes_on(site: &mut SiteState) -> Result<(), Refusal> {
+    if site.plan().blocks().is_empty() {
+        return Err(Refusal::UnknownController);
+    }
+    match site.next(0) {
+        Some(input) => match site.act(0, input) {
+            Ok(_) => Ok(()),
+            Err(refusal) => Err(refusal),
+        },
+        None => match site.pump(Trouble::None) {
+            Ok(_) => Ok(()),
+            Err(refusal) => Err(refusal),
+        },
+    }
+}
+
+/// A commissioning fills the log, and is refused from then on, again and again.
+fn log_fills<R: Abort>(rt: &R, site: &mut SiteState, events: u16) {
+    for _ in 0..events {
+        does(rt, goes_on(site), Ok(()));
+    }
+    for _ in 0..3 {
+        does(rt, goes_on(site), Err(Refusal::LogFull));
+        same(rt, &site.log().len(), &usize::from(events));
+    }
+}
+
+#[test]
+fn a_log_of_any_size_fills(rt: HostRuntime) -> Result<(), Fail> {
+    for events in 1..21 {
+        let mut site = site_of(rt.alloc(), &[(0, 3)], events, 16)?;
+        log_fills(&rt, &mut site, events);
+    }
     Ok(())
 }
 
