@@ -2,3 +2,4 @@ pub mod Table
 pub mod Rows
 pub mod Stored
 pub mod Refused
+pub mod Keep

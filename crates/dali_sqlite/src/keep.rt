@@ -7,7 +7,8 @@ ghost use Rattle.dali_reserve.specs.declared.error.KeepError.TheVariants.{BadSto
 ghost use Rattle.dali_reserve.specs.Refusals.{RefusesRead};
 ghost use Rattle.dali_reserve.specs.Store.{AreGood};
 ghost use Rattle.dali_sqlite.specs.Table.{no_schema};
-ghost use Rattle.dali_sqlite.specs.Stored.{Holds, IsUp, IsOurs, IsStored};
+ghost use Rattle.dali_sqlite.specs.Stored.{Holds, IsUp, IsOurs};
+ghost use Rattle.dali_sqlite.specs.Keep.{connection_of, shown_by, block_of, kept_by, must_read, IsSound};
 
 use crate::replay::replay;
 use crate::table::ensure_table;
@@ -74,14 +75,14 @@ impl<S: Alter + Drop> SqliteKeep<S> {
         mut conn: Connection<S>,
         block: Block,
     ) -> Result<SqliteKeep<S>, KeepError>
-        ensures block { IfOk result (λ k. k.kept.block ≡ block) }
-        ensures read { IfOk result (λ k. k.must_read ≡ false) }
-        ensures sound { IfOk result (λ k. IsUp (state S.Store k.conn) → IsOurs (state S.Store conn)
-            → IsStored (state S.Store k.conn) k.kept k.count k.must_read) }
-        ensures same { IfOk result (λ k. IsUp (state S.Store k.conn) → (xs : List Record)
-            → Holds (state S.Store conn) xs → Holds (state S.Store k.conn) xs) }
-        ensures empty { IfOk result (λ k. IsUp (state S.Store k.conn)
-            → (state S.Store conn).now.schema ≡ no_schema → Holds (state S.Store k.conn) []) }
+        ensures block { IfOk result (λ k. block_of k ≡ block) }
+        ensures read { IfOk result (λ k. must_read k ≡ false) }
+        ensures sound { IfOk result (λ k. IsUp (shown_by S.Store k) → IsOurs (state S.Store conn)
+            → IsSound S.Store k) }
+        ensures same { IfOk result (λ k. IsUp (shown_by S.Store k) → (xs : List Record)
+            → Holds (state S.Store conn) xs → Holds (shown_by S.Store k) xs) }
+        ensures empty { IfOk result (λ k. IsUp (shown_by S.Store k)
+            → (state S.Store conn).now.schema ≡ no_schema → Holds (shown_by S.Store k) []) }
         ensures refusal { IfErr result RefusesRead }
         ensures bad { result ≡ Err BadStore → (last : Held S) × (HasCleanDisk (state S.Store last)
             → (xs : List Record) → Holds (state S.Store conn) xs → AreGood (without_records block) xs → ⊥) }
@@ -98,7 +99,7 @@ impl<S: Alter + Drop> SqliteKeep<S> {
 
     /// The connection, with what is stored: to close its files, or to hand it to another program.
     pub fn into_connection(self) -> Connection<S>
-        ensures { result ≡ self.conn }
+        ensures { result ≡ connection_of self }
     {
         let SqliteKeep {
             conn,
@@ -111,17 +112,17 @@ impl<S: Alter + Drop> SqliteKeep<S> {
 }
 
 impl<S: Alter + Drop> Keep for SqliteKeep<S> {
-    ghost block = { λ k. k.kept.block };
+    ghost block = { block_of };
 
-    ghost holds = { λ k xs. Holds (state S.Store k.conn) xs };
+    ghost holds = { λ k xs. Holds (shown_by S.Store k) xs };
 
-    ghost kept = { λ k. k.kept };
+    ghost kept = { kept_by };
 
-    ghost must_read = { λ k. k.must_read };
+    ghost must_read = { must_read };
 
-    ghost is_sound = { λ k. IsStored (state S.Store k.conn) k.kept k.count k.must_read };
+    ghost is_sound = { IsSound S.Store };
 
-    ghost is_up = { λ k. IsUp (state S.Store k.conn) };
+    ghost is_up = { λ k. IsUp (shown_by S.Store k) };
 
     ghost has_records = { λ k sound. (sound.records, sound.held) };
 
