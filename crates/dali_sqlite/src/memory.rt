@@ -1,8 +1,8 @@
 ghost use Rattle.std.specs.Prelude.{◌≡◌, [], false, IfOk, IfErr};
-ghost use Rattle.sqlite.specs.Held.{state};
 ghost use Rattle.sqlite.specs.Steps.{over_memory};
 ghost use Rattle.dali_reserve.specs.Refusals.{RefusesRead};
-ghost use Rattle.dali_sqlite.specs.Stored.{Holds, IsUp, IsStored};
+ghost use Rattle.dali_sqlite.specs.Stored.{Holds, IsUp};
+ghost use Rattle.dali_sqlite.specs.Keep.{shown_by, block_of, must_read, IsSound};
 
 use crate::keep::SqliteKeep;
 use dali_reserve::KeepError;
@@ -16,11 +16,10 @@ impl SqliteKeep<MemStore> {
     ///
     /// The refusals are 1 `NoMemory` and 2 `StoreFailed`.
     pub fn in_memory(alloc: Global, block: Block) -> Result<SqliteKeep<MemStore>, KeepError>
-        ensures block { IfOk result (λ k. k.kept.block ≡ block) }
-        ensures read { IfOk result (λ k. k.must_read ≡ false) }
-        ensures sound { IfOk result (λ k. IsUp (state over_memory k.conn)
-            → IsStored (state over_memory k.conn) k.kept k.count k.must_read) }
-        ensures empty { IfOk result (λ k. IsUp (state over_memory k.conn) → Holds (state over_memory k.conn) []) }
+        ensures block { IfOk result (λ k. block_of k ≡ block) }
+        ensures read { IfOk result (λ k. must_read k ≡ false) }
+        ensures sound { IfOk result (λ k. IsUp (shown_by over_memory k) → IsSound over_memory k) }
+        ensures empty { IfOk result (λ k. IsUp (shown_by over_memory k) → Holds (shown_by over_memory k) []) }
         ensures refusal { IfErr result RefusesRead }
     {
         match Connection::open_in_memory(alloc) {
