@@ -83,6 +83,7 @@ impl<S: Alter + Drop> SqliteKeep<S> {
             → Holds (state S.Store conn) xs → Holds (shown_by S.Store k) xs) }
         ensures empty { IfOk result (λ k. IsUp (shown_by S.Store k)
             → (state S.Store conn).now.schema ≡ no_schema → Holds (shown_by S.Store k) []) }
+        ensures up { IfOk result (λ k. IsUp (shown_by S.Store k) → IsUp (state S.Store conn)) }
         ensures refusal { IfErr result RefusesRead }
         ensures bad { result ≡ Err BadStore → (last : Held S) × (HasCleanDisk (state S.Store last)
             → (xs : List Record) → Holds (state S.Store conn) xs → AreGood (without_records block) xs → ⊥) }
