@@ -3,6 +3,7 @@
 use arrayvec::ArrayVec;
 use dali_threads::{Setup, ThreadsFault, run_threads};
 use dali_world::PlanError;
+use std::io::{Error, ErrorKind, Write};
 use std::process::Abort;
 use std::sync::Wait;
 use std::test::Fail;
@@ -88,4 +89,48 @@ fn a_plan_that_is_refused_is_not_run(rt: HostRuntime) -> Result<(), Fail> {
     assert!(rt; refused == Err(ThreadsFault::BadPlan(PlanError::GearCount)));
     assert!(rt; bytes.is_empty());
     Ok(())
+}
+
+/// A writer that fails at one call: a write, or the flush at the end.
+#[derive(Drop)]
+struct FailingWriter {
+    calls: usize,
+    fails_at: usize,
+}
+
+impl FailingWriter {
+    /// Fails if it is the turn of this call.
+    fn is_called(&mut self) -> std::io::Result<()> {
+        if self.calls == self.fails_at {
+            return Err(Error::from(ErrorKind::Other));
+        }
+        self.calls = self.calls.wrapping_add(1);
+        Ok(())
+    }
+}
+
+impl Write for FailingWriter {
+    fn write(&mut self, buf: &[u8]) -> std::io::Result<usize> {
+        self.is_called()?;
+        Ok(buf.len())
+    }
+
+    fn flush(&mut self) -> std::io::Result<()> {
+        self.is_called()
+    }
+}
+
+/// A report is one write and one flush.
+#[test]
+fn each_error_of_the_writer_is_a_fault(rt: HostRuntime) {
+    for fails_at in 0..3 {
+        let mut writer = FailingWriter { calls: 0, fails_at };
+        let end = run_threads(&rt, rt.alloc(), setup(1, &[(0, 3)]), &mut writer);
+        let wanted = if fails_at < 2 {
+            Err(ThreadsFault::Write)
+        } else {
+            Ok(())
+        };
+        assert!(rt; end == wanted);
+    }
 }

@@ -1,6 +1,7 @@
 //! One story over both stores, through the promises of every store.
 
-ghost use Rattle.std.specs.Prelude.{◌≡◌};
+ghost use Rattle.std.specs.Prelude.{◌≡◌, ◌⊎◌, List, [], ◌∷◌, ◌++◌, OnOk, IfOk, false};
+ghost use Rattle.dali_script.specs.declared.records.Record.{Record};
 
 use super::values::Pair::{Enrol, Reserve};
 use super::values::{Pair, are_pairs, block, number, same};
@@ -17,7 +18,15 @@ fn read_and_commit<K: Keep>(
     keep: &mut K,
     alloc: Global,
     added: Record,
-) -> Result<Result<(), KeepError>, Fail> {
+) -> Result<Result<(), KeepError>, Fail>
+    ensures up { K.is_up keep.new → K.is_up keep.old }
+    ensures sound { K.is_sound keep.old → K.is_up keep.new → K.is_sound keep.new }
+    ensures list { K.is_sound keep.old → K.is_up keep.new → (xs : List Record) → K.holds keep.old xs
+        → K.holds keep.new xs ⊎ K.holds keep.new (xs ++ added ∷ []) }
+    ensures committed { IfOk result (λ answer. OnOk answer (K.is_sound keep.old → K.is_up keep.new
+        → (xs : List Record) → K.holds keep.old xs → K.holds keep.new (xs ++ added ∷ []))) }
+    ensures read { IfOk result (λ answer. OnOk answer (K.must_read keep.new ≡ false)) }
+{
     let kept = keep.read(alloc)?;
     if kept.fits(&added) {
         Ok(keep.commit(added))
@@ -113,24 +122,31 @@ fn commit_unread<K: Keep>(
     }
 }
 
-/// A new store takes its first commits without a read.
-fn begins(rt: &impl Abort, alloc: Global) -> Result<(), Fail> {
-    let bounds = block(0, 3)?;
-    let none = Kept::new(alloc, bounds)?;
-    let conn = Connection::open_in_memory(alloc)?;
-    let mut keep = SqliteKeep::over(alloc, conn, bounds)?;
-    let first = commit_unread(&mut keep, &none, Reserve(2, 1).record()?)?;
+/// Three commits without a read before them.
+fn begins<K: Keep>(
+    rt: &impl Abort,
+    alloc: Global,
+    keep: &mut K,
+    none: &Kept,
+) -> Result<(), Fail>
+    requires { K.block keep.old ≡ none.now.block }
+{
+    let first = commit_unread(keep, none, Reserve(2, 1).record()?)?;
     same(rt, &first, &Ok(()));
-    let second = commit_unread(&mut keep, &none, Reserve(2, 2).record()?)?;
+    let second = commit_unread(keep, none, Reserve(2, 2).record()?)?;
     same(rt, &second, &Err(KeepError::AddressTaken));
-    let third = commit_unread(&mut keep, &none, Enrol(2, 1).record()?)?;
+    let third = commit_unread(keep, none, Enrol(2, 1).record()?)?;
     same(rt, &third, &Ok(()));
-    reads(rt, alloc, &mut keep, &[(2, 1)], &[(2, 1)])
+    reads(rt, alloc, keep, &[(2, 1)], &[(2, 1)])
 }
 
+/// A new store takes its first commits without a read.
 #[test]
 fn the_first_commit_needs_no_read(rt: HostRuntime) -> Result<(), Fail> {
-    begins(&rt, rt.alloc())
+    let none = Kept::new(rt.alloc(), block(0, 3)?)?;
+    let conn = Connection::open_in_memory(rt.alloc())?;
+    let mut keep = SqliteKeep::over(rt.alloc(), conn, none.block())?;
+    begins(&rt, rt.alloc(), &mut keep, &none)
 }
 
 /// A reservation and an enrolment of each short address are committed.
@@ -159,7 +175,14 @@ fn is_full<K: Keep>(rt: &impl Abort, alloc: Global, keep: &mut K) -> Result<(), 
 }
 
 #[test]
-fn every_address_has_room(rt: HostRuntime) -> Result<(), Fail> {
+fn every_address_has_room_in_memory(rt: HostRuntime) -> Result<(), Fail> {
+    let mut keep = MemoryKeep::new(rt.alloc(), block(0, 63)?)?;
+    fill(&rt, rt.alloc(), &mut keep)?;
+    is_full(&rt, rt.alloc(), &mut keep)
+}
+
+#[test]
+fn every_address_has_room_in_a_database(rt: HostRuntime) -> Result<(), Fail> {
     let mut keep = in_memory(rt.alloc(), (0, 63))?;
     fill(&rt, rt.alloc(), &mut keep)?;
     is_full(&rt, rt.alloc(), &mut keep)?;

@@ -175,3 +175,69 @@ fn each_error_of_the_writer_is_a_fault(rt: HostRuntime) -> Result<(), Fail> {
     check_each_write(&rt, SCRIPT)?;
     check_each_write(&rt, b"site 1 0-3\ndraws 123456\ngo 0\nrun 1000\nshow\n")
 }
+
+/// A reader that gives at most so many bytes a call.
+#[derive(Drop)]
+struct ShortReader<'a> {
+    rest: &'a [u8],
+    most: usize,
+}
+
+impl<'a> Read for ShortReader<'a> {
+    fn read(&mut self, buf: &mut [u8]) -> std::io::Result<usize> {
+        match buf.get_mut(..self.most) {
+            Some(part) => self.rest.read(part),
+            None => self.rest.read(buf),
+        }
+    }
+}
+
+/// A writer that takes at most so many bytes a call.
+#[derive(Drop)]
+struct ShortWriter {
+    taken: Vec<u8>,
+    most: usize,
+}
+
+impl Write for ShortWriter {
+    fn write(&mut self, buf: &[u8]) -> std::io::Result<usize> {
+        let part = buf.get(..self.most).unwrap_or(buf);
+        match self.taken.extend_from_slice(part) {
+            Ok(()) => Ok(part.len()),
+            Err(_) => Err(Error::from(ErrorKind::OutOfMemory)),
+        }
+    }
+
+    fn flush(&mut self) -> std::io::Result<()> {
+        Ok(())
+    }
+}
+
+/// What is read and written in parts of each size is what is read and written at once.
+fn check_parts<R: Abort + AllocGlobal>(rt: &R, script: &[u8]) -> Result<(), Fail> {
+    let (_, whole) = played(rt.alloc(), script)?;
+    for most in 1..40 {
+        let mut reader = ShortReader { rest: script, most };
+        let taken = Vec::new(rt.alloc());
+        let mut writer = ShortWriter { taken, most };
+        let end = run_replay(rt.alloc(), &mut reader, &mut writer);
+        assert_eq!(rt; end, Ok(()));
+        assert_eq!(rt; writer.taken.as_slice(), whole.as_bytes());
+    }
+    Ok(())
+}
+
+#[test]
+fn short_reads_and_short_writes_lose_nothing(rt: HostRuntime) -> Result<(), Fail> {
+    check_parts(&rt, SCRIPT)?;
+    check_parts(&rt, b"site 1 0-3\ndraws 123456\ngo 0\nrun 1000\nshow\n")
+}
+
+#[test]
+fn a_writer_that_takes_nothing_is_a_fault(rt: HostRuntime) {
+    let taken = Vec::new(rt.alloc());
+    let mut writer = ShortWriter { taken, most: 0 };
+    let mut reader = SCRIPT;
+    let end = run_replay(rt.alloc(), &mut reader, &mut writer);
+    assert_eq!(rt; end, Err(ReplayFault::Write));
+}
