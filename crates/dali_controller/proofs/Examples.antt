@@ -2,7 +2,7 @@ use Rattle.std.proofs.Common.{◌≡◌, true, false, Some, None, refl}
 use Rattle.dali_frame.specs.declared.frames.Answer.TheVariants.{Silence}
 use Rattle.dali_frame.specs.declared.numbers.SearchAddress.{SearchAddress}
 use Rattle.dali_special.specs.Command.{frame}
-use Rattle.dali_script.specs.declared.stage.Stage.TheVariants.{Probed, Inconclusive, Withdrawn}
+use Rattle.dali_script.specs.declared.stage.Stage.TheVariants.{Probed, Unanswered, Inconclusive, Withdrawn}
 use Rattle.dali_script.specs.Records.{Kept}
 use Rattle.dali_script.specs.Stages.{stage_of}
 use Rattle.dali_script.specs.declared.orders.Input.{Input}
@@ -29,11 +29,14 @@ close_again : (t : Machine) (e : End) → t.opened ≡ true → t.closing ≡ So
 close_again t e opened is = rw (opened, is) refl
 
 -- a visit that led to no gear counts only after the opening, and one that led to gear ends the row
-early_visits_do_not_count : (r : SearchAddress) → silent_after (Inconclusive r None) false 3 ≡ 3
+early_visits_do_not_count : (r : SearchAddress) → silent_after (Unanswered r) false 3 ≡ 3
 early_visits_do_not_count r = refl
 
-later_visits_count : (r : SearchAddress) → silent_after (Inconclusive r None) true 3 ≡ 4
+later_visits_count : (r : SearchAddress) → silent_after (Unanswered r) true 3 ≡ 4
 later_visits_count r = refl
+
+damaged_answers_count : (r : SearchAddress) → silent_after (Inconclusive r None) true 3 ≡ 4
+damaged_answers_count r = refl
 
 gear_end_the_row : (r : SearchAddress) → silent_after (Withdrawn r 5) true 3 ≡ 0
 gear_end_the_row r = refl

@@ -17,7 +17,7 @@ use Rattle.dali_script.specs.declared.trace.Entry.{Entry}
 use Rattle.dali_script.specs.declared.records.Record.{Record}
 use Rattle.dali_script.specs.declared.records.Record.TheVariants.{Reserve, Enrol}
 use Rattle.dali_script.specs.declared.stage.Stage.{Stage}
-use Rattle.dali_script.specs.declared.stage.Stage.TheVariants.{Free, Terminated, InitialisedOnce, Initialised, RandomisedOnce, Opened, HighSent, MiddleSent, NumberSent, Found, Unnamed, Inconclusive, Programmed, Confirmed, Withdrawn}
+use Rattle.dali_script.specs.declared.stage.Stage.TheVariants.{Free, Terminated, InitialisedOnce, Initialised, RandomisedOnce, Opened, HighSent, MiddleSent, NumberSent, Found, Unnamed, Unanswered, Inconclusive, Programmed, Confirmed, Withdrawn}
 use Rattle.dali_script.specs.Records.{IsKept, IsOnce, with_record, HasAddress, Kept, Assignment, Has, HasRandom, Fits, IsFresh}
 use Rattle.dali_script.specs.Scripts.{MayGive, Lawful}
 use Rattle.dali_script.specs.Findings.{later, finding_of}
@@ -112,11 +112,18 @@ pub knows_at : (k : Kept) (n : SearchAddress) (s : Search) (o : Bool) (p : Purpo
 knows_at k n s o p Opened e = refl
 knows_at k n s o p _ e = e
 
+calm_unanswered : (o : Bool) (i : ℕ) → i < 16 → (r : SearchAddress) → CalmAt (Unanswered r) Visiting o (silent_after (Unanswered r) o i)
+calm_unanswered true i h r = (omega arith, λ e. refl)
+calm_unanswered false i h r = (omega arith, λ e. absurd (omega arith))
+
 calm_visiting : (o : Bool) (i : ℕ) → i < 16 → (r : SearchAddress) (other : Option ℕ) → CalmAt (Inconclusive r other) Visiting o (silent_after (Inconclusive r other) o i)
 calm_visiting true i h r other = (omega arith, λ e. refl)
 calm_visiting false i h r other = (omega arith, λ e. absurd (omega arith))
 
 pub calm_at : (k : Kept) (n : SearchAddress) (o : Bool) (p : Purpose) (i : ℕ) (there : Stage) → Arrived k n p there → IsCalm p i → CalmAt there p (opened_after there o) (silent_after there o i)
+calm_at k n o p i (Unanswered r) there e =
+    let h : i < 16 = subst (λ q. IsCalm q i) there.0 e in
+    calm_unanswered o i h r
 calm_at k n o p i (Inconclusive r other) there e =
     let h : i < 16 = subst (λ q. IsCalm q i) there.0 e in
     calm_visiting o i h r other
@@ -131,6 +138,7 @@ tries_less false n h = h
 
 -- and at the next command again
 pub sends_calm : (k : Kept) (n : SearchAddress) (p : Purpose) (s : Stage) (c : Command) (o : Bool) (i : ℕ) → Sends k n p s c → CalmAt s p o i → IsCalm p i
+sends_calm k n p (Unanswered r) c o i e calm = absurd (let on = (goes k n p (Unanswered r) c e).follows.leads_on in cc)
 sends_calm k n p (Inconclusive r other) c o i e calm = absurd (let on = (goes k n p (Inconclusive r other) c e).follows.leads_on in cc)
 sends_calm k n p _ c o i e calm = calm
 

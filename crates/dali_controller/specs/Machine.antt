@@ -6,7 +6,8 @@ use Rattle.dali_enrol.specs.Table.{Table}
 use Rattle.dali_script.specs.declared.records.Record.{Record}
 use Rattle.dali_script.specs.declared.trace.Entry.{Entry}
 use Rattle.dali_script.specs.declared.stage.Stage.{Stage}
-use Rattle.dali_script.specs.declared.stage.Stage.TheVariants.{Opened, Inconclusive, Withdrawn}
+use Rattle.dali_script.specs.declared.stage.Stage.TheVariants.{Opened, Unanswered, Inconclusive}
+use Rattle.dali_script.specs.declared.stage.Stage.TheVariants.{Withdrawn}
 use Rattle.dali_script.specs.Records.{Assignment, Kept, with_record}
 use Rattle.dali_script.specs.Findings.{later, finding_of}
 use Rattle.dali_script.specs.Stages.{stage_of, may_follow}
@@ -63,6 +64,7 @@ tries_after false n = n
 -- wanted nor MASK, but not in the visits before the opening; none in a row where a gear was found
 -- and withdrawn.
 abbrev pub silent_after : Stage → Bool → ℕ → ℕ
+silent_after (Unanswered r) true n = n + 1
 silent_after (Inconclusive r other) true n = n + 1
 silent_after (Withdrawn r b) opened n = 0
 silent_after _ opened n = n

@@ -14,8 +14,9 @@ use Rattle.dali_script.specs.declared.stage.Stage.{Stage}
 use Rattle.dali_script.specs.declared.stage.Stage.TheVariants.{Free, Terminated, InitialisedOnce}
 use Rattle.dali_script.specs.declared.stage.Stage.TheVariants.{Initialised, RandomisedOnce, Opened}
 use Rattle.dali_script.specs.declared.stage.Stage.TheVariants.{HighSent, MiddleSent, NumberSent}
-use Rattle.dali_script.specs.declared.stage.Stage.TheVariants.{Probed, Found, Unnamed, Inconclusive}
-use Rattle.dali_script.specs.declared.stage.Stage.TheVariants.{Programmed, Confirmed, Withdrawn}
+use Rattle.dali_script.specs.declared.stage.Stage.TheVariants.{Probed, Found, Unnamed, Unanswered}
+use Rattle.dali_script.specs.declared.stage.Stage.TheVariants.{Inconclusive, Programmed, Confirmed}
+use Rattle.dali_script.specs.declared.stage.Stage.TheVariants.{Withdrawn}
 use Rattle.dali_script.specs.Records.{Kept, Assignment, Has, HasRandom, Fits, IsFresh, IsFull}
 use Rattle.dali_script.specs.Scripts.{MayGive}
 use Rattle.dali_script.specs.Findings.{finding_of}
@@ -101,6 +102,7 @@ Arrived k n p Terminated = (p ≡ Opening) ⊎ ((e : End) × (p ≡ Closing e))
 Arrived k n p Opened = p ≡ Opening
 Arrived k n p (Probed r h) = (p ≡ Probing) × (r ≡ n)
 Arrived k n p (Unnamed r) = (p ≡ Visiting) × (r ≡ n)
+Arrived k n p (Unanswered r) = (p ≡ Visiting) × (r ≡ n)
 Arrived k n p (Inconclusive r other) = (p ≡ Visiting) × (r ≡ n)
 Arrived k n p (Withdrawn r b) = (p ≡ Visiting) × (r ≡ n)
 Arrived k n p s = (c : Command) × Sends k n p s c
@@ -126,6 +128,7 @@ IsCalm _ silent = silent < 16
 
 -- a search that led to no gear may just have reached it
 abbrev pub CalmAt : Stage → Purpose → Bool → ℕ → Type 0
+CalmAt (Unanswered r) p opened silent = (silent ≤ 16) × (silent ≡ 16 → opened ≡ true)
 CalmAt (Inconclusive r other) p opened silent = (silent ≤ 16) × (silent ≡ 16 → opened ≡ true)
 CalmAt _ p opened silent = IsCalm p silent
 

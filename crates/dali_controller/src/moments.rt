@@ -1,4 +1,4 @@
-ghost use Rattle.std.specs.Prelude.{◌≡◌, ℕ, ◌<◌, true, false, Option, Some, None};
+ghost use Rattle.std.specs.Prelude.{◌≡◌, ◌⊎◌, ℕ, ◌<◌, true, false, Option, Some, None};
 ghost use Rattle.dali_frame.specs.Random.{value_of, MASK24};
 ghost use Rattle.dali_frame.specs.declared.numbers.SearchAddress.{SearchAddress};
 ghost use Rattle.dali_frame.specs.declared.frames.Answer.TheVariants.{Silence};
@@ -172,7 +172,7 @@ impl Work {
             Stage::Opened => self.all_drawn(),
             Stage::Probed(_, heard) => self.probed(heard),
             Stage::Unnamed(number) => self.unnamed(number),
-            Stage::Inconclusive(..) => self.silenced(),
+            Stage::Unanswered(_) | Stage::Inconclusive(..) => self.silenced(),
             Stage::Withdrawn(number, short) => self.settle(number, short),
             _ => unreachable!(),
         }
@@ -245,7 +245,9 @@ impl Work {
 
     /// The visit led to no gear.
     fn silenced(&mut self) -> Order
-        requires { (number : SearchAddress) × (other : Option ℕ) × IsHeard self.old (stage.Inconclusive number other) }
+        requires { (number : SearchAddress)
+            × (IsHeard self.old (stage.Unanswered number)
+            ⊎ ((other : Option ℕ) × IsHeard self.old (stage.Inconclusive number other))) }
 
         ensures next { IsNext (machine_of self.old) result (machine_of self.new) }
         ensures fine { IsFine self.new }

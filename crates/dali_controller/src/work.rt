@@ -65,7 +65,7 @@ impl Work {
         ensures { result ≡ silent_after (stage_of self.now.trace) self.now.opened self.now.silent }
     {
         match self.trace.stage() {
-            Stage::Inconclusive(..) if self.opened => self.silent + 1,
+            Stage::Unanswered(_) | Stage::Inconclusive(..) if self.opened => self.silent + 1,
             Stage::Withdrawn(..) => 0,
             _ => self.silent,
         }

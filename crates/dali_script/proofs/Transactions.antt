@@ -16,7 +16,7 @@ use Rattle.dali_special.proofs.Table.{code_of_short, short_of_code, short_small,
 use Rattle.dali_script.specs.declared.block.Block.{Block}
 use Rattle.dali_script.specs.declared.trace.Entry.{Entry}
 use Rattle.dali_script.specs.declared.stage.Stage.{Stage}
-use Rattle.dali_script.specs.declared.stage.Stage.TheVariants.{Free, Terminated, InitialisedOnce, Initialised, RandomisedOnce, Opened, HighSent, MiddleSent, NumberSent, Probed, Found, Unnamed, Inconclusive, Programmed, Confirmed, Withdrawn, Over}
+use Rattle.dali_script.specs.declared.stage.Stage.TheVariants.{Free, Terminated, InitialisedOnce, Initialised, RandomisedOnce, Opened, HighSent, MiddleSent, NumberSent, Probed, Found, Unnamed, Unanswered, Inconclusive, Programmed, Confirmed, Withdrawn, Over}
 use Rattle.dali_script.specs.Records.{Assignment, HasAddress}
 use Rattle.dali_script.specs.Scripts.{no_address, some_address, address, IsHeard, Step, sends, queries, search_at, Script, Open, Probe, Look, Give, Close, ArcPower, steps, MayGive, MaySend, IsFront, Lawful, IsLawful, IsFirst, IsComplete, IsFrame, GoesOn}
 use Rattle.dali_script.specs.Findings.{search_after, at_power_on, search_from, search_of, found_by, later, finding_from, finding_of}
@@ -122,6 +122,9 @@ data Rest (b : Block) (xs : List Assignment) : Stage → List Step → Type 0 wh
 abbrev Before : Block → List Assignment → Stage → Command → Answer → List Step → Type 0
 Before b xs s c h ss = (step : Step) × (c ≡ step.command) × IsHeard step.wanted h × Rest b xs s (step ∷ ss)
 
+nothing_unanswered : (b : Block) (xs : List Assignment) (r : SearchAddress) (ss : List Step) → Rest b xs (Unanswered r) ss → ⊥
+nothing_unanswered b xs r ss k = elim k [ ]
+
 nothing_inconclusive : (b : Block) (xs : List Assignment) (r : SearchAddress) (o : Option ℕ) (ss : List Step) → Rest b xs (Inconclusive r o) ss → ⊥
 nothing_inconclusive b xs r o ss k = elim k [ ]
 
@@ -142,7 +145,7 @@ before_unnamed : (b : Block) (xs : List Assignment) (r : SearchAddress) (h : Ans
 before_unnamed b xs _ h _ heard (at_unnamed r a may) = (queries no_address, refl, heard, at_number r _ (giving a may))
 
 before_queried : (b : Block) (xs : List Assignment) (r : SearchAddress) (h : Answer) (ss : List Step) → Rest b xs (queried r h) ss → Before b xs (NumberSent r) QueryShort h ss
-before_queried b xs r Silence ss k = absurd (nothing_inconclusive b xs r None ss k)
+before_queried b xs r Silence ss k = absurd (nothing_unanswered b xs r ss k)
 before_queried b xs r Damaged ss k = absurd (nothing_inconclusive b xs r None ss k)
 before_queried b xs r (Byte v) ss k = go (short_of v) (v == MASK) refl refl k where
   go : (o : Option ℕ) (m : Bool) → short_of v ≡ o → (v == MASK) ≡ m → Rest b xs (named r o m) ss → Before b xs (NumberSent r) QueryShort (Byte v) ss
@@ -268,6 +271,7 @@ next_at b xs small (Found r c) e = (Withdraw, tt, (lit< tt, lit< tt), turn refl 
 next_at b xs small (Unnamed r) e =
     let found = may_give_some_from b xs r e in
     next_program b xs r found.0 (small found.0 (has_map (λ p. p.0) xs (found.0, value_of r) found.1.reserved_for)) found.1
+next_at b xs small (Unanswered r) e = absurd (cc)
 next_at b xs small (Inconclusive r other) e = absurd (cc)
 next_at b xs small (Programmed r a) e = (QueryShort, tt, (lit< tt, lit< tt), gives refl (may_give_from b xs r a e))
 next_at b xs small (Confirmed r a) e = (Withdraw, tt, (lit< tt, lit< tt), gives refl (may_give_from b xs r a e))

@@ -3,7 +3,7 @@ use Rattle.std.specs.Prelude.{List, [], ◌∷◌, Option, Some, None, option_ma
 use Rattle.std.specs.Prelude.{IfSome}
 use Rattle.std.specs.List.{list_any}
 use Rattle.dali_frame.specs.declared.frames.Answer.{Answer}
-use Rattle.dali_frame.specs.declared.frames.Answer.TheVariants.{Silence, Byte}
+use Rattle.dali_frame.specs.declared.frames.Answer.TheVariants.{Silence, Byte, Damaged}
 use Rattle.dali_frame.specs.declared.numbers.SearchAddress.{SearchAddress}
 use Rattle.dali_frame.specs.Short.{short_of}
 use Rattle.dali_frame.specs.Random.{value_of, MASK24}
@@ -21,9 +21,9 @@ use Rattle.dali_script.specs.declared.stage.Stage.{Stage}
 use Rattle.dali_script.specs.declared.stage.Stage.TheVariants.{Free, Terminated, InitialisedOnce}
 use Rattle.dali_script.specs.declared.stage.Stage.TheVariants.{Initialised, RandomisedOnce, Opened}
 use Rattle.dali_script.specs.declared.stage.Stage.TheVariants.{HighSent, MiddleSent, NumberSent}
-use Rattle.dali_script.specs.declared.stage.Stage.TheVariants.{Probed, Found, Unnamed, Inconclusive}
-use Rattle.dali_script.specs.declared.stage.Stage.TheVariants.{Programmed, Confirmed, Withdrawn}
-use Rattle.dali_script.specs.declared.stage.Stage.TheVariants.{Over}
+use Rattle.dali_script.specs.declared.stage.Stage.TheVariants.{Probed, Found, Unnamed, Unanswered}
+use Rattle.dali_script.specs.declared.stage.Stage.TheVariants.{Inconclusive, Programmed, Confirmed}
+use Rattle.dali_script.specs.declared.stage.Stage.TheVariants.{Withdrawn, Over}
 use Rattle.dali_script.specs.Records.{Assignment}
 use Rattle.dali_script.specs.Scripts.{MayGive}
 use Rattle.dali_script.specs.Findings.{search_of, finding_of}
@@ -38,7 +38,8 @@ named r None false = Inconclusive r None
 
 abbrev pub queried : SearchAddress → Answer → Stage
 queried r (Byte v) = named r (short_of v) (v == MASK)
-queried r _ = Inconclusive r None
+queried r Silence = Unanswered r
+queried r Damaged = Inconclusive r None
 
 -- after the QUERY SHORT ADDRESS that follows PROGRAM SHORT ADDRESS a
 abbrev pub answered : SearchAddress → ℕ → Option ℕ → Stage
@@ -121,6 +122,7 @@ abbrev pub may_follow : Block → List Assignment → Stage → Bool
 may_follow b reserved Opened = false
 may_follow b reserved (Probed r h) = false
 may_follow b reserved (Unnamed r) = may_give_some b reserved (value_of r)
+may_follow b reserved (Unanswered r) = false
 may_follow b reserved (Inconclusive r other) = false
 may_follow b reserved (Programmed r a) = may_give b reserved (value_of r) a
 may_follow b reserved (Confirmed r a) = may_give b reserved (value_of r) a
@@ -144,6 +146,7 @@ IsSearched (NumberSent n) r = r ≡ n
 IsSearched (Probed n h) r = r ≡ n
 IsSearched (Found n b) r = r ≡ n
 IsSearched (Unnamed n) r = r ≡ n
+IsSearched (Unanswered n) r = r ≡ n
 IsSearched (Inconclusive n other) r = r ≡ n
 IsSearched (Programmed n a) r = r ≡ n
 IsSearched (Confirmed n a) r = r ≡ n

@@ -32,8 +32,10 @@ pub enum Stage {
     Found(SearchAddress, Short),
     /// QUERY SHORT ADDRESS was heard as MASK, `FF`: the gear has no short address.
     Unnamed(SearchAddress),
-    /// QUERY SHORT ADDRESS was heard as neither; or, after PROGRAM SHORT ADDRESS, not as the address programmed.
-    /// The address is another one that was heard then.
+    /// QUERY SHORT ADDRESS was heard as silence: no gear with this random address answers, or its answer was lost.
+    Unanswered(SearchAddress),
+    /// QUERY SHORT ADDRESS was heard damaged, or as a byte that is neither; or, after PROGRAM SHORT ADDRESS, not as the
+    /// address programmed. The address is another one that was heard then.
     Inconclusive(SearchAddress, Option<Short>),
     /// PROGRAM SHORT ADDRESS was sent with this address.
     Programmed(SearchAddress, Short),
@@ -145,6 +147,7 @@ impl Stage {
             }
             Stage::Opened
             | Stage::Probed(..)
+            | Stage::Unanswered(_)
             | Stage::Inconclusive(..)
             | Stage::Withdrawn(..)
             | Stage::Over => false,
@@ -176,7 +179,8 @@ impl Stage {
                 None if byte == 0xFF => Stage::Unnamed(number),
                 None => Stage::Inconclusive(number, None),
             },
-            Answer::Silence | Answer::Damaged => Stage::Inconclusive(number, None),
+            Answer::Silence => Stage::Unanswered(number),
+            Answer::Damaged => Stage::Inconclusive(number, None),
         }
     }
 

@@ -161,6 +161,36 @@ fn findings_are_addresses_that_were_heard(rt: HostRuntime) -> Result<(), Fail> {
     findings(&rt, &one_reserved(rt.alloc())?)
 }
 
+/// Whether each of these traces ends with a first QUERY SHORT ADDRESS that was heard as silence.
+fn each_is_unanswered<R: Abort>(
+    rt: &R,
+    kept: &Kept,
+    traces: &[&str],
+    wanted: bool,
+) -> Result<(), Fail> {
+    for frames in traces {
+        let stage = trace_of(kept, *frames)?.stage();
+        same(rt, &matches!(stage, Stage::Unanswered(_)), &wanted);
+    }
+    Ok(())
+}
+
+fn unanswered<R: Abort>(rt: &R, kept: &Kept) -> Result<(), Fail> {
+    let heard = [
+        "B10A B3BC B5DE",
+        "B10A B3BC B5DE BB00=??",
+        "B10A B3BC B5DE BB00=81",
+        "B10A B3BC B5DE BB00=FF B709 BB00",
+    ];
+    each_is_unanswered(rt, kept, &["B10A B3BC B5DE BB00"], true)?;
+    each_is_unanswered(rt, kept, &heard, false)
+}
+
+#[test]
+fn silence_is_told_apart_from_damage(rt: HostRuntime) -> Result<(), Fail> {
+    unanswered(&rt, &one_reserved(rt.alloc())?)
+}
+
 /// After a trace that was sent with a reservation, records without it allow no WITHDRAW.
 fn asks_again<R: Abort>(rt: &R, trace: &Trace, kept: &Kept, none: &Kept) -> Result<(), Fail> {
     let searched = SearchAddress::of(random(0x0ABCDE)?);
