@@ -1,13 +1,17 @@
-//! A store of the tests' own: it fails at one commit, whose record is there all the same.
+//! A store of the tests' own: it fails at one commit, before or after the record is there.
 
-ghost use Rattle.std.specs.Prelude.{◌≡◌, ◌<◌};
+ghost use Rattle.std.specs.Prelude.{◌≡◌, ◌<◌, false, List, [], ◌∷◌, ◌++◌, IsTrue};
+ghost use Rattle.std.proofs.Common.{subst, sym};
+ghost use Rattle.dali_script.specs.declared.records.Record.{Record};
+ghost use Rattle.dali_script.specs.Records.{Kept, Fits, with_record};
+ghost use Rattle.dali_reserve.specs.Store.{IsReplay, HasRecords};
 
-use super::threads::{Blanks, TURNS, blanks, site_with, store_of, works};
-use super::values::same;
+use super::threads::{Blanks, TURNS, blanks, site_with, store_of};
+use super::values::{block, same};
 use dali_enrol::Directory;
-use dali_line::{Line, OpenGate, Outcome, Pumper, Worker};
+use dali_line::{Bus, Driver, Line, OpenGate, Outcome, Pumper, Worker};
 use dali_reserve::{Keep, KeepError, MemoryKeep};
-use dali_script::{Fault, Kept, Record};
+use dali_script::{AddError, Block, End, Fault, Kept, MakeError, Record};
 use dali_world::SiteState;
 use std::alloc::Global;
 use std::marker::Brand;
@@ -17,37 +21,76 @@ use std::sync::ledger::Ledger;
 use std::test::Fail;
 use std::thread::{Threads, join};
 
-/// A store in memory that is told to fail once: after so many commits the next one answers StoreFailed, with its record
-/// stored. A read is due then, as the trait asks.
+/// A store in memory that is told to fail once: after so many commits the next one answers StoreFailed, and its record
+/// is stored or not. A read is due then, as the trait asks.
 #[derive(Drop)]
 struct FailingKeep {
     store: MemoryKeep,
-    /// How many commits come before the one that fails.
-    before: u32,
+    /// What the store is known to hold, unless a read is due.
+    known: Kept,
+    /// How many commits come before the one that fails, where one is to fail.
+    before: Option<u8>,
+    /// Whether its record is stored.
+    is_stored: bool,
     must_read: bool,
 }
 
-impl Keep for FailingKeep {
-    ghost use Rattle.dali_reserve.specs.Store.{IsReplay, HasRecords};
+impl FailingKeep {
+    /// Whether the next commit fails. The one after it is a commit nearer to failing.
+    fn fails(&mut self) -> bool
+        ensures store { self.new.store ≡ self.old.store }
+        ensures known { self.new.known ≡ self.old.known }
+        ensures must_read { self.new.must_read ≡ self.old.must_read }
+    {
+        match self.before {
+            Some(before) => {
+                self.before = before.checked_sub(1);
+                before == 0
+            }
+            None => false,
+        }
+    }
+}
 
-    ghost block = { λ s. s.store.block };
+/// Adds a record to a store that is of this block. Whether it is added.
+fn is_added(store: &mut MemoryKeep, block: Block, added: &Record) -> bool
+    requires { Fits block added.now }
+    ensures there { IsTrue result → store.new ≡ with_record store.old added.now }
+    ensures adds { IsTrue result → (xs : List Record) → IsReplay store.old.block xs store.old
+        → IsReplay store.new.block (xs ++ added.now ∷ []) store.new }
+    ensures same { result ≡ false → store.new ≡ store.old }
+    ensures sound { HasRecords store.new }
+{
+    store.is_of(block) && store.commit(*added).is_ok()
+}
+
+impl Keep for FailingKeep {
+    ghost block = { λ s. s.known.block };
 
     ghost holds = { λ s xs. IsReplay s.store.block xs s.store };
 
-    ghost kept = { λ s. s.store };
+    ghost kept = { λ s. s.known };
 
     ghost must_read = { λ s. s.must_read };
 
-    ghost is_sound = { λ s. HasRecords s.store };
+    ghost is_sound = { λ s. HasRecords s.store × (s.must_read ≡ false → s.known ≡ s.store) };
 
     ghost is_up = { λ _. Unit {0} };
 
-    ghost has_records = { λ s sound. sound };
+    ghost has_records = { λ s sound. sound.0 };
 
-    ghost replay = { λ s xs sound read held. held };
+    ghost replay = { λ s xs sound read held.
+        subst (λ (k : Kept). IsReplay k.block xs k) (sym (sound.1 read)) held };
 
     fn read(&mut self, alloc: Global) -> Result<Kept, KeepError> {
         let kept = self.store.read(alloc)?;
+        if kept.block() != self.known.block() {
+            return Err(KeepError::StoreFailed);
+        }
+        self.known = match kept.copy(alloc) {
+            Ok(known) => known,
+            Err(MakeError::NoMemory) => return Err(KeepError::NoMemory),
+        };
         self.must_read = false;
         Ok(kept)
     }
@@ -56,17 +99,106 @@ impl Keep for FailingKeep {
         if self.must_read {
             return Err(KeepError::StoreFailed);
         }
-        self.store.commit(added)?;
-        if self.before == 0 {
-            self.must_read = true;
+        let block = self.known.block();
+        match self.known.add(added) {
+            Ok(()) => {}
+            Err(AddError::AddressTaken) => return Err(KeepError::AddressTaken),
+            Err(AddError::RandomTaken) => return Err(KeepError::RandomTaken),
+        }
+        let fails = self.fails();
+        self.must_read = true;
+        if fails && !self.is_stored {
             return Err(KeepError::StoreFailed);
         }
-        self.before -= 1;
+        if !is_added(&mut self.store, block, &added) || fails {
+            return Err(KeepError::StoreFailed);
+        }
+        self.must_read = false;
         Ok(())
     }
 }
 
-/// The controller halts at the commit that fails, an enrolment, which its store has and its site does not.
+/// What a worker leaves: how it ended, its port, and its store.
+type Left<P> = (Outcome, P, FailingKeep);
+
+fn works<B: Bus, R: Wait>(
+    rt: &R,
+    alloc: Global,
+    bus: &B,
+    directory: &Directory,
+    worker: Worker<B::Port, FailingKeep, OpenGate>,
+) -> Left<B::Port> {
+    match directory.pass(alloc) {
+        Ok(pass) => {
+            let (outcome, port, keep, _) = worker.run(rt, alloc, bus, directory, pass, TURNS);
+            (outcome, port, keep)
+        }
+        Err(_) => {
+            bus.stop(rt);
+            (Outcome::NoMemory, worker.port, worker.keep)
+        }
+    }
+}
+
+/// A worker runs until it ends, and a pumper beside it.
+fn session<B, R>(
+    rt: &R,
+    alloc: Global,
+    bus: &B,
+    directory: &Directory,
+    worker: Worker<B::Port, FailingKeep, OpenGate>,
+    pumper: Pumper<B::Driver, OpenGate>,
+) -> (Left<B::Port>, B::Driver)
+where
+    B: Bus + Sync,
+    B::Port: Send + Drop,
+    B::Driver: Send + Drop,
+    R: Threads + Wait + Sync,
+{
+    let (left, pumped) = join(
+        rt,
+        move || works(rt, alloc, bus, directory, worker),
+        move || pumper.run(rt, bus, TURNS),
+    );
+    (left, pumped.0)
+}
+
+/// The controller goes down, and comes up with what its store reads: so many reservations and enrolments.
+fn restarts<P0: Ledger, P1: Ledger, P2: Ledger, P3: Ledger, D: Ledger, R: Abort + Wait>(
+    rt: &R,
+    alloc: Global,
+    line: &Line<P0, P1, P2, P3, D>,
+    driver: &mut Driver<P0, P1, P2, P3, D>,
+    keep: &mut FailingKeep,
+    stored: (usize, usize),
+) {
+    same(rt, &line.down(rt, driver, 0), &Ok(()));
+    match keep.read(alloc) {
+        Ok(kept) => {
+            same(rt, &(kept.reserved().len(), kept.enrolled().len()), &stored);
+            same(rt, &line.up(rt, driver, alloc, 0, &kept), &Ok(()));
+        }
+        Err(_) => assert!(rt; false),
+    }
+}
+
+/// The table of the one controller has each of three gear, under the addresses that the gear has.
+fn table_is_true<R: Abort>(rt: &R, site: &SiteState) {
+    assert!(rt; site.plan().blocks().len() == 1 && site.plan().gear() == 3);
+    match site.table(0) {
+        Some(table) => {
+            same(rt, &table.entries().len(), &3);
+            for number in 0..3 {
+                let gear = site.gear(number);
+                let named = gear.short().and_then(|address| table.by_address(address));
+                same(rt, &named, &Some(gear.random()));
+            }
+        }
+        None => assert!(rt; false),
+    }
+}
+
+/// The controller halts at the commit that fails. Over what its store has then, a second worker goes on to the end.
 fn halts<P0, P1, P2, P3, D, R>(
     rt: &R,
     alloc: Global,
@@ -74,6 +206,7 @@ fn halts<P0, P1, P2, P3, D, R>(
     blanks: Blanks,
     keep: FailingKeep,
     directory: &Directory,
+    stored: (usize, usize),
 )
 where
     P0: Ledger + Send + Sync,
@@ -94,41 +227,49 @@ where
     );
     let worker = Worker::new(ports.pop().unwrap_or_default(), keep, OpenGate);
     let pumper = Pumper::new(driver, OpenGate);
-    let bus = &line;
-    let (left, pumped) = join(
-        rt,
-        move || works(rt, alloc, bus, directory, worker),
-        move || pumper.run(rt, bus, TURNS),
-    );
-    let site = line.close(ports, pumped.0);
-    same(rt, &left.0, &Outcome::Halted(Fault::Store));
-    let stored = match &left.2 {
-        Some(kept) => (kept.reserved().len(), kept.enrolled().len()),
-        None => (0, 0),
-    };
-    same(rt, &stored, &(1, 1));
-    assert!(rt; site.plan().blocks().len() == 1);
-    let known = site.kept(0);
-    same(
-        rt,
-        &(known.reserved().len(), known.enrolled().len()),
-        &(1, 0),
-    );
+    let (left, mut driver) = session(rt, alloc, &line, directory, worker, pumper);
+    let (outcome, port, mut keep) = left;
+    same(rt, &outcome, &Outcome::Halted(Fault::Store));
+    restarts(rt, alloc, &line, &mut driver, &mut keep, stored);
+    let worker = Worker::new(port, keep, OpenGate);
+    let pumper = Pumper::new(driver, OpenGate);
+    let (left, driver) = session(rt, alloc, &line, directory, worker, pumper);
+    same(rt, &left.0, &Outcome::Ended(End::AllFound));
+    table_is_true(rt, &line.close(ports, driver));
 }
 
-#[test]
-fn a_store_that_fails_halts_its_controller(rt: HostRuntime) -> Result<(), Fail> {
+/// The store fails at this commit of the commissioning of three gear, and its record is stored or not.
+fn fails_at<R: Threads + Wait + Abort + Sync + AllocGlobal>(
+    rt: &R,
+    commit: u8,
+    is_stored: bool,
+) -> Result<(), Fail> {
     let alloc = rt.alloc();
     let directory = Directory::new(alloc)?;
     let keep = FailingKeep {
-        store: store_of(alloc, (0, 3))?,
-        before: 1,
+        store: store_of(alloc, (0, 7))?,
+        known: Kept::new(alloc, block(0, 7)?)?,
+        before: Some(commit),
+        is_stored,
         must_read: false,
     };
-    let site = site_with(alloc, 2, &[(0, 3)])?;
+    let site = site_with(alloc, 3, &[(0, 7)])?;
+    let count = usize::from(commit) + usize::from(is_stored);
+    let stored = (count.div_ceil(2), count / 2);
     let blanks = blanks();
-    halts::<Brand, Brand, Brand, Brand, Brand, HostRuntime>(
-        &rt, alloc, site, blanks, keep, &directory,
+    halts::<Brand, Brand, Brand, Brand, Brand, R>(
+        rt, alloc, site, blanks, keep, &directory, stored,
     );
+    Ok(())
+}
+
+/// Three gear take six commits: a reservation and an enrolment of each, in turn.
+#[test]
+fn each_commit_may_fail(rt: HostRuntime) -> Result<(), Fail> {
+    for commit in 0..6 {
+        for is_stored in [false, true] {
+            fails_at(&rt, commit, is_stored)?;
+        }
+    }
     Ok(())
 }

@@ -9,14 +9,14 @@ use std::sync::Wait;
 use std::test::Fail;
 use std::thread::Threads;
 
-fn setup(gear: u32, blocks: &[(u8, u8)]) -> Setup {
+fn setup(gear: u32, seed: u64, blocks: &[(u8, u8)]) -> Setup {
     let mut list = ArrayVec::new();
     for block in blocks {
         let _ = list.try_push(*block);
     }
     Setup {
         gear,
-        seed: 7,
+        seed,
         turns: 100_000,
         blocks: list,
     }
@@ -41,7 +41,7 @@ fn word<'a>(line: &'a str, at: usize) -> &'a str {
 
 /// One worker gives the one gear its least address, and its table names the gear.
 fn one_run<R: Threads + Wait + Sync + Abort + AllocGlobal>(rt: &R) -> Result<(), Fail> {
-    let text = written(rt, setup(1, &[(0, 3)]))?;
+    let text = written(rt, setup(1, 7, &[(0, 3)]))?;
     let mut lines = text.as_str().lines();
     assert!(rt; lines.next() == Some("controller 0: all-found"));
     let gear = lines.next().unwrap_or("");
@@ -59,21 +59,53 @@ fn one_controller_names_its_gear(rt: HostRuntime) -> Result<(), Fail> {
     one_run(&rt)
 }
 
-/// Each table of a report names gear by the addresses and numbers that the gear's own lines have.
-fn four_run<R: Threads + Wait + Sync + Abort + AllocGlobal>(rt: &R) -> Result<(), Fail> {
-    let text = written(rt, setup(8, &[(0, 1), (2, 3), (4, 5), (6, 7)]))?;
-    for table in text.as_str().lines() {
-        if word(table, 0) != "table" {
-            continue;
-        }
-        for entry in table.split(' ').skip(2) {
+/// Whether a line says that a controller ended, neither halted nor refused.
+fn has_ended(line: &&str) -> bool {
+    let end = word(line, 2);
+    word(line, 0) == "controller" && end != "halt" && end != "refused" && end != "no-memory"
+}
+
+/// Whether a line shows a gear with a short address.
+fn is_addressed(line: &&str) -> bool {
+    word(line, 0) == "gear" && word(line, 6) != "-"
+}
+
+/// The random address of the gear with this short address, where it is the only one.
+fn holder<'a>(text: &'a str, address: &str) -> Option<&'a str> {
+    let holds = |line: &&str| is_addressed(line) && word(line, 6) == address;
+    let mut holders = text.lines().filter(holds);
+    let random = word(holders.next()?, 4);
+    match holders.next() {
+        None => Some(random),
+        Some(_) => None,
+    }
+}
+
+/// A gear with a short address is the only one with it, and the entries of a table are the addresses of a gear.
+fn names_gear<R: Abort>(rt: &R, text: &str, line: &str) {
+    if is_addressed(&line) {
+        assert!(rt; holder(text, word(line, 6)) == Some(word(line, 4)));
+    }
+    if word(line, 0) == "table" {
+        for entry in line.split(' ').skip(2) {
             let (address, random) = entry.split_once('=').unwrap_or(("", ""));
-            let holds = |line: &str| word(line, 0) == "gear" && word(line, 6) == address;
-            let mut holders = text.as_str().lines().filter(|line| holds(line));
-            assert!(rt; holders.next().map(|line| word(line, 4)) == Some(random));
-            assert!(rt; holders.next().is_none());
+            assert!(rt; holder(text, address) == Some(random));
         }
     }
+}
+
+/// All four controllers end, neither halted nor refused; a gear alone has its short address; each table names gear by
+/// the addresses that the gear's own lines have; and the last line counts the gear with an address.
+fn four_run<R: Threads + Wait + Sync + Abort + AllocGlobal>(rt: &R) -> Result<(), Fail> {
+    let text = written(rt, setup(8, 1, &[(0, 1), (2, 3), (4, 5), (6, 7)]))?;
+    let text = text.as_str();
+    assert!(rt; text.lines().filter(has_ended).count() == 4);
+    for line in text.lines() {
+        names_gear(rt, text, line);
+    }
+    let count = text.lines().filter(is_addressed).count();
+    let last = format!(in rt.alloc(); "addressed {count} of 8")?;
+    assert!(rt; text.lines().last() == Some(last.as_str()));
     Ok(())
 }
 
@@ -85,7 +117,7 @@ fn four_controllers_name_the_same_gear(rt: HostRuntime) -> Result<(), Fail> {
 #[test]
 fn a_plan_that_is_refused_is_not_run(rt: HostRuntime) -> Result<(), Fail> {
     let mut bytes = Vec::new(rt.alloc());
-    let refused = run_threads(&rt, rt.alloc(), setup(0, &[(0, 3)]), &mut bytes);
+    let refused = run_threads(&rt, rt.alloc(), setup(0, 7, &[(0, 3)]), &mut bytes);
     assert!(rt; refused == Err(ThreadsFault::BadPlan(PlanError::GearCount)));
     assert!(rt; bytes.is_empty());
     Ok(())
@@ -125,7 +157,7 @@ impl Write for FailingWriter {
 fn each_error_of_the_writer_is_a_fault(rt: HostRuntime) {
     for fails_at in 0..3 {
         let mut writer = FailingWriter { calls: 0, fails_at };
-        let end = run_threads(&rt, rt.alloc(), setup(1, &[(0, 3)]), &mut writer);
+        let end = run_threads(&rt, rt.alloc(), setup(1, 7, &[(0, 3)]), &mut writer);
         let wanted = if fails_at < 2 {
             Err(ThreadsFault::Write)
         } else {

@@ -10,7 +10,7 @@ use std::process::Abort;
 use std::test::Fail;
 
 /// The table of a store.
-const TABLE: &str = "CREATE TABLE record(
+pub const TABLE: &str = "CREATE TABLE record(
   seq INTEGER PRIMARY KEY,
   kind INTEGER NOT NULL,
   address INTEGER NOT NULL CHECK(address BETWEEN 0 AND 63),

@@ -1,4 +1,4 @@
-use Rattle.dali_line_tests.proofs.failing.a_store_that_fails_halts_its_controller.Given as goal
+use Rattle.dali_line_tests.proofs.failing.fails_at.Given as goal
 
 abbrev pub ghosts-halts-P0-Ledger : goal.ghosts-halts-P0-Ledger
 ghosts-halts-P0-Ledger g a = record { name = a.blanks.0.name; parts = a.blanks.0.parts }
