@@ -123,12 +123,7 @@ fn commit_unread<K: Keep>(
 }
 
 /// Three commits without a read before them.
-fn begins<K: Keep>(
-    rt: &impl Abort,
-    alloc: Global,
-    keep: &mut K,
-    none: &Kept,
-) -> Result<(), Fail>
+fn begins<K: Keep>(rt: &impl Abort, alloc: Global, keep: &mut K, none: &Kept) -> Result<(), Fail>
     requires { K.block keep.old ≡ none.now.block }
 {
     let first = commit_unread(keep, none, Reserve(2, 1).record()?)?;
