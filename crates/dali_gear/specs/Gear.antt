@@ -1,15 +1,17 @@
 use Rattle.std.specs.Prelude.{ℕ, Bool, true, false, Option, Some, None, ◌==◌, ◌&&◌, nat_le}
 use Rattle.std.specs.Prelude.{if◌then◌else◌}
 use Rattle.dali_frame.specs.declared.numbers.SearchAddress.{SearchAddress}
-use Rattle.dali_frame.specs.Random.{value_of, MASK24}
+use Rattle.dali_frame.specs.Random.{value_of, high_of, middle_of, low_of, MASK24}
 use Rattle.dali_special.specs.declared.command.Target.{Target}
 use Rattle.dali_special.specs.declared.command.Target.TheVariants.{All, Addressed, Unaddressed}
+use Rattle.dali_special.specs.declared.command.Part.{Part}
+use Rattle.dali_special.specs.declared.command.Part.TheVariants.{High, Middle, Low}
 use Rattle.dali_special.specs.declared.command.Command.{Command}
 use Rattle.dali_special.specs.declared.command.Command.TheVariants.{Terminate, Initialise}
 use Rattle.dali_special.specs.declared.command.Command.TheVariants.{Randomise, Compare, Withdraw}
 use Rattle.dali_special.specs.declared.command.Command.TheVariants.{SearchHigh, SearchMiddle}
 use Rattle.dali_special.specs.declared.command.Command.TheVariants.{SearchLow, Program, Verify}
-use Rattle.dali_special.specs.declared.command.Command.TheVariants.{QueryShort}
+use Rattle.dali_special.specs.declared.command.Command.TheVariants.{QueryShort, RandomByte}
 use Rattle.dali_special.specs.Command.{program_data, is_send_twice}
 use Rattle.dali_gear.specs.declared.state.InitialisationState.{InitialisationState}
 use Rattle.dali_gear.specs.declared.state.InitialisationState.TheVariants.{Disabled, Enabled}
@@ -112,12 +114,20 @@ abbrev pub has_short : ℕ → Option ℕ → Bool
 has_short a None = false
 has_short a (Some short) = a == short
 
--- the backward frame that a powered gear answers
+-- the byte of a random address that a query asks for
+abbrev pub byte_at : Part → ℕ → ℕ
+byte_at High r = high_of r
+byte_at Middle r = middle_of r
+byte_at Low r = low_of r
+
+-- the backward frame that a powered gear answers; a query of its random address in any state
 abbrev pub answer : Command → Gear → Option ℕ
 answer Compare g =
     if is_enabled g.state && nat_le g.random (value_of g.search) then Some YES else None
 answer (Verify a) g = if is_active g.state && has_short a g.short then Some YES else None
 answer QueryShort g = if is_active g.state && is_found g then Some (program_data g.short) else None
+answer (RandomByte a part) g =
+    if has_short a g.short then Some (byte_at part g.random) else None
 answer _ g = None
 
 -- A gear without power takes nothing.

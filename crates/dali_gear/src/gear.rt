@@ -3,7 +3,7 @@ ghost use Rattle.dali_frame.specs.Random.{MASK24};
 
 use crate::state::InitialisationState;
 use dali_frame::{Forward, Random24, SearchAddress, Short};
-use dali_special::{Command, Target};
+use dali_special::{Command, Part, Target};
 use std::marker::Model;
 
 /// The backward frame YES.
@@ -68,7 +68,7 @@ impl Model for Gear {
 impl Gear {
     ghost use Rattle.dali_special.specs.Command.{command_of};
     ghost use Rattle.dali_gear.specs.Gear.{after_frame, answer_to, draws, fresh, without_power, with_power};
-    ghost use Rattle.dali_gear.specs.Gear.{gear_expired, gear_quieted, would_draw, is_active, is_found, answer};
+    ghost use Rattle.dali_gear.specs.Gear.{gear_expired, gear_quieted, would_draw, is_active, is_found, byte_at, answer};
     ghost use Rattle.dali_gear.specs.Gear.{gear_taken, state_after, random_after, search_after, short_after};
     ghost use Rattle.dali_gear.specs.Gear.{half_after, concerns, is_second};
 
@@ -163,6 +163,18 @@ impl Gear {
         }
     }
 
+    /// A byte of the random address.
+    #[inline(always)]
+    fn random_byte(&self, part: Part) -> u8
+        ensures { result ≡ byte_at part self.now.random }
+    {
+        match part {
+            Part::High => self.random.high(),
+            Part::Middle => self.random.middle(),
+            Part::Low => self.random.low(),
+        }
+    }
+
     /// The answer to a command, without regard to power.
     #[inline(always)]
     pub(crate) fn answer(&self, command: &Command) -> Option<u8>
@@ -176,6 +188,9 @@ impl Gear {
             Command::Verify(short) => yes_where(self.is_active() && self.short == Some(short)),
             Command::QueryShort if self.is_active() && self.is_found() => {
                 Some(self.short.map_or(NO_ADDRESS, Short::code))
+            }
+            Command::RandomByte(short, part) if self.short == Some(short) => {
+                Some(self.random_byte(part))
             }
             _ => None,
         }

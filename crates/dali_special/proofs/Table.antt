@@ -1,13 +1,15 @@
-use Rattle.std.proofs.Common.{◌≡◌, ℕ, ◌+◌, ◌*◌, ◌/◌, ◌%◌, ◌<◌, Bool, true, false, List, [], ◌∷◌, Option, Some, None, refl, sym, ap, subst, ◌∙◌, arith, nat_eq, nat_lt}
+use Rattle.std.proofs.Common.{◌≡◌, ℕ, ◌%◌, ◌<◌, Bool, true, false, List, [], ◌∷◌, Option, Some, None, refl, sym, ap, subst, ◌∙◌, arith}
 use Rattle.std.proofs.lemmas.Bool.Decides.{nat_tests}
 use Rattle.std.specs.Prelude.{◌↔◌, ◌==◌, if◌then◌else◌, option_map, unwrap_or}
 use Rattle.dali_frame.specs.declared.frames.Forward.{Forward}
 use Rattle.dali_frame.specs.Short.{code_of, short_of}
 use Rattle.dali_special.specs.declared.command.Target.{Target}
 use Rattle.dali_special.specs.declared.command.Target.TheVariants.{All, Addressed, Unaddressed}
+use Rattle.dali_special.specs.declared.command.Part.{Part}
+use Rattle.dali_special.specs.declared.command.Part.TheVariants.{High, Middle, Low}
 use Rattle.dali_special.specs.declared.command.Command.{Command}
-use Rattle.dali_special.specs.declared.command.Command.TheVariants.{Terminate, Initialise, Randomise, Compare, Withdraw, SearchHigh, SearchMiddle, SearchLow, Program, Verify, QueryShort, Arc, Other}
-use Rattle.dali_special.specs.Command.{MASK, Row, without_data_of, target_of, target_data, program_of, program_data, rows, row_of, command_of, frame_of, frame, IsSpelled}
+use Rattle.dali_special.specs.declared.command.Command.TheVariants.{Terminate, Initialise, Randomise, Compare, Withdraw, SearchHigh, SearchMiddle, SearchLow, Program, Verify, QueryShort, RandomByte, Arc, Other}
+use Rattle.dali_special.specs.Command.{MASK, Row, without_data_of, target_of, target_data, program_of, rows, row_of, part_of, part_code, query_by, query_of, special_of, command_of, frame_of, frame, IsSpelled}
 
 -- the code of a short address is read as it, and is neither 00 nor FF
 pub short_of_code : (a : ℕ) → a < 64 → short_of (code_of a) ≡ Some a
@@ -23,6 +25,15 @@ pub program_of_code : (a : ℕ) → a < 64 → program_of (code_of a) ≡ Some (
 program_of_code a small =
     let mask : (code_of a == MASK) ≡ false = grind (arith, nat_tests) in
     rw (mask, short_of_code a small) refl
+
+-- the code of a short address has last bit 1, so a frame with it is no direct arc power
+code_is_odd : (a : ℕ) → (code_of a % 2 == 0) ≡ false
+code_is_odd a = grind (arith, nat_tests)
+
+part_of_code : (part : Part) → part_of (part_code part) ≡ Some part
+part_of_code High = refl
+part_of_code Middle = refl
+part_of_code Low = refl
 
 -- a command that its frame can be read as is read from its frame
 pub read_written : (c : Command) → IsSpelled c → command_of (frame_of c) ≡ c
@@ -41,6 +52,7 @@ read_written (Program None) h = refl
 read_written (Program (Some a)) h = rw (program_of_code a h) refl
 read_written (Verify a) h = rw (short_of_code a h) refl
 read_written QueryShort h = refl
+read_written (RandomByte a part) h = rw (code_is_odd a, short_of_code a h, part_of_code part) refl
 read_written (Arc f) h = rw h refl
 read_written (Other f) h = h
 
@@ -147,14 +159,42 @@ row_written address byte (row ∷ more) all c e = go (address == row.0) refl e (
       all.0 byte c e' ∙ ap (λ n. frame n byte) same
   go false is e' later = later e'
 
+-- a query's opcode is that of the byte that it asks for
+code_of_part : (byte : ℕ) (part : Part) → part_of byte ≡ Some part → part_code part ≡ byte
+code_of_part byte part e = go (byte == 0xC2) (byte == 0xC3) (byte == 0xC4) refl refl refl e where
+  go : (h m l : Bool) → (byte == 0xC2) ≡ h → (byte == 0xC3) ≡ m → (byte == 0xC4) ≡ l
+      → (if h then Some High else if m then Some Middle else if l then Some Low else None) ≡ Some part → part_code part ≡ byte
+  go true m l high middle low is =
+      let same : High ≡ part = cc in
+      let number : 0xC2 ≡ byte = grind (arith, nat_tests) in
+      ap part_code (sym same) ∙ number
+  go false true l high middle low is =
+      let same : Middle ≡ part = cc in
+      let number : 0xC3 ≡ byte = grind (arith, nat_tests) in
+      ap part_code (sym same) ∙ number
+  go false false true high middle low is =
+      let same : Low ≡ part = cc in
+      let number : 0xC4 ≡ byte = grind (arith, nat_tests) in
+      ap part_code (sym same) ∙ number
+  go false false false high middle low is = cc
+
+query_written : (address byte : ℕ) (s : Option ℕ) (p : Option Part) (c : Command) → short_of address ≡ s → part_of byte ≡ p → query_by s p ≡ Some c → frame_of c ≡ frame address byte
+query_written address byte None p c short part e = cc
+query_written address byte (Some a) None c short part e = cc
+query_written address byte (Some a) (Some asked) c short part e =
+    let same : RandomByte a asked ≡ c = cc in
+    ap frame_of (sym same) ∙ ap (λ n. frame n (part_code asked)) (code_of_short address a short) ∙ ap (λ n. frame address n) (code_of_part byte asked part)
+
 -- a frame is the frame of its command
 pub written_read : (f : Forward) → frame_of (command_of f) ≡ f
 unfolding command_of
-written_read f = go (f.address_byte % 2 == 0) (row_of f.address_byte f.opcode_byte rows) refl where
-  go : (even : Bool) (o : Option Command) → row_of f.address_byte f.opcode_byte rows ≡ o → frame_of (if even then Arc f else unwrap_or o (Other f)) ≡ f
-  go true o is = refl
-  go false None is = refl
-  go false (Some c) is = row_written f.address_byte f.opcode_byte rows all_written c is
+written_read f = go (f.address_byte % 2 == 0) (query_of f.address_byte f.opcode_byte) (row_of f.address_byte f.opcode_byte rows) refl refl where
+  go : (even : Bool) (q o : Option Command) → query_of f.address_byte f.opcode_byte ≡ q → row_of f.address_byte f.opcode_byte rows ≡ o
+      → frame_of (if even then Arc f else special_of q f) ≡ f
+  go true q o query is = refl
+  go false (Some c) o query is = query_written f.address_byte f.opcode_byte (short_of f.address_byte) (part_of f.opcode_byte) c refl refl query
+  go false None None query is = rw is refl
+  go false None (Some c) query is = rw is (row_written f.address_byte f.opcode_byte rows all_written c is)
 
 -- what a row reads is a command that its frame is read as
 abbrev pub ReadsSpelled : (ℕ → Option Command) → Type 0
@@ -236,15 +276,26 @@ row_spelled address byte (row ∷ more) all c e = go (address == row.0) e (row_s
   go true e' later = all.0 byte c e'
   go false e' later = later e'
 
+query_spelled : (address : ℕ) (s : Option ℕ) (p : Option Part) (c : Command) → short_of address ≡ s → query_by s p ≡ Some c → IsSpelled c
+query_spelled address None p c short e = absurd (cc)
+query_spelled address (Some a) None c short e = absurd (cc)
+query_spelled address (Some a) (Some asked) c short e = let same : RandomByte a asked ≡ c = cc in subst IsSpelled same (short_small address a short)
+
 -- every frame's command is one that its frame is read as
 spelled_by : (f : Forward) (c : Command) → command_of f ≡ c → IsSpelled c
 unfolding command_of
-spelled_by f c is = go (f.address_byte % 2 == 0) (row_of f.address_byte f.opcode_byte rows) refl refl is where
-  go : (even : Bool) (o : Option Command) → (f.address_byte % 2 == 0) ≡ even → row_of f.address_byte f.opcode_byte rows ≡ o
-      → (if even then Arc f else unwrap_or o (Other f)) ≡ c → IsSpelled c
-  go true o test row e = let same : Arc f ≡ c = cc in subst IsSpelled same test
-  go false None test row e = let same : Other f ≡ c = cc in subst IsSpelled same (is ∙ sym same)
-  go false (Some command) test row e = let same : command ≡ c = cc in subst IsSpelled same (row_spelled f.address_byte f.opcode_byte rows all_spelled command row)
+spelled_by f c is = go (f.address_byte % 2 == 0) (query_of f.address_byte f.opcode_byte) refl refl is where
+  rest : (o : Option Command) → row_of f.address_byte f.opcode_byte rows ≡ o → unwrap_or o (Other f) ≡ c → IsSpelled c
+  rest None row e = let same : Other f ≡ c = cc in subst IsSpelled same (is ∙ sym same)
+  rest (Some command) row e = let same : command ≡ c = cc in subst IsSpelled same (row_spelled f.address_byte f.opcode_byte rows all_spelled command row)
+
+  go : (even : Bool) (q : Option Command) → (f.address_byte % 2 == 0) ≡ even → query_of f.address_byte f.opcode_byte ≡ q
+      → (if even then Arc f else special_of q f) ≡ c → IsSpelled c
+  go true q test query e = let same : Arc f ≡ c = cc in subst IsSpelled same test
+  go false (Some command) test query e =
+      let same : command ≡ c = cc in
+      subst IsSpelled same (query_spelled f.address_byte (short_of f.address_byte) (part_of f.opcode_byte) command refl query)
+  go false None test query e = rest (row_of f.address_byte f.opcode_byte rows) refl e
 
 pub read_spelled : (f : Forward) → IsSpelled (command_of f)
 read_spelled f = spelled_by f (command_of f) refl

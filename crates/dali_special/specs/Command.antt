@@ -4,12 +4,14 @@ use Rattle.dali_frame.specs.declared.frames.Forward.{Forward}
 use Rattle.dali_frame.specs.Short.{code_of, short_of}
 use Rattle.dali_special.specs.declared.command.Target.{Target}
 use Rattle.dali_special.specs.declared.command.Target.TheVariants.{All, Addressed, Unaddressed}
+use Rattle.dali_special.specs.declared.command.Part.{Part}
+use Rattle.dali_special.specs.declared.command.Part.TheVariants.{High, Middle, Low}
 use Rattle.dali_special.specs.declared.command.Command.{Command}
 use Rattle.dali_special.specs.declared.command.Command.TheVariants.{Terminate, Initialise}
 use Rattle.dali_special.specs.declared.command.Command.TheVariants.{Randomise, Compare, Withdraw}
 use Rattle.dali_special.specs.declared.command.Command.TheVariants.{SearchHigh, SearchMiddle}
 use Rattle.dali_special.specs.declared.command.Command.TheVariants.{SearchLow, Program, Verify}
-use Rattle.dali_special.specs.declared.command.Command.TheVariants.{QueryShort, Arc, Other}
+use Rattle.dali_special.specs.declared.command.Command.TheVariants.{QueryShort, RandomByte, Arc, Other}
 
 -- the data byte that stands for no short address
 abbrev pub MASK : ℕ
@@ -64,13 +66,38 @@ abbrev pub row_of : ℕ → ℕ → List Row → Option Command
 row_of address byte [] = None
 row_of address byte (row ∷ more) = if address == row.0 then row.1 byte else row_of address byte more
 
--- The command of a frame: direct arc power where the address byte has last bit 0, else by the
--- table, else none of it.
+-- QUERY RANDOM ADDRESS (H), (M) and (L): the byte that an opcode asks for, and the other way round
+abbrev pub part_of : ℕ → Option Part
+part_of byte =
+    if byte == 0xC2
+    then Some High
+    else if byte == 0xC3 then Some Middle else if byte == 0xC4 then Some Low else None
+
+abbrev pub part_code : Part → ℕ
+part_code High = 0xC2
+part_code Middle = 0xC3
+part_code Low = 0xC4
+
+-- A query of the gear with one short address. Its address byte is below 80, so no row above is met.
+abbrev pub query_by : Option ℕ → Option Part → Option Command
+query_by (Some a) (Some part) = Some (RandomByte a part)
+query_by _ _ = None
+
+abbrev pub query_of : ℕ → ℕ → Option Command
+query_of address byte = query_by (short_of address) (part_of byte)
+
+-- the command of a frame that is no direct arc power: a query, else by the table, else none of both
+abbrev pub special_of : Option Command → Forward → Command
+special_of (Some query) f = query
+special_of None f = unwrap_or (row_of f.address_byte f.opcode_byte rows) (Other f)
+
+-- The command of a frame: direct arc power where the address byte has last bit 0, else a query of
+-- one gear, else by the table of special commands, else none.
 unfoldable pub command_of : Forward → Command
 command_of f =
     if f.address_byte % 2 == 0
     then Arc f
-    else unwrap_or (row_of f.address_byte f.opcode_byte rows) (Other f)
+    else special_of (query_of f.address_byte f.opcode_byte) f
 
 -- the frame of two bytes
 abbrev pub frame : ℕ → ℕ → Forward
@@ -89,6 +116,7 @@ frame_of (SearchLow byte) = frame 0xB5 byte
 frame_of (Program short) = frame 0xB7 (program_data short)
 frame_of (Verify a) = frame 0xB9 (code_of a)
 frame_of QueryShort = frame 0xBB 0
+frame_of (RandomByte a part) = frame (code_of a) (part_code part)
 frame_of (Arc f) = f
 frame_of (Other f) = f
 
@@ -104,6 +132,7 @@ abbrev pub IsSpelled : Command → Type 0
 IsSpelled (Initialise (Addressed a)) = a < 64
 IsSpelled (Program (Some a)) = a < 64
 IsSpelled (Verify a) = a < 64
+IsSpelled (RandomByte a part) = a < 64
 IsSpelled (Arc f) = (f.address_byte % 2 == 0) ≡ true
 IsSpelled (Other f) = command_of f ≡ Other f
 IsSpelled _ = Unit {0}

@@ -1,5 +1,5 @@
-ghost use Rattle.std.specs.Prelude.{◌≡◌};
-ghost use Rattle.dali_special.specs.Command.{without_data_of, program_of, program_data, row_of, rows};
+ghost use Rattle.std.specs.Prelude.{◌≡◌, None};
+ghost use Rattle.dali_special.specs.Command.{without_data_of, program_of, program_data, row_of, rows, query_of};
 
 use dali_frame::{Forward, Short};
 
@@ -12,6 +12,17 @@ pub enum Target {
     Addressed(Short),
     /// Data `FF`: the gear without a short address.
     Unaddressed,
+}
+
+/// The byte of the random address that a QUERY RANDOM ADDRESS asks for, by its opcode.
+#[derive(Clone, Copy, Debug, PartialEq, Eq)]
+pub enum Part {
+    /// Opcode `C2`: bits 23 to 16.
+    High,
+    /// Opcode `C3`: bits 15 to 8.
+    Middle,
+    /// Opcode `C4`: bits 7 to 0.
+    Low,
 }
 
 /// An addressing command, or a frame that is none.
@@ -39,6 +50,9 @@ pub enum Command {
     Verify(Short),
     /// QUERY SHORT ADDRESS, `BB 00`: asks for the short address at the search address.
     QueryShort,
+    /// QUERY RANDOM ADDRESS (H), (M) or (L), `0AAAAAA1 C2`, `C3` or `C4`: asks the gear with this short address for a
+    /// byte of its random address.
+    RandomByte(Short, Part),
     /// Direct arc power: a frame whose address byte has last bit 0. It changes no addressing variable.
     Arc(Forward),
     /// A frame that is no command of this table.
@@ -70,6 +84,32 @@ impl Target {
     }
 }
 
+impl Part {
+    ghost use Rattle.dali_special.specs.Command.{part_of, part_code};
+
+    /// The byte that an opcode asks for; `None` where it is none of the three.
+    fn read(byte: u8) -> Option<Part>
+        ensures { result ≡ part_of byte }
+    {
+        match byte {
+            0xC2 => Some(Part::High),
+            0xC3 => Some(Part::Middle),
+            0xC4 => Some(Part::Low),
+            _ => None,
+        }
+    }
+
+    fn opcode(self) -> u8
+        ensures { result ≡ part_code self }
+    {
+        match self {
+            Part::High => 0xC2,
+            Part::Middle => 0xC3,
+            Part::Low => 0xC4,
+        }
+    }
+}
+
 /// `Some` where the data byte is `00`, as most special commands ask.
 fn without_data(byte: u8, command: Command) -> Option<Command>
     ensures { result ≡ without_data_of command byte }
@@ -97,7 +137,7 @@ fn program_byte(short: Option<Short>) -> u8
 }
 
 impl Command {
-    ghost use Rattle.dali_special.specs.Command.{command_of, frame_of, is_send_twice, IsSpelled};
+    ghost use Rattle.dali_special.specs.Command.{command_of, special_of, frame_of, is_send_twice, IsSpelled};
 
     /// The command of a frame.
     #[tactic(auto, using(crate::proofs::Table::written_read), unfolding(crate::specs::Command::command_of))]
@@ -109,6 +149,26 @@ impl Command {
         if frame.address_byte % 2 == 0 {
             return Command::Arc(frame);
         }
+        match Command::query(frame) {
+            Some(command) => command,
+            None => Command::unaddressed(frame),
+        }
+    }
+
+    /// The query of a frame, whose address byte is that of one gear.
+    #[inline(always)]
+    fn query(frame: Forward) -> Option<Command>
+        ensures { result ≡ query_of frame.address_byte frame.opcode_byte }
+    {
+        let short = Short::read(frame.address_byte)?;
+        Some(Command::RandomByte(short, Part::read(frame.opcode_byte)?))
+    }
+
+    /// The command of a frame that is no query and no direct arc power.
+    #[inline(always)]
+    fn unaddressed(frame: Forward) -> Command
+        ensures { result ≡ special_of None frame }
+    {
         match Command::special(frame) {
             Some(command) => command,
             None => Command::Other(frame),
@@ -157,6 +217,7 @@ impl Command {
             Command::Program(short) => (0xB7, program_byte(short)),
             Command::Verify(short) => (0xB9, short.code()),
             Command::QueryShort => (0xBB, 0),
+            Command::RandomByte(short, part) => (short.code(), part.opcode()),
             Command::Arc(frame) | Command::Other(frame) => return frame,
         };
         Forward {

@@ -4,7 +4,7 @@ use Rattle.dali_frame.specs.declared.frames.Forward.{Forward}
 use Rattle.dali_frame.specs.declared.frames.Answer.{Answer}
 use Rattle.dali_frame.specs.Random.{MASK24}
 use Rattle.dali_special.specs.declared.command.Command.{Command}
-use Rattle.dali_special.specs.declared.command.Command.TheVariants.{Terminate, Initialise, Randomise, Compare, Withdraw, SearchHigh, SearchMiddle, SearchLow, Program, Verify, QueryShort, Arc, Other}
+use Rattle.dali_special.specs.declared.command.Command.TheVariants.{Arc}
 use Rattle.dali_special.specs.Command.{command_of}
 use Rattle.dali_arbiter.specs.Arbiter.{owns}
 use Rattle.dali_script.specs.declared.trace.Entry.{Entry}
@@ -233,18 +233,7 @@ IsLeft w c k m (Halt why) = Unit {0}
 
 no_arc : (x : Command) → ((g : Forward) → x ≡ Arc g → ⊥) → is_arc x ≡ false
 no_arc (Arc g) none = absurd (none g refl)
-no_arc Terminate none = refl
-no_arc (Initialise target) none = refl
-no_arc Randomise none = refl
-no_arc Compare none = refl
-no_arc Withdraw none = refl
-no_arc (SearchHigh byte) none = refl
-no_arc (SearchMiddle byte) none = refl
-no_arc (SearchLow byte) none = refl
-no_arc (Program short) none = refl
-no_arc (Verify short) none = refl
-no_arc QueryShort none = refl
-no_arc (Other g) none = refl
+no_arc _ none = refl
 
 left_by : (w : World) (c : ℕ) (k : Controller) (t : Machine) (o : Order) → AreInformed w c k t → IsAllowed t o → IsAddressing o → IsLeft w c k (machine_ordered t o) o
 left_by w c k t (Put p f) both (inl may) scripted = (no_arc (command_of f) scripted, inr (may.0, rw may.0 refl, (t.kept.block, t.kept.reserved, may.1)))

@@ -5,7 +5,7 @@ use Rattle.std.proofs.lemmas.List.Sums.{sum_by-cons}
 use Rattle.dali_frame.specs.declared.frames.Forward.{Forward}
 use Rattle.dali_frame.specs.declared.frames.Answer.{Answer}
 use Rattle.dali_special.specs.declared.command.Command.{Command}
-use Rattle.dali_special.specs.declared.command.Command.TheVariants.{Terminate, Initialise, Randomise, Compare, Withdraw, SearchHigh, SearchMiddle, SearchLow, Program, Verify, QueryShort, Arc, Other}
+use Rattle.dali_special.specs.declared.command.Command.TheVariants.{Arc}
 use Rattle.dali_special.specs.Command.{command_of}
 use Rattle.std.specs.Option.{option_map}
 use Rattle.dali_gear.specs.declared.row.GearSet.{GearSet}
@@ -117,18 +117,7 @@ apart_sends t k (Some m) p f told last placed =
 
 pub is_arc_of : (x : Command) → is_arc x ≡ true → (g : Forward) × (x ≡ Arc g)
 is_arc_of (Arc g) e = (g, refl)
-is_arc_of Terminate e = absurd (cc)
-is_arc_of (Initialise target) e = absurd (cc)
-is_arc_of Randomise e = absurd (cc)
-is_arc_of Compare e = absurd (cc)
-is_arc_of Withdraw e = absurd (cc)
-is_arc_of (SearchHigh byte) e = absurd (cc)
-is_arc_of (SearchMiddle byte) e = absurd (cc)
-is_arc_of (SearchLow byte) e = absurd (cc)
-is_arc_of (Program short) e = absurd (cc)
-is_arc_of (Verify short) e = absurd (cc)
-is_arc_of QueryShort e = absurd (cc)
-is_arc_of (Other g) e = absurd (cc)
+is_arc_of _ e = absurd (cc)
 
 owned_next : (s : Seated) (r : Request) (d : ℕ) → Settled s → next s.bus ≡ Some r → s.bus.owner ≡ Some d → IsNextAt s r
 owned_next s r d settled first own =

@@ -90,6 +90,34 @@ fn a_short_address_is_programmed_by_hand(rt: HostRuntime) -> Result<(), Fail> {
 }
 
 #[test]
+fn an_addressed_gear_tells_its_random_address(rt: HostRuntime) -> Result<(), Fail> {
+    // It does so also after TERMINATE, where it answers no QUERY SHORT ADDRESS, and after it was off; no other does.
+    plays(
+        &rt,
+        "bench 1
+         draws 123456
+         frame A5FF > A5FF silence
+         frame A5FF > A5FF silence
+         frame A700 > A700 silence
+         frame A700 > A700 silence
+         frame B112 > B112 silence
+         frame B334 > B334 silence
+         frame B556 > B556 silence
+         frame B701 > B701 silence
+         frame A100 > A100 silence
+         frame 01C2 > 01C2 byte 12
+         frame 01C3 > 01C3 byte 34
+         frame 01C4 > 01C4 byte 56
+         frame 03C2 > 03C2 silence
+         frame BB00 > BB00 silence
+         off 0 > ok
+         frame 01C2 > 01C2 silence
+         on 0 > ok
+         frame 01C2 > 01C2 byte 12",
+    )
+}
+
+#[test]
 fn an_erased_address_is_gone_and_a_malformed_byte_changes_nothing(
     rt: HostRuntime,
 ) -> Result<(), Fail> {

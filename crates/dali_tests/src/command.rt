@@ -1,17 +1,17 @@
-//! The table of special commands of IEC 62386-102:2014.
+//! The table of special commands and of the queries of a random address, of IEC 62386-102:2014.
 
 use super::values::{frame, same, short};
 use dali_frame::Forward;
-use dali_special::{Command, Target};
+use dali_special::{Command, Part, Target};
 use std::test::Fail;
 
-/// How many of the 65,536 frames have each command, counted on the standard's table of special commands.
+/// How many of the 65,536 frames have each command, counted on the standard's tables.
 #[test]
 fn every_frame_has_its_command(rt: HostRuntime) {
     // TERMINATE, INITIALISE (all, 64 addresses, unaddressed), RANDOMISE, COMPARE, WITHDRAW,
     // SEARCHADDRH, SEARCHADDRM, SEARCHADDRL, PROGRAM (64 addresses, erase), VERIFY, QUERY SHORT ADDRESS,
-    // direct arc power (each even address byte), and the rest.
-    let counts = [1, 66, 1, 1, 1, 256, 256, 256, 65, 64, 1, 32768, 31800];
+    // direct arc power (each even address byte), QUERY RANDOM ADDRESS (64 addresses, three bytes), and the rest.
+    let counts = [1, 66, 1, 1, 1, 256, 256, 256, 65, 64, 1, 32768, 192, 31608];
     for (row, wanted) in counts.iter().enumerate() {
         same(&rt, &frames_of(row), wanted);
     }
@@ -47,7 +47,8 @@ fn row_of(command: Command) -> usize {
         Command::Verify(_) => 9,
         Command::QueryShort => 10,
         Command::Arc(_) => 11,
-        Command::Other(_) => 12,
+        Command::RandomByte(..) => 12,
+        Command::Other(_) => 13,
     }
 }
 
@@ -69,6 +70,9 @@ fn commands_have_frames(rt: HostRuntime) -> Result<(), Fail> {
         (b"B7FF", Command::Program(None)),
         (b"B90B", Command::Verify(five)),
         (b"BB00", Command::QueryShort),
+        (b"01C2", Command::RandomByte(short(0)?, Part::High)),
+        (b"0BC3", Command::RandomByte(five, Part::Middle)),
+        (b"7FC4", Command::RandomByte(short(63)?, Part::Low)),
     ] {
         let frame = frame(text)?;
         same(&rt, &Command::read(frame), &command);
@@ -80,12 +84,13 @@ fn commands_have_frames(rt: HostRuntime) -> Result<(), Fail> {
 #[test]
 fn other_frames_have_no_special_command(rt: HostRuntime) -> Result<(), Fail> {
     for text in [
-        b"A101", b"A502", b"A581", b"A901", b"B702", b"B9FF", b"BB01", b"0BA0", b"FF00",
+        b"A101", b"A502", b"A581", b"A901", b"B702", b"B9FF", b"BB01", b"0BA0", b"FF00", b"0BC1",
+        b"0BC5", b"81C2", b"FFC3",
     ] {
         let frame = frame(text)?;
         same(&rt, &Command::read(frame), &Command::Other(frame));
     }
-    for text in [b"FE80", b"00A0", b"A2A0"] {
+    for text in [b"FE80", b"00A0", b"A2A0", b"0AC2"] {
         let frame = frame(text)?;
         same(&rt, &Command::read(frame), &Command::Arc(frame));
     }
@@ -93,7 +98,8 @@ fn other_frames_have_no_special_command(rt: HostRuntime) -> Result<(), Fail> {
         Command::Initialise(Target::All).is_send_twice(),
         Command::Randomise.is_send_twice(),
         Command::Terminate.is_send_twice(),
+        Command::RandomByte(short(5)?, Part::High).is_send_twice(),
     ];
-    same(&rt, &pairs, &[true, true, false]);
+    same(&rt, &pairs, &[true, true, false, false]);
     Ok(())
 }

@@ -46,6 +46,20 @@ fn one_gear_is_addressed(rt: HostRuntime) -> Result<(), Fail> {
     same(&rt, &gear.state(), &InitialisationState::Disabled);
     same(&rt, &gear.search(), &SearchAddress::MASK);
     same(&rt, &(gear.short(), gear.random()), &(Short::of(5), draw));
+    tells_its_random_address(&rt, &mut gear, draw)
+}
+
+/// The gear with short address 5 and random address `123456` answers the queries of its bytes, and no other gear's.
+fn tells_its_random_address<R: Abort>(rt: &R, gear: &mut Gear, draw: Random24) -> Result<(), Fail> {
+    for (text, answer) in [
+        (b"0BC2", Some(0x12)),
+        (b"0BC3", Some(0x34)),
+        (b"0BC4", Some(0x56)),
+        (b"0DC2", None),
+    ] {
+        assert!(rt; draw.value() < 0xFFFFFF);
+        same(rt, &gear.take(frame(text)?, draw).answer, &answer);
+    }
     Ok(())
 }
 
