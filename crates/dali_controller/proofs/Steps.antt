@@ -14,6 +14,8 @@ use Rattle.dali_special.specs.Command.{MASK, command_of, frame_of, IsSpelled}
 use Rattle.dali_special.proofs.Table.{read_written}
 use Rattle.dali_script.specs.declared.block.Block.{Block}
 use Rattle.dali_script.specs.declared.trace.Entry.{Entry}
+use Rattle.dali_script.specs.declared.finding.Finding.{Finding}
+use Rattle.dali_script.specs.declared.finding.Finding.TheVariants.{Queried}
 use Rattle.dali_script.specs.declared.records.Record.{Record}
 use Rattle.dali_script.specs.declared.records.Record.TheVariants.{Reserve, Enrol}
 use Rattle.dali_script.specs.declared.stage.Stage.{Stage}
@@ -22,7 +24,8 @@ use Rattle.dali_script.specs.Records.{IsKept, IsOnce, with_record, HasAddress, K
 use Rattle.dali_script.specs.Scripts.{MayGive, Lawful}
 use Rattle.dali_script.specs.Findings.{later, finding_of}
 use Rattle.dali_script.specs.Stages.{finding_at, stage_of, next_stage, queried, named, verified, answered, Follows}
-use Rattle.dali_script.proofs.Transactions.{turn, gives, lawful_follows, stage_none, stage_more, finding_after}
+use Rattle.dali_script.proofs.Transactions.{turn, gives, lawful_follows, stage_none, stage_more}
+use Rattle.dali_script.proofs.Found.{finding_after}
 use Rattle.dali_enrol.specs.Table.{Table}
 use Rattle.dali_search.specs.declared.step.Step.TheVariants.{Again}
 use Rattle.dali_script.proofs.Lists.{has_map, has_at, has_last}
@@ -335,11 +338,11 @@ calm_small _ i calm = omega arith
 pub sending_small : (w : Work) (f : Forward) → IsSending w f → w.silent < 255
 sending_small w f e = let small : w.silent ≤ 16 = calm_small w.purpose w.silent e.ready.calm in omega arith
 
-found_at : (s : Stage) (earlier found : Option Assignment) → found ≡ later earlier (finding_at s) → FoundAt s found
+found_at : (s : Stage) (earlier found : Option Finding) → found ≡ later earlier (finding_at s) → FoundAt s found
 found_at (Withdrawn r b) earlier found is = is
 found_at _ earlier found is = tt
 
-trace_found_at : (s : Stage) (found : Option Assignment) → found ≡ finding_at s → FoundAt s found
+trace_found_at : (s : Stage) (found : Option Finding) → found ≡ finding_at s → FoundAt s found
 trace_found_at (Withdrawn r b) found is = is
 trace_found_at _ found is = tt
 
@@ -497,7 +500,7 @@ halted_at w r b h conflict =
     record {
       allowed = tt;
       addressing = tt;
-      caused = (b, value_of r, h.finding, h.trace_finding, conflict);
+      caused = (Queried b (value_of r), h.finding, h.trace_finding, conflict);
       given_up = λ e. absurd (omega arith);
       silent = λ e. absurd (omega arith);
       unnamed = λ q e. absurd (cc);
@@ -532,7 +535,7 @@ enrols_at w r b h none fresh =
     let stage : stage_of w.trace ≡ Withdrawn r b = h.stage in
     let visiting : Knows w.kept w.number w.search w.opened Visiting = subst (Knows w.kept w.number w.search w.opened) h.arrived.0 h.knows in
     record {
-      allowed = record { fits = subst (λ n. value_of n < MASK24) (sym h.arrived.1) visiting.0; fresh = (none, fresh); warranted = (h.finding, h.trace_finding) };
+      allowed = record { fits = subst (λ n. value_of n < MASK24) (sym h.arrived.1) visiting.0; fresh = (none, fresh); warranted = (Queried b (value_of r), h.finding, h.trace_finding, refl) };
       addressing = tt;
       caused = ap closing_of h.arrived.0;
       given_up = λ e. absurd (omega arith);

@@ -3,12 +3,13 @@ use Rattle.std.specs.Prelude.{Some, None, is_some}
 use Rattle.dali_frame.specs.declared.frames.Forward.{Forward}
 use Rattle.dali_frame.specs.declared.frames.Answer.{Answer}
 use Rattle.dali_enrol.specs.Table.{Table}
+use Rattle.dali_script.specs.declared.finding.Finding.{Finding}
 use Rattle.dali_script.specs.declared.records.Record.{Record}
 use Rattle.dali_script.specs.declared.trace.Entry.{Entry}
 use Rattle.dali_script.specs.declared.stage.Stage.{Stage}
 use Rattle.dali_script.specs.declared.stage.Stage.TheVariants.{Opened, Unanswered, Inconclusive}
 use Rattle.dali_script.specs.declared.stage.Stage.TheVariants.{Withdrawn}
-use Rattle.dali_script.specs.Records.{Assignment, Kept, with_record}
+use Rattle.dali_script.specs.Records.{Kept, with_record}
 use Rattle.dali_script.specs.Findings.{later, finding_of}
 use Rattle.dali_script.specs.Stages.{stage_of, may_follow}
 use Rattle.dali_script.specs.declared.orders.Input.{Input}
@@ -24,7 +25,7 @@ pub record Machine : Type 0 where
   pub id : ℕ
   pub kept : Kept
   pub trace : List Entry
-  pub finding : Option Assignment
+  pub finding : Option Finding
   pub last : Option Order
   pub tries : ℕ
   pub silent : ℕ

@@ -9,6 +9,8 @@ use Rattle.dali_special.specs.declared.command.Command.TheVariants.{Randomise, C
 use Rattle.dali_special.specs.declared.command.Command.TheVariants.{SearchHigh, SearchMiddle}
 use Rattle.dali_special.specs.declared.command.Command.TheVariants.{SearchLow, Program, QueryShort}
 use Rattle.dali_special.specs.Command.{command_of}
+use Rattle.dali_script.specs.declared.finding.Finding.{Finding}
+use Rattle.dali_script.specs.declared.finding.Finding.TheVariants.{Queried}
 use Rattle.dali_script.specs.declared.records.Record.{Record}
 use Rattle.dali_script.specs.declared.stage.Stage.{Stage}
 use Rattle.dali_script.specs.declared.stage.Stage.TheVariants.{Free, Terminated, InitialisedOnce}
@@ -133,8 +135,8 @@ CalmAt (Inconclusive r other) p opened silent = (silent ≤ 16) × (silent ≡ 1
 CalmAt _ p opened silent = IsCalm p silent
 
 -- the gear that was withdrawn is what was found
-abbrev pub FoundAt : Stage → Option Assignment → Type 0
-FoundAt (Withdrawn r b) found = found ≡ Some (b, value_of r)
+abbrev pub FoundAt : Stage → Option Finding → Type 0
+FoundAt (Withdrawn r b) found = found ≡ Some (Queried b (value_of r))
 FoundAt _ found = Unit {0}
 
 pub record IsReady (w : Work) : Type 0 where

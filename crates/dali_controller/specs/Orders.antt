@@ -7,6 +7,7 @@ use Rattle.dali_frame.specs.Random.{value_of}
 use Rattle.dali_frame.specs.Priority.{FIRST, LATER}
 use Rattle.dali_special.specs.declared.command.Command.TheVariants.{Terminate, Program, Arc}
 use Rattle.dali_special.specs.Command.{command_of, frame_of}
+use Rattle.dali_script.specs.declared.finding.Finding.{Finding}
 use Rattle.dali_script.specs.declared.records.Record.{Record}
 use Rattle.dali_script.specs.declared.records.Record.TheVariants.{Reserve, Enrol}
 use Rattle.dali_script.specs.declared.trace.Entry.{Entry}
@@ -16,7 +17,7 @@ use Rattle.dali_script.specs.declared.stage.Stage.TheVariants.{Withdrawn}
 use Rattle.dali_script.specs.Records.{Assignment, Has, HasRandom, Fits, IsFresh, IsLeastFree}
 use Rattle.dali_script.specs.Records.{IsFull}
 use Rattle.dali_script.specs.Scripts.{Lawful}
-use Rattle.dali_script.specs.Findings.{finding_of}
+use Rattle.dali_script.specs.Findings.{assigned, MayEnrol, finding_of}
 use Rattle.dali_script.specs.Stages.{stage_of}
 use Rattle.dali_script.specs.declared.orders.Input.{Input}
 use Rattle.dali_script.specs.declared.orders.Input.TheVariants as input
@@ -72,12 +73,14 @@ MayPut t p f =
     ((p ≡ FIRST) × Lawful t.kept.block t.kept.reserved [] f)
     ⊎ ((p ≡ LATER) × (t.trace ≡ [] → ⊥) × Lawful t.kept.block t.kept.reserved t.trace f)
 
--- An address is reserved for gear that has answered MASK under its number. Enrolled is the last
--- finding, and it is the one of the running transaction.
+-- An address is reserved for gear that has answered MASK under its number. Enrolled is what the last
+-- finding lets be enrolled, and it is the one of the running transaction.
 abbrev pub IsWarranted : Machine → Record → Type 0
 IsWarranted t (Reserve a r) =
     (n : SearchAddress) × (stage_of t.trace ≡ Unnamed n) × (value_of n ≡ r)
-IsWarranted t (Enrol b r) = (t.finding ≡ Some (b, r)) × (finding_of t.trace ≡ Some (b, r))
+IsWarranted t (Enrol b r) =
+    (x : Finding) × (t.finding ≡ Some x) × (finding_of t.trace ≡ Some x)
+    × MayEnrol t.kept.reserved x (b, r)
 
 -- a record that fits, with neither its address nor its number in a record of its kind
 pub record MayCommit (t : Machine) (x : Record) : Type 0 where
@@ -126,8 +129,8 @@ IsCaused t (Commit x) = t.closing ≡ None
 IsCaused t (Done e) =
     ((e ≡ GaveUp) × (t.tries ≡ 8)) ⊎ ((t.closing ≡ Some e) × (stage_of t.trace ≡ Terminated))
 IsCaused t (Halt fault.Conflict) =
-    (b : ℕ) × (r : ℕ) × (t.finding ≡ Some (b, r)) × (finding_of t.trace ≡ Some (b, r))
-    × Contradicts t.kept.enrolled b r
+    (x : Finding) × (t.finding ≡ Some x) × (finding_of t.trace ≡ Some x)
+    × Contradicts t.kept.enrolled (assigned x).0 (assigned x).1
 IsCaused t (Halt fault.Store) = ⊥
 
 -- WHAT A VISIT LEADS TO.

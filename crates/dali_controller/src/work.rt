@@ -14,8 +14,8 @@ ghost use Rattle.dali_controller.specs.Orders.{machine_ordered};
 
 use crate::purpose::Purpose;
 use dali_enrol::Table;
-use dali_frame::{Answer, Forward, Priority, Random24, SearchAddress, Short};
-use dali_script::{End, Fault, Kept, Order, Record, Stage, Trace};
+use dali_frame::{Answer, Forward, Priority, SearchAddress};
+use dali_script::{End, Fault, Finding, Kept, Order, Record, Stage, Trace};
 use dali_search::Search;
 use dali_special::Command;
 
@@ -27,7 +27,7 @@ pub(crate) struct Work {
     pub table: Table,
     pub search: Search,
     pub trace: Trace,
-    pub finding: Option<(Short, Random24)>,
+    pub finding: Option<Finding>,
     pub last: Option<Order>,
     pub tries: u8,
     pub silent: u8,
@@ -85,7 +85,7 @@ impl Work {
     fn note_finding(&mut self)
         ensures { self.new ≡ record self.old { finding = later self.old.finding (finding_of self.old.trace) } }
     {
-        if let Some(found) = self.trace.finding() {
+        if let Some(found) = self.trace.found() {
             self.finding = Some(found);
         }
     }

@@ -66,7 +66,7 @@ tables_agree_in p capacity front rest run =
 
 -- FINDINGS AGREE
 finding_named : (p : Plan) (w : World) → Holds p w → (c : ℕ) (x : Assignment) → HasFound w c x → Names w x
-finding_named p w k c x h = subst (λ f. SaysFinding (Names w) f) h.1 (k.says c h.0).finding
+finding_named p w k c x h = subst (Names w) h.1.2 (subst (λ f. SaysFinding (Names w) f) h.1.1 (k.says c h.0).finding)
 
 pub findings_agree : (p : Plan) (w : World) → Holds p w → AreDrawn w → FindingsAgree w
 findings_agree p w k d = record {

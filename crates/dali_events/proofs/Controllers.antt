@@ -1,8 +1,9 @@
 use Rattle.std.proofs.Common.{◌≡◌, ℕ, ◌<◌, Bool, true, false, List, refl, ◌∙◌, length, length-set, get_or, Option, Some, None}
 use Rattle.dali_special.specs.Command.{command_of}
+use Rattle.dali_script.specs.declared.finding.Finding.{Finding}
 use Rattle.dali_script.specs.declared.records.Record.{Record}
-use Rattle.dali_script.specs.Records.{Assignment, Kept}
-use Rattle.dali_script.specs.Findings.{search_of, found_by, later}
+use Rattle.dali_script.specs.Records.{Kept}
+use Rattle.dali_script.specs.Findings.{search_of, asked_of, found_by, later}
 use Rattle.dali_script.specs.declared.orders.Input.{Input}
 use Rattle.dali_script.specs.declared.orders.Input.TheVariants as input
 use Rattle.dali_script.specs.declared.orders.Order.{Order}
@@ -16,12 +17,12 @@ use Rattle.dali_script.proofs.Members.{Each, each_changed}
 -- WHAT AN EVENT DOES TO THE CONTROLLERS, for any property of what a controller keeps, its outstanding record and its
 -- finding that stands when the record is kept, when it is dropped, and when the finding is forgotten.
 abbrev pub Property : Type 1
-Property = ℕ → Kept → Option Record → Option Assignment → Type 0
+Property = ℕ → Kept → Option Record → Option Finding → Type 0
 
 pub record Stands (P : Property) : Type 0 where
-  pub keep : (c : ℕ) (kept : Kept) (o : Option Record) (f : Option Assignment) → P c kept o f → P c (with_outstanding kept o) None f
-  pub drop : (c : ℕ) (kept : Kept) (o : Option Record) (f : Option Assignment) → P c kept o f → P c kept None f
-  pub forget : (c : ℕ) (kept : Kept) (o : Option Record) (f : Option Assignment) → P c kept o f → P c kept o None
+  pub keep : (c : ℕ) (kept : Kept) (o : Option Record) (f : Option Finding) → P c kept o f → P c (with_outstanding kept o) None f
+  pub drop : (c : ℕ) (kept : Kept) (o : Option Record) (f : Option Finding) → P c kept o f → P c kept None f
+  pub forget : (c : ℕ) (kept : Kept) (o : Option Record) (f : Option Finding) → P c kept o f → P c kept o None
 
 abbrev pub Of : Property → ℕ → Controller → Type 0
 Of P c k = P c k.records k.outstanding k.finding
@@ -34,7 +35,7 @@ AddsOrder P c k _ = Unit {0}
 abbrev pub Adds : Property → World → Event → Type 0
 Adds P w (event.Acted c i o) = AddsOrder P c (controller_informed (controller_at w c) i) o
 Adds P w (event.Sent c f h) =
-    c < length w.controllers → Of P c (controller_at w c) → P c (controller_at w c).records (controller_at w c).outstanding (later (controller_at w c).finding (found_by (search_of (trace_running w c)) (command_of f) h))
+    c < length w.controllers → Of P c (controller_at w c) → P c (controller_at w c).records (controller_at w c).outstanding (later (controller_at w c).finding (found_by (search_of (trace_running w c)) (asked_of (trace_running w c)) (command_of f) h))
 Adds P w _ = Unit {0}
 
 informed_stands : (P : Property) (s : Stands P) (c : ℕ) (k : Controller) (i : Input) → Of P c k → Of P c (controller_informed k i)

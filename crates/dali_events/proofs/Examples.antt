@@ -7,6 +7,7 @@ use Rattle.dali_special.specs.Command.{command_of, frame}
 use Rattle.dali_gear.specs.declared.state.InitialisationState.TheVariants.{Disabled, Enabled}
 use Rattle.dali_gear.specs.Gear.{Gear, search_mask}
 use Rattle.dali_arbiter.specs.Arbiter.{request_of, idle}
+use Rattle.dali_script.specs.declared.finding.Finding.TheVariants.{Queried}
 use Rattle.dali_script.specs.declared.block.Block.{Block}
 use Rattle.dali_script.specs.declared.records.Record.TheVariants.{Reserve}
 use Rattle.dali_script.specs.Scripts.{Open}
@@ -170,7 +171,7 @@ powered_again = refl
 abbrev looking : List Event
 looking = event.Sent 0 (frame 0xB1 0x12) Silence ∷ event.Sent 0 (frame 0xB3 0x34) Silence ∷ event.Sent 0 (frame 0xB5 0x56) Silence ∷ []
 
-found : (controller_at (after_all found_site (looking ++ event.Sent 0 query (Byte 0x01) ∷ [])) 0).finding ≡ Some (0, 0x123456)
+found : (controller_at (after_all found_site (looking ++ event.Sent 0 query (Byte 0x01) ∷ [])) 0).finding ≡ Some (Queried 0 0x123456)
 unfolding command_of stage_of
 found = refl
 

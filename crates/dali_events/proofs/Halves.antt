@@ -5,7 +5,8 @@ use Rattle.dali_frame.specs.declared.frames.Answer.{Answer}
 use Rattle.dali_frame.specs.declared.numbers.SearchAddress.{SearchAddress}
 use Rattle.dali_frame.specs.Random.{value_of}
 use Rattle.dali_special.specs.declared.command.Command.{Command}
-use Rattle.dali_special.specs.declared.command.Command.TheVariants.{Terminate, Randomise, SearchHigh, Arc}
+use Rattle.dali_special.specs.declared.command.Part.TheVariants.{High}
+use Rattle.dali_special.specs.declared.command.Command.TheVariants.{Terminate, Randomise, SearchHigh, RandomByte, Arc}
 use Rattle.dali_special.specs.Command.{command_of}
 use Rattle.dali_gear.specs.declared.row.Reach.TheVariants.{Everyone}
 use Rattle.dali_gear.specs.Gear.{Gear, fresh, half_after, gear_expired, gear_quieted}
@@ -39,6 +40,7 @@ Whole k g = g.powered ≡ true → g.half ≡ None
 half_first : (b : Block) (xs : List Assignment) (s : Stage) (c : Command) (g : Gear) → Follows b xs s c → s ≡ stage.Free → half_after c g ≡ None
 half_first b xs stage.Free Terminate g on e = refl
 half_first b xs stage.Free (SearchHigh high) g on e = refl
+half_first b xs stage.Free (RandomByte a High) g on e = refl
 half_first b xs stage.Free (Arc f) g on e = refl
 half_first b xs _ _ g on e = absurd (let none = on.leads_on in cc)
 

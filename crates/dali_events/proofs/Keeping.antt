@@ -1,12 +1,17 @@
-use Rattle.std.proofs.Common.{◌≡◌, ℕ, ◌<◌, List, [], ◌∷◌, ◌++◌, refl, subst, ◌∙◌, length, Option, Some, None}
+use Rattle.std.proofs.Common.{◌≡◌, ℕ, ◌<◌, List, [], ◌∷◌, ◌++◌, refl, sym, subst, ◌∙◌, length, Option, Some, None}
 use Rattle.std.proofs.lemmas.List.{get_or-map, length-map}
-use Rattle.dali_special.proofs.Table.{short_small}
-use Rattle.dali_special.specs.Command.{command_of}
+use Rattle.dali_frame.specs.declared.frames.Forward.{Forward}
+use Rattle.dali_frame.specs.declared.frames.Answer.{Answer}
+use Rattle.dali_frame.specs.declared.numbers.SearchAddress.{SearchAddress}
+use Rattle.dali_special.proofs.Table.{short_small, read_spelled}
+use Rattle.dali_special.specs.Command.{command_of, IsSpelled}
 use Rattle.dali_script.specs.declared.block.Block.{Block}
+use Rattle.dali_script.specs.declared.finding.Finding.{Finding}
+use Rattle.dali_script.specs.declared.finding.Finding.TheVariants.{Queried, Resolved}
 use Rattle.dali_script.specs.declared.records.Record.{Record}
 use Rattle.dali_script.specs.declared.records.Record.TheVariants.{Reserve, Enrol}
 use Rattle.dali_script.specs.Records.{Assignment, Kept, InBlock, IsKept, IsFresh, Fits, address_of}
-use Rattle.dali_script.specs.Findings.{search_of, found_by, later}
+use Rattle.dali_script.specs.Findings.{search_of, Asked, asked_of, found_by, assigned, later}
 use Rattle.dali_script.proofs.Lists.{kept_none, kept_more}
 use Rattle.dali_script.specs.declared.orders.Order.{Order}
 use Rattle.dali_script.specs.declared.orders.Order.TheVariants.{Put, Commit, Done, Halt}
@@ -21,7 +26,7 @@ use Rattle.dali_events.specs.Laws.{KeepsRecords}
 use Rattle.dali_events.proofs.Growing.{allowed_front}
 use Rattle.dali_script.proofs.Members.{Each}
 use Rattle.dali_events.proofs.Controllers.{Property, Stands, Of, AddsOrder, Adds, controllers_step, controllers_count}
-use Rattle.dali_events.proofs.Naming.{finding_is}
+use Rattle.dali_events.proofs.Naming.{IsFinding, finding_is, enrols_assigned}
 
 -- RECORDS ARE KEPT, AND AN OUTSTANDING ONE IS NEW
 record IsNewRecord (kept : Kept) (x : Record) : Type 0 where
@@ -29,11 +34,11 @@ record IsNewRecord (kept : Kept) (x : Record) : Type 0 where
   pub fits : Fits kept.block x
   pub short : address_of x < 64
 
-record Keeping (b : Block) (kept : Kept) (o : Option Record) (f : Option Assignment) : Type 0 where
+record Keeping (b : Block) (kept : Kept) (o : Option Record) (f : Option Finding) : Type 0 where
   pub block : kept.block ≡ b
   pub kept_so : IsKept kept
   pub new : (x : Record) → o ≡ Some x → IsNewRecord kept x
-  pub finding : (x : Assignment) → f ≡ Some x → x.0 < 64
+  pub finding : (x : Finding) → f ≡ Some x → (assigned x).0 < 64
 
 abbrev KeepsAs : Plan → Property
 KeepsAs p c kept o f = Keeping (block_at p c) kept o f
@@ -57,6 +62,9 @@ keeping_stands p = record {
 one_new : (kept : Kept) (y : Record) → IsNewRecord kept y → (x : Record) → Some y ≡ Some x → IsNewRecord kept x
 one_new kept y n x e = subst (λ z. IsNewRecord kept z) (let same : y ≡ x = cc in same) n
 
+enrolled_short : (p : Assignment) (x : Finding) → p ≡ assigned x → (assigned x).0 < 64 → p.0 < 64
+enrolled_short p x is small = subst (λ (y : Assignment). y.0 < 64) (sym is) small
+
 order_keeps : (p : Plan) → IsPlan p → (w : World) (c : ℕ) → c < length p.blocks → (k : Controller) (o : Order) → MayOrder w c k o → AddsOrder (KeepsAs p) c k o
 order_keeps p plan w c there k (Commit (Reserve a r)) may = λ h. record {
   block = h.block;
@@ -67,16 +75,20 @@ order_keeps p plan w c there k (Commit (Reserve a r)) may = λ h. record {
 order_keeps p plan w c there k (Commit (Enrol a r)) may = λ h. record {
   block = h.block;
   kept_so = h.kept_so;
-  new = one_new k.records (Enrol a r) (record { fresh = may.1.2; fits = may.1.1; short = h.finding (a, r) may.1.0 });
+  new = one_new k.records (Enrol a r) (record { fresh = may.1.2; fits = may.1.1; short = enrolled_short (a, r) may.1.0.0 (enrols_assigned k.records.reserved may.1.0.0 (a, r) may.1.0.2) (h.finding may.1.0.0 may.1.0.1) });
   finding = h.finding;
 }
 order_keeps p plan w c there k (Put q f) may = tt
 order_keeps p plan w c there k (Done end) may = tt
 order_keeps p plan w c there k (Halt fault) may = tt
 
-later_short : (f g : Option Assignment) → ((x : Assignment) → f ≡ Some x → x.0 < 64) → ((x : Assignment) → g ≡ Some x → x.0 < 64) → (x : Assignment) → later f g ≡ Some x → x.0 < 64
+later_short : (f g : Option Finding) → ((x : Finding) → f ≡ Some x → (assigned x).0 < 64) → ((x : Finding) → g ≡ Some x → (assigned x).0 < 64) → (x : Finding) → later f g ≡ Some x → (assigned x).0 < 64
 later_short f None old new x e = old x e
 later_short f (Some y) old new x e = new x e
+
+finding_small : (r : SearchAddress) (q : Asked) (f : Forward) (h : Answer) (x : Finding) → IsFinding r q (command_of f) h x → (assigned x).0 < 64
+finding_small r q f h (Queried a n) is = short_small is.byte a is.short
+finding_small r q f h (Resolved a n) is = subst IsSpelled is.query (read_spelled f)
 
 keeps_add : (p : Plan) → IsPlan p → (w : World) (e : Event) → Allowed w e → length w.controllers ≡ length p.blocks → Adds (KeepsAs p) w e
 keeps_add p plan w (event.Acted c i o) here count = order_keeps p plan w c (subst (λ n. c < n) count here.up.known) (controller_informed (controller_at w c) i) o here.order
@@ -84,8 +96,8 @@ keeps_add p plan w (event.Sent c f h) here count = λ there k. record {
   block = k.block;
   kept_so = k.kept_so;
   new = k.new;
-  finding = later_short (controller_at w c).finding (found_by (search_of (trace_running w c)) (command_of f) h) k.finding
-      (λ x e. let is = finding_is (search_of (trace_running w c)) (command_of f) h x e in short_small is.byte x.0 is.short);
+  finding = later_short (controller_at w c).finding (found_by (search_of (trace_running w c)) (asked_of (trace_running w c)) (command_of f) h) k.finding
+      (λ x e. finding_small (search_of (trace_running w c)) (asked_of (trace_running w c)) f h x (finding_is (search_of (trace_running w c)) (asked_of (trace_running w c)) (command_of f) h x e));
 }
 keeps_add p plan w _ here count = tt
 

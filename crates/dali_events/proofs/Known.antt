@@ -1,14 +1,15 @@
 use Rattle.std.proofs.Common.{◌≡◌, ℕ, ◌<◌, ◌⊎◌, inl, inr, Bool, true, false, List, refl, sym, ap, subst, ◌∙◌, arith, Option, Some, None}
-use Rattle.std.specs.Prelude.{◌&&◌, ◌==◌, if◌then◌else◌}
+use Rattle.std.specs.Prelude.{◌&&◌, ◌==◌, if◌then◌else◌, unwrap_or}
 use Rattle.std.proofs.lemmas.Bool.Decides.{nat_tests}
 use Rattle.dali_frame.specs.declared.frames.Answer.{Answer}
 use Rattle.dali_frame.specs.declared.frames.Answer.TheVariants.{Silence, Byte, Damaged}
 use Rattle.dali_frame.specs.declared.numbers.SearchAddress.{SearchAddress}
 use Rattle.dali_frame.specs.Short.{code_of, short_of}
 use Rattle.dali_frame.specs.Random.{value_of}
+use Rattle.dali_special.specs.declared.command.Part.TheVariants.{High, Middle, Low}
 use Rattle.dali_special.specs.declared.command.Target.TheVariants.{Unaddressed}
 use Rattle.dali_special.specs.declared.command.Command.{Command}
-use Rattle.dali_special.specs.declared.command.Command.TheVariants.{Terminate, Initialise, Randomise, Withdraw, SearchHigh, SearchMiddle, SearchLow, Program, QueryShort}
+use Rattle.dali_special.specs.declared.command.Command.TheVariants.{Terminate, Initialise, Randomise, Withdraw, SearchHigh, SearchMiddle, SearchLow, Program, QueryShort, RandomByte}
 use Rattle.dali_special.specs.Command.{MASK, program_data, IsSpelled}
 use Rattle.dali_special.proofs.Table.{short_of_code}
 use Rattle.dali_gear.specs.declared.state.InitialisationState.TheVariants.{Enabled}
@@ -19,7 +20,7 @@ use Rattle.dali_script.specs.declared.stage.Stage.{Stage}
 use Rattle.dali_script.specs.declared.stage.Stage.TheVariants as stage
 use Rattle.dali_script.specs.Records.{Assignment}
 use Rattle.dali_script.specs.Scripts.{MayGive}
-use Rattle.dali_script.specs.Stages.{Follows, next_stage, queried, named, verified, answered, IsSearched}
+use Rattle.dali_script.specs.Stages.{Follows, next_stage, queried, named, verified, answered, bytes_heard, number_heard, IsSearched}
 
 -- WHAT A STAGE SAYS OF EACH POWERED GEAR that takes part in the initialisation
 abbrev pub IsActive : Gear → Type 0
@@ -114,6 +115,19 @@ initialised_none g k active = go (is_second (Initialise Unaddressed) g.half && c
   go true e a = concerned_none g.short (both_true (is_second (Initialise Unaddressed) g.half) (concerns Unaddressed g.short) e).1
   go false e a = k a
 
+-- queries of a random address say nothing here
+knows_middle : (a d : ℕ) (high : Option ℕ) (h : Answer) (g : Gear) → Knows (next_stage (stage.HighAsked a high) (RandomByte d Middle) h) g
+knows_middle a d high h g = go (d == a) where
+  go : (t : Bool) → Knows (unwrap_or (if t then Some (stage.MiddleAsked a (bytes_heard high h)) else None) stage.Over) g
+  go true = tt
+  go false = tt
+
+knows_low : (a d : ℕ) (bytes : Option (ℕ × ℕ)) (h : Answer) (g : Gear) → Knows (next_stage (stage.MiddleAsked a bytes) (RandomByte d Low) h) g
+knows_low a d bytes h g = go (d == a) where
+  go : (t : Bool) → Knows (unwrap_or (if t then Some (stage.Spelled a (number_heard bytes h)) else None) stage.Over) g
+  go true = tt
+  go false = tt
+
 pub knows_step : (b : Block) (xs : List Assignment) (s : Stage) (c : Command) (h : Answer) (g : Gear) (x : ℕ)
     → Follows b xs s c → IsShort g → Agrees c g h → Knows s g → Knows (next_stage s c h) (gear_taken c x g)
 knows_step b xs stage.Free Terminate h g x on small agrees k = λ active. absurd (cc)
@@ -128,6 +142,9 @@ knows_step b xs (stage.NumberSent r) QueryShort h g x on small agrees k = knows_
 knows_step b xs (stage.Unnamed r) (Program (Some a)) h g x on small agrees k = λ active. (k active).0
 knows_step b xs (stage.Programmed r a) QueryShort h g x on small agrees k = knows_verified r a h g x small agrees k
 knows_step b xs stage.RandomisedOnce Randomise h g x on small agrees k = tt
+knows_step b xs stage.Free (RandomByte a High) h g x on small agrees k = tt
+knows_step b xs (stage.HighAsked a high) (RandomByte d Middle) h g x on small agrees k = knows_middle a d high h (gear_taken (RandomByte d Middle) x g)
+knows_step b xs (stage.MiddleAsked a bytes) (RandomByte d Low) h g x on small agrees k = knows_low a d bytes h (gear_taken (RandomByte d Low) x g)
 knows_step b xs (stage.Found r a) Withdraw h g x on small agrees k = tt
 knows_step b xs (stage.Confirmed r a) Withdraw h g x on small agrees k = tt
 knows_step b xs _ _ h g x on small agrees k = tt

@@ -9,6 +9,7 @@ pub mod Answers
 pub mod Known
 pub mod Sending
 pub mod Gifts
+pub mod Resolving
 pub mod Naming
 pub mod Safe
 pub mod Agreeing

@@ -1,13 +1,14 @@
 use Rattle.std.proofs.Common.{◌≡◌, ℕ, ◌+◌, ◌<◌, ◌≤◌, ◌⊎◌, inl, inr, Bool, true, false, zero, suc, List, [], ◌∷◌, refl, sym, subst, arith, length, get_or, Option, Some, None, add-zero, zero-add}
-use Rattle.std.specs.Prelude.{◌&&◌, ◌==◌, if◌then◌else◌}
+use Rattle.std.specs.Prelude.{◌&&◌, ◌==◌, if◌then◌else◌, unwrap_or}
 use Rattle.dali_frame.specs.declared.frames.Answer.{Answer}
 use Rattle.dali_frame.specs.declared.frames.Answer.TheVariants.{Silence, Byte, Damaged}
 use Rattle.dali_frame.specs.declared.numbers.SearchAddress.{SearchAddress}
 use Rattle.dali_frame.specs.Short.{short_of}
 use Rattle.dali_frame.specs.Random.{value_of, MASK24}
+use Rattle.dali_special.specs.declared.command.Part.TheVariants.{High, Middle, Low}
 use Rattle.dali_special.specs.declared.command.Target.TheVariants.{Unaddressed}
 use Rattle.dali_special.specs.declared.command.Command.{Command}
-use Rattle.dali_special.specs.declared.command.Command.TheVariants.{Terminate, Initialise, Randomise, Withdraw, SearchMiddle, SearchLow, Program, QueryShort}
+use Rattle.dali_special.specs.declared.command.Command.TheVariants.{Terminate, Initialise, Randomise, Withdraw, SearchMiddle, SearchLow, Program, QueryShort, RandomByte}
 use Rattle.dali_special.specs.Command.{MASK}
 use Rattle.dali_gear.specs.declared.state.InitialisationState.TheVariants.{Enabled, Withdrawn}
 use Rattle.dali_gear.specs.declared.row.Reach.{Reach}
@@ -17,7 +18,7 @@ use Rattle.dali_script.specs.declared.block.Block.{Block}
 use Rattle.dali_script.specs.declared.stage.Stage.{Stage}
 use Rattle.dali_script.specs.declared.stage.Stage.TheVariants as stage
 use Rattle.dali_script.specs.Records.{Assignment, Has}
-use Rattle.dali_script.specs.Stages.{Follows, next_stage, queried, named, verified, answered}
+use Rattle.dali_script.specs.Stages.{Follows, next_stage, queried, named, verified, answered, bytes_heard, number_heard}
 use Rattle.dali_events.proofs.Known.{Knows, IsActive, found_random}
 
 -- WITH NUMBERS ENOUGH, who would draw draws one of them
@@ -97,6 +98,18 @@ opens_verified r a (Byte v) g = go (short_of v) where
     same true = tt
     same false = tt
 
+opens_middle : (a d : ℕ) (high : Option ℕ) (h : Answer) (g : Gear) → Opens (next_stage (stage.HighAsked a high) (RandomByte d Middle) h) g
+opens_middle a d high h g = go (d == a) where
+  go : (t : Bool) → Opens (unwrap_or (if t then Some (stage.MiddleAsked a (bytes_heard high h)) else None) stage.Over) g
+  go true = tt
+  go false = tt
+
+opens_low : (a d : ℕ) (bytes : Option (ℕ × ℕ)) (h : Answer) (g : Gear) → Opens (next_stage (stage.MiddleAsked a bytes) (RandomByte d Low) h) g
+opens_low a d bytes h g = go (d == a) where
+  go : (t : Bool) → Opens (unwrap_or (if t then Some (stage.Spelled a (number_heard bytes h)) else None) stage.Over) g
+  go true = tt
+  go false = tt
+
 -- the second INITIALISE enables it
 enables : (g : Gear) → g.half ≡ Some (Initialise Unaddressed) → g.short ≡ None → (half_after (Initialise Unaddressed) g ≡ None) × (state_after (Initialise Unaddressed) g ≡ Enabled)
 enables g half none = rw (half, none) (refl, refl)
@@ -118,6 +131,9 @@ opens_step b xs (stage.Programmed r a) QueryShort h g x on k none = opens_verifi
 opens_step b xs stage.RandomisedOnce Randomise h g x on k none = tt
 opens_step b xs (stage.HighSent high) (SearchMiddle middle) h g x on k none = tt
 opens_step b xs (stage.MiddleSent high middle) (SearchLow low) h g x on k none = tt
+opens_step b xs stage.Free (RandomByte a High) h g x on k none = tt
+opens_step b xs (stage.HighAsked a high) (RandomByte d Middle) h g x on k none = opens_middle a d high h (gear_taken (RandomByte d Middle) x g)
+opens_step b xs (stage.MiddleAsked a bytes) (RandomByte d Low) h g x on k none = opens_low a d bytes h (gear_taken (RandomByte d Low) x g)
 opens_step b xs (stage.Found r a) Withdraw h g x on k none = tt
 opens_step b xs (stage.Unnamed r) (Program (Some a)) h g x on k none = tt
 opens_step b xs (stage.Confirmed r a) Withdraw h g x on k none = tt

@@ -2,18 +2,22 @@ use Rattle.std.proofs.Common.{◌≡◌, ℕ, ◌<◌, Bool, true, false, List, 
 use Rattle.std.proofs.lemmas.List.{length-map, length-replicate, get_or-replicate}
 use Rattle.std.specs.Prelude.{if◌then◌else◌}
 use Rattle.dali_frame.specs.declared.frames.Forward.{Forward}
+use Rattle.dali_frame.specs.declared.frames.Answer.{Answer}
 use Rattle.dali_special.specs.Command.{command_of}
 use Rattle.dali_gear.specs.declared.row.Reach.{Reach}
 use Rattle.dali_gear.specs.declared.row.Reach.TheVariants.{Everyone, Only}
 use Rattle.dali_gear.specs.Gear.{Gear, fresh, gear_expired, gear_quieted}
 use Rattle.dali_gear.specs.Row.{row_after, drawn_of, stored_of}
 use Rattle.dali_script.specs.Records.{Assignment, Has}
+use Rattle.dali_script.specs.Findings.{Asked, asked_after, asked_of, assigned}
 use Rattle.dali_script.specs.Stages.{stage_of}
+use Rattle.dali_script.proofs.Found.{asked_more}
+use Rattle.dali_arbiter.specs.Arbiter.{owns}
 use Rattle.dali_events.specs.declared.event.Event.{Event}
 use Rattle.dali_events.specs.declared.event.Event.TheVariants as event
 use Rattle.dali_events.specs.Plan.{Plan, IsPlan}
 use Rattle.dali_events.specs.World.{World, gear_at, controller_at, nobody, start, gear_changed}
-use Rattle.dali_events.specs.Happens.{happens, trace_running, gear_powered}
+use Rattle.dali_events.specs.Happens.{happens, trace_running, entry, goes_on, gear_powered}
 use Rattle.dali_events.specs.Allowed.{Allowed, IsUp, MaySend}
 use Rattle.dali_events.specs.Runs.{after, after_all, AllAllowed, IsRun}
 use Rattle.dali_events.specs.Promise.{HoldsShort, KeepsPromiseNow, KeepsAddresses, KeepsPromise, Names, IsSafe, KeepsGifts, IsSafeHistory}
@@ -25,6 +29,7 @@ use Rattle.dali_events.proofs.Reserves.{AllReserve, reserves_step, reserves_star
 use Rattle.dali_events.proofs.Sending.{IsKnown, known_step, known_start, follows_of, knows_running}
 use Rattle.dali_events.proofs.Gifts.{Gifts, Change, SameAddresses, no_change, frame_changes, gifts_step, gift_stays, gift_random, draw_stays}
 use Rattle.dali_events.proofs.Naming.{Says, FoundBy, says_step, says_start, found_names}
+use Rattle.dali_events.proofs.Resolving.{Tells, tells_if, tells_unless, tells_stay, tells_more}
 
 -- THE INVARIANT of every run
 pub record Holds (p : Plan) (w : World) : Type 0 where
@@ -33,6 +38,7 @@ pub record Holds (p : Plan) (w : World) : Type 0 where
   pub known : IsKnown w
   pub gifts : Gifts (IsReserved w.controllers) w.gear w.drawn w.gifts
   pub says : Each nobody (Of (Says (Names w))) w.controllers
+  pub tells : Tells (asked_of w.trace) w.gear
 
 -- WHAT AN EVENT CHANGES of addresses
 abbrev ChangeOf : World → World → Type 0
@@ -92,8 +98,31 @@ names_stay w v ch drawn keeps x n =
     (n.0, subst (λ m. n.0 < m) (sym ch.count) n.1, record { drawer = drawn (n.0, x.1) n.2.drawer; given = kept.0; random = kept.1 ∙ n.2.random })
 
 found_of : (p : Plan) (w : World) (e : Event) (M : Assignment → Type 0) → Allowed w e → Holds p w → ((x : Assignment) → Names w x → M x) → FoundBy M w e
-found_of p w (event.Sent c f h) M here k more = λ x e. more x (found_names (IsReserved w.controllers) w c f h here k.known k.gifts x e)
+found_of p w (event.Sent c f h) M here k more = λ x e. more (assigned x) (found_names (IsReserved w.controllers) w c f h here k.known k.gifts (tells_if (owns w.bus.owner c) w.trace w.gear k.tells) x e)
 found_of p w _ M here k more = tt
+
+tells_sent : (p : Plan) (w : World) (c : ℕ) (f : Forward) (h : Answer) → Allowed w (event.Sent c f h) → Holds p w → Tells (asked_of (happens w (event.Sent c f h)).trace) (happens w (event.Sent c f h)).gear
+tells_sent p w c f h here k =
+    let q : Asked = asked_of (trace_running w c) in
+    let before : Tells q w.gear = tells_if (owns w.bus.owner c) w.trace w.gear k.tells in
+    let now : Tells (asked_after (command_of f) h q) w.gear = tells_more (IsReserved w.controllers) w.gear w.drawn w.gifts k.gifts (command_of f) h q here.heard before in
+    let after_it : Tells (asked_after (command_of f) h q) (happens w (event.Sent c f h)).gear =
+    tells_stay (IsReserved w.controllers) w.gear _ w.drawn w.gifts _ _ (change_of p w (event.Sent c f h) here k) (asked_after (command_of f) h q) now in
+    tells_if (goes_on w c (trace_running w c ++ entry f h ∷ [])) (trace_running w c ++ entry f h ∷ []) (happens w (event.Sent c f h)).gear
+    (subst (λ d. Tells d (happens w (event.Sent c f h)).gear) (sym (asked_more (trace_running w c) (entry f h))) after_it)
+
+tells_step : (p : Plan) (w : World) (e : Event) → Allowed w e → Holds p w → Tells (asked_of (happens w e).trace) (happens w e).gear
+tells_step p w (event.Acted c i o) here k = tells_unless _ w.trace w.gear k.tells
+tells_step p w (event.Offered c f) here k = k.tells
+tells_step p w (event.Sent c f h) here k = tells_sent p w c f h here k
+tells_step p w (event.Destroyed c f set) here k = tt
+tells_step p w (event.Collided c f d g) here k = tt
+tells_step p w event.Lapsed here k = tt
+tells_step p w event.Quiet here k = tells_stay (IsReserved w.controllers) w.gear _ w.drawn w.gifts _ _ (change_of p w event.Quiet here k) (asked_of w.trace) k.tells
+tells_step p w (event.Power g on) here k = tells_stay (IsReserved w.controllers) w.gear _ w.drawn w.gifts _ _ (change_of p w (event.Power g on) here k) (asked_of w.trace) k.tells
+tells_step p w (event.Expired g) here k = tells_stay (IsReserved w.controllers) w.gear _ w.drawn w.gifts _ _ (change_of p w (event.Expired g) here k) (asked_of w.trace) k.tells
+tells_step p w (event.Down c) here k = tells_unless _ w.trace w.gear k.tells
+tells_step p w (event.Up c kept) here k = k.tells
 
 module _ (p : Plan) (plan : IsPlan p) (w : World) (e : Event) (here : Allowed w e) (k : Holds p w) where
   ch : ChangeOf w (happens w e)
@@ -120,6 +149,7 @@ module _ (p : Plan) (plan : IsPlan p) (w : World) (e : Event) (here : Allowed w 
     gifts = gifts_more (IsReserved w.controllers) (IsReserved (happens w e).controllers) (happens w e).gear (happens w e).drawn (happens w e).gifts (λ x r. reserved_stays x w e r)
         (gifts_step (IsReserved w.controllers) (one_number p w.controllers plan k.reserves) w.gear _ w.drawn w.gifts _ _ (are_drawn p w plan k.draws).once k.gifts ch);
     says = says_step (Names w) (Names (happens w e)) w e here names (found_of p w e (Names (happens w e)) here k names) k.says;
+    tells = tells_step p w e here k;
   }
 
 -- EVERY RUN
@@ -137,6 +167,7 @@ holds_start p capacity = record {
     address_once = tt;
   };
   says = says_start (Names (start p capacity)) p capacity;
+  tells = tt;
 } where
   none : (g a : ℕ) → g < length (start p capacity).gear → (gear_at (start p capacity) g).short ≡ Some a → ⊥
   none g a h e =

@@ -16,7 +16,7 @@ use Rattle.dali_arbiter.specs.Arbiter.{bus_destroyed, bus_collided, bus_lapsed, 
 use Rattle.dali_script.specs.declared.trace.Entry.{Entry}
 use Rattle.dali_script.specs.declared.records.Record.{Record}
 use Rattle.dali_script.specs.Records.{Kept, with_record}
-use Rattle.dali_script.specs.Findings.{search_of, found_by, later}
+use Rattle.dali_script.specs.Findings.{search_of, asked_of, found_by, later}
 use Rattle.dali_script.specs.Stages.{stage_of, may_follow}
 use Rattle.dali_script.specs.declared.orders.Input.{Input}
 use Rattle.dali_script.specs.declared.orders.Input.TheVariants as input
@@ -136,7 +136,7 @@ told_of c i was = if is_arc c then was else Some i
 
 abbrev pub told_sent : List Entry → Forward → Answer → Controller → Controller
 told_sent t f h k = record k {
-  finding = later k.finding (found_by (search_of t) (command_of f) h);
+  finding = later k.finding (found_by (search_of t) (asked_of t) (command_of f) h);
   told = told_of (command_of f) (input.Heard h) k.told;
 }
 

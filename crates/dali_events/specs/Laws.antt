@@ -1,4 +1,6 @@
 use Rattle.std.specs.Prelude.{◌≡◌, ℕ, ◌<◌, length, Some}
+use Rattle.dali_script.specs.declared.finding.Finding.{Finding}
+use Rattle.dali_script.specs.Findings.{assigned}
 use Rattle.dali_script.specs.declared.records.Record.{Record}
 use Rattle.dali_script.specs.Records.{Assignment, Has, IsKept, IsFresh, Fits}
 use Rattle.dali_events.specs.Plan.{Plan, block_at}
@@ -32,9 +34,11 @@ pub record TablesAgree (w : World) : Type 0 where
 
 -- ---------------------------------------------------------------- findings
 
--- controller c's last finding since it came up
+-- the pair of controller c's last finding since it came up
 abbrev pub HasFound : World → ℕ → Assignment → Type 0
-HasFound w c found = (c < length w.controllers) × ((controller_at w c).finding ≡ Some found)
+HasFound w c found =
+    (c < length w.controllers)
+    × ((x : Finding) × ((controller_at w c).finding ≡ Some x) × (assigned x ≡ found))
 
 -- each finding names a gear, and no kept enrolment, of whomever, has its address with another
 -- number or its number with another address

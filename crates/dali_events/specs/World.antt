@@ -4,8 +4,9 @@ use Rattle.dali_gear.specs.Gear.{Gear, fresh}
 use Rattle.dali_arbiter.specs.Arbiter.{Arbiter, idle}
 use Rattle.dali_script.specs.declared.block.Block.{Block}
 use Rattle.dali_script.specs.declared.trace.Entry.{Entry}
+use Rattle.dali_script.specs.declared.finding.Finding.{Finding}
 use Rattle.dali_script.specs.declared.records.Record.{Record}
-use Rattle.dali_script.specs.Records.{Assignment, Kept, without_records}
+use Rattle.dali_script.specs.Records.{Kept, without_records}
 use Rattle.dali_script.specs.declared.orders.Input.{Input}
 use Rattle.dali_script.specs.declared.orders.Input.TheVariants.{Start}
 use Rattle.dali_script.specs.declared.orders.Order.{Order}
@@ -19,7 +20,7 @@ pub record Controller : Type 0 where
   -- the record of its last Commit order, until it is known whether the record is kept
   pub outstanding : Option Record
   -- its last finding since it came up
-  pub finding : Option Assignment
+  pub finding : Option Finding
   -- what the bus has told it, and it has not acted on
   pub told : Option Input
   -- what it ordered last since it came up

@@ -2,4 +2,5 @@ pub mod Lists
 pub mod Members
 pub mod Giving
 pub mod Transactions
+pub mod Found
 pub mod Examples

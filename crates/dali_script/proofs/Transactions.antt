@@ -1,5 +1,5 @@
 use Rattle.std.proofs.Common.{◌≡◌, ◌⊎◌, inl, inr, ℕ, ◌<◌, ◌≤◌, Bool, true, false, List, [], ◌∷◌, ◌++◌, refl, sym, ap, subst, ◌∙◌, arith, length, lit<, lit≤, Option, Some, None}
-use Rattle.std.specs.Prelude.{◌==◌, if◌then◌else◌, option_map, is_some, IfSome}
+use Rattle.std.specs.Prelude.{◌==◌, if◌then◌else◌, unwrap_or, is_some, IfSome}
 use Rattle.std.proofs.lemmas.Bool.Decides.{nat_tests}
 use Rattle.dali_frame.specs.declared.frames.Forward.{Forward}
 use Rattle.dali_frame.specs.declared.frames.Answer.{Answer}
@@ -9,20 +9,20 @@ use Rattle.dali_frame.specs.Short.{code_of, short_of}
 use Rattle.dali_frame.specs.Random.{value_of}
 use Rattle.dali_special.specs.declared.command.Target.TheVariants.{Unaddressed}
 use Rattle.dali_special.specs.declared.command.Target.{Target}
+use Rattle.dali_special.specs.declared.command.Part.TheVariants.{High, Middle, Low}
 use Rattle.dali_special.specs.declared.command.Command.{Command}
-use Rattle.dali_special.specs.declared.command.Command.TheVariants.{Terminate, Initialise, Randomise, Compare, Withdraw, SearchHigh, SearchMiddle, SearchLow, Program, QueryShort, Arc}
+use Rattle.dali_special.specs.declared.command.Command.TheVariants.{Terminate, Initialise, Randomise, Compare, Withdraw, SearchHigh, SearchMiddle, SearchLow, Program, QueryShort, RandomByte, Arc}
 use Rattle.dali_special.specs.Command.{MASK, command_of, frame_of, IsSpelled}
 use Rattle.dali_special.proofs.Table.{code_of_short, short_of_code, short_small, read_spelled, read_written}
 use Rattle.dali_script.specs.declared.block.Block.{Block}
 use Rattle.dali_script.specs.declared.trace.Entry.{Entry}
 use Rattle.dali_script.specs.declared.stage.Stage.{Stage}
-use Rattle.dali_script.specs.declared.stage.Stage.TheVariants.{Free, Terminated, InitialisedOnce, Initialised, RandomisedOnce, Opened, HighSent, MiddleSent, NumberSent, Probed, Found, Unnamed, Unanswered, Inconclusive, Programmed, Confirmed, Withdrawn, Over}
+use Rattle.dali_script.specs.declared.stage.Stage.TheVariants.{Free, Terminated, InitialisedOnce, Initialised, RandomisedOnce, Opened, HighSent, MiddleSent, NumberSent, Probed, Found, Unnamed, Unanswered, Inconclusive, Programmed, Confirmed, Withdrawn, HighAsked, MiddleAsked, Spelled, Over}
 use Rattle.dali_script.specs.Records.{Assignment, HasAddress}
-use Rattle.dali_script.specs.Scripts.{no_address, some_address, address, IsHeard, Step, sends, queries, search_at, Script, Open, Probe, Look, Give, Close, ArcPower, steps, MayGive, MaySend, IsFront, Lawful, IsLawful, IsFirst, IsComplete, IsFrame, GoesOn}
-use Rattle.dali_script.specs.Findings.{search_after, at_power_on, search_from, search_of, found_by, later, finding_from, finding_of}
+use Rattle.dali_script.specs.Scripts.{no_address, some_address, address, IsHeard, Step, sends, queries, search_at, Script, Open, Probe, Look, Give, Resolve, Close, ArcPower, steps, MayGive, MaySend, IsFront, Lawful, IsFirst, IsComplete, IsFrame, GoesOn}
 use Rattle.dali_script.proofs.Lists.{has_map}
 use Rattle.dali_script.proofs.Giving.{first_of_both, second_of_both, may_give_by, may_give_from, may_give_some_by, may_give_some_from}
-use Rattle.dali_script.specs.Stages.{leads, given, may_give_if, follows, may_follow, named, queried, answered, verified, next_stage, stage_from, stage_of, Follows, finding_at, IsSearched, IsTrace}
+use Rattle.dali_script.specs.Stages.{leads, given, may_give_if, follows, may_follow, named, queried, answered, verified, byte_heard, bytes_heard, number_heard, next_stage, stage_from, stage_of, Follows}
 
 pub turn : {b : Block} {xs : List Assignment} {s : Stage} {c : Command} → is_some (leads s c Silence) ≡ true → given s c ≡ None → Follows b xs s c
 turn {b} {xs} {s} {c} on none = record { leads_on = on; may = rw none tt }
@@ -31,19 +31,22 @@ pub gives : {b : Block} {xs : List Assignment} {s : Stage} {c : Command} → is_
 gives {b} {xs} {s} {c} on may = record { leads_on = on; may = may }
 
 -- LAWFUL FRAMES FOLLOW. From a stage on, steps keep to what may come next.
-Tracks : Block → List Assignment → Stage → List Step → Type 0
+unfoldable pub Tracks : Block → List Assignment → Stage → List Step → Type 0
 Tracks b xs s [] = Unit {0}
 Tracks b xs s (step ∷ more) =
     Follows b xs s step.command × (IsSpelled step.command → (h : Answer) → IsHeard step.wanted h → Tracks b xs (next_stage s step.command h) more)
+
+pub self : (n : ℕ) → (n == n) ≡ true
+self n = grind (arith, nat_tests)
+
+pub equal : (m n : ℕ) → (m == n) ≡ true → m ≡ n
+equal m n e = grind (arith, nat_tests)
 
 queried_named : (r : SearchAddress) (c : ℕ) → c < 64 → queried r (Byte (code_of c)) ≡ Found r c
 queried_named r c small = rw (short_of_code c small) refl
 
 verified_named : (r : SearchAddress) (a : ℕ) → a < 64 → verified r a (Byte (code_of a)) ≡ Confirmed r a
 verified_named r a small = rw (short_of_code a small) (go (a == a) (self a)) where
-  self : (n : ℕ) → (n == n) ≡ true
-  self n = grind (arith, nat_tests)
-
   go : (t : Bool) → t ≡ true → (if t then Confirmed r a else Inconclusive r (Some a)) ≡ Confirmed r a
   go true e = refl
   go false e = cc
@@ -69,7 +72,35 @@ tracks_give b xs r a may h heard =
     subst (λ s. Tracks b xs s (sends (Program (Some a)) ∷ queries (address a) ∷ sends Withdraw ∷ [])) (sym there)
     (gives refl may, λ small x y. (gives refl may, λ spelled z w. tracks_verify b xs r a may small z w))
 
-tracks : (b : Block) (xs : List Assignment) (s : Script) → MaySend b xs s → Tracks b xs Free (steps s)
+-- the next query to the same short address leads on, and one to another does not
+pub middle_next : (a : ℕ) (high : Option ℕ) (h : Answer) → next_stage (HighAsked a high) (RandomByte a Middle) h ≡ MiddleAsked a (bytes_heard high h)
+middle_next a high h = rw (self a) refl
+
+pub low_next : (a : ℕ) (bytes : Option (ℕ × ℕ)) (h : Answer) → next_stage (MiddleAsked a bytes) (RandomByte a Low) h ≡ Spelled a (number_heard bytes h)
+low_next a bytes h = rw (self a) refl
+
+pub middle_same : (a c : ℕ) (high : Option ℕ) → is_some (leads (HighAsked a high) (RandomByte c Middle) Silence) ≡ true → c ≡ a
+middle_same a c high on = go (c == a) refl on where
+  go : (t : Bool) → (c == a) ≡ t → is_some (if t then Some (MiddleAsked a (bytes_heard high Silence)) else None) ≡ true → c ≡ a
+  go true is on = equal c a is
+  go false is on = absurd (cc)
+
+pub low_same : (a c : ℕ) (bytes : Option (ℕ × ℕ)) → is_some (leads (MiddleAsked a bytes) (RandomByte c Low) Silence) ≡ true → c ≡ a
+low_same a c bytes on = go (c == a) refl on where
+  go : (t : Bool) → (c == a) ≡ t → is_some (if t then Some (Spelled a (number_heard bytes Silence)) else None) ≡ true → c ≡ a
+  go true is on = equal c a is
+  go false is on = absurd (cc)
+
+tracks_low : (b : Block) (xs : List Assignment) (a : ℕ) (bytes : Option (ℕ × ℕ)) → Tracks b xs (MiddleAsked a bytes) (sends (RandomByte a Low) ∷ [])
+unfolding Tracks
+tracks_low b xs a bytes = (turn (rw (self a) refl) refl, λ spelled h w. tt)
+
+tracks_middle : (b : Block) (xs : List Assignment) (a : ℕ) (high : Option ℕ) → Tracks b xs (HighAsked a high) (sends (RandomByte a Middle) ∷ sends (RandomByte a Low) ∷ [])
+unfolding Tracks
+tracks_middle b xs a high =
+    (turn (rw (self a) refl) refl, λ spelled h w. subst (λ s. Tracks b xs s (sends (RandomByte a Low) ∷ [])) (sym (middle_next a high h)) (tracks_low b xs a (bytes_heard high h)))
+
+pub tracks : (b : Block) (xs : List Assignment) (s : Script) → MaySend b xs s → Tracks b xs Free (steps s)
 unfolding Tracks
 tracks b xs Open may =
     (turn refl refl, λ a h w. (turn refl refl, λ a h w. (turn refl refl, λ a h w. (turn refl refl, λ a h w. (turn refl refl, λ a h w. tt)))))
@@ -79,6 +110,7 @@ tracks b xs (Look r) may =
     (turn refl refl, λ a h w. (turn refl refl, λ a h w. (turn refl refl, λ a h w. (turn refl refl, λ a h w. tracks_look b xs r h w))))
 tracks b xs (Give r n) may =
     (turn refl refl, λ a h w. (turn refl refl, λ a h w. (turn refl refl, λ a h w. (turn refl refl, λ a h w. tracks_give b xs r n may h w))))
+tracks b xs (Resolve a) may = (turn refl refl, λ spelled h w. tracks_middle b xs a (byte_heard h))
 tracks b xs Close may = (turn refl refl, λ a h w. tt)
 tracks b xs (ArcPower f) may = (turn refl refl, λ a h w. tt)
 
@@ -117,6 +149,8 @@ data Rest (b : Block) (xs : List Assignment) : Stage → List Step → Type 0 wh
   at_unnamed : (r : SearchAddress) (a : ℕ) → MayGive b xs r a → Rest b xs (Unnamed r) (sends (Program (Some a)) ∷ queries (address a) ∷ sends Withdraw ∷ [])
   at_programmed : (r : SearchAddress) (a : ℕ) → MayGive b xs r a → Rest b xs (Programmed r a) (queries (address a) ∷ sends Withdraw ∷ [])
   at_confirmed : (r : SearchAddress) (a : ℕ) → MayGive b xs r a → Rest b xs (Confirmed r a) (sends Withdraw ∷ [])
+  at_high_asked : (a : ℕ) (high : Option ℕ) → Rest b xs (HighAsked a high) (sends (RandomByte a Middle) ∷ sends (RandomByte a Low) ∷ [])
+  at_middle_asked : (a : ℕ) (bytes : Option (ℕ × ℕ)) → Rest b xs (MiddleAsked a bytes) (sends (RandomByte a Low) ∷ [])
 
 -- a step of a script that is left at a stage, before the rest
 abbrev Before : Block → List Assignment → Stage → Command → Answer → List Step → Type 0
@@ -127,6 +161,12 @@ nothing_unanswered b xs r ss k = elim k [ ]
 
 nothing_inconclusive : (b : Block) (xs : List Assignment) (r : SearchAddress) (o : Option ℕ) (ss : List Step) → Rest b xs (Inconclusive r o) ss → ⊥
 nothing_inconclusive b xs r o ss k = elim k [ ]
+
+nothing_spelled : (b : Block) (xs : List Assignment) (a : ℕ) (number : Option ℕ) (ss : List Step) → Rest b xs (Spelled a number) ss → ⊥
+nothing_spelled b xs a number ss k = elim k [ ]
+
+nothing_over : (b : Block) (xs : List Assignment) (ss : List Step) → Rest b xs Over ss → ⊥
+nothing_over b xs ss k = elim k [ ]
 
 whole : (b : Block) (xs : List Assignment) (r : SearchAddress) (ss : List Step) → Tail b xs r ss → Rest b xs Free (search_at r ss)
 whole b xs r _ probing = at_free (Probe r) tt
@@ -167,9 +207,31 @@ before_verified b xs r a (Byte v) ss k = go (short_of v) refl k where
     same true is k = before_confirmed b xs r a (Byte v) ss (ap (λ n. Byte n) (sym (code_of_short v c short) ∙ ap (λ n. code_of n) (let e : c ≡ a = grind (arith, nat_tests) in e))) k
     same false is k = absurd (nothing_inconclusive b xs r (Some c) ss k)
 
+before_high_asked : (b : Block) (xs : List Assignment) (a : ℕ) (high : Option ℕ) (h : Answer) (ss : List Step) → Rest b xs (HighAsked a high) ss → Before b xs Free (RandomByte a High) h ss
+before_high_asked b xs _ _ h _ (at_high_asked a high) = (_, refl, tt, at_free (Resolve a) tt)
+
+before_middle_asked : (b : Block) (xs : List Assignment) (a : ℕ) (high : Option ℕ) (bytes : Option (ℕ × ℕ)) (h : Answer) (ss : List Step) → Rest b xs (MiddleAsked a bytes) ss
+    → Before b xs (HighAsked a high) (RandomByte a Middle) h ss
+before_middle_asked b xs _ high _ h _ (at_middle_asked a bytes) = (_, refl, tt, at_high_asked a high)
+
+before_middle : (b : Block) (xs : List Assignment) (a c : ℕ) (high : Option ℕ) (h : Answer) (ss : List Step) → Rest b xs (next_stage (HighAsked a high) (RandomByte c Middle) h) ss
+    → Before b xs (HighAsked a high) (RandomByte c Middle) h ss
+before_middle b xs a c high h ss k = go (c == a) refl k where
+  go : (t : Bool) → (c == a) ≡ t → Rest b xs (unwrap_or (if t then Some (MiddleAsked a (bytes_heard high h)) else None) Over) ss → Before b xs (HighAsked a high) (RandomByte c Middle) h ss
+  go true is k = subst (λ n. Before b xs (HighAsked a high) (RandomByte n Middle) h ss) (sym (equal c a is)) (before_middle_asked b xs a high (bytes_heard high h) h ss k)
+  go false is k = absurd (nothing_over b xs ss k)
+
+before_low : (b : Block) (xs : List Assignment) (a c : ℕ) (bytes : Option (ℕ × ℕ)) (h : Answer) (ss : List Step) → Rest b xs (next_stage (MiddleAsked a bytes) (RandomByte c Low) h) ss
+    → Before b xs (MiddleAsked a bytes) (RandomByte c Low) h ss
+before_low b xs a c bytes h ss k = go (c == a) k where
+  go : (t : Bool) → Rest b xs (unwrap_or (if t then Some (Spelled a (number_heard bytes h)) else None) Over) ss → Before b xs (MiddleAsked a bytes) (RandomByte c Low) h ss
+  go true k = absurd (nothing_spelled b xs a (number_heard bytes h) ss k)
+  go false k = absurd (nothing_over b xs ss k)
+
 before : (b : Block) (xs : List Assignment) (s : Stage) (c : Command) (h : Answer) (ss : List Step) → Rest b xs (next_stage s c h) ss → Before b xs s c h ss
 before b xs Free Terminate h _ at_terminated = (_, refl, tt, at_free Open tt)
 before b xs Free (SearchHigh _) h _ (at_high high middle low ss tail) = (_, refl, tt, whole b xs (record { high = high; middle = middle; low = low }) ss tail)
+before b xs Free (RandomByte a High) h ss k = before_high_asked b xs a (byte_heard h) h ss k
 before b xs Terminated (Initialise Unaddressed) h _ at_initialised_once = (_, refl, tt, at_terminated)
 before b xs InitialisedOnce (Initialise Unaddressed) h _ at_initialised = (_, refl, tt, at_initialised_once)
 before b xs Initialised Randomise h _ at_randomised_once = (_, refl, tt, at_initialised)
@@ -182,6 +244,8 @@ before b xs (Found r c) Withdraw h ss k = elim k [ ]
 before b xs (Unnamed _) (Program (Some _)) h _ (at_programmed r a may) = (_, refl, tt, at_unnamed r a may)
 before b xs (Programmed r a) QueryShort h ss k = before_verified b xs r a h ss k
 before b xs (Confirmed r a) Withdraw h ss k = elim k [ ]
+before b xs (HighAsked a high) (RandomByte c Middle) h ss k = before_middle b xs a c high h ss k
+before b xs (MiddleAsked a bytes) (RandomByte c Low) h ss k = before_low b xs a c bytes h ss k
 before b xs _ _ h ss k = elim k [ ]
 
 abbrev Ends : Block → List Assignment → Stage → Command → Type 0
@@ -202,6 +266,9 @@ ends b xs (NumberSent r) QueryShort on = (_, _, refl, at_number r _ looking)
 ends b xs (Found r c) Withdraw on = (_, _, refl, at_found r c)
 ends b xs (Unnamed r) (Program (Some a)) on = (_, _, refl, at_unnamed r a on.may)
 ends b xs (Programmed r a) QueryShort on = (_, _, refl, at_programmed r a on.may)
+ends b xs Free (RandomByte a High) on = (_, _, refl, at_free (Resolve a) tt)
+ends b xs (HighAsked a high) (RandomByte c Middle) on = (_, _, ap (λ n. RandomByte n Middle) (middle_same a c high on.leads_on), at_high_asked a high)
+ends b xs (MiddleAsked a bytes) (RandomByte c Low) on = (_, _, ap (λ n. RandomByte n Low) (low_same a c bytes on.leads_on), at_middle_asked a bytes)
 ends b xs (Confirmed r a) Withdraw on = (_, _, refl, at_confirmed r a on.may)
 ends b xs _ _ on = absurd (let none = on.leads_on in cc)
 
@@ -249,6 +316,69 @@ over b xs _ _ e on = let none = on.leads_on in cc
 pub complete_at : (b : Block) (xs : List Assignment) (t : List Entry) → may_follow b xs (stage_of t) ≡ false → IsComplete b xs t
 complete_at b xs t e f lawful = over b xs (stage_of t) (command_of f) e (follows_lawful b xs t f lawful)
 
+-- the short address of a query that was sent is one
+abbrev Small : Stage → Type 0
+Small (HighAsked a high) = a < 64
+Small (MiddleAsked a bytes) = a < 64
+Small _ = Unit {0}
+
+small_queried : (r : SearchAddress) (h : Answer) → Small (queried r h)
+small_queried r Silence = tt
+small_queried r Damaged = tt
+small_queried r (Byte v) = go (short_of v) (v == MASK) where
+  go : (o : Option ℕ) (m : Bool) → Small (named r o m)
+  go (Some c) m = tt
+  go None true = tt
+  go None false = tt
+
+small_verified : (r : SearchAddress) (a : ℕ) (h : Answer) → Small (verified r a h)
+small_verified r a Silence = tt
+small_verified r a Damaged = tt
+small_verified r a (Byte v) = go (short_of v) where
+  go : (o : Option ℕ) → Small (answered r a o)
+  go None = tt
+  go (Some c) = same (c == a) where
+    same : (m : Bool) → Small (if m then Confirmed r a else Inconclusive r (Some c))
+    same true = tt
+    same false = tt
+
+small_middle : (a c : ℕ) (high : Option ℕ) (h : Answer) → a < 64 → Small (next_stage (HighAsked a high) (RandomByte c Middle) h)
+small_middle a c high h small = go (c == a) where
+  go : (t : Bool) → Small (unwrap_or (if t then Some (MiddleAsked a (bytes_heard high h)) else None) Over)
+  go true = small
+  go false = tt
+
+small_low : (a c : ℕ) (bytes : Option (ℕ × ℕ)) (h : Answer) → Small (next_stage (MiddleAsked a bytes) (RandomByte c Low) h)
+small_low a c bytes h = go (c == a) where
+  go : (t : Bool) → Small (unwrap_or (if t then Some (Spelled a (number_heard bytes h)) else None) Over)
+  go true = tt
+  go false = tt
+
+small_next : (s : Stage) (c : Command) (h : Answer) → IsSpelled c → Small s → Small (next_stage s c h)
+small_next Free (RandomByte a High) h spelled small = spelled
+small_next Terminated (Initialise Unaddressed) h spelled small = tt
+small_next InitialisedOnce (Initialise Unaddressed) h spelled small = tt
+small_next Initialised Randomise h spelled small = tt
+small_next RandomisedOnce Randomise h spelled small = tt
+small_next (HighSent high) (SearchMiddle middle) h spelled small = tt
+small_next (MiddleSent high middle) (SearchLow low) h spelled small = tt
+small_next (Found r c) Withdraw h spelled small = tt
+small_next (Unnamed r) (Program (Some a)) h spelled small = tt
+small_next (Confirmed r a) Withdraw h spelled small = tt
+small_next (NumberSent r) QueryShort h spelled small = small_queried r h
+small_next (Programmed r a) QueryShort h spelled small = small_verified r a h
+small_next (HighAsked a high) (RandomByte c Middle) h spelled small = small_middle a c high h small
+small_next (MiddleAsked a bytes) (RandomByte c Low) h spelled small = small_low a c bytes h
+small_next _ _ h spelled small = tt
+
+small_from : (s : Stage) (t : List Entry) → Small s → Small (stage_from s t)
+small_from s [] small = small
+small_from s (e ∷ t) small = small_from (next_stage s (command_of e.frame) e.heard) t (small_next s (command_of e.frame) e.heard (read_spelled e.frame) small)
+
+small_stage : (t : List Entry) → Small (stage_of t)
+unfolding stage_of
+small_stage t = small_from Free t tt
+
 -- where one may follow, there is such a frame
 abbrev Next : Block → List Assignment → Stage → Type 0
 Next b xs s = (c : Command) × IsSpelled c × IsFrame (frame_of c) × Follows b xs s c
@@ -256,31 +386,40 @@ Next b xs s = (c : Command) × IsSpelled c × IsFrame (frame_of c) × Follows b 
 next_program : (b : Block) (xs : List Assignment) (r : SearchAddress) (a : ℕ) → a < 64 → MayGive b xs r a → Next b xs (Unnamed r)
 next_program b xs r a small may = (Program (Some a), small, (lit< tt, omega arith), gives refl may)
 
-pub next_at : (b : Block) (xs : List Assignment) → ((a : ℕ) → HasAddress xs a → a < 64) → (s : Stage) → may_follow b xs s ≡ true → Next b xs s
-next_at b xs small Free e = (Terminate, tt, (lit< tt, lit< tt), turn refl refl)
-next_at b xs small Terminated e = (Initialise Unaddressed, tt, (lit< tt, lit< tt), turn refl refl)
-next_at b xs small InitialisedOnce e = (Initialise Unaddressed, tt, (lit< tt, lit< tt), turn refl refl)
-next_at b xs small Initialised e = (Randomise, tt, (lit< tt, lit< tt), turn refl refl)
-next_at b xs small RandomisedOnce e = (Randomise, tt, (lit< tt, lit< tt), turn refl refl)
-next_at b xs small Opened e = absurd (cc)
-next_at b xs small (HighSent high) e = (SearchMiddle 0, tt, (lit< tt, lit< tt), turn refl refl)
-next_at b xs small (MiddleSent high middle) e = (SearchLow 0, tt, (lit< tt, lit< tt), turn refl refl)
-next_at b xs small (NumberSent r) e = (Compare, tt, (lit< tt, lit< tt), turn refl refl)
-next_at b xs small (Probed r h) e = absurd (cc)
-next_at b xs small (Found r c) e = (Withdraw, tt, (lit< tt, lit< tt), turn refl refl)
-next_at b xs small (Unnamed r) e =
+next_query : (b : Block) (xs : List Assignment) (s : Stage) (a : ℕ) → a < 64 → is_some (leads s (RandomByte a Middle) Silence) ≡ true → given s (RandomByte a Middle) ≡ None → Next b xs s
+next_query b xs s a small on none = (RandomByte a Middle, small, (omega arith, lit< tt), turn on none)
+
+next_last : (b : Block) (xs : List Assignment) (s : Stage) (a : ℕ) → a < 64 → is_some (leads s (RandomByte a Low) Silence) ≡ true → given s (RandomByte a Low) ≡ None → Next b xs s
+next_last b xs s a small on none = (RandomByte a Low, small, (omega arith, lit< tt), turn on none)
+
+pub next_at : (b : Block) (xs : List Assignment) → ((a : ℕ) → HasAddress xs a → a < 64) → (s : Stage) → Small s → may_follow b xs s ≡ true → Next b xs s
+next_at b xs small Free here e = (Terminate, tt, (lit< tt, lit< tt), turn refl refl)
+next_at b xs small Terminated here e = (Initialise Unaddressed, tt, (lit< tt, lit< tt), turn refl refl)
+next_at b xs small InitialisedOnce here e = (Initialise Unaddressed, tt, (lit< tt, lit< tt), turn refl refl)
+next_at b xs small Initialised here e = (Randomise, tt, (lit< tt, lit< tt), turn refl refl)
+next_at b xs small RandomisedOnce here e = (Randomise, tt, (lit< tt, lit< tt), turn refl refl)
+next_at b xs small Opened here e = absurd (cc)
+next_at b xs small (HighSent high) here e = (SearchMiddle 0, tt, (lit< tt, lit< tt), turn refl refl)
+next_at b xs small (MiddleSent high middle) here e = (SearchLow 0, tt, (lit< tt, lit< tt), turn refl refl)
+next_at b xs small (NumberSent r) here e = (Compare, tt, (lit< tt, lit< tt), turn refl refl)
+next_at b xs small (Probed r h) here e = absurd (cc)
+next_at b xs small (Found r c) here e = (Withdraw, tt, (lit< tt, lit< tt), turn refl refl)
+next_at b xs small (Unnamed r) here e =
     let found = may_give_some_from b xs r e in
     next_program b xs r found.0 (small found.0 (has_map (λ p. p.0) xs (found.0, value_of r) found.1.reserved_for)) found.1
-next_at b xs small (Unanswered r) e = absurd (cc)
-next_at b xs small (Inconclusive r other) e = absurd (cc)
-next_at b xs small (Programmed r a) e = (QueryShort, tt, (lit< tt, lit< tt), gives refl (may_give_from b xs r a e))
-next_at b xs small (Confirmed r a) e = (Withdraw, tt, (lit< tt, lit< tt), gives refl (may_give_from b xs r a e))
-next_at b xs small (Withdrawn r a) e = absurd (cc)
-next_at b xs small Over e = absurd (cc)
+next_at b xs small (Unanswered r) here e = absurd (cc)
+next_at b xs small (Inconclusive r other) here e = absurd (cc)
+next_at b xs small (Programmed r a) here e = (QueryShort, tt, (lit< tt, lit< tt), gives refl (may_give_from b xs r a e))
+next_at b xs small (Confirmed r a) here e = (Withdraw, tt, (lit< tt, lit< tt), gives refl (may_give_from b xs r a e))
+next_at b xs small (Withdrawn r a) here e = absurd (cc)
+next_at b xs small (HighAsked a high) here e = next_query b xs (HighAsked a high) a here (rw (self a) refl) refl
+next_at b xs small (MiddleAsked a bytes) here e = next_last b xs (MiddleAsked a bytes) a here (rw (self a) refl) refl
+next_at b xs small (Spelled a number) here e = absurd (cc)
+next_at b xs small Over here e = absurd (cc)
 
 pub goes_on_at : (b : Block) (xs : List Assignment) (t : List Entry) → ((a : ℕ) → HasAddress xs a → a < 64) → may_follow b xs (stage_of t) ≡ true → GoesOn b xs t
 goes_on_at b xs t small e =
-    let next = next_at b xs small (stage_of t) e in
+    let next = next_at b xs small (stage_of t) (small_stage t) e in
     let read : command_of (frame_of next.0) ≡ next.0 = read_written next.0 next.1 in
     (frame_of next.0, next.2, lawful_follows b xs t (frame_of next.0) (subst (λ c. Follows b xs (stage_of t) c) (sym read) next.3))
 
@@ -297,104 +436,6 @@ pub stage_none : stage_of [] ≡ Free
 unfolding stage_of
 stage_none = refl
 
-searched_from_more : (r : SearchAddress) (t : List Entry) (e : Entry) → search_from r (t ++ e ∷ []) ≡ search_after (command_of e.frame) (search_from r t)
-searched_from_more r [] e = refl
-searched_from_more r (x ∷ t) e = searched_from_more (search_after (command_of x.frame) r) t e
-
-pub searched_more : (t : List Entry) (e : Entry) → search_of (t ++ e ∷ []) ≡ search_after (command_of e.frame) (search_of t)
-searched_more t e = searched_from_more at_power_on t e
-
-later_none : (o : Option Assignment) → later o None ≡ o
-later_none o = refl
-
-none_later : (o : Option Assignment) → later None o ≡ o
-none_later None = refl
-none_later (Some x) = refl
-
-later_later : (o p q : Option Assignment) → later o (later p q) ≡ later (later o p) q
-later_later o p None = refl
-later_later o p (Some x) = refl
-
-finding_from_more : (r : SearchAddress) (t : List Entry) (e : Entry)
-    → finding_from r (t ++ e ∷ []) ≡ later (finding_from r t) (found_by (search_from r t) (command_of e.frame) e.heard)
-finding_from_more r [] e = sym (none_later (found_by r (command_of e.frame) e.heard))
-finding_from_more r (x ∷ t) e =
-    ap (λ o. later (found_by r (command_of x.frame) x.heard) o) (finding_from_more (search_after (command_of x.frame) r) t e)
-    ∙ later_later (found_by r (command_of x.frame) x.heard) (finding_from (search_after (command_of x.frame) r) t) (found_by (search_from (search_after (command_of x.frame) r) t) (command_of e.frame) e.heard)
-
-pub finding_more : (t : List Entry) (e : Entry) → finding_of (t ++ e ∷ []) ≡ later (finding_of t) (found_by (search_of t) (command_of e.frame) e.heard)
-finding_more t e = finding_from_more at_power_on t e
-
--- what a stage says, after one more frame
-pub record Says (s : Stage) (r : SearchAddress) (found : Option Assignment) : Type 0 where
-  pub searched : IsSearched s r
-  pub finding : found ≡ finding_at s
-
-queried_says : (r : SearchAddress) (h : Answer) → Says (queried r h) r (found_by r QueryShort h)
-queried_says r Silence = record { searched = refl; finding = refl }
-queried_says r Damaged = record { searched = refl; finding = refl }
-queried_says r (Byte v) = go (short_of v) (v == MASK) where
-  go : (o : Option ℕ) (m : Bool) → Says (named r o m) r (option_map (λ c. (c, value_of r)) o)
-  go (Some c) m = record { searched = refl; finding = refl }
-  go None true = record { searched = refl; finding = refl }
-  go None false = record { searched = refl; finding = refl }
-
-verified_says : (r : SearchAddress) (a : ℕ) (h : Answer) → Says (verified r a h) r (found_by r QueryShort h)
-verified_says r a Silence = record { searched = refl; finding = refl }
-verified_says r a Damaged = record { searched = refl; finding = refl }
-verified_says r a (Byte v) = go (short_of v) where
-  go : (o : Option ℕ) → Says (answered r a o) r (option_map (λ c. (c, value_of r)) o)
-  go None = record { searched = refl; finding = refl }
-  go (Some c) = same (c == a) refl where
-    same : (m : Bool) → (c == a) ≡ m → Says (if m then Confirmed r a else Inconclusive r (Some c)) r (Some (c, value_of r))
-    same true is =
-        let e : c ≡ a = grind (arith, nat_tests) in
-        record { searched = refl; finding = ap (λ n. Some (n, value_of r)) e }
-    same false is = record { searched = refl; finding = refl }
-
-says_at : (s : Stage) (r n : SearchAddress) (found : Option Assignment) (h : Answer) → r ≡ n → found ≡ None → Says s n (found_by n QueryShort h) → Says s r (later found (found_by r QueryShort h))
-says_at s r n found h is none says =
-    let at : Says s r (found_by r QueryShort h) = subst (λ m. Says s m (found_by m QueryShort h)) (sym is) says in
-    subst (λ o. Says s r o) (sym (none_later (found_by r QueryShort h)) ∙ ap (λ o. later o (found_by r QueryShort h)) (sym none)) at
-
-says_more : (b : Block) (xs : List Assignment) (s : Stage) (c : Command) (h : Answer) (r : SearchAddress) (found : Option Assignment)
-    → Follows b xs s c → Says s r found → Says (next_stage s c h) (search_after c r) (later found (found_by r c h))
-says_more b xs Free Terminate h r found on k = record { searched = tt; finding = k.finding }
-says_more b xs Free (SearchHigh high) h r found on k = record { searched = refl; finding = k.finding }
-says_more b xs Free (Arc f) h r found on k = record { searched = tt; finding = k.finding }
-says_more b xs Terminated (Initialise Unaddressed) h r found on k = record { searched = tt; finding = k.finding }
-says_more b xs InitialisedOnce (Initialise Unaddressed) h r found on k = record { searched = tt; finding = k.finding }
-says_more b xs Initialised Randomise h r found on k = record { searched = tt; finding = k.finding }
-says_more b xs RandomisedOnce Randomise h r found on k = record { searched = tt; finding = k.finding }
-says_more b xs (HighSent high) (SearchMiddle middle) h r found on k = record { searched = (k.searched, refl); finding = k.finding }
-says_more b xs (MiddleSent high middle) (SearchLow low) h r found on k =
-    record { searched = ap (λ n. record { high = n; middle = r.middle; low = low }) k.searched.0 ∙ ap (λ n. record { high = high; middle = n; low = low }) k.searched.1; finding = k.finding }
-says_more b xs (NumberSent n) Compare h r found on k = record { searched = k.searched; finding = k.finding }
-says_more b xs (NumberSent n) QueryShort h r found on k = says_at (queried n h) r n found h k.searched k.finding (queried_says n h)
-says_more b xs (Found n c) Withdraw h r found on k = record { searched = k.searched; finding = k.finding }
-says_more b xs (Unnamed n) (Program (Some a)) h r found on k = record { searched = k.searched; finding = k.finding }
-says_more b xs (Programmed n a) QueryShort h r found on k = says_at (verified n a h) r n found h k.searched k.finding (verified_says n a h)
-says_more b xs (Confirmed n a) Withdraw h r found on k = record { searched = k.searched; finding = k.finding }
-says_more b xs _ _ h r found on k = absurd (let none = on.leads_on in cc)
-
-pub trace_none : IsTrace Free []
-trace_none = record { stage = sym stage_none; searched = tt; finding = refl }
-
-pub trace_more : (s : Stage) (t : List Entry) (f : Forward) (h : Answer) → IsLawful t f → IsTrace s t
-    → IsTrace (next_stage s (command_of f) h) (t ++ (record { frame = f; heard = h }) ∷ [])
-trace_more s t f h lawful k =
-    let b : Block = lawful.0 in
-    let xs : List Assignment = lawful.1 in
-    let follows : Follows b xs s (command_of f) = subst (λ x. Follows b xs x (command_of f)) (sym k.stage) (follows_lawful b xs t f lawful.2) in
-    let says : Says s (search_of t) (finding_of t) = record { searched = k.searched; finding = k.finding } in
-    let more = says_more b xs s (command_of f) h (search_of t) (finding_of t) follows says in
-    let e : Entry = record { frame = f; heard = h } in
-    record {
-      stage = ap (λ x. next_stage x (command_of f) h) k.stage ∙ sym (stage_more t e);
-      searched = subst (λ r. IsSearched (next_stage s (command_of f) h) r) (sym (searched_more t e)) more.searched;
-      finding = finding_more t e ∙ more.finding;
-    }
-
 -- THERE IS ROOM: no script has more than seven frames
 front_short : (t : List Entry) (f : Forward) (ss : List Step) → IsFront t f ss → length t < length ss
 front_short [] f [] front = absurd front
@@ -407,6 +448,7 @@ script_short Open = lit≤ tt
 script_short (Probe r) = lit≤ tt
 script_short (Look r) = lit≤ tt
 script_short (Give r a) = lit≤ tt
+script_short (Resolve a) = lit≤ tt
 script_short Close = lit≤ tt
 script_short (ArcPower f) = lit≤ tt
 
@@ -415,55 +457,6 @@ room b xs t f lawful =
     let front : length t < length (steps lawful.0) = front_short t f (steps lawful.0) lawful.2 in
     let short : length (steps lawful.0) ≤ 7 = script_short lawful.0 in
     omega arith
-
--- WHAT A FRONT OF A SCRIPT SAYS
-says_from : (b : Block) (xs : List Assignment) (t : List Entry) (s : Stage) (f : Forward) (ss : List Step) (r : SearchAddress) (found : Option Assignment)
-    → IsFront t f ss → Tracks b xs s ss → Says s r found → Says (stage_from s t) (search_from r t) (later found (finding_from r t))
-unfolding Tracks
-says_from b xs [] s f [] r found front tr k = absurd front
-says_from b xs (e ∷ t) s f [] r found front tr k = absurd front
-says_from b xs [] s f (step ∷ more) r found front tr k = k
-says_from b xs (e ∷ t) s f (step ∷ more) r found front tr k =
-    let spelled : IsSpelled step.command = subst IsSpelled front.0 (read_spelled e.frame) in
-    let rest : Tracks b xs (next_stage s step.command e.heard) more = tr.1 spelled e.heard front.1 in
-    let here : Follows b xs s (command_of e.frame) = subst (λ c. Follows b xs s c) (sym front.0) tr.0 in
-    let c : Command = command_of e.frame in
-    let next = says_more b xs s (command_of e.frame) e.heard r found here k in
-    let later_on = says_from b xs t (next_stage s (command_of e.frame) e.heard) f more (search_after (command_of e.frame) r) (later found (found_by r (command_of e.frame) e.heard))
-    front.2 (subst (λ d. Tracks b xs (next_stage s d e.heard) more) (sym front.0) rest) next in
-    record {
-      searched = later_on.searched;
-      finding = later_later found (found_by r (command_of e.frame) e.heard) (finding_from (search_after (command_of e.frame) r) t) ∙ later_on.finding;
-    }
-
-says_lawful : (b : Block) (xs : List Assignment) (t : List Entry) (f : Forward) → Lawful b xs t f → Says (stage_of t) (search_of t) (finding_of t)
-unfolding stage_of
-says_lawful b xs t f lawful =
-    let says = says_from b xs t Free f (steps lawful.0) at_power_on None lawful.2 (tracks b xs lawful.0 lawful.1) (record { searched = tt; finding = refl }) in
-    record { searched = says.searched; finding = sym (none_later (finding_of t)) ∙ says.finding }
-
--- the stage's search address is what the frames have set
-pub searched_lawful : (b : Block) (xs : List Assignment) (t : List Entry) (f : Forward) → Lawful b xs t f → IsSearched (stage_of t) (search_of t)
-searched_lawful b xs t f lawful = (says_lawful b xs t f lawful).searched
-
--- the stage's finding is that of the trace
-pub finding_lawful : (b : Block) (xs : List Assignment) (t : List Entry) (f : Forward) → Lawful b xs t f → finding_of t ≡ finding_at (stage_of t)
-finding_lawful b xs t f lawful = (says_lawful b xs t f lawful).finding
-
--- the same after one more frame
-says_after : (b : Block) (xs : List Assignment) (t : List Entry) (e : Entry) → Lawful b xs t e.frame → Says (stage_of (t ++ e ∷ [])) (search_of (t ++ e ∷ [])) (finding_of (t ++ e ∷ []))
-says_after b xs t e lawful =
-    let more = says_more b xs (stage_of t) (command_of e.frame) e.heard (search_of t) (finding_of t) (follows_lawful b xs t e.frame lawful) (says_lawful b xs t e.frame lawful) in
-    record {
-      searched = subst (λ s. IsSearched s (search_of (t ++ e ∷ []))) (sym (stage_more t e)) (subst (λ r. IsSearched (next_stage (stage_of t) (command_of e.frame) e.heard) r) (sym (searched_more t e)) more.searched);
-      finding = finding_more t e ∙ more.finding ∙ ap finding_at (sym (stage_more t e));
-    }
-
-pub searched_after : (b : Block) (xs : List Assignment) (t : List Entry) (e : Entry) → Lawful b xs t e.frame → IsSearched (stage_of (t ++ e ∷ [])) (search_of (t ++ e ∷ []))
-searched_after b xs t e lawful = (says_after b xs t e lawful).searched
-
-pub finding_after : (b : Block) (xs : List Assignment) (t : List Entry) (e : Entry) → Lawful b xs t e.frame → finding_of (t ++ e ∷ []) ≡ finding_at (stage_of (t ++ e ∷ []))
-finding_after b xs t e lawful = (says_after b xs t e lawful).finding
 
 -- which stage each command comes at
 at_initialise : (b : Block) (xs : List Assignment) (s : Stage) (c : Command) (g : Target) → Follows b xs s c → c ≡ Initialise g
@@ -498,10 +491,11 @@ at_withdraw b xs (Found r a) Withdraw on e = (r, a, inl refl)
 at_withdraw b xs (Confirmed r a) Withdraw on e = (r, a, inr (refl, on.may))
 at_withdraw b xs _ _ k e = absurd (let none = k.leads_on in cc)
 
--- TERMINATE, SEARCHADDRH and arc power stand first alone
+-- TERMINATE, SEARCHADDRH, QUERY RANDOM ADDRESS (H) and arc power stand first alone
 is_first : Command → Bool
 is_first Terminate = true
 is_first (SearchHigh high) = true
+is_first (RandomByte a High) = true
 is_first (Arc f) = true
 is_first _ = false
 
@@ -530,6 +524,7 @@ script_first Open = (refl, (refl, (refl, (refl, tt))))
 script_first (Probe r) = (refl, (refl, (refl, tt)))
 script_first (Look r) = (refl, (refl, (refl, (refl, tt))))
 script_first (Give r a) = (refl, (refl, (refl, (refl, (refl, (refl, tt))))))
+script_first (Resolve a) = (refl, (refl, tt))
 script_first Close = tt
 script_first (ArcPower g) = tt
 
@@ -548,6 +543,10 @@ pub arc_first : (b : Block) (xs : List Assignment) (t : List Entry) (f g : Forwa
 unfolding is_first
 arc_first b xs t f g lawful e = first_alone b xs t f lawful (ap is_first e)
 
+pub random_high_first : (b : Block) (xs : List Assignment) (t : List Entry) (f : Forward) (a : ℕ) → Lawful b xs t f → command_of f ≡ RandomByte a High → t ≡ []
+unfolding is_first
+random_high_first b xs t f a lawful e = first_alone b xs t f lawful (ap is_first e)
+
 -- only the empty trace is free
 pub free_is_empty : (t : List Entry) → stage_of t ≡ Free → t ≡ []
 free_is_empty t e =
@@ -556,29 +555,31 @@ free_is_empty t e =
     terminate_first b [] t (frame_of Terminate) (lawful_follows b [] t (frame_of Terminate) (rw (e, read) (turn refl refl))) read
 
 first_of : (b : Block) (xs : List Assignment) (s : Stage) (c : Command) → Follows b xs s c → s ≡ Free
-    → (c ≡ Terminate) ⊎ (((high : ℕ) × (c ≡ SearchHigh high)) ⊎ ((g : Forward) × (c ≡ Arc g)))
+    → (c ≡ Terminate) ⊎ (((high : ℕ) × (c ≡ SearchHigh high)) ⊎ (((g : Forward) × (c ≡ Arc g)) ⊎ ((a : ℕ) × (c ≡ RandomByte a High))))
 first_of b xs Free Terminate on e = inl refl
 first_of b xs Free (SearchHigh high) on e = inr (inl (high, refl))
-first_of b xs Free (Arc g) on e = inr (inr (g, refl))
+first_of b xs Free (Arc g) on e = inr (inr (inl (g, refl)))
+first_of b xs Free (RandomByte a High) on e = inr (inr (inr (a, refl)))
 first_of b xs _ _ k e = absurd (let none = k.leads_on in cc)
 
 -- and a transaction begins with no other frame
 pub first_frames : (b : Block) (xs : List Assignment) (f : Forward) → Lawful b xs [] f
-    → (command_of f ≡ Terminate) ⊎ (((high : ℕ) × (command_of f ≡ SearchHigh high)) ⊎ ((g : Forward) × (command_of f ≡ Arc g)))
+    → (command_of f ≡ Terminate) ⊎ (((high : ℕ) × (command_of f ≡ SearchHigh high)) ⊎ (((g : Forward) × (command_of f ≡ Arc g)) ⊎ ((a : ℕ) × (command_of f ≡ RandomByte a High))))
 first_frames b xs f lawful = first_of b xs (stage_of []) (command_of f) (follows_lawful b xs [] f lawful) stage_none
 
 pub begins_by : (b : Block) (xs : List Assignment) (f : Forward)
-    → (command_of f ≡ Terminate) ⊎ (((high : ℕ) × (command_of f ≡ SearchHigh high)) ⊎ ((g : Forward) × (command_of f ≡ Arc g))) → Lawful b xs [] f
+    → (command_of f ≡ Terminate) ⊎ (((high : ℕ) × (command_of f ≡ SearchHigh high)) ⊎ (((g : Forward) × (command_of f ≡ Arc g)) ⊎ ((a : ℕ) × (command_of f ≡ RandomByte a High)))) → Lawful b xs [] f
 begins_by b xs f (inl e) = (Close, tt, e)
 begins_by b xs f (inr (inl e)) = (Probe (record { high = e.0; middle = 0; low = 0 }), tt, e.1)
-begins_by b xs f (inr (inr e)) = (ArcPower e.0, tt, e.1)
+begins_by b xs f (inr (inr (inl e))) = (ArcPower e.0, tt, e.1)
+begins_by b xs f (inr (inr (inr e))) = (Resolve e.0, tt, e.1)
 
 pub first_commands : (f : Forward) → IsFirst f
-    → (command_of f ≡ Terminate) ⊎ (((high : ℕ) × (command_of f ≡ SearchHigh high)) ⊎ ((g : Forward) × (command_of f ≡ Arc g)))
+    → (command_of f ≡ Terminate) ⊎ (((high : ℕ) × (command_of f ≡ SearchHigh high)) ⊎ (((g : Forward) × (command_of f ≡ Arc g)) ⊎ ((a : ℕ) × (command_of f ≡ RandomByte a High))))
 first_commands f first = first_frames first.0 first.1 f first.2
 
 pub first_by : (f : Forward)
-    → (command_of f ≡ Terminate) ⊎ (((high : ℕ) × (command_of f ≡ SearchHigh high)) ⊎ ((g : Forward) × (command_of f ≡ Arc g))) → IsFirst f
+    → (command_of f ≡ Terminate) ⊎ (((high : ℕ) × (command_of f ≡ SearchHigh high)) ⊎ (((g : Forward) × (command_of f ≡ Arc g)) ⊎ ((a : ℕ) × (command_of f ≡ RandomByte a High)))) → IsFirst f
 first_by f is = (record { first = 0; last = 0 }, [], begins_by (record { first = 0; last = 0 }) [] f is)
 
 -- whoever sends it

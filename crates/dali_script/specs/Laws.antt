@@ -4,11 +4,12 @@ use Rattle.dali_frame.specs.declared.frames.Forward.{Forward}
 use Rattle.dali_frame.specs.declared.numbers.SearchAddress.{SearchAddress}
 use Rattle.dali_special.specs.declared.command.Target.{Target}
 use Rattle.dali_special.specs.declared.command.Target.TheVariants.{Unaddressed}
+use Rattle.dali_special.specs.declared.command.Part.TheVariants.{High}
 use Rattle.dali_special.specs.declared.command.Command.{Command}
 use Rattle.dali_special.specs.declared.command.Command.TheVariants.{Terminate, Initialise}
 use Rattle.dali_special.specs.declared.command.Command.TheVariants.{Randomise, Compare, Withdraw}
 use Rattle.dali_special.specs.declared.command.Command.TheVariants.{SearchHigh, Program, QueryShort}
-use Rattle.dali_special.specs.declared.command.Command.TheVariants.{Arc}
+use Rattle.dali_special.specs.declared.command.Command.TheVariants.{RandomByte, Arc}
 use Rattle.dali_special.specs.Command.{command_of}
 use Rattle.dali_script.specs.declared.block.Block.{Block}
 use Rattle.dali_script.specs.declared.trace.Entry.{Entry}
@@ -21,9 +22,10 @@ use Rattle.dali_script.specs.declared.stage.Stage.TheVariants.{Programmed, Confi
 use Rattle.dali_script.specs.Records.{Assignment, Kept, Has, HasAddress, IsMap, IsKept, Fits}
 use Rattle.dali_script.specs.Records.{IsFresh, address_of, without_records, with_record}
 use Rattle.dali_script.specs.Scripts.{Lawful, IsFirst, MayGive, IsComplete, GoesOn}
-use Rattle.dali_script.specs.Findings.{search_after, search_of, found_by, later, finding_of}
+use Rattle.dali_script.specs.Findings.{search_after, search_of, asked_after, asked_of}
+use Rattle.dali_script.specs.Findings.{found_by, later, finding_of}
 use Rattle.dali_script.specs.Stages.{Follows, follows, may_follow, next_stage, stage_of, finding_at}
-use Rattle.dali_script.specs.Stages.{IsSearched}
+use Rattle.dali_script.specs.Stages.{IsSearched, IsAsked}
 
 -- What a front of a script says, in the words that a site and a machine use. Each is proved: see
 -- the module `laws`.
@@ -37,7 +39,8 @@ pub record LawfulFramesFollowAtTheStage : Type 0 where
   pub as_test : (b : Block) (xs : List Assignment) (s : Stage) (c : Command)
       → (follows b xs s c ≡ true) ↔ Follows b xs s c
 
--- The stage, the search address and the finding of a trace with one more frame.
+-- The stage, the search address, what queries of a random address were heard as, and the finding of
+-- a trace with one more frame.
 pub record TracesGrowByAFrame : Type 0 where
   pub none : stage_of [] ≡ Free
   pub free : (t : List Entry) → stage_of t ≡ Free → t ≡ []
@@ -45,15 +48,19 @@ pub record TracesGrowByAFrame : Type 0 where
       → stage_of (t ++ e ∷ []) ≡ next_stage (stage_of t) (command_of e.frame) e.heard
   pub search : (t : List Entry) (e : Entry)
       → search_of (t ++ e ∷ []) ≡ search_after (command_of e.frame) (search_of t)
+  pub asked : (t : List Entry) (e : Entry)
+      → asked_of (t ++ e ∷ []) ≡ asked_after (command_of e.frame) e.heard (asked_of t)
   pub found : (t : List Entry) (e : Entry)
       → finding_of (t ++ e ∷ [])
-      ≡ later (finding_of t) (found_by (search_of t) (command_of e.frame) e.heard)
+      ≡ later (finding_of t) (found_by (search_of t) (asked_of t) (command_of e.frame) e.heard)
 
 -- The stage of a lawful trace has the search address and the finding of the trace, before and after
 -- a lawful frame.
 pub record StagesSayWhatWasSentAndFound : Type 0 where
   pub search : (b : Block) (xs : List Assignment) (t : List Entry) (f : Forward) → Lawful b xs t f
       → IsSearched (stage_of t) (search_of t)
+  pub asked : (b : Block) (xs : List Assignment) (t : List Entry) (f : Forward) → Lawful b xs t f
+      → IsAsked (stage_of t) (asked_of t)
   pub found : (b : Block) (xs : List Assignment) (t : List Entry) (f : Forward) → Lawful b xs t f
       → finding_of t ≡ finding_at (stage_of t)
   pub searched_after : (b : Block) (xs : List Assignment) (t : List Entry) (e : Entry)
@@ -61,20 +68,23 @@ pub record StagesSayWhatWasSentAndFound : Type 0 where
   pub finding_after : (b : Block) (xs : List Assignment) (t : List Entry) (e : Entry)
       → Lawful b xs t e.frame → finding_of (t ++ e ∷ []) ≡ finding_at (stage_of (t ++ e ∷ []))
 
--- A transaction begins with TERMINATE, SEARCHADDRH or direct arc power, and none of these comes
--- later in one.
+-- A transaction begins with TERMINATE, SEARCHADDRH, QUERY RANDOM ADDRESS (H) or direct arc power,
+-- and none of these comes later in one.
 pub record TransactionsBeginOnce : Type 0 where
   pub begins : (b : Block) (xs : List Assignment) (f : Forward) → Lawful b xs [] f ↔ IsFirst f
   pub first : (f : Forward)
       → IsFirst f ↔ ((command_of f ≡ Terminate)
       ⊎ (((high : ℕ) × (command_of f ≡ SearchHigh high))
-      ⊎ ((g : Forward) × (command_of f ≡ Arc g))))
+      ⊎ (((g : Forward) × (command_of f ≡ Arc g))
+      ⊎ ((a : ℕ) × (command_of f ≡ RandomByte a High)))))
   pub terminate : (b : Block) (xs : List Assignment) (t : List Entry) (f : Forward)
       → Lawful b xs t f → command_of f ≡ Terminate → t ≡ []
   pub search_high : (b : Block) (xs : List Assignment) (t : List Entry) (f : Forward) (high : ℕ)
       → Lawful b xs t f → command_of f ≡ SearchHigh high → t ≡ []
   pub arc : (b : Block) (xs : List Assignment) (t : List Entry) (f g : Forward) → Lawful b xs t f
       → command_of f ≡ Arc g → t ≡ []
+  pub random_high : (b : Block) (xs : List Assignment) (t : List Entry) (f : Forward) (a : ℕ)
+      → Lawful b xs t f → command_of f ≡ RandomByte a High → t ≡ []
 
 -- INITIALISE, for gear without short address alone, and RANDOMISE come only after TERMINATE, in an
 -- opening.

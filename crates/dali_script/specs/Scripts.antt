@@ -6,12 +6,13 @@ use Rattle.dali_frame.specs.declared.numbers.SearchAddress.{SearchAddress}
 use Rattle.dali_frame.specs.Short.{code_of}
 use Rattle.dali_frame.specs.Random.{value_of, MASK24}
 use Rattle.dali_special.specs.declared.command.Target.TheVariants.{Unaddressed}
+use Rattle.dali_special.specs.declared.command.Part.TheVariants.{High, Middle, Low}
 use Rattle.dali_special.specs.declared.command.Command.{Command}
 use Rattle.dali_special.specs.declared.command.Command.TheVariants.{Terminate, Initialise}
 use Rattle.dali_special.specs.declared.command.Command.TheVariants.{Randomise, Compare, Withdraw}
 use Rattle.dali_special.specs.declared.command.Command.TheVariants.{SearchHigh, SearchMiddle}
 use Rattle.dali_special.specs.declared.command.Command.TheVariants.{SearchLow, Program, QueryShort}
-use Rattle.dali_special.specs.declared.command.Command.TheVariants.{Arc}
+use Rattle.dali_special.specs.declared.command.Command.TheVariants.{RandomByte, Arc}
 use Rattle.dali_special.specs.Command.{MASK, command_of}
 use Rattle.dali_script.specs.declared.block.Block.{Block}
 use Rattle.dali_script.specs.declared.trace.Entry.{Entry}
@@ -48,12 +49,13 @@ search_at r more =
     sends (SearchHigh r.high) ∷ sends (SearchMiddle r.middle) ∷ sends (SearchLow r.low) ∷ more
 
 -- THE SCRIPTS: all that a transaction of commissioning may be (this project's profile of IEC
--- 62386-102:2014, special commands).
+-- 62386-102:2014, special commands and queries of the random address).
 pub data Script : Type 0 where
   Open : Script
   Probe : SearchAddress → Script
   Look : SearchAddress → Script
   Give : SearchAddress → ℕ → Script
+  Resolve : ℕ → Script
   Close : Script
   ArcPower : Forward → Script
 
@@ -66,6 +68,8 @@ steps (Look r) = search_at r (queries some_address ∷ sends Withdraw ∷ [])
 steps (Give r a) =
     search_at r (queries no_address ∷ sends (Program (Some a)) ∷ queries (address a)
     ∷ sends Withdraw ∷ [])
+steps (Resolve a) =
+    sends (RandomByte a High) ∷ sends (RandomByte a Middle) ∷ sends (RandomByte a Low) ∷ []
 steps Close = sends Terminate ∷ []
 steps (ArcPower f) = sends (Arc f) ∷ []
 

@@ -6,14 +6,15 @@ use Rattle.dali_frame.specs.declared.frames.Answer.{Answer}
 use Rattle.dali_frame.specs.declared.frames.Answer.TheVariants.{Silence, Byte, Damaged}
 use Rattle.dali_frame.specs.declared.numbers.SearchAddress.{SearchAddress}
 use Rattle.dali_frame.specs.Short.{short_of}
-use Rattle.dali_frame.specs.Random.{value_of, MASK24}
+use Rattle.dali_frame.specs.Random.{value_of, number_of, MASK24}
 use Rattle.dali_special.specs.declared.command.Target.TheVariants.{Unaddressed}
+use Rattle.dali_special.specs.declared.command.Part.TheVariants.{High, Middle, Low}
 use Rattle.dali_special.specs.declared.command.Command.{Command}
 use Rattle.dali_special.specs.declared.command.Command.TheVariants.{Terminate, Initialise}
 use Rattle.dali_special.specs.declared.command.Command.TheVariants.{Randomise, Compare, Withdraw}
 use Rattle.dali_special.specs.declared.command.Command.TheVariants.{SearchHigh, SearchMiddle}
 use Rattle.dali_special.specs.declared.command.Command.TheVariants.{SearchLow, Program, QueryShort}
-use Rattle.dali_special.specs.declared.command.Command.TheVariants.{Arc}
+use Rattle.dali_special.specs.declared.command.Command.TheVariants.{RandomByte, Arc}
 use Rattle.dali_special.specs.Command.{MASK, command_of}
 use Rattle.dali_script.specs.declared.block.Block.{Block}
 use Rattle.dali_script.specs.declared.trace.Entry.{Entry}
@@ -23,10 +24,14 @@ use Rattle.dali_script.specs.declared.stage.Stage.TheVariants.{Initialised, Rand
 use Rattle.dali_script.specs.declared.stage.Stage.TheVariants.{HighSent, MiddleSent, NumberSent}
 use Rattle.dali_script.specs.declared.stage.Stage.TheVariants.{Probed, Found, Unnamed, Unanswered}
 use Rattle.dali_script.specs.declared.stage.Stage.TheVariants.{Inconclusive, Programmed, Confirmed}
-use Rattle.dali_script.specs.declared.stage.Stage.TheVariants.{Withdrawn, Over}
+use Rattle.dali_script.specs.declared.stage.Stage.TheVariants.{Withdrawn, HighAsked}
+use Rattle.dali_script.specs.declared.stage.Stage.TheVariants.{MiddleAsked, Spelled, Over}
+use Rattle.dali_script.specs.declared.finding.Finding.{Finding}
+use Rattle.dali_script.specs.declared.finding.Finding.TheVariants.{Queried, Resolved}
 use Rattle.dali_script.specs.Records.{Assignment}
 use Rattle.dali_script.specs.Scripts.{MayGive}
-use Rattle.dali_script.specs.Findings.{search_of, finding_of}
+use Rattle.dali_script.specs.Findings.{search_of, Asked, nothing, high_byte, two_bytes}
+use Rattle.dali_script.specs.Findings.{asked_of, finding_of}
 
 -- How far a transaction is, from how far it was.
 
@@ -50,11 +55,25 @@ abbrev pub verified : SearchAddress → ℕ → Answer → Stage
 verified r a (Byte v) = answered r a (short_of v)
 verified r a _ = Inconclusive r None
 
+-- after a query of a byte of a random address: all bytes so far, where each was heard
+abbrev pub byte_heard : Answer → Option ℕ
+byte_heard (Byte v) = Some v
+byte_heard _ = None
+
+abbrev pub bytes_heard : Option ℕ → Answer → Option (ℕ × ℕ)
+bytes_heard (Some high) (Byte v) = Some (high, v)
+bytes_heard _ _ = None
+
+abbrev pub number_heard : Option (ℕ × ℕ) → Answer → Option ℕ
+number_heard (Some bytes) (Byte v) = Some (number_of bytes.0 bytes.1 v)
+number_heard _ _ = None
+
 -- WHERE A COMMAND LEADS from a stage, by what is heard after it. It leads nowhere unless it comes
 -- next in a script: which commands may follow, and the stage after them, are read from here.
 abbrev pub leads : Stage → Command → Answer → Option Stage
 leads Free Terminate h = Some Terminated
 leads Free (SearchHigh high) h = Some (HighSent high)
+leads Free (RandomByte a High) h = Some (HighAsked a (byte_heard h))
 leads Free (Arc f) h = Some Over
 leads Terminated (Initialise Unaddressed) h = Some InitialisedOnce
 leads InitialisedOnce (Initialise Unaddressed) h = Some Initialised
@@ -69,6 +88,10 @@ leads (Found r b) Withdraw h = Some (Withdrawn r b)
 leads (Unnamed r) (Program (Some a)) h = Some (Programmed r a)
 leads (Programmed r a) QueryShort h = Some (verified r a h)
 leads (Confirmed r a) Withdraw h = Some (Withdrawn r a)
+leads (HighAsked b high) (RandomByte a Middle) h =
+    if a == b then Some (MiddleAsked b (bytes_heard high h)) else None
+leads (MiddleAsked b bytes) (RandomByte a Low) h =
+    if a == b then Some (Spelled b (number_heard bytes h)) else None
 leads _ _ h = None
 
 abbrev pub next_stage : Stage → Command → Answer → Stage
@@ -127,15 +150,17 @@ may_follow b reserved (Inconclusive r other) = false
 may_follow b reserved (Programmed r a) = may_give b reserved (value_of r) a
 may_follow b reserved (Confirmed r a) = may_give b reserved (value_of r) a
 may_follow b reserved (Withdrawn r a) = false
+may_follow b reserved (Spelled a number) = false
 may_follow b reserved Over = false
 may_follow b reserved _ = true
 
 -- the finding of a transaction at a stage
-abbrev pub finding_at : Stage → Option Assignment
-finding_at (Found r b) = Some (b, value_of r)
-finding_at (Inconclusive r other) = option_map (λ b. (b, value_of r)) other
-finding_at (Confirmed r a) = Some (a, value_of r)
-finding_at (Withdrawn r a) = Some (a, value_of r)
+abbrev pub finding_at : Stage → Option Finding
+finding_at (Found r b) = Some (Queried b (value_of r))
+finding_at (Inconclusive r other) = option_map (λ b. Queried b (value_of r)) other
+finding_at (Confirmed r a) = Some (Queried a (value_of r))
+finding_at (Withdrawn r a) = Some (Queried a (value_of r))
+finding_at (Spelled a number) = option_map (λ r. Resolved a r) number
 finding_at _ = None
 
 -- what the frames so far have set of the search address
@@ -153,8 +178,17 @@ IsSearched (Confirmed n a) r = r ≡ n
 IsSearched (Withdrawn n a) r = r ≡ n
 IsSearched _ r = Unit {0}
 
+-- what the queries of a random address so far were heard as
+abbrev pub IsAsked : Stage → Asked → Type 0
+IsAsked (HighAsked a (Some high)) q = q ≡ high_byte a high
+IsAsked (HighAsked a None) q = q ≡ nothing
+IsAsked (MiddleAsked a (Some bytes)) q = q ≡ two_bytes a bytes.0 bytes.1
+IsAsked (MiddleAsked a None) q = q ≡ nothing
+IsAsked _ q = Unit {0}
+
 -- the stage that is kept beside a trace
 pub record IsTrace (s : Stage) (t : List Entry) : Type 0 where
   pub stage : s ≡ stage_of t
   pub searched : IsSearched s (search_of t)
+  pub asked : IsAsked s (asked_of t)
   pub finding : finding_of t ≡ finding_at s

@@ -14,7 +14,8 @@ pub fn lawful_frames_follow_at_the_stage()
     ensures { LawfulFramesFollowAtTheStage }
 {}
 
-/// The stage, the search address and the finding of a trace with one more frame.
+/// The stage, the search address, what queries of a random address were heard as, and the finding of a trace with one
+/// more frame.
 pub fn traces_grow_by_a_frame()
     ensures { TracesGrowByAFrame }
 {}
@@ -24,7 +25,8 @@ pub fn stages_say_what_was_sent_and_found()
     ensures { StagesSayWhatWasSentAndFound }
 {}
 
-/// A transaction begins with TERMINATE, SEARCHADDRH or direct arc power, and none of these comes later in one.
+/// A transaction begins with TERMINATE, SEARCHADDRH, QUERY RANDOM ADDRESS (H) or direct arc power, and none of these
+/// comes later in one.
 pub fn transactions_begin_once()
     ensures { TransactionsBeginOnce }
 {}

@@ -1,13 +1,14 @@
 //! Which transactions a controller may send while it commissions short addresses, and the records that it keeps
 //! meanwhile.
 //!
-//! A transaction is a front of one of six scripts ([`Trace`]); what a controller has reserved and enrolled is [`Kept`].
+//! A transaction is a front of one of seven scripts ([`Trace`]); what a controller has reserved and enrolled is [`Kept`].
 //! Both lists of it are [`Assignments`]. Only `new` and `copy` of these two take memory. [`Input`] and [`Order`] are
 //! what a machine that runs the scripts is told, and what it orders.
 #![tactic(auto)]
 
 mod assignments;
 mod block;
+mod finding;
 mod kept;
 pub mod laws;
 mod orders;
@@ -17,6 +18,7 @@ mod trace;
 
 pub use assignments::Assignments;
 pub use block::Block;
+pub use finding::Finding;
 pub use kept::Kept;
 pub use orders::{Due, End, Fault, Input, Order};
 pub use records::{AddError, MakeError, Record};

@@ -1,9 +1,12 @@
 ghost use Rattle.std.specs.Prelude.{◌≡◌};
-ghost use Rattle.dali_script.specs.Commands.{is_initialise};
+ghost use Rattle.dali_script.specs.Commands.{is_initialise, is_query};
+ghost use Rattle.dali_script.specs.Stages.{byte_heard, bytes_heard, number_heard};
+ghost use Rattle.dali_script.specs.declared.stage.Stage.TheVariants.{Free};
 
+use crate::finding::Finding;
 use crate::kept::Kept;
 use dali_frame::{Answer, Random24, SearchAddress, Short};
-use dali_special::{Command, Target};
+use dali_special::{Command, Part, Target};
 
 /// How far a transaction is.
 #[derive(Clone, Copy)]
@@ -43,6 +46,13 @@ pub enum Stage {
     Confirmed(SearchAddress, Short),
     /// WITHDRAW was sent to the gear with this short address.
     Withdrawn(SearchAddress, Short),
+    /// QUERY RANDOM ADDRESS (H) was sent to this short address, and heard as this byte, or not as a byte.
+    HighAsked(Short, Option<u8>),
+    /// QUERY RANDOM ADDRESS (H) and (M) were sent to this short address, and both heard as these bytes, or not.
+    MiddleAsked(Short, Option<(u8, u8)>),
+    /// QUERY RANDOM ADDRESS (H), (M) and (L) were sent to this short address, and heard as the bytes of this random
+    /// address, or one of them not as a byte.
+    Spelled(Short, Option<Random24>),
     /// Nothing may follow: direct arc power was sent; or the frames are the front of no script.
     Over,
 }
@@ -51,17 +61,28 @@ impl Stage {
     ghost use Rattle.dali_script.specs.Stages.{leads, next_stage, queried, verified, follows, given, may_follow};
     ghost use Rattle.dali_script.specs.Stages.{finding_at};
 
+    /// The stage that the first command of a script leads to.
+    fn first(command: Command, heard: Answer) -> Option<Stage>
+        ensures { result ≡ leads Free command heard }
+    {
+        match command {
+            Command::Terminate => Some(Stage::Terminated),
+            Command::SearchHigh(high) => Some(Stage::HighSent(high)),
+            Command::RandomByte(short, part) => match part {
+                Part::High => Some(Stage::HighAsked(short, byte_heard(heard))),
+                Part::Middle | Part::Low => None,
+            },
+            Command::Arc(_) => Some(Stage::Over),
+            _ => None,
+        }
+    }
+
     /// The stage that a command leads to, where it may come next in a script.
     fn next(self, command: Command, heard: Answer) -> Option<Stage>
         ensures { result ≡ leads self command heard }
     {
         match self {
-            Stage::Free => match command {
-                Command::Terminate => Some(Stage::Terminated),
-                Command::SearchHigh(high) => Some(Stage::HighSent(high)),
-                Command::Arc(_) => Some(Stage::Over),
-                _ => None,
-            },
+            Stage::Free => Stage::first(command, heard),
             Stage::Terminated if is_initialise(command) => Some(Stage::InitialisedOnce),
             Stage::InitialisedOnce if is_initialise(command) => Some(Stage::Initialised),
             Stage::Initialised if matches!(command, Command::Randomise) => Some(
@@ -92,6 +113,12 @@ impl Stage {
             }
             Stage::Found(number, short) | Stage::Confirmed(number, short)
                 if matches!(command, Command::Withdraw) => { Some(Stage::Withdrawn(number, short)) }
+            Stage::HighAsked(short, high) if is_query(command, short, Part::Middle) => Some(
+                Stage::MiddleAsked(short, bytes_heard(high, heard)),
+            ),
+            Stage::MiddleAsked(short, bytes) if is_query(command, short, Part::Low) => Some(
+                Stage::Spelled(short, number_heard(bytes, heard)),
+            ),
             _ => None,
         }
     }
@@ -150,13 +177,14 @@ impl Stage {
             | Stage::Unanswered(_)
             | Stage::Inconclusive(..)
             | Stage::Withdrawn(..)
+            | Stage::Spelled(..)
             | Stage::Over => false,
             _ => true,
         }
     }
 
     /// The finding of a transaction at this stage.
-    pub(crate) fn finding(self) -> Option<(Short, Random24)>
+    pub(crate) fn finding(self) -> Option<Finding>
         ensures { result ≡ finding_at self }
     {
         let (number, found) = match self {
@@ -164,9 +192,10 @@ impl Stage {
             | Stage::Confirmed(number, short)
             | Stage::Withdrawn(number, short) => (number, Some(short)),
             Stage::Inconclusive(number, other) => (number, other),
+            Stage::Spelled(short, number) => return Some(Finding::Resolved(short, number?)),
             _ => return None,
         };
-        Some((found?, number.value()))
+        Some(Finding::Queried(found?, number.value()))
     }
 
     /// The stage after the first QUERY SHORT ADDRESS.
@@ -207,4 +236,40 @@ fn is_initialise(command: Command) -> bool
         Command::Initialise(target) => matches!(target, Target::Unaddressed),
         _ => false,
     }
+}
+
+/// QUERY RANDOM ADDRESS to a short address, for a byte.
+fn is_query(command: Command, short: Short, part: Part) -> bool
+    ensures { result ≡ is_query command short part }
+{
+    match command {
+        Command::RandomByte(other, asked) => asked == part && other == short,
+        _ => false,
+    }
+}
+
+/// The byte that was heard.
+fn byte_heard(heard: Answer) -> Option<u8>
+    ensures { result ≡ byte_heard heard }
+{
+    match heard {
+        Answer::Byte(byte) => Some(byte),
+        _ => None,
+    }
+}
+
+/// The high and the middle byte, where both were heard.
+fn bytes_heard(high: Option<u8>, heard: Answer) -> Option<(u8, u8)>
+    ensures { result ≡ bytes_heard high heard }
+{
+    let high = high?;
+    Some((high, byte_heard(heard)?))
+}
+
+/// The number of three bytes that were all heard.
+fn number_heard(bytes: Option<(u8, u8)>, heard: Answer) -> Option<Random24>
+    ensures { result ≡ number_heard bytes heard }
+{
+    let (high, middle) = bytes?;
+    Some(Random24::from_bytes(high, middle, byte_heard(heard)?))
 }

@@ -1,7 +1,9 @@
 ghost use Rattle.std.specs.Prelude.{◌≡◌, ℕ, ◌<◌, ◌↔◌, List, [], ◌∷◌, ◌++◌, false, not, IsTrue, length};
+ghost use Rattle.std.specs.Prelude.{option_map};
 ghost use Rattle.dali_frame.specs.declared.frames.Forward.{Forward};
 ghost use Rattle.dali_special.specs.Command.{command_of};
 
+use crate::finding::Finding;
 use crate::kept::Kept;
 use crate::stage::Stage;
 use arrayvec::ArrayVec;
@@ -58,7 +60,7 @@ impl Model for Trace {
 
 impl Trace {
     ghost use Rattle.dali_script.specs.Scripts.{Lawful, IsLawful, IsComplete, GoesOn};
-    ghost use Rattle.dali_script.specs.Findings.{finding_of};
+    ghost use Rattle.dali_script.specs.Findings.{assigned, finding_of};
     ghost use Rattle.dali_script.specs.Stages.{stage_of, follows, may_follow};
 
     /// No transaction yet.
@@ -101,9 +103,15 @@ impl Trace {
         !self.stage.goes_on(kept)
     }
 
-    /// The last finding: the short address that QUERY SHORT ADDRESS was heard as, and the search address it was asked
-    /// under.
+    /// The short address and the random address of the last finding.
     pub fn finding(&self) -> Option<(Short, Random24)>
+        ensures { result ≡ option_map assigned (finding_of self.now) }
+    {
+        Some(self.found()?.assigned())
+    }
+
+    /// The last finding, with how the gear was found.
+    pub fn found(&self) -> Option<Finding>
         ensures { result ≡ finding_of self.now }
     {
         self.stage.finding()

@@ -8,10 +8,11 @@ use Rattle.dali_special.specs.declared.command.Command.TheVariants.{Arc}
 use Rattle.dali_special.specs.Command.{command_of}
 use Rattle.dali_arbiter.specs.Arbiter.{owns}
 use Rattle.dali_script.specs.declared.trace.Entry.{Entry}
+use Rattle.dali_script.specs.declared.finding.Finding.{Finding}
 use Rattle.dali_script.specs.declared.records.Record.{Record}
 use Rattle.dali_script.specs.declared.records.Record.TheVariants.{Reserve, Enrol}
-use Rattle.dali_script.specs.Records.{Assignment, Kept, InBlock, IsFresh}
-use Rattle.dali_script.specs.Findings.{finding_of, later}
+use Rattle.dali_script.specs.Records.{Kept, InBlock, IsFresh}
+use Rattle.dali_script.specs.Findings.{MayEnrol, finding_of, later}
 use Rattle.dali_script.specs.Scripts.{Lawful, IsFirst}
 use Rattle.dali_script.specs.Stages.{stage_of, may_follow}
 use Rattle.dali_script.proofs.Transactions.{over, follows_lawful}
@@ -136,7 +137,7 @@ record AreInformed (w : World) (c : ℕ) (k : Controller) (t : Machine) : Type 0
   pub found : later k.finding (finding_of t.trace) ≡ k.finding
   pub owns_with : OwnsWith w c k t
 
-pub later_some : (k o : Option Assignment) (x : Assignment) → o ≡ Some x → later k o ≡ k → k ≡ Some x
+pub later_some : (k o : Option Finding) (x : Finding) → o ≡ Some x → later k o ≡ k → k ≡ Some x
 later_some k o x e is = sym (subst (λ p. later k p ≡ k) e is)
 
 may_order_by : (w : World) (c : ℕ) (k : Controller) (t : Machine) (o : Order) → AreInformed w c k t → IsAllowed t o → MayOrder w c k o
@@ -148,7 +149,10 @@ may_order_by w c k t (Put p f) both (inr may) =
 may_order_by w c k t (Commit (Reserve a r)) both may =
     (both.outstanding, subst (λ x. InBlock x.block a × (r < MASK24) × IsFresh x (Reserve a r)) both.kept (may.fits.0, may.fits.1, may.fresh))
 may_order_by w c k t (Commit (Enrol b r)) both may =
-    (both.outstanding, (later_some k.finding (finding_of t.trace) (b, r) may.warranted.1 both.found, may.fits, subst (λ x. IsFresh x (Enrol b r)) both.kept may.fresh))
+    let x : Finding = may.warranted.0 in
+    let enrols : MayEnrol k.records.reserved x (b, r) = subst (λ q. MayEnrol q.reserved x (b, r)) both.kept may.warranted.3 in
+    let found : k.finding ≡ Some x = later_some k.finding (finding_of t.trace) x may.warranted.2 both.found in
+    (both.outstanding, ((x, found, enrols), may.fits, subst (λ q. IsFresh q (Enrol b r)) both.kept may.fresh))
 may_order_by w c k t (Done e) both may = tt
 may_order_by w c k t (Halt why) both may = tt
 

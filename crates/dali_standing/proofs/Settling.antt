@@ -143,7 +143,7 @@ free_next s r settled first free = go (is_arc (command_of r.frame)) refl where
   go : (b : Bool) → is_arc (command_of r.frame) ≡ b → IsNextAt s r
   go true arc = record {
     up = next_up s.bus (seat_in s.seats) r settled.up first;
-    may = λ drawn. inr (free, first_by r.frame (inr (inr (is_arc_of (command_of r.frame) arc))));
+    may = λ drawn. inr (free, first_by r.frame (inr (inr (inl (is_arc_of (command_of r.frame) arc)))));
     owner = λ d other. none_owns d;
     kind = inr (arc, free);
   }

@@ -3,8 +3,9 @@ use Rattle.std.specs.Prelude.{if◌then◌else◌}
 use Rattle.std.specs.Option.{option_map}
 use Rattle.dali_script.specs.declared.block.Block.{Block}
 use Rattle.dali_script.specs.declared.trace.Entry.{Entry}
+use Rattle.dali_script.specs.declared.finding.Finding.{Finding}
 use Rattle.dali_script.specs.declared.records.Record.{Record}
-use Rattle.dali_script.specs.Records.{Assignment, Kept, Fits, IsFresh, without_records}
+use Rattle.dali_script.specs.Records.{Kept, Fits, IsFresh, without_records}
 use Rattle.dali_script.specs.Findings.{later, finding_of}
 use Rattle.dali_script.specs.declared.orders.Input.{Input}
 use Rattle.dali_script.specs.declared.orders.Input.TheVariants as input
@@ -76,7 +77,7 @@ abbrev pub last_of : Option Machine → Option Order
 last_of (Some m) = m.last
 last_of None = None
 
-abbrev pub seat_by : Option Machine → Option Kept → Option Record → Option Assignment → Option Input
+abbrev pub seat_by : Option Machine → Option Kept → Option Record → Option Finding → Option Input
     → Seat
 seat_by machine beside outstanding finding unread = record {
   controller = record {
@@ -95,7 +96,7 @@ abbrev pub AreOnce : Option Machine → Option Kept → Type 0
 AreOnce (Some m) beside = beside ≡ None
 AreOnce None beside = IsSome beside
 
-abbrev pub IsSeat : Option Machine → Option Kept → Option Record → Option Assignment → Option Input
+abbrev pub IsSeat : Option Machine → Option Kept → Option Record → Option Finding → Option Input
     → Type 0
 IsSeat machine beside outstanding finding unread =
     IsTied (seat_by machine beside outstanding finding unread).controller machine

@@ -14,8 +14,8 @@ ghost use Rattle.dali_standing.specs.Seats.{due_of, MayAnswer, Waits};
 use crate::refusal::Refusal;
 use dali_controller::Machine;
 use dali_enrol::Table;
-use dali_frame::{Answer, Forward, Random24, Short};
-use dali_script::{Block, Due, Input, Kept, Order, Record, Trace};
+use dali_frame::{Answer, Forward};
+use dali_script::{Block, Due, Finding, Input, Kept, Order, Record, Trace};
 use std::alloc::Global;
 use std::marker::Model;
 
@@ -27,7 +27,7 @@ pub(crate) struct Seat {
     /// The records, while no machine has them.
     kept: Option<Kept>,
     outstanding: Option<Record>,
-    finding: Option<(Short, Random24)>,
+    finding: Option<Finding>,
     told: Option<Input>,
 }
 
@@ -108,7 +108,7 @@ impl Seat {
         requires running { running.now ≡ trace_of self.old.machine ++ entry frame heard ∷ [] }
         ensures { self.new ≡ told_at (told_sent (trace_of self.old.machine) frame heard) self.old }
     {
-        self.finding = later(self.finding, running.finding());
+        self.finding = later(self.finding, running.found());
         self.told = Some(Input::Heard(heard));
     }
 
@@ -257,10 +257,7 @@ fn note(outstanding: &mut Option<Record>, input: Input, order: &Order)
 }
 
 /// The later of two findings.
-fn later(
-    earlier: Option<(Short, Random24)>,
-    found: Option<(Short, Random24)>,
-) -> Option<(Short, Random24)>
+fn later(earlier: Option<Finding>, found: Option<Finding>) -> Option<Finding>
     ensures { result ≡ later earlier found }
 {
     match found {

@@ -6,14 +6,14 @@
 use super::values::Pair::Reserve;
 use super::values::{frame, kept_of, random, same, short};
 use dali_frame::{Answer, Forward, Random24, SearchAddress, Short};
-use dali_script::{Kept, Stage, Trace};
+use dali_script::{Finding, Kept, Stage, Trace};
 use std::alloc::Global;
 use std::process::Abort;
 use std::test::Fail;
 
-/// Each special command once, and frames that are none.
+/// Each special command once, queries of a random address, and frames that are neither.
 const FRAMES: &str =
-    "A100 A500 A50B A5FF A700 A900 AB00 B10A B3BC B5DE B709 B70B B7FF B909 BB00 FE80 FF00";
+    "A100 A500 A50B A5FF A700 A900 AB00 B10A B3BC B5DE B709 B70B B7FF B909 BB00 09C2 09C3 09C4 0BC3 FE80 FF00";
 
 /// Block 4 to 7, with 4 reserved for `0ABCDE`.
 fn one_reserved(alloc: Global) -> Result<Kept, Fail> {
@@ -76,7 +76,7 @@ fn each_follows<R: Abort>(rt: &R, kept: &Kept, rows: &str) -> Result<(), Fail> {
 }
 
 /// Every position of an opening and of arc power.
-const OPENINGS: &str = "> A100 B10A FE80
+const OPENINGS: &str = "> A100 B10A 09C2 FE80
 A100 > A5FF
 A100 A5FF > A5FF
 A100 A5FF A5FF > A700
@@ -112,6 +112,19 @@ fn searches_go_on_by_their_table(rt: HostRuntime) -> Result<(), Fail> {
     each_follows(&rt, &one_reserved(rt.alloc())?, SEARCHES)
 }
 
+/// Every position of the queries of a random address, whatever is heard, and whatever is reserved.
+const QUERIES: &str = "09C2 > 09C3
+09C2=0A > 09C3
+09C2=?? 09C3 > 09C4
+09C2=0A 09C3=BC > 09C4
+09C2=0A 09C3=BC 09C4 >
+09C2=0A 09C3=BC 09C4=DE >";
+
+#[test]
+fn queries_of_a_random_address_go_on_by_their_table(rt: HostRuntime) -> Result<(), Fail> {
+    each_follows(&rt, &none_reserved(rt.alloc())?, QUERIES)
+}
+
 /// Where nothing is reserved, an address that was heard leads to WITHDRAW, and nothing else goes on.
 const UNRESERVED: &str = "B10A B3BC B5DE BB00=09 > AB00
 B10A B3BC B5DE BB00=09 AB00 >
@@ -145,8 +158,14 @@ fn findings<R: Abort>(rt: &R, kept: &Kept) -> Result<(), Fail> {
     let finding = [
         "B10A B3BC B5DE BB00=09",
         "B10A B3BC B5DE BB00=FF B709 BB00=09",
+        "09C2=0A 09C3=BC 09C4=DE",
     ];
     let others = [
+        "09C2=0A 09C3=BC",
+        "09C2=0A 09C3=BC 09C4",
+        "09C2=0A 09C3=BC 09C4=??",
+        "09C2=0A 09C3 09C4=DE",
+        "09C2=?? 09C3=BC 09C4=DE",
         "B10A B3BC B5DE BB00=FF",
         "B10A B3BC B5DE BB00",
         "B10A B3BC B5DE BB00=??",
@@ -189,6 +208,38 @@ fn unanswered<R: Abort>(rt: &R, kept: &Kept) -> Result<(), Fail> {
 #[test]
 fn silence_is_told_apart_from_damage(rt: HostRuntime) -> Result<(), Fail> {
     unanswered(&rt, &one_reserved(rt.alloc())?)
+}
+
+/// Whether each of these traces has a finding of the queries of a random address.
+fn each_is_resolved<R: Abort>(
+    rt: &R,
+    kept: &Kept,
+    traces: &[&str],
+    wanted: bool,
+) -> Result<(), Fail> {
+    for frames in traces {
+        let is_resolved = match trace_of(kept, *frames)?.found() {
+            Some(Finding::Resolved(..)) => true,
+            Some(Finding::Queried(..)) | None => false,
+        };
+        same(rt, &is_resolved, &wanted);
+    }
+    Ok(())
+}
+
+fn kinds<R: Abort>(rt: &R, kept: &Kept) -> Result<(), Fail> {
+    each_is_resolved(rt, kept, &["09C2=0A 09C3=BC 09C4=DE"], true)?;
+    each_is_resolved(
+        rt,
+        kept,
+        &["B10A B3BC B5DE BB00=09", "09C2=0A 09C3=BC"],
+        false,
+    )
+}
+
+#[test]
+fn findings_tell_how_gear_was_found(rt: HostRuntime) -> Result<(), Fail> {
+    kinds(&rt, &none_reserved(rt.alloc())?)
 }
 
 /// After a trace that was sent with a reservation, records without it allow no WITHDRAW.

@@ -1,8 +1,9 @@
 use Rattle.std.proofs.Common.{◌≡◌, ℕ, ◌<◌, inl, inr, Bool, List, [], append-nil, refl, sym, ap, subst, ◌∙◌, length, Some}
 use Rattle.dali_script.specs.declared.trace.Entry.{Entry}
+use Rattle.dali_script.specs.declared.finding.Finding.{Finding}
 use Rattle.dali_script.specs.declared.records.Record.{Record}
 use Rattle.dali_script.specs.Records.{Assignment}
-use Rattle.dali_script.specs.Findings.{finding_of}
+use Rattle.dali_script.specs.Findings.{assigned, finding_of}
 use Rattle.dali_script.specs.declared.orders.Input.{Input}
 use Rattle.dali_script.specs.declared.orders.Input.TheVariants as input
 use Rattle.dali_script.specs.declared.orders.Order.TheVariants.{Commit, Halt}
@@ -23,14 +24,14 @@ use Rattle.dali_standing.proofs.Acts.{start_first, IsOfBus, IsPut, bus_put, comm
 -- NO MACHINE OF A SITE HALTS WITH A CONFLICT.
 
 -- a finding of the running transaction, once the machine was told, is the last one of its controller, whose records it keeps
-abbrev IsItsFinding : Controller → Machine → Assignment → Type 0
+abbrev IsItsFinding : Controller → Machine → Finding → Type 0
 IsItsFinding k t x = (k.finding ≡ Some x) × (t.kept ≡ k.records)
 
 -- nothing runs, so nothing was found
-none_found : (k : Controller) (t : Machine) (x : Assignment) → t.trace ≡ [] → finding_of t.trace ≡ Some x → IsItsFinding k t x
+none_found : (k : Controller) (t : Machine) (x : Finding) → t.trace ≡ [] → finding_of t.trace ≡ Some x → IsItsFinding k t x
 none_found k t x none found = absurd (let no : finding_of [] ≡ Some x = subst (λ u. finding_of u ≡ Some x) none found in cc)
 
-found_bus : (k : Controller) (m : Machine) (i : Input) (x : Assignment) → IsOfBus i → k.told ≡ Some i → IsRunning k m → finding_of (machine_told m i).trace ≡ Some x
+found_bus : (k : Controller) (m : Machine) (i : Input) (x : Finding) → IsOfBus i → k.told ≡ Some i → IsRunning k m → finding_of (machine_told m i).trace ≡ Some x
     → IsItsFinding k (machine_told m i) x
 found_bus k m i x bus is tied found =
     let put : IsPut k.last = bus_put i k.last bus (told_accepted k.last k.told i is tied.told) in
@@ -39,7 +40,7 @@ found_bus k m i x bus is tied found =
 committed_trace : (m : Machine) (x : Record) → m.last ≡ Some (Commit x) → (machine_told m input.Committed).trace ≡ m.trace
 committed_trace m x e = rw e refl
 
-its_finding : (owning : Bool) (t : List Entry) (k : Controller) (m : Machine) (i : Input) (x : Assignment) → IsDue k i → IsRunning k m → IsPlacedBy owning t k (Some m)
+its_finding : (owning : Bool) (t : List Entry) (k : Controller) (m : Machine) (i : Input) (x : Finding) → IsDue k i → IsRunning k m → IsPlacedBy owning t k (Some m)
     → finding_of (machine_told m i).trace ≡ Some x → IsItsFinding k (machine_told m i) x
 its_finding owning t k m (input.Heard h) x due tied placed found = found_bus k m (input.Heard h) x tt due tied found
 its_finding owning t k m input.Destroyed x due tied placed found = found_bus k m input.Destroyed x tt due tied found
@@ -59,12 +60,17 @@ not_contradicted w c b r agree found (inl other) =
 not_contradicted w c b r agree found (inr other) =
     let same : (b, r) ≡ (other.0, r) = agree.number c c (b, r) (other.0, r) found (found.0, other.1) refl in other.2 (sym (ap (λ x. x.0) same))
 
+pair_is : (p : Assignment) → p ≡ (p.0, p.1)
+pair_is p = refl
+
 no_conflict_at : (w : World) (c : ℕ) (m : Machine) (i : Input) (owning : Bool) (t : List Entry) → FindingsAgree w → c < length w.controllers → IsDue (controller_at w c) i
     → IsRunning (controller_at w c) m → IsPlacedBy owning t (controller_at w c) (Some m) → IsOrdered (machine_told m i) (Halt fault.Conflict) → ⊥
 no_conflict_at w c m i owning t agree there due tied placed order =
     let cause = order.caused in
-    let own = its_finding owning t (controller_at w c) m i (cause.0, cause.1) due tied placed cause.3 in
-    not_contradicted w c cause.0 cause.1 agree (there, own.0) (subst (λ k. Contradicts k.enrolled cause.0 cause.1) own.1 cause.4)
+    let x : Finding = cause.0 in
+    let own = its_finding owning t (controller_at w c) m i x due tied placed cause.2 in
+    not_contradicted w c (assigned x).0 (assigned x).1 agree (there, (x, own.0, pair_is (assigned x)))
+    (subst (λ k. Contradicts k.enrolled (assigned x).0 (assigned x).1) own.1 cause.3)
 
 -- IN EVERY RUN
 pub no_conflict : (p : Plan) (capacity : ℕ) (log : List Event) (c : ℕ) (m : Machine) (i : Input) (owning : Bool) (t : List Entry) → IsRun p capacity log

@@ -1,5 +1,6 @@
-use Rattle.dali_script.proofs.Transactions.{stage_none, free_is_empty, stage_more, searched_more, finding_more}
+use Rattle.dali_script.proofs.Transactions.{stage_none, free_is_empty, stage_more}
+use Rattle.dali_script.proofs.Found.{searched_more, asked_more, finding_more}
 use Rattle.dali_script.proofs.laws.traces_grow_by_a_frame.Goals as goal
 
 pub returns : goal.returns
-returns c = record { none = stage_none; free = free_is_empty; stage = stage_more; search = searched_more; found = finding_more }
+returns c = record { none = stage_none; free = free_is_empty; stage = stage_more; search = searched_more; asked = asked_more; found = finding_more }

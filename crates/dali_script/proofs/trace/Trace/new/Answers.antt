@@ -1,4 +1,4 @@
-use Rattle.dali_script.proofs.Transactions.{trace_none}
+use Rattle.dali_script.proofs.Found.{trace_none}
 use Rattle.dali_script.proofs.trace.Trace.new.Goals as goal
 
 pub invariant_of-result : goal.invariant_of-result

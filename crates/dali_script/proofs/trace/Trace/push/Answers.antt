@@ -1,5 +1,6 @@
 use Rattle.std.proofs.Common.{◌<◌, length, arith}
-use Rattle.dali_script.proofs.Transactions.{trace_more, room}
+use Rattle.dali_script.proofs.Transactions.{room}
+use Rattle.dali_script.proofs.Found.{trace_more}
 use Rattle.dali_script.proofs.trace.Trace.push.Goals as goal
 
 pub push-requires : goal.push-requires
