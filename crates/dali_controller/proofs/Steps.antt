@@ -1,30 +1,31 @@
 use Rattle.std.proofs.Common.{map, take, lit<, length, get_or, ◌≡◌, ◌⊎◌, inl, inr, ℕ, ◌+◌, ◌<◌, ◌≤◌, Bool, true, false, List, [], ◌∷◌, ◌++◌, refl, sym, ap, subst, ◌∙◌, arith, Option, Some, None}
-use Rattle.std.specs.Prelude.{◌==◌, zero, suc, if◌then◌else◌, unwrap_or}
+use Rattle.std.specs.Prelude.{◌==◌, ◌&&◌, zero, suc, if◌then◌else◌, unwrap_or}
 use Rattle.dali_frame.specs.declared.frames.Forward.{Forward}
 use Rattle.dali_frame.specs.declared.frames.Answer.{Answer}
 use Rattle.dali_frame.specs.declared.frames.Answer.TheVariants.{Silence, Byte, Damaged}
 use Rattle.dali_frame.specs.declared.numbers.SearchAddress.{SearchAddress}
-use Rattle.dali_frame.specs.Short.{short_of}
+use Rattle.dali_frame.specs.Short.{code_of, short_of}
 use Rattle.dali_frame.specs.Random.{value_of, MASK24}
 use Rattle.dali_frame.specs.Priority.{FIRST, LATER}
 use Rattle.dali_special.specs.declared.command.Target.TheVariants.{Unaddressed}
+use Rattle.dali_special.specs.declared.command.Part.TheVariants.{High, Middle, Low}
 use Rattle.dali_special.specs.declared.command.Command.{Command}
-use Rattle.dali_special.specs.declared.command.Command.TheVariants.{Terminate, Initialise, Randomise, Compare, Withdraw, SearchMiddle, SearchLow, Program, QueryShort, Arc}
+use Rattle.dali_special.specs.declared.command.Command.TheVariants.{Terminate, Initialise, Randomise, Compare, Withdraw, SearchMiddle, SearchLow, Program, QueryShort, RandomByte, Arc}
 use Rattle.dali_special.specs.Command.{MASK, command_of, frame_of, IsSpelled}
 use Rattle.dali_special.proofs.Table.{read_written}
 use Rattle.dali_script.specs.declared.block.Block.{Block}
 use Rattle.dali_script.specs.declared.trace.Entry.{Entry}
 use Rattle.dali_script.specs.declared.finding.Finding.{Finding}
-use Rattle.dali_script.specs.declared.finding.Finding.TheVariants.{Queried}
+use Rattle.dali_script.specs.declared.finding.Finding.TheVariants.{Queried, Resolved}
 use Rattle.dali_script.specs.declared.records.Record.{Record}
 use Rattle.dali_script.specs.declared.records.Record.TheVariants.{Reserve, Enrol}
 use Rattle.dali_script.specs.declared.stage.Stage.{Stage}
-use Rattle.dali_script.specs.declared.stage.Stage.TheVariants.{Free, Terminated, InitialisedOnce, Initialised, RandomisedOnce, Opened, HighSent, MiddleSent, NumberSent, Found, Unnamed, Unanswered, Inconclusive, Programmed, Confirmed, Withdrawn}
+use Rattle.dali_script.specs.declared.stage.Stage.TheVariants.{Free, Terminated, InitialisedOnce, Initialised, RandomisedOnce, Opened, HighSent, MiddleSent, NumberSent, Found, Unnamed, Unanswered, Inconclusive, Programmed, Confirmed, Withdrawn, HighAsked, MiddleAsked, Spelled}
 use Rattle.dali_script.specs.Records.{IsKept, IsOnce, with_record, HasAddress, Kept, Assignment, Has, HasRandom, Fits, IsFresh}
 use Rattle.dali_script.specs.Scripts.{MayGive, Lawful}
-use Rattle.dali_script.specs.Findings.{later, finding_of}
+use Rattle.dali_script.specs.Findings.{later, assigned, MayEnrol, finding_of}
 use Rattle.dali_script.specs.Stages.{finding_at, stage_of, next_stage, queried, named, verified, answered, Follows}
-use Rattle.dali_script.proofs.Transactions.{turn, gives, lawful_follows, stage_none, stage_more}
+use Rattle.dali_script.proofs.Transactions.{self, middle_next, low_next, turn, gives, lawful_follows, stage_none, stage_more}
 use Rattle.dali_script.proofs.Found.{finding_after}
 use Rattle.dali_enrol.specs.Table.{Table}
 use Rattle.dali_search.specs.declared.step.Step.TheVariants.{Again}
@@ -37,12 +38,12 @@ use Rattle.dali_script.specs.declared.orders.Fault.TheVariants as fault
 use Rattle.dali_script.specs.declared.orders.End.TheVariants.{GaveUp}
 use Rattle.dali_script.specs.declared.orders.Due.TheVariants as due
 use Rattle.dali_controller.specs.declared.purpose.Purpose.{Purpose}
-use Rattle.dali_controller.specs.declared.purpose.Purpose.TheVariants.{Opening, Probing, Visiting, Closing}
+use Rattle.dali_controller.specs.declared.purpose.Purpose.TheVariants.{Opening, Probing, Visiting, Resolving, Closing}
 use Rattle.dali_controller.specs.declared.work.Work.{Work}
 use Rattle.dali_script.specs.Due.{due_after, frame_put}
 use Rattle.dali_controller.specs.Machine.{machine_lost, Machine, table_of, opened_after, silent_after, tries_after}
 use Rattle.dali_controller.specs.Orders.{Contradicts, closing_by, Cause, IsBegun, AfterMask, IsOrdered, machine_ordered, end_at}
-use Rattle.dali_controller.specs.Moments.{FoundAt, IsBetween, Closes, closing_of, machine_of, first_of, Sends, Arrived, Knows, KnowsAt, IsCalm, CalmAt, IsReady, IsSending, Pending, IsFine, IsHeard, Turns, Begins, IsNext}
+use Rattle.dali_controller.specs.Moments.{FoundAt, IsBetween, Closes, Settles, closing_of, machine_of, first_of, Sends, Arrived, Knows, KnowsAt, IsCalm, CalmAt, IsReady, IsSending, Pending, IsFine, IsHeard, Turns, Begins, IsNext}
 
 -- THE COMMANDS OF A TRANSACTION. A command that is sent at a stage may follow there and is read from its frame; it is no
 -- direct arc power; past the first one no close runs; and what is known where it leads to.
@@ -58,10 +59,11 @@ going : {k : Kept} {n : SearchAddress} {p : Purpose} {s : Stage} {c : Command} �
 going {k} {n} {p} {s} {c} follows spelled addressing unclosed arrives =
     record { follows = follows; spelled = spelled; addressing = addressing; unclosed = unclosed; arrives = arrives }
 
-goes_first : (k : Kept) (n : SearchAddress) (p : Purpose) → Goes k n p Free (first_of p n)
-goes_first k n Opening = going (turn refl refl) tt (λ g x. cc) (λ later. refl) (λ h. inl refl)
-goes_first k n (Closing e) = going (turn refl refl) tt (λ g x. cc) (λ later. absurd (later refl)) (λ h. inr (e, refl))
-goes_first k n _ = going (turn refl refl) tt (λ g x. cc) (λ later. refl) (λ h. (SearchMiddle n.middle, (refl, refl, tt)))
+goes_first : (k : Kept) (n : SearchAddress) (p : Purpose) → IsSpelled (first_of p n) → Goes k n p Free (first_of p n)
+goes_first k n Opening small = going (turn refl refl) tt (λ g x. cc) (λ later. refl) (λ h. inl refl)
+goes_first k n (Resolving a) small = going (turn refl refl) small (λ g x. cc) (λ later. refl) (λ h. (RandomByte a Middle, (refl, (refl, small), tt)))
+goes_first k n (Closing e) small = going (turn refl refl) tt (λ g x. cc) (λ later. absurd (later refl)) (λ h. inr (e, refl))
+goes_first k n _ small = going (turn refl refl) tt (λ g x. cc) (λ later. refl) (λ h. (SearchMiddle n.middle, (refl, refl, tt)))
 
 arrives_queried : (k : Kept) (n r : SearchAddress) (h : Answer) → r ≡ n → Arrived k n Visiting (queried r h)
 arrives_queried k n r Silence is = (refl, is)
@@ -101,7 +103,12 @@ goes k n Visiting (MiddleSent high middle) c e = rw (some_is _ c e.0) (going (tu
 goes k n Probing (NumberSent r) c e = rw (some_is _ c e.0) (going (turn refl refl) tt (λ g x. cc) (λ later. refl) (λ h. (refl, sym e.1)))
 goes k n Visiting (NumberSent r) c e = rw (some_is _ c e.0) (going (turn refl refl) tt (λ g x. cc) (λ later. refl) (λ h. arrives_queried k n r h (sym e.1)))
 goes k n Visiting (Found r b) c e = rw (some_is _ c e.0) (going (turn refl refl) tt (λ g x. cc) (λ later. refl) (λ h. (refl, sym e.1)))
-goes k n p Free c e = rw e (goes_first k n p)
+goes k n (Resolving a) (HighAsked b high) c e =
+    rw (some_is _ c e.0) (going (turn (rw (self b) refl) refl) e.1.1 (λ g x. cc) (λ later. refl)
+    (λ h. subst (Arrived k n (Resolving a)) (sym (middle_next b high h)) (RandomByte b Low, (refl, e.1, tt))))
+goes k n (Resolving a) (MiddleAsked b bytes) c e =
+    rw (some_is _ c e.0) (going (turn (rw (self b) refl) refl) e.1.1 (λ g x. cc) (λ later. refl) (λ h. subst (Arrived k n (Resolving a)) (sym (low_next b bytes h)) e.1.0))
+goes k n p Free c e = subst (Goes k n p Free) (sym e.0) (goes_first k n p (subst IsSpelled e.0 e.1))
 goes k n Visiting (Unnamed r) c e = rw e.2.3 (going (gives refl e.2.2) e.2.1 (λ g x. cc) (λ later. refl) (λ h. (QueryShort, (refl, sym e.1, e.2.2))))
 goes k n Visiting (Programmed r a) c e = rw (some_is _ c e.0) (going (gives refl e.2) tt (λ g x. cc) (λ later. refl) (λ h. arrives_verified k n r a h (sym e.1) e.2))
 goes k n Visiting (Confirmed r a) c e = rw (some_is _ c e.0) (going (gives refl e.2) tt (λ g x. cc) (λ later. refl) (λ h. (refl, sym e.1)))
@@ -240,6 +247,10 @@ closes w (Closing e) n b = rw b.knows (go b.turns.cause) where
       → Some (unwrap_or (closing_of w.purpose) (end_at (stage_of w.trace))) ≡ Some e
   go (inl is) = rw is refl
   go (inr is) = rw (is.0, is.1) refl
+closes w (Resolving a) n b = go (code_of a == 0xA1) where
+  go : (x : Bool) → (if (FIRST == FIRST) && ((x && (0xC2 == 0)) && w.opened) then Some (unwrap_or (closing_of w.purpose) (end_at (stage_of w.trace))) else closing_of w.purpose) ≡ None
+  go true = b.turns
+  go false = b.turns
 closes w _ n b = b.turns
 
 begun : (w : Work) (p : Purpose) → Turns w p → IsBegun (machine_of w) (closing_of p)
@@ -258,22 +269,27 @@ silent_closes : (p : Purpose) (i : ℕ) → IsCalm p i → i ≡ 16 → closing_
 silent_closes (Closing e) i calm is = ap (λ x. Some x) (calm.1 is)
 silent_closes _ i calm is = absurd (omega arith)
 
-first_read : (k : Kept) (p : Purpose) (n : SearchAddress) → command_of (frame_of (first_of p n)) ≡ first_of p n
-first_read k p n = read_written (first_of p n) (goes_first k n p).spelled
+first_spelled : (k : Kept) (n : SearchAddress) (s : Search) (o : Bool) (p : Purpose) → Knows k n s o p → IsSpelled (first_of p n)
+first_spelled k n s o (Resolving a) e = e.2
+first_spelled k n s o _ e = tt
 
-first_lawful : (k : Kept) (p : Purpose) (n : SearchAddress) → Lawful k.block k.reserved [] (frame_of (first_of p n))
-first_lawful k p n =
-    lawful_follows k.block k.reserved [] (frame_of (first_of p n)) (rw (first_read k p n, stage_none) (goes_first k n p).follows)
+first_read : (k : Kept) (p : Purpose) (n : SearchAddress) → IsSpelled (first_of p n) → command_of (frame_of (first_of p n)) ≡ first_of p n
+first_read k p n small = read_written (first_of p n) small
+
+first_lawful : (k : Kept) (p : Purpose) (n : SearchAddress) → IsSpelled (first_of p n) → Lawful k.block k.reserved [] (frame_of (first_of p n))
+first_lawful k p n small =
+    lawful_follows k.block k.reserved [] (frame_of (first_of p n)) (rw (first_read k p n small, stage_none) (goes_first k n p small).follows)
 
 begin_next_at : (w : Work) (p : Purpose) (n : SearchAddress) → Begins w p n
     → IsNext (machine_of w) (Put FIRST (frame_of (first_of p n))) (machine_of (record w { trace = []; last = Some (Put FIRST (frame_of (first_of p n))); purpose = p; number = n }))
 begin_next_at w p n b =
     let tries : w.tries < 8 = b.tries in
+    let small : IsSpelled (first_of p n) = first_spelled w.kept n w.search w.opened p b.knows in
     let closed : closing_by (machine_of w) (Put FIRST (frame_of (first_of p n))) ≡ closing_of p = closes w p n b in
     record {
       order = record {
-        allowed = inl (refl, first_lawful w.kept p n);
-        addressing = λ g is. (goes_first w.kept n p).addressing g (sym (first_read w.kept p n) ∙ is);
+        allowed = inl (refl, first_lawful w.kept p n small);
+        addressing = λ g is. (goes_first w.kept n p small).addressing g (sym (first_read w.kept p n small) ∙ is);
         caused = (
           subst (IsBegun (machine_of w)) (sym closed) (begun w p b.turns),
           subst (λ o. (o ≡ None) ⊎ ((FIRST ≡ FIRST) × (frame_of (first_of p n) ≡ frame_of Terminate))) (sym closed) (terminates p n),
@@ -306,25 +322,31 @@ begin_next w p n t q f b empty first is =
 free_of : (t : List Entry) → t ≡ [] → stage_of t ≡ Free
 free_of t empty = ap stage_of empty ∙ stage_none
 
+first_sends : (w : Work) (p : Purpose) (n : SearchAddress) (f : Forward) → Knows w.kept n w.search w.opened p → f ≡ frame_of (first_of p n) → (command_of f ≡ first_of p n) × IsSpelled (command_of f)
+first_sends w p n f knows is =
+    let small : IsSpelled (first_of p n) = first_spelled w.kept n w.search w.opened p knows in
+    let read : command_of f ≡ first_of p n = ap command_of is ∙ first_read w.kept p n small in
+    (read, subst IsSpelled (sym read) small)
+
 pub begin_fine : (w : Work) (p : Purpose) (n : SearchAddress) (t : List Entry) (q : ℕ) (f : Forward) → Begins w p n → t ≡ [] → f ≡ frame_of (first_of p n)
     → IsFine (record w { trace = t; last = Some (Put q f); purpose = p; number = n })
 begin_fine w p n t q f b empty is = record {
   table = b.table;
   pending = record {
     ready = record { tries = b.tries; calm = b.calm; knows = b.knows };
-    sends = subst (λ s. Sends w.kept n p s (command_of f)) (sym (free_of t empty)) (ap command_of is ∙ first_read w.kept p n);
+    sends = subst (λ s. Sends w.kept n p s (command_of f)) (sym (free_of t empty)) (first_sends w p n f b.knows is);
   };
 }
 
 -- TO STORE
-pub commit_fine : (w : Work) (x : Record) (t : List Entry) → w.table ≡ table_of w.kept → IsReady w → w.purpose ≡ Visiting → Fits w.kept.block x → IsFresh w.kept x → t ≡ []
+pub commit_fine : (w : Work) (x : Record) (t : List Entry) → w.table ≡ table_of w.kept → IsReady w → closing_of w.purpose ≡ None → Fits w.kept.block x → IsFresh w.kept x → t ≡ []
     → IsFine (record w { trace = t; last = Some (Commit x) })
-commit_fine w x t table ready visiting fits fresh empty = record {
+commit_fine w x t table ready going fits fresh empty = record {
   table = table;
   pending = record {
     ready = record { tries = ready.tries; calm = ready.calm; knows = ready.knows };
     free = free_of t empty;
-    visiting = visiting;
+    going = going;
     fits = fits;
     fresh = fresh;
   };
@@ -340,10 +362,14 @@ sending_small w f e = let small : w.silent ≤ 16 = calm_small w.purpose w.silen
 
 found_at : (s : Stage) (earlier found : Option Finding) → found ≡ later earlier (finding_at s) → FoundAt s found
 found_at (Withdrawn r b) earlier found is = is
+found_at (Spelled b (Some n)) earlier found is = is
+found_at (Spelled b None) earlier found is = tt
 found_at _ earlier found is = tt
 
 trace_found_at : (s : Stage) (found : Option Finding) → found ≡ finding_at s → FoundAt s found
 trace_found_at (Withdrawn r b) found is = is
+trace_found_at (Spelled b (Some n)) found is = is
+trace_found_at (Spelled b None) found is = tt
 trace_found_at _ found is = tt
 
 -- the parts after a frame was heard, the last finding noted, and the counts made
@@ -411,6 +437,24 @@ visits w n b drawn reserved = record {
   unnamed = λ r e. absurd (b.unnamed r e);
   found = b.found;
 }
+
+pub resolves : (w : Work) (r : SearchAddress) (a : ℕ) → IsHeard w (Unanswered r) → w.opened ≡ false → a < 64 → Has w.kept.reserved (a, value_of r) → Begins w (Resolving a) r
+resolves w r a h early small reserved =
+    let stage : stage_of w.trace ≡ Unanswered r = h.stage in
+    let visiting : Knows w.kept w.number w.search w.opened Visiting = subst (Knows w.kept w.number w.search w.opened) h.arrived.0 h.knows in
+    record {
+      table = h.table;
+      tries = h.tries;
+      calm = early_calm w.opened w.silent early h.calm;
+      knows = (early, subst (λ n. value_of n < MASK24) (sym h.arrived.1) visiting.0, small, reserved);
+      turns = ap closing_of h.arrived.0;
+      unnamed = λ q e. absurd (cc);
+      found = λ q b e. absurd (cc);
+    } where
+      early_calm : (o : Bool) (i : ℕ) → o ≡ false → (i ≤ 16) × (i ≡ 16 → o ≡ true) → i < 16
+      early_calm o i early calm = omega (arith, late) where
+        late : i ≡ 16 → ⊥
+        late e = let no : false ≡ true = sym early ∙ calm.1 e in cc
 
 pub closing : (w : Work) (e : End) (n : SearchAddress) → Closes w e → Begins w (Closing e) n
 closing w e n b = record {
@@ -483,74 +527,110 @@ sends_program k n r p a m kept visiting is h =
 entries_of : (w : Work) → w.table ≡ table_of w.kept → w.table.entries ≡ w.kept.enrolled
 entries_of w is = ap (λ (t : Table). t.entries) is
 
-settled_calm : (w : Work) (r : SearchAddress) (b : ℕ) → IsHeard w (Withdrawn r b) → w.silent < 16
-settled_calm w r b h = subst (λ p. IsCalm p w.silent) h.arrived.0 h.calm
-
 same_address : (r q : SearchAddress) (b d : ℕ) → Withdrawn r b ≡ Withdrawn q d → b ≡ d
 same_address r q b d e = cc
 
 same_number : (r q : SearchAddress) (b d : ℕ) → Withdrawn r b ≡ Withdrawn q d → r ≡ q
 same_number r q b d e = cc
 
-halted_at : (w : Work) (r : SearchAddress) (b : ℕ) → IsHeard w (Withdrawn r b) → Contradicts w.kept.enrolled b (value_of r) → IsOrdered (machine_of w) (Halt fault.Conflict)
-halted_at w r b h conflict =
-    let tries : w.tries < 8 = h.tries in
-    let calm : w.silent < 16 = settled_calm w r b h in
+-- what was withdrawn, or has told its random address, may be enrolled
+pub settles_withdrawn : (w : Work) (r : SearchAddress) (b n : ℕ) → IsHeard w (Withdrawn r b) → n ≡ value_of r → Settles w b n
+settles_withdrawn w r b n h is =
     let stage : stage_of w.trace ≡ Withdrawn r b = h.stage in
+    let visiting : Knows w.kept w.number w.search w.opened Visiting = subst (Knows w.kept w.number w.search w.opened) h.arrived.0 h.knows in
+    subst (Settles w b) (sym is) (record {
+      table = h.table;
+      ready = record { tries = h.tries; calm = h.calm; knows = h.knows };
+      going = ap closing_of h.arrived.0;
+      drawn = subst (λ x. value_of x < MASK24) (sym h.arrived.1) visiting.0;
+      found = Queried b (value_of r);
+      is = refl;
+      may = refl;
+      finding = h.finding;
+      trace_finding = h.trace_finding;
+      unnamed = λ q e. absurd (cc);
+      withdrawn = λ q c e. let there : Withdrawn r b ≡ Withdrawn q c = sym stage ∙ e in (same_address q r c b (sym there), ap value_of (same_number q r c b (sym there)));
+    })
+
+pub settles_resolved : (w : Work) (b n m : ℕ) → IsHeard w (Spelled b (Some n)) → m ≡ value_of w.number → n ≡ m → Settles w b n
+settles_resolved w b n m h number is =
+    let stage : stage_of w.trace ≡ Spelled b (Some n) = h.stage in
+    let same : n ≡ value_of w.number = is ∙ number in
+    let resolving : Knows w.kept w.number w.search w.opened (Resolving b) = subst (Knows w.kept w.number w.search w.opened) h.arrived h.knows in
+    record {
+      table = h.table;
+      ready = record { tries = h.tries; calm = h.calm; knows = h.knows };
+      going = ap closing_of h.arrived;
+      drawn = subst (λ x. x < MASK24) (sym same) resolving.1;
+      found = Resolved b n;
+      is = refl;
+      may = (refl, subst (λ x. Has w.kept.reserved (b, x)) (sym same) resolving.3);
+      finding = h.finding;
+      trace_finding = h.trace_finding;
+      unnamed = λ q e. absurd (cc);
+      withdrawn = λ q c e. absurd (cc);
+    }
+
+-- the count of silent searches is below its limit
+settled_calm : (w : Work) (b n : ℕ) → Settles w b n → w.silent < 16
+settled_calm w b n h = calm_less w.purpose w.silent h.going h.ready.calm
+
+halted_at : (w : Work) (b n : ℕ) → Settles w b n → Contradicts w.kept.enrolled b n → IsOrdered (machine_of w) (Halt fault.Conflict)
+halted_at w b n h conflict =
+    let tries : w.tries < 8 = h.ready.tries in
+    let calm : w.silent < 16 = settled_calm w b n h in
     record {
       allowed = tt;
       addressing = tt;
-      caused = (Queried b (value_of r), h.finding, h.trace_finding, conflict);
+      caused = (h.found, h.finding, h.trace_finding, subst (λ (p : Assignment). Contradicts w.kept.enrolled p.0 p.1) (sym h.is) conflict);
       given_up = λ e. absurd (omega arith);
       silent = λ e. absurd (omega arith);
-      unnamed = λ q e. absurd (cc);
+      unnamed = λ q e. absurd (h.unnamed q e);
       found = λ q d e.
-          let there : Withdrawn r b ≡ Withdrawn q d = sym stage ∙ e in
-          subst (λ n. Contradicts w.kept.enrolled d (value_of n)) (same_number r q b d there) (subst (λ a. Contradicts w.kept.enrolled a (value_of r)) (same_address r q b d there) conflict);
+          let there = h.withdrawn q d e in
+          subst (λ m. Contradicts w.kept.enrolled d m) (sym there.1) (subst (λ a. Contradicts w.kept.enrolled a n) (sym there.0) conflict);
     }
 
-halted : (w : Work) (r : SearchAddress) (b : ℕ) (o : Order) (new : Machine) → IsHeard w (Withdrawn r b) → Contradicts w.kept.enrolled b (value_of r) → o ≡ Halt fault.Conflict → new ≡ machine_ordered (machine_of w) o → IsNext (machine_of w) o new
-halted w r b o new h conflict is state = record { order = subst (IsOrdered (machine_of w)) (sym is) (halted_at w r b h conflict); state = state }
+halted : (w : Work) (b n : ℕ) (o : Order) (new : Machine) → Settles w b n → Contradicts w.kept.enrolled b n → o ≡ Halt fault.Conflict → new ≡ machine_ordered (machine_of w) o → IsNext (machine_of w) o new
+halted w b n o new h conflict is state = record { order = subst (IsOrdered (machine_of w)) (sym is) (halted_at w b n h conflict); state = state }
 
 -- the table has the address for another gear
-pub halts_by_address : (w : Work) (r : SearchAddress) (b n m : ℕ) (o : Order) (new : Machine) → IsHeard w (Withdrawn r b) → Has w.table.entries (b, n) → m ≡ value_of r → (n ≡ m → ⊥)
+pub halts_by_address : (w : Work) (b m n : ℕ) (o : Order) (new : Machine) → Settles w b n → Has w.table.entries (b, m) → (m ≡ n → ⊥)
     → o ≡ Halt fault.Conflict → new ≡ machine_ordered (machine_of w) o → IsNext (machine_of w) o new
-halts_by_address w r b n m o new h has is other order state =
-    halted w r b o new h (inl (n, subst (λ xs. Has xs (b, n)) (entries_of w h.table) has, λ e. other (e ∙ sym is))) order state
+halts_by_address w b m n o new h has other order state =
+    halted w b n o new h (inl (m, subst (λ xs. Has xs (b, m)) (entries_of w h.table) has, other)) order state
 
 -- or the gear with another address
-pub halts_by_random : (w : Work) (r : SearchAddress) (b a m : ℕ) (o : Order) (new : Machine) → IsHeard w (Withdrawn r b) → (HasAddress w.table.entries b → ⊥) → Has w.table.entries (a, m) → m ≡ value_of r
+pub halts_by_random : (w : Work) (b a n : ℕ) (o : Order) (new : Machine) → Settles w b n → (HasAddress w.table.entries b → ⊥) → Has w.table.entries (a, n)
     → o ≡ Halt fault.Conflict → new ≡ machine_ordered (machine_of w) o → IsNext (machine_of w) o new
-halts_by_random w r b a m o new h none has is order state =
-    halted w r b o new h (inr (
+halts_by_random w b a n o new h none has order state =
+    halted w b n o new h (inr (
       a,
-      subst (λ xs. Has xs (a, value_of r)) (entries_of w h.table) (subst (λ n. Has w.table.entries (a, n)) is has),
-      λ e. none (subst (HasAddress w.table.entries) e (has_map (λ q. q.0) w.table.entries (a, m) has)),
+      subst (λ xs. Has xs (a, n)) (entries_of w h.table) has,
+      λ e. none (subst (HasAddress w.table.entries) e (has_map (λ q. q.0) w.table.entries (a, n) has)),
     )) order state
 
-enrols_at : (w : Work) (r : SearchAddress) (b : ℕ) → IsHeard w (Withdrawn r b) → (HasAddress w.kept.enrolled b → ⊥) → (HasRandom w.kept.enrolled (value_of r) → ⊥) → IsOrdered (machine_of w) (Commit (Enrol b (value_of r)))
-enrols_at w r b h none fresh =
-    let tries : w.tries < 8 = h.tries in
-    let calm : w.silent < 16 = settled_calm w r b h in
-    let stage : stage_of w.trace ≡ Withdrawn r b = h.stage in
-    let visiting : Knows w.kept w.number w.search w.opened Visiting = subst (Knows w.kept w.number w.search w.opened) h.arrived.0 h.knows in
+enrols_at : (w : Work) (b n : ℕ) → Settles w b n → (HasAddress w.kept.enrolled b → ⊥) → (HasRandom w.kept.enrolled n → ⊥) → IsOrdered (machine_of w) (Commit (Enrol b n))
+enrols_at w b n h none fresh =
+    let tries : w.tries < 8 = h.ready.tries in
+    let calm : w.silent < 16 = settled_calm w b n h in
     record {
-      allowed = record { fits = subst (λ n. value_of n < MASK24) (sym h.arrived.1) visiting.0; fresh = (none, fresh); warranted = (Queried b (value_of r), h.finding, h.trace_finding, refl) };
+      allowed = record { fits = h.drawn; fresh = (none, fresh); warranted = (h.found, h.finding, h.trace_finding, h.may) };
       addressing = tt;
-      caused = ap closing_of h.arrived.0;
+      caused = h.going;
       given_up = λ e. absurd (omega arith);
       silent = λ e. absurd (omega arith);
-      unnamed = λ q e. absurd (cc);
+      unnamed = λ q e. absurd (h.unnamed q e);
       found = λ q d e.
-          let there : Withdrawn r b ≡ Withdrawn q d = sym stage ∙ e in
-          ap (λ a. Enrol a (value_of r)) (same_address r q b d there) ∙ ap (λ n. Enrol d (value_of n)) (same_number r q b d there);
+          let there = h.withdrawn q d e in
+          ap (λ a. Enrol a n) (sym there.0) ∙ ap (λ m. Enrol d m) (sym there.1);
     }
 
-pub enrols : (w : Work) (r : SearchAddress) (b m : ℕ) (o : Order) (new : Machine) → IsHeard w (Withdrawn r b) → (HasAddress w.table.entries b → ⊥) → (HasRandom w.table.entries m → ⊥) → m ≡ value_of r
-    → o ≡ Commit (Enrol b m) → new ≡ machine_ordered (machine_of w) o → IsNext (machine_of w) o new
-enrols w r b m o new h none fresh is order state = record {
-  order = subst (IsOrdered (machine_of w)) (sym (order ∙ ap (λ n. Commit (Enrol b n)) is))
-      (enrols_at w r b h (subst (λ xs. HasAddress xs b → ⊥) (entries_of w h.table) none) (subst (λ xs. HasRandom xs (value_of r) → ⊥) (entries_of w h.table) (subst (λ n. HasRandom w.table.entries n → ⊥) is fresh)));
+pub enrols : (w : Work) (b n : ℕ) (o : Order) (new : Machine) → Settles w b n → (HasAddress w.table.entries b → ⊥) → (HasRandom w.table.entries n → ⊥)
+    → o ≡ Commit (Enrol b n) → new ≡ machine_ordered (machine_of w) o → IsNext (machine_of w) o new
+enrols w b n o new h none fresh order state = record {
+  order = subst (IsOrdered (machine_of w)) (sym order)
+      (enrols_at w b n h (subst (λ xs. HasAddress xs b → ⊥) (entries_of w h.table) none) (subst (λ xs. HasRandom xs n → ⊥) (entries_of w h.table) fresh));
   state = state;
 }
 

@@ -8,9 +8,11 @@ use Rattle.dali_special.specs.declared.command.Command.TheVariants.{Terminate, I
 use Rattle.dali_special.specs.declared.command.Command.TheVariants.{Randomise, Compare, Withdraw}
 use Rattle.dali_special.specs.declared.command.Command.TheVariants.{SearchHigh, SearchMiddle}
 use Rattle.dali_special.specs.declared.command.Command.TheVariants.{SearchLow, Program, QueryShort}
-use Rattle.dali_special.specs.Command.{command_of}
+use Rattle.dali_special.specs.declared.command.Command.TheVariants.{RandomByte}
+use Rattle.dali_special.specs.declared.command.Part.TheVariants.{High, Middle, Low}
+use Rattle.dali_special.specs.Command.{command_of, IsSpelled}
 use Rattle.dali_script.specs.declared.finding.Finding.{Finding}
-use Rattle.dali_script.specs.declared.finding.Finding.TheVariants.{Queried}
+use Rattle.dali_script.specs.declared.finding.Finding.TheVariants.{Queried, Resolved}
 use Rattle.dali_script.specs.declared.records.Record.{Record}
 use Rattle.dali_script.specs.declared.stage.Stage.{Stage}
 use Rattle.dali_script.specs.declared.stage.Stage.TheVariants.{Free, Terminated, InitialisedOnce}
@@ -18,10 +20,11 @@ use Rattle.dali_script.specs.declared.stage.Stage.TheVariants.{Initialised, Rand
 use Rattle.dali_script.specs.declared.stage.Stage.TheVariants.{HighSent, MiddleSent, NumberSent}
 use Rattle.dali_script.specs.declared.stage.Stage.TheVariants.{Probed, Found, Unnamed, Unanswered}
 use Rattle.dali_script.specs.declared.stage.Stage.TheVariants.{Inconclusive, Programmed, Confirmed}
-use Rattle.dali_script.specs.declared.stage.Stage.TheVariants.{Withdrawn}
+use Rattle.dali_script.specs.declared.stage.Stage.TheVariants.{Withdrawn, HighAsked}
+use Rattle.dali_script.specs.declared.stage.Stage.TheVariants.{MiddleAsked, Spelled}
 use Rattle.dali_script.specs.Records.{Kept, Assignment, Has, HasRandom, Fits, IsFresh, IsFull}
 use Rattle.dali_script.specs.Scripts.{MayGive}
-use Rattle.dali_script.specs.Findings.{finding_of}
+use Rattle.dali_script.specs.Findings.{assigned, MayEnrol, finding_of}
 use Rattle.dali_script.specs.Stages.{stage_of, given, IsSearched}
 use Rattle.dali_search.specs.declared.step.Step.TheVariants.{Again}
 use Rattle.dali_search.specs.Least.{Search}
@@ -32,7 +35,7 @@ use Rattle.dali_script.specs.declared.orders.End.{End}
 use Rattle.dali_script.specs.declared.orders.End.TheVariants.{BlockFull, GaveUp}
 use Rattle.dali_controller.specs.declared.purpose.Purpose.{Purpose}
 use Rattle.dali_controller.specs.declared.purpose.Purpose.TheVariants.{Opening, Probing, Visiting}
-use Rattle.dali_controller.specs.declared.purpose.Purpose.TheVariants.{Closing}
+use Rattle.dali_controller.specs.declared.purpose.Purpose.TheVariants.{Resolving, Closing}
 use Rattle.dali_controller.specs.declared.work.Work.{Work}
 use Rattle.dali_controller.specs.Machine.{Machine, table_of}
 use Rattle.dali_controller.specs.Orders.{Cause, end_at, IsOrdered, machine_ordered, IsAnswered}
@@ -62,6 +65,7 @@ machine_of w = record {
 abbrev pub first_of : Purpose → SearchAddress → Command
 first_of Opening n = Terminate
 first_of (Closing e) n = Terminate
+first_of (Resolving a) n = RandomByte a High
 first_of _ n = SearchHigh n.high
 
 -- THE TURN: which command a transaction sends at a stage past the first, except PROGRAM SHORT
@@ -83,17 +87,25 @@ turn_of Visiting n (Found r b) = Some Withdraw
 turn_of Visiting n (Programmed r a) = Some QueryShort
 turn_of Visiting n (Confirmed r a) = Some Withdraw
 turn_of Visiting n s = search_turn n s
+turn_of (Resolving a) n (HighAsked b high) = Some (RandomByte b Middle)
+turn_of (Resolving a) n (MiddleAsked b bytes) = Some (RandomByte b Low)
 turn_of _ n _ = None
+
+-- what was sent of the transaction's search address, or that its short address is asked
+abbrev pub IsAt : Stage → Purpose → SearchAddress → Type 0
+IsAt (HighAsked b high) p n = (p ≡ Resolving b) × (b < 64)
+IsAt (MiddleAsked b bytes) p n = (p ≡ Resolving b) × (b < 64)
+IsAt s p n = IsSearched s n
 
 -- which command is sent at a stage, with the transaction's search address, and with what may be
 -- given
 abbrev pub Sends : Kept → SearchAddress → Purpose → Stage → Command → Type 0
-Sends k n p Free c = c ≡ first_of p n
+Sends k n p Free c = (c ≡ first_of p n) × IsSpelled c
 Sends k n p (Unnamed r) c =
     (p ≡ Visiting) × (r ≡ n)
     × ((a : ℕ) × (a < 64) × MayGive k.block k.reserved r a × (c ≡ Program (Some a)))
 Sends k n p s c =
-    (turn_of p n s ≡ Some c) × IsSearched s n
+    (turn_of p n s ≡ Some c) × IsAt s p n
     × IfSome (given s c) (λ g. MayGive k.block k.reserved g.0 g.1)
 
 -- what is known at a stage of the transaction that led there: its end, or that there is a command
@@ -107,15 +119,19 @@ Arrived k n p (Unnamed r) = (p ≡ Visiting) × (r ≡ n)
 Arrived k n p (Unanswered r) = (p ≡ Visiting) × (r ≡ n)
 Arrived k n p (Inconclusive r other) = (p ≡ Visiting) × (r ≡ n)
 Arrived k n p (Withdrawn r b) = (p ≡ Visiting) × (r ≡ n)
+Arrived k n p (Spelled b number) = p ≡ Resolving b
 Arrived k n p s = (c : Command) × Sends k n p s c
 
 -- What is known while a transaction runs: whether an opening was complete, and where its number
--- comes from. In the visits before the opening it is reserved.
+-- comes from. In the visits before the opening it is reserved, and whom a short address is asked of
+-- it is reserved for.
 abbrev pub Knows : Kept → SearchAddress → Search → Bool → Purpose → Type 0
 Knows k n s opened Opening = opened ≡ false
 Knows k n s opened Probing = (opened ≡ true) × (s.step ≡ Again) × (value_of n ≡ s.probe)
 Knows k n s opened Visiting =
     (value_of n < MASK24) × (opened ≡ false → HasRandom k.reserved (value_of n))
+Knows k n s opened (Resolving a) =
+    (opened ≡ false) × (value_of n < MASK24) × (a < 64) × Has k.reserved (a, value_of n)
 Knows k n s opened (Closing e) = opened ≡ true
 
 -- at the end of an opening it is complete
@@ -134,9 +150,10 @@ CalmAt (Unanswered r) p opened silent = (silent ≤ 16) × (silent ≡ 16 → op
 CalmAt (Inconclusive r other) p opened silent = (silent ≤ 16) × (silent ≡ 16 → opened ≡ true)
 CalmAt _ p opened silent = IsCalm p silent
 
--- the gear that was withdrawn is what was found
+-- the gear that was withdrawn, or told its random address, is what was found
 abbrev pub FoundAt : Stage → Option Finding → Type 0
 FoundAt (Withdrawn r b) found = found ≡ Some (Queried b (value_of r))
+FoundAt (Spelled b (Some n)) found = found ≡ Some (Resolved b n)
 FoundAt _ found = Unit {0}
 
 pub record IsReady (w : Work) : Type 0 where
@@ -156,7 +173,7 @@ pub record IsSending (w : Work) (f : Forward) : Type 0 where
 pub record IsStoring (w : Work) (x : Record) : Type 0 where
   pub ready : IsReady w
   pub free : stage_of w.trace ≡ Free
-  pub visiting : w.purpose ≡ Visiting
+  pub going : closing_of w.purpose ≡ None
   pub fits : Fits w.kept.block x
   pub fresh : IsFresh w.kept x
 
@@ -215,6 +232,21 @@ pub record Begins (w : Work) (p : Purpose) (n : SearchAddress) : Type 0 where
       × (p ≡ Closing BlockFull)
   pub found : (r : SearchAddress) (b : ℕ) → stage_of w.trace ≡ Withdrawn r b
       → Has w.kept.enrolled (b, value_of r)
+
+-- what holds where a gear was found, and may be enrolled
+pub record Settles (w : Work) (b n : ℕ) : Type 0 where
+  pub table : w.table ≡ table_of w.kept
+  pub ready : IsReady w
+  pub going : closing_of w.purpose ≡ None
+  pub drawn : n < MASK24
+  pub found : Finding
+  pub is : assigned found ≡ (b, n)
+  pub may : MayEnrol w.kept.reserved found (b, n)
+  pub finding : w.finding ≡ Some found
+  pub trace_finding : finding_of w.trace ≡ Some found
+  pub unnamed : (r : SearchAddress) → stage_of w.trace ≡ Unnamed r → ⊥
+  pub withdrawn : (r : SearchAddress) (c : ℕ) → stage_of w.trace ≡ Withdrawn r c
+      → (c ≡ b) × (value_of r ≡ n)
 
 -- what holds where a close is begun
 pub record Closes (w : Work) (e : End) : Type 0 where

@@ -3,7 +3,7 @@ ghost use Rattle.dali_frame.specs.Random.{value_of, MASK24};
 ghost use Rattle.dali_frame.specs.declared.numbers.SearchAddress.{SearchAddress};
 ghost use Rattle.dali_frame.specs.declared.frames.Answer.TheVariants.{Silence};
 ghost use Rattle.dali_script.specs.declared.stage.Stage.TheVariants as stage;
-ghost use Rattle.dali_script.specs.Records.{Fits, IsFresh, HasAddress, HasRandom, with_record};
+ghost use Rattle.dali_script.specs.Records.{Fits, IsFresh, Has, HasAddress, HasRandom, with_record};
 ghost use Rattle.dali_enrol.specs.Table.{with_entry};
 ghost use Rattle.dali_search.specs.declared.step.Step.TheVariants as search;
 ghost use Rattle.dali_script.specs.declared.orders.Input.TheVariants as input;
@@ -38,7 +38,7 @@ fn is_yes(heard: Answer) -> bool
 }
 
 impl Work {
-    ghost use Rattle.dali_controller.specs.Moments.{machine_of, turn_of, IsFine, IsHeard, IsBetween, Closes, IsNext};
+    ghost use Rattle.dali_controller.specs.Moments.{machine_of, turn_of, IsFine, IsHeard, IsBetween, Closes, Settles, IsNext};
     ghost use Rattle.dali_controller.specs.Moments.{IsStep};
 
     /// The start: visits to what is unfinished, and then an opening.
@@ -172,8 +172,10 @@ impl Work {
             Stage::Opened => self.all_drawn(),
             Stage::Probed(_, heard) => self.probed(heard),
             Stage::Unnamed(number) => self.unnamed(number),
-            Stage::Unanswered(_) | Stage::Inconclusive(..) => self.silenced(),
-            Stage::Withdrawn(number, short) => self.settle(number, short),
+            Stage::Unanswered(number) => self.unanswered(number),
+            Stage::Inconclusive(..) => self.silenced(),
+            Stage::Withdrawn(number, short) => self.withdrawn(number, short),
+            Stage::Spelled(short, number) => self.resolved(short, number),
             _ => unreachable!(),
         }
     }
@@ -188,7 +190,9 @@ impl Work {
     {
         match self.purpose {
             Purpose::Closing(end) => self.done(end),
-            Purpose::Opening | Purpose::Probing | Purpose::Visiting => unreachable!(),
+            Purpose::Opening | Purpose::Probing | Purpose::Visiting | Purpose::Resolving(_) => {
+                unreachable!()
+            }
         }
     }
 
@@ -243,6 +247,58 @@ impl Work {
         }
     }
 
+    /// The gear at this number did not answer. In the visits before the opening it may be disabled, and have the short
+    /// address that is reserved for it already: that is asked for its random address.
+    fn unanswered(&mut self, number: SearchAddress) -> Order
+        requires { IsHeard self.old (stage.Unanswered number) }
+
+        ensures next { IsNext (machine_of self.old) result (machine_of self.new) }
+        ensures fine { IsFine self.new }
+    {
+        match self.kept.reserved_for(number.value()) {
+            Some(short) if !self.opened => self.resolve(short, number),
+            _ => self.silenced(),
+        }
+    }
+
+    /// The transaction that asks the gear with a short address for its random address.
+    #[tactic(auto, using(crate::proofs::Steps::resolves))]
+    fn resolve(&mut self, short: Short, number: SearchAddress) -> Order
+        requires heard { IsHeard self.old (stage.Unanswered number) }
+        requires early { self.old.opened ≡ false }
+        requires reserved { Has self.old.kept.reserved (short, value_of number) }
+
+        ensures next { IsNext (machine_of self.old) result (machine_of self.new) }
+        ensures fine { IsFine self.new }
+    {
+        self.begin(Purpose::Resolving(short), number)
+    }
+
+    /// The gear with this short address told its random address, or one of the three bytes was not heard.
+    #[tactic(auto, using(crate::proofs::Steps::settles_resolved))]
+    fn resolved(&mut self, short: Short, number: Option<Random24>) -> Order
+        requires { IsHeard self.old (stage.Spelled short number) }
+
+        ensures next { IsNext (machine_of self.old) result (machine_of self.new) }
+        ensures fine { IsFine self.new }
+    {
+        match number {
+            Some(random) if random == self.number.value() => self.settle(short, random),
+            _ => self.go_on(),
+        }
+    }
+
+    /// The gear at this number has this short address, and was withdrawn.
+    #[tactic(auto, using(crate::proofs::Steps::settles_withdrawn))]
+    fn withdrawn(&mut self, number: SearchAddress, short: Short) -> Order
+        requires { IsHeard self.old (stage.Withdrawn number short) }
+
+        ensures next { IsNext (machine_of self.old) result (machine_of self.new) }
+        ensures fine { IsFine self.new }
+    {
+        self.settle(short, number.value())
+    }
+
     /// The visit led to no gear.
     fn silenced(&mut self) -> Order
         requires { (number : SearchAddress)
@@ -259,14 +315,13 @@ impl Work {
         }
     }
 
-    /// The gear at this number has this short address, and was withdrawn.
-    fn settle(&mut self, number: SearchAddress, short: Short) -> Order
-        requires { IsHeard self.old (stage.Withdrawn number short) }
+    /// The gear with this short address and this random address was found.
+    fn settle(&mut self, short: Short, random: Random24) -> Order
+        requires { Settles self.old short random }
 
         ensures next { IsNext (machine_of self.old) result (machine_of self.new) }
         ensures fine { IsFine self.new }
     {
-        let random = number.value();
         match self.table.by_address(short) {
             Some(enrolled) if enrolled == random => self.go_on(),
             Some(_) => self.halt(Fault::Conflict),

@@ -1,9 +1,9 @@
 ghost use Rattle.std.specs.Prelude.{◌≡◌};
 ghost use Rattle.dali_controller.specs.Moments.{search_turn};
 
-use dali_frame::SearchAddress;
+use dali_frame::{SearchAddress, Short};
 use dali_script::{End, Stage};
-use dali_special::{Command, Target};
+use dali_special::{Command, Part, Target};
 
 /// What the running transaction is for. How far it is, its trace says.
 #[derive(Clone, Copy)]
@@ -14,6 +14,9 @@ pub(crate) enum Purpose {
     Probing,
     /// To find the gear at a number, and to program it where it has no short address.
     Visiting,
+    /// To ask the gear with a short address for its random address, where the gear with the random address that it is
+    /// reserved for did not answer.
+    Resolving(Short),
     /// To end the initialisation of all gear, and then to end so.
     Closing(End),
 }
@@ -27,17 +30,18 @@ impl Purpose {
     {
         match self {
             Purpose::Closing(end) => Some(end),
-            Purpose::Opening | Purpose::Probing | Purpose::Visiting => None,
+            Purpose::Opening | Purpose::Probing | Purpose::Visiting | Purpose::Resolving(_) => None,
         }
     }
 
     /// The first command of the transaction.
-    pub(crate) fn first(self, number: SearchAddress) -> Command
-        ensures { result ≡ first_of self number }
+    pub(crate) fn first(&self, number: SearchAddress) -> Command
+        ensures { result ≡ first_of self.now number }
     {
-        match self {
+        match *self {
             Purpose::Opening | Purpose::Closing(_) => Command::Terminate,
             Purpose::Probing | Purpose::Visiting => Command::SearchHigh(number.high),
+            Purpose::Resolving(short) => Command::RandomByte(short, Part::High),
         }
     }
 
@@ -61,6 +65,11 @@ impl Purpose {
                 Stage::NumberSent(_) | Stage::Programmed(..) => Some(Command::QueryShort),
                 Stage::Found(..) | Stage::Confirmed(..) => Some(Command::Withdraw),
                 _ => search_turn(number, stage),
+            },
+            Purpose::Resolving(_) => match *stage {
+                Stage::HighAsked(short, _) => Some(Command::RandomByte(short, Part::Middle)),
+                Stage::MiddleAsked(short, _) => Some(Command::RandomByte(short, Part::Low)),
+                _ => None,
             },
             Purpose::Closing(_) => None,
         }

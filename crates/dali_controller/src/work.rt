@@ -128,11 +128,11 @@ impl Work {
         ensures next { IsNext (machine_of self.old) result (machine_of self.new) }
         ensures fine { IsFine self.new }
     {
+        let priority = Priority::FIRST;
+        let frame = purpose.first(number).write();
         self.trace = Trace::new();
         self.purpose = purpose;
         self.number = number;
-        let priority = Priority::FIRST;
-        let frame = purpose.first(number).write();
         self.last = Some(Order::Put(priority, frame));
         Order::Put(priority, frame)
     }
@@ -141,7 +141,7 @@ impl Work {
     pub(crate) fn commit(&mut self, added: Record) -> Order
         requires table { self.old.table ≡ table_of self.old.kept }
         requires ready { IsReady self.old }
-        requires visiting { self.old.purpose ≡ purpose.Visiting }
+        requires going { closing_of self.old.purpose ≡ None }
         requires fits { Fits self.old.kept.block added }
         requires fresh { IsFresh self.old.kept added }
 

@@ -1,7 +1,7 @@
 //! One trouble in a commissioning: answers that are lost or damaged, frames that are destroyed or collide, lapses,
 //! gear that lose their power or their initialisation.
 
-use super::story::plays;
+use super::story::{plays, plays_parts};
 use std::test::Fail;
 
 #[test]
@@ -58,8 +58,9 @@ fn a_lapse_empties_the_owner_s_queue(rt: HostRuntime) -> Result<(), Fail> {
 }
 
 #[test]
-fn gear_that_lose_power_after_program_are_no_longer_asked(rt: HostRuntime) -> Result<(), Fail> {
-    // The gear keeps address 0 and is disabled, so neither the search nor the visit of the restart is answered.
+fn gear_that_lose_power_after_program_are_found_by_a_restart(rt: HostRuntime) -> Result<(), Fail> {
+    // The gear keeps address 0 and is disabled, so neither the search nor the visit of the restart is answered; the
+    // queries of its random address are.
     plays(
         &rt,
         "site 1 0-3
@@ -74,8 +75,58 @@ fn gear_that_lose_power_after_program_are_no_longer_asked(rt: HostRuntime) -> Re
          > table 0:
          down 0 > ok
          up 0 > ok
-         run 1000 > 0: done all-found
-         > ran 14",
+         run 1000 > 0: commit enrol 0 123456
+         > 0: done all-found
+         > ran 17",
+    )
+}
+
+/// A gear that went off just after PROGRAM SHORT ADDRESS, and whose controller was restarted since.
+const PROGRAMMED_AND_OFF: &str = "site 1 0-3
+                                  draws 123456
+                                  run 115 > 0: commit reserve 0 123456
+                                  > ran 114
+                                  off 0 > ok
+                                  run 1000 > 0: done all-found
+                                  > ran 6
+                                  on 0 > ok
+                                  down 0 > ok
+                                  up 0 > ok";
+
+/// Then nothing is found of it.
+const NOT_FOUND: &str = "run 1000 > 0: done all-found
+                         > ran 10
+                         show > gear 0 on disabled 123456 FFFFFF 0
+                         > table 0:";
+
+#[test]
+fn a_random_address_is_told_by_all_three_bytes(rt: HostRuntime) -> Result<(), Fail> {
+    plays_parts(
+        &rt,
+        &[
+            (PROGRAMMED_AND_OFF, 1),
+            (
+                "run 6 > ran 6
+              go 0 > 0: put 1 01C4
+              pump lost > 0: sent 01C4 silence",
+                1,
+            ),
+            (NOT_FOUND, 1),
+        ],
+    )?;
+    plays_parts(
+        &rt,
+        &[
+            (PROGRAMMED_AND_OFF, 1),
+            (
+                "run 5 > ran 5
+              go 0 > 0: put 1 01C3
+              pump noise > 0: sent 01C3 damaged
+              run 1 > ran 1",
+                1,
+            ),
+            (NOT_FOUND, 1),
+        ],
     )
 }
 
