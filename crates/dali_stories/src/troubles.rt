@@ -2,6 +2,7 @@
 //! gear that lose their power or their initialisation.
 
 use super::story::{plays, plays_parts};
+use std::process::Abort;
 use std::test::Fail;
 
 #[test]
@@ -99,34 +100,111 @@ const NOT_FOUND: &str = "run 1000 > 0: done all-found
                          show > gear 0 on disabled 123456 FFFFFF 0
                          > table 0:";
 
+/// Or it is enrolled after all.
+const FOUND: &str = "run 1000 > 0: commit enrol 0 123456
+                     > 0: done all-found
+                     > ran 13
+                     show > gear 0 on disabled 123456 FFFFFF 0
+                     > table 0: 0=123456";
+
+/// What happens to the three queries of its random address, and what comes of it.
+fn resolves<R: Abort + AllocGlobal>(rt: &R, story: &str, end: &str) -> Result<(), Fail> {
+    plays_parts(rt, &[(PROGRAMMED_AND_OFF, 1), (story, 1), (end, 1)])
+}
+
 #[test]
-fn a_random_address_is_told_by_all_three_bytes(rt: HostRuntime) -> Result<(), Fail> {
-    plays_parts(
+fn a_byte_of_a_random_address_is_lost(rt: HostRuntime) -> Result<(), Fail> {
+    let high = "run 4 > ran 4
+                go 0 > 0: put 3 01C2
+                pump lost > 0: sent 01C2 silence
+                run 2 > ran 2";
+    resolves(&rt, high, NOT_FOUND)?;
+    let middle = "run 5 > ran 5
+                  go 0 > 0: put 1 01C3
+                  pump lost > 0: sent 01C3 silence
+                  run 1 > ran 1";
+    resolves(&rt, middle, NOT_FOUND)?;
+    let low = "run 6 > ran 6
+               go 0 > 0: put 1 01C4
+               pump lost > 0: sent 01C4 silence";
+    resolves(&rt, low, NOT_FOUND)
+}
+
+#[test]
+fn a_byte_of_a_random_address_is_damaged(rt: HostRuntime) -> Result<(), Fail> {
+    let high = "run 4 > ran 4
+                go 0 > 0: put 3 01C2
+                pump noise > 0: sent 01C2 damaged
+                run 2 > ran 2";
+    resolves(&rt, high, NOT_FOUND)?;
+    let middle = "run 5 > ran 5
+                  go 0 > 0: put 1 01C3
+                  pump noise > 0: sent 01C3 damaged
+                  run 1 > ran 1";
+    resolves(&rt, middle, NOT_FOUND)?;
+    let low = "run 6 > ran 6
+               go 0 > 0: put 1 01C4
+               pump noise > 0: sent 01C4 damaged";
+    resolves(&rt, low, NOT_FOUND)
+}
+
+#[test]
+fn a_query_of_a_random_address_is_destroyed(rt: HostRuntime) -> Result<(), Fail> {
+    // All three are sent again.
+    let high = "run 4 > ran 4
+                go 0 > 0: put 3 01C2
+                pump destroyed - > 0: destroyed 01C2";
+    resolves(&rt, high, FOUND)?;
+    let middle = "run 5 > ran 5
+                  go 0 > 0: put 1 01C3
+                  pump destroyed 0 > 0: destroyed 01C3";
+    resolves(&rt, middle, FOUND)?;
+    let low = "run 6 > ran 6
+               go 0 > 0: put 1 01C4
+               pump destroyed - > 0: destroyed 01C4";
+    resolves(&rt, low, FOUND)
+}
+
+#[test]
+fn the_bus_lapses_among_queries_of_a_random_address(rt: HostRuntime) -> Result<(), Fail> {
+    let after_high = "run 5 > ran 5
+                      lapse > lapse 0";
+    resolves(&rt, after_high, FOUND)?;
+    let after_middle = "run 6 > ran 6
+                        lapse > lapse 0";
+    resolves(&rt, after_middle, FOUND)
+}
+
+#[test]
+fn of_two_gear_that_lost_power_one_is_still_off(rt: HostRuntime) -> Result<(), Fail> {
+    // Each lost its power just after it was programmed. The one that is off is found by a later restart.
+    plays(
         &rt,
-        &[
-            (PROGRAMMED_AND_OFF, 1),
-            (
-                "run 6 > ran 6
-              go 0 > 0: put 1 01C4
-              pump lost > 0: sent 01C4 silence",
-                1,
-            ),
-            (NOT_FOUND, 1),
-        ],
-    )?;
-    plays_parts(
-        &rt,
-        &[
-            (PROGRAMMED_AND_OFF, 1),
-            (
-                "run 5 > ran 5
-              go 0 > 0: put 1 01C3
-              pump noise > 0: sent 01C3 damaged
-              run 1 > ran 1",
-                1,
-            ),
-            (NOT_FOUND, 1),
-        ],
+        "site 2 0-3
+         draws 123456 654321
+         run 115 > 0: commit reserve 0 123456
+         > ran 114
+         off 0 > ok
+         run 111 > 0: commit reserve 1 654321
+         > ran 110
+         off 1 > ok
+         run 1000 > 0: done all-found
+         > ran 6
+         on 1 > ok
+         down 0 > ok
+         up 0 > ok
+         run 1000 > 0: commit enrol 1 654321
+         > 0: done all-found
+         > ran 24
+         on 0 > ok
+         down 0 > ok
+         up 0 > ok
+         run 1000 > 0: commit enrol 0 123456
+         > 0: done all-found
+         > ran 17
+         show > gear 0 on disabled 123456 FFFFFF 0
+         > gear 1 on disabled 654321 FFFFFF 1
+         > table 0: 1=654321 0=123456",
     )
 }
 

@@ -411,6 +411,26 @@ fn visits_enrol_what_they_hear(rt: HostRuntime) -> Result<(), Fail> {
     Ok(())
 }
 
+/// The gear of a visit does not answer. The queries of the gear with its address are answered by these bytes.
+fn resolves<R: Abort + AllocGlobal>(rt: &R, bytes: [u8; 3], wanted: Ordered) -> Result<(), Fail> {
+    let asked = [
+        (SILENCE, Put(3, 0x03C2)),
+        (byte(bytes[0]), Put(1, 0x03C3)),
+        (byte(bytes[1]), Put(1, 0x03C4)),
+        (byte(bytes[2]), wanted),
+    ];
+    plays(rt, (0, 3), &[Reserve(1, 0x123456)], 0, &[&VISIT, &asked])
+}
+
+/// It is enrolled where the three bytes are its number. With another number the machine goes on to the opening.
+#[test]
+fn a_random_address_is_the_one_visited(rt: HostRuntime) -> Result<(), Fail> {
+    resolves(&rt, [0x12, 0x34, 0x56], Commit(Enrol(1, 0x123456)))?;
+    resolves(&rt, [0x13, 0x34, 0x56], Put(3, 0xA100))?;
+    resolves(&rt, [0x12, 0x35, 0x56], Put(3, 0xA100))?;
+    resolves(&rt, [0x12, 0x34, 0x57], Put(3, 0xA100))
+}
+
 /// A visit at the start, with 1 reserved for 123456, hears this address, where another gear is enrolled.
 fn settles<R: Abort + AllocGlobal>(
     rt: &R,

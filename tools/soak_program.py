@@ -1,0 +1,761 @@
+"""The program of tools/soak, as text."""
+
+FILES = {
+    "src/main.rt": r"""//! Four controllers commission gear, while the bus's thread takes them down and up at random.
+//!
+//! The program is given a seed, plays one site in sessions, and looks at it after each of them.
+//! In a session each controller has a worker, over a line round the site. A controller that is down when a session
+//! begins may be brought up in it, with what its store read before. One that is taken down stays down to the end of the
+//! session, since its worker may be at a commit; where that worker is refused for it, it stops the line.
+#![tactic(auto)]
+
+ghost use Rattle.std.specs.Prelude.{◌≡◌, ◌<◌};
+
+mod listed;
+
+use arrayvec::ArrayVec;
+use dali_enrol::Directory;
+use dali_line::{Bus, Driver, Line, OpenGate, Outcome, Port, Ready, Worker};
+use dali_reserve::Keep;
+use dali_script::{Block, Kept};
+use dali_sqlite::SqliteKeep;
+use dali_world::{Event, Plan, SiteState, Trouble};
+use listed::{Listed, ListedBus};
+use sqlite::MemStore;
+use std::alloc::Global;
+use std::env;
+use std::marker::Brand;
+use std::process::ExitCode;
+use std::sync::Wait;
+use std::sync::ledger::{Blank, Ledger};
+use std::thread::{Threads, join};
+
+const GEAR: u32 = 48;
+
+const BLOCKS: [(u8, u8); 4] = [(0, 15), (16, 31), (32, 47), (48, 63)];
+
+/// How many turns a worker may take in a session, and the bus's thread.
+const TURNS: u32 = 100_000;
+
+const SESSIONS: u32 = 100;
+
+/// A log that is longer gets no further session.
+const LONG: usize = 50_000;
+
+type Database = SqliteKeep<MemStore>;
+
+/// What is wrong, or why a run could not go on.
+struct Wrong(&'static str);
+
+type Four<T> = (T, T, T, T);
+
+/// Numbers at random, by a linear congruence.
+#[derive(Clone, Copy)]
+struct Chance {
+    state: u64,
+}
+
+impl Chance {
+    /// A number below this one, which is not 0.
+    fn below(&mut self, count: u32) -> u32 {
+        self.state = self
+            .state
+            .wrapping_mul(6_364_136_223_846_793_005)
+            .wrapping_add(1_442_695_040_888_963_407);
+        let number = (self.state >> 33) as u32;
+        number.checked_rem(count).unwrap_or(0)
+    }
+}
+
+/// What the bus's thread does to controllers.
+#[derive(Clone, Copy)]
+struct Turnover {
+    chance: Chance,
+    /// Which controllers are down.
+    down: [bool; 4],
+    /// Which were down when the session began, and are still.
+    waiting: [bool; 4],
+    downs: usize,
+    ups: usize,
+    /// No controller was refused to go down, or to come up.
+    is_right: bool,
+    /// What each thread noted is what the log has of it.
+    is_logged: bool,
+}
+
+/// A controller of these at random, as a number from 0 to 3.
+fn some_controller(chance: &mut Chance) -> usize {
+    match chance.below(4) {
+        0 => 0,
+        1 => 1,
+        2 => 2,
+        _ => 3,
+    }
+}
+
+fn takes_down<P0: Ledger, P1: Ledger, P2: Ledger, P3: Ledger, D: Ledger, R: Wait>(
+    rt: &R,
+    line: &Line<P0, P1, P2, P3, D>,
+    driver: &mut Listed<Driver<P0, P1, P2, P3, D>>,
+    turnover: &mut Turnover,
+) {
+    let at = some_controller(&mut turnover.chance);
+    if at > 3 || turnover.down[at] {
+        return;
+    }
+    if line.down(rt, &mut driver.inner, at as u8).is_ok() {
+        turnover.down[at] = true;
+        turnover.downs = turnover.downs.saturating_add(1);
+    } else {
+        turnover.is_right = false;
+    }
+}
+
+/// Brings this controller up, if it may be. Whether it was.
+fn brings_up<P0: Ledger, P1: Ledger, P2: Ledger, P3: Ledger, D: Ledger, R: Wait>(
+    rt: &R,
+    alloc: Global,
+    line: &Line<P0, P1, P2, P3, D>,
+    driver: &mut Listed<Driver<P0, P1, P2, P3, D>>,
+    turnover: &mut Turnover,
+    records: &[Kept],
+    at: usize,
+) -> bool {
+    if at > 3 || at >= records.len() || !turnover.waiting[at] {
+        return false;
+    }
+    if line
+        .up(rt, &mut driver.inner, alloc, at as u8, &records[at])
+        .is_ok()
+    {
+        turnover.down[at] = false;
+        turnover.waiting[at] = false;
+        turnover.ups = turnover.ups.saturating_add(1);
+        true
+    } else {
+        turnover.is_right = false;
+        false
+    }
+}
+
+/// Brings the first controller up that may be. Whether there was one.
+fn brings_one_up<P0: Ledger, P1: Ledger, P2: Ledger, P3: Ledger, D: Ledger, R: Wait>(
+    rt: &R,
+    alloc: Global,
+    line: &Line<P0, P1, P2, P3, D>,
+    driver: &mut Listed<Driver<P0, P1, P2, P3, D>>,
+    turnover: &mut Turnover,
+    records: &[Kept],
+) -> bool {
+    for at in 0..4usize {
+        if brings_up(rt, alloc, line, driver, turnover, records, at) {
+            return true;
+        }
+    }
+    false
+}
+
+/// A controller goes down now and then, or comes up.
+fn turns_over<P0: Ledger, P1: Ledger, P2: Ledger, P3: Ledger, D: Ledger, R: Wait>(
+    rt: &R,
+    alloc: Global,
+    line: &Line<P0, P1, P2, P3, D>,
+    driver: &mut Listed<Driver<P0, P1, P2, P3, D>>,
+    turnover: &mut Turnover,
+    records: &[Kept],
+) {
+    match turnover.chance.below(256) {
+        0 => takes_down(rt, line, driver, turnover),
+        1 | 2 | 3 => {
+            let at = some_controller(&mut turnover.chance);
+            brings_up(rt, alloc, line, driver, turnover, records, at);
+        }
+        _ => {}
+    }
+}
+
+/// The bus's turn, if there is one. Where all controllers are done, one is brought up, or another taken down, and the
+/// session ends. Whether it goes on.
+fn goes_on<P0: Ledger, P1: Ledger, P2: Ledger, P3: Ledger, D: Ledger, R: Wait>(
+    rt: &R,
+    alloc: Global,
+    line: &Line<P0, P1, P2, P3, D>,
+    driver: &mut Listed<Driver<P0, P1, P2, P3, D>>,
+    turnover: &mut Turnover,
+    records: &[Kept],
+) -> bool {
+    match line.ready(rt, &mut driver.inner) {
+        Ready::Stopped => false,
+        Ready::Over => {
+            let goes_on = brings_one_up(rt, alloc, line, driver, turnover, records);
+            if !goes_on {
+                takes_down(rt, line, driver, turnover);
+            }
+            goes_on
+        }
+        Ready::Next => {
+            let bus = ListedBus { bus: line };
+            bus.pump(rt, driver, Trouble::None).is_ok()
+        }
+    }
+}
+
+/// The bus has its turns, and controllers go down and come up. In the end the line is stopped.
+fn drives<P0: Ledger, P1: Ledger, P2: Ledger, P3: Ledger, D: Ledger, R: Wait>(
+    rt: &R,
+    alloc: Global,
+    line: &Line<P0, P1, P2, P3, D>,
+    driver: Listed<Driver<P0, P1, P2, P3, D>>,
+    turnover: Turnover,
+    records: &[Kept],
+) -> (Listed<Driver<P0, P1, P2, P3, D>>, Turnover) {
+    let mut driver = driver;
+    let mut turnover = turnover;
+    for _ in 0..TURNS {
+        if !goes_on(rt, alloc, line, &mut driver, &mut turnover, records) {
+            break;
+        }
+        turns_over(rt, alloc, line, &mut driver, &mut turnover, records);
+    }
+    line.stop(rt);
+    (driver, turnover)
+}
+
+/// What a worker leaves: how it ended, its port, and its store.
+type Left<P> = (Outcome, P, Database);
+
+fn works<B: Bus, R: Wait>(
+    rt: &R,
+    alloc: Global,
+    bus: &B,
+    directory: &Directory,
+    worker: Worker<B::Port, Database, OpenGate>,
+) -> Left<B::Port> {
+    match directory.pass(alloc) {
+        Ok(pass) => {
+            let (outcome, port, keep, _) = worker.run(rt, alloc, bus, directory, pass, TURNS);
+            (outcome, port, keep)
+        }
+        Err(_) => {
+            bus.stop(rt);
+            (Outcome::NoMemory, worker.port, worker.keep)
+        }
+    }
+}
+
+type Listing<P0, P1, P2, P3, D> = Listed<Port<P0, P1, P2, P3, D>>;
+
+type Driving<P0, P1, P2, P3, D> = (Listed<Driver<P0, P1, P2, P3, D>>, Turnover);
+
+/// Four workers and the bus's thread run.
+fn all_run<P0, P1, P2, P3, D, R>(
+    rt: &R,
+    alloc: Global,
+    line: &Line<P0, P1, P2, P3, D>,
+    directory: &Directory,
+    workers: Four<Worker<Listing<P0, P1, P2, P3, D>, Database, OpenGate>>,
+    driving: Driving<P0, P1, P2, P3, D>,
+    records: &[Kept],
+) -> (
+    Four<Left<Listing<P0, P1, P2, P3, D>>>,
+    Driving<P0, P1, P2, P3, D>,
+)
+where
+    P0: Ledger + Send + Sync,
+    P1: Ledger + Send + Sync,
+    P2: Ledger + Send + Sync,
+    P3: Ledger + Send + Sync,
+    D: Ledger + Send + Sync,
+    R: Threads + Wait + Sync,
+{
+    let (first, second, third, fourth) = workers;
+    let (driver, turnover) = driving;
+    let listing = ListedBus { bus: line };
+    let bus = &listing;
+    let ((one, two), (three, (four, drove))) = join(
+        rt,
+        move || {
+            join(
+                rt,
+                move || works(rt, alloc, bus, directory, first),
+                move || works(rt, alloc, bus, directory, second),
+            )
+        },
+        move || {
+            join(
+                rt,
+                move || works(rt, alloc, bus, directory, third),
+                move || {
+                    join(
+                        rt,
+                        move || works(rt, alloc, bus, directory, fourth),
+                        move || drives(rt, alloc, line, driver, turnover, records),
+                    )
+                },
+            )
+        },
+    );
+    ((one, two, three, four), drove)
+}
+
+/// A port or a driver with an empty list.
+fn noting<T>(alloc: Global, inner: T) -> Listed<T> {
+    Listed {
+        inner,
+        list: Vec::new(alloc),
+        is_whole: true,
+    }
+}
+
+/// The list is whole, and is what these events have of this kind.
+fn is_logged<T>(events: &[Event], listed: &Listed<T>, owner: u8) -> bool {
+    let mut rest = listed.list.iter();
+    for event in events {
+        if owner_of(event) == owner && rest.next() != Some(event) {
+            return false;
+        }
+    }
+    listed.is_whole && rest.next().is_none()
+}
+
+/// Whose event this is: a controller's, 4 for a frame of the bus, 5 for a controller that went down and 6 for one that
+/// came up.
+fn owner_of(event: &Event) -> u8 {
+    match event {
+        Event::Acted(c, ..) => *c,
+        Event::Sent(..) => 4,
+        Event::Down(_) => 5,
+        Event::Up(..) => 6,
+        _ => 7,
+    }
+}
+
+fn is_of_down(event: &&Event) -> bool {
+    owner_of(event) == 5
+}
+
+fn is_of_up(event: &&Event) -> bool {
+    owner_of(event) == 6
+}
+
+fn is_of_another(event: &&Event) -> bool {
+    owner_of(event) == 7
+}
+
+/// Each worker's list is what these events have in its controller's name.
+fn are_logged<P>(events: &[Event], left: &Four<Left<Listed<P>>>) -> bool {
+    is_logged(events, &left.0.1, 0)
+        && is_logged(events, &left.1.1, 1)
+        && is_logged(events, &left.2.1, 2)
+        && is_logged(events, &left.3.1, 3)
+}
+
+/// The site after a session, the stores of its controllers, and what became of them.
+#[derive(Drop)]
+struct Played {
+    site: SiteState,
+    keeps: Four<Database>,
+    turnover: Turnover,
+}
+
+/// A session. It is right only where what each thread noted is what the log has of it.
+fn session<P0, P1, P2, P3, D, R>(
+    rt: &R,
+    alloc: Global,
+    played: Played,
+    blanks: Blanks,
+    directory: &Directory,
+    records: &[Kept],
+) -> Played
+where
+    P0: Ledger + Send + Sync,
+    P1: Ledger + Send + Sync,
+    P2: Ledger + Send + Sync,
+    P3: Ledger + Send + Sync,
+    D: Ledger + Send + Sync,
+    R: Threads + Wait + Sync,
+    requires first { (blanks.0.name ≡ P0.name) × (blanks.0.parts ≡ P0.parts) × (0 < P0.parts) }
+    requires second { (blanks.1.name ≡ P1.name) × (blanks.1.parts ≡ P1.parts) × (0 < P1.parts) }
+    requires third { (blanks.2.name ≡ P2.name) × (blanks.2.parts ≡ P2.parts) × (0 < P2.parts) }
+    requires fourth { (blanks.3.name ≡ P3.name) × (blanks.3.parts ≡ P3.parts) × (0 < P3.parts) }
+    requires driver { (blanks.4.name ≡ D.name) × (blanks.4.parts ≡ D.parts) × (0 < D.parts) }
+{
+    let Played {
+        site,
+        keeps,
+        turnover,
+    } = played;
+    let begun = site.log().len();
+    let (first, second, third, fourth, driver) = blanks;
+    let (line, ports, driver) = Line::<P0, P1, P2, P3, D>::new(
+        site, first, second, third, fourth, driver,
+    );
+    let mut ports = ports.into_iter();
+    let ports = (
+        ports.next().unwrap_or_default(),
+        ports.next().unwrap_or_default(),
+        ports.next().unwrap_or_default(),
+        ports.next().unwrap_or_default(),
+    );
+    let workers = workers_of(alloc, ports, keeps);
+    let driving = (noting(alloc, driver), turnover);
+    let (left, drove) = all_run(rt, alloc, &line, directory, workers, driving, records);
+    let (driver, turnover) = drove;
+    let Listed {
+        inner,
+        list,
+        is_whole,
+    } = driver;
+    let site = line.close(ArrayVec::new(), inner);
+    let drove = Listed {
+        inner: (),
+        list,
+        is_whole,
+    };
+    let events = site.log().get(begun..).unwrap_or(&[]);
+    let is_right = is_logged(events, &drove, 4) && are_logged(events, &left);
+    let mut turnover = turnover;
+    turnover.is_logged = turnover.is_logged && is_right;
+    let (one, two, three, four) = left;
+    Played {
+        site,
+        keeps: (one.2, two.2, three.2, four.2),
+        turnover,
+    }
+}
+
+/// A worker for each port and store.
+fn workers_of<P: Drop>(
+    alloc: Global,
+    ports: Four<P>,
+    keeps: Four<Database>,
+) -> Four<Worker<Listed<P>, Database, OpenGate>> {
+    (
+        Worker::new(noting(alloc, ports.0), keeps.0, OpenGate),
+        Worker::new(noting(alloc, ports.1), keeps.1, OpenGate),
+        Worker::new(noting(alloc, ports.2), keeps.2, OpenGate),
+        Worker::new(noting(alloc, ports.3), keeps.3, OpenGate),
+    )
+}
+
+/// The right to make the five ledgers of a line.
+type Blanks = (Blank, Blank, Blank, Blank, Blank);
+
+fn blanks() -> Blanks
+    ensures first { 0 < result.0.parts }
+    ensures second { 0 < result.1.parts }
+    ensures third { 0 < result.2.parts }
+    ensures fourth { 0 < result.3.parts }
+    ensures driver { 0 < result.4.parts }
+{
+    (
+        Blank::new(1),
+        Blank::new(1),
+        Blank::new(1),
+        Blank::new(1),
+        Blank::new(1),
+    )
+}
+
+/// Whether a gear has this short and this random address.
+fn is_named(site: &SiteState, entry: &(dali_frame::Short, dali_frame::Random24)) -> bool {
+    for number in 0..site.plan().gear() {
+        let gear = site.gear(number);
+        if gear.short() == Some(entry.0) {
+            return gear.random() == entry.1;
+        }
+    }
+    false
+}
+
+/// No two gear have one short address.
+fn are_apart(site: &SiteState) -> bool {
+    for one in 0..site.plan().gear() {
+        for other in 0..one {
+            let short = site.gear(one).short();
+            if short.is_some() && site.gear(other).short() == short {
+                return false;
+            }
+        }
+    }
+    true
+}
+
+/// Each enrolment of a controller names a gear, and its store has what the site keeps, or one record more.
+fn is_true(site: &SiteState, c: u8, stored: &Kept) -> bool {
+    if usize::from(c) >= site.plan().blocks().len() {
+        return false;
+    }
+    let kept = site.kept(c);
+    let more = stored.reserved().len() > kept.reserved().len()
+        || stored.enrolled().len() > kept.enrolled().len();
+    if !more && !stored.same(kept) {
+        return false;
+    }
+    for entry in kept.enrolled() {
+        if !is_named(site, entry) {
+            return false;
+        }
+    }
+    true
+}
+
+fn read(alloc: Global, keep: &mut Database) -> Result<Kept, Wrong> {
+    match keep.read(alloc) {
+        Ok(kept) => Ok(kept),
+        Err(_) => Err(Wrong("a store is not read")),
+    }
+}
+
+fn reads(alloc: Global, keeps: &mut Four<Database>, records: &mut Vec<Kept>) -> Result<(), Wrong> {
+    let one = read(alloc, &mut keeps.0)?;
+    adds(records, one)?;
+    let two = read(alloc, &mut keeps.1)?;
+    adds(records, two)?;
+    let three = read(alloc, &mut keeps.2)?;
+    adds(records, three)?;
+    let four = read(alloc, &mut keeps.3)?;
+    adds(records, four)
+}
+
+fn adds(records: &mut Vec<Kept>, kept: Kept) -> Result<(), Wrong> {
+    match records.push(kept) {
+        Ok(()) => Ok(()),
+        Err(_) => Err(Wrong("memory")),
+    }
+}
+
+/// The site is as it must be, and so are the stores.
+fn looks(site: &SiteState, records: &[Kept], turnover: &Turnover) -> Result<(), Wrong> {
+    if !turnover.is_right {
+        return Err(Wrong("a controller is refused to go down, or to come up"));
+    }
+    if !turnover.is_logged {
+        return Err(Wrong("a list and the log"));
+    }
+    if site.log().iter().filter(is_of_down).count() != turnover.downs
+        || site.log().iter().filter(is_of_up).count() != turnover.ups
+    {
+        return Err(Wrong("the log and how often controllers went down and came up"));
+    }
+    if site.log().iter().filter(is_of_another).count() != 0 {
+        return Err(Wrong("an event of nobody"));
+    }
+    if !are_apart(site) {
+        return Err(Wrong("two gear with one short address"));
+    }
+    let mut c = 0u8;
+    for stored in records {
+        if !is_true(site, c, stored) {
+            return Err(Wrong("a table, or a store"));
+        }
+        c = c.saturating_add(1);
+    }
+    Ok(())
+}
+
+/// One session more, with a look at the site after it.
+fn goes_further<R: Threads + Wait + Sync>(
+    rt: &R,
+    alloc: Global,
+    played: Played,
+    records: &mut Vec<Kept>,
+) -> Result<Played, Wrong> {
+    let Ok(directory) = Directory::new(alloc) else {
+        return Err(Wrong("memory"));
+    };
+    let mut played = played;
+    let down = played.turnover.down;
+    played.turnover.waiting = down;
+    let blanks = blanks();
+    let mut played = session::<Brand, Brand, Brand, Brand, Brand, R>(
+        rt, alloc, played, blanks, &directory, records,
+    );
+    records.clear();
+    reads(alloc, &mut played.keeps, records)?;
+    looks(&played.site, records, &played.turnover)?;
+    Ok(played)
+}
+
+fn store(alloc: Global, blocks: &[Block], at: usize) -> Result<Database, Wrong> {
+    let Some(block) = blocks.get(at) else {
+        return Err(Wrong("a block is missing"));
+    };
+    match SqliteKeep::in_memory(alloc, *block) {
+        Ok(keep) => Ok(keep),
+        Err(_) => Err(Wrong("memory")),
+    }
+}
+
+fn stores(alloc: Global, blocks: &[Block]) -> Result<Four<Database>, Wrong> {
+    let one = store(alloc, blocks, 0)?;
+    let two = store(alloc, blocks, 1)?;
+    let three = store(alloc, blocks, 2)?;
+    let four = store(alloc, blocks, 3)?;
+    Ok((one, two, three, four))
+}
+
+/// A site whose gear draw different numbers, far apart.
+fn new_site(alloc: Global) -> Result<SiteState, Wrong> {
+    let mut draws = [0u32; 512];
+    for (index, draw) in draws.iter_mut().enumerate() {
+        *draw = index as u32 * 32_719;
+    }
+    let Ok(plan) = Plan::new(alloc, GEAR, &BLOCKS, &draws) else {
+        return Err(Wrong("the plan is refused"));
+    };
+    match SiteState::new(alloc, plan, 65_536, 64) {
+        Ok(site) => Ok(site),
+        Err(_) => Err(Wrong("memory")),
+    }
+}
+
+fn begun(alloc: Global, seed: u64) -> Result<Played, Wrong> {
+    let site = new_site(alloc)?;
+    let keeps = stores(alloc, site.plan().blocks())?;
+    let turnover = Turnover {
+        chance: Chance { state: seed },
+        down: [false; 4],
+        waiting: [false; 4],
+        downs: 0,
+        ups: 0,
+        is_right: true,
+        is_logged: true,
+    };
+    Ok(Played {
+        site,
+        keeps,
+        turnover,
+    })
+}
+
+/// In the end every controller comes up with what its store reads.
+fn comes_up(
+    alloc: Global,
+    site: &mut SiteState,
+    down: [bool; 4],
+    records: &[Kept],
+) -> Result<(), Wrong> {
+    let mut c = 0u8;
+    for (stored, is_down) in records.iter().zip(down) {
+        if !is_down && site.down(c).is_err() {
+            return Err(Wrong("a controller does not go down in the end"));
+        }
+        if site.up(alloc, c, stored).is_err() {
+            return Err(Wrong("a controller does not come up in the end"));
+        }
+        c = c.saturating_add(1);
+    }
+    Ok(())
+}
+
+/// How many gear have a short address.
+fn addressed(site: &SiteState) -> u32 {
+    let mut count = 0u32;
+    for number in 0..site.plan().gear() {
+        if site.gear(number).short().is_some() {
+            count = count.saturating_add(1);
+        }
+    }
+    count
+}
+
+/// What came of a site: sessions, how often controllers went down and came up, events, and gear with a short address.
+#[derive(Clone, Copy)]
+struct Report {
+    sessions: u32,
+    downs: usize,
+    ups: usize,
+    events: usize,
+    addressed: u32,
+}
+
+fn sessions<R: Threads + Wait + Sync>(
+    rt: &R,
+    alloc: Global,
+    first: Played,
+    records: &mut Vec<Kept>,
+) -> Result<(Played, u32), Wrong> {
+    let mut played = first;
+    let mut count = 0u32;
+    for _ in 0..SESSIONS {
+        match goes_further(rt, alloc, played, records) {
+            Ok(next) => played = next,
+            Err(wrong) => return Err(wrong),
+        }
+        count = count.saturating_add(1);
+        if played.site.log().len() > LONG {
+            break;
+        }
+    }
+    Ok((played, count))
+}
+
+fn plays<R: Threads + Wait + Sync>(rt: &R, alloc: Global, seed: u64) -> Result<Report, Wrong> {
+    let mut records = Vec::new(alloc);
+    let (played, count) = sessions(rt, alloc, begun(alloc, seed)?, &mut records)?;
+    let Played {
+        site,
+        keeps: _,
+        turnover,
+    } = played;
+    let mut site = site;
+    let report = Report {
+        sessions: count,
+        downs: turnover.downs,
+        ups: turnover.ups,
+        events: site.log().len(),
+        addressed: addressed(&site),
+    };
+    comes_up(alloc, &mut site, turnover.down, &records)?;
+    Ok(report)
+}
+
+/// The seed that the program is given as its argument; 1, if there is none.
+fn seed(rt: &HostRuntime) -> u64 {
+    let Ok(mut words) = env::args(rt) else {
+        return 1;
+    };
+    let Some(word) = words.nth(1) else {
+        return 1;
+    };
+    word.as_str().parse::<u64>().unwrap_or(1)
+}
+
+fn main(rt: HostRuntime) -> ExitCode {
+    let seed = seed(&rt);
+    match plays(&rt, rt.alloc(), seed) {
+        Ok(report) => {
+            let (sessions, events) = (report.sessions, report.events);
+            let (downs, ups) = (report.downs, report.ups);
+            let addressed = report.addressed;
+            match println!(&rt; "{sessions} {downs} {ups} {events} {addressed}") {
+                Ok(()) => ExitCode::SUCCESS,
+                Err(_) => ExitCode::FAILURE,
+            }
+        }
+        Err(Wrong(what)) => {
+            let _ = println!(&rt; "seed {seed}: {what}");
+            ExitCode::FAILURE
+        }
+    }
+}
+""",
+    "proofs/goes_further/Invariants.antt": r"""use Rattle.soaking.proofs.goes_further.Given as goal
+
+abbrev pub ghosts-session-P0-Ledger : goal.ghosts-session-P0-Ledger
+ghosts-session-P0-Ledger g a = record { name = a.blanks.0.name; parts = a.blanks.0.parts }
+
+abbrev pub ghosts-session-P1-Ledger : goal.ghosts-session-P1-Ledger
+ghosts-session-P1-Ledger g a = record { name = a.blanks.1.name; parts = a.blanks.1.parts }
+
+abbrev pub ghosts-session-P2-Ledger : goal.ghosts-session-P2-Ledger
+ghosts-session-P2-Ledger g a = record { name = a.blanks.2.name; parts = a.blanks.2.parts }
+
+abbrev pub ghosts-session-P3-Ledger : goal.ghosts-session-P3-Ledger
+ghosts-session-P3-Ledger g a = record { name = a.blanks.3.name; parts = a.blanks.3.parts }
+
+abbrev pub ghosts-session-D-Ledger : goal.ghosts-session-D-Ledger
+ghosts-session-D-Ledger g a = record { name = a.blanks.4.name; parts = a.blanks.4.parts }
+""",
+}
