@@ -258,7 +258,7 @@ fn the_first_to_close_ends_the_initialisation_for_all(rt: HostRuntime) -> Result
          > 1: commit reserve 4 200003
          > 1: commit enrol 4 200003
          > 1: done all-found
-         > ran 236
+         > ran 239
          show > gear 0 on disabled 100002 200002 0
          > gear 1 on disabled 100003 FFFFFE 3
          > gear 2 on disabled 200003 FFFFFE 4

@@ -94,8 +94,8 @@ fn the_sixteenth_silent_search_gives_up(rt: HostRuntime) -> Result<(), Fail> {
 
 #[test]
 fn visits_of_the_start_are_no_silent_searches(rt: HostRuntime) -> Result<(), Fail> {
-    // The restarted controller visits 123456, for which it has reserved an address, and hears nobody. Were that visit
-    // counted, the commissioning would give up at the fifteenth silent search after it.
+    // The restarted controller visits 123456, for which it has reserved an address, and hears nobody, nor who has that
+    // address. Were that visit counted, the commissioning would give up at the fifteenth silent search after it.
     plays_parts(
         &rt,
         &[
@@ -108,7 +108,7 @@ fn visits_of_the_start_are_no_silent_searches(rt: HostRuntime) -> Result<(), Fai
                  off 0 > ok
                  down 0 > ok
                  up 0 > ok
-                 run 9 > ran 9",
+                 run 12 > ran 12",
                 1,
             ),
             (SILENT_SEARCH, 16),
