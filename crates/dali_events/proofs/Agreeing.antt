@@ -1,17 +1,30 @@
-use Rattle.std.proofs.Common.{◌≡◌, ℕ, ◌<◌, List, [], ◌∷◌, ◌++◌, refl, sym, ap, subst, ◌∙◌, length}
+use Rattle.std.proofs.Common.{arith, ◌≡◌, ℕ, ◌<◌, ◌==◌, true, List, [], ◌∷◌, ◌++◌, refl, sym, ap, subst, ◌∙◌, length}
+use Rattle.std.proofs.lemmas.Bool.Decides.{nat_tests}
+use Rattle.dali_frame.specs.declared.frames.Forward.{Forward}
+use Rattle.dali_frame.specs.declared.frames.Answer.TheVariants.{Byte}
+use Rattle.dali_frame.specs.Random.{number_of}
+use Rattle.dali_special.specs.declared.command.Command.TheVariants.{RandomByte}
+use Rattle.dali_special.specs.declared.command.Part.TheVariants.{High, Middle, Low}
+use Rattle.dali_special.specs.Command.{command_of}
+use Rattle.dali_arbiter.specs.Arbiter.{owns}
 use Rattle.dali_script.specs.Records.{Assignment, Has}
+use Rattle.dali_script.specs.Findings.{two_bytes, asked_of}
 use Rattle.dali_events.specs.declared.event.Event.{Event}
 use Rattle.dali_events.specs.Plan.{Plan}
 use Rattle.dali_events.specs.World.{World, gear_at, controller_at}
-use Rattle.dali_events.specs.Happens.{happens}
+use Rattle.dali_events.specs.declared.event.Event.TheVariants.{Sent}
+use Rattle.dali_events.specs.Happens.{happens, trace_running, entry}
+use Rattle.dali_events.specs.Allowed.{Allowed}
 use Rattle.dali_events.specs.Runs.{after, after_all, IsRun, AreDrawn}
 use Rattle.dali_events.specs.Promise.{IsEnrolled, NamesGear, Names, IsSafe}
 use Rattle.dali_events.specs.Laws.{GiftsAreReserved, TablesAgree, HasFound, FindingsAgree}
 use Rattle.dali_script.proofs.Members.{same_member}
 use Rattle.dali_events.proofs.Controllers.{controllers_count}
-use Rattle.dali_events.proofs.Reserves.{still_reserved}
+use Rattle.dali_events.proofs.Reserves.{still_reserved, IsReserved}
 use Rattle.dali_events.proofs.Drawn.{drawn_in_front}
-use Rattle.dali_events.proofs.Naming.{SaysFinding}
+use Rattle.dali_events.proofs.Naming.{SaysFinding, resolved_names}
+use Rattle.dali_events.proofs.Resolving.{tells_if}
+use Rattle.dali_events.proofs.Halves.{last_allowed}
 use Rattle.dali_events.proofs.Safe.{Holds, holds_after, safe, run_front}
 
 -- GIFTS STAY RESERVED
@@ -78,3 +91,29 @@ findings_agree p w k d = record {
 pub findings_agree_in : (p : Plan) (capacity : ℕ) (front rest : List Event) → IsRun p capacity (front ++ rest) → FindingsAgree (after p capacity front)
 findings_agree_in p capacity front rest run =
     findings_agree p (after p capacity front) (holds_after p capacity front (run_front p capacity front rest run)) (drawn_in_front p capacity front rest run)
+
+-- A RANDOM ADDRESS IS TOLD BY ITS GEAR
+self : (n : ℕ) → (n == n) ≡ true
+self n = grind (arith, nat_tests)
+
+two_asked : (a high middle : ℕ) (f g : Forward) → command_of f ≡ RandomByte a High → command_of g ≡ RandomByte a Middle
+    → asked_of (entry f (Byte high) ∷ entry g (Byte middle) ∷ []) ≡ two_bytes a high middle
+two_asked a high middle f g first second = rw (first, second, self a) refl
+
+pub told_by_gear : (p : Plan) (capacity : ℕ) (log : List Event) (c a high middle low : ℕ) (f g h : Forward) → IsRun p capacity (log ++ Sent c h (Byte low) ∷ [])
+    → trace_running (after p capacity log) c ≡ entry f (Byte high) ∷ entry g (Byte middle) ∷ []
+    → command_of f ≡ RandomByte a High → command_of g ≡ RandomByte a Middle → command_of h ≡ RandomByte a Low
+    → Names (after p capacity log) (a, number_of high middle low)
+told_by_gear p capacity log c a high middle low f g h run running first second third =
+    let w : World = after p capacity log in
+    let k : Holds p w = holds_after p capacity log (run_front p capacity log (Sent c h (Byte low) ∷ []) run) in
+    let here : Allowed w (Sent c h (Byte low)) = last_allowed p capacity log (Sent c h (Byte low)) run in
+    resolved_names (IsReserved w.controllers) w c h (Byte low) here k.gifts (tells_if (owns w.bus.owner c) w.trace w.gear k.tells) a (number_of high middle low) record {
+      high = high;
+      middle = middle;
+      low = low;
+      query = third;
+      heard = refl;
+      asked = ap asked_of running ∙ two_asked a high middle f g first second;
+      number = refl;
+    }

@@ -11,7 +11,7 @@ use Rattle.dali_special.specs.Command.{command_of}
 use Rattle.dali_gear.specs.declared.state.InitialisationState.TheVariants.{Enabled}
 use Rattle.dali_gear.specs.declared.row.Reach.{Reach}
 use Rattle.dali_gear.specs.declared.row.Reach.TheVariants.{Everyone, Only}
-use Rattle.dali_gear.specs.Gear.{Gear, fresh, YES, is_active, is_enabled, would_draw, gear_taken, answer, short_after}
+use Rattle.dali_gear.specs.Gear.{Gear, fresh, YES, would_draw, answer, short_after}
 use Rattle.dali_gear.specs.Row.{takes, row_after, drawn_of, draws_needed, answers_of}
 use Rattle.dali_arbiter.specs.Arbiter.{owns}
 use Rattle.dali_script.specs.declared.block.Block.{Block}

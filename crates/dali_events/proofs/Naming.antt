@@ -209,7 +209,7 @@ queried_names R w c f h here known gifts a n is =
     let short : (gear_at w who.0).short ≡ Some a = some_of_code (gear_at w who.0).short is.byte a (known.short who.0 who.1) is.short reply.reply in
     names_holder R w gifts who.0 a n who.1 short random
 
-resolved_names : (R : Assignment → Type 0) (w : World) (c : ℕ) (f : Forward) (h : Answer) → Allowed w (event.Sent c f h) → Gifts R w.gear w.drawn w.gifts → Tells (asked_of (trace_running w c)) w.gear
+pub resolved_names : (R : Assignment → Type 0) (w : World) (c : ℕ) (f : Forward) (h : Answer) → Allowed w (event.Sent c f h) → Gifts R w.gear w.drawn w.gifts → Tells (asked_of (trace_running w c)) w.gear
     → (a n : ℕ) → IsResolved (asked_of (trace_running w c)) (command_of f) h a n → Names w (a, n)
 resolved_names R w c f h here gifts tells a n is =
     let two : TellsTwo w.gear a is.high is.middle = subst (λ q. Tells q w.gear) is.asked tells in

@@ -12,7 +12,7 @@ use Rattle.dali_special.specs.declared.command.Command.TheVariants.{Terminate, I
 use Rattle.dali_special.specs.Command.{MASK}
 use Rattle.dali_gear.specs.declared.state.InitialisationState.TheVariants.{Enabled, Withdrawn}
 use Rattle.dali_gear.specs.declared.row.Reach.{Reach}
-use Rattle.dali_gear.specs.Gear.{Gear, fresh, is_active, is_enabled, is_found, is_second, concerns, would_draw, gear_taken, state_after, random_after, short_after, half_after}
+use Rattle.dali_gear.specs.Gear.{Gear, fresh, is_active, is_enabled, is_found, is_second, concerns, would_draw, gear_taken, state_after, short_after, half_after}
 use Rattle.dali_gear.specs.Row.{takes, left_after, row_after, drawn_one, drawn_of, draws_needed}
 use Rattle.dali_script.specs.declared.block.Block.{Block}
 use Rattle.dali_script.specs.declared.stage.Stage.{Stage}

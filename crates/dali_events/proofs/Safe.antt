@@ -20,7 +20,7 @@ use Rattle.dali_events.specs.World.{World, gear_at, controller_at, nobody, start
 use Rattle.dali_events.specs.Happens.{happens, trace_running, entry, goes_on, gear_powered}
 use Rattle.dali_events.specs.Allowed.{Allowed, IsUp, MaySend}
 use Rattle.dali_events.specs.Runs.{after, after_all, AllAllowed, IsRun}
-use Rattle.dali_events.specs.Promise.{HoldsShort, KeepsPromiseNow, KeepsAddresses, KeepsPromise, Names, IsSafe, KeepsGifts, IsSafeHistory}
+use Rattle.dali_events.specs.Promise.{KeepsPromiseNow, KeepsAddresses, KeepsPromise, Names, IsSafe, KeepsGifts, IsSafeHistory}
 use Rattle.dali_events.proofs.Growing.{after_both, allowed_front, allowed_rest}
 use Rattle.dali_script.proofs.Members.{Each, each_changed, each_map, same_member}
 use Rattle.dali_events.proofs.Drawn.{Draws, draws_step, draws_start, are_drawn}

@@ -7,8 +7,10 @@ ghost use Rattle.std.specs.Prelude.{ℕ, ◌<◌, List, ◌++◌, ◌∷◌, [],
 ghost use Rattle.dali_frame.specs.declared.frames.Forward.{Forward};
 ghost use Rattle.dali_frame.specs.declared.frames.Answer.{Answer};
 ghost use Rattle.dali_frame.specs.declared.numbers.SearchAddress.{SearchAddress};
-ghost use Rattle.dali_frame.specs.Random.{value_of};
-ghost use Rattle.dali_special.specs.declared.command.Command.TheVariants.{Randomise};
+ghost use Rattle.dali_frame.specs.Random.{value_of, number_of};
+ghost use Rattle.dali_frame.specs.declared.frames.Answer.TheVariants.{Byte};
+ghost use Rattle.dali_special.specs.declared.command.Command.TheVariants.{Randomise, RandomByte};
+ghost use Rattle.dali_special.specs.declared.command.Part.TheVariants.{High, Middle, Low};
 ghost use Rattle.dali_special.specs.Command.{command_of};
 ghost use Rattle.dali_script.specs.declared.trace.Entry.{Entry};
 ghost use Rattle.dali_script.specs.declared.stage.Stage.TheVariants.{Unnamed};
@@ -18,11 +20,11 @@ ghost use Rattle.dali_events.specs.declared.event.Event.TheVariants.{Sent};
 ghost use Rattle.dali_gear.specs.Row.{heard_of};
 ghost use Rattle.dali_events.specs.declared.event.Event.{Event};
 ghost use Rattle.dali_events.specs.World.{World, controller_at};
-ghost use Rattle.dali_events.specs.Happens.{happens};
+ghost use Rattle.dali_events.specs.Happens.{happens, trace_running, entry};
 ghost use Rattle.dali_events.specs.Allowed.{Allowed, Hears};
 ghost use Rattle.dali_events.specs.Plan.{Plan};
 ghost use Rattle.dali_events.specs.Runs.{after, after_all, AllAllowed, IsRun, AreDrawn};
-ghost use Rattle.dali_events.specs.Promise.{KeepsPromise, IsSafe, IsSafeHistory};
+ghost use Rattle.dali_events.specs.Promise.{KeepsPromise, IsSafe, IsSafeHistory, Names};
 ghost use Rattle.dali_events.specs.Laws.{GiftsAreReserved, TablesAgree, FindingsAgree, KeepsRecords};
 ghost use Rattle.dali_events.specs.Searching.{EachPowered, EachActive, frame_in, number_at, sent_event, up_to_compare};
 ghost use Rattle.dali_events.specs.Searching.{SearchesAll, NobodyAnswers, HasShort};
@@ -110,6 +112,17 @@ pub fn no_two_tables_disagree()
 pub fn findings_agree_with_tables()
     ensures { (p : Plan) (capacity : ℕ) (front rest : List Event) → IsRun p capacity (front ++ rest)
         → FindingsAgree (after p capacity front) }
+{}
+
+/// A RANDOM ADDRESS IS TOLD BY ITS GEAR. Where in a run the first two queries of the random address were sent to one
+/// short address and heard as bytes, and the third is sent and heard as a byte too, the gear that was given that short
+/// address has the random address of the three bytes.
+pub fn random_addresses_are_told()
+    ensures { (p : Plan) (capacity : ℕ) (log : List Event) (c a high middle low : ℕ) (f g h : Forward)
+        → IsRun p capacity (log ++ Sent c h (Byte low) ∷ [])
+        → trace_running (after p capacity log) c ≡ entry f (Byte high) ∷ entry g (Byte middle) ∷ []
+        → command_of f ≡ RandomByte a High → command_of g ≡ RandomByte a Middle → command_of h ≡ RandomByte a Low
+        → Names (after p capacity log) (a, number_of high middle low) }
 {}
 
 /// RECORDS ARE KEPT. At each moment of every run the records of a controller are those of its block, with each address
