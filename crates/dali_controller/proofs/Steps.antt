@@ -8,7 +8,7 @@ use Rattle.dali_frame.specs.Short.{code_of, short_of}
 use Rattle.dali_frame.specs.Random.{value_of, MASK24}
 use Rattle.dali_frame.specs.Priority.{FIRST, LATER}
 use Rattle.dali_special.specs.declared.command.Target.TheVariants.{Unaddressed}
-use Rattle.dali_special.specs.declared.command.Part.TheVariants.{High, Middle, Low}
+use Rattle.dali_special.specs.declared.command.Part.TheVariants.{Middle, Low}
 use Rattle.dali_special.specs.declared.command.Command.{Command}
 use Rattle.dali_special.specs.declared.command.Command.TheVariants.{Terminate, Initialise, Randomise, Compare, Withdraw, SearchMiddle, SearchLow, Program, QueryShort, RandomByte, Arc}
 use Rattle.dali_special.specs.Command.{MASK, command_of, frame_of, IsSpelled}
@@ -23,7 +23,7 @@ use Rattle.dali_script.specs.declared.stage.Stage.{Stage}
 use Rattle.dali_script.specs.declared.stage.Stage.TheVariants.{Free, Terminated, InitialisedOnce, Initialised, RandomisedOnce, Opened, HighSent, MiddleSent, NumberSent, Found, Unnamed, Unanswered, Inconclusive, Programmed, Confirmed, Withdrawn, HighAsked, MiddleAsked, Spelled}
 use Rattle.dali_script.specs.Records.{IsKept, IsOnce, with_record, HasAddress, Kept, Assignment, Has, HasRandom, Fits, IsFresh}
 use Rattle.dali_script.specs.Scripts.{MayGive, Lawful}
-use Rattle.dali_script.specs.Findings.{later, assigned, MayEnrol, finding_of}
+use Rattle.dali_script.specs.Findings.{later, finding_of}
 use Rattle.dali_script.specs.Stages.{finding_at, stage_of, next_stage, queried, named, verified, answered, Follows}
 use Rattle.dali_script.proofs.Transactions.{self, middle_next, low_next, turn, gives, lawful_follows, stage_none, stage_more}
 use Rattle.dali_script.proofs.Found.{finding_after}

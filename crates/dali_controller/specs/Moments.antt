@@ -22,7 +22,7 @@ use Rattle.dali_script.specs.declared.stage.Stage.TheVariants.{Probed, Found, Un
 use Rattle.dali_script.specs.declared.stage.Stage.TheVariants.{Inconclusive, Programmed, Confirmed}
 use Rattle.dali_script.specs.declared.stage.Stage.TheVariants.{Withdrawn, HighAsked}
 use Rattle.dali_script.specs.declared.stage.Stage.TheVariants.{MiddleAsked, Spelled}
-use Rattle.dali_script.specs.Records.{Kept, Assignment, Has, HasRandom, Fits, IsFresh, IsFull}
+use Rattle.dali_script.specs.Records.{Kept, Has, HasRandom, Fits, IsFresh, IsFull}
 use Rattle.dali_script.specs.Scripts.{MayGive}
 use Rattle.dali_script.specs.Findings.{assigned, MayEnrol, finding_of}
 use Rattle.dali_script.specs.Stages.{stage_of, given, IsSearched}

@@ -68,9 +68,9 @@ impl Model for Gear {
 impl Gear {
     ghost use Rattle.dali_special.specs.Command.{command_of};
     ghost use Rattle.dali_gear.specs.Gear.{after_frame, answer_to, draws, fresh, without_power, with_power};
-    ghost use Rattle.dali_gear.specs.Gear.{gear_expired, gear_quieted, would_draw, is_active, is_found, byte_at, answer};
+    ghost use Rattle.dali_gear.specs.Gear.{gear_expired, gear_quieted, is_active, is_found, answer, byte_at};
     ghost use Rattle.dali_gear.specs.Gear.{gear_taken, state_after, random_after, search_after, short_after};
-    ghost use Rattle.dali_gear.specs.Gear.{half_after, concerns, is_second};
+    ghost use Rattle.dali_gear.specs.Gear.{half_after, concerns, is_second, would_draw};
 
     /// A gear from the factory: powered, DISABLED, without short address and with random address `FFFFFF`.
     pub fn new() -> Gear

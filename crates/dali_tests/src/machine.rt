@@ -255,8 +255,10 @@ fn the_first_query_decides_a_visit(rt: HostRuntime) -> Result<(), Fail> {
 /// An unclear answer ends a visit: one of the start goes on to the opening, one of a search to another search.
 #[test]
 fn an_unclear_answer_ends_a_visit(rt: HostRuntime) -> Result<(), Fail> {
-    for heard in [SILENCE, DAMAGED, byte(0x02), byte(0x81)] {
+    for heard in [DAMAGED, byte(0x02), byte(0x81)] {
         visits(&rt, &[&[(heard, Put(3, 0xA100))]])?;
+    }
+    for heard in [SILENCE, DAMAGED, byte(0x02), byte(0x81)] {
         let next = [(heard, Put(3, 0xB1FF))];
         plays(&rt, (0, 3), &[], SEARCHED, &[&FOUND, &next])?;
     }
@@ -358,10 +360,16 @@ fn unfinished_reservations_are_visited_by_address(rt: HostRuntime) -> Result<(),
         (SILENCE, Put(1, 0xB300)),
         (SILENCE, Put(1, 0xB501)),
         (SILENCE, Put(1, 0xBB00)),
+        (SILENCE, Put(3, 0x03C2)),
+        (SILENCE, Put(1, 0x03C3)),
+        (SILENCE, Put(1, 0x03C4)),
         (SILENCE, Put(3, 0xB100)),
         (SILENCE, Put(1, 0xB300)),
         (SILENCE, Put(1, 0xB503)),
         (SILENCE, Put(1, 0xBB00)),
+        (SILENCE, Put(3, 0x07C2)),
+        (SILENCE, Put(1, 0x07C3)),
+        (SILENCE, Put(1, 0x07C4)),
         (SILENCE, Put(3, 0xA100)),
     ];
     plays(&rt, (0, 3), &records, 0, &[&visits])
@@ -466,14 +474,14 @@ fn a_gear_that_is_enrolled_is_found_again(rt: HostRuntime) -> Result<(), Fail> {
     plays(&rt, (0, 3), &records, SEARCHED, &[&FOUND, &another])
 }
 
-/// An opening, and sixteen times a search of 25 probes and a visit, 104 frames. A silent visit of the start does
-/// not count.
+/// An opening, and sixteen times a search of 25 probes and a visit, 104 frames. A silent visit of the start, and the
+/// three queries after it, do not count.
 #[test]
 fn sixteen_silent_searches_give_up(rt: HostRuntime) -> Result<(), Fail> {
     let close = [(SILENCE, Put(3, 0xA100)), (SILENCE, Done(End::GaveUp))];
     plays(&rt, (0, 3), &[], 5 + 16 * 104, &[&close])?;
     let records = [Reserve(0, 0x123456)];
-    plays(&rt, (0, 3), &records, 4 + 5 + 16 * 104, &[&close])
+    plays(&rt, (0, 3), &records, 4 + 3 + 5 + 16 * 104, &[&close])
 }
 
 #[test]
