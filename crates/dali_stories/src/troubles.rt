@@ -108,7 +108,11 @@ const FOUND: &str = "run 1000 > 0: commit enrol 0 123456
                      > table 0: 0=123456";
 
 /// What happens to the three queries of its random address, and what comes of it.
-fn resolves<R: Abort + AllocGlobal>(rt: &R, story: &str, end: &str) -> Result<(), Fail> {
+fn resolves<R: Abort + AllocGlobal>(
+    rt: &R,
+    story: &'static str,
+    end: &'static str,
+) -> Result<(), Fail> {
     plays_parts(rt, &[(PROGRAMMED_AND_OFF, 1), (story, 1), (end, 1)])
 }
 
