@@ -1,5 +1,5 @@
-use Rattle.std.proofs.Common.{◌≡◌, ℕ, ◌+◌, ◌<◌, ◌≤◌, ◌⊎◌, inl, inr, Bool, true, false, Option, Some, None, List, [], ◌∷◌, ◌++◌, refl, sym, ap, subst, ◌∙◌, arith, length, length-append, map, get_or, nat_eq, Decides, Result, Ok, Err, ◌≢◌, replicate, drop, set, length-set, get_or-set_same, get_or-set_other}
-use Rattle.std.specs.Prelude.{◌==◌, ◌&&◌, ◌↔◌, MatchOption, OnOk, OnErr, if◌then◌else◌, zero, suc}
+use Rattle.std.proofs.Common.{◌≡◌, ℕ, ◌+◌, ◌<◌, ◌≤◌, ◌⊎◌, inl, inr, Bool, true, false, Option, Some, None, List, [], ◌∷◌, ◌++◌, refl, sym, ap, subst, ◌∙◌, arith, length, length-append, map, get_or, nat_eq, Decides, Result, Ok, Err, ◌≢◌, replicate, take, drop, set, length-set, get_or-set_same, get_or-set_other}
+use Rattle.std.specs.Prelude.{◌==◌, ◌&&◌, not, cond, ◌↔◌, MatchOption, OnOk, OnErr, if◌then◌else◌, zero, suc}
 use Rattle.std.specs.Option.{is_some}
 use Rattle.std.proofs.lemmas.Bool.{cases_eq}
 use Rattle.std.proofs.lemmas.Bool.Decides.{nat_tests}
@@ -7,8 +7,8 @@ use Rattle.std.proofs.lemmas.List.{drop_more, at_drop_all, get_or-replicate}
 use Rattle.dali_frame.specs.Random.{MASK24}
 use Rattle.dali_script.specs.declared.block.Block.{Block}
 use Rattle.dali_script.specs.declared.records.Record.{Record}
-use Rattle.dali_script.specs.declared.records.Record.TheVariants.{Reserve, Enrol}
-use Rattle.dali_script.specs.Records.{Kept, IsKept, without_records, Fits, IsFresh, address_of, with_record, Assignment, Has, IsOnce, addresses, randoms, HasAddress, HasRandom, InBlock, IsMap, Marks}
+use Rattle.dali_script.specs.declared.records.Record.TheVariants.{Reserve, Enrol, Release}
+use Rattle.dali_script.specs.Records.{Kept, IsKept, without_records, Fits, MayAdd, address_of, with_record, Assignment, Has, IsOnce, addresses, randoms, HasAddress, HasRandom, InBlock, IsMap, Marks, is_pair, without_pair}
 
 -- membership and an append
 pub has_last : {A : Type 0} (xs : List A) (x : A) → Has (xs ++ x ∷ []) x
@@ -173,6 +173,93 @@ reserved_more b xs n below here c low high = go (nat_eq c n) refl where
   go true is = let same : n ≡ c = grind (arith, nat_tests) in subst (λ d. HasAddress xs d) same here
   go false is = below c low (grind (arith, nat_tests))
 
+-- A PAIR IS TAKEN AWAY
+pub is_other : (x y : Assignment) → is_pair x y ≡ false → y ≡ x → ⊥
+is_other x y apart same = let here : is_pair x y ≡ true = (pairs_decide y x).1 same in cc
+
+pub without_has : (x : Assignment) (xs : List Assignment) (y : Assignment) → Has (without_pair x xs) y → Has xs y
+without_has x [] y h = h
+without_has x (z ∷ xs) y h = go (is_pair x z) h (without_has x xs y) where
+  go : (b : Bool) → Has (cond (not b) (z ∷ without_pair x xs) (without_pair x xs)) y → (Has (without_pair x xs) y → Has xs y) → Has (z ∷ xs) y
+  go true k rest = inr (rest k)
+  go false (inl e) rest = inl e
+  go false (inr k) rest = inr (rest k)
+
+pub without_other : (x : Assignment) (xs : List Assignment) (y : Assignment) → Has xs y → (y ≡ x → ⊥) → Has (without_pair x xs) y
+without_other x [] y h other = h
+without_other x (z ∷ xs) y h other = go (is_pair x z) refl h (λ k. without_other x xs y k other) where
+  go : (b : Bool) → is_pair x z ≡ b → Has (z ∷ xs) y → (Has xs y → Has (without_pair x xs) y) → Has (cond (not b) (z ∷ without_pair x xs) (without_pair x xs)) y
+  go true is (inl e) rest = absurd (other (sym e ∙ (pairs_decide z x).0 is))
+  go true is (inr k) rest = rest k
+  go false is (inl e) rest = inl e
+  go false is (inr k) rest = inr (rest k)
+
+pub without_none : (x : Assignment) (xs : List Assignment) → (Has xs x → ⊥) → without_pair x xs ≡ xs
+without_none x [] none = refl
+without_none x (z ∷ xs) none = go (is_pair x z) refl (without_none x xs (λ h. none (inr h))) where
+  go : (b : Bool) → is_pair x z ≡ b → without_pair x xs ≡ xs → cond (not b) (z ∷ without_pair x xs) (without_pair x xs) ≡ z ∷ xs
+  go true is rest = absurd (none (inl ((pairs_decide z x).0 is)))
+  go false is rest = ap (λ ys. z ∷ ys) rest
+
+-- what holds of each address, or of each number, and of fewer
+pub key_left : (key : Assignment → ℕ) (x : Assignment) (xs : List Assignment) (n : ℕ) → Has (map key (without_pair x xs)) n → Has (map key xs) n
+key_left key x [] n h = h
+key_left key x (z ∷ xs) n h = go (is_pair x z) h (key_left key x xs n) where
+  go : (b : Bool) → Has (map key (cond (not b) (z ∷ without_pair x xs) (without_pair x xs))) n → (Has (map key (without_pair x xs)) n → Has (map key xs) n) → Has (map key (z ∷ xs)) n
+  go true k rest = inr (rest k)
+  go false (inl e) rest = inl e
+  go false (inr k) rest = inr (rest k)
+
+pub once_left : (key : Assignment → ℕ) (x : Assignment) (xs : List Assignment) → IsOnce (map key xs) → IsOnce (map key (without_pair x xs))
+once_left key x [] o = tt
+once_left key x (z ∷ xs) o = go (is_pair x z) (once_left key x xs o.1) where
+  go : (b : Bool) → IsOnce (map key (without_pair x xs)) → IsOnce (map key (cond (not b) (z ∷ without_pair x xs) (without_pair x xs)))
+  go true rest = rest
+  go false rest = (λ h. o.0 (key_left key x xs (key z) h), rest)
+
+length_left : (x : Assignment) (xs : List Assignment) → length (without_pair x xs) ≤ length xs
+length_left x [] = omega arith
+length_left x (z ∷ xs) = go (is_pair x z) (length_left x xs) where
+  go : (b : Bool) → length (without_pair x xs) ≤ length xs → length (cond (not b) (z ∷ without_pair x xs) (without_pair x xs)) ≤ length (z ∷ xs)
+  go true rest = omega arith
+  go false rest = omega arith
+
+pub map_left : (x : Assignment) (xs : List Assignment) → IsMap xs → IsMap (without_pair x xs)
+map_left x xs m = record {
+  address_once = once_left (λ p. p.0) x xs m.address_once;
+  random_once = once_left (λ p. p.1) x xs m.random_once;
+  short = λ a h. m.short a (key_left (λ p. p.0) x xs a h);
+  room = let fewer : length (without_pair x xs) ≤ length xs = length_left x xs in let room : length xs ≤ 64 = m.room in omega arith;
+}
+
+pub all_left : {E : Type 0} (key : Assignment → ℕ) (P : ℕ → Type 0) (old new : List Assignment) (x : Assignment) (r : Result (Unit {0}) E) → ((n : ℕ) → Has (map key old) n → P n)
+    → OnOk r (new ≡ without_pair x old) → OnErr r (new ≡ old) → (n : ℕ) → Has (map key new) n → P n
+all_left key P old new x (Err e) all ok err = subst (λ xs. (n : ℕ) → Has (map key xs) n → P n) (sym err) all
+all_left key P old new x (Ok u) all ok err = subst (λ xs. (n : ℕ) → Has (map key xs) n → P n) (sym ok) (λ n h. all n (key_left key x old n h))
+
+-- the list without the place where the pair stands
+pub without_place : (x : Assignment) (xs : List Assignment) (i : ℕ) (d : Assignment) → IsOnce (addresses xs) → i < length xs → get_or xs i d ≡ x
+    → take i xs ++ drop (suc i) xs ≡ without_pair x xs
+without_place x [] i d o h is = absurd (omega arith)
+without_place x (z ∷ xs) zero d o h is = go (is_pair x z) refl (without_none x xs none) where
+  none : Has xs x → ⊥
+  none k = o.0 (subst (λ n. Has (addresses xs) n) (ap (λ p. p.0) (sym is)) (has_map (λ p. p.0) xs x k))
+
+  go : (b : Bool) → is_pair x z ≡ b → without_pair x xs ≡ xs → xs ≡ cond (not b) (z ∷ without_pair x xs) (without_pair x xs)
+  go true same rest = sym rest
+  go false same rest = absurd (is_other x z same is)
+without_place x (z ∷ xs) (suc i) d o h is = go (is_pair x z) refl (without_place x xs i d o.1 (omega arith) is) where
+  there : Has xs x
+  there = subst (λ p. Has xs p) is (has_at xs i d (omega arith))
+
+  go : (b : Bool) → is_pair x z ≡ b → take i xs ++ drop (suc i) xs ≡ without_pair x xs → z ∷ take i xs ++ drop (suc i) xs ≡ cond (not b) (z ∷ without_pair x xs) (without_pair x xs)
+  go true same rest = absurd (o.0 (subst (λ p. Has (addresses xs) p.0) (sym ((pairs_decide z x).0 same)) (has_map (λ p. p.0) xs x there)))
+  go false same rest = ap (λ ys. z ∷ ys) rest
+
+-- what a search for a pair says where the pair is known to be there
+pub has_place : (xs : List Assignment) (i : ℕ) (d x : Assignment) → i < length xs → get_or xs i d ≡ x → Has xs x
+has_place xs i d x h is = subst (λ p. Has xs p) is (has_at xs i d h)
+
 -- RECORDS STAY KEPT
 pub map_none : IsMap []
 map_none = record { address_once = tt; random_once = tt; short = λ a h. absurd h; room = omega arith }
@@ -180,7 +267,7 @@ map_none = record { address_once = tt; random_once = tt; short = λ a h. absurd 
 pub kept_none : (b : Block) → IsKept (without_records b)
 kept_none b = record { reserved = map_none; enrolled = map_none; reserved_drawn = λ r h. absurd h; enrolled_drawn = λ r h. absurd h; within = λ c h. absurd h }
 
-pub kept_more : (k : Kept) (x : Record) → IsKept k → Fits k.block x → address_of x < 64 → IsFresh k x → IsKept (with_record k x)
+pub kept_more : (k : Kept) (x : Record) → IsKept k → Fits k.block x → address_of x < 64 → MayAdd k x → IsKept (with_record k x)
 kept_more k (Reserve a r) m fits small fresh = record {
   reserved = map_more k.reserved a r m.reserved fresh.0 fresh.1 small;
   enrolled = m.enrolled;
@@ -194,6 +281,13 @@ kept_more k (Enrol a r) m fits small fresh = record {
   reserved_drawn = m.reserved_drawn;
   enrolled_drawn = all_more (λ p. p.1) (λ n. n < MASK24) k.enrolled (a, r) m.enrolled_drawn fits;
   within = m.within;
+}
+kept_more k (Release a r) m fits small there = record {
+  reserved = map_left (a, r) k.reserved m.reserved;
+  enrolled = m.enrolled;
+  reserved_drawn = λ n h. m.reserved_drawn n (key_left (λ p. p.1) (a, r) k.reserved n h);
+  enrolled_drawn = m.enrolled_drawn;
+  within = λ c h. m.within c (key_left (λ p. p.0) (a, r) k.reserved c h);
 }
 
 -- THE MARKS OF ADDRESSES, while these pairs are still to be looked at

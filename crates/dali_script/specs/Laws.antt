@@ -20,7 +20,7 @@ use Rattle.dali_script.specs.declared.stage.Stage.TheVariants.{Initialised, Rand
 use Rattle.dali_script.specs.declared.stage.Stage.TheVariants.{NumberSent, Found, Unnamed}
 use Rattle.dali_script.specs.declared.stage.Stage.TheVariants.{Programmed, Confirmed}
 use Rattle.dali_script.specs.Records.{Assignment, Kept, Has, HasAddress, IsMap, IsKept, Fits}
-use Rattle.dali_script.specs.Records.{IsFresh, address_of, without_records, with_record}
+use Rattle.dali_script.specs.Records.{MayAdd, address_of, without_records, with_record}
 use Rattle.dali_script.specs.Scripts.{Lawful, IsFirst, MayGive, IsComplete, GoesOn}
 use Rattle.dali_script.specs.Findings.{search_after, search_of, asked_after, asked_of}
 use Rattle.dali_script.specs.Findings.{found_by, later, finding_of}
@@ -124,11 +124,11 @@ pub record TransactionsEnd : Type 0 where
   pub goes_on : (b : Block) (xs : List Assignment) (t : List Entry)
       → ((a : ℕ) → HasAddress xs a → a < 64) → may_follow b xs (stage_of t) ≡ true → GoesOn b xs t
 
--- What holds of all records that are kept holds of none, and of one more that fits and is fresh;
+-- What holds of all records that are kept holds of none, and of one more that fits and may be added;
 -- and a number has one address.
 pub record RecordsStayKept : Type 0 where
   pub none : (b : Block) → IsKept (without_records b)
-  pub more : (k : Kept) (x : Record) → IsKept k → Fits k.block x → address_of x < 64 → IsFresh k x
+  pub more : (k : Kept) (x : Record) → IsKept k → Fits k.block x → address_of x < 64 → MayAdd k x
       → IsKept (with_record k x)
   pub one_address : (xs : List Assignment) (a c n : ℕ) → IsMap xs → Has xs (a, n) → Has xs (c, n)
       → a ≡ c

@@ -1,9 +1,10 @@
 use Rattle.std.specs.Prelude.{◌≡◌, ℕ, ◌<◌, ◌≤◌, ◌⊎◌, ◌↔◌, List, [], ◌∷◌, ◌++◌, map, length}
-use Rattle.std.specs.Prelude.{Bool, true, false, slice_index_or}
+use Rattle.std.specs.Prelude.{Bool, true, false, not, ◌==◌, ◌&&◌, filter, slice_index_or}
 use Rattle.dali_frame.specs.Random.{MASK24}
 use Rattle.dali_script.specs.declared.block.Block.{Block}
 use Rattle.dali_script.specs.declared.records.Record.{Record}
 use Rattle.dali_script.specs.declared.records.Record.TheVariants.{Reserve, Enrol}
+use Rattle.dali_script.specs.declared.records.Record.TheVariants.{Release}
 
 -- a short address and the random address that it is for
 abbrev pub Assignment : Type 0
@@ -70,33 +71,64 @@ pub record IsKept (k : Kept) : Type 0 where
   pub enrolled_drawn : AllDrawn k.enrolled
   pub within : (a : ℕ) → HasAddress k.reserved a → InBlock k.block a
 
--- A record fits a block: a reserved address lies in it, and the number is one that gear draw.
+-- A record fits a block: a reserved address lies in it, and so does one that is released; and the
+-- number is one that gear draw.
 abbrev pub Fits : Block → Record → Type 0
 Fits b (Reserve a r) = InBlock b a × (r < MASK24)
 Fits b (Enrol a r) = r < MASK24
-
--- the records of a record's kind, and its pair
-abbrev pub same_kind : Kept → Record → List Assignment
-same_kind k (Reserve a r) = k.reserved
-same_kind k (Enrol a r) = k.enrolled
+Fits b (Release a r) = InBlock b a × (r < MASK24)
 
 abbrev pub address_of : Record → ℕ
 address_of (Reserve a r) = a
 address_of (Enrol a r) = a
+address_of (Release a r) = a
 
 abbrev pub random_of : Record → ℕ
 random_of (Reserve a r) = r
 random_of (Enrol a r) = r
+random_of (Release a r) = r
 
--- neither the address nor the number stands in a record of its kind
-abbrev pub IsFresh : Kept → Record → Type 0
-IsFresh k x =
-    (HasAddress (same_kind k x) (address_of x) → ⊥) × (HasRandom (same_kind k x) (random_of x) → ⊥)
+-- neither the address nor the number stands in a pair
+abbrev pub IsFresh : List Assignment → Assignment → Type 0
+IsFresh xs x = (HasAddress xs x.0 → ⊥) × (HasRandom xs x.1 → ⊥)
 
--- the records with one more
+-- WHICH RECORDS MAY BE ADDED: a reservation whose address and whose number no other has, an
+-- enrolment likewise, and the release of what is reserved so.
+abbrev pub MayAdd : Kept → Record → Type 0
+MayAdd k (Reserve a r) = IsFresh k.reserved (a, r)
+MayAdd k (Enrol a r) = IsFresh k.enrolled (a, r)
+MayAdd k (Release a r) = Has k.reserved (a, r)
+
+-- and why one may not: a record of its kind has the address; or none has it, but one has the number;
+-- or the address is not reserved for the number
+abbrev pub IsAddressTaken : Kept → Record → Type 0
+IsAddressTaken k (Reserve a r) = HasAddress k.reserved a
+IsAddressTaken k (Enrol a r) = HasAddress k.enrolled a
+IsAddressTaken k (Release a r) = ⊥
+
+abbrev pub IsRandomTaken : Kept → Record → Type 0
+IsRandomTaken k (Reserve a r) = (HasAddress k.reserved a → ⊥) × HasRandom k.reserved r
+IsRandomTaken k (Enrol a r) = (HasAddress k.enrolled a → ⊥) × HasRandom k.enrolled r
+IsRandomTaken k (Release a r) = ⊥
+
+abbrev pub IsNotReserved : Kept → Record → Type 0
+IsNotReserved k (Reserve a r) = ⊥
+IsNotReserved k (Enrol a r) = ⊥
+IsNotReserved k (Release a r) = Has k.reserved (a, r) → ⊥
+
+-- the pairs but this one, in their order
+abbrev pub is_pair : Assignment → Assignment → Bool
+is_pair x y = (y.0 == x.0) && (y.1 == x.1)
+
+abbrev pub without_pair : Assignment → List Assignment → List Assignment
+without_pair x xs = filter (λ y. not (is_pair x y)) xs
+
+-- what is kept with one record more: a reservation or an enrolment is the last of its kind; a release
+-- takes its reservation away
 abbrev pub with_record : Kept → Record → Kept
 with_record k (Reserve a r) = record k { reserved = k.reserved ++ (a, r) ∷ [] }
 with_record k (Enrol a r) = record k { enrolled = k.enrolled ++ (a, r) ∷ [] }
+with_record k (Release a r) = record k { reserved = without_pair (a, r) k.reserved }
 
 -- the least address of the block that no reservation has
 pub record IsLeastFree (b : Block) (reserved : List Assignment) (a : ℕ) : Type 0 where

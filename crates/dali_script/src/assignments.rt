@@ -1,7 +1,7 @@
-ghost use Rattle.std.specs.Prelude.{◌≡◌, ◌↔◌, ◌<◌, ◌≤◌, [], ◌∷◌, ◌++◌, length, IsTrue, IsOk, IfOk, OnOk, OnErr};
-ghost use Rattle.std.specs.Prelude.{MatchOption};
+ghost use Rattle.std.specs.Prelude.{◌≡◌, ◌↔◌, ◌<◌, ◌≤◌, [], ◌∷◌, ◌++◌, length, IsTrue, IsOk, IfOk, IfErr, OnOk, OnErr};
+ghost use Rattle.std.specs.Prelude.{MatchOption, slice_index_or};
 ghost use Rattle.std.specs.Vec.{vec_capacity};
-ghost use Rattle.dali_script.specs.Records.{Has, HasAddress, HasRandom, Marks};
+ghost use Rattle.dali_script.specs.Records.{Assignment, Has, HasAddress, HasRandom, Marks, IsFresh, without_pair};
 
 use crate::records::{AddError, MakeError};
 use dali_frame::{Random24, Short};
@@ -123,11 +123,11 @@ impl Assignments {
     ///
     /// `AddressTaken` comes before `RandomTaken`.
     pub fn insert(&mut self, address: Short, random: Random24) -> Result<(), AddError>
-        ensures success { IsOk result
-            ↔ ((HasAddress self.old address → ⊥) × (HasRandom self.old random → ⊥)) }
+        ensures success { IsOk result ↔ IsFresh self.old (address, random) }
         ensures address_taken { (result ≡ Err AddError.AddressTaken) ↔ HasAddress self.old address }
         ensures random_taken { (result ≡ Err AddError.RandomTaken)
             ↔ ((HasAddress self.old address → ⊥) × HasRandom self.old random) }
+        ensures reserved { result ≡ Err AddError.NotReserved → ⊥ }
         ensures ok { OnOk result (self.new ≡ self.old ++ (address, random) ∷ []) }
         ensures err { OnErr result (self.new ≡ self.old) }
         ensures short { address < 64 }
@@ -144,6 +144,26 @@ impl Assignments {
         Ok(())
     }
 
+    /// Takes a pair away; the others stay in their order. It takes no memory, and gives none back.
+    ///
+    /// `NotReserved` where the pair is not there.
+    pub fn take_out(&mut self, address: Short, random: Random24) -> Result<(), AddError>
+        ensures success { IsOk result ↔ Has self.old (address, random) }
+        ensures refusal { IfErr result (λ e. e ≡ AddError.NotReserved) }
+        ensures ok { OnOk result (self.new ≡ without_pair (address, random) self.old) }
+        ensures err { OnErr result (self.new ≡ self.old) }
+        ensures short { address < 64 }
+        ensures map { IsMap self.new }
+    {
+        match place_of(&self.pairs, (address, random)) {
+            Some(place) => {
+                self.pairs.remove(place);
+                Ok(())
+            }
+            None => Err(AddError::NotReserved),
+        }
+    }
+
     /// Whether both are the same pairs in the same order.
     pub fn same(&self, other: &Assignments) -> bool
         ensures { IsTrue result ↔ (self.now ≡ other.now) }
@@ -156,6 +176,20 @@ impl Assignments {
         ensures { IsTrue result ↔ (self.now ≡ other.now ++ last ∷ []) }
     {
         are_with(&self.pairs, &other.pairs, last)
+    }
+
+    /// Whether these are the other ones without this pair.
+    pub fn is_without(&self, other: &Assignments, gone: (Short, Random24)) -> bool
+        ensures { IsTrue result ↔ (self.now ≡ without_pair gone other.now) }
+    {
+        match place_of(&other.pairs, gone) {
+            Some(place) => {
+                let (front, _) = other.pairs.split_at(place);
+                let (_, rest) = other.pairs.split_at(place + 1);
+                are_both(&self.pairs, front, rest)
+            }
+            None => self.same(other),
+        }
     }
 }
 
@@ -189,4 +223,33 @@ fn are_with(
         Some((end, front)) => *end == last && are_same(front, others),
         None => false,
     }
+}
+
+/// Where a pair stands.
+fn place_of(pairs: &[(Short, Random24)], wanted: (Short, Random24)) -> Option<usize>
+    ensures { MatchOption result
+        (Has pairs.now wanted → ⊥)
+        (λ place. (place < length pairs.now) × (slice_index_or pairs.now place wanted ≡ wanted)) }
+{
+    for place in 0..pairs.len() {
+        if pairs[place] == wanted {
+            return Some(place);
+        }
+    }
+    None
+}
+
+/// Whether pairs are these, one part after the other.
+fn are_both(
+    pairs: &[(Short, Random24)],
+    front: &[(Short, Random24)],
+    rest: &[(Short, Random24)],
+) -> bool
+    ensures { IsTrue result ↔ (pairs.now ≡ front.now ++ rest.now) }
+{
+    if pairs.len() < front.len() {
+        return false;
+    }
+    let (first, second) = pairs.split_at(front.len());
+    are_same(first, front) && are_same(second, rest)
 }

@@ -30,8 +30,8 @@ impl Model for Kept {
 }
 
 impl Kept {
-    ghost use Rattle.dali_script.specs.Records.{without_records, IsKept, Fits, IsFresh, same_kind, address_of};
-    ghost use Rattle.dali_script.specs.Records.{random_of, with_record};
+    ghost use Rattle.dali_script.specs.Records.{without_records, IsKept, Fits, MayAdd, IsAddressTaken, IsRandomTaken};
+    ghost use Rattle.dali_script.specs.Records.{IsNotReserved, address_of, with_record};
     ghost use Rattle.dali_script.specs.Stages.{may_give, may_give_some, in_block};
 
     /// No records, for a controller with this block.
@@ -80,13 +80,13 @@ impl Kept {
         self.enrolled.pairs()
     }
 
-    /// Whether a record may be added here: a reserved address lies in the block, and the random address is below
-    /// `FFFFFF`.
+    /// Whether a record fits here: an address that is reserved or released lies in the block, and the random address is
+    /// below `FFFFFF`.
     pub fn fits(&self, added: &Record) -> bool
         ensures { IsTrue result ↔ Fits self.now.block added.now }
     {
         let in_place = match *added {
-            Record::Reserve(address, _) => self.has_in_block(address),
+            Record::Reserve(address, _) | Record::Release(address, _) => self.has_in_block(address),
             Record::Enrol(..) => true,
         };
         in_place && added.random() < Random24::MASK
@@ -98,19 +98,18 @@ impl Kept {
         self.block.first <= address && address <= self.block.last
     }
 
-    /// Adds a record as the last of its kind. It must fit, as `fits` tells: what comes from elsewhere is to be tested
-    /// first.
+    /// Adds a record as the last of its kind; a release takes its reservation away. It must fit, as `fits` tells: what
+    /// comes from elsewhere is to be tested first.
     ///
-    /// `AddressTaken` comes before `RandomTaken`; each speaks of records of the same kind alone.
+    /// `AddressTaken` comes before `RandomTaken`; each speaks of records of the same kind alone, and `NotReserved` of a
+    /// release.
     pub fn add(&mut self, added: Record) -> Result<(), AddError>
         requires { Fits self.old.block added }
 
-        ensures success { IsOk result ↔ IsFresh self.old added }
-        ensures address_taken { (result ≡ Err AddError.AddressTaken)
-            ↔ HasAddress (same_kind self.old added) (address_of added) }
-        ensures random_taken { (result ≡ Err AddError.RandomTaken)
-            ↔ ((HasAddress (same_kind self.old added) (address_of added) → ⊥)
-            × HasRandom (same_kind self.old added) (random_of added)) }
+        ensures success { IsOk result ↔ MayAdd self.old added }
+        ensures address_taken { (result ≡ Err AddError.AddressTaken) ↔ IsAddressTaken self.old added }
+        ensures random_taken { (result ≡ Err AddError.RandomTaken) ↔ IsRandomTaken self.old added }
+        ensures not_reserved { (result ≡ Err AddError.NotReserved) ↔ IsNotReserved self.old added }
 
         ensures ok { OnOk result (self.new ≡ with_record self.old added) }
         ensures err { OnErr result (self.new ≡ self.old) }
@@ -119,6 +118,7 @@ impl Kept {
         match added {
             Record::Reserve(address, random) => self.reserved.insert(address, random),
             Record::Enrol(address, random) => self.enrolled.insert(address, random),
+            Record::Release(address, random) => self.reserved.take_out(address, random),
         }
     }
 
@@ -131,20 +131,24 @@ impl Kept {
             && self.enrolled.same(&other.enrolled)
     }
 
-    /// Whether these are the other records with one more.
+    /// Whether these are the other records with one more, in the same order.
     pub fn is_with(&self, other: &Kept, added: &Record) -> bool
         ensures { IsTrue result ↔ (self.now ≡ with_record other.now added.now) }
     {
         if self.block != other.block {
             return false;
         }
-        let last = (added.address(), added.random());
+        let pair = (added.address(), added.random());
         match added {
             Record::Reserve(..) => {
-                self.enrolled.same(&other.enrolled) && self.reserved.is_with(&other.reserved, last)
+                self.enrolled.same(&other.enrolled) && self.reserved.is_with(&other.reserved, pair)
             }
             Record::Enrol(..) => {
-                self.reserved.same(&other.reserved) && self.enrolled.is_with(&other.enrolled, last)
+                self.reserved.same(&other.reserved) && self.enrolled.is_with(&other.enrolled, pair)
+            }
+            Record::Release(..) => {
+                self.enrolled.same(&other.enrolled)
+                    && self.reserved.is_without(&other.reserved, pair)
             }
         }
     }

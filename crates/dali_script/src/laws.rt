@@ -47,7 +47,7 @@ pub fn transactions_end()
     ensures { TransactionsEnd }
 {}
 
-/// What holds of all records that are kept holds of none, and of one more that fits and is fresh;
+/// What holds of all records that are kept holds of none, and of one more that fits and may be added;
 /// and a number has one address.
 pub fn records_stay_kept()
     ensures { RecordsStayKept }

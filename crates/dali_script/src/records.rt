@@ -12,6 +12,8 @@ pub enum Record {
     Reserve(Short, Random24),
     /// The gear with this random address was found with this short address.
     Enrol(Short, Random24),
+    /// The address was kept for the gear with this random address, and is free again: the gear was found with another.
+    Release(Short, Random24),
 }
 
 impl Record {
@@ -20,7 +22,8 @@ impl Record {
         ensures { result ≡ address_of self }
     {
         match self {
-            Record::Reserve(address, _) | Record::Enrol(address, _) => address,
+            Record::Reserve(address, _) | Record::Enrol(address, _) | Record::Release(address, _) =>
+                address,
         }
     }
 
@@ -29,7 +32,8 @@ impl Record {
         ensures { result ≡ random_of self }
     {
         match self {
-            Record::Reserve(_, random) | Record::Enrol(_, random) => random,
+            Record::Reserve(_, random) | Record::Enrol(_, random) | Record::Release(_, random) =>
+                random,
         }
     }
 }
@@ -62,6 +66,9 @@ pub enum AddError {
     /// 4: a record of this kind has the random address.
     #[error("the random address has a record of this kind")]
     RandomTaken,
+    /// 6: the short address is not reserved for the random address.
+    #[error("the short address is not reserved for the random address")]
+    NotReserved,
 }
 
 impl AddError {
@@ -72,6 +79,7 @@ impl AddError {
         match self {
             AddError::AddressTaken => 3,
             AddError::RandomTaken => 4,
+            AddError::NotReserved => 6,
         }
     }
 }

@@ -1,7 +1,7 @@
 use Rattle.std.proofs.Common.{◌<◌}
 use Rattle.dali_frame.specs.Random.{MASK24}
 use Rattle.dali_script.specs.Records.{InBlock}
-use Rattle.dali_script.proofs.Lists.{all_after}
+use Rattle.dali_script.proofs.Lists.{all_after, all_left}
 use Rattle.dali_script.proofs.kept.Kept.add.Goals as goal
 
 pub invariant_of-self : goal.invariant_of-self
@@ -28,4 +28,16 @@ invariant_of-self-in-Enrol c =
       reserved_drawn = kept.reserved_drawn;
       enrolled_drawn = all_after (λ p. p.1) (λ n. n < MASK24) k.enrolled c.insert-in-Enrol.new.self (c.in-Enrol.address, c.in-Enrol.random) c.insert-in-Enrol.result kept.enrolled_drawn fits c.insert-in-Enrol.ensures.ok c.insert-in-Enrol.ensures.err;
       within = kept.within;
+    }
+
+pub invariant_of-self-in-Release : goal.invariant_of-self-in-Release
+invariant_of-self-in-Release c =
+    let k = c.self.inside in
+    let kept = c.self.invariant in
+    record {
+      reserved = c.take_out.ensures.map;
+      enrolled = kept.enrolled;
+      reserved_drawn = all_left (λ p. p.1) (λ n. n < MASK24) k.reserved c.take_out.new.self (c.in-Release.address, c.in-Release.random) c.take_out.result kept.reserved_drawn c.take_out.ensures.ok c.take_out.ensures.err;
+      enrolled_drawn = kept.enrolled_drawn;
+      within = all_left (λ p. p.0) (InBlock k.block) k.reserved c.take_out.new.self (c.in-Release.address, c.in-Release.random) c.take_out.result kept.within c.take_out.ensures.ok c.take_out.ensures.err;
     }
