@@ -72,6 +72,8 @@ impl Table {
             Ok(()) => Ok(()),
             Err(AddError::AddressTaken) => Err(TableError::AddressTaken),
             Err(AddError::RandomTaken) => Err(TableError::RandomTaken),
+            // Nothing is released here.
+            Err(AddError::NotReserved) => unreachable!(),
         }
     }
 
