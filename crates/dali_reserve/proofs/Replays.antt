@@ -2,8 +2,8 @@ use Rattle.std.proofs.Common.{◌≡◌, ◌<◌, ◌↔◌, List, [], ◌∷◌
 use Rattle.std.specs.Prelude.{IsOk, OnOk, OnErr}
 use Rattle.dali_script.specs.declared.block.Block.{Block}
 use Rattle.dali_script.specs.declared.records.Record.{Record}
-use Rattle.dali_script.specs.declared.records.Record.TheVariants.{Reserve, Enrol}
-use Rattle.dali_script.specs.Records.{Kept, IsKept, IsFresh, Fits, address_of, without_records, with_record}
+use Rattle.dali_script.specs.declared.records.Record.TheVariants.{Reserve, Enrol, Release}
+use Rattle.dali_script.specs.Records.{Kept, IsKept, MayAdd, Fits, address_of, without_records, with_record}
 use Rattle.dali_script.proofs.Lists.{kept_none, kept_more}
 use Rattle.dali_reserve.specs.Store.{replay_of, IsGood, AreGood, IsReplay, HasRecords}
 
@@ -42,6 +42,7 @@ replay_one b xs j k r s = r.value ∙ sym s.value
 pub block_with : (k : Kept) (x : Record) → (with_record k x).block ≡ k.block
 block_with k (Reserve a r) = refl
 block_with k (Enrol a r) = refl
+block_with k (Release a r) = refl
 
 pub block_replayed : (k : Kept) (xs : List Record) → (replay_of k xs).block ≡ k.block
 block_replayed k [] = refl
@@ -53,25 +54,25 @@ replay_block b xs k r = ap (λ (j : Kept). j.block) r.value ∙ block_replayed (
 -- records stay kept
 pub kept_replayed : (k : Kept) (xs : List Record) → IsKept k → AreGood k xs → IsKept (replay_of k xs)
 kept_replayed k [] is all = is
-kept_replayed k (x ∷ xs) is all = kept_replayed (with_record k x) xs (kept_more k x is all.0.fits all.0.short all.0.fresh) all.1
+kept_replayed k (x ∷ xs) is all = kept_replayed (with_record k x) xs (kept_more k x is all.0.fits all.0.short all.0.may) all.1
 
 pub replay_kept : (b : Block) (xs : List Record) (k : Kept) → IsReplay b xs k → IsKept k
 replay_kept b xs k r = subst IsKept (sym r.value) (kept_replayed (without_records b) xs (kept_none b) r.good)
 
 -- what is kept after a commit that adds its record, and after any
-pub replay_after : (old new : Kept) (x : Record) → address_of x < 64 → Fits old.block x → IsFresh old x → new ≡ with_record old x
+pub replay_after : (old new : Kept) (x : Record) → address_of x < 64 → Fits old.block x → MayAdd old x → new ≡ with_record old x
     → (xs : List Record) → IsReplay old.block xs old → IsReplay new.block (xs ++ x ∷ []) new
-replay_after old new x short fits fresh ok xs r =
-    let more : IsReplay old.block (xs ++ x ∷ []) (with_record old x) = replay_more old.block xs old x r (record { short = short; fits = fits; fresh = fresh }) in
+replay_after old new x short fits may ok xs r =
+    let more : IsReplay old.block (xs ++ x ∷ []) (with_record old x) = replay_more old.block xs old x r (record { short = short; fits = fits; may = may }) in
     let there : IsReplay old.block (xs ++ x ∷ []) new = subst (λ k. IsReplay old.block (xs ++ x ∷ []) k) (sym ok) more in
     subst (λ b. IsReplay b (xs ++ x ∷ []) new) (sym (replay_block old.block (xs ++ x ∷ []) new there)) there
 
-pub records_after : {E : Type 0} (old new : Kept) (x : Record) (r : Result (Unit {0}) E) → address_of x < 64 → Fits old.block x → (IsOk r ↔ IsFresh old x)
+pub records_after : {E : Type 0} (old new : Kept) (x : Record) (r : Result (Unit {0}) E) → address_of x < 64 → Fits old.block x → (IsOk r ↔ MayAdd old x)
     → OnOk r (new ≡ with_record old x) → OnErr r (new ≡ old) → HasRecords old → HasRecords new
-records_after old new x (Err e) short fits fresh ok err has = subst HasRecords (sym err) has
-records_after old new x (Ok u) short fits fresh ok err has = (has.0 ++ x ∷ [], replay_after old new x short fits (fresh.0 refl) ok has.0 has.1)
+records_after old new x (Err e) short fits may ok err has = subst HasRecords (sym err) has
+records_after old new x (Ok u) short fits may ok err has = (has.0 ++ x ∷ [], replay_after old new x short fits (may.0 refl) ok has.0 has.1)
 
-pub replay_ok : {E : Type 0} (old new : Kept) (x : Record) (r : Result (Unit {0}) E) (u : Unit {0}) → r ≡ Ok u → address_of x < 64 → Fits old.block x → (IsOk r ↔ IsFresh old x)
+pub replay_ok : {E : Type 0} (old new : Kept) (x : Record) (r : Result (Unit {0}) E) (u : Unit {0}) → r ≡ Ok u → address_of x < 64 → Fits old.block x → (IsOk r ↔ MayAdd old x)
     → OnOk r (new ≡ with_record old x) → (xs : List Record) → IsReplay old.block xs old → IsReplay new.block (xs ++ x ∷ []) new
-replay_ok old new x (Err e) u is short fits fresh ok xs held = cc
-replay_ok old new x (Ok v) u is short fits fresh ok xs held = replay_after old new x short fits (fresh.0 refl) ok xs held
+replay_ok old new x (Err e) u is short fits may ok xs held = cc
+replay_ok old new x (Ok v) u is short fits may ok xs held = replay_after old new x short fits (may.0 refl) ok xs held

@@ -2,7 +2,7 @@ use Rattle.std.specs.Prelude.{◌≡◌, ℕ, ◌⊎◌, Result, Err}
 use Rattle.dali_reserve.specs.declared.error.KeepError.{KeepError}
 use Rattle.dali_reserve.specs.declared.error.KeepError.TheVariants.{NoMemory, StoreFailed}
 use Rattle.dali_reserve.specs.declared.error.KeepError.TheVariants.{AddressTaken, RandomTaken}
-use Rattle.dali_reserve.specs.declared.error.KeepError.TheVariants.{BadStore}
+use Rattle.dali_reserve.specs.declared.error.KeepError.TheVariants.{BadStore, NotReserved}
 
 abbrev pub number_of : KeepError → ℕ
 number_of NoMemory = 1
@@ -10,18 +10,23 @@ number_of StoreFailed = 2
 number_of AddressTaken = 3
 number_of RandomTaken = 4
 number_of BadStore = 5
+number_of NotReserved = 6
 
 -- why a read may be refused
 abbrev pub RefusesRead : KeepError → Type 0
 RefusesRead e = (e ≡ BadStore) ⊎ (e ≡ StoreFailed) ⊎ (e ≡ NoMemory)
 
+-- the record is judged, and may not be added
+abbrev pub RefusesRecord : KeepError → Type 0
+RefusesRecord e = (e ≡ AddressTaken) ⊎ (e ≡ RandomTaken) ⊎ (e ≡ NotReserved)
+
 -- why a commit may be refused
 abbrev pub RefusesCommit : KeepError → Type 0
-RefusesCommit e = (e ≡ AddressTaken) ⊎ (e ≡ RandomTaken) ⊎ (e ≡ StoreFailed) ⊎ (e ≡ NoMemory)
+RefusesCommit e = RefusesRecord e ⊎ (e ≡ StoreFailed) ⊎ (e ≡ NoMemory)
 
 -- the record was judged, and refused
-abbrev pub IsTaken : {A : Type 0} → Result A KeepError → Type 0
-IsTaken r = (r ≡ Err AddressTaken) ⊎ (r ≡ Err RandomTaken)
+abbrev pub IsRefused : {A : Type 0} → Result A KeepError → Type 0
+IsRefused r = (r ≡ Err AddressTaken) ⊎ (r ≡ Err RandomTaken) ⊎ (r ≡ Err NotReserved)
 
 -- the commit failed: it isn't known whether its record is stored
 abbrev pub HasFailed : {A : Type 0} → Result A KeepError → Type 0

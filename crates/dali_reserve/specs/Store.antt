@@ -1,19 +1,18 @@
 use Rattle.std.specs.Prelude.{◌≡◌, ◌<◌, List, [], ◌∷◌}
 use Rattle.dali_script.specs.declared.block.Block.{Block}
 use Rattle.dali_script.specs.declared.records.Record.{Record}
-use Rattle.dali_script.specs.Records.{Kept, without_records, with_record, Fits, IsFresh, address_of}
+use Rattle.dali_script.specs.Records.{Kept, without_records, with_record, Fits, MayAdd, address_of}
 
 -- THE REPLAY of a list of records, oldest first: what is kept after them.
 abbrev pub replay_of : Kept → List Record → Kept
 replay_of k [] = k
 replay_of k (x ∷ xs) = replay_of (with_record k x) xs
 
--- A record that may be added to what is kept: it fits the block, and neither its address nor its
--- number stands in a record of its kind.
+-- A record that could be committed after those that left this: it fits the block, and may be added.
 pub record IsGood (k : Kept) (x : Record) : Type 0 where
   pub short : address_of x < 64
   pub fits : Fits k.block x
-  pub fresh : IsFresh k x
+  pub may : MayAdd k x
 
 -- each record may be added to what the ones before it leave
 abbrev pub AreGood : Kept → List Record → Type 0

@@ -21,6 +21,9 @@ pub enum KeepError {
     /// 5: what is stored is no list of records that could have been committed.
     #[error("the store holds no list of records")]
     BadStore,
+    /// 6: the short address is not reserved for the random address.
+    #[error("the short address is not reserved for the random address")]
+    NotReserved,
 }
 
 impl KeepError {
@@ -34,6 +37,7 @@ impl KeepError {
             KeepError::AddressTaken => 3,
             KeepError::RandomTaken => 4,
             KeepError::BadStore => 5,
+            KeepError::NotReserved => 6,
         }
     }
 }

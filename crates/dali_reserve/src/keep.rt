@@ -2,11 +2,11 @@ ghost use Rattle.std.specs.Prelude.{◌≡◌, ◌↔◌, ◌⊎◌, Bool, true,
 ghost use Rattle.std.specs.Prelude.{IfErr};
 ghost use Rattle.dali_script.specs.declared.block.Block.{Block};
 ghost use Rattle.dali_script.specs.declared.records.Record.{Record};
-ghost use Rattle.dali_script.specs.Records.{Kept, without_records, Fits, HasAddress, HasRandom, same_kind, address_of};
-ghost use Rattle.dali_script.specs.Records.{random_of, with_record};
+ghost use Rattle.dali_script.specs.Records.{Kept, without_records, Fits, IsAddressTaken, IsRandomTaken, IsNotReserved};
+ghost use Rattle.dali_script.specs.Records.{with_record};
 ghost use Rattle.dali_reserve.specs.declared.error.KeepError.TheVariants.{StoreFailed, AddressTaken, RandomTaken};
-ghost use Rattle.dali_reserve.specs.declared.error.KeepError.TheVariants.{BadStore};
-ghost use Rattle.dali_reserve.specs.Refusals.{RefusesRead, RefusesCommit, IsTaken, HasFailed};
+ghost use Rattle.dali_reserve.specs.declared.error.KeepError.TheVariants.{BadStore, NotReserved};
+ghost use Rattle.dali_reserve.specs.Refusals.{RefusesRead, RefusesCommit, IsRefused, HasFailed};
 ghost use Rattle.dali_reserve.specs.Store.{AreGood, IsReplay};
 
 use crate::error::KeepError;
@@ -66,23 +66,23 @@ pub trait Keep {
 
     /// Adds a record as the last.
     ///
-    /// `StoreFailed` where a read is due, then `AddressTaken`, then `RandomTaken`, each among records of its kind:
-    /// these add none. A later `StoreFailed` or `NoMemory` leaves the list with the record or without it, and a read is
-    /// due.
+    /// `StoreFailed` where a read is due, then `AddressTaken`, then `RandomTaken`, each among records of its kind, or
+    /// `NotReserved`, of a release: these add none. A later `StoreFailed` or `NoMemory` leaves the list with the record
+    /// or without it, and a read is due.
     fn commit(&mut self, added: Record) -> Result<(), KeepError>
         requires { Fits (block self.old) added }
 
         ensures read_first { must_read self.old ≡ true → result ≡ Err StoreFailed }
         ensures address_taken { (result ≡ Err AddressTaken)
-            ↔ ((must_read self.old ≡ false) × HasAddress (same_kind (kept self.old) added) (address_of added)) }
+            ↔ ((must_read self.old ≡ false) × IsAddressTaken (kept self.old) added) }
         ensures random_taken { (result ≡ Err RandomTaken)
-            ↔ ((must_read self.old ≡ false)
-            × (HasAddress (same_kind (kept self.old) added) (address_of added) → ⊥)
-            × HasRandom (same_kind (kept self.old) added) (random_of added)) }
+            ↔ ((must_read self.old ≡ false) × IsRandomTaken (kept self.old) added) }
+        ensures not_reserved { (result ≡ Err NotReserved)
+            ↔ ((must_read self.old ≡ false) × IsNotReserved (kept self.old) added) }
         ensures refusal { IfErr result RefusesCommit }
 
         ensures ok { OnOk result ((kept self.new ≡ with_record (kept self.old) added) × (must_read self.new ≡ false)) }
-        ensures taken { IsTaken result → (kept self.new ≡ kept self.old) × (must_read self.new ≡ false) }
+        ensures refused { IsRefused result → (kept self.new ≡ kept self.old) × (must_read self.new ≡ false) }
         ensures failed { HasFailed result → must_read self.new ≡ true }
 
         ensures block { block self.new ≡ block self.old }
@@ -90,7 +90,7 @@ pub trait Keep {
         ensures sound { is_sound self.old → is_up self.new → is_sound self.new }
         ensures adds { OnOk result (is_sound self.old → is_up self.new
             → (xs : List Record) → holds self.old xs → holds self.new (xs ++ added ∷ [])) }
-        ensures adds_none { ((must_read self.old ≡ true) ⊎ IsTaken result) → is_sound self.old → is_up self.new
+        ensures adds_none { ((must_read self.old ≡ true) ⊎ IsRefused result) → is_sound self.old → is_up self.new
             → (xs : List Record) → holds self.old xs → holds self.new xs }
         ensures adds_or_not { HasFailed result → is_sound self.old → is_up self.new
             → (xs : List Record) → holds self.old xs → holds self.new xs ⊎ holds self.new (xs ++ added ∷ []) };

@@ -1,9 +1,11 @@
 ghost use Rattle.std.specs.Prelude.{◌≡◌, ◌↔◌, ◌⊎◌, true, false, List, [], ◌∷◌, ◌++◌, Ok, Err, IsTrue, IsOk, OnOk};
 ghost use Rattle.std.specs.Prelude.{OnErr, IfOk, IfErr};
 ghost use Rattle.dali_script.specs.declared.records.Record.{Record};
-ghost use Rattle.dali_script.specs.Records.{without_records, Fits, IsFresh, HasAddress, HasRandom, same_kind};
-ghost use Rattle.dali_script.specs.Records.{address_of, random_of, with_record};
+ghost use Rattle.dali_script.specs.Records.{without_records, Fits, MayAdd, IsAddressTaken, IsRandomTaken};
+ghost use Rattle.dali_script.specs.Records.{IsNotReserved, with_record};
 ghost use Rattle.dali_reserve.specs.declared.error.KeepError.TheVariants.{NoMemory, AddressTaken, RandomTaken};
+ghost use Rattle.dali_reserve.specs.declared.error.KeepError.TheVariants.{NotReserved};
+ghost use Rattle.dali_reserve.specs.Refusals.{RefusesRecord};
 
 use crate::error::KeepError;
 use crate::keep::Keep;
@@ -86,22 +88,21 @@ impl Keep for MemoryKeep {
         }
     }
 
-    /// Adds a record as the last of its kind. It takes no memory.
+    /// Adds a record as the last of its kind; a release takes its reservation away. It takes no memory.
     ///
-    /// `AddressTaken` comes before `RandomTaken`; each speaks of records of the same kind alone.
+    /// `AddressTaken` comes before `RandomTaken`; each speaks of records of the same kind alone, and `NotReserved` of a
+    /// release.
     fn commit(&mut self, added: Record) -> Result<(), KeepError>
         requires { Fits self.old.block added }
 
-        ensures success { IsOk result ↔ IsFresh self.old added }
-        ensures address_taken { (result ≡ Err AddressTaken)
-            ↔ HasAddress (same_kind self.old added) (address_of added) }
-        ensures random_taken { (result ≡ Err RandomTaken)
-            ↔ ((HasAddress (same_kind self.old added) (address_of added) → ⊥)
-            × HasRandom (same_kind self.old added) (random_of added)) }
+        ensures success { IsOk result ↔ MayAdd self.old added }
+        ensures address_taken { (result ≡ Err AddressTaken) ↔ IsAddressTaken self.old added }
+        ensures random_taken { (result ≡ Err RandomTaken) ↔ IsRandomTaken self.old added }
+        ensures not_reserved { (result ≡ Err NotReserved) ↔ IsNotReserved self.old added }
         ensures ok { OnOk result (self.new ≡ with_record self.old added) }
         ensures err { OnErr result (self.new ≡ self.old) }
 
-        ensures refusal { IfErr result (λ e. (e ≡ AddressTaken) ⊎ (e ≡ RandomTaken)) }
+        ensures refusal { IfErr result RefusesRecord }
         ensures adds { OnOk result ((xs : List Record) → IsReplay self.old.block xs self.old
             → IsReplay self.new.block (xs ++ added ∷ []) self.new) }
         ensures sound { HasRecords self.new }
@@ -110,6 +111,7 @@ impl Keep for MemoryKeep {
             Ok(()) => Ok(()),
             Err(AddError::AddressTaken) => Err(KeepError::AddressTaken),
             Err(AddError::RandomTaken) => Err(KeepError::RandomTaken),
+            Err(AddError::NotReserved) => Err(KeepError::NotReserved),
         }
     }
 }

@@ -1,11 +1,11 @@
 -- What is known of the list that a database holds.
-use Rattle.std.proofs.Common.{◌≡◌, ℕ, ◌+◌, Bool, true, false, List, [], ◌∷◌, ◌++◌, map, length, ◌<◌, refl, sym, ap, subst, ◌∙◌, arith, length-append}
+use Rattle.std.proofs.Common.{◌≡◌, ℕ, ◌+◌, Bool, false, List, [], ◌∷◌, ◌++◌, map, length, ◌<◌, refl, sym, ap, subst, ◌∙◌, arith, length-append}
 use Rattle.std.proofs.lemmas.List.{length-map}
 use Rattle.sqlite.specs.Order.{Row}
 use Rattle.sqlite.specs.State.{State}
 use Rattle.dali_script.specs.declared.block.Block.{Block}
 use Rattle.dali_script.specs.declared.records.Record.{Record}
-use Rattle.dali_script.specs.Records.{Kept, without_records, with_record, Fits, IsFresh, address_of}
+use Rattle.dali_script.specs.Records.{Kept, without_records, with_record, Fits, MayAdd, address_of}
 use Rattle.dali_reserve.specs.Store.{replay_of, AreGood, IsReplay}
 use Rattle.dali_reserve.proofs.Replays.{block_replayed, replay_after}
 use Rattle.dali_sqlite.specs.Rows.{rows_after, four_of}
@@ -44,10 +44,10 @@ still_stored old new kept count must_read same sound =
     stored new kept count must_read sound.records (same sound.records sound.held) (λ read. sound.known read sound.records sound.held)
 
 -- one record more is held and known
-pub more_stored : (old new : State) (kept now : Kept) (count next : ℕ) (x : Record) → address_of x < 64 → Fits kept.block x → IsFresh kept x → now ≡ with_record kept x → next ≡ count + 1
+pub more_stored : (old new : State) (kept now : Kept) (count next : ℕ) (x : Record) → address_of x < 64 → Fits kept.block x → MayAdd kept x → now ≡ with_record kept x → next ≡ count + 1
     → ((xs : List Record) → count ≡ length xs → Holds old xs → Holds new (xs ++ x ∷ [])) → IsStored old kept count false → IsStored new now next false
-more_stored old new kept now count next x short fits fresh is more adds sound =
+more_stored old new kept now count next x short fits may is more adds sound =
     let xs = sound.records in
     let known = sound.known refl xs sound.held in
     let longer : next ≡ length (xs ++ x ∷ []) = omega (arith, length-append xs (x ∷ []), known.1) in
-    stored new now next false (xs ++ x ∷ []) (adds xs known.1 sound.held) (λ _. (replay_after kept now x short fits fresh is xs known.0, longer))
+    stored new now next false (xs ++ x ∷ []) (adds xs known.1 sound.held) (λ _. (replay_after kept now x short fits may is xs known.0, longer))

@@ -14,7 +14,7 @@ use Rattle.sqlite.specs.Query.{Output, output_cmp}
 use Rattle.sqlite_sql.proofs.QueryLemmas.{output_cmp_total}
 use Rattle.sqlite_keyed.proofs.SortLemmas.{sorted_unique}
 use Rattle.dali_script.specs.declared.records.Record.{Record}
-use Rattle.dali_script.specs.declared.records.Record.TheVariants.{Reserve, Enrol}
+use Rattle.dali_script.specs.declared.records.Record.TheVariants.{Reserve, Enrol, Release}
 use Rattle.dali_sqlite.specs.Rows.{row_of, rows_after}
 use Rattle.dali_sqlite.specs.Stored.{Lists}
 use Rattle.dali_sqlite.proofs.Texts.{query}
@@ -58,6 +58,11 @@ same_record n (Reserve a r) (Reserve b s) is = cc
 same_record n (Enrol a r) (Enrol b s) is = cc
 same_record n (Reserve a r) (Enrol b s) is = absurd (let kinds : ◌≡◌ {A = ℕ} 1 2 = cc in omega arith)
 same_record n (Enrol a r) (Reserve b s) is = absurd (let kinds : ◌≡◌ {A = ℕ} 2 1 = cc in omega arith)
+same_record n (Release a r) (Release b s) is = cc
+same_record n (Release a r) (Reserve b s) is = absurd (let kinds : ◌≡◌ {A = ℕ} 3 1 = cc in omega arith)
+same_record n (Release a r) (Enrol b s) is = absurd (let kinds : ◌≡◌ {A = ℕ} 3 2 = cc in omega arith)
+same_record n (Reserve a r) (Release b s) is = absurd (let kinds : ◌≡◌ {A = ℕ} 1 3 = cc in omega arith)
+same_record n (Enrol a r) (Release b s) is = absurd (let kinds : ◌≡◌ {A = ℕ} 2 3 = cc in omega arith)
 
 pub same_records : (n : ℕ) (xs ys : List Record) → rows_after n xs ≡ rows_after n ys → xs ≡ ys
 same_records n [] [] is = refl

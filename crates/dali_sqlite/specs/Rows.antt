@@ -2,13 +2,14 @@ use Rattle.std.specs.Prelude.{◌≡◌, ℕ, ◌+◌, pos, List, [], ◌∷◌}
 use Rattle.sqlite.specs.declared.types.Value.TheVariants.{Int}
 use Rattle.sqlite.specs.Order.{Row, column}
 use Rattle.dali_script.specs.declared.records.Record.{Record}
-use Rattle.dali_script.specs.declared.records.Record.TheVariants.{Reserve, Enrol}
+use Rattle.dali_script.specs.declared.records.Record.TheVariants.{Reserve, Enrol, Release}
 use Rattle.dali_script.specs.Records.{address_of, random_of}
 
 -- the column kind
 abbrev pub kind_of : Record → ℕ
 kind_of (Reserve a r) = 1
 kind_of (Enrol a r) = 2
+kind_of (Release a r) = 3
 
 -- A RECORD AS A ROW: its place in the list, from 1 on, its kind, its short address and its random
 -- address.

@@ -13,10 +13,12 @@ use dali_script::{Kept, Record};
 use sqlite::Row;
 use sqlite::types::ValueRef;
 
-/// The kind that the table has of a reservation, and of an enrolment.
+/// The kind that the table has of a reservation, of an enrolment, and of the release of a reservation.
 const RESERVE: u32 = 1;
 
 const ENROL: u32 = 2;
+
+const RELEASE: u32 = 3;
 
 /// The column `kind` of a record.
 pub fn kind_of(added: &Record) -> u32
@@ -25,6 +27,7 @@ pub fn kind_of(added: &Record) -> u32
     match *added {
         Record::Reserve(..) => RESERVE,
         Record::Enrol(..) => ENROL,
+        Record::Release(..) => RELEASE,
     }
 }
 
@@ -65,6 +68,7 @@ fn record_in(row: &Row) -> Option<Record>
     match u32::try_from(number(row, 1)?).ok()? {
         RESERVE => Some(Record::Reserve(address, random)),
         ENROL => Some(Record::Enrol(address, random)),
+        RELEASE => Some(Record::Release(address, random)),
         _ => None,
     }
 }

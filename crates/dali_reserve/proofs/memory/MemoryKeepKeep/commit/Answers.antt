@@ -3,7 +3,7 @@ use Rattle.dali_script.specs.declared.records.Record.{Record}
 use Rattle.dali_script.specs.Records.{Kept, Fits}
 use Rattle.dali_reserve.specs.Store.{IsReplay, HasRecords}
 use Rattle.dali_reserve.proofs.Replays.{replay_ok, records_after}
-use Rattle.dali_reserve.proofs.memory.MemoryKeepKeep.commit.Goals.{in-Ok, in-Err-AddressTaken, in-Err-RandomTaken}
+use Rattle.dali_reserve.proofs.memory.MemoryKeepKeep.commit.Goals.{in-Ok, in-Err-AddressTaken, in-Err-RandomTaken, in-Err-NotReserved}
 use Rattle.dali_reserve.proofs.memory.MemoryKeepKeep.commit.Goals as goal
 
 fits : (c : goal.Joined-add) → Fits c.self.inside.kept.block c.args.added
@@ -26,6 +26,7 @@ returns-clause-adds c = elim c.match-add.branch [
       )
   | in-Err-AddressTaken w ↦ rw w.result-is tt
   | in-Err-RandomTaken w ↦ rw w.result-is tt
+  | in-Err-NotReserved w ↦ rw w.result-is tt
 ]
 
 pub returns-clause-sound : goal.returns-clause-sound
