@@ -18,10 +18,10 @@ use Rattle.dali_script.specs.declared.trace.Entry.{Entry}
 use Rattle.dali_script.specs.declared.finding.Finding.{Finding}
 use Rattle.dali_script.specs.declared.finding.Finding.TheVariants.{Queried, Resolved}
 use Rattle.dali_script.specs.declared.records.Record.{Record}
-use Rattle.dali_script.specs.declared.records.Record.TheVariants.{Reserve, Enrol}
+use Rattle.dali_script.specs.declared.records.Record.TheVariants.{Reserve, Enrol, Release}
 use Rattle.dali_script.specs.declared.stage.Stage.{Stage}
 use Rattle.dali_script.specs.declared.stage.Stage.TheVariants.{Free, Terminated, InitialisedOnce, Initialised, RandomisedOnce, Opened, HighSent, MiddleSent, NumberSent, Found, Unnamed, Unanswered, Inconclusive, Programmed, Confirmed, Withdrawn, HighAsked, MiddleAsked, Spelled}
-use Rattle.dali_script.specs.Records.{IsKept, IsOnce, with_record, HasAddress, Kept, Assignment, Has, HasRandom, Fits, IsFresh}
+use Rattle.dali_script.specs.Records.{IsKept, IsOnce, with_record, HasAddress, Kept, Assignment, Has, HasRandom, Fits, MayAdd}
 use Rattle.dali_script.specs.Scripts.{MayGive, Lawful}
 use Rattle.dali_script.specs.Findings.{later, finding_of}
 use Rattle.dali_script.specs.Stages.{finding_at, stage_of, next_stage, queried, named, verified, answered, Follows}
@@ -339,16 +339,16 @@ begin_fine w p n t q f b empty is = record {
 }
 
 -- TO STORE
-pub commit_fine : (w : Work) (x : Record) (t : List Entry) → w.table ≡ table_of w.kept → IsReady w → closing_of w.purpose ≡ None → Fits w.kept.block x → IsFresh w.kept x → t ≡ []
+pub commit_fine : (w : Work) (x : Record) (t : List Entry) → w.table ≡ table_of w.kept → IsReady w → closing_of w.purpose ≡ None → Fits w.kept.block x → MayAdd w.kept x → t ≡ []
     → IsFine (record w { trace = t; last = Some (Commit x) })
-commit_fine w x t table ready going fits fresh empty = record {
+commit_fine w x t table ready going fits may empty = record {
   table = table;
   pending = record {
     ready = record { tries = ready.tries; calm = ready.calm; knows = ready.knows };
     free = free_of t empty;
     going = going;
     fits = fits;
-    fresh = fresh;
+    may = may;
   };
 }
 
@@ -615,7 +615,7 @@ enrols_at w b n h none fresh =
     let tries : w.tries < 8 = h.ready.tries in
     let calm : w.silent < 16 = settled_calm w b n h in
     record {
-      allowed = record { fits = h.drawn; fresh = (none, fresh); warranted = (h.found, h.finding, h.trace_finding, h.may) };
+      allowed = record { fits = h.drawn; may = (none, fresh); warranted = (h.found, h.finding, h.trace_finding, h.may) };
       addressing = tt;
       caused = h.going;
       given_up = λ e. absurd (omega arith);
@@ -633,6 +633,11 @@ enrols w b n o new h none fresh order state = record {
       (enrols_at w b n h (subst (λ xs. HasAddress xs b → ⊥) (entries_of w h.table) none) (subst (λ xs. HasRandom xs n → ⊥) (entries_of w h.table) fresh));
   state = state;
 }
+
+-- TO RELEASE: what is reserved fits
+pub fits_reserved : (k : Kept) (a n : ℕ) → IsKept k → Has k.reserved (a, n) → Fits k.block (Release a n)
+fits_reserved k a n kept has =
+    (kept.within a (has_map (λ q. q.0) k.reserved (a, n) has), kept.reserved_drawn n (has_map (λ q. q.1) k.reserved (a, n) has))
 
 -- a number is reserved once its reservation is kept
 pub reserved_kept : (w new : Work) (x : Record) (a n m : ℕ) → x ≡ Reserve a n → new ≡ record w { kept = with_record w.kept x } → m ≡ n → HasRandom new.kept.reserved m

@@ -14,6 +14,7 @@ use Rattle.dali_special.specs.Command.{command_of, IsSpelled}
 use Rattle.dali_script.specs.declared.finding.Finding.{Finding}
 use Rattle.dali_script.specs.declared.finding.Finding.TheVariants.{Queried, Resolved}
 use Rattle.dali_script.specs.declared.records.Record.{Record}
+use Rattle.dali_script.specs.declared.records.Record.TheVariants.{Enrol}
 use Rattle.dali_script.specs.declared.stage.Stage.{Stage}
 use Rattle.dali_script.specs.declared.stage.Stage.TheVariants.{Free, Terminated, InitialisedOnce}
 use Rattle.dali_script.specs.declared.stage.Stage.TheVariants.{Initialised, RandomisedOnce, Opened}
@@ -22,7 +23,7 @@ use Rattle.dali_script.specs.declared.stage.Stage.TheVariants.{Probed, Found, Un
 use Rattle.dali_script.specs.declared.stage.Stage.TheVariants.{Inconclusive, Programmed, Confirmed}
 use Rattle.dali_script.specs.declared.stage.Stage.TheVariants.{Withdrawn, HighAsked}
 use Rattle.dali_script.specs.declared.stage.Stage.TheVariants.{MiddleAsked, Spelled}
-use Rattle.dali_script.specs.Records.{Kept, Has, HasRandom, Fits, IsFresh, IsFull}
+use Rattle.dali_script.specs.Records.{Kept, Has, HasRandom, Fits, MayAdd, IsFull}
 use Rattle.dali_script.specs.Scripts.{MayGive}
 use Rattle.dali_script.specs.Findings.{assigned, MayEnrol, finding_of}
 use Rattle.dali_script.specs.Stages.{stage_of, given, IsSearched}
@@ -175,7 +176,7 @@ pub record IsStoring (w : Work) (x : Record) : Type 0 where
   pub free : stage_of w.trace ≡ Free
   pub going : closing_of w.purpose ≡ None
   pub fits : Fits w.kept.block x
-  pub fresh : IsFresh w.kept x
+  pub may : MayAdd w.kept x
 
 abbrev pub Pending : Work → Option Order → Type 0
 Pending w None = IsUnstarted w
@@ -247,6 +248,13 @@ pub record Settles (w : Work) (b n : ℕ) : Type 0 where
   pub unnamed : (r : SearchAddress) → stage_of w.trace ≡ Unnamed r → ⊥
   pub withdrawn : (r : SearchAddress) (c : ℕ) → stage_of w.trace ≡ Withdrawn r c
       → (c ≡ b) × (value_of r ≡ n)
+
+-- what holds where an enrolment was just kept
+pub record Enrolled (w : Work) (b n : ℕ) : Type 0 where
+  pub between : IsBetween w
+  pub ready : IsReady w
+  pub free : stage_of w.trace ≡ Free
+  pub last : w.last ≡ Some (Commit (Enrol b n))
 
 -- what holds where a close is begun
 pub record Closes (w : Work) (e : End) : Type 0 where

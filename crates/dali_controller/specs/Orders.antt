@@ -9,12 +9,12 @@ use Rattle.dali_special.specs.declared.command.Command.TheVariants.{Terminate, P
 use Rattle.dali_special.specs.Command.{command_of, frame_of}
 use Rattle.dali_script.specs.declared.finding.Finding.{Finding}
 use Rattle.dali_script.specs.declared.records.Record.{Record}
-use Rattle.dali_script.specs.declared.records.Record.TheVariants.{Reserve, Enrol}
+use Rattle.dali_script.specs.declared.records.Record.TheVariants.{Reserve, Enrol, Release}
 use Rattle.dali_script.specs.declared.trace.Entry.{Entry}
 use Rattle.dali_script.specs.declared.stage.Stage.{Stage}
 use Rattle.dali_script.specs.declared.stage.Stage.TheVariants.{Terminated, Probed, Unnamed}
 use Rattle.dali_script.specs.declared.stage.Stage.TheVariants.{Withdrawn}
-use Rattle.dali_script.specs.Records.{Assignment, Has, HasRandom, Fits, IsFresh, IsLeastFree}
+use Rattle.dali_script.specs.Records.{Assignment, Has, HasRandom, Fits, MayAdd, IsLeastFree}
 use Rattle.dali_script.specs.Records.{IsFull}
 use Rattle.dali_script.specs.Scripts.{Lawful}
 use Rattle.dali_script.specs.Findings.{assigned, MayEnrol, finding_of}
@@ -74,18 +74,20 @@ MayPut t p f =
     ⊎ ((p ≡ LATER) × (t.trace ≡ [] → ⊥) × Lawful t.kept.block t.kept.reserved t.trace f)
 
 -- An address is reserved for gear that has answered MASK under its number. Enrolled is what the last
--- finding lets be enrolled, and it is the one of the running transaction.
+-- finding lets be enrolled, and it is the one of the running transaction. Released is what is reserved
+-- for a number that was just enrolled, with another address.
 abbrev pub IsWarranted : Machine → Record → Type 0
 IsWarranted t (Reserve a r) =
     (n : SearchAddress) × (stage_of t.trace ≡ Unnamed n) × (value_of n ≡ r)
 IsWarranted t (Enrol b r) =
     (x : Finding) × (t.finding ≡ Some x) × (finding_of t.trace ≡ Some x)
     × MayEnrol t.kept.reserved x (b, r)
+IsWarranted t (Release a r) = (b : ℕ) × (t.last ≡ Some (Commit (Enrol b r))) × (b ≡ a → ⊥)
 
--- a record that fits, with neither its address nor its number in a record of its kind
+-- a record that fits and may be added
 pub record MayCommit (t : Machine) (x : Record) : Type 0 where
   pub fits : Fits t.kept.block x
-  pub fresh : IsFresh t.kept x
+  pub may : MayAdd t.kept x
   pub warranted : IsWarranted t x
 
 -- a frame that is put is an addressing command, and no direct arc power
@@ -147,6 +149,7 @@ AfterMask t r (Commit (Reserve a n)) =
     (value_of r ≡ n) × (HasRandom t.kept.reserved n → ⊥)
     × IsLeastFree t.kept.block t.kept.reserved a
 AfterMask t r (Commit (Enrol b n)) = ⊥
+AfterMask t r (Commit (Release a n)) = ⊥
 AfterMask t r (Done e) = ⊥
 AfterMask t r (Halt w) = ⊥
 

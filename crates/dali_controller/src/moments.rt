@@ -3,7 +3,7 @@ ghost use Rattle.dali_frame.specs.Random.{value_of, MASK24};
 ghost use Rattle.dali_frame.specs.declared.numbers.SearchAddress.{SearchAddress};
 ghost use Rattle.dali_frame.specs.declared.frames.Answer.TheVariants.{Silence};
 ghost use Rattle.dali_script.specs.declared.stage.Stage.TheVariants as stage;
-ghost use Rattle.dali_script.specs.Records.{Fits, IsFresh, Has, HasAddress, HasRandom, with_record};
+ghost use Rattle.dali_script.specs.Records.{Fits, MayAdd, Has, HasAddress, HasRandom, with_record};
 ghost use Rattle.dali_enrol.specs.Table.{with_entry};
 ghost use Rattle.dali_search.specs.declared.step.Step.TheVariants as search;
 ghost use Rattle.dali_script.specs.declared.orders.Input.TheVariants as input;
@@ -39,7 +39,7 @@ fn is_yes(heard: Answer) -> bool
 
 impl Work {
     ghost use Rattle.dali_controller.specs.Moments.{machine_of, turn_of, IsFine, IsHeard, IsBetween, Closes, Settles, IsNext};
-    ghost use Rattle.dali_controller.specs.Moments.{IsStep};
+    ghost use Rattle.dali_controller.specs.Moments.{Enrolled, IsStep};
 
     /// The start: visits to what is unfinished, and then an opening.
     pub(crate) fn start(&mut self) -> Order
@@ -364,18 +364,33 @@ impl Work {
             Record::Reserve(_, number) => self.visit(SearchAddress::of(number)),
             Record::Enrol(short, number) => {
                 enter(&mut self.table, short, number);
-                self.go_on()
+                self.enrolled(short, number)
             }
+            Record::Release(..) => self.go_on(),
+        }
+    }
+
+    /// The gear with this short address and this random address is enrolled. Another short address that was reserved
+    /// for it is given back.
+    fn enrolled(&mut self, short: Short, random: Random24) -> Order
+        requires { Enrolled self.old short random }
+
+        ensures next { IsNext (machine_of self.old) result (machine_of self.new) }
+        ensures fine { IsFine self.new }
+    {
+        match self.kept.reserved_for(random) {
+            Some(other) if other != short => self.commit(Record::Release(other, random)),
+            _ => self.go_on(),
         }
     }
 
     /// Adds a record to those that are kept.
     fn keep(&mut self, added: Record)
         requires fits { Fits self.old.kept.block added }
-        requires fresh { IsFresh self.old.kept added }
+        requires may { MayAdd self.old.kept added }
         ensures { self.new ≡ record self.old { kept = with_record self.old.kept added } }
     {
-        // It is the only record of its address and of its number, so it is not refused.
+        // It may be added, so it is not refused.
         let _ = self.kept.add(added);
     }
 

@@ -2,7 +2,7 @@ ghost use Rattle.std.specs.Prelude.{◌≡◌, ◌+◌, ◌<◌, ◌≤◌, Some
 ghost use Rattle.dali_frame.specs.Priority.{FIRST, LATER};
 ghost use Rattle.dali_script.specs.declared.stage.Stage.TheVariants.{Free};
 ghost use Rattle.dali_script.specs.Findings.{later, finding_of};
-ghost use Rattle.dali_script.specs.Records.{Fits, IsFresh};
+ghost use Rattle.dali_script.specs.Records.{Fits, MayAdd};
 ghost use Rattle.dali_script.specs.Stages.{stage_of};
 ghost use Rattle.dali_script.specs.declared.orders.Input.TheVariants as input;
 ghost use Rattle.dali_script.specs.declared.orders.Order.TheVariants as order;
@@ -143,7 +143,7 @@ impl Work {
         requires ready { IsReady self.old }
         requires going { closing_of self.old.purpose ≡ None }
         requires fits { Fits self.old.kept.block added }
-        requires fresh { IsFresh self.old.kept added }
+        requires may { MayAdd self.old.kept added }
 
         ensures order { result ≡ order.Commit added }
         ensures state { machine_of self.new ≡ machine_ordered (machine_of self.old) result }

@@ -3,4 +3,4 @@ use Rattle.dali_controller.proofs.work.Work.commit.Goals as goal
 
 pub returns-clause-fine : goal.returns-clause-fine
 returns-clause-fine c =
-    commit_fine c.args.self.now c.args.added _ c.requires.table c.requires.ready c.requires.going c.requires.fits c.requires.fresh c.new-self.ensures
+    commit_fine c.args.self.now c.args.added _ c.requires.table c.requires.ready c.requires.going c.requires.fits c.requires.may c.new-self.ensures
