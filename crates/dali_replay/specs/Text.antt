@@ -11,7 +11,7 @@ use Rattle.dali_gear.specs.declared.state.InitialisationState.TheVariants.{Disab
 use Rattle.dali_gear.specs.declared.state.InitialisationState.TheVariants.{Withdrawn}
 use Rattle.dali_gear.specs.Gear.{Gear}
 use Rattle.dali_script.specs.declared.records.Record.{Record}
-use Rattle.dali_script.specs.declared.records.Record.TheVariants.{Reserve, Enrol}
+use Rattle.dali_script.specs.declared.records.Record.TheVariants.{Reserve, Enrol, Release}
 use Rattle.dali_script.specs.Records.{Assignment}
 use Rattle.dali_script.specs.declared.orders.Order.{Order}
 use Rattle.dali_script.specs.declared.orders.Order.TheVariants.{Put, Commit, Done, Halt}
@@ -97,6 +97,7 @@ assignment_text name a r = name ++ (decimal a ++ (codes " " ++ random_text r))
 abbrev pub commit_text : Record → List ℕ
 commit_text (Reserve a r) = assignment_text (codes "reserve ") a r
 commit_text (Enrol a r) = assignment_text (codes "enrol ") a r
+commit_text (Release a r) = assignment_text (codes "release ") a r
 
 abbrev pub end_text : End → List ℕ
 end_text AllFound = codes "all-found"

@@ -133,6 +133,7 @@ fn push_record(text: &mut String, added: Record) -> Result<(), AllocError>
     match added {
         Record::Reserve(address, random) => push_assignment(text, "reserve ", address, random),
         Record::Enrol(address, random) => push_assignment(text, "enrol ", address, random),
+        Record::Release(address, random) => push_assignment(text, "release ", address, random),
     }
 }
 

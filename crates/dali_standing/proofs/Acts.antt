@@ -10,9 +10,9 @@ use Rattle.dali_arbiter.specs.Arbiter.{owns}
 use Rattle.dali_script.specs.declared.trace.Entry.{Entry}
 use Rattle.dali_script.specs.declared.finding.Finding.{Finding}
 use Rattle.dali_script.specs.declared.records.Record.{Record}
-use Rattle.dali_script.specs.declared.records.Record.TheVariants.{Reserve, Enrol}
-use Rattle.dali_script.specs.Records.{Kept, InBlock, IsFresh}
-use Rattle.dali_script.specs.Findings.{MayEnrol, finding_of, later}
+use Rattle.dali_script.specs.declared.records.Record.TheVariants.{Reserve, Enrol, Release}
+use Rattle.dali_script.specs.Records.{Kept, InBlock, MayAdd}
+use Rattle.dali_script.specs.Findings.{MayEnrol, assigned, finding_of, later}
 use Rattle.dali_script.specs.Scripts.{Lawful, IsFirst}
 use Rattle.dali_script.specs.Stages.{stage_of, may_follow}
 use Rattle.dali_script.proofs.Transactions.{over, follows_lawful}
@@ -20,13 +20,14 @@ use Rattle.dali_script.specs.declared.orders.Input.{Input}
 use Rattle.dali_script.specs.declared.orders.Input.TheVariants as input
 use Rattle.dali_script.specs.declared.orders.Order.{Order}
 use Rattle.dali_script.specs.declared.orders.Order.TheVariants.{Put, Commit, Done, Halt}
-use Rattle.dali_script.specs.Due.{due_after, accepts}
-use Rattle.dali_controller.specs.Machine.{Machine, machine_told}
+use Rattle.dali_script.specs.Due.{due_after, accepts, frame_put, record_ordered}
+use Rattle.dali_controller.specs.Machine.{Machine, machine_told, machine_heard, machine_committed}
 use Rattle.dali_controller.specs.Orders.{IsOrdered, IsAnswered, IsAllowed, IsAddressing, machine_ordered, machine_after}
 use Rattle.dali_events.specs.World.{World, Controller}
 use Rattle.dali_events.specs.Happens.{entry, controller_informed, is_arc}
 use Rattle.dali_events.specs.Allowed.{IsDue, IsCommit, MayOrder}
-use Rattle.dali_standing.specs.Seats.{IsRunning, IsTold, IsOutstanding, IsFound, informed_by}
+use Rattle.dali_events.proofs.Naming.{enrols_assigned}
+use Rattle.dali_standing.specs.Seats.{IsRunning, IsTold, IsOutstanding, IsFound, IsEnrolling, informed_by}
 use Rattle.dali_standing.specs.Settled.{IsOwning, IsApart, IsPlacedBy}
 
 -- WHAT A CONTROLLER ORDERS, the table of events allows.
@@ -135,6 +136,7 @@ record AreInformed (w : World) (c : ℕ) (k : Controller) (t : Machine) : Type 0
   pub kept : t.kept ≡ k.records
   pub outstanding : k.outstanding ≡ None
   pub found : later k.finding (finding_of t.trace) ≡ k.finding
+  pub enrolling : IsEnrolling t.last k.finding
   pub owns_with : OwnsWith w c k t
 
 pub later_some : (k o : Option Finding) (x : Finding) → o ≡ Some x → later k o ≡ k → k ≡ Some x
@@ -147,12 +149,15 @@ may_order_by w c k t (Put p f) both (inr may) =
     let own = both.owns_with f may.1 lawful in
     inr (may.0, own.0, subst (λ u. Lawful k.records.block k.records.reserved u f) own.1 lawful)
 may_order_by w c k t (Commit (Reserve a r)) both may =
-    (both.outstanding, subst (λ x. InBlock x.block a × (r < MASK24) × IsFresh x (Reserve a r)) both.kept (may.fits.0, may.fits.1, may.fresh))
+    (both.outstanding, subst (λ x. InBlock x.block a × (r < MASK24) × MayAdd x (Reserve a r)) both.kept (may.fits.0, may.fits.1, may.may))
 may_order_by w c k t (Commit (Enrol b r)) both may =
     let x : Finding = may.warranted.0 in
     let enrols : MayEnrol k.records.reserved x (b, r) = subst (λ q. MayEnrol q.reserved x (b, r)) both.kept may.warranted.3 in
     let found : k.finding ≡ Some x = later_some k.finding (finding_of t.trace) x may.warranted.2 both.found in
-    (both.outstanding, ((x, found, enrols), may.fits, subst (λ q. IsFresh q (Enrol b r)) both.kept may.fresh))
+    (both.outstanding, ((x, found, enrols), may.fits, subst (λ q. MayAdd q (Enrol b r)) both.kept may.may))
+may_order_by w c k t (Commit (Release a r)) both may =
+    let enrolled = subst (λ l. IsEnrolling l k.finding) may.warranted.1 both.enrolling in
+    (both.outstanding, subst (λ q. MayAdd q (Release a r)) both.kept may.may, (enrolled.0, enrolled.1, may.warranted.0, enrolled.2, may.warranted.2))
 may_order_by w c k t (Done e) both may = tt
 may_order_by w c k t (Halt why) both may = tt
 
@@ -184,8 +189,39 @@ owns_told w c k m input.Start p f bus is same e placed = elim bus [ ]
 owns_told w c k m input.Committed p f bus is same e placed = elim bus [ ]
 owns_told w c k m input.CommitFailed p f bus is same e placed = elim bus [ ]
 
+-- an enrolment that is ordered is of the controller's last finding
+pub enrolling_by : (k : Controller) (t : Machine) (o : Order) → later k.finding (finding_of t.trace) ≡ k.finding → IsAllowed t o → IsEnrolling (Some o) k.finding
+enrolling_by k t (Commit (Enrol b r)) found may =
+    let x : Finding = may.warranted.0 in
+    (x, later_some k.finding (finding_of t.trace) x may.warranted.2 found, sym (enrols_assigned t.kept.reserved x (b, r) may.warranted.3))
+enrolling_by k t (Commit (Reserve a r)) found may = tt
+enrolling_by k t (Commit (Release a r)) found may = tt
+enrolling_by k t (Put p f) found may = tt
+enrolling_by k t (Done e) found may = tt
+enrolling_by k t (Halt why) found may = tt
+
 pub found_told : (k : Controller) (m : Machine) (i : Input) → k.told ≡ Some i → IsFound k m → later k.finding (finding_of (machine_told m i).trace) ≡ k.finding
 found_told k m i e is = subst (λ t. later k.finding (finding_of (informed_by m t).trace) ≡ k.finding) e is
+
+-- what is told leaves the last order
+heard_last : (m : Machine) (f : Option Forward) (h : Answer) → (machine_heard m f h).last ≡ m.last
+heard_last m None h = refl
+heard_last m (Some f) h = refl
+
+committed_last_stays : (m : Machine) (x : Option Record) → (machine_committed m x).last ≡ m.last
+committed_last_stays m None = refl
+committed_last_stays m (Some x) = refl
+
+last_told : (m : Machine) (i : Input) → (machine_told m i).last ≡ m.last
+last_told m input.Start = refl
+last_told m (input.Heard h) = heard_last m (frame_put m.last) h
+last_told m input.Destroyed = refl
+last_told m input.Lapsed = refl
+last_told m input.Committed = committed_last_stays m (record_ordered m.last)
+last_told m input.CommitFailed = refl
+
+enrolling_told : (k : Controller) (m : Machine) (i : Input) → IsRunning k m → IsEnrolling (machine_told m i).last k.finding
+enrolling_told k m i tied = subst (λ l. IsEnrolling l k.finding) (sym (last_told m i ∙ tied.last)) tied.enrolling
 
 informed_bus : (w : World) (c : ℕ) (k : Controller) (m : Machine) (i : Input) → IsOfBus i → k.told ≡ Some i → IsRunning k m → IsPlacedBy (owns w.bus.owner c) w.trace k (Some m)
     → AreInformed w c (controller_informed k i) (machine_told m i)
@@ -195,6 +231,7 @@ informed_bus w c k m i bus is tied placed =
       kept = bus_kept m i put.0 put.1 bus (tied.last ∙ put.2) ∙ tied.kept ∙ sym (bus_records k i bus).0;
       outstanding = (bus_records k i bus).1 ∙ put_outstanding k.records k.last k.outstanding put tied.outstanding;
       found = found_told k m i is tied.found;
+      enrolling = enrolling_told k m i tied;
       owns_with = owns_told w c k m i put.0 put.1 bus is tied.last put.2 placed;
     }
 
@@ -206,6 +243,7 @@ informed_start w c k m is tied placed =
       kept = tied.kept;
       outstanding = subst (λ l. IsOutstanding k.records l k.outstanding) none tied.outstanding;
       found = found_told k m input.Start is tied.found;
+      enrolling = enrolling_told k m input.Start tied;
       owns_with = owns_none w c (controller_informed k input.Start) m (placed_start (owns w.bus.owner c) w.trace k m none placed);
     }
 
@@ -220,6 +258,7 @@ informed_committed w c k m commit tied placed =
       kept = rw (ordered_x, out, tied.kept) refl;
       outstanding = refl;
       found = rw (ordered_x, none) refl;
+      enrolling = enrolling_told k m input.Committed tied;
       owns_with = owns_none w c (controller_informed k input.Committed) (machine_told m input.Committed) (rw ordered_x none);
     }
 

@@ -5,8 +5,9 @@ use Rattle.dali_script.specs.declared.block.Block.{Block}
 use Rattle.dali_script.specs.declared.trace.Entry.{Entry}
 use Rattle.dali_script.specs.declared.finding.Finding.{Finding}
 use Rattle.dali_script.specs.declared.records.Record.{Record}
-use Rattle.dali_script.specs.Records.{Kept, Fits, IsFresh, without_records}
-use Rattle.dali_script.specs.Findings.{later, finding_of}
+use Rattle.dali_script.specs.declared.records.Record.TheVariants.{Enrol}
+use Rattle.dali_script.specs.Records.{Kept, Fits, MayAdd, without_records}
+use Rattle.dali_script.specs.Findings.{later, finding_of, assigned}
 use Rattle.dali_script.specs.declared.orders.Input.{Input}
 use Rattle.dali_script.specs.declared.orders.Input.TheVariants as input
 use Rattle.dali_script.specs.declared.orders.Order.{Order}
@@ -42,7 +43,7 @@ IsTold last (Some i) = accepts (due_after last) i ≡ true
 -- for something else, but one may have been left over where the machine has ended.
 abbrev pub IsOutstanding : Kept → Option Order → Option Record → Type 0
 IsOutstanding k (Some (Commit x)) outstanding =
-    (outstanding ≡ Some x) × Fits k.block x × IsFresh k x
+    (outstanding ≡ Some x) × Fits k.block x × MayAdd k x
 IsOutstanding k (Some (Done e)) outstanding = Unit {0}
 IsOutstanding k (Some (Halt f)) outstanding = Unit {0}
 IsOutstanding k (Some (Put p f)) outstanding = outstanding ≡ None
@@ -54,12 +55,20 @@ IsOutstanding k None outstanding = outstanding ≡ None
 abbrev pub IsFound : Controller → Machine → Type 0
 IsFound k m = later k.finding (finding_of (informed_by m k.told).trace) ≡ k.finding
 
+-- An enrolment that was ordered is of the last finding of the controller, which finds nothing more
+-- until it has acted on the outcome.
+abbrev pub IsEnrolling : Option Order → Option Finding → Type 0
+IsEnrolling (Some (Commit (Enrol b r))) found =
+    (x : Finding) × (found ≡ Some x) × (assigned x ≡ (b, r))
+IsEnrolling _ found = Unit {0}
+
 pub record IsRunning (k : Controller) (m : Machine) : Type 0 where
   pub kept : m.kept ≡ k.records
   pub last : m.last ≡ k.last
   pub told : IsTold k.last k.told
   pub outstanding : IsOutstanding k.records k.last k.outstanding
   pub found : IsFound k m
+  pub enrolling : IsEnrolling k.last k.finding
 
 abbrev pub IsTied : Controller → Option Machine → Type 0
 IsTied k None = (k.told ≡ None) × (k.finding ≡ None) × (k.last ≡ None)

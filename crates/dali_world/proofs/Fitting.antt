@@ -2,7 +2,7 @@ use Rattle.std.proofs.Common.{◌≡◌, ℕ, List, Option, Some, None, refl, su
 use Rattle.std.specs.Prelude.{IfSome}
 use Rattle.dali_script.specs.declared.block.Block.{Block}
 use Rattle.dali_script.specs.declared.records.Record.{Record}
-use Rattle.dali_script.specs.declared.records.Record.TheVariants.{Reserve, Enrol}
+use Rattle.dali_script.specs.declared.records.Record.TheVariants.{Reserve, Enrol, Release}
 use Rattle.dali_script.specs.Records.{Kept, InBlock, Fits}
 use Rattle.dali_script.specs.declared.orders.Input.{Input}
 use Rattle.dali_script.specs.declared.orders.Input.TheVariants as input
@@ -23,6 +23,7 @@ with_outstanding_block : (k : Kept) (x : Option Record) → (with_outstanding k 
 with_outstanding_block k None = refl
 with_outstanding_block k (Some (Reserve a r)) = refl
 with_outstanding_block k (Some (Enrol a r)) = refl
+with_outstanding_block k (Some (Release a r)) = refl
 
 kept_block : (k : Controller) (i : Input) → (kept_after k i).block ≡ k.records.block
 kept_block k input.Committed = with_outstanding_block k.records k.outstanding
