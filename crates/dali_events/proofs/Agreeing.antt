@@ -10,33 +10,43 @@ use Rattle.dali_arbiter.specs.Arbiter.{owns}
 use Rattle.dali_script.specs.Records.{Assignment, Has}
 use Rattle.dali_script.specs.Findings.{two_bytes, asked_of}
 use Rattle.dali_events.specs.declared.event.Event.{Event}
-use Rattle.dali_events.specs.Plan.{Plan}
-use Rattle.dali_events.specs.World.{World, gear_at, controller_at}
+use Rattle.dali_events.specs.Plan.{Plan, IsPlan}
+use Rattle.dali_events.specs.World.{World, gear_at, controller_at, start}
 use Rattle.dali_events.specs.declared.event.Event.TheVariants.{Sent}
 use Rattle.dali_events.specs.Happens.{happens, trace_running, entry}
 use Rattle.dali_events.specs.Allowed.{Allowed}
-use Rattle.dali_events.specs.Runs.{after, after_all, IsRun, AreDrawn}
+use Rattle.dali_events.specs.Runs.{after, after_all, AllAllowed, IsRun, AreDrawn}
 use Rattle.dali_events.specs.Promise.{IsEnrolled, NamesGear, Names, IsSafe}
-use Rattle.dali_events.specs.Laws.{GiftsAreReserved, TablesAgree, HasFound, FindingsAgree}
+use Rattle.dali_events.specs.Laws.{GiftsAreReserved, KeepsReserved, TablesAgree, HasFound, FindingsAgree}
 use Rattle.dali_script.proofs.Members.{same_member}
+use Rattle.dali_events.proofs.Growing.{after_both, allowed_front, allowed_rest}
 use Rattle.dali_events.proofs.Controllers.{controllers_count}
-use Rattle.dali_events.proofs.Reserves.{still_reserved, IsReserved}
+use Rattle.dali_events.proofs.Reserves.{IsReserved}
 use Rattle.dali_events.proofs.Drawn.{drawn_in_front}
 use Rattle.dali_events.proofs.Naming.{SaysFinding, resolved_names}
 use Rattle.dali_events.proofs.Resolving.{tells_if}
 use Rattle.dali_events.proofs.Halves.{last_allowed}
-use Rattle.dali_events.proofs.Safe.{Holds, holds_after, safe, run_front}
+use Rattle.dali_events.proofs.Safe.{Holds, keeps_step, stays_step, holds_step, holds_after, safe, run_front}
 
 -- GIFTS STAY RESERVED
 pub gifts_reserved : (p : Plan) (capacity : ℕ) (front rest : List Event) → IsRun p capacity (front ++ rest) → GiftsAreReserved (after p capacity front)
 gifts_reserved p capacity front rest run = (holds_after p capacity front (run_front p capacity front rest run)).gifts.reserved
 
-pub reservations_stay : (w : World) (es : List Event) (c : ℕ) (x : Assignment) → c < length w.controllers → Has (controller_at w c).records.reserved x
-    → Has (controller_at (after_all w es) c).records.reserved x
-reservations_stay w [] c x there h = h
-reservations_stay w (e ∷ es) c x there h =
-    let here : c < length (happens w e).controllers = subst (λ n. c < n) (sym (controllers_count w e)) there in
-    reservations_stay (happens w e) es c x here (still_reserved x w e c here h)
+reserved_stays : (p : Plan) → IsPlan p → (w : World) (es : List Event) → AllAllowed w es → Holds p w → KeepsReserved w (after_all w es)
+reserved_stays p plan w [] all k = λ c g a there gift h. h
+reserved_stays p plan w (e ∷ es) all k = λ c g a there gift h.
+    let v : World = happens w e in
+    let kept = keeps_step p plan w e all.0 k g a gift in
+    let here : c < length v.controllers = subst (λ n. c < n) (sym (controllers_count w e)) there in
+    let before : Has (controller_at w c).records.reserved (a, (gear_at v g).random) = subst (λ r. Has (controller_at w c).records.reserved (a, r)) (sym kept.1) h in
+    let next : Has (controller_at v c).records.reserved (a, (gear_at v g).random) = stays_step p plan w e all.0 k g a kept.0 c here before in
+    subst (λ r. Has (controller_at (after_all v es) c).records.reserved (a, r)) kept.1 (reserved_stays p plan v es all.1 (holds_step p plan w e all.0 k) c g a here kept.0 next)
+
+pub reservations_stay : (p : Plan) (capacity : ℕ) (front later rest : List Event) → IsRun p capacity (front ++ (later ++ rest)) → KeepsReserved (after p capacity front) (after p capacity (front ++ later))
+reservations_stay p capacity front later rest run =
+    let allowed : AllAllowed (after p capacity front) later = allowed_front (after p capacity front) later rest (allowed_rest (start p capacity) front (later ++ rest) run.allowed) in
+    subst (λ v. KeepsReserved (after p capacity front) v) (sym (after_both (start p capacity) front later))
+    (reserved_stays p run.plan (after p capacity front) later allowed (holds_after p capacity front (run_front p capacity front (later ++ rest) run)))
 
 -- TABLES AGREE
 module _ (w : World) (s : IsSafe w) where

@@ -9,10 +9,10 @@ use Rattle.dali_script.specs.declared.block.Block.{Block}
 use Rattle.dali_script.specs.declared.finding.Finding.{Finding}
 use Rattle.dali_script.specs.declared.finding.Finding.TheVariants.{Queried, Resolved}
 use Rattle.dali_script.specs.declared.records.Record.{Record}
-use Rattle.dali_script.specs.declared.records.Record.TheVariants.{Reserve, Enrol}
-use Rattle.dali_script.specs.Records.{Assignment, Kept, InBlock, IsKept, IsFresh, Fits, address_of}
+use Rattle.dali_script.specs.declared.records.Record.TheVariants.{Reserve, Enrol, Release}
+use Rattle.dali_script.specs.Records.{Assignment, Kept, Has, HasAddress, HasRandom, InBlock, IsKept, MayAdd, Fits, address_of}
 use Rattle.dali_script.specs.Findings.{search_of, Asked, asked_of, found_by, assigned, later}
-use Rattle.dali_script.proofs.Lists.{kept_none, kept_more}
+use Rattle.dali_script.proofs.Lists.{has_map, kept_none, kept_more}
 use Rattle.dali_script.specs.declared.orders.Order.{Order}
 use Rattle.dali_script.specs.declared.orders.Order.TheVariants.{Put, Commit, Done, Halt}
 use Rattle.dali_events.specs.declared.event.Event.{Event}
@@ -28,9 +28,9 @@ use Rattle.dali_script.proofs.Members.{Each}
 use Rattle.dali_events.proofs.Controllers.{Property, Stands, Of, AddsOrder, Adds, controllers_step, controllers_count}
 use Rattle.dali_events.proofs.Naming.{IsFinding, finding_is, enrols_assigned}
 
--- RECORDS ARE KEPT, AND AN OUTSTANDING ONE IS NEW
+-- RECORDS ARE KEPT, AND AN OUTSTANDING ONE MAY BE ADDED
 record IsNewRecord (kept : Kept) (x : Record) : Type 0 where
-  pub fresh : IsFresh kept x
+  pub may : MayAdd kept x
   pub fits : Fits kept.block x
   pub short : address_of x < 64
 
@@ -47,10 +47,11 @@ block_kept : (kept : Kept) (o : Option Record) → (with_outstanding kept o).blo
 block_kept kept None = refl
 block_kept kept (Some (Reserve a r)) = refl
 block_kept kept (Some (Enrol a r)) = refl
+block_kept kept (Some (Release a r)) = refl
 
 keep_all : (kept : Kept) (o : Option Record) → IsKept kept → ((x : Record) → o ≡ Some x → IsNewRecord kept x) → IsKept (with_outstanding kept o)
 keep_all kept None k new = k
-keep_all kept (Some x) k new = let n = new x refl in kept_more kept x k n.fits n.short n.fresh
+keep_all kept (Some x) k new = let n = new x refl in kept_more kept x k n.fits n.short n.may
 
 keeping_stands : (p : Plan) → Stands (KeepsAs p)
 keeping_stands p = record {
@@ -65,17 +66,30 @@ one_new kept y n x e = subst (λ z. IsNewRecord kept z) (let same : y ≡ x = cc
 enrolled_short : (p : Assignment) (x : Finding) → p ≡ assigned x → (assigned x).0 < 64 → p.0 < 64
 enrolled_short p x is small = subst (λ (y : Assignment). y.0 < 64) (sym is) small
 
+-- what is reserved fits, and may be released
+reserved_new : (kept : Kept) (a r : ℕ) → IsKept kept → Has kept.reserved (a, r) → IsNewRecord kept (Release a r)
+reserved_new kept a r m there =
+    let address : HasAddress kept.reserved a = has_map (λ p. p.0) kept.reserved (a, r) there in
+    let number : HasRandom kept.reserved r = has_map (λ p. p.1) kept.reserved (a, r) there in
+    record { may = there; fits = (m.within a address, m.reserved_drawn r number); short = m.reserved.short a address }
+
 order_keeps : (p : Plan) → IsPlan p → (w : World) (c : ℕ) → c < length p.blocks → (k : Controller) (o : Order) → MayOrder w c k o → AddsOrder (KeepsAs p) c k o
 order_keeps p plan w c there k (Commit (Reserve a r)) may = λ h. record {
   block = h.block;
   kept_so = h.kept_so;
-  new = one_new k.records (Reserve a r) (record { fresh = may.1.2; fits = (may.1.0, may.1.1); short = plan.short c a there (subst (λ b. InBlock b a) h.block may.1.0) });
+  new = one_new k.records (Reserve a r) (record { may = may.1.2; fits = (may.1.0, may.1.1); short = plan.short c a there (subst (λ b. InBlock b a) h.block may.1.0) });
   finding = h.finding;
 }
 order_keeps p plan w c there k (Commit (Enrol a r)) may = λ h. record {
   block = h.block;
   kept_so = h.kept_so;
-  new = one_new k.records (Enrol a r) (record { fresh = may.1.2; fits = may.1.1; short = enrolled_short (a, r) may.1.0.0 (enrols_assigned k.records.reserved may.1.0.0 (a, r) may.1.0.2) (h.finding may.1.0.0 may.1.0.1) });
+  new = one_new k.records (Enrol a r) (record { may = may.1.2; fits = may.1.1; short = enrolled_short (a, r) may.1.0.0 (enrols_assigned k.records.reserved may.1.0.0 (a, r) may.1.0.2) (h.finding may.1.0.0 may.1.0.1) });
+  finding = h.finding;
+}
+order_keeps p plan w c there k (Commit (Release a r)) may = λ h. record {
+  block = h.block;
+  kept_so = h.kept_so;
+  new = one_new k.records (Release a r) (reserved_new k.records a r h.kept_so may.1.0);
   finding = h.finding;
 }
 order_keeps p plan w c there k (Put q f) may = tt
@@ -129,6 +143,6 @@ records_kept p capacity front rest run =
     record {
       block = λ c there. (all.each c there).block;
       kept = λ c there. (all.each c there).kept_so;
-      fresh = λ c x there e. ((all.each c there).new x e).fresh;
+      may_add = λ c x there e. ((all.each c there).new x e).may;
       fits = λ c x there e. ((all.each c there).new x e).fits;
     }

@@ -11,6 +11,7 @@ pub mod Sending
 pub mod Gifts
 pub mod Resolving
 pub mod Naming
+pub mod Staying
 pub mod Safe
 pub mod Agreeing
 pub mod Halves

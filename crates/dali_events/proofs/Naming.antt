@@ -1,4 +1,4 @@
-use Rattle.std.proofs.Common.{◌≡◌, ℕ, ◌<◌, ◌⊎◌, inl, inr, Bool, true, false, List, refl, sym, ap, subst, ◌∙◌, length, Option, Some, None}
+use Rattle.std.proofs.Common.{◌≡◌, ◌≢◌, ℕ, ◌<◌, ◌⊎◌, inl, inr, Bool, true, false, List, refl, sym, ap, subst, ◌∙◌, length, Option, Some, None}
 use Rattle.std.specs.Prelude.{◌==◌, ◌&&◌, if◌then◌else◌, option_map}
 use Rattle.std.proofs.lemmas.List.{get_or-map, length-map}
 use Rattle.dali_frame.specs.declared.frames.Forward.{Forward}
@@ -17,7 +17,7 @@ use Rattle.dali_gear.specs.Row.{answers_of}
 use Rattle.dali_script.specs.declared.finding.Finding.{Finding}
 use Rattle.dali_script.specs.declared.finding.Finding.TheVariants.{Queried, Resolved}
 use Rattle.dali_script.specs.declared.records.Record.{Record}
-use Rattle.dali_script.specs.declared.records.Record.TheVariants.{Reserve, Enrol}
+use Rattle.dali_script.specs.declared.records.Record.TheVariants.{Reserve, Enrol, Release}
 use Rattle.dali_script.specs.Records.{Assignment, Kept, Has}
 use Rattle.dali_script.specs.Findings.{search_of, Asked, nothing, high_byte, two_bytes, asked_of, found_by, spelled_by, assigned, MayEnrol, later}
 use Rattle.dali_script.specs.Stages.{stage_of}
@@ -41,11 +41,13 @@ use Rattle.dali_events.proofs.Gifts.{Gifts}
 use Rattle.dali_events.proofs.Resolving.{TellsTwo, Tells, teller, one_holder, whole_number}
 use Rattle.dali_events.proofs.Controllers.{Property, Stands, Of, AddsOrder, Adds, controllers_step}
 
--- WHAT CONTROLLERS SAY of gear is N: their kept enrolments, an outstanding one, and their finding
+-- WHAT CONTROLLERS SAY of gear is N: their kept enrolments, an outstanding one, and their finding; and of an outstanding
+-- release, its number with another address
 abbrev pub SaysRecord : (Assignment → Type 0) → Option Record → Type 0
 SaysRecord N None = Unit {0}
 SaysRecord N (Some (Reserve a r)) = Unit {0}
 SaysRecord N (Some (Enrol a r)) = N (a, r)
+SaysRecord N (Some (Release a r)) = (b : ℕ) × (b ≢ a) × N (b, r)
 
 abbrev pub SaysFinding : (Assignment → Type 0) → Option Finding → Type 0
 SaysFinding N None = Unit {0}
@@ -63,12 +65,13 @@ keep_says : (N : Assignment → Type 0) (kept : Kept) (o : Option Record) → ((
     → (x : Assignment) → Has (with_outstanding kept o).enrolled x → N x
 keep_says N kept None says is x h = says x h
 keep_says N kept (Some (Reserve a r)) says is x h = says x h
+keep_says N kept (Some (Release a r)) says is x h = says x h
 keep_says N kept (Some (Enrol a r)) says is x h = go (has_cases kept.enrolled (a, r) x h) where
   go : Has kept.enrolled x ⊎ ((a, r) ≡ x) → N x
   go (inl k) = says x k
   go (inr e) = subst N e is
 
-says_stand : (N : Assignment → Type 0) → Stands (Says N)
+pub says_stand : (N : Assignment → Type 0) → Stands (Says N)
 says_stand N = record {
   keep = λ c kept o f h. record { enrolled = keep_says N kept o h.enrolled h.outstanding; outstanding = tt; finding = h.finding };
   drop = λ c kept o f h. record { enrolled = h.enrolled; outstanding = tt; finding = h.finding };
@@ -87,6 +90,11 @@ says_finding N (Some y) x e h = subst (λ z. N (assigned z)) (let same : y ≡ x
 says_order : (N : Assignment → Type 0) (w : World) (c : ℕ) (k : Controller) (o : Order) → MayOrder w c k o → AddsOrder (Says N) c k o
 says_order N w c k (Commit (Reserve a r)) may = λ h. record { enrolled = h.enrolled; outstanding = tt; finding = h.finding }
 says_order N w c k (Commit (Enrol a r)) may = λ h. record { enrolled = h.enrolled; outstanding = subst N (sym (enrols_assigned k.records.reserved may.1.0.0 (a, r) may.1.0.2)) (says_finding N k.finding may.1.0.0 may.1.0.1 h.finding); finding = h.finding }
+says_order N w c k (Commit (Release a r)) may = λ h. record {
+  enrolled = h.enrolled;
+  outstanding = (may.1.1.2, may.1.1.4, subst N may.1.1.3 (says_finding N k.finding may.1.1.0 may.1.1.1 h.finding));
+  finding = h.finding;
+}
 says_order N w c k (Put q f) may = tt
 says_order N w c k (Done end) may = tt
 says_order N w c k (Halt fault) may = tt
@@ -100,7 +108,7 @@ abbrev pub FoundBy : (Assignment → Type 0) → World → Event → Type 0
 FoundBy N w (event.Sent c f h) = (x : Finding) → found_by (search_of (trace_running w c)) (asked_of (trace_running w c)) (command_of f) h ≡ Some x → N (assigned x)
 FoundBy N w _ = Unit {0}
 
-says_add : (N : Assignment → Type 0) (w : World) (e : Event) → Allowed w e → FoundBy N w e → Adds (Says N) w e
+pub says_add : (N : Assignment → Type 0) (w : World) (e : Event) → Allowed w e → FoundBy N w e → Adds (Says N) w e
 says_add N w (event.Acted c i o) here found = says_order N w c (controller_informed (controller_at w c) i) o here.order
 says_add N w (event.Sent c f h) here found = λ there k. record {
   enrolled = k.enrolled;
@@ -109,12 +117,13 @@ says_add N w (event.Sent c f h) here found = λ there k. record {
 }
 says_add N w _ here found = tt
 
-says_more : (N M : Assignment → Type 0) → ((x : Assignment) → N x → M x) → (kept : Kept) (o : Option Record) (f : Option Finding) → SaysOnly N kept o f → SaysOnly M kept o f
+pub says_more : (N M : Assignment → Type 0) → ((x : Assignment) → N x → M x) → (kept : Kept) (o : Option Record) (f : Option Finding) → SaysOnly N kept o f → SaysOnly M kept o f
 says_more N M more kept o f h = record { enrolled = λ x k. more x (h.enrolled x k); outstanding = of_record o h.outstanding; finding = of_finding f h.finding } where
   of_record : (o : Option Record) → SaysRecord N o → SaysRecord M o
   of_record None h = tt
   of_record (Some (Reserve a r)) h = tt
   of_record (Some (Enrol a r)) h = more (a, r) h
+  of_record (Some (Release a r)) h = (h.0, h.1, more (h.0, r) h.2)
 
   of_finding : (f : Option Finding) → SaysFinding N f → SaysFinding M f
   of_finding None h = tt

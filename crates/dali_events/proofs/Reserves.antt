@@ -2,9 +2,9 @@ use Rattle.std.proofs.Common.{◌≡◌, ℕ, ◌<◌, ◌⊎◌, inl, inr, List
 use Rattle.std.proofs.lemmas.List.{map-append, get_or-map, length-map}
 use Rattle.dali_script.specs.declared.block.Block.{Block}
 use Rattle.dali_script.specs.declared.records.Record.{Record}
-use Rattle.dali_script.specs.declared.records.Record.TheVariants.{Reserve, Enrol}
+use Rattle.dali_script.specs.declared.records.Record.TheVariants.{Reserve, Enrol, Release}
 use Rattle.dali_script.specs.Records.{Assignment, Kept, Has, IsOnce, addresses, HasAddress, InBlock}
-use Rattle.dali_script.proofs.Lists.{has_cases, once_more, has_map}
+use Rattle.dali_script.proofs.Lists.{has_cases, once_more, has_map, key_left, once_left}
 use Rattle.dali_script.specs.declared.orders.Order.{Order}
 use Rattle.dali_script.specs.declared.orders.Order.TheVariants.{Put, Commit, Done, Halt}
 use Rattle.dali_events.specs.declared.event.Event.{Event}
@@ -13,7 +13,7 @@ use Rattle.dali_events.specs.Plan.{Plan, IsPlan, block_at, no_block}
 use Rattle.dali_events.specs.World.{World, Controller, controller_at, nobody, controller_begun, start}
 use Rattle.dali_events.specs.Happens.{happens, with_outstanding, controller_informed}
 use Rattle.dali_events.specs.Allowed.{Allowed, MayOrder}
-use Rattle.dali_script.proofs.Members.{Each, has_left, same_member}
+use Rattle.dali_script.proofs.Members.{Each, same_member}
 use Rattle.dali_events.proofs.Controllers.{Property, Stands, Of, AddsOrder, Adds, controllers_step, controllers_count}
 
 -- an outstanding reservation is of the block, and of an address that is not reserved
@@ -21,6 +21,7 @@ abbrev pub NewReserve : Block → List Assignment → Option Record → Type 0
 NewReserve b xs None = Unit {0}
 NewReserve b xs (Some (Reserve a r)) = InBlock b a × (HasAddress xs a → ⊥)
 NewReserve b xs (Some (Enrol a r)) = Unit {0}
+NewReserve b xs (Some (Release a r)) = Unit {0}
 
 -- WHAT A CONTROLLER HAS RESERVED: addresses of its block, each once
 pub record Reserves (b : Block) (kept : Kept) (o : Option Record) : Type 0 where
@@ -35,6 +36,12 @@ ReservesAs p c kept o f = Reserves (block_at p c) kept o
 keep_new : (b : Block) (kept : Kept) (o : Option Record) → Reserves b kept o → Reserves b (with_outstanding kept o) None
 keep_new b kept None h = record { block = h.block; within = h.within; once = h.once; new = tt }
 keep_new b kept (Some (Enrol a r)) h = record { block = h.block; within = h.within; once = h.once; new = tt }
+keep_new b kept (Some (Release a r)) h = record {
+  block = h.block;
+  within = λ c has. h.within c (key_left (λ p. p.0) (a, r) kept.reserved c has);
+  once = once_left (λ p. p.0) (a, r) kept.reserved h.once;
+  new = tt;
+}
 keep_new b kept (Some (Reserve a r)) h =
     let there : addresses (kept.reserved ++ (a, r) ∷ []) ≡ addresses kept.reserved ++ a ∷ [] = map-append (λ p. p.0) kept.reserved ((a, r) ∷ []) in
     record {
@@ -58,6 +65,7 @@ reserves_stand p = record {
 order_adds : (p : Plan) (w : World) (c : ℕ) (k : Controller) (o : Order) → MayOrder w c k o → AddsOrder (ReservesAs p) c k o
 order_adds p w c k (Commit (Reserve a r)) may = λ h. record { block = h.block; within = h.within; once = h.once; new = (subst (λ b. InBlock b a) h.block may.1.0, may.1.2.0) }
 order_adds p w c k (Commit (Enrol a r)) may = λ h. record { block = h.block; within = h.within; once = h.once; new = tt }
+order_adds p w c k (Commit (Release a r)) may = λ h. record { block = h.block; within = h.within; once = h.once; new = tt }
 order_adds p w c k (Put q f) may = tt
 order_adds p w c k (Done end) may = tt
 order_adds p w c k (Halt fault) may = tt
@@ -85,42 +93,9 @@ reserves_start p capacity = record {
       rw (get_or-map controller_begun p.blocks i no_block nobody there) (record { block = refl; within = λ a k. elim k [ ]; once = tt; new = tt });
 }
 
--- RESERVATIONS STAY
-abbrev pub StillReserved : List Controller → Assignment → Property
-StillReserved cs x c kept o f = Has (get_or cs c nobody).records.reserved x → Has kept.reserved x
-
-still_keep : (xs : List Assignment) (x : Assignment) (kept : Kept) (o : Option Record) → (Has xs x → Has kept.reserved x) → Has xs x → Has (with_outstanding kept o).reserved x
-still_keep xs x kept None h = h
-still_keep xs x kept (Some (Enrol a r)) h = h
-still_keep xs x kept (Some (Reserve a r)) h = λ k. has_left kept.reserved ((a, r) ∷ []) x (h k)
-
-still_stand : (cs : List Controller) (x : Assignment) → Stands (StillReserved cs x)
-still_stand cs x = record {
-  keep = λ c kept o f h. still_keep (get_or cs c nobody).records.reserved x kept o h;
-  drop = λ c kept o f h. h;
-  forget = λ c kept o f h. h;
-}
-
-still_order : (cs : List Controller) (x : Assignment) (c : ℕ) (k : Controller) (o : Order) → AddsOrder (StillReserved cs x) c k o
-still_order cs x c k (Commit y) = λ h. h
-still_order cs x c k _ = tt
-
-still_add : (cs : List Controller) (x : Assignment) (w : World) (e : Event) → Adds (StillReserved cs x) w e
-still_add cs x w (event.Acted c i o) = still_order cs x c (controller_informed (controller_at w c) i) o
-still_add cs x w (event.Sent c f h) = λ there k. k
-still_add cs x w _ = tt
-
-pub still_reserved : (x : Assignment) (w : World) (e : Event) → Each nobody (Of (StillReserved w.controllers x)) (happens w e).controllers
-still_reserved x w e = controllers_step (StillReserved w.controllers x) (still_stand w.controllers x) w e (still_add w.controllers x w e) (λ i h k. k)
-
 -- some controller has reserved it
 abbrev pub IsReserved : List Controller → Assignment → Type 0
 IsReserved cs x = (c : ℕ) × (c < length cs) × Has (get_or cs c nobody).records.reserved x
-
-pub reserved_stays : (x : Assignment) (w : World) (e : Event) → IsReserved w.controllers x → IsReserved (happens w e).controllers x
-reserved_stays x w e h =
-    let there : h.0 < length (happens w e).controllers = subst (λ n. h.0 < n) (sym (controllers_count w e)) h.1 in
-    (h.0, there, still_reserved x w e h.0 there h.2)
 
 -- an address is reserved for one number alone, on the whole site
 pub one_number : (p : Plan) (cs : List Controller) → IsPlan p → AllReserve p cs → (a r q : ℕ) → IsReserved cs (a, r) → IsReserved cs (a, q) → r ≡ q

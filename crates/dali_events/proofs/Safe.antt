@@ -24,11 +24,12 @@ use Rattle.dali_events.specs.Promise.{KeepsPromiseNow, KeepsAddresses, KeepsProm
 use Rattle.dali_events.proofs.Growing.{after_both, allowed_front, allowed_rest}
 use Rattle.dali_script.proofs.Members.{Each, each_changed, each_map, same_member}
 use Rattle.dali_events.proofs.Drawn.{Draws, draws_step, draws_start, are_drawn}
-use Rattle.dali_events.proofs.Controllers.{Of}
-use Rattle.dali_events.proofs.Reserves.{AllReserve, reserves_step, reserves_start, IsReserved, reserved_stays, one_number}
+use Rattle.dali_events.proofs.Controllers.{Of, controllers_count}
+use Rattle.dali_events.proofs.Reserves.{AllReserve, reserves_step, reserves_start, IsReserved, one_number}
 use Rattle.dali_events.proofs.Sending.{IsKnown, known_step, known_start, follows_of, knows_running}
 use Rattle.dali_events.proofs.Gifts.{Gifts, Change, SameAddresses, no_change, frame_changes, gifts_step, gift_stays, gift_random, draw_stays}
 use Rattle.dali_events.proofs.Naming.{Says, FoundBy, says_step, says_start, found_names}
+use Rattle.dali_events.proofs.Staying.{StillReserved, Unopposed, still_reserved, given_alone}
 use Rattle.dali_events.proofs.Resolving.{Tells, tells_if, tells_unless, tells_stay, tells_more}
 
 -- THE INVARIANT of every run
@@ -82,12 +83,13 @@ change_of p w (event.Down c) here k = same_gear w
 change_of p w (event.Up c kept) here k = same_gear w
 
 -- ONE EVENT
-gifts_more : (R S : Assignment → Type 0) (gs : List Gear) (ds gf : List (ℕ × ℕ)) → ((x : Assignment) → R x → S x) → Gifts R gs ds gf → Gifts S gs ds gf
+gifts_more : (R S : Assignment → Type 0) (gs : List Gear) (ds gf : List (ℕ × ℕ)) → ((g a : ℕ) → Has gf (g, a) → R (a, (get_or gs g fresh).random) → S (a, (get_or gs g fresh).random))
+    → Gifts R gs ds gf → Gifts S gs ds gf
 gifts_more R S gs ds gf more k = record {
   there = k.there;
   holds = k.holds;
   drawn = k.drawn;
-  reserved = λ g a h. more (a, (get_or gs g fresh).random) (k.reserved g a h);
+  reserved = λ g a h. more g a h (k.reserved g a h);
   gear_once = k.gear_once;
   address_once = k.address_once;
 }
@@ -138,17 +140,33 @@ module _ (p : Plan) (plan : IsPlan p) (w : World) (e : Event) (here : Allowed w 
   names x n = names_stay w (happens w e) ch
       (draw_stays (IsReserved w.controllers) (one_number p w.controllers plan k.reserves) w.gear _ w.drawn w.gifts _ _ (are_drawn p w plan k.draws).once k.gifts ch) keeps x n
 
+  gifts : Gifts (IsReserved w.controllers) (happens w e).gear (happens w e).drawn (happens w e).gifts
+  gifts = gifts_step (IsReserved w.controllers) (one_number p w.controllers plan k.reserves) w.gear _ w.drawn w.gifts _ _ (are_drawn p w plan k.draws).once k.gifts ch
+
+  found : FoundBy (Names (happens w e)) w e
+  found = found_of p w e (Names (happens w e)) here k names
+
   pub keeps_step : KeepsGifts w (happens w e)
   keeps_step = keeps
+
+  -- what is reserved for a gear that was given the address stays reserved
+  pub stays_step : (g a : ℕ) → Has (happens w e).gifts (g, a) → Each nobody (Of (StillReserved w.controllers (a, (gear_at (happens w e) g).random))) (happens w e).controllers
+  stays_step g a h = still_reserved (Names w) (Names (happens w e)) (a, (gear_at (happens w e) g).random) alone w e here names found k.says where
+    alone : Unopposed (Names (happens w e)) (a, (gear_at (happens w e) g).random)
+    alone = given_alone (IsReserved w.controllers) (happens w e) (are_drawn p (happens w e) plan (draws_step p w e k.draws)) gifts g a h
+
+  reserved_step : (g a : ℕ) → Has (happens w e).gifts (g, a) → IsReserved w.controllers (a, (gear_at (happens w e) g).random) → IsReserved (happens w e).controllers (a, (gear_at (happens w e) g).random)
+  reserved_step g a h r =
+      let there : r.0 < length (happens w e).controllers = subst (λ n. r.0 < n) (sym (controllers_count w e)) r.1 in
+      (r.0, there, stays_step g a h r.0 there r.2)
 
   pub holds_step : Holds p (happens w e)
   holds_step = record {
     draws = draws_step p w e k.draws;
     reserves = reserves_step p w e here k.reserves;
     known = known_step w e here k.known;
-    gifts = gifts_more (IsReserved w.controllers) (IsReserved (happens w e).controllers) (happens w e).gear (happens w e).drawn (happens w e).gifts (λ x r. reserved_stays x w e r)
-        (gifts_step (IsReserved w.controllers) (one_number p w.controllers plan k.reserves) w.gear _ w.drawn w.gifts _ _ (are_drawn p w plan k.draws).once k.gifts ch);
-    says = says_step (Names w) (Names (happens w e)) w e here names (found_of p w e (Names (happens w e)) here k names) k.says;
+    gifts = gifts_more (IsReserved w.controllers) (IsReserved (happens w e).controllers) (happens w e).gear (happens w e).drawn (happens w e).gifts reserved_step gifts;
+    says = says_step (Names w) (Names (happens w e)) w e here names found k.says;
     tells = tells_step p w e here k;
   }
 

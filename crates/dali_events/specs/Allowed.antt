@@ -14,10 +14,10 @@ use Rattle.dali_gear.specs.declared.row.Reach.TheVariants.{Everyone, Only}
 use Rattle.dali_gear.specs.Row.{draws_needed, answers_of}
 use Rattle.dali_script.specs.declared.finding.Finding.{Finding}
 use Rattle.dali_script.specs.declared.records.Record.{Record}
-use Rattle.dali_script.specs.declared.records.Record.TheVariants.{Reserve, Enrol}
-use Rattle.dali_script.specs.Records.{InBlock, IsFresh}
+use Rattle.dali_script.specs.declared.records.Record.TheVariants.{Reserve, Enrol, Release}
+use Rattle.dali_script.specs.Records.{InBlock, MayAdd}
 use Rattle.dali_script.specs.Scripts.{Lawful, IsFirst}
-use Rattle.dali_script.specs.Findings.{MayEnrol}
+use Rattle.dali_script.specs.Findings.{MayEnrol, assigned}
 use Rattle.dali_script.specs.declared.orders.Input.{Input}
 use Rattle.dali_script.specs.declared.orders.Input.TheVariants as input
 use Rattle.dali_script.specs.declared.orders.Order.{Order}
@@ -73,13 +73,18 @@ IsDue k input.CommitFailed = IsCommit k.last
 IsDue k i = k.told ≡ Some i
 
 -- A record that it may commit: an address of its block and a number, neither reserved by it; or what
--- its last finding lets be enrolled, with neither enrolled by it. The number is one that gear draw.
+-- its last finding lets be enrolled, with neither enrolled by it; the number is one that gear draw.
+-- Or the release of what it has reserved for the gear of its last finding, which has another
+-- address.
 abbrev pub MayCommit : Controller → Record → Type 0
 MayCommit k (Reserve a r) =
-    InBlock k.records.block a × (r < MASK24) × IsFresh k.records (Reserve a r)
+    InBlock k.records.block a × (r < MASK24) × MayAdd k.records (Reserve a r)
 MayCommit k (Enrol b r) =
     ((x : Finding) × (k.finding ≡ Some x) × MayEnrol k.records.reserved x (b, r)) × (r < MASK24)
-    × IsFresh k.records (Enrol b r)
+    × MayAdd k.records (Enrol b r)
+MayCommit k (Release a r) =
+    MayAdd k.records (Release a r)
+    × ((x : Finding) × (k.finding ≡ Some x) × (b : ℕ) × (assigned x ≡ (b, r)) × (b ≢ a))
 
 -- a first frame at 3, and at 1 what may follow; Done and Halt always
 abbrev pub MayPut : World → ℕ → Controller → ℕ → Forward → Type 0

@@ -2,7 +2,7 @@ use Rattle.std.specs.Prelude.{◌≡◌, ℕ, ◌<◌, length, Some}
 use Rattle.dali_script.specs.declared.finding.Finding.{Finding}
 use Rattle.dali_script.specs.Findings.{assigned}
 use Rattle.dali_script.specs.declared.records.Record.{Record}
-use Rattle.dali_script.specs.Records.{Assignment, Has, IsKept, IsFresh, Fits}
+use Rattle.dali_script.specs.Records.{Assignment, Has, IsKept, MayAdd, Fits}
 use Rattle.dali_events.specs.Plan.{Plan, block_at}
 use Rattle.dali_events.specs.World.{World, gear_at, controller_at}
 use Rattle.dali_events.specs.Promise.{IsEnrolled, NamesGear, Names}
@@ -19,6 +19,14 @@ IsReservedFor w a r =
 -- each address that was given is reserved for the random address of its gear
 abbrev pub GiftsAreReserved : World → Type 0
 GiftsAreReserved w = (g a : ℕ) → Has w.gifts (g, a) → IsReservedFor w a (gear_at w g).random
+
+-- from a moment on: what a controller has reserved for a gear that was given the address it has
+-- reserved later
+abbrev pub KeepsReserved : World → World → Type 0
+KeepsReserved earlier now =
+    (c g a : ℕ) → c < length earlier.controllers → Has earlier.gifts (g, a)
+    → Has (controller_at earlier c).records.reserved (a, (gear_at earlier g).random)
+    → Has (controller_at now c).records.reserved (a, (gear_at earlier g).random)
 
 -- ---------------------------------------------------------------- tables of enrolled gear
 
@@ -52,11 +60,11 @@ pub record FindingsAgree (w : World) : Type 0 where
 -- ---------------------------------------------------------------- records
 
 -- each controller keeps records of its block, each address and each number once of each kind; and
--- an outstanding record fits them, with neither its address nor its number among those of its kind
+-- an outstanding record fits them, and may be added to them
 pub record KeepsRecords (p : Plan) (w : World) : Type 0 where
   pub block : (c : ℕ) → c < length w.controllers → (controller_at w c).records.block ≡ block_at p c
   pub kept : (c : ℕ) → c < length w.controllers → IsKept (controller_at w c).records
-  pub fresh : (c : ℕ) (x : Record) → c < length w.controllers
-      → (controller_at w c).outstanding ≡ Some x → IsFresh (controller_at w c).records x
+  pub may_add : (c : ℕ) (x : Record) → c < length w.controllers
+      → (controller_at w c).outstanding ≡ Some x → MayAdd (controller_at w c).records x
   pub fits : (c : ℕ) (x : Record) → c < length w.controllers
       → (controller_at w c).outstanding ≡ Some x → Fits (controller_at w c).records.block x

@@ -3,7 +3,7 @@
 //! Each law quantifies over every plan and every list of events that is a run, whatever frames were sent, destroyed or
 //! answered, and whenever gear lost power and controllers restarted.
 
-ghost use Rattle.std.specs.Prelude.{ℕ, ◌<◌, List, ◌++◌, ◌∷◌, [], ◌≡◌, length, Some, None};
+ghost use Rattle.std.specs.Prelude.{ℕ, List, ◌++◌, ◌∷◌, [], ◌≡◌, Some, None};
 ghost use Rattle.dali_frame.specs.declared.frames.Forward.{Forward};
 ghost use Rattle.dali_frame.specs.declared.frames.Answer.{Answer};
 ghost use Rattle.dali_frame.specs.declared.numbers.SearchAddress.{SearchAddress};
@@ -19,16 +19,15 @@ ghost use Rattle.dali_script.specs.Stages.{stage_of};
 ghost use Rattle.dali_events.specs.declared.event.Event.TheVariants.{Sent};
 ghost use Rattle.dali_gear.specs.Row.{heard_of};
 ghost use Rattle.dali_events.specs.declared.event.Event.{Event};
-ghost use Rattle.dali_events.specs.World.{World, controller_at};
+ghost use Rattle.dali_events.specs.World.{World};
 ghost use Rattle.dali_events.specs.Happens.{happens, trace_running, entry};
 ghost use Rattle.dali_events.specs.Allowed.{Allowed, Hears};
 ghost use Rattle.dali_events.specs.Plan.{Plan};
-ghost use Rattle.dali_events.specs.Runs.{after, after_all, AllAllowed, IsRun, AreDrawn};
+ghost use Rattle.dali_events.specs.Runs.{after, IsRun, AreDrawn};
 ghost use Rattle.dali_events.specs.Promise.{KeepsPromise, IsSafe, IsSafeHistory, Names};
-ghost use Rattle.dali_events.specs.Laws.{GiftsAreReserved, TablesAgree, FindingsAgree, KeepsRecords};
+ghost use Rattle.dali_events.specs.Laws.{GiftsAreReserved, KeepsReserved, TablesAgree, FindingsAgree, KeepsRecords};
 ghost use Rattle.dali_events.specs.Searching.{EachPowered, EachActive, frame_in, number_at, sent_event, up_to_compare};
 ghost use Rattle.dali_events.specs.Searching.{SearchesAll, NobodyAnswers, HasShort};
-ghost use Rattle.dali_script.specs.Records.{Assignment, Has};
 
 /// The plain hearing of a row of gear is one that may be heard.
 pub fn plain_hearing_is_heard()
@@ -76,13 +75,14 @@ pub fn frames_find_gear()
 {}
 
 /// GIFTS STAY RESERVED. At each moment of every run, each short address that a gear was given is reserved by some
-/// controller for the gear's random address; and what a controller has reserved it has reserved for good.
+/// controller for the gear's random address; and what a controller has reserved for a gear that was given the address,
+/// it has reserved for good.
 pub fn gifts_stay_reserved()
     ensures reserved { (p : Plan) (capacity : ℕ) (front rest : List Event) → IsRun p capacity (front ++ rest)
         → GiftsAreReserved (after p capacity front) }
-    ensures stay { (w : World) (es : List Event) (c : ℕ) (x : Assignment) → c < length w.controllers
-        → Has (controller_at w c).records.reserved x
-        → Has (controller_at (after_all w es) c).records.reserved x }
+    ensures stay { (p : Plan) (capacity : ℕ) (front later rest : List Event)
+        → IsRun p capacity (front ++ (later ++ rest))
+        → KeepsReserved (after p capacity front) (after p capacity (front ++ later)) }
 {}
 
 /// EVERY RUN IS SAFE. In every world of every run no two gear hold one short address; a gear that holds one holds it,
