@@ -18,7 +18,7 @@ use Rattle.dali_script.specs.declared.trace.Entry.{Entry}
 use Rattle.dali_script.specs.declared.finding.Finding.{Finding}
 use Rattle.dali_script.specs.declared.finding.Finding.TheVariants.{Queried, Resolved}
 use Rattle.dali_script.specs.declared.records.Record.{Record}
-use Rattle.dali_script.specs.declared.records.Record.TheVariants.{Reserve, Enrol, Release}
+use Rattle.dali_script.specs.declared.records.Record.TheVariants.{Reserve, Enrol}
 use Rattle.dali_script.specs.declared.stage.Stage.{Stage}
 use Rattle.dali_script.specs.declared.stage.Stage.TheVariants.{Free, Terminated, InitialisedOnce, Initialised, RandomisedOnce, Opened, HighSent, MiddleSent, NumberSent, Found, Unnamed, Unanswered, Inconclusive, Programmed, Confirmed, Withdrawn, HighAsked, MiddleAsked, Spelled}
 use Rattle.dali_script.specs.Records.{IsKept, IsOnce, with_record, HasAddress, Kept, Assignment, Has, HasRandom, Fits, MayAdd}
@@ -633,11 +633,6 @@ enrols w b n o new h none fresh order state = record {
       (enrols_at w b n h (subst (λ xs. HasAddress xs b → ⊥) (entries_of w h.table) none) (subst (λ xs. HasRandom xs n → ⊥) (entries_of w h.table) fresh));
   state = state;
 }
-
--- TO RELEASE: what is reserved fits
-pub fits_reserved : (k : Kept) (a n : ℕ) → IsKept k → Has k.reserved (a, n) → Fits k.block (Release a n)
-fits_reserved k a n kept has =
-    (kept.within a (has_map (λ q. q.0) k.reserved (a, n) has), kept.reserved_drawn n (has_map (λ q. q.1) k.reserved (a, n) has))
 
 -- a number is reserved once its reservation is kept
 pub reserved_kept : (w new : Work) (x : Record) (a n m : ℕ) → x ≡ Reserve a n → new ≡ record w { kept = with_record w.kept x } → m ≡ n → HasRandom new.kept.reserved m

@@ -12,7 +12,7 @@ use Rattle.dali_script.specs.declared.records.Record.{Record}
 use Rattle.dali_script.specs.declared.records.Record.TheVariants.{Reserve, Enrol, Release}
 use Rattle.dali_script.specs.Records.{Assignment, Kept, Has, HasAddress, HasRandom, InBlock, IsKept, MayAdd, Fits, address_of}
 use Rattle.dali_script.specs.Findings.{search_of, Asked, asked_of, found_by, assigned, later}
-use Rattle.dali_script.proofs.Lists.{has_map, kept_none, kept_more}
+use Rattle.dali_script.proofs.Lists.{reserved_fits, has_map, kept_none, kept_more}
 use Rattle.dali_script.specs.declared.orders.Order.{Order}
 use Rattle.dali_script.specs.declared.orders.Order.TheVariants.{Put, Commit, Done, Halt}
 use Rattle.dali_events.specs.declared.event.Event.{Event}
@@ -68,10 +68,7 @@ enrolled_short p x is small = subst (λ (y : Assignment). y.0 < 64) (sym is) sma
 
 -- what is reserved fits, and may be released
 reserved_new : (kept : Kept) (a r : ℕ) → IsKept kept → Has kept.reserved (a, r) → IsNewRecord kept (Release a r)
-reserved_new kept a r m there =
-    let address : HasAddress kept.reserved a = has_map (λ p. p.0) kept.reserved (a, r) there in
-    let number : HasRandom kept.reserved r = has_map (λ p. p.1) kept.reserved (a, r) there in
-    record { may = there; fits = (m.within a address, m.reserved_drawn r number); short = m.reserved.short a address }
+reserved_new kept a r m there = record { may = there; fits = reserved_fits kept a r m there; short = m.reserved.short a (has_map (λ p. p.0) kept.reserved (a, r) there) }
 
 order_keeps : (p : Plan) → IsPlan p → (w : World) (c : ℕ) → c < length p.blocks → (k : Controller) (o : Order) → MayOrder w c k o → AddsOrder (KeepsAs p) c k o
 order_keeps p plan w c there k (Commit (Reserve a r)) may = λ h. record {

@@ -290,6 +290,10 @@ kept_more k (Release a r) m fits small there = record {
   within = λ c h. m.within c (key_left (λ p. p.0) (a, r) k.reserved c h);
 }
 
+-- what is reserved fits, and so does its release
+pub reserved_fits : (k : Kept) (a r : ℕ) → IsKept k → Has k.reserved (a, r) → Fits k.block (Release a r)
+reserved_fits k a r kept has = (kept.within a (has_map (λ p. p.0) k.reserved (a, r) has), kept.reserved_drawn r (has_map (λ p. p.1) k.reserved (a, r) has))
+
 -- THE MARKS OF ADDRESSES, while these pairs are still to be looked at
 pub record Marking (xs rest : List Assignment) (marks : List Bool) : Type 0 where
   pub all : length marks ≡ 64

@@ -12,7 +12,7 @@ use Rattle.dali_script.specs.declared.finding.Finding.{Finding}
 use Rattle.dali_script.specs.declared.records.Record.{Record}
 use Rattle.dali_script.specs.declared.records.Record.TheVariants.{Reserve, Enrol, Release}
 use Rattle.dali_script.specs.Records.{Kept, InBlock, MayAdd}
-use Rattle.dali_script.specs.Findings.{MayEnrol, assigned, finding_of, later}
+use Rattle.dali_script.specs.Findings.{MayEnrol, finding_of, later}
 use Rattle.dali_script.specs.Scripts.{Lawful, IsFirst}
 use Rattle.dali_script.specs.Stages.{stage_of, may_follow}
 use Rattle.dali_script.proofs.Transactions.{over, follows_lawful}
@@ -27,7 +27,7 @@ use Rattle.dali_events.specs.World.{World, Controller}
 use Rattle.dali_events.specs.Happens.{entry, controller_informed, is_arc}
 use Rattle.dali_events.specs.Allowed.{IsDue, IsCommit, MayOrder}
 use Rattle.dali_events.proofs.Naming.{enrols_assigned}
-use Rattle.dali_standing.specs.Seats.{IsRunning, IsTold, IsOutstanding, IsFound, IsEnrolling, informed_by}
+use Rattle.dali_standing.specs.Seats.{IsRunning, IsTied, IsTold, IsOutstanding, IsFound, IsEnrolling, MayAnswer, seat_by, informed_by}
 use Rattle.dali_standing.specs.Settled.{IsOwning, IsApart, IsPlacedBy}
 
 -- WHAT A CONTROLLER ORDERS, the table of events allows.
@@ -157,7 +157,7 @@ may_order_by w c k t (Commit (Enrol b r)) both may =
     (both.outstanding, ((x, found, enrols), may.fits, subst (λ q. MayAdd q (Enrol b r)) both.kept may.may))
 may_order_by w c k t (Commit (Release a r)) both may =
     let enrolled = subst (λ l. IsEnrolling l k.finding) may.warranted.1 both.enrolling in
-    (both.outstanding, subst (λ q. MayAdd q (Release a r)) both.kept may.may, (enrolled.0, enrolled.1, may.warranted.0, enrolled.2, may.warranted.2))
+    (both.outstanding, (subst (λ q. MayAdd q (Release a r)) both.kept may.may, (enrolled.0, enrolled.1, may.warranted.0, enrolled.2, may.warranted.2)))
 may_order_by w c k t (Done e) both may = tt
 may_order_by w c k t (Halt why) both may = tt
 
@@ -189,17 +189,6 @@ owns_told w c k m input.Start p f bus is same e placed = elim bus [ ]
 owns_told w c k m input.Committed p f bus is same e placed = elim bus [ ]
 owns_told w c k m input.CommitFailed p f bus is same e placed = elim bus [ ]
 
--- an enrolment that is ordered is of the controller's last finding
-pub enrolling_by : (k : Controller) (t : Machine) (o : Order) → later k.finding (finding_of t.trace) ≡ k.finding → IsAllowed t o → IsEnrolling (Some o) k.finding
-enrolling_by k t (Commit (Enrol b r)) found may =
-    let x : Finding = may.warranted.0 in
-    (x, later_some k.finding (finding_of t.trace) x may.warranted.2 found, sym (enrols_assigned t.kept.reserved x (b, r) may.warranted.3))
-enrolling_by k t (Commit (Reserve a r)) found may = tt
-enrolling_by k t (Commit (Release a r)) found may = tt
-enrolling_by k t (Put p f) found may = tt
-enrolling_by k t (Done e) found may = tt
-enrolling_by k t (Halt why) found may = tt
-
 pub found_told : (k : Controller) (m : Machine) (i : Input) → k.told ≡ Some i → IsFound k m → later k.finding (finding_of (machine_told m i).trace) ≡ k.finding
 found_told k m i e is = subst (λ t. later k.finding (finding_of (informed_by m t).trace) ≡ k.finding) e is
 
@@ -212,6 +201,10 @@ committed_last_stays : (m : Machine) (x : Option Record) → (machine_committed 
 committed_last_stays m None = refl
 committed_last_stays m (Some x) = refl
 
+committed_trace : (m : Machine) (x : Option Record) → (machine_committed m x).trace ≡ m.trace
+committed_trace m None = refl
+committed_trace m (Some x) = refl
+
 last_told : (m : Machine) (i : Input) → (machine_told m i).last ≡ m.last
 last_told m input.Start = refl
 last_told m (input.Heard h) = heard_last m (frame_put m.last) h
@@ -222,6 +215,43 @@ last_told m input.CommitFailed = refl
 
 enrolling_told : (k : Controller) (m : Machine) (i : Input) → IsRunning k m → IsEnrolling (machine_told m i).last k.finding
 enrolling_told k m i tied = subst (λ l. IsEnrolling l k.finding) (sym (last_told m i ∙ tied.last)) tied.enrolling
+
+-- an enrolment that is ordered is of the controller's last finding
+enrolling_by : (k : Controller) (t : Machine) (o : Order) → later k.finding (finding_of t.trace) ≡ k.finding → IsAllowed t o → IsEnrolling (Some o) k.finding
+enrolling_by k t (Commit (Enrol b r)) found may =
+    let x : Finding = may.warranted.0 in
+    (x, later_some k.finding (finding_of t.trace) x may.warranted.2 found, sym (enrols_assigned t.kept.reserved x (b, r) may.warranted.3))
+enrolling_by k t (Commit (Reserve a r)) found may = tt
+enrolling_by k t (Commit (Release a r)) found may = tt
+enrolling_by k t (Put p f) found may = tt
+enrolling_by k t (Done e) found may = tt
+enrolling_by k t (Halt why) found may = tt
+
+-- where the store is waited for, nothing that is told changes the trace
+stored_trace : (m : Machine) (last : Option Order) (told : Option Input) → IsCommit last → IsTold last told → (informed_by m told).trace ≡ m.trace
+stored_trace m last None commit told = refl
+stored_trace m last (Some input.Committed) commit told = committed_trace m (record_ordered m.last)
+stored_trace m last (Some input.CommitFailed) commit told = refl
+stored_trace m last (Some i) commit told =
+    let x = committed_last last commit in absurd (let none = subst (λ l. accepts (due_after l) i ≡ true) x.1 told in cc)
+
+pub acted_enrolling : (machine : Option Machine) (beside : Option Kept) (outstanding : Option Record) (found : Option Finding) (told : Option Input) (i : Input) (o : Order)
+    → IsTied (seat_by machine beside outstanding found told).controller machine → IsDue (seat_by machine beside outstanding found told).controller i → MayAnswer machine i o → IsEnrolling (Some o) found
+acted_enrolling None beside outstanding found told i o tied due answer = elim answer [ ]
+acted_enrolling (Some m) beside outstanding found told i o tied due answer = go i due answer where
+  k : Controller
+  k = (seat_by (Some m) beside outstanding found told).controller
+
+  go : (i : Input) → IsDue k i → IsAnswered m i o → IsEnrolling (Some o) found
+  go input.Committed commit order =
+      let same : (informed_by m told).trace ≡ m.trace = stored_trace m k.last told commit tied.told in
+      enrolling_by k (machine_told m input.Committed) o
+      (subst (λ t. later found (finding_of t) ≡ found) (same ∙ sym (committed_trace m (record_ordered m.last))) tied.found) order.allowed
+  go input.CommitFailed commit halts = subst (λ p. IsEnrolling (Some p) found) (sym halts) tt
+  go input.Start is order = enrolling_by k (machine_told m input.Start) o (found_told k m input.Start is tied.found) order.allowed
+  go (input.Heard h) is order = enrolling_by k (machine_told m (input.Heard h)) o (found_told k m (input.Heard h) is tied.found) order.allowed
+  go input.Destroyed is order = enrolling_by k (machine_told m input.Destroyed) o (found_told k m input.Destroyed is tied.found) order.allowed
+  go input.Lapsed is order = enrolling_by k (machine_told m input.Lapsed) o (found_told k m input.Lapsed is tied.found) order.allowed
 
 informed_bus : (w : World) (c : ℕ) (k : Controller) (m : Machine) (i : Input) → IsOfBus i → k.told ≡ Some i → IsRunning k m → IsPlacedBy (owns w.bus.owner c) w.trace k (Some m)
     → AreInformed w c (controller_informed k i) (machine_told m i)
