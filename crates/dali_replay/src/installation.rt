@@ -2,7 +2,7 @@
 
 ghost use Rattle.std.specs.Prelude.{false, ◌≡◌, ◌<◌, ◌≤◌, length, map, slice_index_or, slice_set, Some, IfOk, IfErr};
 ghost use Rattle.std.specs.Prelude.{IfSome, MatchOption, IsTrue, ◌↔◌, OnErr, IfNone, is_some};
-ghost use Rattle.dali_script.specs.Records.{Fits, IsFresh};
+ghost use Rattle.dali_script.specs.Records.{Fits, MayAdd};
 ghost use Rattle.dali_script.specs.Due.{record_ordered};
 ghost use Rattle.dali_events.specs.World.{gear_at};
 ghost use Rattle.dali_events.specs.declared.event.Event.TheVariants as event;
@@ -71,7 +71,7 @@ impl Store {
 
     /// Commits the record that is pending, if one is.
     fn commit(&mut self)
-        requires { IfSome self.old.pending (IsFresh self.old.keep) }
+        requires { IfSome self.old.pending (MayAdd self.old.keep) }
         ensures { self.new ≡ store_committed self.old }
     {
         let Some(record) = self.pending else {
@@ -391,7 +391,7 @@ impl Installation {
         requires { c < length self.old.site.plan.blocks }
         ensures { self.new ≡ with_store self.old c (store_committed (store_at self.old c)) }
     {
-        // What the site remembers as outstanding is fresh, so the store does not refuse it.
+        // What the site remembers as outstanding may be added, so the store does not refuse it.
         self.site.is_safe();
         self.stores[c as usize].commit();
     }

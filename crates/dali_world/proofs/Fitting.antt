@@ -1,4 +1,4 @@
-use Rattle.std.proofs.Common.{◌≡◌, ◌⊎◌, inl, inr, ℕ, List, Option, Some, None, refl, subst, ◌∙◌}
+use Rattle.std.proofs.Common.{◌≡◌, ◌⊎◌, inl, inr, ℕ, Option, Some, None, refl, subst, ◌∙◌}
 use Rattle.std.specs.Prelude.{IfSome}
 use Rattle.dali_script.specs.declared.block.Block.{Block}
 use Rattle.dali_script.specs.declared.records.Record.{Record}
@@ -40,7 +40,7 @@ with_outstanding_fits k None a r kept new has = reserved_fits k a r kept has
 with_outstanding_fits k (Some (Enrol b n)) a r kept new has = reserved_fits k a r kept has
 with_outstanding_fits k (Some (Release b n)) a r kept new has = reserved_fits k a r kept (without_has (b, n) k.reserved (a, r) has)
 with_outstanding_fits k (Some (Reserve b n)) a r kept new has = go (has_cases k.reserved (b, n) (a, r) has) where
-  go : Has k.reserved (a, r) ⊎ ((b, n) ≡ (a, r)) → Fits k.block (Release a r)
+  go : Has k.reserved (a, r) ⊎ ◌≡◌ {A = Assignment} (b, n) (a, r) → Fits k.block (Release a r)
   go (inl there) = reserved_fits k a r kept there
   go (inr same) = subst (λ (p : Assignment). Fits k.block (Release p.0 p.1)) same (new (Reserve b n) refl)
 
