@@ -1,4 +1,4 @@
-use Rattle.std.proofs.Common.{◌≡◌, ℕ, true, false, List, [], ◌∷◌, ◌++◌, Some, None, refl, inl, inr, lit<, lit≤}
+use Rattle.std.proofs.Common.{◌≡◌, ℕ, true, false, List, [], ◌∷◌, ◌++◌, Some, None, refl, inl, inr, lit<, lit≤, arith}
 use Rattle.dali_frame.specs.declared.frames.Forward.{Forward}
 use Rattle.dali_frame.specs.declared.frames.Answer.TheVariants.{Silence, Byte}
 use Rattle.dali_frame.specs.declared.numbers.SearchAddress.{SearchAddress}
@@ -9,15 +9,15 @@ use Rattle.dali_gear.specs.Gear.{Gear, search_mask}
 use Rattle.dali_arbiter.specs.Arbiter.{request_of, idle}
 use Rattle.dali_script.specs.declared.finding.Finding.TheVariants.{Queried}
 use Rattle.dali_script.specs.declared.block.Block.{Block}
-use Rattle.dali_script.specs.declared.records.Record.TheVariants.{Reserve}
-use Rattle.dali_script.specs.Scripts.{Open}
+use Rattle.dali_script.specs.declared.records.Record.TheVariants.{Reserve, Release}
+use Rattle.dali_script.specs.Scripts.{Open, Look}
 use Rattle.dali_script.specs.Stages.{stage_of}
 use Rattle.dali_script.specs.declared.orders.Input.TheVariants as input
 use Rattle.dali_script.specs.declared.orders.Order.TheVariants.{Put, Commit}
 use Rattle.dali_events.specs.declared.event.Event.{Event}
 use Rattle.dali_events.specs.declared.event.Event.TheVariants as event
 use Rattle.dali_events.specs.Plan.{Plan}
-use Rattle.dali_events.specs.World.{World, gear_at, controller_at, start}
+use Rattle.dali_events.specs.World.{World, gear_at, controller_at, controller_begun, start}
 use Rattle.dali_events.specs.Happens.{happens}
 use Rattle.dali_events.specs.Runs.{after_all, AllAllowed}
 
@@ -200,3 +200,39 @@ opening_is_allowed = (
     (record { up = record { known = lit< tt; up = refl }; due = refl; order = inr (refl, refl, (Open, tt, (refl, tt, refl))) }, tt),
   ),
 )
+
+-- 15. a release takes its reservation away when it is kept; until that is known the reservation stands
+abbrev releasing : List Event
+releasing = event.Acted 0 input.Start (Commit (Reserve 0 0x123456)) ∷ event.Acted 0 input.Committed (Commit (Release 0 0x123456)) ∷ []
+
+not_yet_released : (controller_at (after_all site releasing) 0).records.reserved ≡ (0, 0x123456) ∷ []
+not_yet_released = refl
+
+released : (controller_at (after_all site (releasing ++ event.Acted 0 input.Committed (Put 3 terminate) ∷ [])) 0).records.reserved ≡ []
+released = refl
+
+-- 16. a release is allowed where the gear that a controller has reserved 0 for is found with 4
+abbrev reserving_site : World
+reserving_site = record found_site {
+  gear = record (found_gear 0x123456) { short = Some 4 } ∷ found_gear 0x0ABCDE ∷ [];
+  controllers = record (controller_begun first_block) { records = record { block = first_block; reserved = (0, 0x123456) ∷ []; enrolled = [] } } ∷ controller_begun second_block ∷ [];
+  gifts = (0, 4) ∷ [];
+}
+
+release_is_allowed : AllAllowed reserving_site (looking ++ event.Sent 0 query (Byte 0x09) ∷ event.Acted 0 (input.Heard (Byte 0x09)) (Commit (Release 0 0x123456)) ∷ [])
+unfolding command_of stage_of
+release_is_allowed = (
+  record { up = record { known = lit< tt; up = refl }; may = inr (refl, (first_block, [], (Look at_123456, tt, refl))); draws = lit≤ tt; heard = tt },
+  (
+    record { up = record { known = lit< tt; up = refl }; may = inl (refl, (Look at_123456, tt, (refl, tt, refl))); draws = lit≤ tt; heard = tt },
+    (
+      record { up = record { known = lit< tt; up = refl }; may = inl (refl, (Look at_123456, tt, (refl, tt, (refl, tt, refl)))); draws = lit≤ tt; heard = tt },
+      (
+        record { up = record { known = lit< tt; up = refl }; may = inl (refl, (Look at_123456, tt, (refl, tt, (refl, tt, (refl, tt, refl))))); draws = lit≤ tt; heard = (λ e. cc, (refl, tt)) },
+        (record { up = record { known = lit< tt; up = refl }; due = refl; order = (refl, (inl refl, (Queried 4 0x123456, refl, 4, refl, λ e. apart 4 0 refl refl e))) }, tt),
+      ),
+    ),
+  ),
+) where
+  apart : (n m : ℕ) → n ≡ 4 → m ≡ 0 → n ≡ m → ⊥
+  apart n m four zero same = omega arith

@@ -22,3 +22,4 @@ pub mod Keeping
 pub mod Premises
 pub mod OpeningAlone
 pub mod LapseForgotten
+pub mod GiftReleased
