@@ -87,14 +87,17 @@ fn two_controllers_name_all_gear_alike(rt: HostRuntime) -> Result<(), Fail> {
          > 1: commit reserve 3 100000
          > 0: commit enrol 0 100000
          > 1: commit enrol 0 100000
+         > 1: commit release 3 100000
          > 0: commit reserve 1 200000
-         > 1: commit reserve 4 200000
+         > 1: commit reserve 3 200000
          > 0: commit enrol 1 200000
          > 1: commit enrol 1 200000
+         > 1: commit release 3 200000
          > 0: commit reserve 2 300000
-         > 1: commit reserve 5 300000
+         > 1: commit reserve 3 300000
          > 0: commit enrol 2 300000
          > 1: commit enrol 2 300000
+         > 1: commit release 3 300000
          > 0: done all-found
          > 1: done all-found
          > ran 680
@@ -109,7 +112,7 @@ fn two_controllers_name_all_gear_alike(rt: HostRuntime) -> Result<(), Fail> {
 #[test]
 fn an_opening_between_visits_leaves_a_reservation(rt: HostRuntime) -> Result<(), Fail> {
     // Controller 1 opens after controller 0 has reserved address 0 for 123456: the gear draws 0ABCDE, and that
-    // reservation stays.
+    // reservation stays, since nobody finds who drew 123456. The one for 0ABCDE is released.
     plays(
         &rt,
         "site 1 0-3 4-7
@@ -123,6 +126,7 @@ fn an_opening_between_visits_leaves_a_reservation(rt: HostRuntime) -> Result<(),
          > 0: commit reserve 1 0ABCDE
          > 1: commit enrol 4 0ABCDE
          > 0: commit enrol 4 0ABCDE
+         > 0: commit release 1 0ABCDE
          > 1: done all-found
          > 0: done all-found
          > ran 239",

@@ -182,3 +182,35 @@ fn a_controller_comes_up_with_as_many_records_as_it_has(rt: HostRuntime) -> Resu
          > table 0: 0=110000 1=120000 2=220000",
     )
 }
+
+#[test]
+fn a_controller_that_goes_down_before_its_release_keeps_the_reservation(
+    rt: HostRuntime,
+) -> Result<(), Fail> {
+    // Controller 1 gave the gear address 4, and controller 0 had reserved 1 for it. The enrolment is kept, and the
+    // release is ordered and not kept.
+    plays(
+        &rt,
+        "site 1 0-3 4-7
+         draws 123456 0ABCDE
+         down 1 > ok
+         run 110 > 0: commit reserve 0 123456
+         > ran 109
+         up 1 > ok
+         go 1 > 1: put 3 A100
+         run 230 > 1: commit reserve 4 0ABCDE
+         > 0: commit reserve 1 0ABCDE
+         > 1: commit enrol 4 0ABCDE
+         > 0: commit enrol 4 0ABCDE
+         > ran 230
+         go 0 > 0: commit release 1 0ABCDE
+         down 0 > ok
+         up 0 > ok
+         run 1000 > 1: done all-found
+         > 0: done all-found
+         > ran 21
+         show > gear 0 on disabled 0ABCDE 123456 4
+         > table 0: 4=0ABCDE
+         > table 1: 4=0ABCDE",
+    )
+}
