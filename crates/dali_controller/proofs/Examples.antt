@@ -1,18 +1,20 @@
-use Rattle.std.proofs.Common.{◌≡◌, true, false, Some, None, refl}
+use Rattle.std.proofs.Common.{◌≡◌, ℕ, true, false, Some, None, refl, sym, ◌∙◌}
 use Rattle.dali_frame.specs.declared.frames.Answer.TheVariants.{Silence}
+use Rattle.dali_frame.specs.declared.frames.Forward.{Forward}
 use Rattle.dali_frame.specs.declared.numbers.SearchAddress.{SearchAddress}
 use Rattle.dali_special.specs.Command.{frame}
 use Rattle.dali_script.specs.declared.stage.Stage.TheVariants.{Probed, Unanswered, Inconclusive, Withdrawn}
+use Rattle.dali_script.specs.declared.records.Record.TheVariants.{Enrol, Release}
 use Rattle.dali_script.specs.Records.{Kept}
 use Rattle.dali_script.specs.Stages.{stage_of}
 use Rattle.dali_script.specs.declared.orders.Input.{Input}
 use Rattle.dali_script.specs.declared.orders.Input.TheVariants as input
-use Rattle.dali_script.specs.declared.orders.Order.TheVariants.{Put, Done}
+use Rattle.dali_script.specs.declared.orders.Order.TheVariants.{Put, Commit, Done}
 use Rattle.dali_script.specs.declared.orders.End.{End}
 use Rattle.dali_script.specs.declared.orders.End.TheVariants.{AllFound}
 use Rattle.dali_script.specs.Due.{due_after, accepts}
 use Rattle.dali_controller.specs.Machine.{Machine, at_first, machine_lost, silent_after}
-use Rattle.dali_controller.specs.Orders.{closing_by}
+use Rattle.dali_controller.specs.Orders.{closing_by, IsWarranted}
 
 -- WORKED EXAMPLES of the definitions.
 
@@ -53,3 +55,13 @@ nothing_after_an_end e input.Destroyed = refl
 nothing_after_an_end e input.Lapsed = refl
 nothing_after_an_end e input.Committed = refl
 nothing_after_an_end e input.CommitFailed = refl
+
+-- a reservation is not released before its gear is enrolled, nor twice, nor where the gear has that address
+no_release_before_an_enrolment : (t : Machine) (p a n : ℕ) (f : Forward) → t.last ≡ Some (Put p f) → IsWarranted t (Release a n) → ⊥
+no_release_before_an_enrolment t p a n f last w = let other : Some (Put p f) ≡ Some (Commit (Enrol w.0 n)) = sym last ∙ w.1 in cc
+
+no_second_release : (t : Machine) (a n : ℕ) → t.last ≡ Some (Commit (Release a n)) → IsWarranted t (Release a n) → ⊥
+no_second_release t a n last w = let other : Some (Commit (Release a n)) ≡ Some (Commit (Enrol w.0 n)) = sym last ∙ w.1 in cc
+
+no_release_of_what_was_given : (t : Machine) (a n : ℕ) → t.last ≡ Some (Commit (Enrol a n)) → IsWarranted t (Release a n) → ⊥
+no_release_of_what_was_given t a n last w = w.2 (let same : Some (Commit (Enrol a n)) ≡ Some (Commit (Enrol w.0 n)) = sym last ∙ w.1 in cc)

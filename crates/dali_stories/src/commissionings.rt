@@ -220,10 +220,12 @@ fn the_opening_of_another_controller_begins_a_commissioning_anew(
          > 0: commit reserve 1 000003
          > 1: commit enrol 4 000003
          > 0: commit enrol 4 000003
+         > 0: commit release 1 000003
          > 1: commit reserve 5 000004
-         > 0: commit reserve 2 000004
+         > 0: commit reserve 1 000004
          > 1: commit enrol 5 000004
          > 0: commit enrol 5 000004
+         > 0: commit release 1 000004
          > 1: done all-found
          > 0: done all-found
          > ran 459
@@ -237,7 +239,8 @@ fn the_opening_of_another_controller_begins_a_commissioning_anew(
 #[test]
 fn the_first_to_close_ends_the_initialisation_for_all(rt: HostRuntime) -> Result<(), Fail> {
     // Controller 0 has one address and closes with TERMINATE, which disables all gear. Controller 1 then hears
-    // nobody and ends with all-found, though two gear have no address. Once more alone, it finds them.
+    // nobody and ends with all-found, though two gear have no address. Once more alone, it finds them; its address 1
+    // stays reserved for 200002, which nobody has any more.
     plays(
         &rt,
         "site 3 0-0 1-8
@@ -246,7 +249,8 @@ fn the_first_to_close_ends_the_initialisation_for_all(rt: HostRuntime) -> Result
          > 1: commit reserve 1 100002
          > 0: commit enrol 0 100002
          > 1: commit enrol 0 100002
-         > 1: commit reserve 2 200002
+         > 1: commit release 1 100002
+         > 1: commit reserve 1 200002
          > 0: done block-full
          > 1: done all-found
          > ran 448
@@ -257,23 +261,24 @@ fn the_first_to_close_ends_the_initialisation_for_all(rt: HostRuntime) -> Result
          > table 1: 0=100002
          down 1 > ok
          up 1 > ok
-         run 1000 > 1: commit reserve 3 100003
-         > 1: commit enrol 3 100003
-         > 1: commit reserve 4 200003
-         > 1: commit enrol 4 200003
+         run 1000 > 1: commit reserve 2 100003
+         > 1: commit enrol 2 100003
+         > 1: commit reserve 3 200003
+         > 1: commit enrol 3 200003
          > 1: done all-found
          > ran 239
          show > gear 0 on disabled 100002 200002 0
-         > gear 1 on disabled 100003 FFFFFE 3
-         > gear 2 on disabled 200003 FFFFFE 4
+         > gear 1 on disabled 100003 FFFFFE 2
+         > gear 2 on disabled 200003 FFFFFE 3
          > table 0: 0=100002
-         > table 1: 0=100002 3=100003 4=200003",
+         > table 1: 0=100002 2=100003 3=200003",
     )
 }
 
 #[test]
 fn controllers_that_run_at_once_reserve_for_the_same_gear(rt: HostRuntime) -> Result<(), Fail> {
-    // Each of four controllers reserves both its addresses for the same two gear, so six gear have none.
+    // Each of four controllers reserves an address for each gear that all find, and three release theirs again. The
+    // first, which gives both its addresses, closes; the others end with it, so six gear have none.
     plays(
         &rt,
         "site 8 0-1 2-3 4-5 6-7
@@ -286,21 +291,30 @@ fn controllers_that_run_at_once_reserve_for_the_same_gear(rt: HostRuntime) -> Re
          > 3: commit reserve 6 008A05
          > 0: commit enrol 0 008A05
          > 1: commit enrol 0 008A05
+         > 1: commit release 2 008A05
          > 2: commit enrol 0 008A05
+         > 2: commit release 4 008A05
          > 3: commit enrol 0 008A05
+         > 3: commit release 6 008A05
          > 0: commit reserve 1 442E3D
-         > 1: commit reserve 3 442E3D
-         > 2: commit reserve 5 442E3D
-         > 3: commit reserve 7 442E3D
+         > 1: commit reserve 2 442E3D
+         > 2: commit reserve 4 442E3D
+         > 3: commit reserve 6 442E3D
          > 0: commit enrol 1 442E3D
          > 1: commit enrol 1 442E3D
+         > 1: commit release 2 442E3D
          > 2: commit enrol 1 442E3D
+         > 2: commit release 4 442E3D
          > 3: commit enrol 1 442E3D
+         > 3: commit release 6 442E3D
+         > 1: commit reserve 2 7204E5
+         > 2: commit reserve 4 7204E5
+         > 3: commit reserve 6 7204E5
          > 0: done block-full
-         > 1: done block-full
-         > 2: done block-full
-         > 3: done block-full
-         > ran 1316
+         > 1: done all-found
+         > 2: done all-found
+         > 3: done all-found
+         > ran 1340
          show > gear 0 on disabled C324C9 7204E5 -
          > gear 1 on disabled C46471 7204E5 -
          > gear 2 on disabled 008A05 7204E5 0
