@@ -9,7 +9,7 @@ FRAME = "[0-9A-F]{4}"
 RANDOM = "[0-9A-F]{6}"
 ANSWER = "(?:silence|damaged|byte [0-9A-F]{2})"
 ENDS = "(?:done (?:all-found|block-full|gave-up))"
-COMMIT = rf"(?:commit (?:reserve|enrol) \d+ {RANDOM})"
+COMMIT = rf"(?:commit (?:reserve|enrol|release) \d+ {RANDOM})"
 UNKNOWN = "1 UnknownController"
 DOWN = "2 ControllerDown"
 NOT_DUE = "3 NotDue"
@@ -64,6 +64,8 @@ class Report:
         self.lines.pop()
         self.at = 0
         self.holders = {}
+        self.reserved = set()
+        self.released = set()
         self.tables = [[] for _ in reading.blocks]
         self.allowed = {address for first, last in reading.blocks for address in range(first, last + 1)}
         self.draws = set(reading.draws)
@@ -129,6 +131,11 @@ class Report:
         check(kind == "enrol" or first <= address <= last, f"an address of another block: {report}")
         check(address in self.allowed, f"an address of no block: {report}")
         check(random in self.draws, f"a number that was not to be drawn: {report}")
+        if kind == "reserve":
+            self.reserved.add((controller, address, random))
+        if kind == "release":
+            check((controller, address, random) in self.reserved, f"a release of what was not reserved: {report}")
+            self.released.add((str(address), random))
 
     def check_show(self):
         """All gear in order, and all tables; on a site what is promised of them."""
@@ -159,6 +166,7 @@ class Report:
             check(int(short) in self.allowed, f"an address of no block: {line}")
             check(short not in named, f"two gear with one address: {line}")
             check(random != "FFFFFF", f"an address without a random address: {line}")
+            check((short, random) not in self.released, f"an address that was released for this gear: {line}")
             named[short] = random
             self.holders[number] = (random, short)
         return named

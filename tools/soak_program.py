@@ -487,7 +487,8 @@ fn is_true(site: &SiteState, c: u8, stored: &Kept) -> bool {
         return false;
     }
     let kept = site.kept(c);
-    let more = stored.reserved().len() > kept.reserved().len()
+    // A release is one record more, and leaves one reservation fewer.
+    let more = stored.reserved().len() != kept.reserved().len()
         || stored.enrolled().len() > kept.enrolled().len();
     if !more && !stored.same(kept) {
         return false;
