@@ -1,7 +1,7 @@
 //! The machine's moments: what it orders after each thing that it may be told, also what no true bus tells.
 
 use super::values::Ordered::{Commit, Done, Halt, NotDue, Put};
-use super::values::Pair::{Enrol, Reserve};
+use super::values::Pair::{Enrol, Release, Reserve};
 use super::values::{Ordered, Pair, are_pairs, kept_of, same};
 use dali_controller::{Machine, MachineError, StepError};
 use dali_frame::Answer;
@@ -242,6 +242,7 @@ fn the_first_query_decides_a_visit(rt: HostRuntime) -> Result<(), Fail> {
     let named = [
         (byte(0x05), Put(1, 0xAB00)),
         (SILENCE, Commit(Enrol(2, 0x123456))),
+        (Input::Committed, Commit(Release(0, 0x123456))),
         (Input::Committed, Put(3, 0xA100)),
     ];
     visits(&rt, &[&named])?;
@@ -339,6 +340,14 @@ fn a_failed_commit_halts(rt: HostRuntime) -> Result<(), Fail> {
         (Input::Committed, NotDue),
     ];
     visits(&rt, &[&enrolling])?;
+    let releasing = [
+        (byte(0x05), Put(1, 0xAB00)),
+        (SILENCE, Commit(Enrol(2, 0x123456))),
+        (Input::Committed, Commit(Release(0, 0x123456))),
+        (Input::CommitFailed, Halt(Fault::Store)),
+        (Input::Committed, NotDue),
+    ];
+    visits(&rt, &[&releasing])?;
     let reserving = [
         (YES, Commit(Reserve(0, 0x000000))),
         (Input::CommitFailed, Halt(Fault::Store)),
@@ -381,8 +390,8 @@ fn has_after<R: Abort>(rt: &R, machine: &mut Machine, moments: &[Moment], wanted
     are_pairs(rt, machine.table().entries(), wanted);
 }
 
-/// The first of two visits hears another address than the reserved one: it is enrolled as it was heard. The second is
-/// given its own.
+/// The first of two visits hears another address than the reserved one: it is enrolled as it was heard, and the reserved
+/// one is released. The second is given its own.
 #[test]
 fn visits_enrol_what_they_hear(rt: HostRuntime) -> Result<(), Fail> {
     let records = [
@@ -411,11 +420,46 @@ fn visits_enrol_what_they_hear(rt: HostRuntime) -> Result<(), Fail> {
     let [begun, told, opened] = [(0, 0x000001), (5, 0xABCDEF), (3, 0x000003)];
     let mut machine = machine_of(rt.alloc(), (0, 3), &records)?;
     has_after(&rt, &mut machine, &first, &[begun]);
-    let committed = [(Input::Committed, Put(3, 0xB100))];
+    let committed = [
+        (Input::Committed, Commit(Release(1, 0xABCDEF))),
+        (Input::Committed, Put(3, 0xB100)),
+    ];
     has_after(&rt, &mut machine, &committed, &[begun, told]);
     has_after(&rt, &mut machine, &second, &[begun, told]);
     let committed = [(Input::Committed, Put(3, 0xA100))];
     has_after(&rt, &mut machine, &committed, &[begun, told, opened]);
+    Ok(())
+}
+
+/// The machine reserves 0 for the gear that it has found, and the gear has address 2 by then.
+#[test]
+fn a_reservation_of_gear_with_another_address_is_released(rt: HostRuntime) -> Result<(), Fail> {
+    let mut machine = machine_of(rt.alloc(), (0, 3), &[])?;
+    searches(&rt, &mut machine, SEARCHED);
+    let moments = [
+        (YES, Commit(Reserve(0, 0x000000))),
+        (Input::Committed, Put(3, 0xB100)),
+        (SILENCE, Put(1, 0xB300)),
+        (SILENCE, Put(1, 0xB500)),
+        (SILENCE, Put(1, 0xBB00)),
+        (byte(0x05), Put(1, 0xAB00)),
+        (SILENCE, Commit(Enrol(2, 0x000000))),
+        (Input::Committed, Commit(Release(0, 0x000000))),
+        (Input::Committed, Put(3, 0xB1FF)),
+    ];
+    goes_on(&rt, &mut machine, &[&FOUND, &moments]);
+    are_pairs(&rt, machine.kept().reserved(), &[]);
+    are_pairs(&rt, machine.kept().enrolled(), &[(2, 0x000000)]);
+    Ok(())
+}
+
+/// A controller that went down before its release starts with the reservation and the enrolment: it releases nothing.
+#[test]
+fn nothing_is_released_at_the_start(rt: HostRuntime) -> Result<(), Fail> {
+    let records = [Reserve(0, 0x123456), Enrol(2, 0x123456)];
+    let mut machine = machine_of(rt.alloc(), (0, 3), &records)?;
+    steps(&rt, &mut machine, Input::Start, Put(3, 0xA100));
+    are_pairs(&rt, machine.kept().reserved(), &[(0, 0x123456)]);
     Ok(())
 }
 

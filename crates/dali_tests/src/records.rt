@@ -1,6 +1,6 @@
 //! The records that a controller keeps.
 
-use super::values::Pair::{Enrol, Reserve};
+use super::values::Pair::{Enrol, Release, Reserve};
 use super::values::{Pair, are_pairs, block, kept_of, random, same, short};
 use dali_script::{AddError, Kept, MakeError, Record};
 use std::alloc::Global;
@@ -57,6 +57,29 @@ fn records_are_kept_in_order(rt: HostRuntime) -> Result<(), Fail> {
     fill_in_order(&rt, &mut kept)
 }
 
+/// Three reservations, of which the second is released, and then what is free again is reserved.
+fn release_one<R: Abort>(rt: &R, kept: &mut Kept) -> Result<(), Fail> {
+    adds(rt, kept, Release(5, 3), Err(AddError::NotReserved))?;
+    adds(rt, kept, Release(7, 2), Err(AddError::NotReserved))?;
+    // An enrolment is no reservation.
+    adds(rt, kept, Release(6, 9), Err(AddError::NotReserved))?;
+    adds(rt, kept, Release(5, 2), Ok(()))?;
+    keeps(rt, kept, &[(4, 1), (6, 3)], &[(6, 9)]);
+    is_free(rt, kept, Some(5));
+    adds(rt, kept, Release(5, 2), Err(AddError::NotReserved))?;
+    adds(rt, kept, Reserve(5, 7), Ok(()))?;
+    adds(rt, kept, Reserve(7, 2), Ok(()))?;
+    keeps(rt, kept, &[(4, 1), (6, 3), (5, 7), (7, 2)], &[(6, 9)]);
+    Ok(())
+}
+
+#[test]
+fn a_released_address_is_free_again(rt: HostRuntime) -> Result<(), Fail> {
+    let records = [Reserve(4, 1), Reserve(5, 2), Reserve(6, 3), Enrol(6, 9)];
+    let mut kept = kept_of(rt.alloc(), (4, 7), &records)?;
+    release_one(&rt, &mut kept)
+}
+
 /// A copy is the same as these records, and not as other ones.
 fn is_copied<R: Abort>(rt: &R, alloc: Global, kept: &Kept, other: &Kept) {
     let told = kept
@@ -88,19 +111,29 @@ fn records_fit_their_block(rt: HostRuntime) -> Result<(), Fail> {
         (Reserve(4, 1), true),
         (Enrol(3, 1), true),
         (Enrol(4, 0xFFFFFF), false),
+        (Release(3, 1), false),
+        (Release(7, 1), true),
+        (Release(4, 0xFFFFFF), false),
     ];
     let kept = kept_of(rt.alloc(), (4, 7), &[])?;
     fit(&rt, &kept, &records)
 }
 
-/// Records are fewer ones with this one more, and not with another one.
-fn has_more<R: Abort>(rt: &R, kept: &Kept, fewer: &Kept, last: &Record, other: &Record) {
+/// Whether records are those from before with this one more, with another one, and themselves with this one more.
+fn has_more<R: Abort>(
+    rt: &R,
+    kept: &Kept,
+    before: &Kept,
+    last: &Record,
+    other: &Record,
+    wanted: [bool; 3],
+) {
     let told = [
-        kept.is_with(fewer, last),
-        kept.is_with(fewer, other),
+        kept.is_with(before, last),
+        kept.is_with(before, other),
         kept.is_with(kept, last),
     ];
-    same(rt, &told, &[true, false, false]);
+    same(rt, &told, &wanted);
 }
 
 #[test]
@@ -110,7 +143,22 @@ fn one_record_more_is_told(rt: HostRuntime) -> Result<(), Fail> {
     let fewer = kept_of(rt.alloc(), (4, 7), &[Reserve(4, 0x0ABCDE)])?;
     let more = [Reserve(4, 0x0ABCDE), Enrol(5, 0x0ABCDE)];
     let kept = kept_of(rt.alloc(), (4, 7), &more)?;
-    has_more(&rt, &kept, &fewer, &last, &other);
+    has_more(&rt, &kept, &fewer, &last, &other, [true, false, false]);
+    Ok(())
+}
+
+#[test]
+fn one_reservation_fewer_is_told(rt: HostRuntime) -> Result<(), Fail> {
+    let gone = Release(5, 2).record()?;
+    let other = Release(4, 1).record()?;
+    let before = kept_of(
+        rt.alloc(),
+        (4, 7),
+        &[Reserve(4, 1), Reserve(5, 2), Reserve(6, 3)],
+    )?;
+    let kept = kept_of(rt.alloc(), (4, 7), &[Reserve(4, 1), Reserve(6, 3)])?;
+    // A release of what is not reserved leaves all as it is.
+    has_more(&rt, &kept, &before, &gone, &other, [true, false, true]);
     Ok(())
 }
 
@@ -145,6 +193,7 @@ fn refusals_have_numbers(rt: HostRuntime) {
         MakeError::NoMemory.number(),
         AddError::AddressTaken.number(),
         AddError::RandomTaken.number(),
+        AddError::NotReserved.number(),
     ];
-    same(&rt, &numbers, &[1, 3, 4]);
+    same(&rt, &numbers, &[1, 3, 4, 6]);
 }

@@ -54,6 +54,7 @@ pub fn block(first: u8, last: u8) -> Result<Block, Fail> {
 pub enum Pair {
     Reserve(u8, u32),
     Enrol(u8, u32),
+    Release(u8, u32),
 }
 
 impl Pair {
@@ -63,6 +64,9 @@ impl Pair {
                 Ok(Record::Reserve(short(address)?, random(number)?))
             }
             Pair::Enrol(address, number) => Ok(Record::Enrol(short(address)?, random(number)?)),
+            Pair::Release(address, number) => {
+                Ok(Record::Release(short(address)?, random(number)?))
+            }
         }
     }
 
@@ -70,6 +74,7 @@ impl Pair {
         match record {
             Record::Reserve(address, number) => Pair::Reserve(address.number(), number.value()),
             Record::Enrol(address, number) => Pair::Enrol(address.number(), number.value()),
+            Record::Release(address, number) => Pair::Release(address.number(), number.value()),
         }
     }
 }
