@@ -1,6 +1,6 @@
 //! Controllers that go down and come up, and records that are kept, or not, before they do.
 
-use super::story::plays;
+use super::story::{plays, plays_parts};
 use std::test::Fail;
 
 #[test]
@@ -213,4 +213,44 @@ fn a_controller_that_goes_down_before_its_release_keeps_the_reservation(
          > table 0: 4=0ABCDE
          > table 1: 4=0ABCDE",
     )
+}
+
+/// Controller 1 gave gear 0 address 4, and controller 0, which had reserved 1 for it, orders the release.
+const TO_THE_RELEASE: &str = "site 2 0-3 4-7
+    draws 000001 000002 000003 000004 000005
+    down 1 > ok
+    run 109 > ran 109
+    up 1 > ok
+    go 1 > 1: put 3 A100
+    run 230 > 0: commit reserve 0 000001
+    > 1: commit reserve 4 000003
+    > 0: commit reserve 1 000003
+    > 1: commit enrol 4 000003
+    > 0: commit enrol 4 000003
+    > ran 230
+    go 0 > 0: commit release 1 000003
+    down 1 > ok";
+
+#[test]
+fn a_release_that_is_kept_before_a_restart_frees_the_address(rt: HostRuntime) -> Result<(), Fail> {
+    let restarted = "store 0 > ok
+        down 0 > ok
+        up 0 > ok
+        run 1000 > 0: commit reserve 1 000005
+        > 0: commit enrol 1 000005
+        > 0: done all-found
+        > ran 128";
+    plays_parts(&rt, &[(TO_THE_RELEASE, 1), (restarted, 1)])
+}
+
+#[test]
+fn a_release_that_is_not_kept_leaves_the_reservation(rt: HostRuntime) -> Result<(), Fail> {
+    let failed = "fail 0 > 0: halt store
+        down 0 > ok
+        up 0 > ok
+        run 1000 > 0: commit reserve 2 000005
+        > 0: commit enrol 2 000005
+        > 0: done all-found
+        > ran 128";
+    plays_parts(&rt, &[(TO_THE_RELEASE, 1), (failed, 1)])
 }
