@@ -104,6 +104,7 @@ impl Keep for FailingKeep {
             Ok(()) => {}
             Err(AddError::AddressTaken) => return Err(KeepError::AddressTaken),
             Err(AddError::RandomTaken) => return Err(KeepError::RandomTaken),
+            Err(AddError::NotReserved) => return Err(KeepError::NotReserved),
         }
         let fails = self.fails();
         self.must_read = true;

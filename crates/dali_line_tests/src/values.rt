@@ -43,6 +43,7 @@ pub enum Ordered {
     Put(u16),
     Reserve(u8),
     Enrol(u8),
+    Release(u8),
     Done(End),
     Halt(Fault),
 }
@@ -52,6 +53,7 @@ impl Ordered {
         match record {
             Record::Reserve(address, _) => Ordered::Reserve(address.number()),
             Record::Enrol(address, _) => Ordered::Enrol(address.number()),
+            Record::Release(address, _) => Ordered::Release(address.number()),
         }
     }
 

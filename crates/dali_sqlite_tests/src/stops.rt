@@ -383,6 +383,21 @@ fn commits_at_each<R: Abort + AllocGlobal>(rt: &R, which: Which, place: u8) -> R
     commits_after(rt, rt.alloc(), which, &records, &added)
 }
 
+/// The first 65 records, so that the last reservation is not enrolled yet, and then its enrolment with another address.
+fn with_another_address(alloc: Global) -> Result<Vec<Record>, Fail> {
+    let told = Pair::Enrol(63, 0x400020).record()?;
+    let mut records = first_records(alloc, 65)?;
+    records.push(told)?;
+    Ok(records)
+}
+
+/// The reservation of gear with another address is released.
+fn releases_at_each<R: Abort + AllocGlobal>(rt: &R, which: Which) -> Result<(), Fail> {
+    let added = Pair::Release(32, 0x400020).record()?;
+    let records = with_another_address(rt.alloc())?;
+    commits_after(rt, rt.alloc(), which, &records, &added)
+}
+
 fn makes_table_at_each<R: Abort + AllocGlobal>(rt: &R, which: Which) -> Result<(), Fail> {
     let added = record_at(0)?;
     let before = Kept::new(rt.alloc(), block(0, 63)?)?;
@@ -446,4 +461,14 @@ fn a_stopped_log_has_the_last_enrolment_or_not(rt: HostRuntime) -> Result<(), Fa
 fn a_stopped_database_file_has_the_last_record_or_not(rt: HostRuntime) -> Result<(), Fail> {
     commits_at_each(&rt, Which::Database, 126)?;
     commits_at_each(&rt, Which::Database, 127)
+}
+
+#[test]
+fn a_stopped_log_has_a_release_or_not(rt: HostRuntime) -> Result<(), Fail> {
+    releases_at_each(&rt, Which::Log)
+}
+
+#[test]
+fn a_stopped_database_file_has_a_release_or_not(rt: HostRuntime) -> Result<(), Fail> {
+    releases_at_each(&rt, Which::Database)
 }

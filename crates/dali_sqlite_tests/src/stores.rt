@@ -3,7 +3,7 @@
 ghost use Rattle.std.specs.Prelude.{◌≡◌, ◌⊎◌, List, [], ◌∷◌, ◌++◌, OnOk, IfOk, false};
 ghost use Rattle.dali_script.specs.declared.records.Record.{Record};
 
-use super::values::Pair::{Enrol, Reserve};
+use super::values::Pair::{Enrol, Release, Reserve};
 use super::values::{Pair, are_pairs, block, number, same};
 use dali_reserve::{Keep, KeepError, MemoryKeep};
 use dali_script::{Kept, Record};
@@ -88,6 +88,22 @@ pub fn commits_are_read_back<K: Keep>(
     reads(rt, alloc, keep, &reserved, &enrolled)
 }
 
+/// A reservation is released, and its address reserved for another number: what is read back.
+fn released_addresses_are_free_again<K: Keep>(
+    rt: &impl Abort,
+    alloc: Global,
+    keep: &mut K,
+) -> Result<(), Fail> {
+    let added = [
+        (Reserve(0, 0x123456), Ok(())),
+        (Release(0, 0x000001), Err(KeepError::NotReserved)),
+        (Release(0, 0x123456), Ok(())),
+        (Reserve(0, 0x000001), Ok(())),
+    ];
+    commits(rt, alloc, keep, &added)?;
+    reads(rt, alloc, keep, &[(0, 0x000001)], &[])
+}
+
 /// A store over a database in memory, of this block.
 pub fn in_memory(alloc: Global, bounds: (u8, u8)) -> Result<SqliteKeep<MemStore>, Fail> {
     let conn = Connection::open_in_memory(alloc)?;
@@ -104,6 +120,21 @@ fn a_store_in_memory_keeps_a_list(rt: HostRuntime) -> Result<(), Fail> {
 fn a_store_in_a_database_keeps_a_list(rt: HostRuntime) -> Result<(), Fail> {
     let mut keep = in_memory(rt.alloc(), (0, 3))?;
     commits_are_read_back(&rt, rt.alloc(), &mut keep)
+}
+
+#[test]
+fn a_store_in_memory_releases(rt: HostRuntime) -> Result<(), Fail> {
+    let mut keep = MemoryKeep::new(rt.alloc(), block(0, 3)?)?;
+    released_addresses_are_free_again(&rt, rt.alloc(), &mut keep)
+}
+
+/// A new store over the same connection reads the same.
+#[test]
+fn a_store_in_a_database_releases(rt: HostRuntime) -> Result<(), Fail> {
+    let mut keep = in_memory(rt.alloc(), (0, 3))?;
+    released_addresses_are_free_again(&rt, rt.alloc(), &mut keep)?;
+    let again = SqliteKeep::over(rt.alloc(), keep.into_connection(), block(0, 3)?);
+    reads(&rt, rt.alloc(), &mut again?, &[(0, 0x000001)], &[])
 }
 
 /// Commits a record that fits records of the store's block, with no read before it.
@@ -187,20 +218,35 @@ fn every_address_has_room_in_a_database(rt: HostRuntime) -> Result<(), Fail> {
 
 /// The rows are those that the documents show.
 fn shows_rows<S: Alter>(rt: &impl Abort, conn: &mut Connection<S>) -> Result<(), Fail> {
-    same(rt, &number(conn, "SELECT count(*) FROM record")?, &2);
-    let reserve =
-        "SELECT count(*) FROM record WHERE seq = 1 AND kind = 1 AND address = 2 AND random = 1193046";
-    same(rt, &number(conn, reserve)?, &1);
-    let enrol =
-        "SELECT count(*) FROM record WHERE seq = 2 AND kind = 2 AND address = 9 AND random = 16777214";
-    same(rt, &number(conn, enrol)?, &1);
+    let counts = [
+        ("SELECT count(*) FROM record", 3),
+        (
+            "SELECT count(*) FROM record WHERE seq = 1 AND kind = 1 AND address = 2 AND random = 1193046",
+            1,
+        ),
+        (
+            "SELECT count(*) FROM record WHERE seq = 2 AND kind = 2 AND address = 9 AND random = 16777214",
+            1,
+        ),
+        (
+            "SELECT count(*) FROM record WHERE seq = 3 AND kind = 3 AND address = 2 AND random = 1193046",
+            1,
+        ),
+    ];
+    for (query, wanted) in counts {
+        same(rt, &number(conn, query)?, &wanted);
+    }
     Ok(())
 }
 
 #[test]
 fn records_are_rows_that_other_programs_read(rt: HostRuntime) -> Result<(), Fail> {
     let mut keep = in_memory(rt.alloc(), (0, 3))?;
-    let added = [(Reserve(2, 0x123456), Ok(())), (Enrol(9, 0xFFFFFE), Ok(()))];
+    let added = [
+        (Reserve(2, 0x123456), Ok(())),
+        (Enrol(9, 0xFFFFFE), Ok(())),
+        (Release(2, 0x123456), Ok(())),
+    ];
     commits(&rt, rt.alloc(), &mut keep, &added)?;
     shows_rows(&rt, &mut keep.into_connection())
 }

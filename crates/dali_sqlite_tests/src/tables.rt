@@ -63,8 +63,8 @@ fn rows_that_are_no_list_are_a_bad_store(rt: HostRuntime) -> Result<(), Fail> {
         "INSERT INTO record VALUES (-1, 1, 0, 1), (1, 1, 1, 2)",
         // Kinds that are unknown.
         "INSERT INTO record VALUES (1, 0, 0, 1)",
-        "INSERT INTO record VALUES (1, 3, 0, 1)",
         "INSERT INTO record VALUES (1, 4, 0, 1)",
+        "INSERT INTO record VALUES (1, 5, 0, 1)",
         "INSERT INTO record VALUES (1, -1, 0, 1)",
         "INSERT INTO record VALUES (1, 4294967297, 0, 1)",
         // A short address, or a random address, in two records of a kind.
@@ -72,6 +72,10 @@ fn rows_that_are_no_list_are_a_bad_store(rt: HostRuntime) -> Result<(), Fail> {
         "INSERT INTO record VALUES (1, 1, 0, 1), (2, 1, 1, 1)",
         "INSERT INTO record VALUES (1, 2, 0, 1), (2, 2, 0, 2)",
         "INSERT INTO record VALUES (1, 2, 0, 1), (2, 2, 1, 1)",
+        // A release of what is not reserved: nothing is, nothing is any more, or it is so for another number.
+        "INSERT INTO record VALUES (1, 3, 0, 1)",
+        "INSERT INTO record VALUES (1, 1, 0, 1), (2, 3, 0, 1), (3, 3, 0, 1)",
+        "INSERT INTO record VALUES (1, 1, 0, 1), (2, 3, 0, 2)",
     ];
     are_refused(&rt, rt.alloc(), TABLE, &rows, KeepError::BadStore)
 }
@@ -132,6 +136,16 @@ fn holds(
 fn rows_may_come_in_any_order(rt: HostRuntime) -> Result<(), Fail> {
     let rows =
         "INSERT INTO record VALUES (3, 1, 3, 16777214), (1, 1, 0, 7), (4, 2, 9, 7), (2, 2, 0, 0)";
+    let reserved = [(0, 7), (3, 0xFFFFFE)];
+    let enrolled = [(0, 0), (9, 7)];
+    holds(&rt, rt.alloc(), rows, &reserved, &enrolled)
+}
+
+/// A database that was written before there were releases. Gear 7 has another address than the reserved one.
+#[test]
+fn a_list_without_releases_reads_as_it_did(rt: HostRuntime) -> Result<(), Fail> {
+    let rows =
+        "INSERT INTO record VALUES (1, 1, 0, 7), (2, 2, 0, 0), (3, 1, 3, 16777214), (4, 2, 9, 7)";
     let reserved = [(0, 7), (3, 0xFFFFFE)];
     let enrolled = [(0, 0), (9, 7)];
     holds(&rt, rt.alloc(), rows, &reserved, &enrolled)

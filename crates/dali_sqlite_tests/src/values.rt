@@ -32,6 +32,7 @@ pub fn block(first: u8, last: u8) -> Result<Block, Fail> {
 pub enum Pair {
     Reserve(u8, u32),
     Enrol(u8, u32),
+    Release(u8, u32),
 }
 
 impl Pair {
@@ -41,6 +42,9 @@ impl Pair {
                 Ok(Record::Reserve(short(address)?, random(number)?))
             }
             Pair::Enrol(address, number) => Ok(Record::Enrol(short(address)?, random(number)?)),
+            Pair::Release(address, number) => {
+                Ok(Record::Release(short(address)?, random(number)?))
+            }
         }
     }
 }
