@@ -307,15 +307,27 @@ fn one_gear(alloc: Global, blocks: &[(u8, u8)]) -> Result<SiteState, Fail> {
 fn plays_on_both<R: Abort + Wait>(
     rt: &R,
     alloc: Global,
-    under: SiteState,
-    mut site: SiteState,
+    sites: (SiteState, SiteState),
     records: Records<'_>,
     story: Story,
 ) {
+    let (under, mut site) = sites;
     let blanks = blanks();
     beside::<Brand, Brand, Brand, Brand, Brand, R>(
         rt, alloc, under, blanks, &mut site, records, story,
     );
+}
+
+/// Two sites of one gear that are the same.
+fn two_sites(alloc: Global, blocks: &[(u8, u8)]) -> Result<(SiteState, SiteState), Fail> {
+    let under = one_gear(alloc, blocks)?;
+    Ok((under, one_gear(alloc, blocks)?))
+}
+
+/// The records that the store of controller 0 has when it goes down, and others.
+fn two_records(alloc: Global) -> Result<(Kept, Kept), Fail> {
+    let kept = one_reserved(alloc, 0, 0x123456)?;
+    Ok((kept, one_reserved(alloc, 1, 0x123456)?))
 }
 
 /// A site of one gear, twice, and the story that is played on both.
@@ -324,12 +336,9 @@ fn plays<R: Abort + Wait + AllocGlobal>(
     blocks: &[(u8, u8)],
     story: Story,
 ) -> Result<(), Fail> {
-    let alloc = rt.alloc();
-    let kept = one_reserved(alloc, 0, 0x123456)?;
-    let wrong = one_reserved(alloc, 1, 0x123456)?;
-    let under = one_gear(alloc, blocks)?;
-    let site = one_gear(alloc, blocks)?;
-    plays_on_both(rt, alloc, under, site, (&kept, &wrong), story);
+    let (kept, wrong) = two_records(rt.alloc())?;
+    let sites = two_sites(rt.alloc(), blocks)?;
+    plays_on_both(rt, rt.alloc(), sites, (&kept, &wrong), story);
     Ok(())
 }
 
