@@ -3,6 +3,7 @@
 
 ghost use Rattle.std.specs.Prelude.{◌≡◌, ◌<◌};
 
+use super::threads::{Blanks, blanks, last_two, line_of};
 use super::values::Ordered::{Done, Enrol, Put, Reserve};
 use super::values::{Ordered, forward, one_reserved, same, site_of};
 use arrayvec::ArrayVec;
@@ -13,7 +14,7 @@ use std::alloc::Global;
 use std::marker::Brand;
 use std::process::Abort;
 use std::sync::Wait;
-use std::sync::ledger::{Blank, Ledger};
+use std::sync::ledger::Ledger;
 use std::test::Fail;
 
 /// What a controller ordered, with the number of its step.
@@ -143,6 +144,9 @@ fn does<R: Abort>(rt: &R, answer: Result<(), Refusal>, other: Result<(), Refusal
     same(rt, &other, &Ok(()));
 }
 
+/// The records with which a controller may come up again: those of its store, and others.
+type Records<'a> = (&'a Kept, &'a Kept);
+
 fn restarts<P0: Ledger, P1: Ledger, P2: Ledger, P3: Ledger, D: Ledger, R: Abort + Wait>(
     rt: &R,
     alloc: Global,
@@ -150,9 +154,9 @@ fn restarts<P0: Ledger, P1: Ledger, P2: Ledger, P3: Ledger, D: Ledger, R: Abort 
     port: &mut Port<P0, P1, P2, P3, D>,
     driver: &mut Driver<P0, P1, P2, P3, D>,
     site: &mut SiteState,
-    kept: &Kept,
-    wrong: &Kept,
+    records: Records<'_>,
 ) {
+    let (kept, wrong) = records;
     reserves(rt, line, port, driver, site);
     does(rt, line.down(rt, driver, 0), site.down(0));
     let refused = Err(Refusal::StoreDisagrees);
@@ -233,14 +237,40 @@ fn speaks_for_nobody<B: Bus, R: Abort + Wait>(rt: &R, bus: &B, spare: &mut B::Po
     same(rt, &shown(bus.act(rt, spare, Input::Start)), &refused);
 }
 
+/// A line and its site are played a story, and stopped.
+fn played<P0: Ledger, P1: Ledger, P2: Ledger, P3: Ledger, D: Ledger, R: Abort + Wait>(
+    rt: &R,
+    alloc: Global,
+    line: &Line<P0, P1, P2, P3, D>,
+    port: &mut Port<P0, P1, P2, P3, D>,
+    other: &mut Port<P0, P1, P2, P3, D>,
+    driver: &mut Driver<P0, P1, P2, P3, D>,
+    site: &mut SiteState,
+    records: Records<'_>,
+    story: Story,
+) {
+    match story {
+        Story::Restart => restarts(rt, alloc, line, other, driver, site, records),
+        Story::Lapse => lapses(rt, line, other, driver, site),
+        Story::Collision => collides(rt, line, port, other, driver, site),
+    }
+    stops(rt, line, other, driver, site);
+    speaks_for_nobody(rt, line, &mut Port::default());
+}
+
+/// A port goes back to the others.
+fn goes_back<P: Default + Drop, R: Abort>(rt: &R, ports: &mut ArrayVec<P, 4>, port: P) {
+    assert!(rt; ports.try_push(port).is_ok());
+}
+
 /// A line and a site that are the same at first are played a story, and have the same log at its end.
 fn beside<P0: Ledger, P1: Ledger, P2: Ledger, P3: Ledger, D: Ledger, R: Abort + Wait>(
     rt: &R,
     alloc: Global,
-    sites: (SiteState, SiteState),
-    blanks: (Blank, Blank, Blank, Blank, Blank),
-    kept: &Kept,
-    wrong: &Kept,
+    under: SiteState,
+    blanks: Blanks,
+    site: &mut SiteState,
+    records: Records<'_>,
     story: Story,
 )
     requires first { (blanks.0.name ≡ P0.name) × (blanks.0.parts ≡ P0.parts) × (0 < P0.parts) }
@@ -249,36 +279,55 @@ fn beside<P0: Ledger, P1: Ledger, P2: Ledger, P3: Ledger, D: Ledger, R: Abort + 
     requires fourth { (blanks.3.name ≡ P3.name) × (blanks.3.parts ≡ P3.parts) × (0 < P3.parts) }
     requires driver { (blanks.4.name ≡ D.name) × (blanks.4.parts ≡ D.parts) × (0 < D.parts) }
 {
-    let (under, mut site) = sites;
-    let (first, second, third, fourth, driver) = blanks;
-    let (line, mut ports, mut driver) = Line::<P0, P1, P2, P3, D>::new(
-        under, first, second, third, fourth, driver,
+    let (line, mut ports, mut driver) = line_of::<P0, P1, P2, P3, D>(under, blanks);
+    let (mut port, mut other) = last_two(&mut ports);
+    played(
+        rt,
+        alloc,
+        &line,
+        &mut port,
+        &mut other,
+        &mut driver,
+        site,
+        records,
+        story,
     );
-    let mut other = ports.pop().unwrap_or_default();
-    let mut port = ports.pop().unwrap_or_default();
-    match story {
-        Story::Restart => restarts(
-            rt,
-            alloc,
-            &line,
-            &mut other,
-            &mut driver,
-            &mut site,
-            kept,
-            wrong,
-        ),
-        Story::Lapse => lapses(rt, &line, &mut other, &mut driver, &mut site),
-        Story::Collision => {
-            collides(rt, &line, &mut port, &mut other, &mut driver, &mut site);
-        }
-    }
-    stops(rt, &line, &mut other, &mut driver, &mut site);
-    speaks_for_nobody(rt, &line, &mut Port::default());
-    for back in [port, other] {
-        assert!(rt; ports.try_push(back).is_ok());
-    }
+    goes_back(rt, &mut ports, port);
+    goes_back(rt, &mut ports, other);
     let closed = line.close(ports, driver);
     same(rt, &closed.log(), &site.log());
+}
+
+/// A site of one gear with these blocks.
+fn one_gear(alloc: Global, blocks: &[(u8, u8)]) -> Result<SiteState, Fail> {
+    site_of(alloc, 1, blocks, &[0x123456, 0x654321])
+}
+
+/// A story is played on a line round the one site and on the other site, which are the same.
+fn plays_on_both<R: Abort + Wait>(
+    rt: &R,
+    alloc: Global,
+    sites: (SiteState, SiteState),
+    records: Records<'_>,
+    story: Story,
+) {
+    let (under, mut site) = sites;
+    let blanks = blanks();
+    beside::<Brand, Brand, Brand, Brand, Brand, R>(
+        rt, alloc, under, blanks, &mut site, records, story,
+    );
+}
+
+/// Two sites of one gear that are the same.
+fn two_sites(alloc: Global, blocks: &[(u8, u8)]) -> Result<(SiteState, SiteState), Fail> {
+    let under = one_gear(alloc, blocks)?;
+    Ok((under, one_gear(alloc, blocks)?))
+}
+
+/// The records that the store of controller 0 has when it goes down, and others.
+fn two_records(alloc: Global) -> Result<(Kept, Kept), Fail> {
+    let kept = one_reserved(alloc, 0, 0x123456)?;
+    Ok((kept, one_reserved(alloc, 1, 0x123456)?))
 }
 
 /// A site of one gear, twice, and the story that is played on both.
@@ -287,27 +336,9 @@ fn plays<R: Abort + Wait + AllocGlobal>(
     blocks: &[(u8, u8)],
     story: Story,
 ) -> Result<(), Fail> {
-    let alloc = rt.alloc();
-    let kept = one_reserved(alloc, 0, 0x123456)?;
-    let wrong = one_reserved(alloc, 1, 0x123456)?;
-    let under = site_of(alloc, 1, blocks, &[0x123456, 0x654321])?;
-    let site = site_of(alloc, 1, blocks, &[0x123456, 0x654321])?;
-    let blanks = (
-        Blank::new(1),
-        Blank::new(1),
-        Blank::new(1),
-        Blank::new(1),
-        Blank::new(1),
-    );
-    beside::<Brand, Brand, Brand, Brand, Brand, R>(
-        rt,
-        alloc,
-        (under, site),
-        blanks,
-        &kept,
-        &wrong,
-        story,
-    );
+    let (kept, wrong) = two_records(rt.alloc())?;
+    let sites = two_sites(rt.alloc(), blocks)?;
+    plays_on_both(rt, rt.alloc(), sites, (&kept, &wrong), story);
     Ok(())
 }
 

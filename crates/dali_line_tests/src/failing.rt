@@ -6,7 +6,7 @@ ghost use Rattle.dali_script.specs.declared.records.Record.{Record};
 ghost use Rattle.dali_script.specs.Records.{Kept, Fits, with_record};
 ghost use Rattle.dali_reserve.specs.Store.{IsReplay, HasRecords};
 
-use super::threads::{Blanks, TURNS, blanks, site_with, store_of};
+use super::threads::{Blanks, TURNS, blanks, line_of, site_with, store_of};
 use super::values::{block, same};
 use dali_enrol::Directory;
 use dali_line::{Bus, Driver, Line, OpenGate, Outcome, Pumper, Worker};
@@ -141,27 +141,32 @@ fn works<B: Bus, R: Wait>(
     }
 }
 
-/// A worker runs until it ends, and a pumper beside it.
+/// A worker and a pumper run until the worker ends, which it does so. Its port and its store, and the driver.
 fn session<B, R>(
     rt: &R,
     alloc: Global,
     bus: &B,
     directory: &Directory,
-    worker: Worker<B::Port, FailingKeep, OpenGate>,
-    pumper: Pumper<B::Driver, OpenGate>,
-) -> (Left<B::Port>, B::Driver)
+    port: B::Port,
+    driver: B::Driver,
+    keep: FailingKeep,
+    end: Outcome,
+) -> (B::Port, FailingKeep, B::Driver)
 where
     B: Bus + Sync,
     B::Port: Send + Drop,
     B::Driver: Send + Drop,
-    R: Threads + Wait + Sync,
+    R: Threads + Wait + Abort + Sync,
 {
-    let (left, pumped) = join(
+    let worker = Worker::new(port, keep, OpenGate);
+    let pumper = Pumper::new(driver, OpenGate);
+    let ((outcome, port, keep), pumped) = join(
         rt,
         move || works(rt, alloc, bus, directory, worker),
         move || pumper.run(rt, bus, TURNS),
     );
-    (left, pumped.0)
+    same(rt, &outcome, &end);
+    (port, keep, pumped.0)
 }
 
 /// The controller goes down, and comes up with what its store reads: so many reservations and enrolments.
@@ -174,13 +179,13 @@ fn restarts<P0: Ledger, P1: Ledger, P2: Ledger, P3: Ledger, D: Ledger, R: Abort 
     stored: (usize, usize),
 ) {
     same(rt, &line.down(rt, driver, 0), &Ok(()));
-    match keep.read(alloc) {
-        Ok(kept) => {
-            same(rt, &(kept.reserved().len(), kept.enrolled().len()), &stored);
-            same(rt, &line.up(rt, driver, alloc, 0, &kept), &Ok(()));
-        }
-        Err(_) => assert!(rt; false),
-    }
+    let kept = keep.read(alloc);
+    let Ok(kept) = &kept else {
+        assert!(rt; false);
+        return;
+    };
+    same(rt, &(kept.reserved().len(), kept.enrolled().len()), &stored);
+    same(rt, &line.up(rt, driver, alloc, 0, kept), &Ok(()));
 }
 
 /// The table of the one controller has each of three gear, under the addresses that the gear has.
@@ -222,21 +227,29 @@ where
     requires fourth { (blanks.3.name ≡ P3.name) × (blanks.3.parts ≡ P3.parts) × (0 < P3.parts) }
     requires driver { (blanks.4.name ≡ D.name) × (blanks.4.parts ≡ D.parts) × (0 < D.parts) }
 {
-    let (first, second, third, fourth, driver) = blanks;
-    let (line, mut ports, driver) = Line::<P0, P1, P2, P3, D>::new(
-        site, first, second, third, fourth, driver,
+    let (line, mut ports, driver) = line_of::<P0, P1, P2, P3, D>(site, blanks);
+    let port = ports.pop().unwrap_or_default();
+    let halted = Outcome::Halted(Fault::Store);
+    let (port, mut keep, mut driver) = session(
+        rt, alloc, &line, directory, port, driver, keep, halted,
     );
-    let worker = Worker::new(ports.pop().unwrap_or_default(), keep, OpenGate);
-    let pumper = Pumper::new(driver, OpenGate);
-    let (left, mut driver) = session(rt, alloc, &line, directory, worker, pumper);
-    let (outcome, port, mut keep) = left;
-    same(rt, &outcome, &Outcome::Halted(Fault::Store));
     restarts(rt, alloc, &line, &mut driver, &mut keep, stored);
-    let worker = Worker::new(port, keep, OpenGate);
-    let pumper = Pumper::new(driver, OpenGate);
-    let (left, driver) = session(rt, alloc, &line, directory, worker, pumper);
-    same(rt, &left.0, &Outcome::Ended(End::AllFound));
+    let ended = Outcome::Ended(End::AllFound);
+    let (_, _, driver) = session(rt, alloc, &line, directory, port, driver, keep, ended);
     table_is_true(rt, &line.close(ports, driver));
+}
+
+/// An empty store of the block 0 to 7 that fails at this commit, and stores its record or not.
+fn failing_store(alloc: Global, commit: u8, is_stored: bool) -> Result<FailingKeep, Fail> {
+    let store = store_of(alloc, (0, 7))?;
+    let known = Kept::new(alloc, block(0, 7)?)?;
+    Ok(FailingKeep {
+        store,
+        known,
+        before: Some(commit),
+        is_stored,
+        must_read: false,
+    })
 }
 
 /// The store fails at this commit of the commissioning of three gear, and its record is stored or not.
@@ -247,13 +260,7 @@ fn fails_at<R: Threads + Wait + Abort + Sync + AllocGlobal>(
 ) -> Result<(), Fail> {
     let alloc = rt.alloc();
     let directory = Directory::new(alloc)?;
-    let keep = FailingKeep {
-        store: store_of(alloc, (0, 7))?,
-        known: Kept::new(alloc, block(0, 7)?)?,
-        before: Some(commit),
-        is_stored,
-        must_read: false,
-    };
+    let keep = failing_store(alloc, commit, is_stored)?;
     let site = site_with(alloc, 3, &[(0, 7)])?;
     let count = usize::from(commit) + usize::from(is_stored);
     let stored = (count.div_ceil(2), count / 2);

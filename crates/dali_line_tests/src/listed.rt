@@ -1,29 +1,43 @@
 //! A bus of one's own: it hands each call to another bus, and each holder of a port, and the driver's, keeps a list of
 //! what it asked and was answered, as events.
 
-ghost use Rattle.std.specs.Prelude.{◌≡◌};
-
 use dali_line::{Bus, Ready};
 use dali_script::{Due, Input};
 use dali_world::{Event, Receipt, Refusal, Report, Trouble};
+use std::alloc::Global;
 use std::sync::Wait;
 
-/// A port, or a driver, with its list. `is_whole` is false where memory ran out for it.
+/// What a holder asked and was answered. `is_whole` is false where memory ran out for it.
 #[derive(Drop)]
-pub struct Listed<T> {
-    pub inner: T,
-    pub list: Vec<Event>,
+pub struct List {
+    pub events: Vec<Event>,
     pub is_whole: bool,
 }
 
-impl<T> Listed<T> {
+impl List {
     /// Puts one event more at the end of the list.
-    fn append(&mut self, event: &Event)
-        ensures { self.new.inner ≡ self.old.inner }
-    {
-        if !put(&mut self.list, event) {
+    fn append(&mut self, event: &Event) {
+        if !put(&mut self.events, event) {
             self.is_whole = false;
         }
+    }
+}
+
+/// A port, or a driver, with its list.
+#[derive(Drop)]
+pub struct Listed<T> {
+    pub inner: T,
+    pub list: List,
+}
+
+impl<T> Listed<T> {
+    /// A port or a driver with an empty list.
+    pub fn new(alloc: Global, inner: T) -> Listed<T> {
+        let list = List {
+            events: Vec::new(alloc),
+            is_whole: true,
+        };
+        Listed { inner, list }
     }
 }
 
@@ -58,7 +72,7 @@ impl<B: Bus> Bus for ListedBus<'_, B> {
         input: Input,
     ) -> Result<Receipt, Refusal> {
         let receipt = self.bus.act(rt, &mut port.inner, input)?;
-        port.append(&Event::Acted(receipt.controller(), receipt.input(), receipt.order()));
+        port.list.append(&Event::Acted(receipt.controller(), receipt.input(), receipt.order()));
         Ok(receipt)
     }
 
@@ -82,7 +96,7 @@ impl<B: Bus> Bus for ListedBus<'_, B> {
     ) -> Result<Report, Refusal> {
         let report = self.bus.pump(rt, &mut driver.inner, trouble)?;
         if let Report::Sent(c, frame, heard) = report {
-            driver.append(&Event::Sent(c, frame, heard));
+            driver.list.append(&Event::Sent(c, frame, heard));
         }
         Ok(report)
     }

@@ -39,18 +39,27 @@ fn word<'a>(line: &'a str, at: usize) -> &'a str {
     line.split(' ').nth(at).unwrap_or("")
 }
 
-/// One worker gives the one gear its least address, and its table names the gear.
-fn one_run<R: Threads + Wait + Sync + Abort + AllocGlobal>(rt: &R) -> Result<(), Fail> {
-    let text = written(rt, setup(1, 7, &[(0, 3)]))?;
-    let mut lines = text.as_str().lines();
-    assert!(rt; lines.next() == Some("controller 0: all-found"));
-    let gear = lines.next().unwrap_or("");
-    let table = lines.next().unwrap_or("");
+/// A line of a gear and the line of its controller's table: the gear has its least address, and the table names it.
+fn names_one<R: Abort>(rt: &R, gear: &str, table: &str) {
     assert!(rt; word(gear, 0) == "gear" && word(gear, 6) == "0");
     assert!(rt; word(table, 2).strip_prefix("0=") == Some(word(gear, 4)));
     assert!(rt; word(table, 3) == "");
+}
+
+/// What a run of one worker and one gear writes.
+fn one_gear_report<R: Abort>(rt: &R, text: &str) {
+    let mut lines = text.lines();
+    assert!(rt; lines.next() == Some("controller 0: all-found"));
+    let gear = lines.next().unwrap_or("");
+    names_one(rt, gear, lines.next().unwrap_or(""));
     assert!(rt; lines.next() == Some("addressed 1 of 1"));
     assert!(rt; lines.next().is_none());
+}
+
+/// One worker gives the one gear its least address, and its table names the gear.
+fn one_run<R: Threads + Wait + Sync + Abort + AllocGlobal>(rt: &R) -> Result<(), Fail> {
+    let text = written(rt, setup(1, 7, &[(0, 3)]))?;
+    one_gear_report(rt, text.as_str());
     Ok(())
 }
 
@@ -81,31 +90,40 @@ fn holder<'a>(text: &'a str, address: &str) -> Option<&'a str> {
     }
 }
 
+/// The gear with this short address is the only one with it, and has this random address.
+fn is_holder<R: Abort>(rt: &R, text: &str, address: &str, random: &str) {
+    assert!(rt; holder(text, address) == Some(random));
+}
+
 /// A gear with a short address is the only one with it, and the entries of a table are the addresses of a gear.
 fn names_gear<R: Abort>(rt: &R, text: &str, line: &str) {
     if is_addressed(&line) {
-        assert!(rt; holder(text, word(line, 6)) == Some(word(line, 4)));
+        is_holder(rt, text, word(line, 6), word(line, 4));
     }
     if word(line, 0) == "table" {
         for entry in line.split(' ').skip(2) {
             let (address, random) = entry.split_once('=').unwrap_or(("", ""));
-            assert!(rt; holder(text, address) == Some(random));
+            is_holder(rt, text, address, random);
         }
     }
 }
 
 /// All four controllers end, neither halted nor refused; a gear alone has its short address; each table names gear by
-/// the addresses that the gear's own lines have; and the last line counts the gear with an address.
-fn four_run<R: Threads + Wait + Sync + Abort + AllocGlobal>(rt: &R) -> Result<(), Fail> {
-    let text = written(rt, setup(8, 1, &[(0, 1), (2, 3), (4, 5), (6, 7)]))?;
-    let text = text.as_str();
+/// the addresses that the gear's own lines have. How many gear have an address.
+fn four_named<R: Abort>(rt: &R, text: &str) -> usize {
     assert!(rt; text.lines().filter(has_ended).count() == 4);
     for line in text.lines() {
         names_gear(rt, text, line);
     }
-    let count = text.lines().filter(is_addressed).count();
+    text.lines().filter(is_addressed).count()
+}
+
+/// A run of four workers and eight gear, whose last line counts the gear with an address.
+fn four_run<R: Threads + Wait + Sync + Abort + AllocGlobal>(rt: &R) -> Result<(), Fail> {
+    let text = written(rt, setup(8, 1, &[(0, 1), (2, 3), (4, 5), (6, 7)]))?;
+    let count = four_named(rt, text.as_str());
     let last = format!(in rt.alloc(); "addressed {count} of 8")?;
-    assert!(rt; text.lines().last() == Some(last.as_str()));
+    assert!(rt; text.as_str().lines().last() == Some(last.as_str()));
     Ok(())
 }
 

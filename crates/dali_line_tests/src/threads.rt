@@ -2,7 +2,7 @@
 
 ghost use Rattle.std.specs.Prelude.{◌≡◌, ◌<◌, IfSome};
 
-use super::listed::{Listed, ListedBus};
+use super::listed::{List, Listed, ListedBus};
 use super::reading::{Reading, has_read, reads, see_table};
 use super::values::{block, same, site_of};
 use arrayvec::ArrayVec;
@@ -217,6 +217,25 @@ pub fn blanks() -> Blanks
     )
 }
 
+/// A line round this site, by the right to make its ledgers.
+pub fn line_of<P0: Ledger, P1: Ledger, P2: Ledger, P3: Ledger, D: Ledger>(
+    site: SiteState,
+    blanks: Blanks,
+) -> (
+    Line<P0, P1, P2, P3, D>,
+    ArrayVec<Port<P0, P1, P2, P3, D>, 4>,
+    Driver<P0, P1, P2, P3, D>,
+)
+    requires first { (blanks.0.name ≡ P0.name) × (blanks.0.parts ≡ P0.parts) × (0 < P0.parts) }
+    requires second { (blanks.1.name ≡ P1.name) × (blanks.1.parts ≡ P1.parts) × (0 < P1.parts) }
+    requires third { (blanks.2.name ≡ P2.name) × (blanks.2.parts ≡ P2.parts) × (0 < P2.parts) }
+    requires fourth { (blanks.3.name ≡ P3.name) × (blanks.3.parts ≡ P3.parts) × (0 < P3.parts) }
+    requires driver { (blanks.4.name ≡ D.name) × (blanks.4.parts ≡ D.parts) × (0 < D.parts) }
+{
+    let (first, second, third, fourth, driver) = blanks;
+    Line::new(site, first, second, third, fourth, driver)
+}
+
 /// Its worker found all gear, and its store has the records that the site remembers of this controller.
 fn has_found<P, R: Abort>(rt: &R, site: &SiteState, c: u8, left: &Left<P>) {
     same(rt, &left.0, &Outcome::Ended(End::AllFound));
@@ -252,6 +271,66 @@ fn was_read<R: Abort>(
     see_table(rt, directory, &mut one, &mut other, second);
 }
 
+/// Both workers found all gear, as `has_found` says of each, and what the reader saw is true, as `was_read` says.
+fn have_found<P: Drop, R: Abort>(
+    rt: &R,
+    directory: &Directory,
+    site: &SiteState,
+    left: (Left<P>, Left<P>),
+    reading: Option<Reading>,
+)
+    requires one { IfSome left.0.3 (λ p. p.places ≡ directory.now) }
+    requires other { IfSome left.1.3 (λ p. p.places ≡ directory.now) }
+{
+    let (one, other) = left;
+    has_found(rt, site, 0, &one);
+    has_found(rt, site, 1, &other);
+    was_read(rt, directory, site, (one.3, other.3), reading);
+}
+
+/// The last two ports, in order of their controllers.
+pub fn last_two<P: Default + Drop>(ports: &mut ArrayVec<P, 4>) -> (P, P) {
+    let other = ports.pop().unwrap_or_default();
+    (ports.pop().unwrap_or_default(), other)
+}
+
+/// Two workers, each with a database, a pumper and a reader run over a bus, and the gate saw both workers before a
+/// commit of their own. What the workers leave, the driver, and what the reader has seen.
+fn run_apart<B, R>(
+    rt: &R,
+    alloc: Global,
+    bus: &B,
+    directory: &Directory,
+    ports: (B::Port, B::Port),
+    driver: B::Driver,
+    keeps: (Database, Database),
+) -> Run<B::Port, B::Driver>
+where
+    B: Bus + Sync,
+    B::Port: Send + Drop,
+    B::Driver: Send + Drop,
+    R: Threads + Wait + Abort + Sync,
+    ensures one { IfSome result.0.3 (λ p. p.places ≡ directory.now) }
+    ensures other { IfSome result.1.3 (λ p. p.places ≡ directory.now) }
+    ensures reader { IfSome result.3 (λ r. r.pass.places ≡ directory.now) }
+{
+    let gate = Holding {
+        seen: Mutex::new(Seen {
+            first: false,
+            second: false,
+            has_failed: false,
+        }),
+    };
+    let workers = (
+        Worker::new(ports.0, keeps.0, &gate),
+        Worker::new(ports.1, keeps.1, &gate),
+    );
+    let pumper = Pumper::new(driver, OpenGate);
+    let run = two_run(rt, alloc, bus, directory, &gate, workers, pumper);
+    assert!(rt; !gate.seen.lock(rt).has_failed);
+    run
+}
+
 fn commits_apart<P0, P1, P2, P3, D, R>(
     rt: &R,
     alloc: Global,
@@ -273,28 +352,9 @@ where
     requires fourth { (blanks.3.name ≡ P3.name) × (blanks.3.parts ≡ P3.parts) × (0 < P3.parts) }
     requires driver { (blanks.4.name ≡ D.name) × (blanks.4.parts ≡ D.parts) × (0 < D.parts) }
 {
-    let (first, second, third, fourth, driver) = blanks;
-    let (line, mut ports, driver) = Line::<P0, P1, P2, P3, D>::new(
-        site, first, second, third, fourth, driver,
-    );
-    let other = ports.pop().unwrap_or_default();
-    let one = ports.pop().unwrap_or_default();
-    let gate = Holding {
-        seen: Mutex::new(Seen {
-            first: false,
-            second: false,
-            has_failed: false,
-        }),
-    };
-    let workers = (
-        Worker::new(one, keeps.0, &gate),
-        Worker::new(other, keeps.1, &gate),
-    );
-    let pumper = Pumper::new(driver, OpenGate);
-    let (one, other, pumped, reading) = two_run(
-        rt, alloc, &line, directory, &gate, workers, pumper,
-    );
-    assert!(rt; !gate.seen.lock(rt).has_failed);
+    let (line, mut ports, driver) = line_of::<P0, P1, P2, P3, D>(site, blanks);
+    let pair = last_two(&mut ports);
+    let (one, other, pumped, reading) = run_apart(rt, alloc, &line, directory, pair, driver, keeps);
     same(rt, &pumped.1, &None);
     let site = line.close(ports, pumped.0);
     has_found(rt, &site, 0, &one);
@@ -400,15 +460,6 @@ where
     ((one, two, three, four), pumped)
 }
 
-/// A port or a driver with an empty list.
-fn listed<T>(alloc: Global, inner: T) -> Listed<T> {
-    Listed {
-        inner,
-        list: Vec::new(alloc),
-        is_whole: true,
-    }
-}
-
 /// Whose step an event is: a controller's, or 255.
 fn owner_of(event: &Event) -> u8 {
     match event {
@@ -426,9 +477,9 @@ fn owner_of(event: &Event) -> u8 {
 }
 
 /// The list is whole, and is what the log has in this name.
-fn is_logged<T, R: Abort>(rt: &R, log: &[Event], name: u8, listed: &Listed<T>) {
-    assert!(rt; listed.is_whole);
-    let mut rest = listed.list.iter();
+fn is_logged<R: Abort>(rt: &R, log: &[Event], name: u8, list: &List) {
+    assert!(rt; list.is_whole);
+    let mut rest = list.events.iter();
     for event in log {
         if owner_of(event) == name {
             assert!(rt; rest.next() == Some(event));
@@ -438,14 +489,14 @@ fn is_logged<T, R: Abort>(rt: &R, log: &[Event], name: u8, listed: &Listed<T>) {
 }
 
 /// What a worker left, if there was one: it ended, or was stopped, and its list is what the log has of its controller.
-fn left_its_list<P, R: Abort>(
+fn left_its_list<P: Drop, R: Abort>(
     rt: &R,
     log: &[Event],
     name: u8,
-    left: &Option<Left<Listed<P>>>,
+    left: Option<Left<Listed<P>>>,
     stops: bool,
 ) {
-    let Some((outcome, port, _, _)) = left else {
+    let Some((outcome, port, _, _)) = &left else {
         return;
     };
     match outcome {
@@ -453,19 +504,73 @@ fn left_its_list<P, R: Abort>(
         Outcome::Stopped => assert!(rt; stops),
         _ => assert!(rt; false),
     }
-    is_logged(rt, log, name, port);
+    is_logged(rt, log, name, &port.list);
 }
 
-/// A worker for a port and a store, if there are both.
-fn worker_of<P: Drop>(
+/// A worker for a store, if there is one, with the last port.
+fn worker_of<P: Default + Drop>(
     alloc: Global,
-    port: Option<P>,
+    ports: &mut ArrayVec<P, 4>,
     keep: Option<MemoryKeep>,
 ) -> Option<Worker<Listed<P>, MemoryKeep, OpenGate>> {
-    match (port, keep) {
-        (Some(port), Some(keep)) => Some(Worker::new(listed(alloc, port), keep, OpenGate)),
-        _ => None,
-    }
+    let keep = keep?;
+    let port = ports.pop()?;
+    Some(Worker::new(Listed::new(alloc, port), keep, OpenGate))
+}
+
+/// The workers of the controllers, each with a port, which lists, and a store.
+fn workers_of<P: Default + Drop>(
+    alloc: Global,
+    mut ports: ArrayVec<P, 4>,
+    keeps: Four<MemoryKeep>,
+) -> Four<Worker<Listed<P>, MemoryKeep, OpenGate>> {
+    let fourth = worker_of(alloc, &mut ports, keeps.3);
+    let third = worker_of(alloc, &mut ports, keeps.2);
+    let second = worker_of(alloc, &mut ports, keeps.1);
+    let first = worker_of(alloc, &mut ports, keeps.0);
+    (first, second, third, fourth)
+}
+
+/// Up to four workers and a pumper run over a bus, each of them with a list. What the workers leave, and the driver.
+fn listed_run<B, R>(
+    rt: &R,
+    alloc: Global,
+    bus: &B,
+    directory: &Directory,
+    workers: Four<Worker<Listed<B::Port>, MemoryKeep, OpenGate>>,
+    driver: B::Driver,
+    stops: bool,
+) -> (Four<Left<Listed<B::Port>>>, Listed<B::Driver>)
+where
+    B: Bus + Sync,
+    B::Port: Send + Drop,
+    B::Driver: Send + Drop,
+    R: Threads + Wait + Sync,
+{
+    let pumper = Pumper::new(Listed::new(alloc, driver), OpenGate);
+    let (left, pumped) = all_run(
+        rt,
+        alloc,
+        &ListedBus { bus },
+        directory,
+        workers,
+        pumper,
+        stops,
+    );
+    (left, pumped.0)
+}
+
+/// What four workers left is what the log has of their controllers, each as `left_its_list` says.
+fn left_their_lists<P: Drop, R: Abort>(
+    rt: &R,
+    log: &[Event],
+    left: Four<Left<Listed<P>>>,
+    stops: bool,
+) {
+    left_its_list(rt, log, 0, left.0, stops);
+    left_its_list(rt, log, 1, left.1, stops);
+    left_its_list(rt, log, 2, left.2, stops);
+    left_its_list(rt, log, 3, left.3, stops);
 }
 
 fn lists_are_logged<P0, P1, P2, P3, D, R>(
@@ -490,38 +595,13 @@ where
     requires fourth { (blanks.3.name ≡ P3.name) × (blanks.3.parts ≡ P3.parts) × (0 < P3.parts) }
     requires driver { (blanks.4.name ≡ D.name) × (blanks.4.parts ≡ D.parts) × (0 < D.parts) }
 {
-    let (first, second, third, fourth, driver) = blanks;
-    let (line, ports, driver) = Line::<P0, P1, P2, P3, D>::new(
-        site, first, second, third, fourth, driver,
-    );
-    let mut ports = ports.into_iter();
-    let (first, second) = (ports.next(), ports.next());
-    let (third, fourth) = (ports.next(), ports.next());
-    let workers = (
-        worker_of(alloc, first, keeps.0),
-        worker_of(alloc, second, keeps.1),
-        worker_of(alloc, third, keeps.2),
-        worker_of(alloc, fourth, keeps.3),
-    );
-    let pumper = Pumper::new(listed(alloc, driver), OpenGate);
-    let bus = ListedBus { bus: &line };
-    let (left, pumped) = all_run(rt, alloc, &bus, directory, workers, pumper, stops);
-    let Listed {
-        inner,
-        list,
-        is_whole,
-    } = pumped.0;
+    let (line, ports, driver) = line_of::<P0, P1, P2, P3, D>(site, blanks);
+    let workers = workers_of(alloc, ports, keeps);
+    let (left, driver) = listed_run(rt, alloc, &line, directory, workers, driver, stops);
+    let Listed { inner, list } = driver;
     let site = line.close(ArrayVec::new(), inner);
-    let drove = Listed {
-        inner: (),
-        list,
-        is_whole,
-    };
-    is_logged(rt, site.log(), 255, &drove);
-    left_its_list(rt, site.log(), 0, &left.0, stops);
-    left_its_list(rt, site.log(), 1, &left.1, stops);
-    left_its_list(rt, site.log(), 2, &left.2, stops);
-    left_its_list(rt, site.log(), 3, &left.3, stops);
+    is_logged(rt, site.log(), 255, &list);
+    left_their_lists(rt, site.log(), left, stops);
 }
 
 /// An empty store for the controller of this number, if there is one.
@@ -530,6 +610,13 @@ fn store_at(alloc: Global, blocks: &[(u8, u8)], c: usize) -> Result<Option<Memor
         Some(bounds) => Ok(Some(store_of(alloc, *bounds)?)),
         None => Ok(None),
     }
+}
+
+/// An empty store for each of up to four controllers.
+fn stores_of(alloc: Global, blocks: &[(u8, u8)]) -> Result<Four<MemoryKeep>, Fail> {
+    let (first, second) = (store_at(alloc, blocks, 0)?, store_at(alloc, blocks, 1)?);
+    let (third, fourth) = (store_at(alloc, blocks, 2)?, store_at(alloc, blocks, 3)?);
+    Ok((first, second, third, fourth))
 }
 
 /// What the holders of the ports and of the driver asked and were answered is what the log has in each name, with a
@@ -541,12 +628,7 @@ fn ports_list<R: Threads + Wait + Abort + Sync + AllocGlobal>(
     stops: bool,
 ) -> Result<(), Fail> {
     let alloc = rt.alloc();
-    let keeps = (
-        store_at(alloc, blocks, 0)?,
-        store_at(alloc, blocks, 1)?,
-        store_at(alloc, blocks, 2)?,
-        store_at(alloc, blocks, 3)?,
-    );
+    let keeps = stores_of(alloc, blocks)?;
     let site = site_with(alloc, 8, blocks)?;
     let blanks = blanks();
     lists_are_logged::<Brand, Brand, Brand, Brand, Brand, R>(

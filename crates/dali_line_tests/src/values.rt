@@ -76,13 +76,13 @@ pub fn block(first: u8, last: u8) -> Result<Block, Fail> {
 
 /// The records of a controller with block 0-3 that has reserved this address for this number, and no more.
 pub fn one_reserved(alloc: Global, address: u8, number: u32) -> Result<Kept, Fail> {
-    let mut kept = Kept::new(alloc, block(0, 3)?)?;
     let added = Record::Reserve(short(address)?, random(number)?);
-    if !kept.fits(&added) {
-        return Err(Fail::from("a record that fits"));
+    let mut kept = Kept::new(alloc, block(0, 3)?)?;
+    if kept.fits(&added) && kept.add(added).is_ok() {
+        Ok(kept)
+    } else {
+        Err(Fail::from("a record that fits"))
     }
-    kept.add(added)?;
-    Ok(kept)
 }
 
 /// A site of so many gear with these blocks and draws, whose log has room for 65,536 events and whose queue for 64

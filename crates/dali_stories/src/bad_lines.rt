@@ -1,6 +1,6 @@
 //! What is a bad line: of both kinds of script, of a bench, and of a site.
 
-use super::story::{are_bad, ends, played, plays};
+use super::story::{are_bad, bytes_end, ends, plays};
 use dali_replay::ReplayFault;
 use std::process::Abort;
 use std::test::Fail;
@@ -404,16 +404,23 @@ const BAD_ENDS: [&str; 24] = [
     "0",
 ];
 
+/// A line of this name is bad on a site with this before the name and this behind it.
+fn is_bad<R: Abort + AllocGlobal>(rt: &R, front: &str, name: &str, end: &str) -> Result<(), Fail> {
+    let line = format!(in rt.alloc(); "{front}{name}{end}")?;
+    are_bad(
+        rt,
+        "site 2 0-3 4-7\ndraws\nquiet\n",
+        "ok\n",
+        &[line.as_str()],
+    )
+}
+
 /// A line of this name has one number behind it, and nothing else.
 fn has_one_number<R: Abort + AllocGlobal>(rt: &R, name: &str) -> Result<(), Fail> {
-    let alloc = rt.alloc();
-    let before = "site 2 0-3 4-7\ndraws\nquiet\n";
     for end in BAD_ENDS {
-        let line = format!(in alloc; "{name}{end}")?;
-        are_bad(rt, before, "ok\n", &[line.as_str()])?;
+        is_bad(rt, "", name, end)?;
     }
-    let line = format!(in alloc; " {name} 0")?;
-    are_bad(rt, before, "ok\n", &[line.as_str()])
+    is_bad(rt, " ", name, " 0")
 }
 
 #[test]
@@ -434,18 +441,11 @@ fn skipped_lines_are_counted(rt: HostRuntime) -> Result<(), Fail> {
 
 #[test]
 fn bytes_that_are_no_text_are_a_bad_line_but_in_a_comment(rt: HostRuntime) -> Result<(), Fail> {
-    let (end, text) = played(rt.alloc(), b"bench 1\ndraws\n# \xFF\nquiet\nshow\xFF\n")?;
-    assert_eq!(rt;
-        (end, text.as_str()),
-        (Err(ReplayFault::BadLine(5)), "ok\n")
-    );
+    let refused = Err(ReplayFault::BadLine(5));
+    let script = b"bench 1\ndraws\n# \xFF\nquiet\nshow\xFF\n";
+    bytes_end(&rt, script, "ok\n", refused)?;
     let script = b"site 1 0-3\ndraws\n# \xFF\nquiet\nshow\xFF\nquiet\n";
-    let (end, text) = played(rt.alloc(), script)?;
-    assert_eq!(rt;
-        (end, text.as_str()),
-        (Err(ReplayFault::BadLine(5)), "ok\n")
-    );
-    Ok(())
+    bytes_end(&rt, script, "ok\n", refused)
 }
 
 #[test]

@@ -2,6 +2,7 @@
 
 use super::story::{ends, played, plays, plays_parts};
 use dali_replay::ReplayFault;
+use std::process::Abort;
 use std::test::Fail;
 
 #[test]
@@ -185,6 +186,21 @@ const ONE_ADDRESS: &str = "bench 2
                            frame B70B > B70B silence
                            frame A100 > A100 silence";
 
+/// After this frame, twice, gear 0 with address 5 and gear 1 with none are in these states.
+fn initialises<R: Abort + AllocGlobal>(
+    rt: &R,
+    initialise: &str,
+    first: &str,
+    second: &str,
+) -> Result<(), Fail> {
+    let shown = format!(in rt.alloc();
+        "show > gear 0 on {first} 000001 000001 5
+         > gear 1 on {second} 000002 000001 -"
+    )?;
+    let parts = [(ONE_ADDRESS, 1), (initialise, 2), (shown.as_str(), 1)];
+    plays_parts(rt, &parts)
+}
+
 #[test]
 fn initialise_speaks_to_some_gear(rt: HostRuntime) -> Result<(), Fail> {
     // For gear without address, for 5, for 6, for none by a malformed byte, and for all.
@@ -196,14 +212,7 @@ fn initialise_speaks_to_some_gear(rt: HostRuntime) -> Result<(), Fail> {
         ("frame A500 > A500 silence", "enabled", "enabled"),
     ];
     for (initialise, first, second) in rows {
-        let shown = format!(in rt.alloc();
-            "show > gear 0 on {first} 000001 000001 5
-             > gear 1 on {second} 000002 000001 -"
-        )?;
-        plays_parts(
-            &rt,
-            &[(ONE_ADDRESS, 1), (initialise, 2), (shown.as_str(), 1)],
-        )?;
+        initialises(&rt, initialise, first, second)?;
     }
     Ok(())
 }
@@ -306,18 +315,18 @@ fn spent_draws_change_nothing(rt: HostRuntime) -> Result<(), Fail> {
     )
 }
 
+/// The reports of a bench of 128 gear that are shown, and of a frame that none of them answers.
+fn shows_128_gear<R: Abort>(rt: &R, reports: &str) {
+    assert!(rt; reports.lines().count() == 129);
+    assert!(rt; reports.lines().last() == Some("A900 silence"));
+    assert!(rt; reports.contains("gear 127 on disabled FFFFFF FFFFFF -\n"));
+}
+
 #[test]
 fn a_bench_has_up_to_128_gear(rt: HostRuntime) -> Result<(), Fail> {
     let (end, text) = played(rt.alloc(), b"bench 128\ndraws\nshow\nframe A900\n")?;
-    assert_eq!(rt; end, Ok(()));
-    let lines = text.lines().count();
-    assert_eq!(rt; lines, 129);
-    let last = text.lines().last();
-    assert_eq!(rt; last, Some("A900 silence"));
-    assert!(rt;
-        text.as_str()
-            .contains("gear 127 on disabled FFFFFF FFFFFF -\n")
-    );
+    assert!(rt; end == Ok(()));
+    shows_128_gear(&rt, text.as_str());
     Ok(())
 }
 

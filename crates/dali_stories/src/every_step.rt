@@ -37,26 +37,32 @@ fn addresses_in(state: &str) -> Option<(&str, &str)> {
     Some((random, short))
 }
 
+/// Whether reports have one end, and the gear has no address and no entry, or one that names it truly. None where they
+/// don't show the gear or the table.
+fn are_true(reports: &str) -> Option<bool> {
+    let (random, short) = addresses_in(after(reports, "gear 0 on ")?)?;
+    let table = after(reports, "table 0:")?;
+    let is_named = table == "" || table.strip_prefix(" 0=") == Some(random);
+    let is_given = short == "-" || short == "0";
+    Some(ends_in(reports) == 1 && is_given && is_named)
+}
+
+/// A script is played to its end, and its reports are true.
+fn ends_truly<R: Abort + AllocGlobal>(rt: &R, script: &str) -> Result<(), Fail> {
+    let (end, text) = played(rt.alloc(), script.as_bytes())?;
+    let reports = text.as_str();
+    assert!(rt; end == Ok(()), "of {script:?}");
+    assert!(rt; are_true(reports) == Some(true), "of {script:?}: {reports}");
+    Ok(())
+}
+
 /// Disturbs the commissioning after k rounds, for each k, and wants one end and a true table of each.
 fn check_every_step<R: Abort + AllocGlobal>(rt: &R, disturbance: &str) -> Result<(), Fail> {
     for k in 0..ROUNDS {
-        let alloc = rt.alloc();
-        let input = format!(in alloc;
+        let script = format!(in rt.alloc();
             "site 1 0-3\ndraws 123456 654321\nrun {k}\n{disturbance}\nrun 1000\nshow\n"
         )?;
-        let (end, text) = played(alloc, input.as_bytes())?;
-        assert_eq!(rt; end, Ok(()), "of {input:?}");
-        let reports = text.as_str();
-        assert_eq!(rt; ends_in(reports), 1, "of {input:?}: {reports}");
-        let state = after(reports, "gear 0 on ").ok_or("the gear is shown")?;
-        let (random, short) = addresses_in(state).ok_or("its addresses are shown")?;
-        let table = after(reports, "table 0:").ok_or("the table is shown")?;
-        let entry = format!(in alloc; " 0={random}")?;
-        assert!(rt; short == "-" || short == "0", "of {input:?}: {reports}");
-        assert!(rt;
-            table == "" || table == entry.as_str(),
-            "of {input:?}: {reports}"
-        );
+        ends_truly(rt, script.as_str())?;
     }
     Ok(())
 }

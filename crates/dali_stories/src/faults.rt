@@ -1,8 +1,9 @@
 //! Faults: their texts and statuses, and readers and writers that fail.
 
-use super::story::played;
+use super::story::{bytes_end, played};
 use dali_replay::{ReplayFault, run_replay};
 use dali_world::PlanError;
+use std::alloc::Global;
 use std::io::{Error, ErrorKind, Read, Write};
 use std::process::Abort;
 use std::test::Fail;
@@ -47,21 +48,22 @@ fn faults_have_texts_and_statuses(rt: HostRuntime) -> Result<(), Fail> {
     says(&rt, ReplayFault::Write, "the output cannot be written", 3)
 }
 
-#[test]
-fn an_input_of_the_limit_is_read_and_one_byte_more_is_not(rt: HostRuntime) -> Result<(), Fail> {
-    let alloc = rt.alloc();
+/// A script with a comment at its end that makes it as long as an input may be.
+fn script_of_the_limit(alloc: Global) -> Result<Vec<u8>, Fail> {
     let mut input = Vec::from_slice(alloc, b"bench 1\ndraws\nshow\n#")?;
     for _ in input.len()..1_048_576 {
         input.push(b'x')?;
     }
-    let (end, text) = played(alloc, &input)?;
-    assert_eq!(rt; end, Ok(()));
-    assert_eq!(rt; text.as_str(), "gear 0 on disabled FFFFFF FFFFFF -\n");
+    Ok(input)
+}
+
+#[test]
+fn an_input_of_the_limit_is_read_and_one_byte_more_is_not(rt: HostRuntime) -> Result<(), Fail> {
+    let mut input = script_of_the_limit(rt.alloc())?;
+    let shown = "gear 0 on disabled FFFFFF FFFFFF -\n";
+    bytes_end(&rt, &input, shown, Ok(()))?;
     input.push(b'x')?;
-    let (end, text) = played(alloc, &input)?;
-    assert_eq!(rt; end, Err(ReplayFault::Read));
-    assert_eq!(rt; text.as_str(), "");
-    Ok(())
+    bytes_end(&rt, &input, "", Err(ReplayFault::Read))
 }
 
 /// A reader that gives the same bytes again and again.
@@ -112,22 +114,25 @@ impl Read for FailingReader {
     }
 }
 
+/// A reader that fails so at this call is a fault, and nothing is written.
+fn is_unread<R: Abort + AllocGlobal>(rt: &R, fails_at: usize, kind: ErrorKind) {
+    let mut reader = FailingReader {
+        given: 0,
+        fails_at,
+        kind,
+    };
+    let mut written = Vec::new(rt.alloc());
+    let end = run_replay(rt.alloc(), &mut reader, &mut written);
+    assert!(rt; end == Err(ReplayFault::Read));
+    assert!(rt; written.is_empty());
+}
+
 #[test]
-fn each_error_of_the_reader_is_a_fault(rt: HostRuntime) -> Result<(), Fail> {
+fn each_error_of_the_reader_is_a_fault(rt: HostRuntime) {
     for fails_at in 0..=SCRIPT.len() {
-        for kind in [ErrorKind::Other, ErrorKind::Interrupted] {
-            let mut reader = FailingReader {
-                given: 0,
-                fails_at,
-                kind,
-            };
-            let mut written = Vec::new(rt.alloc());
-            let end = run_replay(rt.alloc(), &mut reader, &mut written);
-            assert_eq!(rt; end, Err(ReplayFault::Read));
-            assert_eq!(rt; written.len(), 0);
-        }
+        is_unread(&rt, fails_at, ErrorKind::Other);
+        is_unread(&rt, fails_at, ErrorKind::Interrupted);
     }
-    Ok(())
 }
 
 /// A writer that fails at one call.
@@ -151,29 +156,27 @@ impl Write for FailingWriter {
     }
 }
 
-/// A script of three reports, each of whose writes fails in turn.
-fn check_each_write<R: Abort + AllocGlobal>(rt: &R, script: &[u8]) -> Result<(), Fail> {
-    for fails_at in 0..3 {
-        let mut reader = script;
-        let mut writer = FailingWriter { calls: 0, fails_at };
-        let end = run_replay(rt.alloc(), &mut reader, &mut writer);
-        assert_eq!(rt; end, Err(ReplayFault::Write));
-    }
+/// How a script ends whose writer fails at this call, and how many calls come before it.
+fn written(alloc: Global, script: &[u8], fails_at: usize) -> (Result<(), ReplayFault>, usize) {
     let mut reader = script;
-    let mut writer = FailingWriter {
-        calls: 0,
-        fails_at: 3,
-    };
-    let end = run_replay(rt.alloc(), &mut reader, &mut writer);
-    assert_eq!(rt; end, Ok(()));
-    assert_eq!(rt; writer.calls, 3);
-    Ok(())
+    let mut writer = FailingWriter { calls: 0, fails_at };
+    let end = run_replay(alloc, &mut reader, &mut writer);
+    (end, writer.calls)
+}
+
+/// A script of three reports, each of whose writes fails in turn.
+fn check_each_write<R: Abort + AllocGlobal>(rt: &R, script: &[u8]) {
+    for fails_at in 0..3 {
+        let (end, _) = written(rt.alloc(), script, fails_at);
+        assert!(rt; end == Err(ReplayFault::Write));
+    }
+    assert_eq!(rt; written(rt.alloc(), script, 3), (Ok(()), 3));
 }
 
 #[test]
-fn each_error_of_the_writer_is_a_fault(rt: HostRuntime) -> Result<(), Fail> {
-    check_each_write(&rt, SCRIPT)?;
-    check_each_write(&rt, b"site 1 0-3\ndraws 123456\ngo 0\nrun 1000\nshow\n")
+fn each_error_of_the_writer_is_a_fault(rt: HostRuntime) {
+    check_each_write(&rt, SCRIPT);
+    check_each_write(&rt, b"site 1 0-3\ndraws 123456\ngo 0\nrun 1000\nshow\n");
 }
 
 /// A reader that gives at most so many bytes a call.
@@ -213,16 +216,21 @@ impl Write for ShortWriter {
     }
 }
 
+/// What is read and written in parts of this size at most is this.
+fn is_whole<R: Abort + AllocGlobal>(rt: &R, script: &[u8], most: usize, whole: &[u8]) {
+    let mut reader = ShortReader { rest: script, most };
+    let taken = Vec::new(rt.alloc());
+    let mut writer = ShortWriter { taken, most };
+    let end = run_replay(rt.alloc(), &mut reader, &mut writer);
+    assert!(rt; end == Ok(()));
+    assert!(rt; writer.taken.as_slice() == whole);
+}
+
 /// What is read and written in parts of each size is what is read and written at once.
 fn check_parts<R: Abort + AllocGlobal>(rt: &R, script: &[u8]) -> Result<(), Fail> {
     let (_, whole) = played(rt.alloc(), script)?;
     for most in 1..40 {
-        let mut reader = ShortReader { rest: script, most };
-        let taken = Vec::new(rt.alloc());
-        let mut writer = ShortWriter { taken, most };
-        let end = run_replay(rt.alloc(), &mut reader, &mut writer);
-        assert_eq!(rt; end, Ok(()));
-        assert_eq!(rt; writer.taken.as_slice(), whole.as_bytes());
+        is_whole(rt, script, most, whole.as_bytes());
     }
     Ok(())
 }

@@ -40,6 +40,18 @@ pub fn ends<R: Abort + AllocGlobal>(
     Ok(())
 }
 
+/// Plays an input that may be no text, and wants these reports and this end.
+pub fn bytes_end<R: Abort + AllocGlobal>(
+    rt: &R,
+    input: &[u8],
+    reports: &str,
+    end: Result<(), ReplayFault>,
+) -> Result<(), Fail> {
+    let (was, text) = played(rt.alloc(), input)?;
+    assert_eq!(rt; (was, text.as_str()), (end, reports));
+    Ok(())
+}
+
 /// Appends a line to a text.
 fn push_line(text: &mut String, line: &str) -> Result<(), Fail> {
     text.push_str(line)?;

@@ -1,4 +1,4 @@
-use Rattle.dali_line_tests.proofs.calls.plays.Given as goal
+use Rattle.dali_line_tests.proofs.calls.plays_on_both.Given as goal
 
 abbrev pub ghosts-beside-P0-Ledger : goal.ghosts-beside-P0-Ledger
 ghosts-beside-P0-Ledger g a = record { name = a.blanks.0.name; parts = a.blanks.0.parts }
