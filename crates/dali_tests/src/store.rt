@@ -24,6 +24,7 @@ fn refusals_have_numbers(rt: HostRuntime) {
         KeepError::AddressTaken.number(),
         KeepError::RandomTaken.number(),
         KeepError::BadStore.number(),
+        KeepError::NotReserved.number(),
     ];
-    same(&rt, &numbers, &[1, 2, 3, 4, 5]);
+    same(&rt, &numbers, &[1, 2, 3, 4, 5, 6]);
 }
