@@ -37,8 +37,8 @@ fn addresses_in(state: &str) -> Option<(&str, &str)> {
     Some((random, short))
 }
 
-/// Whether reports have one end, and the gear has no address and no entry, or one that names it truly. None where they
-/// don't show the gear or the table.
+/// Whether reports have one end, the gear has the short address 0 or none, and the table is empty or names the gear by
+/// it. None where they don't show the gear or the table.
 fn are_true(reports: &str) -> Option<bool> {
     let (random, short) = addresses_in(after(reports, "gear 0 on ")?)?;
     let table = after(reports, "table 0:")?;
