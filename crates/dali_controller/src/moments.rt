@@ -40,12 +40,15 @@ fn is_yes(heard: Answer) -> bool
 impl Work {
     ghost use Rattle.dali_controller.specs.Moments.{machine_of, turn_of, IsFine, IsHeard, IsBetween, Closes, Settles, IsNext};
     ghost use Rattle.dali_controller.specs.Moments.{Enrolled, IsStep};
+    ghost use Rattle.dali_controller.specs.Moves.{begun, probing, searching_anew, closing, GoesOn};
+    ghost use Rattle.dali_controller.specs.declared.purpose.Purpose.TheVariants as purpose;
 
     /// The start: visits to what is unfinished, and then an opening.
     pub(crate) fn start(&mut self) -> Order
         requires fine { IsFine self.old }
         requires unstarted { self.old.last ≡ None }
 
+        ensures exact { GoesOn self.old self.new }
         ensures step { IsStep (machine_of self.old) input.Start result (machine_of self.new) }
         ensures fine { IsFine self.new }
     {
@@ -56,6 +59,7 @@ impl Work {
     fn go_on(&mut self) -> Order
         requires { IsBetween self.old }
 
+        ensures exact { GoesOn self.old self.new }
         ensures next { IsNext (machine_of self.old) result (machine_of self.new) }
         ensures fine { IsFine self.new }
     {
@@ -75,6 +79,7 @@ impl Work {
         requires between { IsBetween self.old }
         requires opened { self.old.opened ≡ true }
 
+        ensures exact { self.new ≡ searching_anew self.old }
         ensures next { IsNext (machine_of self.old) result (machine_of self.new) }
         ensures fine { IsFine self.new }
     {
@@ -88,6 +93,7 @@ impl Work {
         requires between { IsBetween self.old }
         requires opened { self.old.opened ≡ false }
 
+        ensures exact { self.new ≡ begun self.old purpose.Opening self.old.number }
         ensures next { IsNext (machine_of self.old) result (machine_of self.new) }
         ensures fine { IsFine self.new }
     {
@@ -102,6 +108,7 @@ impl Work {
         requires opened { self.old.opened ≡ true }
         requires running { self.old.search.step ≡ search.Again }
 
+        ensures exact { self.new ≡ probing self.old }
         ensures next { IsNext (machine_of self.old) result (machine_of self.new) }
         ensures fine { IsFine self.new }
     {
@@ -116,6 +123,7 @@ impl Work {
         requires drawn { value_of number < MASK24 }
         requires reserved { self.old.opened ≡ false → HasRandom self.old.kept.reserved (value_of number) }
 
+        ensures exact { self.new ≡ begun self.old purpose.Visiting number }
         ensures next { IsNext (machine_of self.old) result (machine_of self.new) }
         ensures fine { IsFine self.new }
     {
@@ -127,6 +135,7 @@ impl Work {
     fn close(&mut self, end: End) -> Order
         requires { Closes self.old end }
 
+        ensures exact { self.new ≡ closing self.old end }
         ensures next { IsNext (machine_of self.old) result (machine_of self.new) }
         ensures fine { IsFine self.new }
     {

@@ -42,6 +42,7 @@ pub(crate) struct Work {
 impl Work {
     ghost use Rattle.dali_controller.specs.Moments.{closing_of, machine_of, Sends, IsReady, IsFine, IsHeard, Begins};
     ghost use Rattle.dali_controller.specs.Moments.{IsNext};
+    ghost use Rattle.dali_controller.specs.Moves.{begun, going, stopped};
 
     /// Whether the running transaction is complete.
     fn is_complete(&self) -> bool
@@ -112,6 +113,7 @@ impl Work {
         requires sends { Sends self.old.kept self.old.number self.old.purpose (stage_of self.old.trace) command }
         requires later { stage_of self.old.trace ≡ Free → ⊥ }
 
+        ensures exact { self.new ≡ going self.old command }
         ensures next { IsNext (machine_of self.old) result (machine_of self.new) }
         ensures fine { IsFine self.new }
     {
@@ -125,6 +127,7 @@ impl Work {
     pub(crate) fn begin(&mut self, purpose: Purpose, number: SearchAddress) -> Order
         requires { Begins self.old purpose number }
 
+        ensures exact { self.new ≡ begun self.old purpose number }
         ensures next { IsNext (machine_of self.old) result (machine_of self.new) }
         ensures fine { IsFine self.new }
     {
@@ -145,6 +148,7 @@ impl Work {
         requires fits { Fits self.old.kept.block added }
         requires may { MayAdd self.old.kept added }
 
+        ensures exact { self.new ≡ stopped self.old result }
         ensures order { result ≡ order.Commit added }
         ensures state { machine_of self.new ≡ machine_ordered (machine_of self.old) result }
         ensures fine { IsFine self.new }
@@ -159,6 +163,7 @@ impl Work {
     pub(crate) fn done(&mut self, end: End) -> Order
         requires { self.old.table ≡ table_of self.old.kept }
 
+        ensures exact { self.new ≡ stopped self.old result }
         ensures order { result ≡ order.Done end }
         ensures state { machine_of self.new ≡ machine_ordered (machine_of self.old) result }
         ensures fine { IsFine self.new }
@@ -172,6 +177,7 @@ impl Work {
     pub(crate) fn halt(&mut self, fault: Fault) -> Order
         requires { self.old.table ≡ table_of self.old.kept }
 
+        ensures exact { self.new ≡ stopped self.old result }
         ensures order { result ≡ order.Halt fault }
         ensures state { machine_of self.new ≡ machine_ordered (machine_of self.old) result }
         ensures fine { IsFine self.new }
