@@ -1,7 +1,7 @@
-use Rattle.std.proofs.Common.{◌≡◌, refl, ap, subst}
-use Rattle.dali_script.specs.Records.{Assignment, HasAddress, HasRandom}
+use Rattle.std.proofs.Common.{◌∙◌, sym, Some, None}
+use Rattle.dali_script.specs.Records.{HasRandom}
 use Rattle.dali_script.proofs.Lists.{has_map}
-use Rattle.dali_script.proofs.Members.{same_member}
+use Rattle.dali_controller.proofs.Courses.{number_is, address_is, none_reserved, unfinished_is}
 use Rattle.dali_controller.proofs.unfinished.unfinished_at.Goals as goal
 
 pub returns-in-None-clause-reserved : goal.returns-in-None-clause-reserved
@@ -12,14 +12,22 @@ returns-in-None-clause-drawn c =
     let has : HasRandom c.args.kept.now.reserved c.in_ok-random.random = has_map (λ q. q.1) c.args.kept.now.reserved (c.args.address, c.in_ok-random.random) c.in_ok-random.ensures.value in
     c.in_ok-random.ensures.kept.reserved_drawn c.in_ok-random.random has
 
--- the address is not reserved
 pub returns-in_err-random-clause-unfinished : goal.returns-in_err-random-clause-unfinished
 returns-in_err-random-clause-unfinished c =
-    rw c.from_residual.ensures (λ r is. c.in_err-random.ensures.value (has_map (λ q. q.0) c.args.kept.now.reserved (c.args.address, r) is.0))
+    let k = c.args.kept.now in
+    let none = number_is k.reserved c.args.address None c.in_err-random.ensures.kept.reserved.address_once c.in_err-random.ensures.value in
+    c.from_residual.ensures ∙ sym (none_reserved k c.args.address none)
 
--- it is reserved for one number, which is in the table
 pub returns-in-Some-clause-unfinished : goal.returns-in-Some-clause-unfinished
-returns-in-Some-clause-unfinished c r is =
-    let one = same_member (λ (q : Assignment). q.0) c.args.kept.now.reserved (c.args.address, c.in_ok-random.random) (c.args.address, r)
-        c.in_ok-random.ensures.kept.reserved.address_once c.in_ok-random.ensures.value is.0 refl in
-    is.1 (subst (HasRandom c.args.table.now.entries) (ap (λ (q : Assignment). q.1) one) (has_map (λ q. q.1) c.args.table.now.entries (c.in-Some.field-0, c.in_ok-random.random) c.in-Some.ensures))
+returns-in-Some-clause-unfinished c =
+    let k = c.args.kept.now in
+    let is = number_is k.reserved c.args.address (Some c.in_ok-random.random) c.in_ok-random.ensures.kept.reserved.address_once c.in_ok-random.ensures.value in
+    let enrolled = address_is k.enrolled c.in_ok-random.random (Some c.in-Some.field-0) c.in_ok-random.ensures.kept.enrolled.random_once (rw c.requires at c.in-Some.ensures) in
+    sym (unfinished_is k c.args.address c.in_ok-random.random (Some c.in-Some.field-0) is enrolled)
+
+pub returns-in-None-clause-unfinished : goal.returns-in-None-clause-unfinished
+returns-in-None-clause-unfinished c =
+    let k = c.args.kept.now in
+    let is = number_is k.reserved c.args.address (Some c.in_ok-random.random) c.in_ok-random.ensures.kept.reserved.address_once c.in_ok-random.ensures.value in
+    let enrolled = address_is k.enrolled c.in_ok-random.random None c.in_ok-random.ensures.kept.enrolled.random_once (rw c.requires at c.in-None.ensures) in
+    sym (unfinished_is k c.args.address c.in_ok-random.random None is enrolled)
