@@ -41,9 +41,11 @@ use Rattle.dali_controller.specs.declared.purpose.Purpose.{Purpose}
 use Rattle.dali_controller.specs.declared.purpose.Purpose.TheVariants.{Opening, Probing, Visiting, Resolving, Closing}
 use Rattle.dali_controller.specs.declared.work.Work.{Work}
 use Rattle.dali_script.specs.Due.{due_after, frame_put}
+use Rattle.dali_controller.specs.Course.{first_of}
 use Rattle.dali_controller.specs.Machine.{machine_lost, Machine, table_of, opened_after, silent_after, tries_after}
+use Rattle.dali_controller.specs.Next.{begins_at}
 use Rattle.dali_controller.specs.Orders.{Contradicts, closing_by, Cause, IsBegun, AfterMask, IsOrdered, machine_ordered, end_at}
-use Rattle.dali_controller.specs.Moments.{FoundAt, IsBetween, Closes, Settles, closing_of, machine_of, first_of, Sends, Arrived, Knows, KnowsAt, IsCalm, CalmAt, IsReady, IsSending, Pending, IsFine, IsHeard, Turns, Begins, IsNext}
+use Rattle.dali_controller.specs.Moments.{FoundAt, IsBetween, Closes, Settles, closing_of, machine_of, Sends, Arrived, Knows, KnowsAt, IsCalm, CalmAt, IsReady, IsSending, Pending, IsFine, IsHeard, Turns, Begins, IsNext}
 
 -- THE COMMANDS OF A TRANSACTION. A command that is sent at a stage may follow there and is read from its frame; it is no
 -- direct arc power; past the first one no close runs; and what is known where it leads to.
@@ -309,6 +311,7 @@ begin_next_at w p n b =
         silent = w.silent;
         opened = w.opened;
         closing = o;
+        course = record { purpose = p; number = n; search = w.search; from = w.from };
       }) (sym closed);
     }
 
@@ -427,14 +430,14 @@ probes w n b opened running is = record {
   found = b.found;
 }
 
-pub visits : (w : Work) (n : SearchAddress) → IsBetween w → value_of n < MASK24 → (w.opened ≡ false → HasRandom w.kept.reserved (value_of n)) → Begins w Visiting n
-visits w n b drawn reserved = record {
+pub visits : (w : Work) (n : SearchAddress) (r : ℕ) → IsBetween w → r < MASK24 → (w.opened ≡ false → HasRandom w.kept.reserved r) → value_of n ≡ r → Begins w Visiting n
+visits w n r b drawn reserved is = record {
   table = b.table;
   tries = b.tries;
   calm = b.silent;
-  knows = (drawn, reserved);
+  knows = (subst (λ x. x < MASK24) (sym is) drawn, λ early. subst (HasRandom w.kept.reserved) (sym is) (reserved early));
   turns = b.going;
-  unnamed = λ r e. absurd (b.unnamed r e);
+  unnamed = λ q e. absurd (b.unnamed q e);
   found = b.found;
 }
 
@@ -500,11 +503,14 @@ lost_ended_at w ready is =
       found = λ r b e. absurd (cc);
     }
 
+but_course : (new m : Machine) → new ≡ m → new ≡ record m { course = new.course }
+but_course new m is = subst (λ (n : Machine). n ≡ record m { course = n.course }) (sym is) refl
+
 pub lost_ended : (w : Work) (t : List Entry) (o : Order) (new : Machine) → IsFine w → due_after w.last ≡ due.Bus → t ≡ [] → w.tries + 1 ≡ 8 → o ≡ Done GaveUp
     → new ≡ machine_ordered (machine_of (record w { trace = t; tries = w.tries + 1 })) o → IsNext (machine_lost (machine_of w)) o new
 lost_ended w t o new fine put empty is done state = record {
   order = subst (IsOrdered (machine_lost (machine_of w))) (sym done) (lost_ended_at w (waiting w w.last put fine.pending) is);
-  state = state ∙ ap (λ u. machine_ordered (machine_of (record w { trace = u; tries = w.tries + 1 })) o) empty;
+  state = but_course new (machine_ordered (machine_lost (machine_of w)) o) (state ∙ ap (λ u. machine_ordered (machine_of (record w { trace = u; tries = w.tries + 1 })) o) empty);
 }
 
 pub lost_next : (w : Work) (t : List Entry) (o : Order) (new : Machine) → t ≡ [] → IsNext (machine_of (record w { trace = t; tries = w.tries + 1 })) o new → IsNext (machine_lost (machine_of w)) o new
@@ -548,6 +554,7 @@ settles_withdrawn w r b n h is =
       may = refl;
       finding = h.finding;
       trace_finding = h.trace_finding;
+      next = ap (begins_at (machine_of w)) stage;
       unnamed = λ q e. absurd (cc);
       withdrawn = λ q c e. let there : Withdrawn r b ≡ Withdrawn q c = sym stage ∙ e in (same_address q r c b (sym there), ap value_of (same_number q r c b (sym there)));
     })
@@ -567,6 +574,7 @@ settles_resolved w b n m h number is =
       may = (refl, subst (λ x. Has w.kept.reserved (b, x)) (sym same) resolving.3);
       finding = h.finding;
       trace_finding = h.trace_finding;
+      next = ap (begins_at (machine_of w)) stage;
       unnamed = λ q e. absurd (cc);
       withdrawn = λ q c e. absurd (cc);
     }
@@ -592,7 +600,7 @@ halted_at w b n h conflict =
     }
 
 halted : (w : Work) (b n : ℕ) (o : Order) (new : Machine) → Settles w b n → Contradicts w.kept.enrolled b n → o ≡ Halt fault.Conflict → new ≡ machine_ordered (machine_of w) o → IsNext (machine_of w) o new
-halted w b n o new h conflict is state = record { order = subst (IsOrdered (machine_of w)) (sym is) (halted_at w b n h conflict); state = state }
+halted w b n o new h conflict is state = record { order = subst (IsOrdered (machine_of w)) (sym is) (halted_at w b n h conflict); state = but_course new (machine_ordered (machine_of w) o) state }
 
 -- the table has the address for another gear
 pub halts_by_address : (w : Work) (b m n : ℕ) (o : Order) (new : Machine) → Settles w b n → Has w.table.entries (b, m) → (m ≡ n → ⊥)
@@ -631,7 +639,7 @@ pub enrols : (w : Work) (b n : ℕ) (o : Order) (new : Machine) → Settles w b 
 enrols w b n o new h none fresh order state = record {
   order = subst (IsOrdered (machine_of w)) (sym order)
       (enrols_at w b n h (subst (λ xs. HasAddress xs b → ⊥) (entries_of w h.table) none) (subst (λ xs. HasRandom xs n → ⊥) (entries_of w h.table) fresh));
-  state = state;
+  state = but_course new (machine_ordered (machine_of w) o) state;
 }
 
 -- a number is reserved once its reservation is kept

@@ -1,4 +1,6 @@
 pub mod Refusals
+pub mod Course
 pub mod Machine
+pub mod Next
 pub mod Orders
 pub mod Moments

@@ -17,10 +17,12 @@ use Rattle.dali_script.specs.declared.orders.Input.TheVariants as input
 use Rattle.dali_script.specs.declared.orders.Order.{Order}
 use Rattle.dali_script.specs.declared.orders.End.{End}
 use Rattle.dali_script.specs.Due.{frame_put, record_ordered}
+use Rattle.dali_controller.specs.Course.{Course, course_at_first}
 
 -- What contracts see of a machine: its number; what it keeps; the running transaction; its last
 -- finding; its last order; how often the transaction was lost; how many searches in a row led to no
--- gear; whether an opening was complete since the start; and the end with which a close was begun.
+-- gear; whether an opening was complete since the start; the end with which a close was begun; and the
+-- course that it takes.
 pub record Machine : Type 0 where
   pub id : ℕ
   pub kept : Kept
@@ -31,6 +33,7 @@ pub record Machine : Type 0 where
   pub silent : ℕ
   pub opened : Bool
   pub closing : Option End
+  pub course : Course
 
 -- before the start
 abbrev pub at_first : ℕ → Kept → Machine
@@ -44,6 +47,7 @@ at_first id k = record {
   silent = 0;
   opened = false;
   closing = None;
+  course = course_at_first;
 }
 
 -- the table is the enrolments
@@ -86,6 +90,7 @@ machine_heard_to m t = record {
   silent = silent_after (stage_of t) m.opened m.silent;
   opened = opened_after (stage_of t) m.opened;
   closing = m.closing;
+  course = m.course;
 }
 
 -- the outstanding frame was sent, and this was heard

@@ -4,12 +4,12 @@ use Rattle.dali_frame.specs.declared.numbers.SearchAddress.{SearchAddress}
 use Rattle.dali_frame.specs.Random.{value_of, MASK24}
 use Rattle.dali_special.specs.declared.command.Target.TheVariants.{Unaddressed}
 use Rattle.dali_special.specs.declared.command.Command.{Command}
-use Rattle.dali_special.specs.declared.command.Command.TheVariants.{Terminate, Initialise}
+use Rattle.dali_special.specs.declared.command.Command.TheVariants.{Initialise}
 use Rattle.dali_special.specs.declared.command.Command.TheVariants.{Randomise, Compare, Withdraw}
-use Rattle.dali_special.specs.declared.command.Command.TheVariants.{SearchHigh, SearchMiddle}
+use Rattle.dali_special.specs.declared.command.Command.TheVariants.{SearchMiddle}
 use Rattle.dali_special.specs.declared.command.Command.TheVariants.{SearchLow, Program, QueryShort}
 use Rattle.dali_special.specs.declared.command.Command.TheVariants.{RandomByte}
-use Rattle.dali_special.specs.declared.command.Part.TheVariants.{High, Middle, Low}
+use Rattle.dali_special.specs.declared.command.Part.TheVariants.{Middle, Low}
 use Rattle.dali_special.specs.Command.{command_of, IsSpelled}
 use Rattle.dali_script.specs.declared.finding.Finding.{Finding}
 use Rattle.dali_script.specs.declared.finding.Finding.TheVariants.{Queried, Resolved}
@@ -38,7 +38,9 @@ use Rattle.dali_controller.specs.declared.purpose.Purpose.{Purpose}
 use Rattle.dali_controller.specs.declared.purpose.Purpose.TheVariants.{Opening, Probing, Visiting}
 use Rattle.dali_controller.specs.declared.purpose.Purpose.TheVariants.{Resolving, Closing}
 use Rattle.dali_controller.specs.declared.work.Work.{Work}
+use Rattle.dali_controller.specs.Course.{Course, first_of}
 use Rattle.dali_controller.specs.Machine.{Machine, table_of}
+use Rattle.dali_controller.specs.Next.{beginning, next_course, goes_on_to}
 use Rattle.dali_controller.specs.Orders.{Cause, end_at, IsOrdered, machine_ordered, IsAnswered}
 use Rattle.dali_controller.specs.Orders.{machine_after}
 
@@ -47,6 +49,9 @@ use Rattle.dali_controller.specs.Orders.{machine_after}
 abbrev pub closing_of : Purpose → Option End
 closing_of (Closing e) = Some e
 closing_of _ = None
+
+abbrev pub course_of : Work → Course
+course_of w = record { purpose = w.purpose; number = w.number; search = w.search; from = w.from }
 
 -- what contracts see
 abbrev pub machine_of : Work → Machine
@@ -60,14 +65,8 @@ machine_of w = record {
   silent = w.silent;
   opened = w.opened;
   closing = closing_of w.purpose;
+  course = course_of w;
 }
-
--- the first command of a transaction
-abbrev pub first_of : Purpose → SearchAddress → Command
-first_of Opening n = Terminate
-first_of (Closing e) n = Terminate
-first_of (Resolving a) n = RandomByte a High
-first_of _ n = SearchHigh n.high
 
 -- THE TURN: which command a transaction sends at a stage past the first, except PROGRAM SHORT
 -- ADDRESS
@@ -245,6 +244,7 @@ pub record Settles (w : Work) (b n : ℕ) : Type 0 where
   pub may : MayEnrol w.kept.reserved found (b, n)
   pub finding : w.finding ≡ Some found
   pub trace_finding : finding_of w.trace ≡ Some found
+  pub next : next_course (machine_of w) ≡ goes_on_to (machine_of w)
   pub unnamed : (r : SearchAddress) → stage_of w.trace ≡ Unnamed r → ⊥
   pub withdrawn : (r : SearchAddress) (c : ℕ) → stage_of w.trace ≡ Withdrawn r c
       → (c ≡ b) × (value_of r ≡ n)
@@ -270,10 +270,15 @@ pub record Closes (w : Work) (e : End) : Type 0 where
       × (e ≡ BlockFull)
   pub found : (r : SearchAddress) (b : ℕ) → stage_of w.trace ≡ Withdrawn r b → ⊥
 
--- an order that a machine of which this is seen may give, and what is seen after it
+-- an order that a machine of which this is seen may give, and what is seen after it but its course
 pub record IsNext (t : Machine) (o : Order) (new : Machine) : Type 0 where
   pub order : IsOrdered t o
-  pub state : new ≡ machine_ordered t o
+  pub state : new ≡ record (machine_ordered t o) { course = new.course }
+
+-- a transaction begins, and takes this course
+pub record Starts (c : Course) (o : Order) (new : Work) : Type 0 where
+  pub course : course_of new ≡ c
+  pub order : o ≡ beginning c
 
 pub record IsStep (m : Machine) (i : Input) (o : Order) (new : Machine) : Type 0 where
   pub order : IsAnswered m i o

@@ -27,6 +27,7 @@ use Rattle.dali_script.specs.declared.orders.End.{End}
 use Rattle.dali_script.specs.declared.orders.End.TheVariants.{AllFound, BlockFull, GaveUp}
 use Rattle.dali_script.specs.declared.orders.Fault.TheVariants as fault
 use Rattle.dali_controller.specs.Machine.{Machine, machine_told}
+use Rattle.dali_controller.specs.Next.{course_by}
 
 -- WHAT AN ORDER DOES, to a machine that was told an input.
 
@@ -64,6 +65,7 @@ machine_ordered t o = record {
   silent = t.silent;
   opened = t.opened;
   closing = closing_by t o;
+  course = course_by t o;
 }
 
 -- WHICH ORDERS A SITE ALLOWS. A first frame at 3, or a later one that is lawful after the running

@@ -2,6 +2,7 @@ ghost use Rattle.std.specs.Prelude.{◌≡◌, ◌↔◌, true, Some, IsOk, IfOk
 ghost use Rattle.dali_script.specs.Records.{Fits};
 ghost use Rattle.dali_script.specs.Due.{due_after, accepts, record_ordered};
 ghost use Rattle.dali_controller.specs.Machine.{at_first, table_of};
+ghost use Rattle.dali_controller.specs.Next.{BeginsWith};
 ghost use Rattle.dali_controller.specs.Orders.{IsAnswered, machine_after};
 
 use crate::entries::table_of;
@@ -106,6 +107,7 @@ impl Machine {
         ensures not_due { OnErr result (self.new ≡ self.old) }
         ensures order { IfOk result (λ order. IsAnswered self.old input order) }
         ensures state { IfOk result (λ order. self.new ≡ machine_after self.old input order) }
+        ensures begins { IfOk result (BeginsWith self.new.course) }
         ensures block { self.new.kept.block ≡ self.old.kept.block }
         ensures fits { IfOk result (λ order. IfSome (record_ordered (Some order)) (Fits self.old.kept.block)) }
     {

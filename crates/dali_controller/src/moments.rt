@@ -10,6 +10,7 @@ ghost use Rattle.dali_script.specs.declared.orders.Input.TheVariants as input;
 ghost use Rattle.dali_script.specs.declared.orders.Order.TheVariants as order;
 ghost use Rattle.dali_script.specs.Due.{due_after, frame_put, record_ordered};
 ghost use Rattle.dali_script.specs.declared.orders.Due.TheVariants as due;
+ghost use Rattle.dali_controller.specs.Course.{is_yes};
 ghost use Rattle.dali_controller.specs.Machine.{machine_lost, table_of};
 
 use crate::entries::enter;
@@ -29,7 +30,7 @@ const SILENT: u8 = 16;
 
 /// Whether an answer to COMPARE is a yes: a damaged one is, as of several gear that answer together.
 fn is_yes(heard: Answer) -> bool
-    ensures { result ≡ false → heard ≡ Silence }
+    ensures { result ≡ is_yes heard }
 {
     match heard {
         Answer::Silence => false,
@@ -39,13 +40,17 @@ fn is_yes(heard: Answer) -> bool
 
 impl Work {
     ghost use Rattle.dali_controller.specs.Moments.{machine_of, turn_of, IsFine, IsHeard, IsBetween, Closes, Settles, IsNext};
-    ghost use Rattle.dali_controller.specs.Moments.{Enrolled, IsStep};
+    ghost use Rattle.dali_controller.specs.Moments.{Enrolled, IsStep, Starts, course_of};
+    ghost use Rattle.dali_controller.specs.Course.{opening, probing, searching_anew, visiting, resolving, closing};
+    ghost use Rattle.dali_controller.specs.Course.{going_on};
+    ghost use Rattle.dali_controller.specs.Next.{course_by, next_course, silenced, BeginsWith};
 
     /// The start: visits to what is unfinished, and then an opening.
     pub(crate) fn start(&mut self) -> Order
         requires fine { IsFine self.old }
         requires unstarted { self.old.last ≡ None }
 
+        ensures begins { BeginsWith (course_of self.new) result }
         ensures step { IsStep (machine_of self.old) input.Start result (machine_of self.new) }
         ensures fine { IsFine self.new }
     {
@@ -56,6 +61,7 @@ impl Work {
     fn go_on(&mut self) -> Order
         requires { IsBetween self.old }
 
+        ensures starts { Starts (going_on self.old.kept self.old.opened (course_of self.old)) result self.new }
         ensures next { IsNext (machine_of self.old) result (machine_of self.new) }
         ensures fine { IsFine self.new }
     {
@@ -65,7 +71,7 @@ impl Work {
         match next_unfinished(&self.kept, &self.table, self.from) {
             Some((from, number)) => {
                 self.from = from;
-                self.visit(SearchAddress::of(number))
+                self.visit(number)
             }
             None => self.open(),
         }
@@ -75,6 +81,7 @@ impl Work {
         requires between { IsBetween self.old }
         requires opened { self.old.opened ≡ true }
 
+        ensures starts { Starts (searching_anew (course_of self.old)) result self.new }
         ensures next { IsNext (machine_of self.old) result (machine_of self.new) }
         ensures fine { IsFine self.new }
     {
@@ -88,6 +95,7 @@ impl Work {
         requires between { IsBetween self.old }
         requires opened { self.old.opened ≡ false }
 
+        ensures starts { Starts (opening (course_of self.old)) result self.new }
         ensures next { IsNext (machine_of self.old) result (machine_of self.new) }
         ensures fine { IsFine self.new }
     {
@@ -102,6 +110,7 @@ impl Work {
         requires opened { self.old.opened ≡ true }
         requires running { self.old.search.step ≡ search.Again }
 
+        ensures starts { Starts (probing (course_of self.old)) result self.new }
         ensures next { IsNext (machine_of self.old) result (machine_of self.new) }
         ensures fine { IsFine self.new }
     {
@@ -111,15 +120,16 @@ impl Work {
 
     /// The transaction that asks the gear at a number for its short address.
     #[tactic(auto, using(crate::proofs::Steps::visits))]
-    fn visit(&mut self, number: SearchAddress) -> Order
+    fn visit(&mut self, number: Random24) -> Order
         requires between { IsBetween self.old }
-        requires drawn { value_of number < MASK24 }
-        requires reserved { self.old.opened ≡ false → HasRandom self.old.kept.reserved (value_of number) }
+        requires drawn { number < MASK24 }
+        requires reserved { self.old.opened ≡ false → HasRandom self.old.kept.reserved number }
 
+        ensures starts { Starts (visiting (course_of self.old) number) result self.new }
         ensures next { IsNext (machine_of self.old) result (machine_of self.new) }
         ensures fine { IsFine self.new }
     {
-        self.begin(Purpose::Visiting, number)
+        self.begin(Purpose::Visiting, SearchAddress::of(number))
     }
 
     /// The transaction that ends the initialisation of all gear, before this end.
@@ -127,6 +137,7 @@ impl Work {
     fn close(&mut self, end: End) -> Order
         requires { Closes self.old end }
 
+        ensures starts { Starts (closing (course_of self.old) end) result self.new }
         ensures next { IsNext (machine_of self.old) result (machine_of self.new) }
         ensures fine { IsFine self.new }
     {
@@ -139,6 +150,7 @@ impl Work {
         requires fine { IsFine self.old }
         requires put { frame_put self.old.last ≡ Some frame }
 
+        ensures begins { BeginsWith (course_of self.new) result }
         ensures step { IsStep (machine_of self.old) (input.Heard heard) result (machine_of self.new) }
         ensures fine { IsFine self.new }
     {
@@ -150,6 +162,8 @@ impl Work {
     fn after(&mut self, stage: Stage) -> Order
         requires { IsHeard self.old stage }
 
+        ensures begins { BeginsWith (course_of self.new) result }
+        ensures course { course_of self.new ≡ course_by (machine_of self.old) result }
         ensures next { IsNext (machine_of self.old) result (machine_of self.new) }
         ensures fine { IsFine self.new }
     {
@@ -164,6 +178,8 @@ impl Work {
         requires heard { IsHeard self.old stage }
         requires over { turn_of self.old.purpose self.old.number stage ≡ None }
 
+        ensures begins { BeginsWith (course_of self.new) result }
+        ensures course { course_of self.new ≡ course_by (machine_of self.old) result }
         ensures next { IsNext (machine_of self.old) result (machine_of self.new) }
         ensures fine { IsFine self.new }
     {
@@ -185,6 +201,8 @@ impl Work {
         requires heard { IsHeard self.old stage.Terminated }
         requires over { turn_of self.old.purpose self.old.number stage.Terminated ≡ None }
 
+        ensures begins { BeginsWith (course_of self.new) result }
+        ensures course { course_of self.new ≡ course_by (machine_of self.old) result }
         ensures next { IsNext (machine_of self.old) result (machine_of self.new) }
         ensures fine { IsFine self.new }
     {
@@ -200,6 +218,8 @@ impl Work {
     fn all_drawn(&mut self) -> Order
         requires { IsHeard self.old stage.Opened }
 
+        ensures begins { BeginsWith (course_of self.new) result }
+        ensures course { course_of self.new ≡ course_by (machine_of self.old) result }
         ensures next { IsNext (machine_of self.old) result (machine_of self.new) }
         ensures fine { IsFine self.new }
     {
@@ -210,12 +230,14 @@ impl Work {
     fn probed(&mut self, heard: Answer) -> Order
         requires { (number : SearchAddress) × IsHeard self.old (stage.Probed number heard) }
 
+        ensures begins { BeginsWith (course_of self.new) result }
+        ensures course { course_of self.new ≡ course_by (machine_of self.old) result }
         ensures next { IsNext (machine_of self.old) result (machine_of self.new) }
         ensures fine { IsFine self.new }
     {
         match self.search.answer(is_yes(heard)) {
             Step::Again => self.probe(),
-            Step::Found(found) => self.visit(SearchAddress::of(found)),
+            Step::Found(found) => self.visit(found),
             Step::Nobody => self.close(End::AllFound),
         }
     }
@@ -224,6 +246,8 @@ impl Work {
     fn unnamed(&mut self, number: SearchAddress) -> Order
         requires { IsHeard self.old (stage.Unnamed number) }
 
+        ensures begins { BeginsWith (course_of self.new) result }
+        ensures course { course_of self.new ≡ course_by (machine_of self.old) result }
         ensures next { IsNext (machine_of self.old) result (machine_of self.new) }
         ensures fine { IsFine self.new }
     {
@@ -238,6 +262,8 @@ impl Work {
         requires heard { IsHeard self.old (stage.Unnamed number) }
         requires free { HasRandom self.old.kept.reserved (value_of number) → ⊥ }
 
+        ensures begins { BeginsWith (course_of self.new) result }
+        ensures course { course_of self.new ≡ course_by (machine_of self.old) result }
         ensures next { IsNext (machine_of self.old) result (machine_of self.new) }
         ensures fine { IsFine self.new }
     {
@@ -252,6 +278,8 @@ impl Work {
     fn unanswered(&mut self, number: SearchAddress) -> Order
         requires { IsHeard self.old (stage.Unanswered number) }
 
+        ensures begins { BeginsWith (course_of self.new) result }
+        ensures course { course_of self.new ≡ course_by (machine_of self.old) result }
         ensures next { IsNext (machine_of self.old) result (machine_of self.new) }
         ensures fine { IsFine self.new }
     {
@@ -268,6 +296,7 @@ impl Work {
         requires early { self.old.opened ≡ false }
         requires reserved { Has self.old.kept.reserved (short, value_of number) }
 
+        ensures starts { Starts (resolving (course_of self.old) short number) result self.new }
         ensures next { IsNext (machine_of self.old) result (machine_of self.new) }
         ensures fine { IsFine self.new }
     {
@@ -279,6 +308,8 @@ impl Work {
     fn resolved(&mut self, short: Short, number: Option<Random24>) -> Order
         requires { IsHeard self.old (stage.Spelled short number) }
 
+        ensures begins { BeginsWith (course_of self.new) result }
+        ensures course { course_of self.new ≡ course_by (machine_of self.old) result }
         ensures next { IsNext (machine_of self.old) result (machine_of self.new) }
         ensures fine { IsFine self.new }
     {
@@ -293,6 +324,8 @@ impl Work {
     fn withdrawn(&mut self, number: SearchAddress, short: Short) -> Order
         requires { IsHeard self.old (stage.Withdrawn number short) }
 
+        ensures begins { BeginsWith (course_of self.new) result }
+        ensures course { course_of self.new ≡ course_by (machine_of self.old) result }
         ensures next { IsNext (machine_of self.old) result (machine_of self.new) }
         ensures fine { IsFine self.new }
     {
@@ -301,10 +334,13 @@ impl Work {
 
     /// The visit led to no gear.
     fn silenced(&mut self) -> Order
-        requires { (number : SearchAddress)
+        requires heard { (number : SearchAddress)
             × (IsHeard self.old (stage.Unanswered number)
             ⊎ ((other : Option ℕ) × IsHeard self.old (stage.Inconclusive number other))) }
+        requires next { next_course (machine_of self.old) ≡ silenced (machine_of self.old) }
 
+        ensures begins { BeginsWith (course_of self.new) result }
+        ensures course { course_of self.new ≡ course_by (machine_of self.old) result }
         ensures next { IsNext (machine_of self.old) result (machine_of self.new) }
         ensures fine { IsFine self.new }
     {
@@ -319,6 +355,8 @@ impl Work {
     fn settle(&mut self, short: Short, random: Random24) -> Order
         requires { Settles self.old short random }
 
+        ensures begins { BeginsWith (course_of self.new) result }
+        ensures course { course_of self.new ≡ course_by (machine_of self.old) result }
         ensures next { IsNext (machine_of self.old) result (machine_of self.new) }
         ensures fine { IsFine self.new }
     {
@@ -337,6 +375,8 @@ impl Work {
         requires fine { IsFine self.old }
         requires put { due_after self.old.last ≡ due.Bus }
 
+        ensures begins { BeginsWith (course_of self.new) result }
+        ensures course { course_of self.new ≡ course_by (machine_lost (machine_of self.old)) result }
         ensures next { IsNext (machine_lost (machine_of self.old)) result (machine_of self.new) }
         ensures fine { IsFine self.new }
     {
@@ -355,13 +395,14 @@ impl Work {
         requires fine { IsFine self.old }
         requires ordered { record_ordered self.old.last ≡ Some added }
 
+        ensures begins { BeginsWith (course_of self.new) result }
         ensures step { IsStep (machine_of self.old) input.Committed result (machine_of self.new) }
         ensures fine { IsFine self.new }
     {
         let kept = added;
         self.keep(kept);
         match added {
-            Record::Reserve(_, number) => self.visit(SearchAddress::of(number)),
+            Record::Reserve(_, number) => self.visit(number),
             Record::Enrol(short, number) => {
                 enter(&mut self.table, short, number);
                 self.enrolled(short, number)
@@ -375,6 +416,8 @@ impl Work {
     fn enrolled(&mut self, short: Short, random: Random24) -> Order
         requires { Enrolled self.old short random }
 
+        ensures begins { BeginsWith (course_of self.new) result }
+        ensures course { course_of self.new ≡ course_by (machine_of self.old) result }
         ensures next { IsNext (machine_of self.old) result (machine_of self.new) }
         ensures fine { IsFine self.new }
     {
@@ -398,6 +441,7 @@ impl Work {
     pub(crate) fn commit_failed(&mut self) -> Order
         requires { IsFine self.old }
 
+        ensures begins { BeginsWith (course_of self.new) result }
         ensures step { IsStep (machine_of self.old) input.CommitFailed result (machine_of self.new) }
         ensures fine { IsFine self.new }
     {

@@ -1,6 +1,7 @@
-ghost use Rattle.std.specs.Prelude.{◌<◌, IfSome};
+ghost use Rattle.std.specs.Prelude.{◌≡◌, ◌<◌, IfSome};
 ghost use Rattle.dali_frame.specs.Random.{MASK24};
 ghost use Rattle.dali_script.specs.Records.{HasRandom};
+ghost use Rattle.dali_controller.specs.Course.{unfinished_at, next_unfinished};
 
 use dali_enrol::Table;
 use dali_frame::{Random24, Short};
@@ -9,6 +10,8 @@ use dali_script::Kept;
 /// The unfinished reservation with the least short address from one on: the short address after it, and the random
 /// address that it is for. A reservation is unfinished while no gear with its random address is in the table.
 pub(crate) fn next_unfinished(kept: &Kept, table: &Table, from: u8) -> Option<(u8, Random24)>
+    requires { table.now.entries ≡ kept.now.enrolled }
+    ensures next { result ≡ next_unfinished kept.now from }
     ensures reserved { IfSome result (λ next. HasRandom kept.now.reserved next.1) }
     ensures drawn { IfSome result (λ next. next.1 < MASK24) }
 {
@@ -21,6 +24,8 @@ pub(crate) fn next_unfinished(kept: &Kept, table: &Table, from: u8) -> Option<(u
 }
 
 fn unfinished_at(kept: &Kept, table: &Table, address: Short) -> Option<Random24>
+    requires { table.now.entries ≡ kept.now.enrolled }
+    ensures unfinished { result ≡ unfinished_at kept.now address }
     ensures reserved { IfSome result (λ random. HasRandom kept.now.reserved random) }
     ensures drawn { IfSome result (λ random. random < MASK24) }
 {

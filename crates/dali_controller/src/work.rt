@@ -1,5 +1,6 @@
 ghost use Rattle.std.specs.Prelude.{◌≡◌, ◌+◌, ◌<◌, ◌≤◌, Some};
 ghost use Rattle.dali_frame.specs.Priority.{FIRST, LATER};
+ghost use Rattle.dali_special.specs.Command.{frame_of};
 ghost use Rattle.dali_script.specs.declared.stage.Stage.TheVariants.{Free};
 ghost use Rattle.dali_script.specs.Findings.{later, finding_of};
 ghost use Rattle.dali_script.specs.Records.{Fits, MayAdd};
@@ -41,7 +42,8 @@ pub(crate) struct Work {
 
 impl Work {
     ghost use Rattle.dali_controller.specs.Moments.{closing_of, machine_of, Sends, IsReady, IsFine, IsHeard, Begins};
-    ghost use Rattle.dali_controller.specs.Moments.{IsNext};
+    ghost use Rattle.dali_controller.specs.Moments.{IsNext, Starts, course_of};
+    ghost use Rattle.dali_controller.specs.Course.{taking};
 
     /// Whether the running transaction is complete.
     fn is_complete(&self) -> bool
@@ -112,6 +114,8 @@ impl Work {
         requires sends { Sends self.old.kept self.old.number self.old.purpose (stage_of self.old.trace) command }
         requires later { stage_of self.old.trace ≡ Free → ⊥ }
 
+        ensures order { result ≡ order.Put LATER (frame_of command) }
+        ensures course { course_of self.new ≡ course_of self.old }
         ensures next { IsNext (machine_of self.old) result (machine_of self.new) }
         ensures fine { IsFine self.new }
     {
@@ -125,6 +129,7 @@ impl Work {
     pub(crate) fn begin(&mut self, purpose: Purpose, number: SearchAddress) -> Order
         requires { Begins self.old purpose number }
 
+        ensures starts { Starts (taking (course_of self.old) purpose number) result self.new }
         ensures next { IsNext (machine_of self.old) result (machine_of self.new) }
         ensures fine { IsFine self.new }
     {
@@ -146,6 +151,7 @@ impl Work {
         requires may { MayAdd self.old.kept added }
 
         ensures order { result ≡ order.Commit added }
+        ensures course { course_of self.new ≡ course_of self.old }
         ensures state { machine_of self.new ≡ machine_ordered (machine_of self.old) result }
         ensures fine { IsFine self.new }
     {
@@ -160,6 +166,7 @@ impl Work {
         requires { self.old.table ≡ table_of self.old.kept }
 
         ensures order { result ≡ order.Done end }
+        ensures course { course_of self.new ≡ course_of self.old }
         ensures state { machine_of self.new ≡ machine_ordered (machine_of self.old) result }
         ensures fine { IsFine self.new }
     {
@@ -173,6 +180,7 @@ impl Work {
         requires { self.old.table ≡ table_of self.old.kept }
 
         ensures order { result ≡ order.Halt fault }
+        ensures course { course_of self.new ≡ course_of self.old }
         ensures state { machine_of self.new ≡ machine_ordered (machine_of self.old) result }
         ensures fine { IsFine self.new }
     {

@@ -1,0 +1,110 @@
+use Rattle.std.proofs.Common.{◌≡◌, ℕ, ◌+◌, ◌-◌, ◌<◌, ◌≤◌, inl, inr, Bool, true, false, List, [], ◌∷◌, ◌++◌, refl, sym, ap, subst, ◌∙◌, arith, Option, Some, None}
+use Rattle.std.specs.Prelude.{◌==◌, MatchOption, is_some, suc, if◌then◌else◌}
+use Rattle.std.proofs.lemmas.Bool.Decides.{nat_tests}
+use Rattle.dali_frame.specs.declared.frames.Answer.{Answer}
+use Rattle.dali_script.specs.declared.stage.Stage.{Stage}
+use Rattle.dali_script.specs.Records.{Assignment, Kept, Has, IsOnce, addresses, randoms, HasAddress, HasRandom}
+use Rattle.dali_script.specs.Stages.{stage_of}
+use Rattle.dali_script.proofs.Lists.{has_map}
+use Rattle.dali_script.proofs.Members.{same_member}
+use Rattle.dali_script.specs.declared.orders.Order.{Order}
+use Rattle.dali_search.specs.declared.step.Step.{Step}
+use Rattle.dali_search.specs.declared.step.Step.TheVariants.{Again, Found, Nobody}
+use Rattle.dali_search.specs.Least.{Search, step_after, probe_after}
+use Rattle.dali_controller.specs.declared.work.Work.{Work}
+use Rattle.dali_controller.specs.Course.{Course, is_yes, answered, next_probe, after_step, probed, number_at, address_for, unless_enrolled, unfinished_at, unfinished_among, here_or_later}
+use Rattle.dali_controller.specs.Next.{begins_at, course_by}
+use Rattle.dali_controller.specs.Moments.{machine_of, course_of, Starts}
+
+-- THE COURSE OF A MACHINE is the one of the table of moments.
+
+-- a transaction that begins where the trace has this stage
+pub started : (w : Work) (s : Stage) (o : Order) (new : Work) (c : Course) → stage_of w.trace ≡ s → c ≡ begins_at (machine_of w) s → Starts c o new → course_of new ≡ course_by (machine_of w) o
+started w s o new c stage is starts = rw starts.order (starts.course ∙ is ∙ ap (λ x. begins_at (machine_of w) x) (sym stage))
+
+-- ---------------------------------------------------------------- a search that is answered
+
+whole : (s : Search) (answers : List (ℕ × Bool)) (probe : ℕ) (step : Step) → s.answers ≡ answers → s.probe ≡ probe → s.step ≡ step → s ≡ record { answers = answers; probe = probe; step = step }
+whole s answers probe step one two three = rw (← one, ← two, ← three) refl
+
+probe_is : (s t : Step) (last next now : ℕ) → s ≡ t → (s ≡ Again → now ≡ next) → ((s ≡ Again → ⊥) → now ≡ last) → now ≡ next_probe t last next
+probe_is Again t last next now is again ended = subst (λ x. now ≡ next_probe x last next) is (again refl)
+probe_is (Found r) t last next now is again ended = subst (λ x. now ≡ next_probe x last next) is (ended (λ e. cc))
+probe_is Nobody t last next now is again ended = subst (λ x. now ≡ next_probe x last next) is (ended (λ e. cc))
+
+pub answered_is : (old new : Search) (said : Bool) (s : Step) → old.step ≡ Again → (old.step ≡ Again → new.answers ≡ old.answers ++ (old.probe, said) ∷ []) → (old.step ≡ Again → s ≡ step_after new.answers)
+    → (s ≡ Again → new.probe ≡ probe_after new.answers) → ((s ≡ Again → ⊥) → new.probe ≡ old.probe) → new.step ≡ s → new ≡ answered old said
+answered_is old new said s running asked step next last kept =
+    let answers : new.answers ≡ old.answers ++ (old.probe, said) ∷ [] = asked running in
+    let after : s ≡ step_after (old.answers ++ (old.probe, said) ∷ []) = step running ∙ ap step_after answers in
+    whole new _ _ _ answers
+    (probe_is s _ old.probe _ new.probe after (λ e. next e ∙ ap probe_after answers) last)
+    (kept ∙ after)
+
+pub probed_is : (c : Course) (h : Answer) (said : Bool) (s : Search) (step : Step) → said ≡ is_yes h → s ≡ answered c.search said → s.step ≡ step → after_step step (record c { search = s }) ≡ probed c h
+probed_is c h said s step yes_is is here =
+    ap (λ x. after_step x (record c { search = s })) (sym here)
+    ∙ ap (λ (q : Search). after_step q.step (record c { search = q })) (is ∙ ap (answered c.search) yes_is)
+
+-- ---------------------------------------------------------------- what is reserved, and what is enrolled
+
+found_number : (xs : List Assignment) (a : ℕ) → MatchOption (number_at xs a) (HasAddress xs a → ⊥) (λ r. Has xs (a, r))
+found_number [] a = λ h. h
+found_number (p ∷ xs) a = go (p.0 == a) refl (number_at xs a) (found_number xs a) where
+  go : (b : Bool) → (p.0 == a) ≡ b → (o : Option ℕ) → MatchOption o (HasAddress xs a → ⊥) (λ r. Has xs (a, r)) → MatchOption (if b then Some p.1 else o) (HasAddress (p ∷ xs) a → ⊥) (λ r. Has (p ∷ xs) (a, r))
+  go true is o later = inl (let same : p.0 ≡ a = grind (arith, nat_tests) in ap (λ x. (x, p.1)) same)
+  go false is None none = none_of where
+    none_of : HasAddress (p ∷ xs) a → ⊥
+    none_of (inl e) = grind (arith, nat_tests)
+    none_of (inr h) = none h
+  go false is (Some r) there = inr there
+
+found_address : (xs : List Assignment) (r : ℕ) → MatchOption (address_for xs r) (HasRandom xs r → ⊥) (λ a. Has xs (a, r))
+found_address [] r = λ h. h
+found_address (p ∷ xs) r = go (p.1 == r) refl (address_for xs r) (found_address xs r) where
+  go : (b : Bool) → (p.1 == r) ≡ b → (o : Option ℕ) → MatchOption o (HasRandom xs r → ⊥) (λ a. Has xs (a, r)) → MatchOption (if b then Some p.0 else o) (HasRandom (p ∷ xs) r → ⊥) (λ a. Has (p ∷ xs) (a, r))
+  go true is o later = inl (let same : p.1 ≡ r = grind (arith, nat_tests) in ap (λ x. (p.0, x)) same)
+  go false is None none = none_of where
+    none_of : HasRandom (p ∷ xs) r → ⊥
+    none_of (inl e) = grind (arith, nat_tests)
+    none_of (inr h) = none h
+  go false is (Some a) there = inr there
+
+pub number_is : (xs : List Assignment) (a : ℕ) (o : Option ℕ) → IsOnce (addresses xs) → MatchOption o (HasAddress xs a → ⊥) (λ r. Has xs (a, r)) → o ≡ number_at xs a
+number_is xs a o once said = go o (number_at xs a) said (found_number xs a) where
+  go : (o p : Option ℕ) → MatchOption o (HasAddress xs a → ⊥) (λ r. Has xs (a, r)) → MatchOption p (HasAddress xs a → ⊥) (λ r. Has xs (a, r)) → o ≡ p
+  go None None h k = refl
+  go None (Some r) h k = absurd (h (has_map (λ (q : Assignment). q.0) xs (a, r) k))
+  go (Some r) None h k = absurd (k (has_map (λ (q : Assignment). q.0) xs (a, r) h))
+  go (Some r) (Some s) h k = ap Some (ap (λ (q : Assignment). q.1) (same_member (λ (q : Assignment). q.0) xs (a, r) (a, s) once h k refl))
+
+pub address_is : (xs : List Assignment) (r : ℕ) (o : Option ℕ) → IsOnce (randoms xs) → MatchOption o (HasRandom xs r → ⊥) (λ a. Has xs (a, r)) → o ≡ address_for xs r
+address_is xs r o once said = go o (address_for xs r) said (found_address xs r) where
+  go : (o p : Option ℕ) → MatchOption o (HasRandom xs r → ⊥) (λ a. Has xs (a, r)) → MatchOption p (HasRandom xs r → ⊥) (λ a. Has xs (a, r)) → o ≡ p
+  go None None h k = refl
+  go None (Some a) h k = absurd (h (has_map (λ (q : Assignment). q.1) xs (a, r) k))
+  go (Some a) None h k = absurd (k (has_map (λ (q : Assignment). q.1) xs (a, r) h))
+  go (Some a) (Some b) h k = ap Some (ap (λ (q : Assignment). q.0) (same_member (λ (q : Assignment). q.1) xs (a, r) (b, r) once h k refl))
+
+-- ---------------------------------------------------------------- what is unfinished
+
+pub none_reserved : (k : Kept) (a : ℕ) → None ≡ number_at k.reserved a → unfinished_at k a ≡ None
+none_reserved k a is = ap (unless_enrolled k.enrolled) (sym is)
+
+pub unfinished_is : (k : Kept) (a r : ℕ) (o : Option ℕ) → Some r ≡ number_at k.reserved a → o ≡ address_for k.enrolled r → unfinished_at k a ≡ (if is_some o then None else Some r)
+unfinished_is k a r o reserved enrolled =
+    ap (unless_enrolled k.enrolled) (sym reserved) ∙ ap (λ x. if is_some x then None else Some r) (sym enrolled)
+
+-- the next one is looked for one address after the other
+pub one_passed : (k : Kept) (a : ℕ) → a < 64 → unfinished_at k a ≡ None → unfinished_among k (64 - a) a ≡ unfinished_among k (64 - (a + 1)) (a + 1)
+one_passed k a small none =
+    let more : 64 - a ≡ suc (64 - (a + 1)) = omega arith in
+    ap (λ n. unfinished_among k n a) more ∙ ap (λ o. here_or_later a o (unfinished_among k (64 - (a + 1)) (a + 1))) none
+
+pub one_found : (k : Kept) (a r : ℕ) → a < 64 → unfinished_at k a ≡ Some r → unfinished_among k (64 - a) a ≡ Some (a + 1, r)
+one_found k a r small is =
+    let more : 64 - a ≡ suc (64 - (a + 1)) = omega arith in
+    ap (λ n. unfinished_among k n a) more ∙ ap (λ o. here_or_later a o (unfinished_among k (64 - (a + 1)) (a + 1))) is
+
+pub none_left : (k : Kept) (a : ℕ) → 64 ≤ a → unfinished_among k (64 - a) a ≡ None
+none_left k a past = let none : 64 - a ≡ 0 = omega arith in ap (λ n. unfinished_among k n a) none
