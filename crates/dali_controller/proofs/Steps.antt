@@ -609,14 +609,16 @@ halts_by_address w b m n o new h has other order state =
     halted w b n o new h (inl (m, subst (λ xs. Has xs (b, m)) (entries_of w h.table) has, other)) order state
 
 -- or the gear with another address
+pub contradicts_by_random : (w : Work) (b a n : ℕ) → Settles w b n → (HasAddress w.table.entries b → ⊥) → Has w.table.entries (a, n) → Contradicts w.kept.enrolled b n
+contradicts_by_random w b a n h none has = inr (
+  a,
+  subst (λ xs. Has xs (a, n)) (entries_of w h.table) has,
+  λ e. none (subst (HasAddress w.table.entries) e (has_map (λ q. q.0) w.table.entries (a, n) has)),
+)
+
 pub halts_by_random : (w : Work) (b a n : ℕ) (o : Order) (new : Machine) → Settles w b n → (HasAddress w.table.entries b → ⊥) → Has w.table.entries (a, n)
     → o ≡ Halt fault.Conflict → new ≡ machine_ordered (machine_of w) o → IsNext (machine_of w) o new
-halts_by_random w b a n o new h none has order state =
-    halted w b n o new h (inr (
-      a,
-      subst (λ xs. Has xs (a, n)) (entries_of w h.table) has,
-      λ e. none (subst (HasAddress w.table.entries) e (has_map (λ q. q.0) w.table.entries (a, n) has)),
-    )) order state
+halts_by_random w b a n o new h none has order state = halted w b n o new h (contradicts_by_random w b a n h none has) order state
 
 enrols_at : (w : Work) (b n : ℕ) → Settles w b n → (HasAddress w.kept.enrolled b → ⊥) → (HasRandom w.kept.enrolled n → ⊥) → IsOrdered (machine_of w) (Commit (Enrol b n))
 enrols_at w b n h none fresh =

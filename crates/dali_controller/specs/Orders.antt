@@ -13,7 +13,7 @@ use Rattle.dali_script.specs.declared.records.Record.TheVariants.{Reserve, Enrol
 use Rattle.dali_script.specs.declared.trace.Entry.{Entry}
 use Rattle.dali_script.specs.declared.stage.Stage.{Stage}
 use Rattle.dali_script.specs.declared.stage.Stage.TheVariants.{Terminated, Probed, Unnamed}
-use Rattle.dali_script.specs.declared.stage.Stage.TheVariants.{Withdrawn}
+use Rattle.dali_script.specs.declared.stage.Stage.TheVariants.{Withdrawn, Spelled}
 use Rattle.dali_script.specs.Records.{Assignment, Has, HasRandom, Fits, MayAdd, IsLeastFree}
 use Rattle.dali_script.specs.Records.{IsFull}
 use Rattle.dali_script.specs.Scripts.{Lawful}
@@ -155,12 +155,25 @@ AfterMask t r (Commit (Release a n)) = ⊥
 AfterMask t r (Done e) = ⊥
 AfterMask t r (Halt w) = ⊥
 
--- gear that was withdrawn is enrolled, unless the table has it or contradicts it
-abbrev pub AfterFinding : Machine → SearchAddress → ℕ → Order → Type 0
-AfterFinding t r b (Put p f) = Has t.kept.enrolled (b, value_of r)
-AfterFinding t r b (Commit x) = x ≡ Enrol b (value_of r)
-AfterFinding t r b (Done e) = ⊥
-AfterFinding t r b (Halt w) = Contradicts t.kept.enrolled b (value_of r)
+-- gear that was found is enrolled, unless the table has it or contradicts it
+abbrev pub AfterFinding : Machine → ℕ → ℕ → Order → Type 0
+AfterFinding t b n (Put p f) = Has t.kept.enrolled (b, n)
+AfterFinding t b n (Commit x) = x ≡ Enrol b n
+AfterFinding t b n (Done e) = ⊥
+AfterFinding t b n (Halt w) = Contradicts t.kept.enrolled b n
+
+-- once gear is enrolled, another address that is reserved for it is released, if one is
+abbrev pub AfterEnrolled : Machine → ℕ → ℕ → Order → Type 0
+AfterEnrolled t b n (Put p f) = (a : ℕ) → Has t.kept.reserved (a, n) → a ≡ b
+AfterEnrolled t b n (Commit x) = (a : ℕ) × Has t.kept.reserved (a, n) × (x ≡ Release a n)
+AfterEnrolled t b n (Done e) = ⊥
+AfterEnrolled t b n (Halt w) = ⊥
+
+-- The queries of a random address found the gear that was visited; or an enrolment was kept.
+pub record IsFollowed (t : Machine) (o : Order) : Type 0 where
+  pub told : (b n : ℕ) → stage_of t.trace ≡ Spelled b (Some n) → n ≡ value_of t.course.number
+      → AfterFinding t b n o
+  pub enrolled : (b n : ℕ) → t.last ≡ Some (Commit (Enrol b n)) → AfterEnrolled t b n o
 
 -- THE ORDERS of a machine that was told an input.
 pub record IsOrdered (t : Machine) (o : Order) : Type 0 where
@@ -170,7 +183,8 @@ pub record IsOrdered (t : Machine) (o : Order) : Type 0 where
   pub given_up : t.tries ≡ 8 → o ≡ Done GaveUp
   pub silent : t.silent ≡ 16 → closing_by t o ≡ Some GaveUp
   pub unnamed : (r : SearchAddress) → stage_of t.trace ≡ Unnamed r → AfterMask t r o
-  pub found : (r : SearchAddress) (b : ℕ) → stage_of t.trace ≡ Withdrawn r b → AfterFinding t r b o
+  pub found : (r : SearchAddress) (b : ℕ) → stage_of t.trace ≡ Withdrawn r b
+      → AfterFinding t b (value_of r) o
 
 -- the same for each input: where a record could not be kept, the machine halts
 abbrev pub IsAnswered : Machine → Input → Order → Type 0

@@ -44,6 +44,11 @@ impl Work {
     ghost use Rattle.dali_controller.specs.Course.{opening, probing, searching_anew, visiting, resolving, closing};
     ghost use Rattle.dali_controller.specs.Course.{going_on};
     ghost use Rattle.dali_controller.specs.Next.{course_by, next_course, silenced, BeginsWith};
+    ghost use Rattle.dali_controller.specs.Machine.{machine_told};
+    ghost use Rattle.dali_controller.specs.Orders.{AfterFinding, AfterEnrolled};
+    ghost use Rattle.dali_script.specs.declared.records.Record.TheVariants.{Enrol};
+    ghost use Rattle.dali_script.specs.declared.stage.Stage.TheVariants.{Spelled};
+    ghost use Rattle.dali_script.specs.Stages.{stage_of};
 
     /// The start: visits to what is unfinished, and then an opening.
     pub(crate) fn start(&mut self) -> Order
@@ -162,6 +167,8 @@ impl Work {
     fn after(&mut self, stage: Stage) -> Order
         requires { IsHeard self.old stage }
 
+        ensures told { (b n : ℕ) → stage_of self.old.trace ≡ Spelled b (Some n) → n ≡ value_of self.old.number
+            → AfterFinding (machine_of self.old) b n result }
         ensures begins { BeginsWith (course_of self.new) result }
         ensures course { course_of self.new ≡ course_by (machine_of self.old) result }
         ensures next { IsNext (machine_of self.old) result (machine_of self.new) }
@@ -178,6 +185,8 @@ impl Work {
         requires heard { IsHeard self.old stage }
         requires over { turn_of self.old.purpose self.old.number stage ≡ None }
 
+        ensures told { (b n : ℕ) → stage_of self.old.trace ≡ Spelled b (Some n) → n ≡ value_of self.old.number
+            → AfterFinding (machine_of self.old) b n result }
         ensures begins { BeginsWith (course_of self.new) result }
         ensures course { course_of self.new ≡ course_by (machine_of self.old) result }
         ensures next { IsNext (machine_of self.old) result (machine_of self.new) }
@@ -308,6 +317,8 @@ impl Work {
     fn resolved(&mut self, short: Short, number: Option<Random24>) -> Order
         requires { IsHeard self.old (stage.Spelled short number) }
 
+        ensures told { (n : ℕ) → number ≡ Some n → n ≡ value_of self.old.number
+            → AfterFinding (machine_of self.old) short n result }
         ensures begins { BeginsWith (course_of self.new) result }
         ensures course { course_of self.new ≡ course_by (machine_of self.old) result }
         ensures next { IsNext (machine_of self.old) result (machine_of self.new) }
@@ -355,6 +366,7 @@ impl Work {
     fn settle(&mut self, short: Short, random: Random24) -> Order
         requires { Settles self.old short random }
 
+        ensures found { AfterFinding (machine_of self.old) short random result }
         ensures begins { BeginsWith (course_of self.new) result }
         ensures course { course_of self.new ≡ course_by (machine_of self.old) result }
         ensures next { IsNext (machine_of self.old) result (machine_of self.new) }
@@ -395,6 +407,8 @@ impl Work {
         requires fine { IsFine self.old }
         requires ordered { record_ordered self.old.last ≡ Some added }
 
+        ensures enrolled { (b n : ℕ) → added ≡ Enrol b n
+            → AfterEnrolled (machine_told (machine_of self.old) input.Committed) b n result }
         ensures begins { BeginsWith (course_of self.new) result }
         ensures step { IsStep (machine_of self.old) input.Committed result (machine_of self.new) }
         ensures fine { IsFine self.new }
@@ -416,6 +430,7 @@ impl Work {
     fn enrolled(&mut self, short: Short, random: Random24) -> Order
         requires { Enrolled self.old short random }
 
+        ensures enrolled { AfterEnrolled (machine_of self.old) short random result }
         ensures begins { BeginsWith (course_of self.new) result }
         ensures course { course_of self.new ≡ course_by (machine_of self.old) result }
         ensures next { IsNext (machine_of self.old) result (machine_of self.new) }
