@@ -1,20 +1,32 @@
 use Rattle.std.proofs.Common.{◌≡◌, ℕ, ◌+◌, ◌-◌, ◌<◌, ◌≤◌, inl, inr, Bool, true, false, List, [], ◌∷◌, ◌++◌, refl, sym, ap, subst, ◌∙◌, arith, Option, Some, None}
 use Rattle.std.specs.Prelude.{◌==◌, MatchOption, is_some, suc, if◌then◌else◌}
 use Rattle.std.proofs.lemmas.Bool.Decides.{nat_tests}
+use Rattle.dali_frame.specs.declared.frames.Forward.{Forward}
 use Rattle.dali_frame.specs.declared.frames.Answer.{Answer}
+use Rattle.dali_frame.specs.Random.{value_of}
+use Rattle.dali_script.specs.declared.records.Record.{Record}
+use Rattle.dali_script.specs.declared.records.Record.TheVariants.{Enrol}
 use Rattle.dali_script.specs.declared.stage.Stage.{Stage}
+use Rattle.dali_script.specs.declared.stage.Stage.TheVariants.{Free, Spelled}
 use Rattle.dali_script.specs.Records.{Assignment, Kept, Has, IsOnce, addresses, randoms, HasAddress, HasRandom}
 use Rattle.dali_script.specs.Stages.{stage_of}
 use Rattle.dali_script.proofs.Lists.{has_map}
 use Rattle.dali_script.proofs.Members.{same_member}
+use Rattle.dali_script.proofs.Transactions.{stage_none}
+use Rattle.dali_script.specs.declared.orders.Input.TheVariants as input
 use Rattle.dali_script.specs.declared.orders.Order.{Order}
+use Rattle.dali_script.specs.declared.orders.Order.TheVariants.{Put, Commit, Done, Halt}
+use Rattle.dali_script.specs.declared.orders.Due.TheVariants as due
+use Rattle.dali_script.specs.Due.{due_after, frame_put, record_ordered}
 use Rattle.dali_search.specs.declared.step.Step.{Step}
 use Rattle.dali_search.specs.declared.step.Step.TheVariants.{Again, Found, Nobody}
 use Rattle.dali_search.specs.Least.{Search, step_after, probe_after}
 use Rattle.dali_controller.specs.declared.work.Work.{Work}
 use Rattle.dali_controller.specs.Course.{Course, is_yes, answered, next_probe, after_step, probed, number_at, address_for, unless_enrolled, unfinished_at, unfinished_among, here_or_later}
+use Rattle.dali_controller.specs.Machine.{Machine, machine_lost, machine_committed, machine_told}
 use Rattle.dali_controller.specs.Next.{begins_at, course_by}
-use Rattle.dali_controller.specs.Moments.{machine_of, course_of, Starts}
+use Rattle.dali_controller.specs.Orders.{AfterFinding, AfterEnrolled, IsFollowed}
+use Rattle.dali_controller.specs.Moments.{machine_of, course_of, Pending, IsFine, Starts}
 
 -- THE COURSE OF A MACHINE is the one of the table of moments.
 
@@ -108,3 +120,50 @@ one_found k a r small is =
 
 pub none_left : (k : Kept) (a : ℕ) → 64 ≤ a → unfinished_among k (64 - a) a ≡ None
 none_left k a past = let none : 64 - a ≡ 0 = omega arith in ap (λ n. unfinished_among k n a) none
+
+-- ---------------------------------------------------------------- what follows
+
+-- the start, and a transaction that was lost, follow neither queries nor an enrolment
+pub followed_start : (w : Work) (o : Order) → IsFine w → w.last ≡ None → IsFollowed (machine_told (machine_of w) input.Start) o
+followed_start w o fine none = record {
+  told = λ b n s e. absurd (let there : Free ≡ Spelled b (Some n) = sym (subst (Pending w) none fine.pending).free ∙ s in cc);
+  enrolled = λ b n e. absurd (let there : None ≡ Some (Commit (Enrol b n)) = sym none ∙ e in cc);
+}
+
+pub followed_lost : (w : Work) (o : Order) → due_after w.last ≡ due.Bus → IsFollowed (machine_lost (machine_of w)) o
+followed_lost w o bus = record {
+  told = λ b n s e. absurd (let there : Free ≡ Spelled b (Some n) = sym stage_none ∙ s in cc);
+  enrolled = λ b n e. absurd (let there = subst (λ l. due_after l ≡ due.Bus) e bus in cc);
+}
+
+heard_last : (m : Machine) (f : Forward) (h : Answer) → frame_put m.last ≡ Some f → (machine_told m (input.Heard h)).last ≡ m.last
+heard_last m f h put = rw put refl
+
+-- a frame that was heard follows no enrolment
+pub followed_heard : (w mid : Work) (o : Order) (f : Forward) (h : Answer) → frame_put w.last ≡ Some f → machine_of mid ≡ machine_told (machine_of w) (input.Heard h)
+    → ((b n : ℕ) → stage_of mid.trace ≡ Spelled b (Some n) → n ≡ value_of mid.number → AfterFinding (machine_of mid) b n o) → IsFollowed (machine_told (machine_of w) (input.Heard h)) o
+followed_heard w mid o f h put is told = record {
+  told = subst (λ (t : Machine). (b n : ℕ) → stage_of t.trace ≡ Spelled b (Some n) → n ≡ value_of t.course.number → AfterFinding t b n o) is told;
+  enrolled = λ b n e. absurd (let there = subst (λ l. frame_put l ≡ Some f) (sym (heard_last (machine_of w) f h put) ∙ e) put in cc);
+}
+
+-- a record that is kept follows no queries
+pub followed_committed : (w : Work) (x : Record) (o : Order) → IsFine w → record_ordered w.last ≡ Some x
+    → ((b n : ℕ) → x ≡ Enrol b n → AfterEnrolled (machine_told (machine_of w) input.Committed) b n o) → IsFollowed (machine_told (machine_of w) input.Committed) o
+followed_committed w x o fine ordered enrolled = record {
+  told = λ b n s e. absurd (let there : Free ≡ Spelled b (Some n) = sym (free_stored w w.last x ordered fine.pending) ∙ subst (λ r. stage_of (machine_committed (machine_of w) r).trace ≡ Spelled b (Some n)) ordered s in cc);
+  enrolled = λ b n e. enrolled b n (same x b n (sym ordered ∙ ap record_ordered (sym (committed_stays (machine_of w) (record_ordered w.last)) ∙ e)));
+} where
+  same : (x : Record) (b n : ℕ) → Some x ≡ Some (Enrol b n) → x ≡ Enrol b n
+  same x b n e = cc
+
+  committed_stays : (m : Machine) (r : Option Record) → (machine_committed m r).last ≡ m.last
+  committed_stays m None = refl
+  committed_stays m (Some r) = refl
+
+  free_stored : (w : Work) (l : Option Order) (x : Record) → record_ordered l ≡ Some x → Pending w l → stage_of w.trace ≡ Free
+  free_stored w None x is p = absurd (cc)
+  free_stored w (Some (Put q f)) x is p = absurd (cc)
+  free_stored w (Some (Commit y)) x is p = p.free
+  free_stored w (Some (Done e)) x is p = absurd (cc)
+  free_stored w (Some (Halt why)) x is p = absurd (cc)

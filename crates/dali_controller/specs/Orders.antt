@@ -191,6 +191,10 @@ abbrev pub IsAnswered : Machine → Input → Order → Type 0
 IsAnswered m input.CommitFailed o = o ≡ Halt fault.Store
 IsAnswered m i o = IsOrdered (machine_told m i) o
 
+abbrev pub IsFollowedAt : Machine → Input → Order → Type 0
+IsFollowedAt m input.CommitFailed o = Unit {0}
+IsFollowedAt m i o = IsFollowed (machine_told m i) o
+
 -- THE STATE AFTER A STEP, by the state before it, the input and the order.
 abbrev pub machine_after : Machine → Input → Order → Machine
 machine_after m i o = machine_ordered (machine_told m i) o

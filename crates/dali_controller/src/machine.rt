@@ -3,7 +3,7 @@ ghost use Rattle.dali_script.specs.Records.{Fits};
 ghost use Rattle.dali_script.specs.Due.{due_after, accepts, record_ordered};
 ghost use Rattle.dali_controller.specs.Machine.{at_first, table_of};
 ghost use Rattle.dali_controller.specs.Next.{BeginsWith};
-ghost use Rattle.dali_controller.specs.Orders.{IsAnswered, machine_after};
+ghost use Rattle.dali_controller.specs.Orders.{IsAnswered, IsFollowedAt, machine_after};
 
 use crate::entries::table_of;
 use crate::error::{MachineError, StepError};
@@ -108,6 +108,7 @@ impl Machine {
         ensures order { IfOk result (λ order. IsAnswered self.old input order) }
         ensures state { IfOk result (λ order. self.new ≡ machine_after self.old input order) }
         ensures begins { IfOk result (BeginsWith self.new.course) }
+        ensures followed { IfOk result (λ order. IsFollowedAt self.old input order) }
         ensures block { self.new.kept.block ≡ self.old.kept.block }
         ensures fits { IfOk result (λ order. IfSome (record_ordered (Some order)) (Fits self.old.kept.block)) }
     {

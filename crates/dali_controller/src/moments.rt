@@ -45,7 +45,7 @@ impl Work {
     ghost use Rattle.dali_controller.specs.Course.{going_on};
     ghost use Rattle.dali_controller.specs.Next.{course_by, next_course, silenced, BeginsWith};
     ghost use Rattle.dali_controller.specs.Machine.{machine_told};
-    ghost use Rattle.dali_controller.specs.Orders.{AfterFinding, AfterEnrolled};
+    ghost use Rattle.dali_controller.specs.Orders.{AfterFinding, AfterEnrolled, IsFollowed};
     ghost use Rattle.dali_script.specs.declared.records.Record.TheVariants.{Enrol};
     ghost use Rattle.dali_script.specs.declared.stage.Stage.TheVariants.{Spelled};
     ghost use Rattle.dali_script.specs.Stages.{stage_of};
@@ -55,6 +55,7 @@ impl Work {
         requires fine { IsFine self.old }
         requires unstarted { self.old.last ≡ None }
 
+        ensures followed { IsFollowed (machine_told (machine_of self.old) input.Start) result }
         ensures begins { BeginsWith (course_of self.new) result }
         ensures step { IsStep (machine_of self.old) input.Start result (machine_of self.new) }
         ensures fine { IsFine self.new }
@@ -155,6 +156,7 @@ impl Work {
         requires fine { IsFine self.old }
         requires put { frame_put self.old.last ≡ Some frame }
 
+        ensures followed { IsFollowed (machine_told (machine_of self.old) (input.Heard heard)) result }
         ensures begins { BeginsWith (course_of self.new) result }
         ensures step { IsStep (machine_of self.old) (input.Heard heard) result (machine_of self.new) }
         ensures fine { IsFine self.new }
@@ -387,6 +389,7 @@ impl Work {
         requires fine { IsFine self.old }
         requires put { due_after self.old.last ≡ due.Bus }
 
+        ensures followed { IsFollowed (machine_lost (machine_of self.old)) result }
         ensures begins { BeginsWith (course_of self.new) result }
         ensures course { course_of self.new ≡ course_by (machine_lost (machine_of self.old)) result }
         ensures next { IsNext (machine_lost (machine_of self.old)) result (machine_of self.new) }

@@ -1,6 +1,7 @@
 use Rattle.std.proofs.Common.{◌≡◌, ◌+◌, arith}
 use Rattle.std.proofs.lemmas.Bool.Decides.{nat_tests}
 use Rattle.dali_controller.proofs.Steps.{lost_begins, lost_ended, lost_next}
+use Rattle.dali_controller.proofs.Courses.{followed_lost}
 use Rattle.dali_controller.proofs.work.Work.lost.Goals as goal
 
 pub returns-then-self-eq-TRIES-clause-next : goal.returns-then-self-eq-TRIES-clause-next
@@ -15,3 +16,9 @@ begin-requires c =
 
 pub returns-clause-next : goal.returns-clause-next
 returns-clause-next c = lost_next c.args.self.now c.new-self.result _ _ c.new-self.ensures c.begin.ensures.next
+
+pub returns-then-self-eq-TRIES-clause-followed : goal.returns-then-self-eq-TRIES-clause-followed
+returns-then-self-eq-TRIES-clause-followed c = followed_lost c.args.self.now c.done.result c.requires.put
+
+pub returns-clause-followed : goal.returns-clause-followed
+returns-clause-followed c = followed_lost c.args.self.now c.begin.result c.requires.put
