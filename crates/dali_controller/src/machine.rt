@@ -46,8 +46,8 @@ use std::marker::Model;
 /// where no gear answered; `Destroyed` for each frame that was destroyed, whether gear took it or not; `Lapsed` where
 /// the bus is lost before the frame was sent.
 ///
-/// Contracts see the records, the running transaction, the last finding, the last order, and the counts by which it
-/// gives up.
+/// Contracts see the records, the running transaction, the last finding, the last order, the counts by which it gives
+/// up, and its course: what the transaction is for, and where its search and its visits are.
 #[derive(Drop)]
 pub struct Machine {
     work: Work,
@@ -101,7 +101,8 @@ impl Machine {
     /// Takes an input, and orders what is to be done next. It takes no memory.
     ///
     /// `NotDue`: the machine waits for something else, and nothing changed; `due` says for what. After `Done` and
-    /// `Halt` it waits for nothing. The block stays, and a record that is ordered fits it.
+    /// `Halt` it waits for nothing. The block stays, and a record that is ordered fits it. Which transaction begins next
+    /// is a function of what the machine was told (`course`), and its first frame is the one that is put.
     pub fn step(&mut self, input: Input) -> Result<Order, StepError>
         ensures due { IsOk result ↔ (accepts (due_after self.old.last) input ≡ true) }
         ensures not_due { OnErr result (self.new ≡ self.old) }

@@ -66,7 +66,8 @@ impl<S: Alter + Drop> SqliteKeep<S> {
     /// - 5 `BadStore`: the table's rows are no list of records of this block. That is so where `seq` isn't 1, 2, ..
     ///   without a gap, where a value is no whole number in the range of its column, where a kind is none of 1, 2
     ///   and 3, where a reservation lies outside the block, where an address or a random address stands in two records
-    ///   of one kind, or where one is released that is not reserved so. `last` of the clause `bad` is the connection as it was dropped.
+    ///   of one kind, or where one is released that is not reserved so. `last` of the clause `bad` is the connection as
+    ///   it was dropped.
     /// - 2 `StoreFailed`: the connection is inside a transaction, a table of this name cannot be read so, or the
     ///   disk failed.
     /// - 1 `NoMemory`.
@@ -144,8 +145,8 @@ impl<S: Alter + Drop> Keep for SqliteKeep<S> {
 
     /// Adds one row, in one statement that SQLite commits. It takes memory.
     ///
-    /// `AddressTaken`, `RandomTaken` and `NotReserved` are told before the statement. There are at most 9,223,372,036,854,775,807
-    /// records; one more is `StoreFailed`.
+    /// `AddressTaken`, `RandomTaken` and `NotReserved` are told before the statement. There are at most
+    /// 9,223,372,036,854,775,807 records; one more is `StoreFailed`.
     fn commit(&mut self, added: Record) -> Result<(), KeepError> {
         if self.must_read {
             return Err(KeepError::StoreFailed);

@@ -390,8 +390,8 @@ fn has_after<R: Abort>(rt: &R, machine: &mut Machine, moments: &[Moment], wanted
     are_pairs(rt, machine.table().entries(), wanted);
 }
 
-/// The first of two visits hears another address than the reserved one: it is enrolled as it was heard, and the reserved
-/// one is released. The second is given its own.
+/// The first of two visits hears another address than the reserved one: it is enrolled as it was heard, and the
+/// reserved one is released. The second is given its own.
 #[test]
 fn visits_enrol_what_they_hear(rt: HostRuntime) -> Result<(), Fail> {
     let records = [
