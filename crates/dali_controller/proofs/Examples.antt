@@ -1,9 +1,8 @@
-use Rattle.std.proofs.Common.{◌≡◌, ℕ, true, false, Some, None, refl, sym, ◌∙◌}
-use Rattle.dali_frame.specs.declared.frames.Answer.TheVariants.{Silence}
+use Rattle.std.proofs.Common.{◌≡◌, ℕ, [], ◌∷◌, true, false, Some, None, refl, sym, ◌∙◌}
+use Rattle.dali_frame.specs.declared.frames.Answer.TheVariants.{Silence, Damaged}
 use Rattle.dali_frame.specs.declared.frames.Forward.{Forward}
 use Rattle.dali_frame.specs.declared.numbers.SearchAddress.{SearchAddress}
-use Rattle.dali_special.specs.Command.{frame}
-use Rattle.dali_script.specs.declared.stage.Stage.TheVariants.{Probed, Unanswered, Inconclusive, Withdrawn}
+use Rattle.dali_script.specs.declared.stage.Stage.TheVariants.{Unanswered, Inconclusive, Withdrawn}
 use Rattle.dali_script.specs.declared.records.Record.TheVariants.{Enrol, Release}
 use Rattle.dali_script.specs.Records.{Kept}
 use Rattle.dali_script.specs.Stages.{stage_of}
@@ -13,22 +12,29 @@ use Rattle.dali_script.specs.declared.orders.Order.TheVariants.{Put, Commit, Don
 use Rattle.dali_script.specs.declared.orders.End.{End}
 use Rattle.dali_script.specs.declared.orders.End.TheVariants.{AllFound}
 use Rattle.dali_script.specs.Due.{due_after, accepts}
+use Rattle.dali_search.specs.Least.{at_first as search_at_first}
+use Rattle.dali_controller.specs.Course.{course_at_first, sought, probed, answered, searching_anew, closing, next_unfinished}
+use Rattle.dali_controller.specs.Next.{next_course}
 use Rattle.dali_controller.specs.Machine.{Machine, at_first, machine_lost, silent_after}
-use Rattle.dali_controller.specs.Orders.{closing_by, IsWarranted}
+use Rattle.dali_controller.specs.Orders.{IsWarranted}
 
 -- WORKED EXAMPLES of the definitions.
 
--- TERMINATE before an opening was complete begins the opening, and no close
-opening_is_no_close : (k : Kept) → closing_by (at_first 0 k) (Put 3 (frame 0xA1 0)) ≡ None
-opening_is_no_close k = refl
+-- a search begins with FFFFFE; silence under it closes with all-found, and a yes halves what is left
+nobody_is_left : probed (searching_anew course_at_first) Silence ≡ closing (record (searching_anew course_at_first) { search = answered search_at_first false }) AllFound
+nobody_is_left = refl
 
--- after a probe that was heard as silence it begins a close with all-found
-close_after_a_silent_probe : (t : Machine) (r : SearchAddress) → t.opened ≡ true → t.closing ≡ None → stage_of t.trace ≡ Probed r Silence → closing_by t (Put 3 (frame 0xA1 0)) ≡ Some AllFound
-close_after_a_silent_probe t r opened none stage = rw (opened, none, stage) refl
+half_is_asked : (probed (searching_anew course_at_first) Damaged).number ≡ sought 0x7FFFFF
+half_is_asked = refl
 
--- a close that was lost is begun again with its end
-close_again : (t : Machine) (e : End) → t.opened ≡ true → t.closing ≡ Some e → closing_by t (Put 3 (frame 0xA1 0)) ≡ Some e
-close_again t e opened is = rw (opened, is) refl
+-- a transaction that was lost is begun again
+same_again : (m : Machine) (p : ℕ) (f : Forward) → m.last ≡ Some (Put p f) → next_course (machine_lost m) ≡ m.course
+unfolding stage_of
+same_again m p f last = rw last refl
+
+-- the unfinished reservation with the least short address is visited first, and one that is enrolled is passed over
+least_is_visited : next_unfinished (record { block = record { first = 0; last = 3 }; reserved = (3, 7) ∷ (1, 5) ∷ (0, 6) ∷ []; enrolled = (0, 6) ∷ [] }) 0 ≡ Some (2, 5)
+least_is_visited = refl
 
 -- a visit that led to no gear counts only after the opening, and one that led to gear ends the row
 early_visits_do_not_count : (r : SearchAddress) → silent_after (Unanswered r) false 3 ≡ 3

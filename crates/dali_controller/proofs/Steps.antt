@@ -1,10 +1,10 @@
 use Rattle.std.proofs.Common.{map, take, lit<, length, get_or, ◌≡◌, ◌⊎◌, inl, inr, ℕ, ◌+◌, ◌<◌, ◌≤◌, Bool, true, false, List, [], ◌∷◌, ◌++◌, refl, sym, ap, subst, ◌∙◌, arith, Option, Some, None}
-use Rattle.std.specs.Prelude.{◌==◌, ◌&&◌, zero, suc, if◌then◌else◌, unwrap_or}
+use Rattle.std.specs.Prelude.{◌==◌, zero, suc, if◌then◌else◌}
 use Rattle.dali_frame.specs.declared.frames.Forward.{Forward}
 use Rattle.dali_frame.specs.declared.frames.Answer.{Answer}
 use Rattle.dali_frame.specs.declared.frames.Answer.TheVariants.{Silence, Byte, Damaged}
 use Rattle.dali_frame.specs.declared.numbers.SearchAddress.{SearchAddress}
-use Rattle.dali_frame.specs.Short.{code_of, short_of}
+use Rattle.dali_frame.specs.Short.{short_of}
 use Rattle.dali_frame.specs.Random.{value_of, MASK24}
 use Rattle.dali_frame.specs.Priority.{FIRST, LATER}
 use Rattle.dali_special.specs.declared.command.Target.TheVariants.{Unaddressed}
@@ -41,11 +41,11 @@ use Rattle.dali_controller.specs.declared.purpose.Purpose.{Purpose}
 use Rattle.dali_controller.specs.declared.purpose.Purpose.TheVariants.{Opening, Probing, Visiting, Resolving, Closing}
 use Rattle.dali_controller.specs.declared.work.Work.{Work}
 use Rattle.dali_script.specs.Due.{due_after, frame_put}
-use Rattle.dali_controller.specs.Course.{first_of}
+use Rattle.dali_controller.specs.Course.{Course, first_of, closing_of}
 use Rattle.dali_controller.specs.Machine.{machine_lost, Machine, table_of, opened_after, silent_after, tries_after}
-use Rattle.dali_controller.specs.Next.{begins_at}
-use Rattle.dali_controller.specs.Orders.{Contradicts, closing_by, Cause, IsBegun, AfterMask, IsOrdered, machine_ordered, end_at}
-use Rattle.dali_controller.specs.Moments.{FoundAt, IsBetween, Closes, Settles, closing_of, machine_of, Sends, Arrived, Knows, KnowsAt, IsCalm, CalmAt, IsReady, IsSending, Pending, IsFine, IsHeard, Turns, Begins, IsNext}
+use Rattle.dali_controller.specs.Next.{begins_at, course_by}
+use Rattle.dali_controller.specs.Orders.{Contradicts, IsBegun, AfterMask, IsOrderedTo, machine_ordered, closing as closing_in}
+use Rattle.dali_controller.specs.Moments.{FoundAt, IsBetween, Closes, Settles, course_of, machine_of, Sends, Arrived, Knows, KnowsAt, IsCalm, CalmAt, IsReady, IsSending, Pending, IsFine, IsHeard, Turns, Begins, IsNext}
 
 -- THE COMMANDS OF A TRANSACTION. A command that is sent at a stage may follow there and is read from its frame; it is no
 -- direct arc power; past the first one no close runs; and what is known where it leads to.
@@ -198,10 +198,10 @@ put_fine_at w s c p f h e read = record {
 pub put_fine : (w : Work) (s : Stage) (c : Command) (p : ℕ) (f : Forward) → IsHeard w s → Sends w.kept w.number w.purpose s c → (IsSpelled c → command_of f ≡ c) → IsFine (record w { last = Some (Put p f) })
 put_fine w s c p f h e read = put_fine_at w s c p f h e (read (goes w.kept w.number w.purpose s c e).spelled)
 
-begun_none : (t : Machine) (o : Option End) → o ≡ None → t.closing ≡ None → IsBegun t o
+begun_none : (t : Machine) (o : Option End) → o ≡ None → closing_in t ≡ None → IsBegun t o
 begun_none t o is none = subst (IsBegun t) (sym is) none
 
-put_masked : (w : Work) (s : Stage) (c : Command) (r : SearchAddress) → Sends w.kept w.number w.purpose s c → s ≡ Unnamed r → AfterMask (machine_of w) r (Put LATER (frame_of c))
+put_masked : (w : Work) (s : Stage) (c : Command) (r : SearchAddress) → Sends w.kept w.number w.purpose s c → s ≡ Unnamed r → AfterMask (machine_of w) (course_of w) r (Put LATER (frame_of c))
 put_masked w s c r e is =
     let there : Sends w.kept w.number w.purpose (Unnamed r) c = subst (λ x. Sends w.kept w.number w.purpose x c) is e in
     inl (there.2.0, there.2.2.reserved_for, refl, ap frame_of there.2.3)
@@ -242,33 +242,16 @@ put_next w s c p f h e later first is =
     (subst (λ g. IsNext (machine_of w) (Put LATER g) (machine_of (record w { last = Some (Put LATER g) }))) (sym is) (put_next_at w s c h e later))
 
 -- TO BEGIN
-closes : (w : Work) (p : Purpose) (n : SearchAddress) → Begins w p n → closing_by (machine_of w) (Put FIRST (frame_of (first_of p n))) ≡ closing_of p
-closes w Opening n b = rw b.knows b.turns
-closes w (Closing e) n b = rw b.knows (go b.turns.cause) where
-  go : (closing_of w.purpose ≡ Some e) ⊎ ((closing_of w.purpose ≡ None) × (end_at (stage_of w.trace) ≡ e) × Cause (machine_of w) e)
-      → Some (unwrap_or (closing_of w.purpose) (end_at (stage_of w.trace))) ≡ Some e
-  go (inl is) = rw is refl
-  go (inr is) = rw (is.0, is.1) refl
-closes w (Resolving a) n b = go (code_of a == 0xA1) where
-  go : (x : Bool) → (if (FIRST == FIRST) && ((x && (0xC2 == 0)) && w.opened) then Some (unwrap_or (closing_of w.purpose) (end_at (stage_of w.trace))) else closing_of w.purpose) ≡ None
-  go true = b.turns
-  go false = b.turns
-closes w _ n b = b.turns
-
 begun : (w : Work) (p : Purpose) → Turns w p → IsBegun (machine_of w) (closing_of p)
-begun w (Closing e) t = go t.cause where
-  go : (closing_of w.purpose ≡ Some e) ⊎ ((closing_of w.purpose ≡ None) × (end_at (stage_of w.trace) ≡ e) × Cause (machine_of w) e)
-      → (closing_of w.purpose ≡ Some e) ⊎ ((closing_of w.purpose ≡ None) × Cause (machine_of w) e)
-  go (inl is) = inl is
-  go (inr is) = inr (is.0, is.2)
+begun w (Closing e) t = t.cause
 begun w _ t = t
 
 terminates : (p : Purpose) (n : SearchAddress) → (closing_of p ≡ None) ⊎ ((FIRST ≡ FIRST) × (frame_of (first_of p n) ≡ frame_of Terminate))
 terminates (Closing e) n = inr (refl, refl)
 terminates _ n = inl refl
 
-silent_closes : (p : Purpose) (i : ℕ) → IsCalm p i → i ≡ 16 → closing_of p ≡ Some GaveUp
-silent_closes (Closing e) i calm is = ap (λ x. Some x) (calm.1 is)
+silent_closes : (p : Purpose) (i : ℕ) → IsCalm p i → i ≡ 16 → p ≡ Closing GaveUp
+silent_closes (Closing e) i calm is = ap (λ x. Closing x) (calm.1 is)
 silent_closes _ i calm is = absurd (omega arith)
 
 first_spelled : (k : Kept) (n : SearchAddress) (s : Search) (o : Bool) (p : Purpose) → Knows k n s o p → IsSpelled (first_of p n)
@@ -287,32 +270,17 @@ begin_next_at : (w : Work) (p : Purpose) (n : SearchAddress) → Begins w p n
 begin_next_at w p n b =
     let tries : w.tries < 8 = b.tries in
     let small : IsSpelled (first_of p n) = first_spelled w.kept n w.search w.opened p b.knows in
-    let closed : closing_by (machine_of w) (Put FIRST (frame_of (first_of p n))) ≡ closing_of p = closes w p n b in
     record {
       order = record {
         allowed = inl (refl, first_lawful w.kept p n small);
         addressing = λ g is. (goes_first w.kept n p small).addressing g (sym (first_read w.kept p n small) ∙ is);
-        caused = (
-          subst (IsBegun (machine_of w)) (sym closed) (begun w p b.turns),
-          subst (λ o. (o ≡ None) ⊎ ((FIRST ≡ FIRST) × (frame_of (first_of p n) ≡ frame_of Terminate))) (sym closed) (terminates p n),
-        );
+        caused = (begun w p b.turns, terminates p n);
         given_up = λ e. absurd (omega arith);
-        silent = λ e. closed ∙ silent_closes p w.silent b.calm e;
-        unnamed = λ r e. let x = b.unnamed r e in inr (x.0, x.1, closed ∙ ap closing_of x.2);
+        silent = λ e. silent_closes p w.silent b.calm e;
+        unnamed = λ r e. let x = b.unnamed r e in inr x;
         found = b.found;
       };
-      state = ap (λ o. record {
-        id = w.id;
-        kept = w.kept;
-        trace = [];
-        finding = w.finding;
-        last = Some (Put FIRST (frame_of (first_of p n)));
-        tries = w.tries;
-        silent = w.silent;
-        opened = w.opened;
-        closing = o;
-        course = record { purpose = p; number = n; search = w.search; from = w.from };
-      }) (sym closed);
+      state = refl;
     }
 
 pub begin_next : (w : Work) (p : Purpose) (n : SearchAddress) (t : List Entry) (q : ℕ) (f : Forward) → Begins w p n → t ≡ [] → q ≡ FIRST → f ≡ frame_of (first_of p n)
@@ -465,7 +433,7 @@ closing w e n b = record {
   tries = b.tries;
   calm = b.calm;
   knows = b.opened;
-  turns = record { opened = b.opened; cause = inr (b.going, b.end, b.cause) };
+  turns = record { opened = b.opened; cause = inr (b.going, b.cause) };
   unnamed = λ r is. let x = b.unnamed r is in (x.0, x.1, ap (λ y. Closing y) x.2);
   found = λ r c is. absurd (b.found r c is);
 }
@@ -490,7 +458,7 @@ lost_begins w t fine put empty more =
       found = λ r b e. absurd (cc);
     }
 
-lost_ended_at : (w : Work) → IsReady w → w.tries + 1 ≡ 8 → IsOrdered (machine_lost (machine_of w)) (Done GaveUp)
+lost_ended_at : (w : Work) → IsReady w → w.tries + 1 ≡ 8 → IsOrderedTo (machine_lost (machine_of w)) (course_of w) (Done GaveUp)
 lost_ended_at w ready is =
     let free : stage_of [] ≡ Free = stage_none in
     record {
@@ -509,7 +477,8 @@ but_course new m is = subst (λ (n : Machine). n ≡ record m { course = n.cours
 pub lost_ended : (w : Work) (t : List Entry) (o : Order) (new : Machine) → IsFine w → due_after w.last ≡ due.Bus → t ≡ [] → w.tries + 1 ≡ 8 → o ≡ Done GaveUp
     → new ≡ machine_ordered (machine_of (record w { trace = t; tries = w.tries + 1 })) o → IsNext (machine_lost (machine_of w)) o new
 lost_ended w t o new fine put empty is done state = record {
-  order = subst (IsOrdered (machine_lost (machine_of w))) (sym done) (lost_ended_at w (waiting w w.last put fine.pending) is);
+  order = subst (λ c. IsOrderedTo (machine_lost (machine_of w)) c o) (sym (ap (λ (m : Machine). m.course) state ∙ ap (course_by (machine_of (record w { trace = t; tries = w.tries + 1 }))) done))
+      (subst (IsOrderedTo (machine_lost (machine_of w)) (course_of w)) (sym done) (lost_ended_at w (waiting w w.last put fine.pending) is));
   state = but_course new (machine_ordered (machine_lost (machine_of w)) o) (state ∙ ap (λ u. machine_ordered (machine_of (record w { trace = u; tries = w.tries + 1 })) o) empty);
 }
 
@@ -583,8 +552,8 @@ settles_resolved w b n m h number is =
 settled_calm : (w : Work) (b n : ℕ) → Settles w b n → w.silent < 16
 settled_calm w b n h = calm_less w.purpose w.silent h.going h.ready.calm
 
-halted_at : (w : Work) (b n : ℕ) → Settles w b n → Contradicts w.kept.enrolled b n → IsOrdered (machine_of w) (Halt fault.Conflict)
-halted_at w b n h conflict =
+halted_at : (w : Work) (c : Course) (b n : ℕ) → Settles w b n → Contradicts w.kept.enrolled b n → IsOrderedTo (machine_of w) c (Halt fault.Conflict)
+halted_at w c b n h conflict =
     let tries : w.tries < 8 = h.ready.tries in
     let calm : w.silent < 16 = settled_calm w b n h in
     record {
@@ -600,7 +569,7 @@ halted_at w b n h conflict =
     }
 
 halted : (w : Work) (b n : ℕ) (o : Order) (new : Machine) → Settles w b n → Contradicts w.kept.enrolled b n → o ≡ Halt fault.Conflict → new ≡ machine_ordered (machine_of w) o → IsNext (machine_of w) o new
-halted w b n o new h conflict is state = record { order = subst (IsOrdered (machine_of w)) (sym is) (halted_at w b n h conflict); state = but_course new (machine_ordered (machine_of w) o) state }
+halted w b n o new h conflict is state = record { order = subst (IsOrderedTo (machine_of w) new.course) (sym is) (halted_at w new.course b n h conflict); state = but_course new (machine_ordered (machine_of w) o) state }
 
 -- the table has the address for another gear
 pub halts_by_address : (w : Work) (b m n : ℕ) (o : Order) (new : Machine) → Settles w b n → Has w.table.entries (b, m) → (m ≡ n → ⊥)
@@ -620,8 +589,8 @@ pub halts_by_random : (w : Work) (b a n : ℕ) (o : Order) (new : Machine) → S
     → o ≡ Halt fault.Conflict → new ≡ machine_ordered (machine_of w) o → IsNext (machine_of w) o new
 halts_by_random w b a n o new h none has order state = halted w b n o new h (contradicts_by_random w b a n h none has) order state
 
-enrols_at : (w : Work) (b n : ℕ) → Settles w b n → (HasAddress w.kept.enrolled b → ⊥) → (HasRandom w.kept.enrolled n → ⊥) → IsOrdered (machine_of w) (Commit (Enrol b n))
-enrols_at w b n h none fresh =
+enrols_at : (w : Work) (c : Course) (b n : ℕ) → Settles w b n → (HasAddress w.kept.enrolled b → ⊥) → (HasRandom w.kept.enrolled n → ⊥) → IsOrderedTo (machine_of w) c (Commit (Enrol b n))
+enrols_at w c b n h none fresh =
     let tries : w.tries < 8 = h.ready.tries in
     let calm : w.silent < 16 = settled_calm w b n h in
     record {
@@ -639,8 +608,8 @@ enrols_at w b n h none fresh =
 pub enrols : (w : Work) (b n : ℕ) (o : Order) (new : Machine) → Settles w b n → (HasAddress w.table.entries b → ⊥) → (HasRandom w.table.entries n → ⊥)
     → o ≡ Commit (Enrol b n) → new ≡ machine_ordered (machine_of w) o → IsNext (machine_of w) o new
 enrols w b n o new h none fresh order state = record {
-  order = subst (IsOrdered (machine_of w)) (sym order)
-      (enrols_at w b n h (subst (λ xs. HasAddress xs b → ⊥) (entries_of w h.table) none) (subst (λ xs. HasRandom xs n → ⊥) (entries_of w h.table) fresh));
+  order = subst (IsOrderedTo (machine_of w) new.course) (sym order)
+      (enrols_at w new.course b n h (subst (λ xs. HasAddress xs b → ⊥) (entries_of w h.table) none) (subst (λ xs. HasRandom xs n → ⊥) (entries_of w h.table) fresh));
   state = but_course new (machine_ordered (machine_of w) o) state;
 }
 

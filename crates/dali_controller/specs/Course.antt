@@ -26,6 +26,11 @@ pub record Course : Type 0 where
   pub search : Search
   pub from : ℕ
 
+-- the end with which a close was begun
+abbrev pub closing_of : Purpose → Option End
+closing_of (Closing e) = Some e
+closing_of _ = None
+
 -- the search address of a number
 abbrev pub sought : ℕ → SearchAddress
 sought n = record { high = high_of n; middle = middle_of n; low = low_of n }

@@ -17,12 +17,11 @@ use Rattle.dali_script.specs.declared.orders.Input.TheVariants as input
 use Rattle.dali_script.specs.declared.orders.Order.{Order}
 use Rattle.dali_script.specs.declared.orders.End.{End}
 use Rattle.dali_script.specs.Due.{frame_put, record_ordered}
-use Rattle.dali_controller.specs.Course.{Course, course_at_first}
+use Rattle.dali_controller.specs.Course.{Course, course_at_first, closing_of}
 
 -- What contracts see of a machine: its number; what it keeps; the running transaction; its last
 -- finding; its last order; how often the transaction was lost; how many searches in a row led to no
--- gear; whether an opening was complete since the start; the end with which a close was begun; and the
--- course that it takes.
+-- gear; whether an opening was complete since the start; and the course that it takes.
 pub record Machine : Type 0 where
   pub id : ℕ
   pub kept : Kept
@@ -32,7 +31,6 @@ pub record Machine : Type 0 where
   pub tries : ℕ
   pub silent : ℕ
   pub opened : Bool
-  pub closing : Option End
   pub course : Course
 
 -- before the start
@@ -46,7 +44,6 @@ at_first id k = record {
   tries = 0;
   silent = 0;
   opened = false;
-  closing = None;
   course = course_at_first;
 }
 
@@ -86,10 +83,9 @@ machine_heard_to m t = record {
   trace = t;
   finding = later m.finding (finding_of t);
   last = m.last;
-  tries = tries_after (is_complete m.kept m.closing (stage_of t)) m.tries;
+  tries = tries_after (is_complete m.kept (closing_of m.course.purpose) (stage_of t)) m.tries;
   silent = silent_after (stage_of t) m.opened m.silent;
   opened = opened_after (stage_of t) m.opened;
-  closing = m.closing;
   course = m.course;
 }
 

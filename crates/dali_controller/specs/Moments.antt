@@ -38,17 +38,13 @@ use Rattle.dali_controller.specs.declared.purpose.Purpose.{Purpose}
 use Rattle.dali_controller.specs.declared.purpose.Purpose.TheVariants.{Opening, Probing, Visiting}
 use Rattle.dali_controller.specs.declared.purpose.Purpose.TheVariants.{Resolving, Closing}
 use Rattle.dali_controller.specs.declared.work.Work.{Work}
-use Rattle.dali_controller.specs.Course.{Course, first_of}
+use Rattle.dali_controller.specs.Course.{Course, first_of, closing_of}
 use Rattle.dali_controller.specs.Machine.{Machine, table_of}
 use Rattle.dali_controller.specs.Next.{beginning, next_course, goes_on_to}
-use Rattle.dali_controller.specs.Orders.{Cause, end_at, IsOrdered, machine_ordered, IsAnswered}
+use Rattle.dali_controller.specs.Orders.{Cause, IsOrderedTo, machine_ordered, IsAnswered}
 use Rattle.dali_controller.specs.Orders.{machine_after}
 
 -- What holds inside a machine between its moments. Its public contract cites none of this.
-
-abbrev pub closing_of : Purpose → Option End
-closing_of (Closing e) = Some e
-closing_of _ = None
 
 abbrev pub course_of : Work → Course
 course_of w = record { purpose = w.purpose; number = w.number; search = w.search; from = w.from }
@@ -64,7 +60,6 @@ machine_of w = record {
   tries = w.tries;
   silent = w.silent;
   opened = w.opened;
-  closing = closing_of w.purpose;
   course = course_of w;
 }
 
@@ -214,7 +209,7 @@ pub record IsBetween (w : Work) : Type 0 where
 pub record IsTurn (w : Work) (e : End) : Type 0 where
   pub opened : w.opened ≡ true
   pub cause : (closing_of w.purpose ≡ Some e)
-      ⊎ ((closing_of w.purpose ≡ None) × (end_at (stage_of w.trace) ≡ e) × Cause (machine_of w) e)
+      ⊎ ((closing_of w.purpose ≡ None) × Cause (machine_of w) e)
 
 abbrev pub Turns : Work → Purpose → Type 0
 Turns w (Closing e) = IsTurn w e
@@ -263,7 +258,6 @@ pub record Closes (w : Work) (e : End) : Type 0 where
   pub calm : IsCalm (Closing e) w.silent
   pub opened : w.opened ≡ true
   pub going : closing_of w.purpose ≡ None
-  pub end : end_at (stage_of w.trace) ≡ e
   pub cause : Cause (machine_of w) e
   pub unnamed : (r : SearchAddress) → stage_of w.trace ≡ Unnamed r
       → (HasRandom w.kept.reserved (value_of r) → ⊥) × IsFull w.kept.block w.kept.reserved
@@ -272,7 +266,7 @@ pub record Closes (w : Work) (e : End) : Type 0 where
 
 -- an order that a machine of which this is seen may give, and what is seen after it but its course
 pub record IsNext (t : Machine) (o : Order) (new : Machine) : Type 0 where
-  pub order : IsOrdered t o
+  pub order : IsOrderedTo t new.course o
   pub state : new ≡ record (machine_ordered t o) { course = new.course }
 
 -- a transaction begins, and takes this course

@@ -1,5 +1,5 @@
-use Rattle.std.specs.Prelude.{◌≡◌, ℕ, ◌⊎◌, Bool, true, ◌==◌, ◌&&◌, if◌then◌else◌, List, [], Option}
-use Rattle.std.specs.Prelude.{Some, None, unwrap_or}
+use Rattle.std.specs.Prelude.{◌≡◌, ℕ, ◌⊎◌, true, ◌==◌, if◌then◌else◌, List, [], Option}
+use Rattle.std.specs.Prelude.{Some, None}
 use Rattle.dali_frame.specs.declared.frames.Forward.{Forward}
 use Rattle.dali_frame.specs.declared.frames.Answer.TheVariants.{Silence}
 use Rattle.dali_frame.specs.declared.numbers.SearchAddress.{SearchAddress}
@@ -11,7 +11,6 @@ use Rattle.dali_script.specs.declared.finding.Finding.{Finding}
 use Rattle.dali_script.specs.declared.records.Record.{Record}
 use Rattle.dali_script.specs.declared.records.Record.TheVariants.{Reserve, Enrol, Release}
 use Rattle.dali_script.specs.declared.trace.Entry.{Entry}
-use Rattle.dali_script.specs.declared.stage.Stage.{Stage}
 use Rattle.dali_script.specs.declared.stage.Stage.TheVariants.{Terminated, Probed, Unnamed}
 use Rattle.dali_script.specs.declared.stage.Stage.TheVariants.{Withdrawn, Spelled}
 use Rattle.dali_script.specs.Records.{Assignment, Has, HasRandom, Fits, MayAdd, IsLeastFree}
@@ -27,27 +26,11 @@ use Rattle.dali_script.specs.declared.orders.End.{End}
 use Rattle.dali_script.specs.declared.orders.End.TheVariants.{AllFound, BlockFull, GaveUp}
 use Rattle.dali_script.specs.declared.orders.Fault.TheVariants as fault
 use Rattle.dali_controller.specs.Machine.{Machine, machine_told}
+use Rattle.dali_controller.specs.declared.purpose.Purpose.TheVariants.{Closing}
+use Rattle.dali_controller.specs.Course.{Course, closing_of}
 use Rattle.dali_controller.specs.Next.{course_by}
 
 -- WHAT AN ORDER DOES, to a machine that was told an input.
-
-abbrev pub is_terminate : Forward → Bool
-is_terminate f = (f.address_byte == 0xA1) && (f.opcode_byte == 0)
-
--- the end with which a close is begun, by how far the transaction before it came
-abbrev pub end_at : Stage → End
-end_at (Probed r h) = AllFound
-end_at (Unnamed r) = BlockFull
-end_at _ = GaveUp
-
--- A close is begun by TERMINATE as a first frame, once an opening was complete; before, TERMINATE
--- begins an opening.
-abbrev pub closing_by : Machine → Order → Option End
-closing_by t (Put p f) =
-    if (p == FIRST) && (is_terminate f && t.opened)
-    then Some (unwrap_or t.closing (end_at (stage_of t.trace)))
-    else t.closing
-closing_by t _ = t.closing
 
 -- only a later frame goes on with the transaction
 abbrev pub trace_by : Machine → Order → List Entry
@@ -64,7 +47,6 @@ machine_ordered t o = record {
   tries = t.tries;
   silent = t.silent;
   opened = t.opened;
-  closing = closing_by t o;
   course = course_by t o;
 }
 
@@ -115,45 +97,50 @@ Cause t BlockFull =
     × (HasRandom t.kept.reserved (value_of r) → ⊥) × IsFull t.kept.block t.kept.reserved
 Cause t GaveUp = t.silent ≡ 16
 
+-- the end with which a close runs, if one does
+abbrev pub closing : Machine → Option End
+closing t = closing_of t.course.purpose
+
 -- no close is begun, the close that runs is begun again, or a close is begun that has a cause
 abbrev pub IsBegun : Machine → Option End → Type 0
-IsBegun t None = t.closing ≡ None
-IsBegun t (Some e) = (t.closing ≡ Some e) ⊎ ((t.closing ≡ None) × Cause t e)
+IsBegun t None = closing t ≡ None
+IsBegun t (Some e) = (closing t ≡ Some e) ⊎ ((closing t ≡ None) × Cause t e)
 
 -- the table has one of the two for another
 abbrev pub Contradicts : List Assignment → ℕ → ℕ → Type 0
 Contradicts xs b r =
     ((n : ℕ) × Has xs (b, n) × (n ≡ r → ⊥)) ⊎ ((a : ℕ) × Has xs (a, r) × (a ≡ b → ⊥))
 
-abbrev pub IsCaused : Machine → Order → Type 0
-IsCaused t (Put p f) =
-    IsBegun t (closing_by t (Put p f))
-    × ((closing_by t (Put p f) ≡ None) ⊎ ((p ≡ FIRST) × (f ≡ frame_of Terminate)))
-IsCaused t (Commit x) = t.closing ≡ None
-IsCaused t (Done e) =
-    ((e ≡ GaveUp) × (t.tries ≡ 8)) ⊎ ((t.closing ≡ Some e) × (stage_of t.trace ≡ Terminated))
-IsCaused t (Halt fault.Conflict) =
+-- with the course that the machine takes from then on
+abbrev pub IsCaused : Machine → Course → Order → Type 0
+IsCaused t c (Put p f) =
+    IsBegun t (closing_of c.purpose)
+    × ((closing_of c.purpose ≡ None) ⊎ ((p ≡ FIRST) × (f ≡ frame_of Terminate)))
+IsCaused t c (Commit x) = closing t ≡ None
+IsCaused t c (Done e) =
+    ((e ≡ GaveUp) × (t.tries ≡ 8)) ⊎ ((closing t ≡ Some e) × (stage_of t.trace ≡ Terminated))
+IsCaused t c (Halt fault.Conflict) =
     (x : Finding) × (t.finding ≡ Some x) × (finding_of t.trace ≡ Some x)
     × Contradicts t.kept.enrolled (assigned x).0 (assigned x).1
-IsCaused t (Halt fault.Store) = ⊥
+IsCaused t c (Halt fault.Store) = ⊥
 
 -- WHAT A VISIT LEADS TO.
 
 -- Gear that answered MASK is programmed with the address that is reserved for its number; else the
 -- least free address is reserved for it; else there is none, and a close is begun.
-abbrev pub AfterMask : Machine → SearchAddress → Order → Type 0
-AfterMask t r (Put p f) =
+abbrev pub AfterMask : Machine → Course → SearchAddress → Order → Type 0
+AfterMask t c r (Put p f) =
     ((a : ℕ) × Has t.kept.reserved (a, value_of r) × (p ≡ LATER)
     × (f ≡ frame_of (Program (Some a)))) ⊎
     ((HasRandom t.kept.reserved (value_of r) → ⊥) × IsFull t.kept.block t.kept.reserved
-    × (closing_by t (Put p f) ≡ Some BlockFull))
-AfterMask t r (Commit (Reserve a n)) =
+    × (c.purpose ≡ Closing BlockFull))
+AfterMask t c r (Commit (Reserve a n)) =
     (value_of r ≡ n) × (HasRandom t.kept.reserved n → ⊥)
     × IsLeastFree t.kept.block t.kept.reserved a
-AfterMask t r (Commit (Enrol b n)) = ⊥
-AfterMask t r (Commit (Release a n)) = ⊥
-AfterMask t r (Done e) = ⊥
-AfterMask t r (Halt w) = ⊥
+AfterMask t c r (Commit (Enrol b n)) = ⊥
+AfterMask t c r (Commit (Release a n)) = ⊥
+AfterMask t c r (Done e) = ⊥
+AfterMask t c r (Halt w) = ⊥
 
 -- gear that was found is enrolled, unless the table has it or contradicts it
 abbrev pub AfterFinding : Machine → ℕ → ℕ → Order → Type 0
@@ -175,16 +162,20 @@ pub record IsFollowed (t : Machine) (o : Order) : Type 0 where
       → AfterFinding t b n o
   pub enrolled : (b n : ℕ) → t.last ≡ Some (Commit (Enrol b n)) → AfterEnrolled t b n o
 
--- THE ORDERS of a machine that was told an input.
-pub record IsOrdered (t : Machine) (o : Order) : Type 0 where
+-- THE ORDERS of a machine that was told an input, and that takes a course from then on.
+pub record IsOrderedTo (t : Machine) (c : Course) (o : Order) : Type 0 where
   pub allowed : IsAllowed t o
   pub addressing : IsAddressing o
-  pub caused : IsCaused t o
+  pub caused : IsCaused t c o
   pub given_up : t.tries ≡ 8 → o ≡ Done GaveUp
-  pub silent : t.silent ≡ 16 → closing_by t o ≡ Some GaveUp
-  pub unnamed : (r : SearchAddress) → stage_of t.trace ≡ Unnamed r → AfterMask t r o
+  pub silent : t.silent ≡ 16 → c.purpose ≡ Closing GaveUp
+  pub unnamed : (r : SearchAddress) → stage_of t.trace ≡ Unnamed r → AfterMask t c r o
   pub found : (r : SearchAddress) (b : ℕ) → stage_of t.trace ≡ Withdrawn r b
       → AfterFinding t b (value_of r) o
+
+-- it is the course of the table
+abbrev pub IsOrdered : Machine → Order → Type 0
+IsOrdered t o = IsOrderedTo t (course_by t o) o
 
 -- the same for each input: where a record could not be kept, the machine halts
 abbrev pub IsAnswered : Machine → Input → Order → Type 0

@@ -139,7 +139,6 @@ impl Work {
     }
 
     /// The transaction that ends the initialisation of all gear, before this end.
-    #[tactic(auto, using(crate::proofs::Steps::closing))]
     fn close(&mut self, end: End) -> Order
         requires { Closes self.old end }
 

@@ -22,8 +22,8 @@ pub(crate) enum Purpose {
 }
 
 impl Purpose {
-    ghost use Rattle.dali_controller.specs.Course.{first_of};
-    ghost use Rattle.dali_controller.specs.Moments.{closing_of, turn_of};
+    ghost use Rattle.dali_controller.specs.Course.{closing_of, first_of};
+    ghost use Rattle.dali_controller.specs.Moments.{turn_of};
 
     /// The end with which a close was begun.
     pub(crate) fn end(self) -> Option<End>

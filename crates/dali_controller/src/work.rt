@@ -41,9 +41,9 @@ pub(crate) struct Work {
 }
 
 impl Work {
-    ghost use Rattle.dali_controller.specs.Moments.{closing_of, machine_of, Sends, IsReady, IsFine, IsHeard, Begins};
+    ghost use Rattle.dali_controller.specs.Moments.{machine_of, Sends, IsReady, IsFine, IsHeard, Begins};
     ghost use Rattle.dali_controller.specs.Moments.{IsNext, Starts, course_of};
-    ghost use Rattle.dali_controller.specs.Course.{taking};
+    ghost use Rattle.dali_controller.specs.Course.{closing_of, taking};
 
     /// Whether the running transaction is complete.
     fn is_complete(&self) -> bool
