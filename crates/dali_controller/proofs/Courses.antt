@@ -3,7 +3,11 @@ use Rattle.std.specs.Prelude.{◌==◌, MatchOption, is_some, suc, if◌then◌e
 use Rattle.std.proofs.lemmas.Bool.Decides.{nat_tests}
 use Rattle.dali_frame.specs.declared.frames.Forward.{Forward}
 use Rattle.dali_frame.specs.declared.frames.Answer.{Answer}
+use Rattle.dali_frame.specs.declared.numbers.SearchAddress.{SearchAddress}
 use Rattle.dali_frame.specs.Random.{value_of}
+use Rattle.dali_frame.specs.Priority.{LATER}
+use Rattle.dali_special.specs.declared.command.Command.{Command}
+use Rattle.dali_special.specs.Command.{frame_of}
 use Rattle.dali_script.specs.declared.records.Record.{Record}
 use Rattle.dali_script.specs.declared.records.Record.TheVariants.{Enrol}
 use Rattle.dali_script.specs.declared.stage.Stage.{Stage}
@@ -21,8 +25,10 @@ use Rattle.dali_script.specs.Due.{due_after, frame_put, record_ordered}
 use Rattle.dali_search.specs.declared.step.Step.{Step}
 use Rattle.dali_search.specs.declared.step.Step.TheVariants.{Again, Found, Nobody}
 use Rattle.dali_search.specs.Least.{Search, step_after, probe_after}
+use Rattle.dali_controller.specs.declared.purpose.Purpose.{Purpose}
+use Rattle.dali_controller.specs.declared.purpose.Purpose.TheVariants.{Opening, Probing, Visiting, Resolving, Closing}
 use Rattle.dali_controller.specs.declared.work.Work.{Work}
-use Rattle.dali_controller.specs.Course.{Course, is_yes, answered, next_probe, after_step, probed, number_at, address_for, unless_enrolled, unfinished_at, unfinished_among, here_or_later}
+use Rattle.dali_controller.specs.Course.{Course, turn_of, is_yes, answered, next_probe, after_step, probed, number_at, address_for, unless_enrolled, unfinished_at, unfinished_among, here_or_later}
 use Rattle.dali_controller.specs.Machine.{Machine, machine_lost, machine_committed, machine_told}
 use Rattle.dali_controller.specs.Next.{begins_at, course_by}
 use Rattle.dali_controller.specs.Orders.{AfterFinding, AfterEnrolled, IsFollowed}
@@ -123,15 +129,26 @@ none_left k a past = let none : 64 - a ≡ 0 = omega arith in ap (λ n. unfinish
 
 -- ---------------------------------------------------------------- what follows
 
+no_turn : (p : Purpose) (n : SearchAddress) (s : Stage) (c : Command) → s ≡ Free → turn_of p n s ≡ Some c → ⊥
+no_turn p n s c free e = go p (subst (λ x. turn_of p n x ≡ Some c) free e) where
+  go : (p : Purpose) → turn_of p n Free ≡ Some c → ⊥
+  go Opening e = cc
+  go Probing e = cc
+  go Visiting e = cc
+  go (Resolving a) e = cc
+  go (Closing x) e = cc
+
 -- the start, and a transaction that was lost, follow neither queries nor an enrolment
 pub followed_start : (w : Work) (o : Order) → IsFine w → w.last ≡ None → IsFollowed (machine_told (machine_of w) input.Start) o
 followed_start w o fine none = record {
+  sent = λ c e. absurd (no_turn w.purpose w.number (stage_of w.trace) c (subst (Pending w) none fine.pending).free e);
   told = λ b n s e. absurd (let there : Free ≡ Spelled b (Some n) = sym (subst (Pending w) none fine.pending).free ∙ s in cc);
   enrolled = λ b n e. absurd (let there : None ≡ Some (Commit (Enrol b n)) = sym none ∙ e in cc);
 }
 
 pub followed_lost : (w : Work) (o : Order) → due_after w.last ≡ due.Bus → IsFollowed (machine_lost (machine_of w)) o
 followed_lost w o bus = record {
+  sent = λ c e. absurd (no_turn w.purpose w.number (stage_of []) c stage_none e);
   told = λ b n s e. absurd (let there : Free ≡ Spelled b (Some n) = sym stage_none ∙ s in cc);
   enrolled = λ b n e. absurd (let there = subst (λ l. due_after l ≡ due.Bus) e bus in cc);
 }
@@ -141,8 +158,10 @@ heard_last m f h put = rw put refl
 
 -- a frame that was heard follows no enrolment
 pub followed_heard : (w mid : Work) (o : Order) (f : Forward) (h : Answer) → frame_put w.last ≡ Some f → machine_of mid ≡ machine_told (machine_of w) (input.Heard h)
+    → ((c : Command) → turn_of mid.purpose mid.number (stage_of mid.trace) ≡ Some c → o ≡ Put LATER (frame_of c))
     → ((b n : ℕ) → stage_of mid.trace ≡ Spelled b (Some n) → n ≡ value_of mid.number → AfterFinding (machine_of mid) b n o) → IsFollowed (machine_told (machine_of w) (input.Heard h)) o
-followed_heard w mid o f h put is told = record {
+followed_heard w mid o f h put is sent told = record {
+  sent = subst (λ (t : Machine). (c : Command) → turn_of t.course.purpose t.course.number (stage_of t.trace) ≡ Some c → o ≡ Put LATER (frame_of c)) is sent;
   told = subst (λ (t : Machine). (b n : ℕ) → stage_of t.trace ≡ Spelled b (Some n) → n ≡ value_of t.course.number → AfterFinding t b n o) is told;
   enrolled = λ b n e. absurd (let there = subst (λ l. frame_put l ≡ Some f) (sym (heard_last (machine_of w) f h put) ∙ e) put in cc);
 }
@@ -151,6 +170,8 @@ followed_heard w mid o f h put is told = record {
 pub followed_committed : (w : Work) (x : Record) (o : Order) → IsFine w → record_ordered w.last ≡ Some x
     → ((b n : ℕ) → x ≡ Enrol b n → AfterEnrolled (machine_told (machine_of w) input.Committed) b n o) → IsFollowed (machine_told (machine_of w) input.Committed) o
 followed_committed w x o fine ordered enrolled = record {
+  sent = λ c e. absurd (no_turn w.purpose w.number (stage_of w.trace) c (free_stored w w.last x ordered fine.pending)
+      (subst (λ r. turn_of (machine_committed (machine_of w) r).course.purpose (machine_committed (machine_of w) r).course.number (stage_of (machine_committed (machine_of w) r).trace) ≡ Some c) ordered e));
   told = λ b n s e. absurd (let there : Free ≡ Spelled b (Some n) = sym (free_stored w w.last x ordered fine.pending) ∙ subst (λ r. stage_of (machine_committed (machine_of w) r).trace ≡ Spelled b (Some n)) ordered s in cc);
   enrolled = λ b n e. enrolled b n (same x b n (sym ordered ∙ ap record_ordered (sym (committed_stays (machine_of w) (record_ordered w.last)) ∙ e)));
 } where

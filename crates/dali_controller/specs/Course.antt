@@ -5,9 +5,19 @@ use Rattle.dali_frame.specs.declared.frames.Answer.TheVariants.{Silence}
 use Rattle.dali_frame.specs.declared.numbers.SearchAddress.{SearchAddress}
 use Rattle.dali_frame.specs.Random.{high_of, middle_of, low_of}
 use Rattle.dali_special.specs.declared.command.Command.{Command}
-use Rattle.dali_special.specs.declared.command.Command.TheVariants.{Terminate, SearchHigh}
+use Rattle.dali_special.specs.declared.command.Target.TheVariants.{Unaddressed}
+use Rattle.dali_special.specs.declared.command.Command.TheVariants.{Terminate, Initialise}
+use Rattle.dali_special.specs.declared.command.Command.TheVariants.{Randomise, Compare, Withdraw}
+use Rattle.dali_special.specs.declared.command.Command.TheVariants.{SearchHigh, SearchMiddle}
+use Rattle.dali_special.specs.declared.command.Command.TheVariants.{SearchLow, QueryShort}
 use Rattle.dali_special.specs.declared.command.Command.TheVariants.{RandomByte}
-use Rattle.dali_special.specs.declared.command.Part.TheVariants.{High}
+use Rattle.dali_special.specs.declared.command.Part.TheVariants.{High, Middle, Low}
+use Rattle.dali_script.specs.declared.stage.Stage.{Stage}
+use Rattle.dali_script.specs.declared.stage.Stage.TheVariants.{Terminated, InitialisedOnce}
+use Rattle.dali_script.specs.declared.stage.Stage.TheVariants.{Initialised, RandomisedOnce}
+use Rattle.dali_script.specs.declared.stage.Stage.TheVariants.{HighSent, MiddleSent, NumberSent}
+use Rattle.dali_script.specs.declared.stage.Stage.TheVariants.{Found as Named, Programmed, Confirmed}
+use Rattle.dali_script.specs.declared.stage.Stage.TheVariants.{HighAsked, MiddleAsked}
 use Rattle.dali_script.specs.Records.{Assignment, Kept}
 use Rattle.dali_search.specs.declared.step.Step.{Step}
 use Rattle.dali_search.specs.declared.step.Step.TheVariants.{Again, Found, Nobody}
@@ -45,6 +55,29 @@ first_of Opening n = Terminate
 first_of (Closing e) n = Terminate
 first_of (Resolving a) n = RandomByte a High
 first_of _ n = SearchHigh n.high
+
+-- THE TURN: which command a transaction sends at a stage past the first, except PROGRAM SHORT
+-- ADDRESS
+abbrev pub search_turn : SearchAddress → Stage → Option Command
+search_turn n (HighSent high) = Some (SearchMiddle n.middle)
+search_turn n (MiddleSent high middle) = Some (SearchLow n.low)
+search_turn n _ = None
+
+abbrev pub turn_of : Purpose → SearchAddress → Stage → Option Command
+turn_of Opening n Terminated = Some (Initialise Unaddressed)
+turn_of Opening n InitialisedOnce = Some (Initialise Unaddressed)
+turn_of Opening n Initialised = Some Randomise
+turn_of Opening n RandomisedOnce = Some Randomise
+turn_of Probing n (NumberSent r) = Some Compare
+turn_of Probing n s = search_turn n s
+turn_of Visiting n (NumberSent r) = Some QueryShort
+turn_of Visiting n (Named r b) = Some Withdraw
+turn_of Visiting n (Programmed r a) = Some QueryShort
+turn_of Visiting n (Confirmed r a) = Some Withdraw
+turn_of Visiting n s = search_turn n s
+turn_of (Resolving a) n (HighAsked b high) = Some (RandomByte b Middle)
+turn_of (Resolving a) n (MiddleAsked b bytes) = Some (RandomByte b Low)
+turn_of _ n _ = None
 
 -- ---------------------------------------------------------------- the transactions that begin
 

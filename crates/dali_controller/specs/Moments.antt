@@ -2,25 +2,18 @@ use Rattle.std.specs.Prelude.{◌≡◌, ℕ, ◌<◌, ◌≤◌, ◌⊎◌, Boo
 use Rattle.dali_frame.specs.declared.frames.Forward.{Forward}
 use Rattle.dali_frame.specs.declared.numbers.SearchAddress.{SearchAddress}
 use Rattle.dali_frame.specs.Random.{value_of, MASK24}
-use Rattle.dali_special.specs.declared.command.Target.TheVariants.{Unaddressed}
 use Rattle.dali_special.specs.declared.command.Command.{Command}
-use Rattle.dali_special.specs.declared.command.Command.TheVariants.{Initialise}
-use Rattle.dali_special.specs.declared.command.Command.TheVariants.{Randomise, Compare, Withdraw}
-use Rattle.dali_special.specs.declared.command.Command.TheVariants.{SearchMiddle}
-use Rattle.dali_special.specs.declared.command.Command.TheVariants.{SearchLow, Program, QueryShort}
-use Rattle.dali_special.specs.declared.command.Command.TheVariants.{RandomByte}
-use Rattle.dali_special.specs.declared.command.Part.TheVariants.{Middle, Low}
+use Rattle.dali_special.specs.declared.command.Command.TheVariants.{Program}
 use Rattle.dali_special.specs.Command.{command_of, IsSpelled}
 use Rattle.dali_script.specs.declared.finding.Finding.{Finding}
 use Rattle.dali_script.specs.declared.finding.Finding.TheVariants.{Queried, Resolved}
 use Rattle.dali_script.specs.declared.records.Record.{Record}
 use Rattle.dali_script.specs.declared.records.Record.TheVariants.{Enrol}
 use Rattle.dali_script.specs.declared.stage.Stage.{Stage}
-use Rattle.dali_script.specs.declared.stage.Stage.TheVariants.{Free, Terminated, InitialisedOnce}
-use Rattle.dali_script.specs.declared.stage.Stage.TheVariants.{Initialised, RandomisedOnce, Opened}
-use Rattle.dali_script.specs.declared.stage.Stage.TheVariants.{HighSent, MiddleSent, NumberSent}
-use Rattle.dali_script.specs.declared.stage.Stage.TheVariants.{Probed, Found, Unnamed, Unanswered}
-use Rattle.dali_script.specs.declared.stage.Stage.TheVariants.{Inconclusive, Programmed, Confirmed}
+use Rattle.dali_script.specs.declared.stage.Stage.TheVariants.{Free, Terminated}
+use Rattle.dali_script.specs.declared.stage.Stage.TheVariants.{Opened}
+use Rattle.dali_script.specs.declared.stage.Stage.TheVariants.{Probed, Unnamed, Unanswered}
+use Rattle.dali_script.specs.declared.stage.Stage.TheVariants.{Inconclusive}
 use Rattle.dali_script.specs.declared.stage.Stage.TheVariants.{Withdrawn, HighAsked}
 use Rattle.dali_script.specs.declared.stage.Stage.TheVariants.{MiddleAsked, Spelled}
 use Rattle.dali_script.specs.Records.{Kept, Has, HasRandom, Fits, MayAdd, IsFull}
@@ -38,7 +31,7 @@ use Rattle.dali_controller.specs.declared.purpose.Purpose.{Purpose}
 use Rattle.dali_controller.specs.declared.purpose.Purpose.TheVariants.{Opening, Probing, Visiting}
 use Rattle.dali_controller.specs.declared.purpose.Purpose.TheVariants.{Resolving, Closing}
 use Rattle.dali_controller.specs.declared.work.Work.{Work}
-use Rattle.dali_controller.specs.Course.{Course, first_of, closing_of}
+use Rattle.dali_controller.specs.Course.{Course, first_of, turn_of, closing_of}
 use Rattle.dali_controller.specs.Machine.{Machine, table_of}
 use Rattle.dali_controller.specs.Next.{beginning, next_course, goes_on_to}
 use Rattle.dali_controller.specs.Orders.{Cause, IsOrderedTo, machine_ordered, IsAnswered}
@@ -62,29 +55,6 @@ machine_of w = record {
   opened = w.opened;
   course = course_of w;
 }
-
--- THE TURN: which command a transaction sends at a stage past the first, except PROGRAM SHORT
--- ADDRESS
-abbrev pub search_turn : SearchAddress → Stage → Option Command
-search_turn n (HighSent high) = Some (SearchMiddle n.middle)
-search_turn n (MiddleSent high middle) = Some (SearchLow n.low)
-search_turn n _ = None
-
-abbrev pub turn_of : Purpose → SearchAddress → Stage → Option Command
-turn_of Opening n Terminated = Some (Initialise Unaddressed)
-turn_of Opening n InitialisedOnce = Some (Initialise Unaddressed)
-turn_of Opening n Initialised = Some Randomise
-turn_of Opening n RandomisedOnce = Some Randomise
-turn_of Probing n (NumberSent r) = Some Compare
-turn_of Probing n s = search_turn n s
-turn_of Visiting n (NumberSent r) = Some QueryShort
-turn_of Visiting n (Found r b) = Some Withdraw
-turn_of Visiting n (Programmed r a) = Some QueryShort
-turn_of Visiting n (Confirmed r a) = Some Withdraw
-turn_of Visiting n s = search_turn n s
-turn_of (Resolving a) n (HighAsked b high) = Some (RandomByte b Middle)
-turn_of (Resolving a) n (MiddleAsked b bytes) = Some (RandomByte b Low)
-turn_of _ n _ = None
 
 -- what was sent of the transaction's search address, or that its short address is asked
 abbrev pub IsAt : Stage → Purpose → SearchAddress → Type 0

@@ -5,6 +5,7 @@ use Rattle.dali_frame.specs.declared.frames.Answer.TheVariants.{Silence}
 use Rattle.dali_frame.specs.declared.numbers.SearchAddress.{SearchAddress}
 use Rattle.dali_frame.specs.Random.{value_of}
 use Rattle.dali_frame.specs.Priority.{FIRST, LATER}
+use Rattle.dali_special.specs.declared.command.Command.{Command}
 use Rattle.dali_special.specs.declared.command.Command.TheVariants.{Terminate, Program, Arc}
 use Rattle.dali_special.specs.Command.{command_of, frame_of}
 use Rattle.dali_script.specs.declared.finding.Finding.{Finding}
@@ -27,7 +28,7 @@ use Rattle.dali_script.specs.declared.orders.End.TheVariants.{AllFound, BlockFul
 use Rattle.dali_script.specs.declared.orders.Fault.TheVariants as fault
 use Rattle.dali_controller.specs.Machine.{Machine, machine_told}
 use Rattle.dali_controller.specs.declared.purpose.Purpose.TheVariants.{Closing}
-use Rattle.dali_controller.specs.Course.{Course, closing_of}
+use Rattle.dali_controller.specs.Course.{Course, closing_of, turn_of}
 use Rattle.dali_controller.specs.Next.{course_by}
 
 -- WHAT AN ORDER DOES, to a machine that was told an input.
@@ -156,8 +157,11 @@ AfterEnrolled t b n (Commit x) = (a : ℕ) × Has t.kept.reserved (a, n) × (x �
 AfterEnrolled t b n (Done e) = ⊥
 AfterEnrolled t b n (Halt w) = ⊥
 
--- The queries of a random address found the gear that was visited; or an enrolment was kept.
+-- What the transaction sends next, where it sends more; and what comes after the queries of a random
+-- address that told the number which was visited, and after an enrolment.
 pub record IsFollowed (t : Machine) (o : Order) : Type 0 where
+  pub sent : (c : Command) → turn_of t.course.purpose t.course.number (stage_of t.trace) ≡ Some c
+      → o ≡ Put LATER (frame_of c)
   pub told : (b n : ℕ) → stage_of t.trace ≡ Spelled b (Some n) → n ≡ value_of t.course.number
       → AfterFinding t b n o
   pub enrolled : (b n : ℕ) → t.last ≡ Some (Commit (Enrol b n)) → AfterEnrolled t b n o

@@ -2,6 +2,9 @@ ghost use Rattle.std.specs.Prelude.{◌≡◌, ◌⊎◌, ℕ, ◌<◌, true, fa
 ghost use Rattle.dali_frame.specs.Random.{value_of, MASK24};
 ghost use Rattle.dali_frame.specs.declared.numbers.SearchAddress.{SearchAddress};
 ghost use Rattle.dali_frame.specs.declared.frames.Answer.TheVariants.{Silence};
+ghost use Rattle.dali_frame.specs.Priority.{LATER};
+ghost use Rattle.dali_special.specs.declared.command.Command.{Command};
+ghost use Rattle.dali_special.specs.Command.{frame_of};
 ghost use Rattle.dali_script.specs.declared.stage.Stage.TheVariants as stage;
 ghost use Rattle.dali_script.specs.Records.{Fits, MayAdd, Has, HasAddress, HasRandom, with_record};
 ghost use Rattle.dali_enrol.specs.Table.{with_entry};
@@ -39,10 +42,10 @@ fn is_yes(heard: Answer) -> bool
 }
 
 impl Work {
-    ghost use Rattle.dali_controller.specs.Moments.{machine_of, turn_of, IsFine, IsHeard, IsBetween, Closes, Settles, IsNext};
+    ghost use Rattle.dali_controller.specs.Moments.{machine_of, IsFine, IsHeard, IsBetween, Closes, Settles, IsNext};
     ghost use Rattle.dali_controller.specs.Moments.{Enrolled, IsStep, Starts, course_of};
     ghost use Rattle.dali_controller.specs.Course.{opening, probing, searching_anew, visiting, resolving, closing};
-    ghost use Rattle.dali_controller.specs.Course.{going_on};
+    ghost use Rattle.dali_controller.specs.Course.{going_on, turn_of};
     ghost use Rattle.dali_controller.specs.Next.{course_by, next_course, silenced, BeginsWith};
     ghost use Rattle.dali_controller.specs.Machine.{machine_told};
     ghost use Rattle.dali_controller.specs.Orders.{AfterFinding, AfterEnrolled, IsFollowed};
@@ -168,6 +171,8 @@ impl Work {
     fn after(&mut self, stage: Stage) -> Order
         requires { IsHeard self.old stage }
 
+        ensures sent { (c : Command) → turn_of self.old.purpose self.old.number (stage_of self.old.trace) ≡ Some c
+            → result ≡ order.Put LATER (frame_of c) }
         ensures told { (b n : ℕ) → stage_of self.old.trace ≡ Spelled b (Some n) → n ≡ value_of self.old.number
             → AfterFinding (machine_of self.old) b n result }
         ensures begins { BeginsWith (course_of self.new) result }

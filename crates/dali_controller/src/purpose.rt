@@ -1,5 +1,5 @@
 ghost use Rattle.std.specs.Prelude.{◌≡◌};
-ghost use Rattle.dali_controller.specs.Moments.{search_turn};
+ghost use Rattle.dali_controller.specs.Course.{search_turn};
 
 use dali_frame::{SearchAddress, Short};
 use dali_script::{End, Stage};
@@ -23,7 +23,7 @@ pub(crate) enum Purpose {
 
 impl Purpose {
     ghost use Rattle.dali_controller.specs.Course.{closing_of, first_of};
-    ghost use Rattle.dali_controller.specs.Moments.{turn_of};
+    ghost use Rattle.dali_controller.specs.Course.{turn_of};
 
     /// The end with which a close was begun.
     pub(crate) fn end(self) -> Option<End>
