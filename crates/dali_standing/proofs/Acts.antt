@@ -1,8 +1,11 @@
 use Rattle.std.proofs.Common.{◌≡◌, ℕ, ◌<◌, ◌⊎◌, inl, inr, Bool, true, false, List, [], ◌∷◌, ◌++◌, refl, sym, ap, subst, ◌∙◌, arith, Option, Some, None}
+use Rattle.std.specs.Prelude.{◌==◌, if◌then◌else◌}
+use Rattle.std.specs.Option.{option_map}
 use Rattle.std.proofs.lemmas.Bool.Decides.{nat_tests}
 use Rattle.dali_frame.specs.declared.frames.Forward.{Forward}
 use Rattle.dali_frame.specs.declared.frames.Answer.{Answer}
 use Rattle.dali_frame.specs.Random.{MASK24}
+use Rattle.dali_frame.specs.Priority.{LATER}
 use Rattle.dali_special.specs.declared.command.Command.{Command}
 use Rattle.dali_special.specs.declared.command.Command.TheVariants.{Arc}
 use Rattle.dali_special.specs.Command.{command_of}
@@ -22,12 +25,12 @@ use Rattle.dali_script.specs.declared.orders.Order.{Order}
 use Rattle.dali_script.specs.declared.orders.Order.TheVariants.{Put, Commit, Done, Halt}
 use Rattle.dali_script.specs.Due.{due_after, accepts, frame_put, record_ordered}
 use Rattle.dali_controller.specs.Machine.{Machine, machine_told, machine_heard, machine_committed}
-use Rattle.dali_controller.specs.Orders.{IsOrdered, IsAnswered, IsAllowed, IsAddressing, machine_ordered, machine_after}
+use Rattle.dali_controller.specs.Orders.{IsOrdered, IsAnswered, IsAllowed, IsAddressing, trace_by, machine_ordered, machine_after}
 use Rattle.dali_events.specs.World.{World, Controller}
-use Rattle.dali_events.specs.Happens.{entry, controller_informed, is_arc}
+use Rattle.dali_events.specs.Happens.{entry, controller_informed, outstanding_told, outstanding_after, is_arc}
 use Rattle.dali_events.specs.Allowed.{IsDue, IsCommit, MayOrder}
 use Rattle.dali_events.proofs.Naming.{enrols_assigned}
-use Rattle.dali_standing.specs.Seats.{IsRunning, IsTied, IsTold, IsOutstanding, IsFound, IsEnrolling, MayAnswer, seat_by, informed_by}
+use Rattle.dali_standing.specs.Seats.{IsRunning, IsSeat, IsTold, IsOutstanding, IsFound, IsEnrolling, MayAnswer, seat_by, informed_by}
 use Rattle.dali_standing.specs.Settled.{IsOwning, IsApart, IsPlacedBy}
 
 -- WHAT A CONTROLLER ORDERS, the table of events allows.
@@ -217,15 +220,15 @@ enrolling_told : (k : Controller) (m : Machine) (i : Input) → IsRunning k m �
 enrolling_told k m i tied = subst (λ l. IsEnrolling l k.finding) (sym (last_told m i ∙ tied.last)) tied.enrolling
 
 -- an enrolment that is ordered is of the controller's last finding
-enrolling_by : (k : Controller) (t : Machine) (o : Order) → later k.finding (finding_of t.trace) ≡ k.finding → IsAllowed t o → IsEnrolling (Some o) k.finding
-enrolling_by k t (Commit (Enrol b r)) found may =
+enrolling_by : (found : Option Finding) (t : Machine) (o : Order) → later found (finding_of t.trace) ≡ found → IsAllowed t o → IsEnrolling (Some o) found
+enrolling_by found t (Commit (Enrol b r)) is may =
     let x : Finding = may.warranted.0 in
-    (x, later_some k.finding (finding_of t.trace) x may.warranted.2 found, sym (enrols_assigned t.kept.reserved x (b, r) may.warranted.3))
-enrolling_by k t (Commit (Reserve a r)) found may = tt
-enrolling_by k t (Commit (Release a r)) found may = tt
-enrolling_by k t (Put p f) found may = tt
-enrolling_by k t (Done e) found may = tt
-enrolling_by k t (Halt why) found may = tt
+    (x, later_some found (finding_of t.trace) x may.warranted.2 is, sym (enrols_assigned t.kept.reserved x (b, r) may.warranted.3))
+enrolling_by found t (Commit (Reserve a r)) is may = tt
+enrolling_by found t (Commit (Release a r)) is may = tt
+enrolling_by found t (Put p f) is may = tt
+enrolling_by found t (Done e) is may = tt
+enrolling_by found t (Halt why) is may = tt
 
 -- where the store is waited for, nothing that is told changes the trace
 stored_trace : (m : Machine) (last : Option Order) (told : Option Input) → IsCommit last → IsTold last told → (informed_by m told).trace ≡ m.trace
@@ -235,23 +238,64 @@ stored_trace m last (Some input.CommitFailed) commit told = refl
 stored_trace m last (Some i) commit told =
     let x = committed_last last commit in absurd (let none = subst (λ l. accepts (due_after l) i ≡ true) x.1 told in cc)
 
-pub acted_enrolling : (machine : Option Machine) (beside : Option Kept) (outstanding : Option Record) (found : Option Finding) (told : Option Input) (i : Input) (o : Order)
-    → IsTied (seat_by machine beside outstanding found told).controller machine → IsDue (seat_by machine beside outstanding found told).controller i → MayAnswer machine i o → IsEnrolling (Some o) found
-acted_enrolling None beside outstanding found told i o tied due answer = elim answer [ ]
-acted_enrolling (Some m) beside outstanding found told i o tied due answer = go i due answer where
+-- what a machine orders leaves its place as it must be
+still_found : (t : Machine) (found : Option Finding) (here : Bool) → later found (finding_of t.trace) ≡ found → later found (finding_of (if here then t.trace else [])) ≡ found
+still_found t found true is = is
+still_found t found false is = refl
+
+found_ordered : (t : Machine) (o : Order) (found : Option Finding) → later found (finding_of t.trace) ≡ found → later found (finding_of (trace_by t o)) ≡ found
+found_ordered t (Put p f) found is = still_found t found (p == LATER) is
+found_ordered t (Commit x) found is = refl
+found_ordered t (Done e) found is = refl
+found_ordered t (Halt why) found is = refl
+
+outstanding_ordered : (t : Machine) (o : Order) (outstanding : Option Record) → IsAllowed t o → outstanding ≡ None → IsOutstanding t.kept (Some o) (outstanding_after outstanding o)
+outstanding_ordered t (Put p f) outstanding may none = none
+outstanding_ordered t (Commit x) outstanding may none = (refl, may.fits, may.may)
+outstanding_ordered t (Done e) outstanding may none = tt
+outstanding_ordered t (Halt why) outstanding may none = tt
+
+ordered_running : (t : Machine) (o : Order) (beside : Option Kept) (outstanding : Option Record) (found : Option Finding) → IsAllowed t o → later found (finding_of t.trace) ≡ found → outstanding ≡ None
+    → IsRunning (seat_by (Some (machine_ordered t o)) beside (outstanding_after outstanding o) found None).controller (machine_ordered t o)
+ordered_running t o beside outstanding found may is none = record {
+  kept = refl;
+  last = refl;
+  told = tt;
+  outstanding = outstanding_ordered t o outstanding may none;
+  found = found_ordered t o found is;
+  enrolling = enrolling_by found t o is may;
+}
+
+running_acted : (m : Machine) (beside : Option Kept) (outstanding : Option Record) (found : Option Finding) (told : Option Input) (i : Input) (o : Order)
+    → IsRunning (seat_by (Some m) beside outstanding found told).controller m → IsDue (seat_by (Some m) beside outstanding found told).controller i → IsAnswered m i o
+    → IsRunning (seat_by (Some (machine_after m i o)) beside (outstanding_after (outstanding_told outstanding i) o) found None).controller (machine_after m i o)
+running_acted m beside outstanding found told i o tied due answer = go i due answer where
   k : Controller
   k = (seat_by (Some m) beside outstanding found told).controller
 
-  go : (i : Input) → IsDue k i → IsAnswered m i o → IsEnrolling (Some o) found
+  bus_none : (i : Input) → IsOfBus i → k.told ≡ Some i → outstanding ≡ None
+  bus_none i bus is = put_outstanding k.records k.last outstanding (bus_put i k.last bus (told_accepted k.last k.told i is tied.told)) tied.outstanding
+
+  go : (i : Input) → IsDue k i → IsAnswered m i o → IsRunning (seat_by (Some (machine_after m i o)) beside (outstanding_after (outstanding_told outstanding i) o) found None).controller (machine_after m i o)
   go input.Committed commit order =
       let same : (informed_by m told).trace ≡ m.trace = stored_trace m k.last told commit tied.told in
-      enrolling_by k (machine_told m input.Committed) o
-      (subst (λ t. later found (finding_of t) ≡ found) (same ∙ sym (committed_trace m (record_ordered m.last))) tied.found) order.allowed
-  go input.CommitFailed commit halts = subst (λ p. IsEnrolling (Some p) found) (sym halts) tt
-  go input.Start is order = enrolling_by k (machine_told m input.Start) o (found_told k m input.Start is tied.found) order.allowed
-  go (input.Heard h) is order = enrolling_by k (machine_told m (input.Heard h)) o (found_told k m (input.Heard h) is tied.found) order.allowed
-  go input.Destroyed is order = enrolling_by k (machine_told m input.Destroyed) o (found_told k m input.Destroyed is tied.found) order.allowed
-  go input.Lapsed is order = enrolling_by k (machine_told m input.Lapsed) o (found_told k m input.Lapsed is tied.found) order.allowed
+      ordered_running (machine_told m input.Committed) o beside None found order.allowed
+      (subst (λ t. later found (finding_of t) ≡ found) (same ∙ sym (committed_trace m (record_ordered m.last))) tied.found) refl
+  go input.CommitFailed commit halts =
+      subst (λ p. IsRunning (seat_by (Some (machine_after m input.CommitFailed p)) beside (outstanding_after outstanding p) found None).controller (machine_after m input.CommitFailed p)) (sym halts)
+      (record { kept = refl; last = refl; told = tt; outstanding = tt; found = refl; enrolling = tt })
+  go input.Start is order =
+      ordered_running (machine_told m input.Start) o beside outstanding found order.allowed (found_told k m input.Start is tied.found)
+      (subst (λ l. IsOutstanding k.records l outstanding) (start_first k.last (told_accepted k.last k.told input.Start is tied.told)) tied.outstanding)
+  go (input.Heard h) is order = ordered_running (machine_told m (input.Heard h)) o beside outstanding found order.allowed (found_told k m (input.Heard h) is tied.found) (bus_none (input.Heard h) tt is)
+  go input.Destroyed is order = ordered_running (machine_told m input.Destroyed) o beside outstanding found order.allowed (found_told k m input.Destroyed is tied.found) (bus_none input.Destroyed tt is)
+  go input.Lapsed is order = ordered_running (machine_told m input.Lapsed) o beside outstanding found order.allowed (found_told k m input.Lapsed is tied.found) (bus_none input.Lapsed tt is)
+
+pub seat_acted : (machine : Option Machine) (beside : Option Kept) (outstanding : Option Record) (found : Option Finding) (told : Option Input) (i : Input) (o : Order)
+    → IsSeat machine beside outstanding found told → IsDue (seat_by machine beside outstanding found told).controller i → MayAnswer machine i o
+    → IsSeat (option_map (λ m. machine_after m i o) machine) beside (outstanding_after (outstanding_told outstanding i) o) found None
+seat_acted None beside outstanding found told i o seat due answer = elim answer [ ]
+seat_acted (Some m) beside outstanding found told i o seat due answer = (running_acted m beside outstanding found told i o seat.0 due answer, seat.1)
 
 informed_bus : (w : World) (c : ℕ) (k : Controller) (m : Machine) (i : Input) → IsOfBus i → k.told ≡ Some i → IsRunning k m → IsPlacedBy (owns w.bus.owner c) w.trace k (Some m)
     → AreInformed w c (controller_informed k i) (machine_told m i)
