@@ -298,24 +298,15 @@ where
     ((one, two, three, four), drove)
 }
 
-/// A port or a driver with an empty list.
-fn noting<T>(alloc: Global, inner: T) -> Listed<T> {
-    Listed {
-        inner,
-        list: Vec::new(alloc),
-        is_whole: true,
-    }
-}
-
 /// The list is whole, and is what these events have of this kind.
 fn is_logged<T>(events: &[Event], listed: &Listed<T>, owner: u8) -> bool {
-    let mut rest = listed.list.iter();
+    let mut rest = listed.list.events.iter();
     for event in events {
         if owner_of(event) == owner && rest.next() != Some(event) {
             return false;
         }
     }
-    listed.is_whole && rest.next().is_none()
+    listed.list.is_whole && rest.next().is_none()
 }
 
 /// Whose event this is: a controller's, 4 for a frame of the bus, 5 for a controller that went down and 6 for one that
@@ -398,20 +389,12 @@ where
         ports.next().unwrap_or_default(),
     );
     let workers = workers_of(alloc, ports, keeps);
-    let driving = (noting(alloc, driver), turnover);
+    let driving = (Listed::new(alloc, driver), turnover);
     let (left, drove) = all_run(rt, alloc, &line, directory, workers, driving, records);
     let (driver, turnover) = drove;
-    let Listed {
-        inner,
-        list,
-        is_whole,
-    } = driver;
+    let Listed { inner, list } = driver;
     let site = line.close(ArrayVec::new(), inner);
-    let drove = Listed {
-        inner: (),
-        list,
-        is_whole,
-    };
+    let drove = Listed { inner: (), list };
     let events = site.log().get(begun..).unwrap_or(&[]);
     let is_right = is_logged(events, &drove, 4) && are_logged(events, &left);
     let mut turnover = turnover;
@@ -431,10 +414,10 @@ fn workers_of<P: Drop>(
     keeps: Four<Database>,
 ) -> Four<Worker<Listed<P>, Database, OpenGate>> {
     (
-        Worker::new(noting(alloc, ports.0), keeps.0, OpenGate),
-        Worker::new(noting(alloc, ports.1), keeps.1, OpenGate),
-        Worker::new(noting(alloc, ports.2), keeps.2, OpenGate),
-        Worker::new(noting(alloc, ports.3), keeps.3, OpenGate),
+        Worker::new(Listed::new(alloc, ports.0), keeps.0, OpenGate),
+        Worker::new(Listed::new(alloc, ports.1), keeps.1, OpenGate),
+        Worker::new(Listed::new(alloc, ports.2), keeps.2, OpenGate),
+        Worker::new(Listed::new(alloc, ports.3), keeps.3, OpenGate),
     )
 }
 
