@@ -1,27 +1,22 @@
-ghost use Rattle.std.specs.Prelude.{◌≡◌, IfOk};
+ghost use Rattle.std.specs.Prelude.{◌≡◌};
 ghost use Rattle.dali_script.specs.Records.{HasAddress, HasRandom};
 ghost use Rattle.dali_enrol.specs.Table.{with_entry};
 ghost use Rattle.dali_controller.specs.Machine.{table_of};
 
-use crate::error::MachineError;
 use dali_enrol::Table;
 use dali_frame::{Random24, Short};
-use dali_script::{Block, Kept};
-use std::alloc::Global;
+use dali_script::Kept;
 
 /// The table of the enrolments that are kept.
-pub(crate) fn table_of(alloc: Global, block: Block, kept: &Kept) -> Result<Table, MachineError>
-    requires { kept.now.block ≡ block }
-    ensures { IfOk result (λ table. table ≡ table_of kept.now) }
+pub(crate) fn table_of(kept: &Kept) -> Table
+    ensures { result ≡ table_of kept.now }
 {
-    let Ok(mut table) = Table::new(alloc, block) else {
-        return Err(MachineError::NoMemory);
-    };
+    let mut table = Table::new(kept.block());
     for entry in kept.enrolled() {
         // In the records each short address stands once, and each random one.
         enter(&mut table, entry.0, entry.1);
     }
-    Ok(table)
+    table
 }
 
 /// Enters gear into a table that has neither its short address nor its random one.

@@ -1,5 +1,5 @@
 ghost use Rattle.std.specs.Prelude.{◌≡◌};
-ghost use Rattle.dali_controller.specs.Refusals.{number_of_step, number_of_machine};
+ghost use Rattle.dali_controller.specs.Refusals.{number_of};
 
 use thiserror::Error;
 
@@ -14,29 +14,10 @@ pub enum StepError {
 impl StepError {
     /// The refusal's number.
     pub fn number(self) -> u8
-        ensures { result ≡ number_of_step self }
+        ensures { result ≡ number_of self }
     {
         match self {
             StepError::NotDue => 1,
-        }
-    }
-}
-
-/// Why there is no machine. The number never changes.
-#[derive(Clone, Copy, Debug, PartialEq, Eq, Error)]
-pub enum MachineError {
-    /// 2: memory ran out.
-    #[error("out of memory")]
-    NoMemory,
-}
-
-impl MachineError {
-    /// The refusal's number.
-    pub fn number(self) -> u8
-        ensures { result ≡ number_of_machine self }
-    {
-        match self {
-            MachineError::NoMemory => 2,
         }
     }
 }

@@ -1,7 +1,7 @@
 //! The application controller's machine: it gives short addresses to the gear on a bus, one input and one order at a
 //! time.
 //!
-//! A [`Machine`] knows nothing of a bus or a store. Only `Machine::new` takes memory.
+//! A [`Machine`] knows nothing of a bus or a store, and takes no memory.
 #![tactic(auto)]
 
 mod entries;
@@ -13,5 +13,5 @@ mod unfinished;
 mod work;
 
 pub use dali_script::{Due, End, Fault, Input, Order};
-pub use error::{MachineError, StepError};
+pub use error::StepError;
 pub use machine::Machine;

@@ -6,14 +6,13 @@ ghost use Rattle.dali_controller.specs.Next.{BeginsWith};
 ghost use Rattle.dali_controller.specs.Orders.{IsAnswered, IsFollowedAt, machine_after};
 
 use crate::entries::table_of;
-use crate::error::{MachineError, StepError};
+use crate::error::StepError;
 use crate::purpose::Purpose;
 use crate::work::Work;
 use dali_enrol::Table;
 use dali_frame::SearchAddress;
-use dali_script::{Block, Due, Input, Kept, Order, Trace};
+use dali_script::{Due, Input, Kept, Order, Trace};
 use dali_search::Search;
-use std::alloc::Global;
 use std::marker::Model;
 
 /// The machine of one application controller, which gives the short addresses of its block to the gear on a bus.
@@ -65,25 +64,18 @@ impl Model for Machine {
 }
 
 impl Machine {
-    /// A machine that has not started. It takes all the memory that the machine will need.
+    /// A machine that has not started.
     ///
-    /// `id` is the controller's number. `kept` are the records that it kept, or those that it may have kept, of the
-    /// same block: after a `Commit` whose end nobody saw, what the store holds decides.
-    pub fn new(alloc: Global, id: u8, block: Block, kept: &Kept) -> Result<Machine, MachineError>
-        requires { kept.now.block ≡ block }
-        ensures { IfOk result (λ m. m ≡ at_first id kept.now) }
+    /// `id` is the controller's number. `kept` are the records that it kept, or those that it may have kept: after a
+    /// `Commit` whose end nobody saw, what the store holds decides.
+    pub fn new(id: u8, kept: &Kept) -> Machine
+        ensures { result ≡ at_first id kept.now }
     {
-        let Ok(table) = table_of(alloc, block, kept) else {
-            return Err(MachineError::NoMemory);
-        };
-        let Ok(kept) = kept.copy(alloc) else {
-            return Err(MachineError::NoMemory);
-        };
-        Ok(Machine {
+        Machine {
             work: Work {
                 id,
-                kept,
-                table,
+                kept: kept.copy(),
+                table: table_of(kept),
                 search: Search::new(),
                 trace: Trace::new(),
                 finding: None,
@@ -95,10 +87,10 @@ impl Machine {
                 number: SearchAddress::MASK,
                 from: 0,
             },
-        })
+        }
     }
 
-    /// Takes an input, and orders what is to be done next. It takes no memory.
+    /// Takes an input, and orders what is to be done next.
     ///
     /// `NotDue`: the machine waits for something else, and nothing changed; `due` says for what. After `Done` and
     /// `Halt` it waits for nothing. The block stays, and a record that is ordered fits it. Which transaction begins next

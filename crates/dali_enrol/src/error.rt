@@ -3,7 +3,7 @@ ghost use Rattle.dali_enrol.specs.Refusals.{number_of, directory_number_of};
 
 use thiserror::Error;
 
-/// Why there is no table, or why a table takes no entry. The numbers never change.
+/// Why a table takes no entry, or hands none on. The numbers never change.
 #[derive(Clone, Copy, Debug, PartialEq, Eq, Error)]
 pub enum TableError {
     /// 1: an entry has the short address.

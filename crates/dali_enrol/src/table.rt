@@ -30,15 +30,14 @@ impl Model for Table {
 impl Table {
     ghost use Rattle.dali_enrol.specs.Table.{at_first, with_entry};
 
-    /// A table with no entries. It takes all the memory that the table will need.
-    pub fn new(alloc: Global, block: Block) -> Result<Table, TableError>
-        ensures empty { IfOk result (λ t. t ≡ at_first block) }
-        ensures refusal { IfErr result (λ e. e ≡ NoMemory) }
+    /// A table with no entries.
+    pub fn new(block: Block) -> Table
+        ensures { result ≡ at_first block }
     {
-        let Ok(entries) = Assignments::new(alloc) else {
-            return Err(TableError::NoMemory);
-        };
-        Ok(Table { block, entries })
+        Table {
+            block,
+            entries: Assignments::new(),
+        }
     }
 
     /// The block of short addresses that the controller gives.
@@ -56,7 +55,7 @@ impl Table {
         self.entries.pairs()
     }
 
-    /// Adds an entry as the last one. It takes no memory.
+    /// Adds an entry as the last one.
     ///
     /// `AddressTaken` comes before `RandomTaken`.
     pub fn enrol(&mut self, address: Short, random: Random24) -> Result<(), TableError>

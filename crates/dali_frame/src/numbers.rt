@@ -22,6 +22,17 @@ impl Model for Short {
     ghost inverse = { λ n. record { number = n } };
 }
 
+/// 0, in a place of an array that holds none yet.
+impl Default for Short {
+    ghost use Rattle.std.specs.Prelude.{◌≡◌};
+
+    ghost is_default = { λ a. a ≡ 0 };
+
+    fn default() -> Short {
+        Short { number: 0 }
+    }
+}
+
 impl Short {
     ghost use Rattle.dali_frame.specs.Short.{code_of, short_of};
 
@@ -87,6 +98,18 @@ impl Model for Random24 {
     ghost invariant = { λ r. r.value < 2 ^ 24 };
 
     ghost inverse = { λ n. record { value = n } };
+}
+
+/// MASK, as at reset.
+impl Default for Random24 {
+    ghost use Rattle.std.specs.Prelude.{◌≡◌};
+    ghost use Rattle.dali_frame.specs.Random.{MASK24};
+
+    ghost is_default = { λ r. r ≡ MASK24 };
+
+    fn default() -> Random24 {
+        Random24::MASK
+    }
 }
 
 impl Random24 {

@@ -19,7 +19,6 @@ use arrayvec::ArrayVec;
 use dali_frame::Forward;
 use dali_script::{Due, Input, Kept};
 use dali_world::{Receipt, Refusal, Report, SiteState, Trouble};
-use std::alloc::Global;
 use std::sync::ledger::{Blank, Ledger};
 use std::sync::{Condvar, Mutex, Wait};
 
@@ -285,13 +284,11 @@ impl<P0: Ledger, P1: Ledger, P2: Ledger, P3: Ledger, D: Ledger> Line<P0, P1, P2,
     /// Controller `c`, 0 to 3, comes up with a copy of its records: those that the site under the lock remembers, or
     /// these with the one that was outstanding.
     ///
-    /// Refusals, in this order: 1 UnknownController, 2 ControllerUp, 5 StoreDisagrees, 8 LogFull, 9 NoMemory. It alone
-    /// of a line's calls takes memory, and it does so under the lock.
+    /// Refusals, in this order: 1 UnknownController, 2 ControllerUp, 5 StoreDisagrees, 8 LogFull.
     pub fn up<R: Wait>(
         &self,
         rt: &R,
         driver: &mut Driver<P0, P1, P2, P3, D>,
-        alloc: Global,
         c: u8,
         copy: &Kept,
     ) -> Result<(), Refusal>
@@ -299,7 +296,7 @@ impl<P0: Ledger, P1: Ledger, P2: Ledger, P3: Ledger, D: Ledger> Line<P0, P1, P2,
         ensures accepted { OnOk result (driver.new ≡ driver.old + 1) }
         ensures refused { OnErr result (driver.new ≡ driver.old) }
     {
-        let answer = self.locked.lock(rt).up(driver, alloc, c, copy);
+        let answer = self.locked.lock(rt).up(driver, c, copy);
         self.moved.notify_all();
         answer
     }

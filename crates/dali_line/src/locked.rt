@@ -13,7 +13,6 @@ use arrayvec::ArrayVec;
 use dali_frame::Forward;
 use dali_script::{Due, Input, Kept};
 use dali_world::{Receipt, Refusal, Report, SiteState, Trouble};
-use std::alloc::Global;
 use std::sync::ledger::Ledger;
 
 /// What lies under a line's lock: a site, how many events of its log are whose, and whether the line is stopped.
@@ -284,7 +283,6 @@ impl<P0: Ledger, P1: Ledger, P2: Ledger, P3: Ledger, D: Ledger> Locked<P0, P1, P
     pub(crate) fn up(
         &mut self,
         driver: &mut Driver<P0, P1, P2, P3, D>,
-        alloc: Global,
         c: u8,
         copy: &Kept,
     ) -> Result<(), Refusal>
@@ -294,7 +292,7 @@ impl<P0: Ledger, P1: Ledger, P2: Ledger, P3: Ledger, D: Ledger> Locked<P0, P1, P
         ensures refused { OnErr result (driver.new ≡ driver.old) }
     {
         self.audit_driver(driver);
-        self.site.up(alloc, c, copy)?;
+        self.site.up(c, copy)?;
         self.tally.raise_driver(driver);
         Ok(())
     }

@@ -21,7 +21,7 @@ fn card_of(
         first: address,
         last: address,
     };
-    let mut table = Table::new(alloc, block)?;
+    let mut table = Table::new(block);
     table.enrol(address, random)?;
     table.card(alloc, address)
 }

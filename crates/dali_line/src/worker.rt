@@ -17,7 +17,7 @@ use std::alloc::Global;
 use std::sync::Wait;
 
 /// Commits a record, if the store answers its records and the record fits them. Whether it is kept.
-fn try_commit<K: Keep>(keep: &mut K, alloc: Global, added: &Record) -> bool
+fn try_commit<K: Keep>(keep: &mut K, added: &Record) -> bool
     ensures up { K.is_up keep.new → K.is_up keep.old }
     ensures sound { K.is_sound keep.old → K.is_up keep.new → K.is_sound keep.new }
     ensures list { K.is_sound keep.old → K.is_up keep.new → (xs : List Record) → K.holds keep.old xs
@@ -25,7 +25,7 @@ fn try_commit<K: Keep>(keep: &mut K, alloc: Global, added: &Record) -> bool
     ensures kept { result ≡ true → K.is_sound keep.old → K.is_up keep.new → (xs : List Record)
         → K.holds keep.old xs → K.holds keep.new (xs ++ added.now ∷ []) }
 {
-    match keep.read(alloc) {
+    match keep.read() {
         Ok(kept) => {
             if kept.fits(added) {
                 keep.commit(*added).is_ok()
@@ -130,7 +130,7 @@ struct Shift<P, K, G> {
 impl<P, K: Keep, G: Gate> Shift<P, K, G> {
     /// What became of the commit that is due: the record that was ordered is committed, if there is one.
     #[tactic(auto, using(crate::proofs::Leaving::leaves_none, crate::proofs::Leaving::leaves_one))]
-    fn commit(&mut self, alloc: Global) -> Input
+    fn commit(&mut self) -> Input
         requires { self.old.kept ≡ None }
         ensures keep { Leaves K.is_up K.is_sound K.holds self.old.keep self.new.keep }
         ensures told { (result ≡ input.Committed) ⊎ (result ≡ input.CommitFailed) }
@@ -145,7 +145,7 @@ impl<P, K: Keep, G: Gate> Shift<P, K, G> {
     {
         match self.ordered.take() {
             Some(added) => {
-                if try_commit(&mut self.keep, alloc, &added) {
+                if try_commit(&mut self.keep, &added) {
                     self.kept = Some(added);
                     Input::Committed
                 } else {
@@ -159,7 +159,7 @@ impl<P, K: Keep, G: Gate> Shift<P, K, G> {
     /// What its controller is given to act on: what the bus has told it, or what became of its commit, which is made
     /// now. None where nothing is due.
     #[tactic(auto, using(crate::proofs::Leaving::leaves_none, crate::proofs::Leaving::leaves_one))]
-    fn given<B: Bus<Port = P>, R: Wait>(&mut self, rt: &R, alloc: Global, bus: &B) -> Option<Input>
+    fn given<B: Bus<Port = P>, R: Wait>(&mut self, rt: &R, bus: &B) -> Option<Input>
         ensures keep { Leaves K.is_up K.is_sound K.holds self.old.keep self.new.keep }
         ensures stored { IfSome self.new.kept
             (λ added. K.is_sound self.old.keep → K.is_up self.new.keep → (xs : List Record) → K.holds self.old.keep xs
@@ -175,7 +175,7 @@ impl<P, K: Keep, G: Gate> Shift<P, K, G> {
         }
         let controller = bus.controller(&self.port);
         self.gate.at(rt, controller, Moment::BeforeCommit);
-        let outcome = self.commit(alloc);
+        let outcome = self.commit();
         self.gate.at(rt, controller, Moment::AfterCommit);
         Some(outcome)
     }
@@ -216,7 +216,7 @@ impl<P, K: Keep, G: Gate> Shift<P, K, G> {
         if !bus.wait(rt, &mut self.port) {
             return Some(Outcome::Stopped);
         }
-        let outcome = match self.given(rt, alloc, bus) {
+        let outcome = match self.given(rt, bus) {
             None => None,
             Some(input) => match bus.act(rt, &mut self.port, input) {
                 Ok(receipt) => match post(alloc, directory, pass, &self.kept) {

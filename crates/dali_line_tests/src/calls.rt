@@ -149,7 +149,6 @@ type Records<'a> = (&'a Kept, &'a Kept);
 
 fn restarts<P0: Ledger, P1: Ledger, P2: Ledger, P3: Ledger, D: Ledger, R: Abort + Wait>(
     rt: &R,
-    alloc: Global,
     line: &Line<P0, P1, P2, P3, D>,
     port: &mut Port<P0, P1, P2, P3, D>,
     driver: &mut Driver<P0, P1, P2, P3, D>,
@@ -160,13 +159,9 @@ fn restarts<P0: Ledger, P1: Ledger, P2: Ledger, P3: Ledger, D: Ledger, R: Abort 
     reserves(rt, line, port, driver, site);
     does(rt, line.down(rt, driver, 0), site.down(0));
     let refused = Err(Refusal::StoreDisagrees);
-    same(rt, &line.up(rt, driver, alloc, 0, wrong), &refused);
-    same(rt, &site.up(alloc, 0, wrong), &refused);
-    does(
-        rt,
-        line.up(rt, driver, alloc, 0, kept),
-        site.up(alloc, 0, kept),
-    );
+    same(rt, &line.up(rt, driver, 0, wrong), &refused);
+    same(rt, &site.up(0, wrong), &refused);
+    does(rt, line.up(rt, driver, 0, kept), site.up(0, kept));
     ends(rt, line, port, driver, site, (7, 10));
 }
 
@@ -240,7 +235,6 @@ fn speaks_for_nobody<B: Bus, R: Abort + Wait>(rt: &R, bus: &B, spare: &mut B::Po
 /// A line and its site are played a story, and stopped.
 fn played<P0: Ledger, P1: Ledger, P2: Ledger, P3: Ledger, D: Ledger, R: Abort + Wait>(
     rt: &R,
-    alloc: Global,
     line: &Line<P0, P1, P2, P3, D>,
     port: &mut Port<P0, P1, P2, P3, D>,
     other: &mut Port<P0, P1, P2, P3, D>,
@@ -250,7 +244,7 @@ fn played<P0: Ledger, P1: Ledger, P2: Ledger, P3: Ledger, D: Ledger, R: Abort + 
     story: Story,
 ) {
     match story {
-        Story::Restart => restarts(rt, alloc, line, other, driver, site, records),
+        Story::Restart => restarts(rt, line, other, driver, site, records),
         Story::Lapse => lapses(rt, line, other, driver, site),
         Story::Collision => collides(rt, line, port, other, driver, site),
     }
@@ -266,7 +260,6 @@ fn goes_back<P: Default + Drop, R: Abort>(rt: &R, ports: &mut ArrayVec<P, 4>, po
 /// A line and a site that are the same at first are played a story, and have the same log at its end.
 fn beside<P0: Ledger, P1: Ledger, P2: Ledger, P3: Ledger, D: Ledger, R: Abort + Wait>(
     rt: &R,
-    alloc: Global,
     under: SiteState,
     blanks: Blanks,
     site: &mut SiteState,
@@ -283,7 +276,6 @@ fn beside<P0: Ledger, P1: Ledger, P2: Ledger, P3: Ledger, D: Ledger, R: Abort + 
     let (mut port, mut other) = last_two(&mut ports);
     played(
         rt,
-        alloc,
         &line,
         &mut port,
         &mut other,
@@ -306,16 +298,13 @@ fn one_gear(alloc: Global, blocks: &[(u8, u8)]) -> Result<SiteState, Fail> {
 /// A story is played on a line round the one site and on the other site, which are the same.
 fn plays_on_both<R: Abort + Wait>(
     rt: &R,
-    alloc: Global,
     sites: (SiteState, SiteState),
     records: Records<'_>,
     story: Story,
 ) {
     let (under, mut site) = sites;
     let blanks = blanks();
-    beside::<Brand, Brand, Brand, Brand, Brand, R>(
-        rt, alloc, under, blanks, &mut site, records, story,
-    );
+    beside::<Brand, Brand, Brand, Brand, Brand, R>(rt, under, blanks, &mut site, records, story);
 }
 
 /// Two sites of one gear that are the same.
@@ -325,9 +314,9 @@ fn two_sites(alloc: Global, blocks: &[(u8, u8)]) -> Result<(SiteState, SiteState
 }
 
 /// The records that the store of controller 0 has when it goes down, and others.
-fn two_records(alloc: Global) -> Result<(Kept, Kept), Fail> {
-    let kept = one_reserved(alloc, 0, 0x123456)?;
-    Ok((kept, one_reserved(alloc, 1, 0x123456)?))
+fn two_records() -> Result<(Kept, Kept), Fail> {
+    let kept = one_reserved(0, 0x123456)?;
+    Ok((kept, one_reserved(1, 0x123456)?))
 }
 
 /// A site of one gear, twice, and the story that is played on both.
@@ -336,9 +325,9 @@ fn plays<R: Abort + Wait + AllocGlobal>(
     blocks: &[(u8, u8)],
     story: Story,
 ) -> Result<(), Fail> {
-    let (kept, wrong) = two_records(rt.alloc())?;
+    let (kept, wrong) = two_records()?;
     let sites = two_sites(rt.alloc(), blocks)?;
-    plays_on_both(rt, rt.alloc(), sites, (&kept, &wrong), story);
+    plays_on_both(rt, sites, (&kept, &wrong), story);
     Ok(())
 }
 

@@ -11,7 +11,7 @@ use super::values::{block, same};
 use dali_enrol::Directory;
 use dali_line::{Bus, Driver, Line, OpenGate, Outcome, Pumper, Worker};
 use dali_reserve::{Keep, KeepError, MemoryKeep};
-use dali_script::{AddError, Block, End, Fault, Kept, MakeError, Record};
+use dali_script::{AddError, Block, End, Fault, Kept, Record};
 use dali_world::SiteState;
 use std::alloc::Global;
 use std::marker::Brand;
@@ -82,15 +82,12 @@ impl Keep for FailingKeep {
     ghost replay = { λ s xs sound read held.
         subst (λ (k : Kept). IsReplay k.block xs k) (sym (sound.1 read)) held };
 
-    fn read(&mut self, alloc: Global) -> Result<Kept, KeepError> {
-        let kept = self.store.read(alloc)?;
+    fn read(&mut self) -> Result<Kept, KeepError> {
+        let kept = self.store.read()?;
         if kept.block() != self.known.block() {
             return Err(KeepError::StoreFailed);
         }
-        self.known = match kept.copy(alloc) {
-            Ok(known) => known,
-            Err(MakeError::NoMemory) => return Err(KeepError::NoMemory),
-        };
+        self.known = kept.copy();
         self.must_read = false;
         Ok(kept)
     }
@@ -172,20 +169,19 @@ where
 /// The controller goes down, and comes up with what its store reads: so many reservations and enrolments.
 fn restarts<P0: Ledger, P1: Ledger, P2: Ledger, P3: Ledger, D: Ledger, R: Abort + Wait>(
     rt: &R,
-    alloc: Global,
     line: &Line<P0, P1, P2, P3, D>,
     driver: &mut Driver<P0, P1, P2, P3, D>,
     keep: &mut FailingKeep,
     stored: (usize, usize),
 ) {
     same(rt, &line.down(rt, driver, 0), &Ok(()));
-    let kept = keep.read(alloc);
+    let kept = keep.read();
     let Ok(kept) = &kept else {
         assert!(rt; false);
         return;
     };
     same(rt, &(kept.reserved().len(), kept.enrolled().len()), &stored);
-    same(rt, &line.up(rt, driver, alloc, 0, kept), &Ok(()));
+    same(rt, &line.up(rt, driver, 0, kept), &Ok(()));
 }
 
 /// The table of the one controller has each of three gear, under the addresses that the gear has.
@@ -233,16 +229,16 @@ where
     let (port, mut keep, mut driver) = session(
         rt, alloc, &line, directory, port, driver, keep, halted,
     );
-    restarts(rt, alloc, &line, &mut driver, &mut keep, stored);
+    restarts(rt, &line, &mut driver, &mut keep, stored);
     let ended = Outcome::Ended(End::AllFound);
     let (_, _, driver) = session(rt, alloc, &line, directory, port, driver, keep, ended);
     table_is_true(rt, &line.close(ports, driver));
 }
 
 /// An empty store of the block 0 to 7 that fails at this commit, and stores its record or not.
-fn failing_store(alloc: Global, commit: u8, is_stored: bool) -> Result<FailingKeep, Fail> {
-    let store = store_of(alloc, (0, 7))?;
-    let known = Kept::new(alloc, block(0, 7)?)?;
+fn failing_store(commit: u8, is_stored: bool) -> Result<FailingKeep, Fail> {
+    let store = store_of((0, 7))?;
+    let known = Kept::new(block(0, 7)?);
     Ok(FailingKeep {
         store,
         known,
@@ -260,7 +256,7 @@ fn fails_at<R: Threads + Wait + Abort + Sync + AllocGlobal>(
 ) -> Result<(), Fail> {
     let alloc = rt.alloc();
     let directory = Directory::new(alloc)?;
-    let keep = failing_store(alloc, commit, is_stored)?;
+    let keep = failing_store(commit, is_stored)?;
     let site = site_with(alloc, 3, &[(0, 7)])?;
     let count = usize::from(commit) + usize::from(is_stored);
     let stored = (count.div_ceil(2), count / 2);

@@ -110,7 +110,7 @@ pub fn works<B: Bus, K: Keep + Drop, G: Gate, R: Wait>(
             let (outcome, port, mut keep, pass) = worker.run(
                 rt, alloc, bus, directory, pass, TURNS,
             );
-            (outcome, port, keep.read(alloc).ok(), Some(pass))
+            (outcome, port, keep.read().ok(), Some(pass))
         }
         Err(_) => {
             bus.stop(rt);
@@ -194,8 +194,8 @@ pub fn site_with(alloc: Global, gear: u32, blocks: &[(u8, u8)]) -> Result<SiteSt
 }
 
 /// An empty store for a controller with this block.
-pub fn store_of(alloc: Global, bounds: (u8, u8)) -> Result<MemoryKeep, Fail> {
-    Ok(MemoryKeep::new(alloc, block(bounds.0, bounds.1)?)?)
+pub fn store_of(bounds: (u8, u8)) -> Result<MemoryKeep, Fail> {
+    Ok(MemoryKeep::new(block(bounds.0, bounds.1)?))
 }
 
 /// The right to make the five ledgers of a line.
@@ -605,17 +605,17 @@ where
 }
 
 /// An empty store for the controller of this number, if there is one.
-fn store_at(alloc: Global, blocks: &[(u8, u8)], c: usize) -> Result<Option<MemoryKeep>, Fail> {
+fn store_at(blocks: &[(u8, u8)], c: usize) -> Result<Option<MemoryKeep>, Fail> {
     match blocks.get(c) {
-        Some(bounds) => Ok(Some(store_of(alloc, *bounds)?)),
+        Some(bounds) => Ok(Some(store_of(*bounds)?)),
         None => Ok(None),
     }
 }
 
 /// An empty store for each of up to four controllers.
 fn stores_of(alloc: Global, blocks: &[(u8, u8)]) -> Result<Four<MemoryKeep>, Fail> {
-    let (first, second) = (store_at(alloc, blocks, 0)?, store_at(alloc, blocks, 1)?);
-    let (third, fourth) = (store_at(alloc, blocks, 2)?, store_at(alloc, blocks, 3)?);
+    let (first, second) = (store_at(blocks, 0)?, store_at(blocks, 1)?);
+    let (third, fourth) = (store_at(blocks, 2)?, store_at(blocks, 3)?);
     Ok((first, second, third, fourth))
 }
 

@@ -75,9 +75,9 @@ pub fn block(first: u8, last: u8) -> Result<Block, Fail> {
 }
 
 /// The records of a controller with block 0-3 that has reserved this address for this number, and no more.
-pub fn one_reserved(alloc: Global, address: u8, number: u32) -> Result<Kept, Fail> {
+pub fn one_reserved(address: u8, number: u32) -> Result<Kept, Fail> {
     let added = Record::Reserve(short(address)?, random(number)?);
-    let mut kept = Kept::new(alloc, block(0, 3)?)?;
+    let mut kept = Kept::new(block(0, 3)?);
     if kept.fits(&added) && kept.add(added).is_ok() {
         Ok(kept)
     } else {

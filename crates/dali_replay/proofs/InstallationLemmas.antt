@@ -77,20 +77,6 @@ up_refused n c d t copy was mid e number refused kept same read site =
       ap (λ (x : SiteState). record { site = x; stores = set n.stores d mid }) site ∙ ap (λ (ss : List Store). record { site = n.site; stores = ss }) back,
     )
 
--- and want of memory is none of its answers
-pub comes_up_refused : (n : Installation) (c : ℕ) (e : Refusal) (m : Installation) → (e ≡ refusal.NoMemory → ⊥) → IsUpRefused n.site c (store_at n c).keep e × (m ≡ n) → ComesUp n c (Err e) m
-comes_up_refused n c refusal.UnknownController m not is = is
-comes_up_refused n c refusal.UnknownGear m not is = is
-comes_up_refused n c refusal.ControllerDown m not is = is
-comes_up_refused n c refusal.ControllerUp m not is = is
-comes_up_refused n c refusal.NotDue m not is = is
-comes_up_refused n c refusal.NotArc m not is = is
-comes_up_refused n c refusal.StoreDisagrees m not is = is
-comes_up_refused n c refusal.DrawsSpent m not is = is
-comes_up_refused n c refusal.QueueFull m not is = is
-comes_up_refused n c refusal.LogFull m not is = is
-comes_up_refused n c refusal.NoMemory m not is = absurd (not refl)
-
 -- a step, from its parts
 pub stepped_of : (n m : Installation) (c : ℕ) (i : Input) (r : Receipt) (o p : Order) (was x : Store) → HasActed n.site c i r m.site → o ≡ r.order → p ≡ r.order → was ≡ store_at n c
     → x ≡ (record { keep = was.keep; pending = record_ordered (Some p) }) → m.stores ≡ set n.stores c x → HasStepped n c i o m

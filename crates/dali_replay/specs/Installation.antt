@@ -167,7 +167,6 @@ abbrev pub ComesUp : Installation → ℕ → Result (Unit {0}) Refusal → Inst
 ComesUp n c (Ok _) m =
     IsUpWith n.site c (store_at n c).keep m.site
     × (m.stores ≡ slice_set n.stores c (store_settled (store_at n c).keep))
-ComesUp n c (Err refusal.NoMemory) m = ⊥
 ComesUp n c (Err e) m = IsUpRefused n.site c (store_at n c).keep e × (m ≡ n)
 
 -- a call of the site, by what it does where it is accepted, and by its refusals

@@ -50,16 +50,13 @@ impl Model for Store {
 
 impl Store {
     /// A store with no records, for a controller with this block.
-    fn new(alloc: Global, block: Block) -> Result<Store, AllocError>
-        ensures { IfOk result (λ store. store ≡ empty_store block) }
+    fn new(block: Block) -> Store
+        ensures { result ≡ empty_store block }
     {
-        let Ok(keep) = MemoryKeep::new(alloc, block) else {
-            return Err(AllocError);
-        };
-        Ok(Store {
-            keep,
+        Store {
+            keep: MemoryKeep::new(block),
             pending: None,
-        })
+        }
     }
 
     /// Whether a record is still to be committed.
@@ -101,14 +98,14 @@ impl Store {
     }
 
     /// A copy of the records.
-    fn read(&mut self, alloc: Global) -> Result<Kept, AllocError>
-        ensures copy { IfOk result (λ copy. copy ≡ self.old.keep) }
+    fn read(&mut self) -> Kept
+        ensures copy { result ≡ self.old.keep }
         ensures same { self.new ≡ self.old }
     {
-        let Ok(copy) = self.keep.read(alloc) else {
-            return Err(AllocError);
-        };
-        Ok(copy)
+        match self.keep.read() {
+            Ok(copy) => copy,
+            Err(_) => unreachable!(),
+        }
     }
 }
 
@@ -118,28 +115,9 @@ fn stores_of(alloc: Global, blocks: &[Block]) -> Result<Vec<Store>, AllocError>
 {
     let mut stores = Vec::with_capacity(alloc, blocks.len())?;
     for block in blocks {
-        stores.push(Store::new(alloc, *block)?)?;
+        stores.push(Store::new(*block))?;
     }
     Ok(stores)
-}
-
-/// Whether a refusal is for want of memory.
-fn is_want(error: Refusal) -> bool
-    ensures { result ≡ false → error ≡ refusal.NoMemory → ⊥ }
-{
-    match error {
-        Refusal::NoMemory => true,
-        Refusal::UnknownController
-        | Refusal::UnknownGear
-        | Refusal::ControllerDown
-        | Refusal::ControllerUp
-        | Refusal::NotDue
-        | Refusal::NotArc
-        | Refusal::StoreDisagrees
-        | Refusal::DrawsSpent
-        | Refusal::QueueFull
-        | Refusal::LogFull => false,
-    }
 }
 
 /// A site, and a store for each of its controllers. Controllers are named by their numbers as lines give them, of any
@@ -255,28 +233,20 @@ impl Installation {
     /// `up c`: the controller comes up with what its store holds.
     ///
     /// Refusals, in this order: 1 UnknownController, 2 ControllerUp, 5 StoreDisagrees, 8 LogFull.
-    pub fn up(&mut self, alloc: Global, c: u32) -> Result<Result<(), Refusal>, AllocError>
-        ensures { IfOk result (λ answer. ComesUp self.old c answer self.new) }
+    pub fn up(&mut self, c: u32) -> Result<(), Refusal>
+        ensures { ComesUp self.old c result self.new }
     {
-        let c = match self.check_known(c) {
-            Ok(c) => c,
-            Err(error) => return Ok(Err(error)),
-        };
+        let c = self.check_known(c)?;
         if self.site.table(c).is_some() {
-            return Ok(Err(Refusal::ControllerUp));
+            return Err(Refusal::ControllerUp);
         }
-        let copy = self.stores[c as usize].read(alloc)?;
-        match self.site.up(alloc, c, &copy) {
+        let copy = self.stores[c as usize].read();
+        match self.site.up(c, &copy) {
             Ok(()) => {
                 self.stores[c as usize].settle();
-                Ok(Ok(()))
+                Ok(())
             }
-            Err(error) => {
-                if is_want(error) {
-                    return Err(AllocError);
-                }
-                Ok(Err(error))
-            }
+            Err(error) => Err(error),
         }
     }
 

@@ -159,7 +159,7 @@ fn play_site<W: Write>(
             return Err(ReplayFault::BadLine(script.number()));
         };
         report.clear();
-        site_report::report(alloc, &mut report, installation, asked)?;
+        site_report::report(&mut report, installation, asked)?;
         match writer.write_all(report.as_bytes()) {
             Ok(()) => {}
             Err(_) => return Err(ReplayFault::Write),

@@ -16,7 +16,7 @@ use crate::text::{
 use dali_frame::Forward;
 use dali_script::Order;
 use dali_world::{Refusal, Report};
-use std::alloc::{AllocError, Global};
+use std::alloc::AllocError;
 
 /// The text of a call that answers nothing.
 fn push_done(text: &mut String, answer: Result<(), Refusal>) -> Result<(), AllocError>
@@ -107,7 +107,6 @@ fn show(text: &mut String, installation: &Installation) -> Result<(), AllocError
 
 /// Plays a line on a site, and appends the report of it.
 pub fn report(
-    alloc: Global,
     text: &mut String,
     installation: &mut Installation,
     line: SiteLine,
@@ -124,7 +123,7 @@ pub fn report(
         SiteLine::Lapse => push_lapsed(text, installation.lapse()),
         SiteLine::Arc(c, frame) => push_asked(text, c, frame, installation.arc(c, frame)),
         SiteLine::Down(c) => push_done(text, installation.down(c)),
-        SiteLine::Up(c) => push_done(text, installation.up(alloc, c)?),
+        SiteLine::Up(c) => push_done(text, installation.up(c)),
         SiteLine::Run(limit) => run(text, installation, limit),
         SiteLine::Power(g, on) => push_done(text, installation.power(g, on)),
         SiteLine::Expire(g) => push_done(text, installation.expire(g)),

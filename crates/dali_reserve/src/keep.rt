@@ -11,7 +11,6 @@ ghost use Rattle.dali_reserve.specs.Store.{AreGood, IsReplay};
 
 use crate::error::KeepError;
 use dali_script::{Kept, Record};
-use std::alloc::Global;
 
 /// A store of one controller's records: a list, to which each commit adds one, and which a read replays.
 ///
@@ -48,7 +47,7 @@ pub trait Keep {
     /// The replay of the records. The list stays as it is, and commits are judged by this answer from now on.
     ///
     /// `BadStore`, `StoreFailed` and `NoMemory` leave everything as it was.
-    fn read(&mut self, alloc: Global) -> Result<Kept, KeepError>
+    fn read(&mut self) -> Result<Kept, KeepError>
         ensures answer { IfOk result (λ k. k ≡ kept self.new) }
         ensures of_block { IfOk result (λ k. k.block ≡ block self.old) }
         ensures is_read { OnOk result (must_read self.new ≡ false) }

@@ -3,14 +3,13 @@ ghost use Rattle.std.specs.Prelude.{OnErr, IfOk, IfErr};
 ghost use Rattle.dali_script.specs.declared.records.Record.{Record};
 ghost use Rattle.dali_script.specs.Records.{without_records, Fits, MayAdd, IsAddressTaken, IsRandomTaken};
 ghost use Rattle.dali_script.specs.Records.{IsNotReserved, with_record};
-ghost use Rattle.dali_reserve.specs.declared.error.KeepError.TheVariants.{NoMemory, AddressTaken, RandomTaken};
+ghost use Rattle.dali_reserve.specs.declared.error.KeepError.TheVariants.{AddressTaken, RandomTaken};
 ghost use Rattle.dali_reserve.specs.declared.error.KeepError.TheVariants.{NotReserved};
 ghost use Rattle.dali_reserve.specs.Refusals.{RefusesRecord};
 
 use crate::error::KeepError;
 use crate::keep::Keep;
-use dali_script::{AddError, Block, Kept, MakeError, Record};
-use std::alloc::Global;
+use dali_script::{AddError, Block, Kept, Record};
 use std::marker::Model;
 
 /// A store in memory. It never fails.
@@ -35,15 +34,13 @@ impl Model for MemoryKeep {
 impl MemoryKeep {
     ghost use Rattle.dali_reserve.specs.Store.{HasRecords};
 
-    /// A store with no records, for a controller with this block. It takes all the memory that commits will need.
-    pub fn new(alloc: Global, block: Block) -> Result<MemoryKeep, KeepError>
-        ensures empty { IfOk result (λ s. s ≡ without_records block) }
-        ensures sound { IfOk result HasRecords }
-        ensures refusal { IfErr result (λ e. e ≡ NoMemory) }
+    /// A store with no records, for a controller with this block.
+    pub fn new(block: Block) -> MemoryKeep
+        ensures empty { result ≡ without_records block }
+        ensures sound { HasRecords result }
     {
-        match Kept::new(alloc, block) {
-            Ok(kept) => Ok(MemoryKeep { kept }),
-            Err(MakeError::NoMemory) => Err(KeepError::NoMemory),
+        MemoryKeep {
+            kept: Kept::new(block),
         }
     }
 
@@ -75,17 +72,13 @@ impl Keep for MemoryKeep {
 
     ghost replay = { λ s xs sound read held. held };
 
-    /// A copy of what is kept. It takes memory, and is refused as `NoMemory` alone.
-    fn read(&mut self, alloc: Global) -> Result<Kept, KeepError>
-        ensures answer { IfOk result (λ k. k ≡ self.old) }
-        ensures refusal { IfErr result (λ e. e ≡ NoMemory) }
+    /// A copy of what is kept. It takes no memory, and is never refused.
+    fn read(&mut self) -> Result<Kept, KeepError>
+        ensures answer { result ≡ Ok self.old }
         ensures same { self.new ≡ self.old }
         ensures sound { HasRecords self.new }
     {
-        match self.kept.copy(alloc) {
-            Ok(kept) => Ok(kept),
-            Err(MakeError::NoMemory) => Err(KeepError::NoMemory),
-        }
+        Ok(self.kept.copy())
     }
 
     /// Adds a record as the last of its kind; a release takes its reservation away. It takes no memory.

@@ -1,12 +1,7 @@
 use Rattle.std.specs.Prelude.{ℕ}
-use Rattle.dali_script.specs.declared.records.MakeError.{MakeError}
-use Rattle.dali_script.specs.declared.records.MakeError.TheVariants.{NoMemory}
 use Rattle.dali_script.specs.declared.records.AddError.{AddError}
 use Rattle.dali_script.specs.declared.records.AddError.TheVariants.{AddressTaken, RandomTaken}
 use Rattle.dali_script.specs.declared.records.AddError.TheVariants.{NotReserved}
-
-abbrev pub number_of_make : MakeError → ℕ
-number_of_make NoMemory = 1
 
 abbrev pub number_of_add : AddError → ℕ
 number_of_add AddressTaken = 3

@@ -1,11 +1,10 @@
 ghost use Rattle.std.specs.Prelude.{◌≡◌, ◌↔◌, ◌<◌, ◌≤◌, [], ◌∷◌, ◌++◌, length, IsTrue, IsOk, IfOk, IfErr, OnOk, OnErr};
 ghost use Rattle.std.specs.Prelude.{MatchOption, slice_index_or};
-ghost use Rattle.std.specs.Vec.{vec_capacity};
 ghost use Rattle.dali_script.specs.Records.{Assignment, Has, HasAddress, HasRandom, Marks, IsFresh, without_pair};
 
-use crate::records::{AddError, MakeError};
+use crate::records::AddError;
+use arrayvec::ArrayVec;
 use dali_frame::{Random24, Short};
-use std::alloc::{AllocError, Global};
 use std::marker::Model;
 
 /// Room for a pair of every short address.
@@ -13,46 +12,44 @@ const ROOM: usize = 64;
 
 /// Short addresses, each with the random address that it is for, in the order in which they were added.
 ///
-/// Contracts see the list of pairs. An address stands once, and a random address once. The room is 64 places from the
-/// first moment to the last: no call takes more.
+/// Contracts see the list of pairs. An address stands once, and a random address once. They lie in the value itself,
+/// which has room for all that there can be: no call takes memory.
 #[derive(Drop)]
 pub struct Assignments {
-    pairs: Vec<(Short, Random24)>,
+    pairs: ArrayVec<(Short, Random24), ROOM>,
 }
 
 impl Model for Assignments {
-    ghost use Rattle.std.specs.Prelude.{◌≡◌, List};
-    ghost use Rattle.std.specs.Vec.{vec_capacity};
+    ghost use Rattle.std.specs.Prelude.{List};
     ghost use Rattle.dali_script.specs.Records.{Assignment, IsMap};
 
     ghost Value = { List Assignment };
 
     ghost view = { λ a. a.pairs.items };
 
-    ghost invariant = { λ a. IsMap a.pairs.items × (vec_capacity a.pairs ≡ 64) };
+    ghost invariant = { λ a. IsMap a.pairs.items };
 }
 
 impl Assignments {
     ghost use Rattle.dali_script.specs.Records.{IsMap};
 
-    /// No pairs. It takes all the memory that they will need.
-    pub fn new(alloc: Global) -> Result<Assignments, MakeError>
-        ensures { IfOk result (λ a. a ≡ []) }
+    /// No pairs.
+    pub fn new() -> Assignments
+        ensures { result ≡ [] }
     {
-        let Ok(pairs) = Vec::with_capacity(alloc, ROOM) else {
-            return Err(MakeError::NoMemory);
-        };
-        Ok(Assignments { pairs })
+        Assignments {
+            pairs: ArrayVec::new(),
+        }
     }
 
     /// The same pairs once more.
-    pub fn copy(&self, alloc: Global) -> Result<Assignments, MakeError>
-        ensures { IfOk result (λ a. a ≡ self.now) }
+    pub fn copy(&self) -> Assignments
+        ensures { result ≡ self.now }
     {
-        match copied(alloc, &self.pairs) {
-            Ok(pairs) => Ok(Assignments { pairs }),
-            Err(_) => Err(MakeError::NoMemory),
-        }
+        let mut pairs = ArrayVec::new();
+        // All of them have room.
+        let _ = pairs.try_extend_from_slice(self.pairs());
+        Assignments { pairs }
     }
 
     /// The pairs, oldest first.
@@ -71,7 +68,7 @@ impl Assignments {
         ensures short { address < 64 }
     {
         let wanted = address.number();
-        for pair in &self.pairs {
+        for pair in self.pairs() {
             if pair.0.number() == wanted {
                 return Some(pair.1);
             }
@@ -85,7 +82,7 @@ impl Assignments {
             (HasRandom self.now random → ⊥)
             (λ address. Has self.now (address, random)) }
     {
-        for pair in &self.pairs {
+        for pair in self.pairs() {
             if pair.1 == random {
                 return Some(pair.0);
             }
@@ -98,7 +95,7 @@ impl Assignments {
         ensures { Marks self.now result }
     {
         let mut marks = [false; 64];
-        for pair in &self.pairs {
+        for pair in self.pairs() {
             marks[pair.0.number() as usize] = true;
         }
         marks
@@ -119,7 +116,7 @@ impl Assignments {
         self.address_for(random).is_some()
     }
 
-    /// Adds a pair as the last one. It takes no memory.
+    /// Adds a pair as the last one.
     ///
     /// `AddressTaken` comes before `RandomTaken`.
     pub fn insert(&mut self, address: Short, random: Random24) -> Result<(), AddError>
@@ -140,11 +137,11 @@ impl Assignments {
             return Err(AddError::RandomTaken);
         }
         // A further address is one of 64, so there is room for it.
-        self.pairs.push_reserved((address, random));
+        self.pairs.push((address, random));
         Ok(())
     }
 
-    /// Takes a pair away; the others stay in their order. It takes no memory, and gives none back.
+    /// Takes a pair away; the others stay in their order.
     ///
     /// `NotReserved` where the pair is not there.
     pub fn take_out(&mut self, address: Short, random: Random24) -> Result<(), AddError>
@@ -155,7 +152,7 @@ impl Assignments {
         ensures short { address < 64 }
         ensures map { IsMap self.new }
     {
-        match place_of(&self.pairs, (address, random)) {
+        match place_of(self.pairs(), (address, random)) {
             Some(place) => {
                 self.pairs.remove(place);
                 Ok(())
@@ -168,42 +165,30 @@ impl Assignments {
     pub fn same(&self, other: &Assignments) -> bool
         ensures { IsTrue result ↔ (self.now ≡ other.now) }
     {
-        are_same(&self.pairs, &other.pairs)
+        are_same(self.pairs(), other.pairs())
     }
 
     /// Whether these are the other ones with this pair as the last one.
     pub fn is_with(&self, other: &Assignments, last: (Short, Random24)) -> bool
         ensures { IsTrue result ↔ (self.now ≡ other.now ++ last ∷ []) }
     {
-        are_with(&self.pairs, &other.pairs, last)
+        are_with(self.pairs(), other.pairs(), last)
     }
 
     /// Whether these are the other ones without this pair.
     pub fn is_without(&self, other: &Assignments, gone: (Short, Random24)) -> bool
         ensures { IsTrue result ↔ (self.now ≡ without_pair gone other.now) }
     {
-        match place_of(&other.pairs, gone) {
+        let pairs = other.pairs();
+        match place_of(pairs, gone) {
             Some(place) => {
-                let (front, _) = other.pairs.split_at(place);
-                let (_, rest) = other.pairs.split_at(place + 1);
-                are_both(&self.pairs, front, rest)
+                let (front, _) = pairs.split_at(place);
+                let (_, rest) = pairs.split_at(place + 1);
+                are_both(self.pairs(), front, rest)
             }
             None => self.same(other),
         }
     }
-}
-
-/// The pairs once more, with room for all that there can be.
-fn copied(alloc: Global, pairs: &[(Short, Random24)]) -> Result<Vec<(Short, Random24)>, AllocError>
-    requires { length pairs.now ≤ 64 }
-    ensures items { IfOk result (λ copy. copy.items ≡ pairs.now) }
-    ensures room { IfOk result (λ copy. vec_capacity copy ≡ 64) }
-{
-    let mut copy = Vec::with_capacity(alloc, ROOM)?;
-    for pair in pairs {
-        copy.push_reserved(*pair);
-    }
-    Ok(copy)
 }
 
 fn are_same(pairs: &[(Short, Random24)], others: &[(Short, Random24)]) -> bool

@@ -4,9 +4,8 @@ ghost use Rattle.dali_script.specs.Records.{Kept, Has, HasAddress, HasRandom, Is
 
 use crate::assignments::Assignments;
 use crate::block::Block;
-use crate::records::{AddError, MakeError, Record};
+use crate::records::{AddError, Record};
 use dali_frame::{Random24, Short};
-use std::alloc::Global;
 use std::marker::Model;
 
 /// The records of one controller: its block, and what it has reserved and enrolled, each in the order of the records.
@@ -35,25 +34,25 @@ impl Kept {
     ghost use Rattle.dali_script.specs.Stages.{may_give, may_give_some, in_block};
 
     /// No records, for a controller with this block.
-    pub fn new(alloc: Global, block: Block) -> Result<Kept, MakeError>
-        ensures { IfOk result (λ k. k ≡ without_records block) }
+    pub fn new(block: Block) -> Kept
+        ensures { result ≡ without_records block }
     {
-        Ok(Kept {
+        Kept {
             block,
-            reserved: Assignments::new(alloc)?,
-            enrolled: Assignments::new(alloc)?,
-        })
+            reserved: Assignments::new(),
+            enrolled: Assignments::new(),
+        }
     }
 
     /// The same records once more.
-    pub fn copy(&self, alloc: Global) -> Result<Kept, MakeError>
-        ensures { IfOk result (λ k. k ≡ self.now) }
+    pub fn copy(&self) -> Kept
+        ensures { result ≡ self.now }
     {
-        Ok(Kept {
+        Kept {
             block: self.block,
-            reserved: self.reserved.copy(alloc)?,
-            enrolled: self.enrolled.copy(alloc)?,
-        })
+            reserved: self.reserved.copy(),
+            enrolled: self.enrolled.copy(),
+        }
     }
 
     /// The block.

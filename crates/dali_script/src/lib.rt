@@ -2,8 +2,8 @@
 //! meanwhile.
 //!
 //! A transaction is a front of one of seven scripts ([`Trace`]); what a controller has reserved and enrolled is [`Kept`].
-//! Both lists of it are [`Assignments`]. Only `new` and `copy` of these two take memory. [`Input`] and [`Order`] are
-//! what a machine that runs the scripts is told, and what it orders.
+//! Both lists of it are [`Assignments`]. [`Input`] and [`Order`] are what a machine that runs the scripts is told, and
+//! what it orders. Nothing here takes memory.
 #![tactic(auto)]
 
 mod assignments;
@@ -21,6 +21,6 @@ pub use block::Block;
 pub use finding::Finding;
 pub use kept::Kept;
 pub use orders::{Due, End, Fault, Input, Order};
-pub use records::{AddError, MakeError, Record};
+pub use records::{AddError, Record};
 pub use stage::Stage;
 pub use trace::{Entry, Trace};

@@ -1,6 +1,6 @@
 ghost use Rattle.std.specs.Prelude.{◌≡◌};
 ghost use Rattle.dali_script.specs.Records.{address_of, random_of};
-ghost use Rattle.dali_script.specs.Refusals.{number_of_make, number_of_add};
+ghost use Rattle.dali_script.specs.Refusals.{number_of_add};
 
 use dali_frame::{Random24, Short};
 use thiserror::Error;
@@ -34,25 +34,6 @@ impl Record {
         match self {
             Record::Reserve(_, random) | Record::Enrol(_, random) | Record::Release(_, random) =>
                 random,
-        }
-    }
-}
-
-/// Why there are no records. The number never changes.
-#[derive(Clone, Copy, Debug, PartialEq, Eq, Error)]
-pub enum MakeError {
-    /// 1: memory ran out.
-    #[error("out of memory")]
-    NoMemory,
-}
-
-impl MakeError {
-    /// The refusal's number.
-    pub fn number(self) -> u8
-        ensures { result ≡ number_of_make self }
-    {
-        match self {
-            MakeError::NoMemory => 1,
         }
     }
 }

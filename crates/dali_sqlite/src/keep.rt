@@ -14,9 +14,8 @@ use crate::replay::replay;
 use crate::table::ensure_table;
 use crate::write::write;
 use dali_reserve::{Keep, KeepError};
-use dali_script::{AddError, Block, Kept, MakeError, Record};
+use dali_script::{AddError, Block, Kept, Record};
 use sqlite::{Alter, Connection};
-use std::alloc::Global;
 
 /// A store in a SQLite database, over a connection that is handed in.
 ///
@@ -71,11 +70,7 @@ impl<S: Alter + Drop> SqliteKeep<S> {
     /// - 2 `StoreFailed`: the connection is inside a transaction, a table of this name cannot be read so, or the
     ///   disk failed.
     /// - 1 `NoMemory`.
-    pub fn over(
-        alloc: Global,
-        mut conn: Connection<S>,
-        block: Block,
-    ) -> Result<SqliteKeep<S>, KeepError>
+    pub fn over(mut conn: Connection<S>, block: Block) -> Result<SqliteKeep<S>, KeepError>
         ensures block { IfOk result (λ k. block_of k ≡ block) }
         ensures read { IfOk result (λ k. must_read k ≡ false) }
         ensures sound { IfOk result (λ k. IsUp (shown_by S.Store k) → IsOurs (state S.Store conn)
@@ -90,7 +85,7 @@ impl<S: Alter + Drop> SqliteKeep<S> {
             → (xs : List Record) → Holds (state S.Store conn) xs → AreGood (without_records block) xs → ⊥) }
     {
         ensure_table(&mut conn)?;
-        let (kept, count) = replay(alloc, &mut conn, block)?;
+        let (kept, count) = replay(&mut conn, block)?;
         Ok(SqliteKeep {
             conn,
             kept,
@@ -131,12 +126,9 @@ impl<S: Alter + Drop> Keep for SqliteKeep<S> {
     ghost replay = { λ k xs sound read held. (sound.known read xs held).0 };
 
     /// The replay of the table's rows, by `seq`. `BadStore` as of `over`.
-    fn read(&mut self, alloc: Global) -> Result<Kept, KeepError> {
-        let (kept, count) = replay(alloc, &mut self.conn, self.kept.block())?;
-        let answer = match kept.copy(alloc) {
-            Ok(answer) => answer,
-            Err(MakeError::NoMemory) => return Err(KeepError::NoMemory),
-        };
+    fn read(&mut self) -> Result<Kept, KeepError> {
+        let (kept, count) = replay(&mut self.conn, self.kept.block())?;
+        let answer = kept.copy();
         self.kept = kept;
         self.count = count;
         self.must_read = false;

@@ -23,7 +23,7 @@ impl SqliteKeep<MemStore> {
         ensures refusal { IfErr result RefusesRead }
     {
         match Connection::open_in_memory(alloc) {
-            Ok(conn) => SqliteKeep::over(alloc, conn, block),
+            Ok(conn) => SqliteKeep::over(conn, block),
             Err(_) => Err(KeepError::NoMemory),
         }
     }

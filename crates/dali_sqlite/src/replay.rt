@@ -11,13 +11,11 @@ ghost use Rattle.dali_sqlite.specs.Stored.{HasTable, Holds, IsUp, IsKnown};
 use crate::rows::take_all;
 use crate::statements::select;
 use dali_reserve::KeepError;
-use dali_script::{Block, Kept, MakeError};
+use dali_script::{Block, Kept};
 use sqlite::{Alter, Connection};
-use std::alloc::Global;
 
 /// The replay of the table's rows, and how many there are.
 pub fn replay<S: Alter>(
-    alloc: Global,
     conn: &mut Connection<S>,
     block: Block,
 ) -> Result<(Kept, usize), KeepError>
@@ -32,10 +30,7 @@ pub fn replay<S: Alter>(
     ensures refusal { IfErr result RefusesRead }
 {
     let rows = select(conn)?;
-    let mut kept = match Kept::new(alloc, block) {
-        Ok(kept) => kept,
-        Err(MakeError::NoMemory) => return Err(KeepError::NoMemory),
-    };
+    let mut kept = Kept::new(block);
     take_all(&mut kept, &rows)?;
     let count = rows.len();
     Ok((kept, count))

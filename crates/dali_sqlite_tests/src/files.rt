@@ -49,36 +49,35 @@ enum Part {
     Second,
 }
 
-fn goes_on<K: Keep>(rt: &impl Abort, alloc: Global, keep: &mut K) -> Result<(), Fail> {
+fn goes_on<K: Keep>(rt: &impl Abort, keep: &mut K) -> Result<(), Fail> {
     let added = [
         (Reserve(3, 0x000002), Err(KeepError::AddressTaken)),
         (Reserve(2, 0x000002), Ok(())),
         (Enrol(2, 0x000002), Ok(())),
     ];
-    commits(rt, alloc, keep, &added)?;
+    commits(rt, keep, &added)?;
     let reserved = [(0, 0x123456), (3, 0xFFFFFE), (1, 0x000000), (2, 0x000002)];
     let enrolled = [(0, 0x123456), (9, 0x000001), (2, 0x000002)];
-    reads(rt, alloc, keep, &reserved, &enrolled)
+    reads(rt, keep, &reserved, &enrolled)
 }
 
-fn told<K: Keep>(rt: &impl Abort, alloc: Global, keep: &mut K, part: Part) -> Result<(), Fail> {
+fn told<K: Keep>(rt: &impl Abort, keep: &mut K, part: Part) -> Result<(), Fail> {
     match part {
-        Part::First => commits_are_read_back(rt, alloc, keep),
-        Part::Second => goes_on(rt, alloc, keep),
+        Part::First => commits_are_read_back(rt, keep),
+        Part::Second => goes_on(rt, keep),
     }
 }
 
 /// A part of the story of a store of the block 0 to 3 over this connection, which is given back.
 fn told_over<S: Alter + Drop>(
     rt: &impl Abort,
-    alloc: Global,
     conn: Connection<S>,
     part: Part,
 ) -> Result<Connection<S>, Fail> {
-    match SqliteKeep::over(alloc, conn, block(0, 3)?) {
+    match SqliteKeep::over(conn, block(0, 3)?) {
         Ok(keep) => {
             let mut keep = keep;
-            match told(rt, alloc, &mut keep, part) {
+            match told(rt, &mut keep, part) {
                 Ok(()) => Ok(keep.into_connection()),
                 Err(fail) => Err(fail),
             }
@@ -93,7 +92,7 @@ fn told_in(rt: &impl Abort, alloc: Global, db: Memory, part: Part) -> Result<Mem
     ensures { IfOk result (λ db. IsTrue (memory_is_usable db)) }
 {
     match opened(alloc, db) {
-        Ok(conn) => match told_over(rt, alloc, conn, part) {
+        Ok(conn) => match told_over(rt, conn, part) {
             Ok(conn) => closed(conn),
             Err(fail) => Err(fail),
         },

@@ -80,16 +80,16 @@ struct Stop<'a> {
 }
 
 /// The record is committed, after a read.
-fn commits<K: Keep>(alloc: Global, keep: &mut K, added: &Record) -> bool {
-    match keep.read(alloc) {
+fn commits<K: Keep>(keep: &mut K, added: &Record) -> bool {
+    match keep.read() {
         Ok(kept) => kept.fits(added) && keep.commit(*added).is_ok(),
         Err(_) => false,
     }
 }
 
-fn fills<K: Keep>(alloc: Global, keep: &mut K, records: &[Record]) -> bool {
+fn fills<K: Keep>(keep: &mut K, records: &[Record]) -> bool {
     for added in records {
-        if !commits(alloc, keep, added) {
+        if !commits(keep, added) {
             return false;
         }
     }
@@ -97,8 +97,8 @@ fn fills<K: Keep>(alloc: Global, keep: &mut K, records: &[Record]) -> bool {
 }
 
 /// Whether a read has the records from before with the new one, or without it; None where it has others.
-fn has_added<K: Keep>(alloc: Global, keep: &mut K, stop: &Stop<'_>) -> Option<bool> {
-    match keep.read(alloc) {
+fn has_added<K: Keep>(keep: &mut K, stop: &Stop<'_>) -> Option<bool> {
+    match keep.read() {
         Ok(kept) => {
             if kept.is_with(stop.before, stop.added) {
                 Some(true)
@@ -113,24 +113,22 @@ fn has_added<K: Keep>(alloc: Global, keep: &mut K, stop: &Stop<'_>) -> Option<bo
 }
 
 /// A record that is not there yet, which it may be only where its commit failed, is committed now.
-fn goes_on<K: Keep>(alloc: Global, keep: &mut K, stop: &Stop<'_>) -> bool {
-    match has_added(alloc, keep, stop) {
+fn goes_on<K: Keep>(keep: &mut K, stop: &Stop<'_>) -> bool {
+    match has_added(keep, stop) {
         Some(true) => true,
         Some(false) => {
-            !stop.is_done
-                && commits(alloc, keep, stop.added)
-                && has_added(alloc, keep, stop) == Some(true)
+            !stop.is_done && commits(keep, stop.added) && has_added(keep, stop) == Some(true)
         }
         None => false,
     }
 }
 
-fn does<K: Keep>(alloc: Global, keep: &mut K, deed: Deed<'_>) -> bool {
+fn does<K: Keep>(keep: &mut K, deed: Deed<'_>) -> bool {
     match deed {
         Deed::Table => true,
-        Deed::Fill(records) => fills(alloc, keep, records),
-        Deed::Commit(added) => commits(alloc, keep, added),
-        Deed::GoOn(stop) => goes_on(alloc, keep, stop),
+        Deed::Fill(records) => fills(keep, records),
+        Deed::Commit(added) => commits(keep, added),
+        Deed::GoOn(stop) => goes_on(keep, stop),
     }
 }
 
@@ -145,7 +143,6 @@ fn makes_table<S: Alter + Drop>(conn: Connection<S>) -> Done<S> {
 
 /// None where the store is refused, which drops what lay under it.
 fn done_over<S: Alter + Drop>(
-    alloc: Global,
     conn: Connection<S>,
     block: Block,
     deed: Deed<'_>,
@@ -153,10 +150,10 @@ fn done_over<S: Alter + Drop>(
     if matches!(deed, Deed::Table) {
         return Some(makes_table(conn));
     }
-    match SqliteKeep::over(alloc, conn, block) {
+    match SqliteKeep::over(conn, block) {
         Ok(keep) => {
             let mut keep = keep;
-            let is_done = does(alloc, &mut keep, deed);
+            let is_done = does(&mut keep, deed);
             Some((keep.into_connection().into_store(), is_done))
         }
         Err(_) => None,
@@ -185,7 +182,7 @@ fn done_in<D: Disk + Drop>(
     deed: Deed<'_>,
 ) -> Option<Done<Files<D>>> {
     match opened(alloc, files) {
-        Ok(conn) => match done_over(alloc, conn, block, deed) {
+        Ok(conn) => match done_over(conn, block, deed) {
             Some((store, is_done)) => Some((store.close(), is_done)),
             None => None,
         },
@@ -372,7 +369,7 @@ fn commits_after(
     records: &[Record],
     added: &Record,
 ) -> Result<(), Fail> {
-    let mut before = Kept::new(alloc, block(0, 63)?)?;
+    let mut before = Kept::new(block(0, 63)?);
     commits_over(rt, alloc, which, records, &mut before, added)
 }
 
@@ -400,7 +397,7 @@ fn releases_at_each<R: Abort + AllocGlobal>(rt: &R, which: Which) -> Result<(), 
 
 fn makes_table_at_each<R: Abort + AllocGlobal>(rt: &R, which: Which) -> Result<(), Fail> {
     let added = record_at(0)?;
-    let before = Kept::new(rt.alloc(), block(0, 63)?)?;
+    let before = Kept::new(block(0, 63)?);
     let begun = empty(rt.alloc());
     stops_at_each(rt, rt.alloc(), &begun, which, Deed::Table, &before, &added)
 }

@@ -14,11 +14,7 @@ use std::process::Abort;
 use std::test::Fail;
 
 /// Reads, and commits what fits what was read: all that a worker does with its store.
-fn read_and_commit<K: Keep>(
-    keep: &mut K,
-    alloc: Global,
-    added: Record,
-) -> Result<Result<(), KeepError>, Fail>
+fn read_and_commit<K: Keep>(keep: &mut K, added: Record) -> Result<Result<(), KeepError>, Fail>
     ensures up { K.is_up keep.new → K.is_up keep.old }
     ensures sound { K.is_sound keep.old → K.is_up keep.new → K.is_sound keep.new }
     ensures list { K.is_sound keep.old → K.is_up keep.new → (xs : List Record) → K.holds keep.old xs
@@ -27,7 +23,7 @@ fn read_and_commit<K: Keep>(
         → (xs : List Record) → K.holds keep.old xs → K.holds keep.new (xs ++ added ∷ []))) }
     ensures read { IfOk result (λ answer. OnOk answer (K.must_read keep.new ≡ false)) }
 {
-    let kept = keep.read(alloc)?;
+    let kept = keep.read()?;
     if kept.fits(&added) {
         Ok(keep.commit(added))
     } else {
@@ -38,12 +34,11 @@ fn read_and_commit<K: Keep>(
 /// Commits each of these in turn, with this answer.
 pub fn commits<K: Keep>(
     rt: &impl Abort,
-    alloc: Global,
     keep: &mut K,
     added: &[(Pair, Result<(), KeepError>)],
 ) -> Result<(), Fail> {
     for (one, wanted) in added {
-        same(rt, &read_and_commit(keep, alloc, one.record()?)?, wanted);
+        same(rt, &read_and_commit(keep, one.record()?)?, wanted);
     }
     Ok(())
 }
@@ -51,23 +46,18 @@ pub fn commits<K: Keep>(
 /// A read has these reserved and enrolled, oldest first.
 pub fn reads<K: Keep>(
     rt: &impl Abort,
-    alloc: Global,
     keep: &mut K,
     reserved: &[(u8, u32)],
     enrolled: &[(u8, u32)],
 ) -> Result<(), Fail> {
-    let kept = keep.read(alloc)?;
+    let kept = keep.read()?;
     are_pairs(rt, kept.reserved(), reserved);
     are_pairs(rt, kept.enrolled(), enrolled);
     Ok(())
 }
 
 /// A list of commits with each refusal, and what is read back.
-pub fn commits_are_read_back<K: Keep>(
-    rt: &impl Abort,
-    alloc: Global,
-    keep: &mut K,
-) -> Result<(), Fail> {
+pub fn commits_are_read_back<K: Keep>(rt: &impl Abort, keep: &mut K) -> Result<(), Fail> {
     let added = [
         (Reserve(0, 0x123456), Ok(())),
         (Reserve(0, 0x000001), Err(KeepError::AddressTaken)),
@@ -82,59 +72,55 @@ pub fn commits_are_read_back<K: Keep>(
         (Reserve(3, 0xFFFFFE), Ok(())),
         (Reserve(1, 0x000000), Ok(())),
     ];
-    commits(rt, alloc, keep, &added)?;
+    commits(rt, keep, &added)?;
     let reserved = [(0, 0x123456), (3, 0xFFFFFE), (1, 0x000000)];
     let enrolled = [(0, 0x123456), (9, 0x000001)];
-    reads(rt, alloc, keep, &reserved, &enrolled)
+    reads(rt, keep, &reserved, &enrolled)
 }
 
 /// A reservation is released, and its address reserved for another number: what is read back.
-fn released_addresses_are_free_again<K: Keep>(
-    rt: &impl Abort,
-    alloc: Global,
-    keep: &mut K,
-) -> Result<(), Fail> {
+fn released_addresses_are_free_again<K: Keep>(rt: &impl Abort, keep: &mut K) -> Result<(), Fail> {
     let added = [
         (Reserve(0, 0x123456), Ok(())),
         (Release(0, 0x000001), Err(KeepError::NotReserved)),
         (Release(0, 0x123456), Ok(())),
         (Reserve(0, 0x000001), Ok(())),
     ];
-    commits(rt, alloc, keep, &added)?;
-    reads(rt, alloc, keep, &[(0, 0x000001)], &[])
+    commits(rt, keep, &added)?;
+    reads(rt, keep, &[(0, 0x000001)], &[])
 }
 
 /// A store over a database in memory, of this block.
 pub fn in_memory(alloc: Global, bounds: (u8, u8)) -> Result<SqliteKeep<MemStore>, Fail> {
     let conn = Connection::open_in_memory(alloc)?;
-    Ok(SqliteKeep::over(alloc, conn, block(bounds.0, bounds.1)?)?)
+    Ok(SqliteKeep::over(conn, block(bounds.0, bounds.1)?)?)
 }
 
 #[test]
 fn a_store_in_memory_keeps_a_list(rt: HostRuntime) -> Result<(), Fail> {
-    let mut keep = MemoryKeep::new(rt.alloc(), block(0, 3)?)?;
-    commits_are_read_back(&rt, rt.alloc(), &mut keep)
+    let mut keep = MemoryKeep::new(block(0, 3)?);
+    commits_are_read_back(&rt, &mut keep)
 }
 
 #[test]
 fn a_store_in_a_database_keeps_a_list(rt: HostRuntime) -> Result<(), Fail> {
     let mut keep = in_memory(rt.alloc(), (0, 3))?;
-    commits_are_read_back(&rt, rt.alloc(), &mut keep)
+    commits_are_read_back(&rt, &mut keep)
 }
 
 #[test]
 fn a_store_in_memory_releases(rt: HostRuntime) -> Result<(), Fail> {
-    let mut keep = MemoryKeep::new(rt.alloc(), block(0, 3)?)?;
-    released_addresses_are_free_again(&rt, rt.alloc(), &mut keep)
+    let mut keep = MemoryKeep::new(block(0, 3)?);
+    released_addresses_are_free_again(&rt, &mut keep)
 }
 
 /// A new store over the same connection reads the same.
 #[test]
 fn a_store_in_a_database_releases(rt: HostRuntime) -> Result<(), Fail> {
     let mut keep = in_memory(rt.alloc(), (0, 3))?;
-    released_addresses_are_free_again(&rt, rt.alloc(), &mut keep)?;
-    let again = SqliteKeep::over(rt.alloc(), keep.into_connection(), block(0, 3)?);
-    reads(&rt, rt.alloc(), &mut again?, &[(0, 0x000001)], &[])
+    released_addresses_are_free_again(&rt, &mut keep)?;
+    let again = SqliteKeep::over(keep.into_connection(), block(0, 3)?);
+    reads(&rt, &mut again?, &[(0, 0x000001)], &[])
 }
 
 /// Commits a record that fits records of the store's block, with no read before it.
@@ -154,7 +140,7 @@ fn commit_unread<K: Keep>(
 }
 
 /// Three commits without a read before them.
-fn begins<K: Keep>(rt: &impl Abort, alloc: Global, keep: &mut K, none: &Kept) -> Result<(), Fail>
+fn begins<K: Keep>(rt: &impl Abort, keep: &mut K, none: &Kept) -> Result<(), Fail>
     requires { K.block keep.old ≡ none.now.block }
 {
     let first = commit_unread(keep, none, Reserve(2, 1).record()?)?;
@@ -163,34 +149,34 @@ fn begins<K: Keep>(rt: &impl Abort, alloc: Global, keep: &mut K, none: &Kept) ->
     same(rt, &second, &Err(KeepError::AddressTaken));
     let third = commit_unread(keep, none, Enrol(2, 1).record()?)?;
     same(rt, &third, &Ok(()));
-    reads(rt, alloc, keep, &[(2, 1)], &[(2, 1)])
+    reads(rt, keep, &[(2, 1)], &[(2, 1)])
 }
 
 /// A new store takes its first commits without a read.
 #[test]
 fn the_first_commit_needs_no_read(rt: HostRuntime) -> Result<(), Fail> {
-    let none = Kept::new(rt.alloc(), block(0, 3)?)?;
+    let none = Kept::new(block(0, 3)?);
     let conn = Connection::open_in_memory(rt.alloc())?;
-    let mut keep = SqliteKeep::over(rt.alloc(), conn, none.block())?;
-    begins(&rt, rt.alloc(), &mut keep, &none)
+    let mut keep = SqliteKeep::over(conn, none.block())?;
+    begins(&rt, &mut keep, &none)
 }
 
 /// A reservation and an enrolment of each short address are committed.
-pub fn fill<K: Keep>(rt: &impl Abort, alloc: Global, keep: &mut K) -> Result<(), Fail> {
+pub fn fill<K: Keep>(rt: &impl Abort, keep: &mut K) -> Result<(), Fail> {
     for address in 0..64 {
         let drawn = u32::from(address) + 0x400000;
         let added = [
             (Reserve(address, drawn), Ok(())),
             (Enrol(63 - address, drawn), Ok(())),
         ];
-        commits(rt, alloc, keep, &added)?;
+        commits(rt, keep, &added)?;
     }
     Ok(())
 }
 
 /// Every address is taken, in both kinds.
-fn is_full<K: Keep>(rt: &impl Abort, alloc: Global, keep: &mut K) -> Result<(), Fail> {
-    let kept = keep.read(alloc)?;
+fn is_full<K: Keep>(rt: &impl Abort, keep: &mut K) -> Result<(), Fail> {
+    let kept = keep.read()?;
     same(
         rt,
         &(kept.reserved().len(), kept.enrolled().len()),
@@ -202,18 +188,18 @@ fn is_full<K: Keep>(rt: &impl Abort, alloc: Global, keep: &mut K) -> Result<(), 
 
 #[test]
 fn every_address_has_room_in_memory(rt: HostRuntime) -> Result<(), Fail> {
-    let mut keep = MemoryKeep::new(rt.alloc(), block(0, 63)?)?;
-    fill(&rt, rt.alloc(), &mut keep)?;
-    is_full(&rt, rt.alloc(), &mut keep)
+    let mut keep = MemoryKeep::new(block(0, 63)?);
+    fill(&rt, &mut keep)?;
+    is_full(&rt, &mut keep)
 }
 
 #[test]
 fn every_address_has_room_in_a_database(rt: HostRuntime) -> Result<(), Fail> {
     let mut keep = in_memory(rt.alloc(), (0, 63))?;
-    fill(&rt, rt.alloc(), &mut keep)?;
-    is_full(&rt, rt.alloc(), &mut keep)?;
-    let again = SqliteKeep::over(rt.alloc(), keep.into_connection(), block(0, 63)?);
-    is_full(&rt, rt.alloc(), &mut again?)
+    fill(&rt, &mut keep)?;
+    is_full(&rt, &mut keep)?;
+    let again = SqliteKeep::over(keep.into_connection(), block(0, 63)?);
+    is_full(&rt, &mut again?)
 }
 
 /// The rows are those that the documents show.
@@ -247,6 +233,6 @@ fn records_are_rows_that_other_programs_read(rt: HostRuntime) -> Result<(), Fail
         (Enrol(9, 0xFFFFFE), Ok(())),
         (Release(2, 0x123456), Ok(())),
     ];
-    commits(&rt, rt.alloc(), &mut keep, &added)?;
+    commits(&rt, &mut keep, &added)?;
     shows_rows(&rt, &mut keep.into_connection())
 }

@@ -30,7 +30,7 @@ fn database(alloc: Global, table: &str, rows: &str) -> Result<Connection<MemStor
 /// What a store of the block 0 to 3 over such a database answers.
 fn over(alloc: Global, table: &str, rows: &str) -> Result<Result<(), KeepError>, Fail> {
     let conn = database(alloc, table, rows)?;
-    Ok(SqliteKeep::over(alloc, conn, block(0, 3)?).map(|_| ()))
+    Ok(SqliteKeep::over(conn, block(0, 3)?).map(|_| ()))
 }
 
 /// Each of these leaves a table over which a store is refused so.
@@ -128,8 +128,8 @@ fn holds(
     enrolled: &[(u8, u32)],
 ) -> Result<(), Fail> {
     let conn = database(alloc, TABLE, rows)?;
-    let mut keep = SqliteKeep::over(alloc, conn, block(0, 3)?)?;
-    reads(rt, alloc, &mut keep, reserved, enrolled)
+    let mut keep = SqliteKeep::over(conn, block(0, 3)?)?;
+    reads(rt, &mut keep, reserved, enrolled)
 }
 
 #[test]

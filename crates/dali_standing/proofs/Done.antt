@@ -335,30 +335,25 @@ up_done s was c kept at seat view settled there down has read seat_is =
     (rw seat_is (ap (λ (p : Seat). record { fitted = s.fitted; bus = s.bus; trace = s.trace; seats = with_seat s.seats c (up_at c kept p) }) is))
     (record { moves = moved s _ _ (moves_up s c kept there_s down_s has_s); settled = settled_up s c kept settled there_s down_s }))
 
--- a seat that came up with what agrees, or was refused
-came_up : (res : Result (Unit {0}) Refusal) (s : Seated) (was : Standing) (c : ℕ) (copy : Kept) (kept : Bool) (at seat : Seat) → flat s ≡ was → c < length was.controllers → Agrees (controller_on was c) copy kept
-    → at ≡ get_or s.seats c at → OnOk res ((k : Bool) → Agrees at.controller copy k → seat ≡ up_at c k at) → OnOk res (seat ≡ up_at c kept at)
-came_up (Err e) s was c copy kept at seat view there agrees read ok = tt
-came_up (Ok x) s was c copy kept at seat view there agrees read ok =
+-- a seat that came up with what agrees
+came_up : (s : Seated) (was : Standing) (c : ℕ) (copy : Kept) (kept : Bool) (at seat : Seat) → flat s ≡ was → c < length was.controllers → Agrees (controller_on was c) copy kept
+    → at ≡ get_or s.seats c at → ((k : Bool) → Agrees at.controller copy k → seat ≡ up_at c k at) → seat ≡ up_at c kept at
+came_up s was c copy kept at seat view there agrees read up =
     let there_s : c < length s.seats = subst (λ n. c < n) (length-map s.seats (λ p. p.controller)) (subst (λ (w : Standing). c < length w.controllers) (sym view) there) in
     let is : at ≡ seat_at s c = place_read s.seats c at read there_s in
-    ok kept (subst (λ (p : Seat). Agrees p.controller copy kept) (sym is) (subst (λ (k : Controller). Agrees k copy kept) (on_place s was c view) agrees))
+    up kept (subst (λ (p : Seat). Agrees p.controller copy kept) (sym is) (subst (λ (k : Controller). Agrees k copy kept) (on_place s was c view) agrees))
 
-pub up_settles : (res : Result (Unit {0}) Refusal) (s : Seated) (was : Standing) (c : ℕ) (copy : Kept) (kept : Bool) (at seat : Seat) → flat s ≡ was → Settled s → c < length was.controllers → (controller_on was c).up ≡ false
-    → Agrees (controller_on was c) copy kept → at ≡ get_or s.seats c at → OnOk res ((k : Bool) → Agrees at.controller copy k → seat ≡ up_at c k at) → OnErr res (seat ≡ at)
+pub up_settles : (s : Seated) (was : Standing) (c : ℕ) (copy : Kept) (kept : Bool) (at seat : Seat) → flat s ≡ was → Settled s → c < length was.controllers → (controller_on was c).up ≡ false
+    → Agrees (controller_on was c) copy kept → at ≡ get_or s.seats c at → ((k : Bool) → Agrees at.controller copy k → seat ≡ up_at c k at)
     → Settled (record { fitted = s.fitted; bus = s.bus; trace = s.trace; seats = with_seat s.seats c seat })
-up_settles (Ok x) s was c copy kept at seat view settled there down agrees read ok same =
-    (up_done s was c kept at seat view settled there down agrees.0 read (came_up (Ok x) s was c copy kept at seat view there agrees read ok)).settled
-up_settles (Err e) s was c copy kept at seat view settled there down agrees read ok same =
-    let unchanged : with_seat s.seats c seat ≡ s.seats = ap (λ (p : Seat). with_seat s.seats c p) (same ∙ read) ∙ set-get_or s.seats c at in
-    rw unchanged settled
+up_settles s was c copy kept at seat view settled there down agrees read up =
+    (up_done s was c kept at seat view settled there down agrees.0 read (came_up s was c copy kept at seat view there agrees read up)).settled
 
-pub up_moves : (res : Result (Unit {0}) Refusal) (s : Seated) (was : Standing) (c : ℕ) (copy : Kept) (at seat : Seat) → flat s ≡ was → Settled s → c < length was.controllers → (controller_on was c).up ≡ false
-    → at ≡ get_or s.seats c at → OnOk res ((k : Bool) → Agrees at.controller copy k → seat ≡ up_at c k at)
-    → OnOk res ((k : Bool) → Agrees (controller_on was c) copy k → Moves was (event.Up c k) (flat (record { fitted = s.fitted; bus = s.bus; trace = s.trace; seats = with_seat s.seats c seat })))
-up_moves (Ok x) s was c copy at seat view settled there down read ok = λ k agrees.
-    (up_done s was c k at seat view settled there down agrees.0 read (came_up (Ok x) s was c copy k at seat view there agrees read ok)).moves
-up_moves (Err e) s was c copy at seat view settled there down read ok = tt
+pub up_moves : (s : Seated) (was : Standing) (c : ℕ) (copy : Kept) (at seat : Seat) → flat s ≡ was → Settled s → c < length was.controllers → (controller_on was c).up ≡ false
+    → at ≡ get_or s.seats c at → ((k : Bool) → Agrees at.controller copy k → seat ≡ up_at c k at)
+    → (k : Bool) → Agrees (controller_on was c) copy k → Moves was (event.Up c k) (flat (record { fitted = s.fitted; bus = s.bus; trace = s.trace; seats = with_seat s.seats c seat }))
+up_moves s was c copy at seat view settled there down read up k agrees =
+    (up_done s was c k at seat view settled there down agrees.0 read (came_up s was c copy k at seat view there agrees read up)).moves
 
 -- ---------------------------------------------------------------- the request that is next may be sent
 

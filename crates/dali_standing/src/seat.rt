@@ -11,12 +11,10 @@ ghost use Rattle.dali_events.specs.Allowed.{IsDue};
 ghost use Rattle.dali_controller.specs.Orders.{machine_after};
 ghost use Rattle.dali_standing.specs.Seats.{due_of, MayAnswer, Waits};
 
-use crate::refusal::Refusal;
 use dali_controller::Machine;
 use dali_enrol::Table;
 use dali_frame::{Answer, Forward};
 use dali_script::{Block, Due, Finding, Input, Kept, Order, Record, Trace};
-use std::alloc::Global;
 use std::marker::Model;
 
 /// A controller's place on a site: its machine while it is up, its records while it is down, and what the bus has told
@@ -42,23 +40,15 @@ impl Model for Seat {
 }
 
 impl Seat {
-    ghost use Rattle.dali_standing.specs.declared.refusal.Refusal.TheVariants as refusal;
     ghost use Rattle.dali_standing.specs.Seats.{begun_at, acted_at, down_at, up_at, told_at, told_lost, IsTied};
     ghost use Rattle.dali_standing.specs.Seats.{trace_of, Agrees, seat_by};
     ghost use Rattle.dali_script.specs.declared.orders.Input.TheVariants as input;
 
     /// The place of controller `id`, which is up and keeps nothing yet.
-    pub(crate) fn new(alloc: Global, id: u8, block: Block) -> Result<Seat, Refusal>
-        ensures ok { IfOk result (λ seat. seat ≡ begun_at id block) }
-        ensures err { IfErr result (λ e. e ≡ refusal.NoMemory) }
+    pub(crate) fn new(id: u8, block: Block) -> Seat
+        ensures { result ≡ begun_at id block }
     {
-        let Ok(kept) = Kept::new(alloc, block) else {
-            return Err(Refusal::NoMemory);
-        };
-        let Ok(machine) = Machine::new(alloc, id, kept.block(), &kept) else {
-            return Err(Refusal::NoMemory);
-        };
-        Ok(Seat::begun(machine))
+        Seat::begun(Machine::new(id, &Kept::new(block)))
     }
 
     /// The place of a controller that begins, with a machine that has ordered nothing yet.
@@ -157,17 +147,10 @@ impl Seat {
     }
 
     /// The controller comes up with a copy of what it keeps.
-    pub(crate) fn up(&mut self, alloc: Global, id: u8, copy: &Kept) -> Result<(), Refusal>
-        ensures ok { OnOk result ((kept : Bool)
-            → Agrees self.old.controller copy.now kept → self.new ≡ up_at id kept self.old) }
-        ensures err { OnErr result (self.new ≡ self.old) }
-        ensures memory { IfErr result (λ e. e ≡ refusal.NoMemory) }
+    pub(crate) fn up(&mut self, id: u8, copy: &Kept)
+        ensures { (kept : Bool) → Agrees self.old.controller copy.now kept → self.new ≡ up_at id kept self.old }
     {
-        let Ok(machine) = Machine::new(alloc, id, copy.block(), copy) else {
-            return Err(Refusal::NoMemory);
-        };
-        *self = Seat::begun(machine);
-        Ok(())
+        *self = Seat::begun(Machine::new(id, copy));
     }
 
     /// What the bus has told the controller, and it has not acted on.

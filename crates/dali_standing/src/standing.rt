@@ -62,8 +62,8 @@ impl Standing {
     ghost use Rattle.dali_standing.specs.Standing.{Standing, stand_of, machines_at, controller_on, machine_in, Moves};
     ghost use Rattle.dali_standing.specs.Standing.{MayBeSent};
 
-    /// What stands on a site of this plan at its start. It takes all the memory that it will need until a controller
-    /// comes up anew. `queue` requests may wait.
+    /// What stands on a site of this plan at its start. It takes all the memory that it will need. `queue` requests may
+    /// wait.
     pub fn new(alloc: Global, plan: &Plan, queue: usize) -> Result<Standing, Refusal>
         requires least { 1 ≤ queue }
         requires most { queue ≤ 1024 }
@@ -341,17 +341,15 @@ impl Standing {
     }
 
     /// A controller comes up with a copy of what it keeps.
-    pub fn up(&mut self, alloc: Global, c: u8, copy: &Kept) -> Result<(), Refusal>
+    pub fn up(&mut self, c: u8, copy: &Kept)
         requires known { c < length self.old.controllers }
         requires down { (controller_on self.old c).up ≡ false }
         requires agrees { (kept : Bool) × Agrees (controller_on self.old c) copy.now kept }
-        ensures ok { OnOk result ((kept : Bool)
-            → Agrees (controller_on self.old c) copy.now kept → Moves self.old (event.Up c kept) self.new) }
-        ensures err { OnErr result (self.new ≡ self.old) }
-        ensures memory { IfErr result (λ e. e ≡ refusal.NoMemory) }
+        ensures { (kept : Bool)
+            → Agrees (controller_on self.old c) copy.now kept → Moves self.old (event.Up c kept) self.new }
     {
         let seat = &mut self.seats[c as usize];
-        seat.up(alloc, c, copy)
+        seat.up(c, copy);
     }
 }
 
@@ -363,8 +361,7 @@ fn seats(alloc: Global, blocks: &[Block]) -> Result<Vec<Seat>, Refusal>
 {
     let mut seats = Vec::with_capacity(alloc, blocks.len())?;
     for (c, block) in blocks.iter().enumerate() {
-        let seat = Seat::new(alloc, c as u8, *block)?;
-        seats.push_reserved(seat);
+        seats.push_reserved(Seat::new(c as u8, *block));
     }
     Ok(seats)
 }

@@ -9,8 +9,8 @@ use std::process::Abort;
 use std::test::Fail;
 
 /// A table of two gear.
-fn table_of(alloc: Global) -> Result<Table, Fail> {
-    let mut table = Table::new(alloc, block(0, 3)?)?;
+fn table_of() -> Result<Table, Fail> {
+    let mut table = Table::new(block(0, 3)?);
     enrol(&mut table)?;
     Ok(table)
 }
@@ -39,7 +39,7 @@ fn cards<R: Abort>(rt: &R, alloc: Global, table: &Table) -> Result<(), Fail> {
 
 #[test]
 fn an_entry_has_a_card(rt: HostRuntime) -> Result<(), Fail> {
-    cards(&rt, rt.alloc(), &table_of(rt.alloc())?)
+    cards(&rt, rt.alloc(), &table_of()?)
 }
 
 /// A pass sees this at an address.
@@ -110,5 +110,5 @@ fn on_a_directory<R: Abort>(rt: &R, alloc: Global, table: &Table) -> Result<(), 
 
 #[test]
 fn an_entry_is_posted_once_and_seen_by_each_pass(rt: HostRuntime) -> Result<(), Fail> {
-    on_a_directory(&rt, rt.alloc(), &table_of(rt.alloc())?)
+    on_a_directory(&rt, rt.alloc(), &table_of()?)
 }

@@ -3,7 +3,7 @@
 use super::values::Ordered::{Commit, Done, Halt, NotDue, Put};
 use super::values::Pair::{Enrol, Release, Reserve};
 use super::values::{Ordered, Pair, are_pairs, kept_of, same};
-use dali_controller::{Machine, MachineError, StepError};
+use dali_controller::{Machine, StepError};
 use dali_frame::Answer;
 use dali_script::{End, Fault, Input};
 use std::alloc::Global;
@@ -68,9 +68,9 @@ fn byte(byte: u8) -> Input {
 }
 
 /// A machine of a block, with these records.
-fn machine_of(alloc: Global, bounds: (u8, u8), records: &[Pair]) -> Result<Machine, Fail> {
-    let kept = kept_of(alloc, bounds, records)?;
-    Ok(Machine::new(alloc, 0, kept.block(), &kept)?)
+fn machine_of(bounds: (u8, u8), records: &[Pair]) -> Result<Machine, Fail> {
+    let kept = kept_of(bounds, records)?;
+    Ok(Machine::new(0, &kept))
 }
 
 /// What the machine orders when it is told this.
@@ -117,7 +117,7 @@ fn plays<R: Abort + AllocGlobal>(
     searched: u32,
     parts: &[&[Moment]],
 ) -> Result<(), Fail> {
-    let mut machine = machine_of(rt.alloc(), bounds, records)?;
+    let mut machine = machine_of(bounds, records)?;
     searches(rt, &mut machine, searched);
     goes_on(rt, &mut machine, parts);
     Ok(())
@@ -231,7 +231,7 @@ fn a_full_block_closes(rt: HostRuntime) -> Result<(), Fail> {
 
 /// With 0 reserved for 123456, the machine visits that gear at its start; then it is told this.
 fn visits<R: Abort + AllocGlobal>(rt: &R, parts: &[&[Moment]]) -> Result<(), Fail> {
-    let mut machine = machine_of(rt.alloc(), (0, 3), &[Reserve(0, 0x123456)])?;
+    let mut machine = machine_of((0, 3), &[Reserve(0, 0x123456)])?;
     goes_on(rt, &mut machine, &[&VISIT]);
     goes_on(rt, &mut machine, parts);
     Ok(())
@@ -418,7 +418,7 @@ fn visits_enrol_what_they_hear(rt: HostRuntime) -> Result<(), Fail> {
         (SILENCE, Commit(Enrol(3, 0x000003))),
     ];
     let [begun, told, opened] = [(0, 0x000001), (5, 0xABCDEF), (3, 0x000003)];
-    let mut machine = machine_of(rt.alloc(), (0, 3), &records)?;
+    let mut machine = machine_of((0, 3), &records)?;
     has_after(&rt, &mut machine, &first, &[begun]);
     let committed = [
         (Input::Committed, Commit(Release(1, 0xABCDEF))),
@@ -434,7 +434,7 @@ fn visits_enrol_what_they_hear(rt: HostRuntime) -> Result<(), Fail> {
 /// The machine reserves 0 for the gear that it has found, and the gear has address 2 by then.
 #[test]
 fn a_reservation_of_gear_with_another_address_is_released(rt: HostRuntime) -> Result<(), Fail> {
-    let mut machine = machine_of(rt.alloc(), (0, 3), &[])?;
+    let mut machine = machine_of((0, 3), &[])?;
     searches(&rt, &mut machine, SEARCHED);
     let moments = [
         (YES, Commit(Reserve(0, 0x000000))),
@@ -457,7 +457,7 @@ fn a_reservation_of_gear_with_another_address_is_released(rt: HostRuntime) -> Re
 #[test]
 fn nothing_is_released_at_the_start(rt: HostRuntime) -> Result<(), Fail> {
     let records = [Reserve(0, 0x123456), Enrol(2, 0x123456)];
-    let mut machine = machine_of(rt.alloc(), (0, 3), &records)?;
+    let mut machine = machine_of((0, 3), &records)?;
     steps(&rt, &mut machine, Input::Start, Put(3, 0xA100));
     are_pairs(&rt, machine.kept().reserved(), &[(0, 0x123456)]);
     Ok(())
@@ -530,7 +530,7 @@ fn sixteen_silent_searches_give_up(rt: HostRuntime) -> Result<(), Fail> {
 
 #[test]
 fn a_machine_gives_its_records_away(rt: HostRuntime) -> Result<(), Fail> {
-    let machine = machine_of(rt.alloc(), (0, 3), &[Enrol(2, 0x123456)])?;
+    let machine = machine_of((0, 3), &[Enrol(2, 0x123456)])?;
     are_pairs(&rt, machine.kept().enrolled(), &[(2, 0x123456)]);
     let kept = machine.into_kept();
     are_pairs(&rt, kept.enrolled(), &[(2, 0x123456)]);
@@ -539,10 +539,9 @@ fn a_machine_gives_its_records_away(rt: HostRuntime) -> Result<(), Fail> {
 
 #[test]
 fn refusals_have_numbers(rt: HostRuntime) -> Result<(), Fail> {
-    let machine = machine_of(rt.alloc(), (0, 3), &[Enrol(2, 0x123456)])?;
+    let machine = machine_of((0, 3), &[Enrol(2, 0x123456)])?;
     same(&rt, &machine.id(), &0);
     are_pairs(&rt, machine.table().entries(), &[(2, 0x123456)]);
-    let numbers = [StepError::NotDue.number(), MachineError::NoMemory.number()];
-    same(&rt, &numbers, &[1, 2]);
+    same(&rt, &StepError::NotDue.number(), &1);
     Ok(())
 }

@@ -2,7 +2,7 @@
 
 use super::values::Pair::{Enrol, Release, Reserve};
 use super::values::{Pair, are_pairs, block, kept_of, random, same, short};
-use dali_script::{AddError, Kept, MakeError, Record};
+use dali_script::{AddError, Kept, Record};
 use std::alloc::Global;
 use std::process::Abort;
 use std::test::Fail;
@@ -53,7 +53,7 @@ fn fill_in_order<R: Abort>(rt: &R, kept: &mut Kept) -> Result<(), Fail> {
 
 #[test]
 fn records_are_kept_in_order(rt: HostRuntime) -> Result<(), Fail> {
-    let mut kept = kept_of(rt.alloc(), (4, 7), &[])?;
+    let mut kept = kept_of((4, 7), &[])?;
     fill_in_order(&rt, &mut kept)
 }
 
@@ -76,23 +76,21 @@ fn release_one<R: Abort>(rt: &R, kept: &mut Kept) -> Result<(), Fail> {
 #[test]
 fn a_released_address_is_free_again(rt: HostRuntime) -> Result<(), Fail> {
     let records = [Reserve(4, 1), Reserve(5, 2), Reserve(6, 3), Enrol(6, 9)];
-    let mut kept = kept_of(rt.alloc(), (4, 7), &records)?;
+    let mut kept = kept_of((4, 7), &records)?;
     release_one(&rt, &mut kept)
 }
 
 /// A copy is the same as these records, and not as other ones.
-fn is_copied<R: Abort>(rt: &R, alloc: Global, kept: &Kept, other: &Kept) {
-    let told = kept
-        .copy(alloc)
-        .map(|copy| (copy.same(kept), copy.same(other)));
-    same(rt, &told, &Ok((true, false)));
+fn is_copied<R: Abort>(rt: &R, kept: &Kept, other: &Kept) {
+    let copy = kept.copy();
+    same(rt, &(copy.same(kept), copy.same(other)), &(true, false));
 }
 
 #[test]
 fn a_copy_is_the_same(rt: HostRuntime) -> Result<(), Fail> {
-    let kept = kept_of(rt.alloc(), (4, 7), &[Reserve(4, 1)])?;
-    let other = kept_of(rt.alloc(), (4, 7), &[Reserve(4, 1), Enrol(4, 1)])?;
-    is_copied(&rt, rt.alloc(), &kept, &other);
+    let kept = kept_of((4, 7), &[Reserve(4, 1)])?;
+    let other = kept_of((4, 7), &[Reserve(4, 1), Enrol(4, 1)])?;
+    is_copied(&rt, &kept, &other);
     Ok(())
 }
 
@@ -115,7 +113,7 @@ fn records_fit_their_block(rt: HostRuntime) -> Result<(), Fail> {
         (Release(7, 1), true),
         (Release(4, 0xFFFFFF), false),
     ];
-    let kept = kept_of(rt.alloc(), (4, 7), &[])?;
+    let kept = kept_of((4, 7), &[])?;
     fit(&rt, &kept, &records)
 }
 
@@ -140,9 +138,9 @@ fn has_more<R: Abort>(
 fn one_record_more_is_told(rt: HostRuntime) -> Result<(), Fail> {
     let last = Enrol(5, 0x0ABCDE).record()?;
     let other = Reserve(5, 0x0ABCDE).record()?;
-    let fewer = kept_of(rt.alloc(), (4, 7), &[Reserve(4, 0x0ABCDE)])?;
+    let fewer = kept_of((4, 7), &[Reserve(4, 0x0ABCDE)])?;
     let more = [Reserve(4, 0x0ABCDE), Enrol(5, 0x0ABCDE)];
-    let kept = kept_of(rt.alloc(), (4, 7), &more)?;
+    let kept = kept_of((4, 7), &more)?;
     has_more(&rt, &kept, &fewer, &last, &other, [true, false, false]);
     Ok(())
 }
@@ -151,12 +149,8 @@ fn one_record_more_is_told(rt: HostRuntime) -> Result<(), Fail> {
 fn one_reservation_fewer_is_told(rt: HostRuntime) -> Result<(), Fail> {
     let gone = Release(5, 2).record()?;
     let other = Release(4, 1).record()?;
-    let before = kept_of(
-        rt.alloc(),
-        (4, 7),
-        &[Reserve(4, 1), Reserve(5, 2), Reserve(6, 3)],
-    )?;
-    let kept = kept_of(rt.alloc(), (4, 7), &[Reserve(4, 1), Reserve(6, 3)])?;
+    let before = kept_of((4, 7), &[Reserve(4, 1), Reserve(5, 2), Reserve(6, 3)])?;
+    let kept = kept_of((4, 7), &[Reserve(4, 1), Reserve(6, 3)])?;
     // A release of what is not reserved leaves all as it is.
     has_more(&rt, &kept, &before, &gone, &other, [true, false, true]);
     Ok(())
@@ -177,23 +171,22 @@ fn fill_all<R: Abort>(rt: &R, kept: &mut Kept) -> Result<(), Fail> {
 
 #[test]
 fn every_address_has_room(rt: HostRuntime) -> Result<(), Fail> {
-    let mut kept = kept_of(rt.alloc(), (0, 63), &[])?;
+    let mut kept = kept_of((0, 63), &[])?;
     fill_all(&rt, &mut kept)
 }
 
 #[test]
 fn an_empty_block_has_no_free_address(rt: HostRuntime) -> Result<(), Fail> {
-    is_free(&rt, &kept_of(rt.alloc(), (5, 4), &[])?, None);
+    is_free(&rt, &kept_of((5, 4), &[])?, None);
     Ok(())
 }
 
 #[test]
 fn refusals_have_numbers(rt: HostRuntime) {
     let numbers = [
-        MakeError::NoMemory.number(),
         AddError::AddressTaken.number(),
         AddError::RandomTaken.number(),
         AddError::NotReserved.number(),
     ];
-    same(&rt, &numbers, &[1, 3, 4, 6]);
+    same(&rt, &numbers, &[3, 4, 6]);
 }

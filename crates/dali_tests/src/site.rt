@@ -207,8 +207,8 @@ fn comes_up<R: Abort + AllocGlobal>(
     records: &[Pair],
     wanted: Result<(), Refusal>,
 ) -> Result<(), Fail> {
-    let kept = kept_of(rt.alloc(), (0, 3), records)?;
-    does(rt, site.up(rt.alloc(), 0, &kept), wanted);
+    let kept = kept_of((0, 3), records)?;
+    does(rt, site.up(0, &kept), wanted);
     Ok(())
 }
 

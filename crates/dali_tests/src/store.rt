@@ -13,7 +13,7 @@ fn is_of_its_block(rt: &impl Abort, keep: &MemoryKeep) -> Result<(), Fail> {
 
 #[test]
 fn a_store_is_of_one_block(rt: HostRuntime) -> Result<(), Fail> {
-    is_of_its_block(&rt, &MemoryKeep::new(rt.alloc(), block(0, 3)?)?)
+    is_of_its_block(&rt, &MemoryKeep::new(block(0, 3)?))
 }
 
 #[test]

@@ -46,8 +46,8 @@ fn finds<R: Abort>(
 }
 
 /// A table of no entries, of the block 0 to 3.
-fn table_of(alloc: Global) -> Result<Table, Fail> {
-    Ok(Table::new(alloc, block(0, 3)?)?)
+fn table_of() -> Result<Table, Fail> {
+    Ok(Table::new(block(0, 3)?))
 }
 
 fn one_entry<R: Abort>(rt: &R, table: &mut Table) -> Result<(), Fail> {
@@ -64,7 +64,7 @@ fn one_entry<R: Abort>(rt: &R, table: &mut Table) -> Result<(), Fail> {
 
 #[test]
 fn an_entry_is_found_by_both_of_its_halves(rt: HostRuntime) -> Result<(), Fail> {
-    let mut table = table_of(rt.alloc())?;
+    let mut table = table_of()?;
     one_entry(&rt, &mut table)
 }
 
@@ -79,7 +79,7 @@ fn three_entries<R: Abort>(rt: &R, table: &mut Table) -> Result<(), Fail> {
 
 #[test]
 fn entries_stand_in_the_order_of_enrolment(rt: HostRuntime) -> Result<(), Fail> {
-    let mut table = table_of(rt.alloc())?;
+    let mut table = table_of()?;
     three_entries(&rt, &mut table)
 }
 
@@ -93,7 +93,7 @@ fn fill<R: Abort>(rt: &R, table: &mut Table) -> Result<(), Fail> {
 
 #[test]
 fn a_table_has_room_for_every_short_address(rt: HostRuntime) -> Result<(), Fail> {
-    let mut table = table_of(rt.alloc())?;
+    let mut table = table_of()?;
     fill(&rt, &mut table)
 }
 
@@ -108,7 +108,7 @@ fn owns<R: Abort>(rt: &R, table: &Table, addresses: &[(u8, bool)]) -> Result<(),
 #[test]
 fn own_addresses_lie_in_the_block(rt: HostRuntime) -> Result<(), Fail> {
     let addresses = [(0, true), (3, true), (4, false), (5, false), (63, false)];
-    owns(&rt, &table_of(rt.alloc())?, &addresses)
+    owns(&rt, &table_of()?, &addresses)
 }
 
 #[test]

@@ -16,13 +16,13 @@ const FRAMES: &str =
     "A100 A500 A50B A5FF A700 A900 AB00 B10A B3BC B5DE B709 B70B B7FF B909 BB00 09C2 09C3 09C4 0BC3 FE80 FF00";
 
 /// Block 4 to 7, with 4 reserved for `0ABCDE`.
-fn one_reserved(alloc: Global) -> Result<Kept, Fail> {
-    kept_of(alloc, (4, 7), &[Reserve(4, 0x0ABCDE)])
+fn one_reserved() -> Result<Kept, Fail> {
+    kept_of((4, 7), &[Reserve(4, 0x0ABCDE)])
 }
 
 /// Block 4 to 7, and nothing reserved.
-fn none_reserved(alloc: Global) -> Result<Kept, Fail> {
-    kept_of(alloc, (4, 7), &[])
+fn none_reserved() -> Result<Kept, Fail> {
+    kept_of((4, 7), &[])
 }
 
 /// What was heard: a byte as two digits, or damage.
@@ -86,7 +86,7 @@ FE80 >";
 
 #[test]
 fn openings_go_on_by_their_table(rt: HostRuntime) -> Result<(), Fail> {
-    each_follows(&rt, &one_reserved(rt.alloc())?, OPENINGS)
+    each_follows(&rt, &one_reserved()?, OPENINGS)
 }
 
 /// Every position of the scripts that use a search address, where an address is reserved for the number.
@@ -109,7 +109,7 @@ B10A B3BC B5DE BB00=FF B709 BB00=0B >";
 
 #[test]
 fn searches_go_on_by_their_table(rt: HostRuntime) -> Result<(), Fail> {
-    each_follows(&rt, &one_reserved(rt.alloc())?, SEARCHES)
+    each_follows(&rt, &one_reserved()?, SEARCHES)
 }
 
 /// Every position of the queries of a random address, whatever is heard, and whatever is reserved.
@@ -122,7 +122,7 @@ const QUERIES: &str = "09C2 > 09C3
 
 #[test]
 fn queries_of_a_random_address_go_on_by_their_table(rt: HostRuntime) -> Result<(), Fail> {
-    each_follows(&rt, &none_reserved(rt.alloc())?, QUERIES)
+    each_follows(&rt, &none_reserved()?, QUERIES)
 }
 
 /// Where nothing is reserved, an address that was heard leads to WITHDRAW, and nothing else goes on.
@@ -136,7 +136,7 @@ B10A B3BC B5DE BB00=08 >";
 
 #[test]
 fn nothing_is_programmed_without_a_reservation(rt: HostRuntime) -> Result<(), Fail> {
-    each_follows(&rt, &none_reserved(rt.alloc())?, UNRESERVED)
+    each_follows(&rt, &none_reserved()?, UNRESERVED)
 }
 
 /// Each of these traces has this finding.
@@ -177,7 +177,7 @@ fn findings<R: Abort>(rt: &R, kept: &Kept) -> Result<(), Fail> {
 
 #[test]
 fn findings_are_addresses_that_were_heard(rt: HostRuntime) -> Result<(), Fail> {
-    findings(&rt, &one_reserved(rt.alloc())?)
+    findings(&rt, &one_reserved()?)
 }
 
 /// Whether each of these traces ends with a first QUERY SHORT ADDRESS that was heard as silence.
@@ -207,7 +207,7 @@ fn unanswered<R: Abort>(rt: &R, kept: &Kept) -> Result<(), Fail> {
 
 #[test]
 fn silence_is_told_apart_from_damage(rt: HostRuntime) -> Result<(), Fail> {
-    unanswered(&rt, &one_reserved(rt.alloc())?)
+    unanswered(&rt, &one_reserved()?)
 }
 
 /// Whether each of these traces has a finding of the queries of a random address.
@@ -239,7 +239,7 @@ fn kinds<R: Abort>(rt: &R, kept: &Kept) -> Result<(), Fail> {
 
 #[test]
 fn findings_tell_how_gear_was_found(rt: HostRuntime) -> Result<(), Fail> {
-    kinds(&rt, &none_reserved(rt.alloc())?)
+    kinds(&rt, &none_reserved()?)
 }
 
 /// After a trace that was sent with a reservation, records without it allow no WITHDRAW.
@@ -266,7 +266,7 @@ fn confirmed<R: Abort>(rt: &R, kept: &Kept, none: &Kept) -> Result<(), Fail> {
 /// The reservation is asked for again of the records at hand, whichever the trace was sent under.
 #[test]
 fn a_confirmed_address_needs_its_reservation(rt: HostRuntime) -> Result<(), Fail> {
-    let kept = one_reserved(rt.alloc())?;
-    let none = none_reserved(rt.alloc())?;
+    let kept = one_reserved()?;
+    let none = none_reserved()?;
     confirmed(&rt, &kept, &none)
 }

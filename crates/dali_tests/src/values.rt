@@ -90,8 +90,8 @@ fn add(kept: &mut Kept, pair: Pair) -> Result<(), Fail> {
 }
 
 /// The records of a controller with this block.
-pub fn kept_of(alloc: Global, bounds: (u8, u8), records: &[Pair]) -> Result<Kept, Fail> {
-    let mut kept = Kept::new(alloc, block(bounds.0, bounds.1)?)?;
+pub fn kept_of(bounds: (u8, u8), records: &[Pair]) -> Result<Kept, Fail> {
+    let mut kept = Kept::new(block(bounds.0, bounds.1)?);
     for pair in records {
         add(&mut kept, *pair)?;
     }

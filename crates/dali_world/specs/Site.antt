@@ -151,7 +151,6 @@ IsUpRefused s c copy refusal.UnknownController = length s.plan.blocks ≤ c
 IsUpRefused s c copy refusal.ControllerUp = IsUp (world s) c
 IsUpRefused s c copy refusal.StoreDisagrees = IsDown (world s) c × Disagrees s c copy
 IsUpRefused s c copy refusal.LogFull = IsDown (world s) c × DoesAgree s c copy × IsFull s
-IsUpRefused s c copy refusal.NoMemory = IsDown (world s) c × DoesAgree s c copy × HasRoom s
 IsUpRefused s c copy _ = ⊥
 
 abbrev pub IsGearRefused : SiteState → ℕ → Refusal → Type 0

@@ -72,7 +72,7 @@ impl SiteState {
     /// A site of this plan, on which nothing happened yet. All controllers are up, and keep nothing.
     ///
     /// Its log has room for `log_capacity` events, 1 to 65,536, and `queue_capacity` requests may wait, 1 to 1,024. All
-    /// memory is taken here, but for that of a controller that comes up anew. A refusal drops the plan.
+    /// memory is taken here. A refusal drops the plan.
     pub fn new(
         alloc: Global,
         plan: Plan,
@@ -270,8 +270,8 @@ impl SiteState {
     /// A controller comes up with a copy of its records: those that it kept, or these with the one that was
     /// outstanding. Its machine starts anew.
     ///
-    /// Refusals, in this order: 1 UnknownController, 2 ControllerUp, 5 StoreDisagrees, 8 LogFull, 9 NoMemory.
-    pub fn up(&mut self, alloc: Global, c: u8, copy: &Kept) -> Result<(), Refusal>
+    /// Refusals, in this order: 1 UnknownController, 2 ControllerUp, 5 StoreDisagrees, 8 LogFull.
+    pub fn up(&mut self, c: u8, copy: &Kept) -> Result<(), Refusal>
         ensures up { OnOk result (IsUpWith self.old c copy.now self.new) }
         ensures refused { IfErr result (λ e. IsUpRefused self.old c copy.now e) }
         ensures unchanged { OnErr result (self.new ≡ self.old) }
@@ -288,7 +288,7 @@ impl SiteState {
         if self.is_full() {
             return Err(Refusal::LogFull);
         }
-        self.standing.up(alloc, c, copy)?;
+        self.standing.up(c, copy);
         append(&mut self.log, &Event::Up(c, kept));
         Ok(())
     }

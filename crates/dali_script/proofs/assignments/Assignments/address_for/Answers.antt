@@ -6,5 +6,5 @@ use Rattle.dali_script.proofs.assignments.Assignments.address_for.Goals as goal
 pub returns-then-eq : goal.returns-then-eq
 returns-then-eq c =
     let same : c.pair-item.result.1 ≡ c.args.random = grind (arith, nat_tests) in
-    rw (← c.self.view_is, ← c.deref-pair-items.ensures.value)
-    (pair_here c.deref-pair-items.result.now _ c.args.random c.pair-item.result c.loop-pair-test.true c.pair-item.is same)
+    rw (← c.pairs-pair-items.ensures.value)
+    (pair_here c.pairs-pair-items.result.now _ c.args.random c.pair-item.result c.loop-pair-test.true c.pair-item.is same)

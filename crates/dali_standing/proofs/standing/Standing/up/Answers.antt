@@ -3,10 +3,10 @@ use Rattle.dali_standing.proofs.standing.Standing.up.Goals as goal
 
 pub invariant_of-self : goal.invariant_of-self
 invariant_of-self c =
-    up_settles c.up.result _ _ c.args.c c.args.copy.now c.requires.agrees.0 _ _ c.self.view_is c.self.invariant c.requires.known c.requires.down c.requires.agrees.1
-    c.index_mut-seat.ensures.value c.up.ensures.ok c.up.ensures.err
+    up_settles _ _ c.args.c c.args.copy.now c.requires.agrees.0 _ _ c.self.view_is c.self.invariant c.requires.known c.requires.down c.requires.agrees.1
+    c.index_mut-seat.ensures.value c.up.ensures
 
-pub returns-clause-ok : goal.returns-clause-ok
-returns-clause-ok c =
-    up_moves c.up.result _ _ c.args.c c.args.copy.now _ _ c.self.view_is c.self.invariant c.requires.known c.requires.down
-    c.index_mut-seat.ensures.value c.up.ensures.ok
+pub returns : goal.returns
+returns c =
+    up_moves _ _ c.args.c c.args.copy.now _ _ c.self.view_is c.self.invariant c.requires.known c.requires.down
+    c.index_mut-seat.ensures.value c.up.ensures

@@ -3,7 +3,7 @@ use Rattle.dali_events.specs.declared.event.Event.TheVariants as event
 use Rattle.dali_world.proofs.Logs.{site_goes_on}
 use Rattle.dali_world.proofs.site.SiteState.up.Goals as goal
 
-pub invariant_of-self-2 : goal.invariant_of-self-2
-invariant_of-self-2 c =
-    site_goes_on _ _ _ _ _ _ _ _ (event.Up c.args.c c.in-Some.kept) c.self.view_is c.self.invariant (c.if-is_full.ensures.room refl) (c.in_ok-up.ensures.ok c.in-Some.kept c.in-Some.ensures)
+pub invariant_of-self : goal.invariant_of-self
+invariant_of-self c =
+    site_goes_on _ _ _ _ _ _ _ _ (event.Up c.args.c c.in-Some.kept) c.self.view_is c.self.invariant (c.if-is_full.ensures.room refl) (c.up.ensures c.in-Some.kept c.in-Some.ensures)
     c.append.ensures.items c.append.ensures.capacity (λ d. refl)
