@@ -114,7 +114,6 @@ fn takes_down<P0: Ledger, P1: Ledger, P2: Ledger, P3: Ledger, D: Ledger, R: Wait
 /// Brings this controller up, if it may be. Whether it was.
 fn brings_up<P0: Ledger, P1: Ledger, P2: Ledger, P3: Ledger, D: Ledger, R: Wait>(
     rt: &R,
-    alloc: Global,
     line: &Line<P0, P1, P2, P3, D>,
     driver: &mut Listed<Driver<P0, P1, P2, P3, D>>,
     turnover: &mut Turnover,
@@ -125,7 +124,7 @@ fn brings_up<P0: Ledger, P1: Ledger, P2: Ledger, P3: Ledger, D: Ledger, R: Wait>
         return false;
     }
     if line
-        .up(rt, &mut driver.inner, alloc, at as u8, &records[at])
+        .up(rt, &mut driver.inner, at as u8, &records[at])
         .is_ok()
     {
         turnover.down[at] = false;
@@ -141,14 +140,13 @@ fn brings_up<P0: Ledger, P1: Ledger, P2: Ledger, P3: Ledger, D: Ledger, R: Wait>
 /// Brings the first controller up that may be. Whether there was one.
 fn brings_one_up<P0: Ledger, P1: Ledger, P2: Ledger, P3: Ledger, D: Ledger, R: Wait>(
     rt: &R,
-    alloc: Global,
     line: &Line<P0, P1, P2, P3, D>,
     driver: &mut Listed<Driver<P0, P1, P2, P3, D>>,
     turnover: &mut Turnover,
     records: &[Kept],
 ) -> bool {
     for at in 0..4usize {
-        if brings_up(rt, alloc, line, driver, turnover, records, at) {
+        if brings_up(rt, line, driver, turnover, records, at) {
             return true;
         }
     }
@@ -158,7 +156,6 @@ fn brings_one_up<P0: Ledger, P1: Ledger, P2: Ledger, P3: Ledger, D: Ledger, R: W
 /// A controller goes down now and then, or comes up.
 fn turns_over<P0: Ledger, P1: Ledger, P2: Ledger, P3: Ledger, D: Ledger, R: Wait>(
     rt: &R,
-    alloc: Global,
     line: &Line<P0, P1, P2, P3, D>,
     driver: &mut Listed<Driver<P0, P1, P2, P3, D>>,
     turnover: &mut Turnover,
@@ -168,7 +165,7 @@ fn turns_over<P0: Ledger, P1: Ledger, P2: Ledger, P3: Ledger, D: Ledger, R: Wait
         0 => takes_down(rt, line, driver, turnover),
         1 | 2 | 3 => {
             let at = some_controller(&mut turnover.chance);
-            brings_up(rt, alloc, line, driver, turnover, records, at);
+            brings_up(rt, line, driver, turnover, records, at);
         }
         _ => {}
     }
@@ -178,7 +175,6 @@ fn turns_over<P0: Ledger, P1: Ledger, P2: Ledger, P3: Ledger, D: Ledger, R: Wait
 /// session ends. Whether it goes on.
 fn goes_on<P0: Ledger, P1: Ledger, P2: Ledger, P3: Ledger, D: Ledger, R: Wait>(
     rt: &R,
-    alloc: Global,
     line: &Line<P0, P1, P2, P3, D>,
     driver: &mut Listed<Driver<P0, P1, P2, P3, D>>,
     turnover: &mut Turnover,
@@ -187,7 +183,7 @@ fn goes_on<P0: Ledger, P1: Ledger, P2: Ledger, P3: Ledger, D: Ledger, R: Wait>(
     match line.ready(rt, &mut driver.inner) {
         Ready::Stopped => false,
         Ready::Over => {
-            let goes_on = brings_one_up(rt, alloc, line, driver, turnover, records);
+            let goes_on = brings_one_up(rt, line, driver, turnover, records);
             if !goes_on {
                 takes_down(rt, line, driver, turnover);
             }
@@ -203,7 +199,6 @@ fn goes_on<P0: Ledger, P1: Ledger, P2: Ledger, P3: Ledger, D: Ledger, R: Wait>(
 /// The bus has its turns, and controllers go down and come up. In the end the line is stopped.
 fn drives<P0: Ledger, P1: Ledger, P2: Ledger, P3: Ledger, D: Ledger, R: Wait>(
     rt: &R,
-    alloc: Global,
     line: &Line<P0, P1, P2, P3, D>,
     driver: Listed<Driver<P0, P1, P2, P3, D>>,
     turnover: Turnover,
@@ -212,10 +207,10 @@ fn drives<P0: Ledger, P1: Ledger, P2: Ledger, P3: Ledger, D: Ledger, R: Wait>(
     let mut driver = driver;
     let mut turnover = turnover;
     for _ in 0..TURNS {
-        if !goes_on(rt, alloc, line, &mut driver, &mut turnover, records) {
+        if !goes_on(rt, line, &mut driver, &mut turnover, records) {
             break;
         }
-        turns_over(rt, alloc, line, &mut driver, &mut turnover, records);
+        turns_over(rt, line, &mut driver, &mut turnover, records);
     }
     line.stop(rt);
     (driver, turnover)
@@ -289,7 +284,7 @@ where
                     join(
                         rt,
                         move || works(rt, alloc, bus, directory, fourth),
-                        move || drives(rt, alloc, line, driver, turnover, records),
+                        move || drives(rt, line, driver, turnover, records),
                     )
                 },
             )
@@ -484,21 +479,21 @@ fn is_true(site: &SiteState, c: u8, stored: &Kept) -> bool {
     true
 }
 
-fn read(alloc: Global, keep: &mut Database) -> Result<Kept, Wrong> {
-    match keep.read(alloc) {
+fn read(keep: &mut Database) -> Result<Kept, Wrong> {
+    match keep.read() {
         Ok(kept) => Ok(kept),
         Err(_) => Err(Wrong("a store is not read")),
     }
 }
 
-fn reads(alloc: Global, keeps: &mut Four<Database>, records: &mut Vec<Kept>) -> Result<(), Wrong> {
-    let one = read(alloc, &mut keeps.0)?;
+fn reads(keeps: &mut Four<Database>, records: &mut Vec<Kept>) -> Result<(), Wrong> {
+    let one = read(&mut keeps.0)?;
     adds(records, one)?;
-    let two = read(alloc, &mut keeps.1)?;
+    let two = read(&mut keeps.1)?;
     adds(records, two)?;
-    let three = read(alloc, &mut keeps.2)?;
+    let three = read(&mut keeps.2)?;
     adds(records, three)?;
-    let four = read(alloc, &mut keeps.3)?;
+    let four = read(&mut keeps.3)?;
     adds(records, four)
 }
 
@@ -556,7 +551,7 @@ fn goes_further<R: Threads + Wait + Sync>(
         rt, alloc, played, blanks, &directory, records,
     );
     records.clear();
-    reads(alloc, &mut played.keeps, records)?;
+    reads(&mut played.keeps, records)?;
     looks(&played.site, records, &played.turnover)?;
     Ok(played)
 }
@@ -615,7 +610,6 @@ fn begun(alloc: Global, seed: u64) -> Result<Played, Wrong> {
 
 /// In the end every controller comes up with what its store reads.
 fn comes_up(
-    alloc: Global,
     site: &mut SiteState,
     down: [bool; 4],
     records: &[Kept],
@@ -625,7 +619,7 @@ fn comes_up(
         if !is_down && site.down(c).is_err() {
             return Err(Wrong("a controller does not go down in the end"));
         }
-        if site.up(alloc, c, stored).is_err() {
+        if site.up(c, stored).is_err() {
             return Err(Wrong("a controller does not come up in the end"));
         }
         c = c.saturating_add(1);
@@ -691,7 +685,7 @@ fn plays<R: Threads + Wait + Sync>(rt: &R, alloc: Global, seed: u64) -> Result<R
         events: site.log().len(),
         addressed: addressed(&site),
     };
-    comes_up(alloc, &mut site, turnover.down, &records)?;
+    comes_up(&mut site, turnover.down, &records)?;
     Ok(report)
 }
 

@@ -32,7 +32,8 @@ use Rattle.dali_controller.specs.Course.{Course, turn_of, is_yes, answered, next
 use Rattle.dali_controller.specs.Machine.{Machine, machine_lost, machine_committed, machine_told}
 use Rattle.dali_controller.specs.Next.{begins_at, course_by}
 use Rattle.dali_controller.specs.Orders.{AfterFinding, AfterEnrolled, IsFollowed}
-use Rattle.dali_controller.specs.Moments.{machine_of, course_of, Pending, IsFine, Starts}
+use Rattle.dali_controller.specs.Moments.{machine_of, course_of, IsFine, Starts}
+use Rattle.dali_controller.specs.Whole.{Pending}
 
 -- THE COURSE OF A MACHINE is the one of the table of moments.
 
@@ -141,8 +142,8 @@ no_turn p n s c free e = go p (subst (λ x. turn_of p n x ≡ Some c) free e) wh
 -- the start, and a transaction that was lost, follow neither queries nor an enrolment
 pub followed_start : (w : Work) (o : Order) → IsFine w → w.last ≡ None → IsFollowed (machine_told (machine_of w) input.Start) o
 followed_start w o fine none = record {
-  sent = λ c e. absurd (no_turn w.purpose w.number (stage_of w.trace) c (subst (Pending w) none fine.pending).free e);
-  told = λ b n s e. absurd (let there : Free ≡ Spelled b (Some n) = sym (subst (Pending w) none fine.pending).free ∙ s in cc);
+  sent = λ c e. absurd (no_turn w.purpose w.number (stage_of w.trace) c (subst (Pending (machine_of w)) none fine.whole).free e);
+  told = λ b n s e. absurd (let there : Free ≡ Spelled b (Some n) = sym (subst (Pending (machine_of w)) none fine.whole).free ∙ s in cc);
   enrolled = λ b n e. absurd (let there : None ≡ Some (Commit (Enrol b n)) = sym none ∙ e in cc);
 }
 
@@ -170,9 +171,9 @@ followed_heard w mid o f h put is sent told = record {
 pub followed_committed : (w : Work) (x : Record) (o : Order) → IsFine w → record_ordered w.last ≡ Some x
     → ((b n : ℕ) → x ≡ Enrol b n → AfterEnrolled (machine_told (machine_of w) input.Committed) b n o) → IsFollowed (machine_told (machine_of w) input.Committed) o
 followed_committed w x o fine ordered enrolled = record {
-  sent = λ c e. absurd (no_turn w.purpose w.number (stage_of w.trace) c (free_stored w w.last x ordered fine.pending)
+  sent = λ c e. absurd (no_turn w.purpose w.number (stage_of w.trace) c (free_stored w w.last x ordered fine.whole)
       (subst (λ r. turn_of (machine_committed (machine_of w) r).course.purpose (machine_committed (machine_of w) r).course.number (stage_of (machine_committed (machine_of w) r).trace) ≡ Some c) ordered e));
-  told = λ b n s e. absurd (let there : Free ≡ Spelled b (Some n) = sym (free_stored w w.last x ordered fine.pending) ∙ subst (λ r. stage_of (machine_committed (machine_of w) r).trace ≡ Spelled b (Some n)) ordered s in cc);
+  told = λ b n s e. absurd (let there : Free ≡ Spelled b (Some n) = sym (free_stored w w.last x ordered fine.whole) ∙ subst (λ r. stage_of (machine_committed (machine_of w) r).trace ≡ Spelled b (Some n)) ordered s in cc);
   enrolled = λ b n e. enrolled b n (same x b n (sym ordered ∙ ap record_ordered (sym (committed_stays (machine_of w) (record_ordered w.last)) ∙ e)));
 } where
   same : (x : Record) (b n : ℕ) → Some x ≡ Some (Enrol b n) → x ≡ Enrol b n
@@ -182,7 +183,7 @@ followed_committed w x o fine ordered enrolled = record {
   committed_stays m None = refl
   committed_stays m (Some r) = refl
 
-  free_stored : (w : Work) (l : Option Order) (x : Record) → record_ordered l ≡ Some x → Pending w l → stage_of w.trace ≡ Free
+  free_stored : (w : Work) (l : Option Order) (x : Record) → record_ordered l ≡ Some x → Pending (machine_of w) l → stage_of w.trace ≡ Free
   free_stored w None x is p = absurd (cc)
   free_stored w (Some (Put q f)) x is p = absurd (cc)
   free_stored w (Some (Commit y)) x is p = p.free

@@ -45,7 +45,8 @@ use Rattle.dali_controller.specs.Course.{Course, first_of, closing_of}
 use Rattle.dali_controller.specs.Machine.{machine_lost, Machine, table_of, opened_after, silent_after, tries_after}
 use Rattle.dali_controller.specs.Next.{begins_at, course_by}
 use Rattle.dali_controller.specs.Orders.{Contradicts, IsBegun, AfterMask, IsOrderedTo, machine_ordered, closing as closing_in}
-use Rattle.dali_controller.specs.Moments.{FoundAt, IsBetween, Closes, Settles, course_of, machine_of, Sends, Arrived, Knows, KnowsAt, IsCalm, CalmAt, IsReady, IsSending, Pending, IsFine, IsHeard, Turns, Begins, IsNext}
+use Rattle.dali_controller.specs.Whole.{Sends, Knows, IsCalm, IsReady, IsSending, Pending, IsWhole}
+use Rattle.dali_controller.specs.Moments.{FoundAt, IsBetween, Closes, Settles, course_of, machine_of, Arrived, KnowsAt, CalmAt, IsFine, IsHeard, Turns, Begins, IsNext}
 
 -- THE COMMANDS OF A TRANSACTION. A command that is sent at a stage may follow there and is read from its frame; it is no
 -- direct arc power; past the first one no close runs; and what is known where it leads to.
@@ -116,6 +117,9 @@ goes k n Visiting (Programmed r a) c e = rw (some_is _ c e.0) (going (gives refl
 goes k n Visiting (Confirmed r a) c e = rw (some_is _ c e.0) (going (gives refl e.2) tt (λ g x. cc) (λ later. refl) (λ h. (refl, sym e.1)))
 goes k n _ _ c e = absurd (let none = e.0 in cc)
 
+pub sends_follow : (k : Kept) (n : SearchAddress) (p : Purpose) (s : Stage) (c : Command) → Sends k n p s c → Follows k.block k.reserved s c
+sends_follow k n p s c e = (goes k n p s c e).follows
+
 not_withdrawn : (k : Kept) (n : SearchAddress) (p : Purpose) (r : SearchAddress) (b : ℕ) (c : Command) → Sends k n p (Withdrawn r b) c → ⊥
 not_withdrawn k n p r b c e = let on = (goes k n p (Withdrawn r b) c e).follows.leads_on in cc
 
@@ -163,29 +167,29 @@ calm_less (Closing end) i e calm = absurd (cc)
 calm_less _ i e calm = calm
 
 -- A FRAME THAT IS OUTSTANDING
-pub sending : (w : Work) (l : Option Order) (f : Forward) → frame_put l ≡ Some f → Pending w l → IsSending w f
+pub sending : (w : Work) (l : Option Order) (f : Forward) → frame_put l ≡ Some f → Pending (machine_of w) l → IsSending (machine_of w) f
 sending w None f is e = absurd (cc)
-sending w (Some (Put p g)) f is e = subst (λ d. IsSending w d) (let same : g ≡ f = cc in same) e
+sending w (Some (Put p g)) f is e = subst (λ d. IsSending (machine_of w) d) (let same : g ≡ f = cc in same) e
 sending w (Some (Commit x)) f is e = absurd (cc)
 sending w (Some (Done end)) f is e = absurd (cc)
 sending w (Some (Halt why)) f is e = absurd (cc)
 
 -- also where only the bus is waited for
-pub waiting : (w : Work) (l : Option Order) → due_after l ≡ due.Bus → Pending w l → IsReady w
+pub waiting : (w : Work) (l : Option Order) → due_after l ≡ due.Bus → Pending (machine_of w) l → IsReady (machine_of w)
 waiting w None is e = absurd (cc)
 waiting w (Some (Put p f)) is e = e.ready
 waiting w (Some (Commit x)) is e = absurd (cc)
 waiting w (Some (Done end)) is e = absurd (cc)
 waiting w (Some (Halt why)) is e = absurd (cc)
 
-pub sending_lawful : (w : Work) (f : Forward) → IsSending w f → Lawful w.kept.block w.kept.reserved w.trace f
+pub sending_lawful : (w : Work) (f : Forward) → IsSending (machine_of w) f → Lawful w.kept.block w.kept.reserved w.trace f
 sending_lawful w f e = lawful_follows w.kept.block w.kept.reserved w.trace f (goes w.kept w.number w.purpose (stage_of w.trace) (command_of f) e.sends).follows
 
 -- TO GO ON
 put_fine_at : (w : Work) (s : Stage) (c : Command) (p : ℕ) (f : Forward) → IsHeard w s → Sends w.kept w.number w.purpose s c → command_of f ≡ c → IsFine (record w { last = Some (Put p f) })
 put_fine_at w s c p f h e read = record {
   table = h.table;
-  pending = record {
+  whole = record {
     ready = record {
       tries = h.tries;
       calm = sends_calm w.kept w.number w.purpose s c w.opened w.silent e h.calm;
@@ -254,7 +258,7 @@ silent_closes : (p : Purpose) (i : ℕ) → IsCalm p i → i ≡ 16 → p ≡ Cl
 silent_closes (Closing e) i calm is = ap (λ x. Closing x) (calm.1 is)
 silent_closes _ i calm is = absurd (omega arith)
 
-first_spelled : (k : Kept) (n : SearchAddress) (s : Search) (o : Bool) (p : Purpose) → Knows k n s o p → IsSpelled (first_of p n)
+pub first_spelled : (k : Kept) (n : SearchAddress) (s : Search) (o : Bool) (p : Purpose) → Knows k n s o p → IsSpelled (first_of p n)
 first_spelled k n s o (Resolving a) e = e.2
 first_spelled k n s o _ e = tt
 
@@ -303,18 +307,18 @@ pub begin_fine : (w : Work) (p : Purpose) (n : SearchAddress) (t : List Entry) (
     → IsFine (record w { trace = t; last = Some (Put q f); purpose = p; number = n })
 begin_fine w p n t q f b empty is = record {
   table = b.table;
-  pending = record {
+  whole = record {
     ready = record { tries = b.tries; calm = b.calm; knows = b.knows };
     sends = subst (λ s. Sends w.kept n p s (command_of f)) (sym (free_of t empty)) (first_sends w p n f b.knows is);
   };
 }
 
 -- TO STORE
-pub commit_fine : (w : Work) (x : Record) (t : List Entry) → w.table ≡ table_of w.kept → IsReady w → closing_of w.purpose ≡ None → Fits w.kept.block x → MayAdd w.kept x → t ≡ []
+pub commit_fine : (w : Work) (x : Record) (t : List Entry) → w.table ≡ table_of w.kept → IsReady (machine_of w) → closing_of w.purpose ≡ None → Fits w.kept.block x → MayAdd w.kept x → t ≡ []
     → IsFine (record w { trace = t; last = Some (Commit x) })
 commit_fine w x t table ready going fits may empty = record {
   table = table;
-  pending = record {
+  whole = record {
     ready = record { tries = ready.tries; calm = ready.calm; knows = ready.knows };
     free = free_of t empty;
     going = going;
@@ -328,7 +332,7 @@ calm_small : (p : Purpose) (i : ℕ) → IsCalm p i → i ≤ 16
 calm_small (Closing e) i calm = calm.0
 calm_small _ i calm = omega arith
 
-pub sending_small : (w : Work) (f : Forward) → IsSending w f → w.silent < 255
+pub sending_small : (w : Work) (f : Forward) → IsSending (machine_of w) f → w.silent < 255
 sending_small w f e = let small : w.silent ≤ 16 = calm_small w.purpose w.silent e.ready.calm in omega arith
 
 found_at : (s : Stage) (earlier found : Option Finding) → found ≡ later earlier (finding_at s) → FoundAt s found
@@ -349,7 +353,7 @@ pub hear_heard : (w noted : Work) (f : Forward) (h : Answer) (t : List Entry) (s
     → n ≡ tries_after complete noted.tries → i ≡ silent_after (stage_of noted.trace) noted.opened noted.silent → o ≡ opened_after (stage_of noted.trace) noted.opened
     → IsHeard (record noted { tries = n; silent = i; opened = o }) s
 hear_heard w noted f h t s complete o n i fine put trace is stage tries silent opened =
-    let sent : IsSending w f = sending w w.last f put fine.pending in
+    let sent : IsSending (machine_of w) f = sending w w.last f put fine.whole in
     let same_trace : noted.trace ≡ t = ap (λ (x : Work). x.trace) is in
     let there : stage_of noted.trace ≡ next_stage (stage_of w.trace) (command_of f) h = ap stage_of (same_trace ∙ trace) ∙ stage_more w.trace (record { frame = f; heard = h }) in
     let arrived : Arrived w.kept w.number w.purpose (stage_of noted.trace) = subst (Arrived w.kept w.number w.purpose) (sym there) ((goes w.kept w.number w.purpose (stage_of w.trace) (command_of f) sent.sends).arrives h) in
@@ -360,7 +364,7 @@ hear_heard w noted f h t s complete o n i fine put trace is stage tries silent o
     ap finding_of (same_trace ∙ trace) ∙ finding_after w.kept.block w.kept.reserved w.trace (record { frame = f; heard = h }) (sending_lawful w f sent) ∙ ap (λ u. finding_at (stage_of u)) (sym (same_trace ∙ trace)) in
     rw stage (from arrived sent.ready finding trace_finding)
   where
-    from : Arrived w.kept w.number w.purpose (stage_of noted.trace) → IsReady w → noted.finding ≡ later w.finding (finding_at (stage_of noted.trace)) → finding_of noted.trace ≡ finding_at (stage_of noted.trace)
+    from : Arrived w.kept w.number w.purpose (stage_of noted.trace) → IsReady (machine_of w) → noted.finding ≡ later w.finding (finding_at (stage_of noted.trace)) → finding_of noted.trace ≡ finding_at (stage_of noted.trace)
         → IsHeard (record noted { tries = n; silent = i; opened = o }) (stage_of noted.trace)
     from arrived ready finding trace_finding = record {
       table = ap (λ (x : Work). x.table) is ∙ fine.table ∙ ap table_of (ap (λ (x : Work). x.kept) (sym is));
@@ -445,7 +449,7 @@ turns_same w _ is knows = ap closing_of is
 
 pub lost_begins : (w : Work) (t : List Entry) → IsFine w → due_after w.last ≡ due.Bus → t ≡ [] → (w.tries + 1 ≡ 8 → ⊥) → Begins (record w { trace = t; tries = w.tries + 1 }) w.purpose w.number
 lost_begins w t fine put empty more =
-    let ready : IsReady w = waiting w w.last put fine.pending in
+    let ready : IsReady (machine_of w) = waiting w w.last put fine.whole in
     let less : w.tries < 8 = ready.tries in
     let free : stage_of t ≡ Free = free_of t empty in
     record {
@@ -458,7 +462,7 @@ lost_begins w t fine put empty more =
       found = λ r b e. absurd (cc);
     }
 
-lost_ended_at : (w : Work) → IsReady w → w.tries + 1 ≡ 8 → IsOrderedTo (machine_lost (machine_of w)) (course_of w) (Done GaveUp)
+lost_ended_at : (w : Work) → IsReady (machine_of w) → w.tries + 1 ≡ 8 → IsOrderedTo (machine_lost (machine_of w)) (course_of w) (Done GaveUp)
 lost_ended_at w ready is =
     let free : stage_of [] ≡ Free = stage_none in
     record {
@@ -478,7 +482,7 @@ pub lost_ended : (w : Work) (t : List Entry) (o : Order) (new : Machine) → IsF
     → new ≡ machine_ordered (machine_of (record w { trace = t; tries = w.tries + 1 })) o → IsNext (machine_lost (machine_of w)) o new
 lost_ended w t o new fine put empty is done state = record {
   order = subst (λ c. IsOrderedTo (machine_lost (machine_of w)) c o) (sym (ap (λ (m : Machine). m.course) state ∙ ap (course_by (machine_of (record w { trace = t; tries = w.tries + 1 }))) done))
-      (subst (IsOrderedTo (machine_lost (machine_of w)) (course_of w)) (sym done) (lost_ended_at w (waiting w w.last put fine.pending) is));
+      (subst (IsOrderedTo (machine_lost (machine_of w)) (course_of w)) (sym done) (lost_ended_at w (waiting w w.last put fine.whole) is));
   state = but_course new (machine_ordered (machine_lost (machine_of w)) o) (state ∙ ap (λ u. machine_ordered (machine_of (record w { trace = u; tries = w.tries + 1 })) o) empty);
 }
 
@@ -623,7 +627,7 @@ reserved_kept w new x a n m reserves is same =
 pub fine_at_first : (w : Work) → w.table ≡ table_of w.kept → w.trace ≡ [] → w.last ≡ None → w.tries ≡ 0 → w.silent ≡ 0 → w.opened ≡ false → w.purpose ≡ Opening → IsFine w
 fine_at_first w table trace last tries silent opened opening = record {
   table = table;
-  pending = rw last (record {
+  whole = rw last (record {
     ready = record {
       tries = rw tries (lit< tt);
       calm = rw (opening, silent) (lit< tt);

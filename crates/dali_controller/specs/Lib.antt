@@ -4,3 +4,5 @@ pub mod Machine
 pub mod Next
 pub mod Orders
 pub mod Moments
+pub mod Whole
+pub mod Parts

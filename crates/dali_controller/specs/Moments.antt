@@ -36,6 +36,7 @@ use Rattle.dali_controller.specs.Machine.{Machine, table_of}
 use Rattle.dali_controller.specs.Next.{beginning, next_course, goes_on_to}
 use Rattle.dali_controller.specs.Orders.{Cause, IsOrderedTo, machine_ordered, IsAnswered}
 use Rattle.dali_controller.specs.Orders.{machine_after}
+use Rattle.dali_controller.specs.Whole.{IsReady, IsWhole, IsCalm, Knows, Sends}
 
 -- What holds inside a machine between its moments. Its public contract cites none of this.
 
@@ -56,23 +57,6 @@ machine_of w = record {
   course = course_of w;
 }
 
--- what was sent of the transaction's search address, or that its short address is asked
-abbrev pub IsAt : Stage → Purpose → SearchAddress → Type 0
-IsAt (HighAsked b high) p n = (p ≡ Resolving b) × (b < 64)
-IsAt (MiddleAsked b bytes) p n = (p ≡ Resolving b) × (b < 64)
-IsAt s p n = IsSearched s n
-
--- which command is sent at a stage, with the transaction's search address, and with what may be
--- given
-abbrev pub Sends : Kept → SearchAddress → Purpose → Stage → Command → Type 0
-Sends k n p Free c = (c ≡ first_of p n) × IsSpelled c
-Sends k n p (Unnamed r) c =
-    (p ≡ Visiting) × (r ≡ n)
-    × ((a : ℕ) × (a < 64) × MayGive k.block k.reserved r a × (c ≡ Program (Some a)))
-Sends k n p s c =
-    (turn_of p n s ≡ Some c) × IsAt s p n
-    × IfSome (given s c) (λ g. MayGive k.block k.reserved g.0 g.1)
-
 -- what is known at a stage of the transaction that led there: its end, or that there is a command
 -- to send
 abbrev pub Arrived : Kept → SearchAddress → Purpose → Stage → Type 0
@@ -87,27 +71,10 @@ Arrived k n p (Withdrawn r b) = (p ≡ Visiting) × (r ≡ n)
 Arrived k n p (Spelled b number) = p ≡ Resolving b
 Arrived k n p s = (c : Command) × Sends k n p s c
 
--- What is known while a transaction runs: whether an opening was complete, and where its number
--- comes from. In the visits before the opening it is reserved, and whom a short address is asked of
--- it is reserved for.
-abbrev pub Knows : Kept → SearchAddress → Search → Bool → Purpose → Type 0
-Knows k n s opened Opening = opened ≡ false
-Knows k n s opened Probing = (opened ≡ true) × (s.step ≡ Again) × (value_of n ≡ s.probe)
-Knows k n s opened Visiting =
-    (value_of n < MASK24) × (opened ≡ false → HasRandom k.reserved (value_of n))
-Knows k n s opened (Resolving a) =
-    (opened ≡ false) × (value_of n < MASK24) × (a < 64) × Has k.reserved (a, value_of n)
-Knows k n s opened (Closing e) = opened ≡ true
-
 -- at the end of an opening it is complete
 abbrev pub KnowsAt : Stage → Kept → SearchAddress → Search → Bool → Purpose → Type 0
 KnowsAt Opened k n s opened p = opened ≡ true
 KnowsAt _ k n s opened p = Knows k n s opened p
-
--- the count of silent searches is below its limit, unless a close was begun for it
-abbrev pub IsCalm : Purpose → ℕ → Type 0
-IsCalm (Closing e) silent = (silent ≤ 16) × (silent ≡ 16 → e ≡ GaveUp)
-IsCalm _ silent = silent < 16
 
 -- a search that led to no gear may just have reached it
 abbrev pub CalmAt : Stage → Purpose → Bool → ℕ → Type 0
@@ -121,38 +88,10 @@ FoundAt (Withdrawn r b) found = found ≡ Some (Queried b (value_of r))
 FoundAt (Spelled b (Some n)) found = found ≡ Some (Resolved b n)
 FoundAt _ found = Unit {0}
 
-pub record IsReady (w : Work) : Type 0 where
-  pub tries : w.tries < 8
-  pub calm : IsCalm w.purpose w.silent
-  pub knows : Knows w.kept w.number w.search w.opened w.purpose
-
-pub record IsUnstarted (w : Work) : Type 0 where
-  pub ready : IsReady w
-  pub free : stage_of w.trace ≡ Free
-  pub opening : w.purpose ≡ Opening
-
-pub record IsSending (w : Work) (f : Forward) : Type 0 where
-  pub ready : IsReady w
-  pub sends : Sends w.kept w.number w.purpose (stage_of w.trace) (command_of f)
-
-pub record IsStoring (w : Work) (x : Record) : Type 0 where
-  pub ready : IsReady w
-  pub free : stage_of w.trace ≡ Free
-  pub going : closing_of w.purpose ≡ None
-  pub fits : Fits w.kept.block x
-  pub may : MayAdd w.kept x
-
-abbrev pub Pending : Work → Option Order → Type 0
-Pending w None = IsUnstarted w
-Pending w (Some (Put p f)) = IsSending w f
-Pending w (Some (Commit x)) = IsStoring w x
-Pending w (Some (Done e)) = Unit {0}
-Pending w (Some (Halt why)) = Unit {0}
-
 -- what holds between two inputs
 pub record IsFine (w : Work) : Type 0 where
   pub table : w.table ≡ table_of w.kept
-  pub pending : Pending w w.last
+  pub whole : IsWhole (machine_of w)
 
 -- what holds where a frame was just heard
 pub record IsHeard (w : Work) (s : Stage) : Type 0 where
@@ -201,7 +140,7 @@ pub record Begins (w : Work) (p : Purpose) (n : SearchAddress) : Type 0 where
 -- what holds where a gear was found, and may be enrolled
 pub record Settles (w : Work) (b n : ℕ) : Type 0 where
   pub table : w.table ≡ table_of w.kept
-  pub ready : IsReady w
+  pub ready : IsReady (machine_of w)
   pub going : closing_of w.purpose ≡ None
   pub drawn : n < MASK24
   pub found : Finding
@@ -217,7 +156,7 @@ pub record Settles (w : Work) (b n : ℕ) : Type 0 where
 -- what holds where an enrolment was just kept
 pub record Enrolled (w : Work) (b n : ℕ) : Type 0 where
   pub between : IsBetween w
-  pub ready : IsReady w
+  pub ready : IsReady (machine_of w)
   pub free : stage_of w.trace ≡ Free
   pub last : w.last ≡ Some (Commit (Enrol b n))
 

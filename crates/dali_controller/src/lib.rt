@@ -8,10 +8,14 @@ mod entries;
 mod error;
 mod machine;
 mod moments;
+mod parts;
 mod purpose;
 mod unfinished;
+mod whole;
 mod work;
 
 pub use dali_script::{Due, End, Fault, Input, Order};
 pub use error::StepError;
 pub use machine::Machine;
+pub use parts::Parts;
+pub use purpose::Purpose;

@@ -1,12 +1,15 @@
-ghost use Rattle.std.specs.Prelude.{◌≡◌, ◌↔◌, true, Some, IsOk, IfOk, OnErr, IfSome};
+ghost use Rattle.std.specs.Prelude.{◌≡◌, ◌↔◌, true, Some, IsOk, IfOk, OnErr, IsSome, IfSome};
 ghost use Rattle.dali_script.specs.Records.{Fits};
 ghost use Rattle.dali_script.specs.Due.{due_after, accepts, record_ordered};
 ghost use Rattle.dali_controller.specs.Machine.{at_first, table_of};
 ghost use Rattle.dali_controller.specs.Next.{BeginsWith};
+ghost use Rattle.dali_controller.specs.Parts.{whole_of};
+ghost use Rattle.dali_controller.specs.Whole.{IsWhole};
 ghost use Rattle.dali_controller.specs.Orders.{IsAnswered, IsFollowedAt, machine_after};
 
 use crate::entries::table_of;
 use crate::error::StepError;
+use crate::parts::Parts;
 use crate::purpose::Purpose;
 use crate::work::Work;
 use dali_enrol::Table;
@@ -87,6 +90,56 @@ impl Machine {
                 number: SearchAddress::MASK,
                 from: 0,
             },
+        }
+    }
+
+    /// The machine of these parts. None where they are those of no machine between two inputs.
+    pub fn of(parts: Parts) -> Option<Machine>
+        ensures whole { IsSome result ↔ IsWhole (whole_of parts) }
+        ensures machine { IfSome result (λ m. m ≡ whole_of parts) }
+    {
+        let table = table_of(&parts.kept);
+        let work = Work {
+            id: parts.id,
+            kept: parts.kept,
+            table,
+            search: parts.search,
+            trace: parts.trace,
+            finding: parts.finding,
+            last: parts.last,
+            tries: parts.tries,
+            silent: parts.silent,
+            opened: parts.opened,
+            purpose: parts.purpose,
+            number: parts.number,
+            from: parts.from,
+        };
+        if work.is_whole() {
+            Some(Machine { work })
+        } else {
+            None
+        }
+    }
+
+    /// Its parts. The machine is gone.
+    pub fn into_parts(self) -> Parts
+        ensures parts { whole_of result ≡ self }
+        ensures whole { IsWhole self }
+    {
+        let work = self.work;
+        Parts {
+            id: work.id,
+            kept: work.kept,
+            trace: work.trace,
+            finding: work.finding,
+            last: work.last,
+            tries: work.tries,
+            silent: work.silent,
+            opened: work.opened,
+            purpose: work.purpose,
+            number: work.number,
+            search: work.search,
+            from: work.from,
         }
     }
 

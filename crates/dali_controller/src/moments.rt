@@ -26,10 +26,10 @@ use dali_search::{Search, Step};
 use dali_special::Command;
 
 /// The tries of one transaction.
-const TRIES: u8 = 8;
+pub(crate) const TRIES: u8 = 8;
 
 /// The silent searches in a row.
-const SILENT: u8 = 16;
+pub(crate) const SILENT: u8 = 16;
 
 /// Whether an answer to COMPARE is a yes: a damaged one is, as of several gear that answer together.
 fn is_yes(heard: Answer) -> bool

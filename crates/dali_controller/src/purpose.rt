@@ -7,7 +7,7 @@ use dali_special::{Command, Part, Target};
 
 /// What the running transaction is for. How far it is, its trace says.
 #[derive(Clone, Copy)]
-pub(crate) enum Purpose {
+pub enum Purpose {
     /// To let all gear without short address draw a random address.
     Opening,
     /// To ask whether some gear is at most the search's number.

@@ -41,7 +41,8 @@ pub(crate) struct Work {
 }
 
 impl Work {
-    ghost use Rattle.dali_controller.specs.Moments.{machine_of, Sends, IsReady, IsFine, IsHeard, Begins};
+    ghost use Rattle.dali_controller.specs.Moments.{machine_of, IsFine, IsHeard, Begins};
+    ghost use Rattle.dali_controller.specs.Whole.{Sends, IsReady};
     ghost use Rattle.dali_controller.specs.Moments.{IsNext, Starts, course_of};
     ghost use Rattle.dali_controller.specs.Course.{closing_of, taking};
 
@@ -145,7 +146,7 @@ impl Work {
     /// Orders that a record is kept.
     pub(crate) fn commit(&mut self, added: Record) -> Order
         requires table { self.old.table ≡ table_of self.old.kept }
-        requires ready { IsReady self.old }
+        requires ready { IsReady (machine_of self.old) }
         requires going { closing_of self.old.purpose ≡ None }
         requires fits { Fits self.old.kept.block added }
         requires may { MayAdd self.old.kept added }

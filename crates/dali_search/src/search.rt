@@ -62,6 +62,13 @@ impl Search {
         self.probe
     }
 
+    /// What the last answer led to: `Again` before the first.
+    pub fn step(&self) -> Step
+        ensures { result ≡ self.now.step }
+    {
+        self.step
+    }
+
     /// Takes the answer to the question whether some member is at most the probe.
     ///
     /// After an end it gives the same end again, whatever is answered.

@@ -2,11 +2,10 @@
 
 use super::values::Ordered::{Commit, Done, Halt, NotDue, Put};
 use super::values::Pair::{Enrol, Release, Reserve};
-use super::values::{Ordered, Pair, are_pairs, kept_of, same};
-use dali_controller::{Machine, StepError};
-use dali_frame::Answer;
-use dali_script::{End, Fault, Input};
-use std::alloc::Global;
+use super::values::{Ordered, Pair, are_pairs, frame, kept_of, same};
+use dali_controller::{Machine, Parts, Purpose, StepError};
+use dali_frame::{Answer, Priority, SearchAddress};
+use dali_script::{End, Fault, Input, Order};
 use std::process::Abort;
 use std::test::Fail;
 
@@ -110,7 +109,7 @@ fn goes_on<R: Abort>(rt: &R, machine: &mut Machine, parts: &[&[Moment]]) {
 }
 
 /// A machine of a block, with these records, is told one part after the other, behind so many frames of a search.
-fn plays<R: Abort + AllocGlobal>(
+fn plays<R: Abort>(
     rt: &R,
     bounds: (u8, u8),
     records: &[Pair],
@@ -191,7 +190,7 @@ fn destroyed_and_lapsed_frames_count_alike(rt: HostRuntime) -> Result<(), Fail> 
 }
 
 /// Gear without address is given the least address that is free: this one, by this frame and this answer.
-fn gives<R: Abort + AllocGlobal>(
+fn gives<R: Abort>(
     rt: &R,
     first: u8,
     records: &[Pair],
@@ -230,7 +229,7 @@ fn a_full_block_closes(rt: HostRuntime) -> Result<(), Fail> {
 }
 
 /// With 0 reserved for 123456, the machine visits that gear at its start; then it is told this.
-fn visits<R: Abort + AllocGlobal>(rt: &R, parts: &[&[Moment]]) -> Result<(), Fail> {
+fn visits<R: Abort>(rt: &R, parts: &[&[Moment]]) -> Result<(), Fail> {
     let mut machine = machine_of((0, 3), &[Reserve(0, 0x123456)])?;
     goes_on(rt, &mut machine, &[&VISIT]);
     goes_on(rt, &mut machine, parts);
@@ -275,7 +274,7 @@ fn the_second_query_confirms_the_address_alone(rt: HostRuntime) -> Result<(), Fa
 }
 
 /// Behind each frame of a transaction that frame is lost: the same transaction begins again.
-fn begins_again<R: Abort + AllocGlobal>(
+fn begins_again<R: Abort>(
     rt: &R,
     records: &[Pair],
     before: &[Moment],
@@ -464,7 +463,7 @@ fn nothing_is_released_at_the_start(rt: HostRuntime) -> Result<(), Fail> {
 }
 
 /// The gear of a visit does not answer. The queries of the gear with its address are answered by these bytes.
-fn resolves<R: Abort + AllocGlobal>(rt: &R, bytes: [u8; 3], wanted: Ordered) -> Result<(), Fail> {
+fn resolves<R: Abort>(rt: &R, bytes: [u8; 3], wanted: Ordered) -> Result<(), Fail> {
     let asked = [
         (SILENCE, Put(3, 0x03C2)),
         (byte(bytes[0]), Put(1, 0x03C3)),
@@ -484,12 +483,7 @@ fn a_random_address_is_the_one_visited(rt: HostRuntime) -> Result<(), Fail> {
 }
 
 /// A visit at the start, with 1 reserved for 123456, hears this address, where another gear is enrolled.
-fn settles<R: Abort + AllocGlobal>(
-    rt: &R,
-    enrolled: Pair,
-    code: u8,
-    wanted: Ordered,
-) -> Result<(), Fail> {
+fn settles<R: Abort>(rt: &R, enrolled: Pair, code: u8, wanted: Ordered) -> Result<(), Fail> {
     let records = [Reserve(1, 0x123456), enrolled];
     let named = [(byte(code), Put(1, 0xAB00)), (SILENCE, wanted)];
     plays(rt, (0, 3), &records, 0, &[&VISIT, &named])
@@ -534,6 +528,91 @@ fn a_machine_gives_its_records_away(rt: HostRuntime) -> Result<(), Fail> {
     are_pairs(&rt, machine.kept().enrolled(), &[(2, 0x123456)]);
     let kept = machine.into_kept();
     are_pairs(&rt, kept.enrolled(), &[(2, 0x123456)]);
+    Ok(())
+}
+
+/// A machine that is taken apart and made again after each part goes on as it would have.
+fn goes_on_anew<R: Abort>(rt: &R, machine: Machine, parts: &[&[Moment]]) {
+    let mut machine = machine;
+    for part in parts {
+        goes_on(rt, &mut machine, &[part]);
+        match Machine::of(machine.into_parts()) {
+            Some(made) => machine = made,
+            None => {
+                assert!(rt; false);
+                return;
+            }
+        }
+    }
+}
+
+#[test]
+fn a_machine_is_made_again_from_its_parts(rt: HostRuntime) -> Result<(), Fail> {
+    let machine = machine_of((0, 3), &[Reserve(0, 0x123456)])?;
+    let enrolled = [(SILENCE, Commit(Enrol(0, 0x123456)))];
+    let kept = [(Input::Committed, Put(3, 0xA100))];
+    let parts: [&[Moment]; 7] = [&[], &VISIT, &GIVEN, &enrolled, &kept, &OPENING[1..], &PROBE];
+    goes_on_anew(&rt, machine, &parts);
+    Ok(())
+}
+
+/// What is changed of the parts of a machine that is in a visit.
+#[derive(Clone, Copy)]
+enum Change {
+    Nothing,
+    Tries,
+    Silent,
+    Opened,
+    Purpose,
+    Number,
+    Last(Option<Order>),
+}
+
+/// Whether the parts, with a change, are those of a machine.
+fn are_whole(parts: Parts, change: Change) -> bool {
+    let mut parts = parts;
+    match change {
+        Change::Nothing => {}
+        Change::Tries => parts.tries = 8,
+        Change::Silent => parts.silent = 16,
+        Change::Opened => parts.opened = true,
+        Change::Purpose => parts.purpose = Purpose::Probing,
+        Change::Number => parts.number = SearchAddress::MASK,
+        Change::Last(order) => parts.last = order,
+    }
+    Machine::of(parts).is_some()
+}
+
+/// A machine that has sent the first two bytes of a visit's search address, and puts the third.
+fn visiting<R: Abort>(rt: &R) -> Result<Machine, Fail> {
+    let mut machine = machine_of((0, 3), &[Reserve(0, 0x123456)])?;
+    goes_on(rt, &mut machine, &[&VISIT[..3]]);
+    Ok(machine)
+}
+
+#[test]
+fn parts_of_no_machine_are_refused(rt: HostRuntime) -> Result<(), Fail> {
+    let low = Order::Put(Priority::LATER, frame(b"B556")?);
+    let high = Order::Put(Priority::FIRST, frame(b"B112")?);
+    let again = Order::Commit(Reserve(0, 0x123456).record()?);
+    // A visit after the opening is no other frame.
+    let cases = [
+        (Change::Nothing, true),
+        (Change::Opened, true),
+        (Change::Last(Some(low)), true),
+        (Change::Last(Some(Order::Done(End::GaveUp))), true),
+        (Change::Tries, false),
+        (Change::Silent, false),
+        (Change::Purpose, false),
+        (Change::Number, false),
+        (Change::Last(Some(high)), false),
+        (Change::Last(Some(again)), false),
+        (Change::Last(None), false),
+    ];
+    for (change, whole) in cases {
+        let parts = visiting(&rt)?.into_parts();
+        same(&rt, &are_whole(parts, change), &whole);
+    }
     Ok(())
 }
 

@@ -2,7 +2,6 @@
 
 use super::values::same;
 use dali_world::{Plan, PlanError};
-use std::alloc::Global;
 use std::process::Abort;
 use std::test::Fail;
 

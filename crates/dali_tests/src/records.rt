@@ -3,7 +3,6 @@
 use super::values::Pair::{Enrol, Release, Reserve};
 use super::values::{Pair, are_pairs, block, kept_of, random, same, short};
 use dali_script::{AddError, Kept, Record};
-use std::alloc::Global;
 use std::process::Abort;
 use std::test::Fail;
 

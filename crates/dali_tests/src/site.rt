@@ -103,7 +103,7 @@ fn offers<R: Abort>(rt: &R, site: &mut SiteState, many: u16) {
 }
 
 /// A site with room for as many requests as may wait: all of a controller leave with it.
-fn wide_queue<R: Abort + AllocGlobal>(rt: &R, site: &mut SiteState) -> Result<(), Fail> {
+fn wide_queue<R: Abort>(rt: &R, site: &mut SiteState) -> Result<(), Fail> {
     offers(rt, site, 1024);
     does(rt, site.arc(0, forward(0xFE80)), Err(Refusal::QueueFull));
     does(rt, site.down(0), Ok(()));
@@ -201,7 +201,7 @@ fn a_full_log_refuses_frames(rt: HostRuntime) -> Result<(), Fail> {
 }
 
 /// Controller 0 goes down, and comes up with these records or is refused so.
-fn comes_up<R: Abort + AllocGlobal>(
+fn comes_up<R: Abort>(
     rt: &R,
     site: &mut SiteState,
     records: &[Pair],
@@ -220,7 +220,7 @@ fn a_full_log_refuses_those_who_come_up(rt: HostRuntime) -> Result<(), Fail> {
 }
 
 /// Each event of gear, bus and controllers stands in the log as it was called.
-fn all_logged<R: Abort + AllocGlobal>(rt: &R, site: &mut SiteState) -> Result<(), Fail> {
+fn all_logged<R: Abort>(rt: &R, site: &mut SiteState) -> Result<(), Fail> {
     does(rt, site.power(0, false), Ok(()));
     logged(rt, site, 1, Event::Power(0, false));
     does(rt, site.power(0, true), Ok(()));
@@ -404,7 +404,7 @@ fn reserving<R: Abort + AllocGlobal>(rt: &R) -> Result<SiteState, Fail> {
 }
 
 /// While the record is outstanding a controller may come up without it or with it, and with no other.
-fn without_record<R: Abort + AllocGlobal>(rt: &R, site: &mut SiteState) -> Result<(), Fail> {
+fn without_record<R: Abort>(rt: &R, site: &mut SiteState) -> Result<(), Fail> {
     let disagrees = Err(Refusal::StoreDisagrees);
     does(rt, site.down(0), Ok(()));
     comes_up(rt, site, &[Reserve(1, 0x123456)], disagrees)?;
@@ -421,7 +421,7 @@ fn an_outstanding_record_may_be_missing(rt: HostRuntime) -> Result<(), Fail> {
     without_record(&rt, &mut site)
 }
 
-fn with_record<R: Abort + AllocGlobal>(rt: &R, site: &mut SiteState) -> Result<(), Fail> {
+fn with_record<R: Abort>(rt: &R, site: &mut SiteState) -> Result<(), Fail> {
     does(rt, site.down(0), Ok(()));
     comes_up(rt, site, &[Reserve(0, 0x123456)], Ok(()))?;
     logged(rt, site, 221, Event::Up(0, true));
@@ -435,7 +435,7 @@ fn an_outstanding_record_may_be_there(rt: HostRuntime) -> Result<(), Fail> {
     with_record(&rt, &mut site)
 }
 
-fn committed_record<R: Abort + AllocGlobal>(rt: &R, site: &mut SiteState) -> Result<(), Fail> {
+fn committed_record<R: Abort>(rt: &R, site: &mut SiteState) -> Result<(), Fail> {
     let disagrees = Err(Refusal::StoreDisagrees);
     acts(rt, site, 0, Input::Committed, Ok(Put(3, 0xB112)));
     does(rt, site.down(0), Ok(()));

@@ -2,7 +2,6 @@
 
 use super::values::{are_pairs, block, random, same, short};
 use dali_enrol::{DirectoryError, Table, TableError};
-use std::alloc::Global;
 use std::process::Abort;
 use std::test::Fail;
 

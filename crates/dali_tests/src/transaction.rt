@@ -7,7 +7,6 @@ use super::values::Pair::Reserve;
 use super::values::{frame, kept_of, random, same, short};
 use dali_frame::{Answer, Forward, Random24, SearchAddress, Short};
 use dali_script::{Finding, Kept, Stage, Trace};
-use std::alloc::Global;
 use std::process::Abort;
 use std::test::Fail;
 

@@ -5,7 +5,6 @@
 
 use dali_frame::{Forward, Random24, Short};
 use dali_script::{Block, End, Fault, Kept, Order, Record};
-use std::alloc::Global;
 use std::fmt::Debug;
 use std::process::Abort;
 use std::test::Fail;

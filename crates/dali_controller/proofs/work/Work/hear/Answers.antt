@@ -4,7 +4,7 @@ use Rattle.dali_controller.proofs.work.Work.hear.Goals as goal
 pub push-requires : goal.push-requires
 push-requires c =
     let w = c.args.self.now in
-    (w.kept.block, w.kept.reserved, sending_lawful w c.args.frame (sending w w.last c.args.frame c.requires.put c.requires.fine.pending))
+    (w.kept.block, w.kept.reserved, sending_lawful w c.args.frame (sending w w.last c.args.frame c.requires.put c.requires.fine.whole))
 
 pub returns-clause-heard : goal.returns-clause-heard
 returns-clause-heard c =

@@ -1,0 +1,103 @@
+use Rattle.std.specs.Prelude.{◌≡◌, ℕ, ◌<◌, ◌≤◌, Bool, true, false, Option, Some, None, IfSome}
+use Rattle.dali_frame.specs.declared.frames.Forward.{Forward}
+use Rattle.dali_frame.specs.declared.numbers.SearchAddress.{SearchAddress}
+use Rattle.dali_frame.specs.Random.{value_of, MASK24}
+use Rattle.dali_special.specs.declared.command.Command.{Command}
+use Rattle.dali_special.specs.declared.command.Command.TheVariants.{Program}
+use Rattle.dali_special.specs.Command.{command_of, IsSpelled}
+use Rattle.dali_script.specs.declared.records.Record.{Record}
+use Rattle.dali_script.specs.declared.stage.Stage.{Stage}
+use Rattle.dali_script.specs.declared.stage.Stage.TheVariants.{Free, Unnamed}
+use Rattle.dali_script.specs.declared.stage.Stage.TheVariants.{HighAsked, MiddleAsked}
+use Rattle.dali_script.specs.Records.{Kept, Has, HasRandom, Fits, MayAdd}
+use Rattle.dali_script.specs.Scripts.{MayGive}
+use Rattle.dali_script.specs.Stages.{stage_of, given, IsSearched}
+use Rattle.dali_search.specs.declared.step.Step.TheVariants.{Again}
+use Rattle.dali_search.specs.Least.{Search}
+use Rattle.dali_script.specs.declared.orders.Order.{Order}
+use Rattle.dali_script.specs.declared.orders.Order.TheVariants.{Put, Commit, Done, Halt}
+use Rattle.dali_script.specs.declared.orders.End.TheVariants.{GaveUp}
+use Rattle.dali_controller.specs.declared.purpose.Purpose.{Purpose}
+use Rattle.dali_controller.specs.declared.purpose.Purpose.TheVariants.{Opening, Probing, Visiting}
+use Rattle.dali_controller.specs.declared.purpose.Purpose.TheVariants.{Resolving, Closing}
+use Rattle.dali_controller.specs.Course.{first_of, turn_of, closing_of}
+use Rattle.dali_controller.specs.Machine.{Machine}
+
+-- WHAT IS TRUE OF EVERY MACHINE between two inputs: its last order is one that it gives in this state.
+-- Of the numbers and records that are no machine's state, something below is false.
+
+-- what was sent of the transaction's search address, or that its short address is asked
+abbrev pub IsAt : Stage → Purpose → SearchAddress → Type 0
+IsAt (HighAsked b high) p n = (p ≡ Resolving b) × (b < 64)
+IsAt (MiddleAsked b bytes) p n = (p ≡ Resolving b) × (b < 64)
+IsAt s p n = IsSearched s n
+
+-- which command is sent at a stage, with the transaction's search address, and with what may be
+-- given
+abbrev pub Sends : Kept → SearchAddress → Purpose → Stage → Command → Type 0
+Sends k n p Free c = (c ≡ first_of p n) × IsSpelled c
+Sends k n p (Unnamed r) c =
+    (p ≡ Visiting) × (r ≡ n)
+    × ((a : ℕ) × (a < 64) × MayGive k.block k.reserved r a × (c ≡ Program (Some a)))
+Sends k n p s c =
+    (turn_of p n s ≡ Some c) × IsAt s p n
+    × IfSome (given s c) (λ g. MayGive k.block k.reserved g.0 g.1)
+
+-- What is known while a transaction runs: whether an opening was complete, and where its number
+-- comes from. In the visits before the opening it is reserved, and whom a short address is asked of
+-- it is reserved for.
+abbrev pub Knows : Kept → SearchAddress → Search → Bool → Purpose → Type 0
+Knows k n s opened Opening = opened ≡ false
+Knows k n s opened Probing = (opened ≡ true) × (s.step ≡ Again) × (value_of n ≡ s.probe)
+Knows k n s opened Visiting =
+    (value_of n < MASK24) × (opened ≡ false → HasRandom k.reserved (value_of n))
+Knows k n s opened (Resolving a) =
+    (opened ≡ false) × (value_of n < MASK24) × (a < 64) × Has k.reserved (a, value_of n)
+Knows k n s opened (Closing e) = opened ≡ true
+
+-- the count of silent searches is below its limit, unless a close was begun for it
+abbrev pub IsCalm : Purpose → ℕ → Type 0
+IsCalm (Closing e) silent = (silent ≤ 16) × (silent ≡ 16 → e ≡ GaveUp)
+IsCalm _ silent = silent < 16
+
+-- WHICH COMMAND a transaction sends at a stage, of those that may be sent there
+abbrev pub IsMet : Stage → Purpose → SearchAddress → Type 0
+IsMet (HighAsked b high) p n = p ≡ Resolving b
+IsMet (MiddleAsked b bytes) p n = p ≡ Resolving b
+IsMet s p n = IsSearched s n
+
+abbrev pub IsChosen : SearchAddress → Purpose → Stage → Command → Type 0
+IsChosen n p Free c = c ≡ first_of p n
+IsChosen n p (Unnamed r) c = (p ≡ Visiting) × (r ≡ n)
+IsChosen n p s c = (turn_of p n s ≡ Some c) × IsMet s p n
+
+pub record IsReady (m : Machine) : Type 0 where
+  pub tries : m.tries < 8
+  pub calm : IsCalm m.course.purpose m.silent
+  pub knows : Knows m.kept m.course.number m.course.search m.opened m.course.purpose
+
+pub record IsUnstarted (m : Machine) : Type 0 where
+  pub ready : IsReady m
+  pub free : stage_of m.trace ≡ Free
+  pub opening : m.course.purpose ≡ Opening
+
+pub record IsSending (m : Machine) (f : Forward) : Type 0 where
+  pub ready : IsReady m
+  pub sends : Sends m.kept m.course.number m.course.purpose (stage_of m.trace) (command_of f)
+
+pub record IsStoring (m : Machine) (x : Record) : Type 0 where
+  pub ready : IsReady m
+  pub free : stage_of m.trace ≡ Free
+  pub going : closing_of m.course.purpose ≡ None
+  pub fits : Fits m.kept.block x
+  pub may : MayAdd m.kept x
+
+abbrev pub Pending : Machine → Option Order → Type 0
+Pending m None = IsUnstarted m
+Pending m (Some (Put p f)) = IsSending m f
+Pending m (Some (Commit x)) = IsStoring m x
+Pending m (Some (Done e)) = Unit {0}
+Pending m (Some (Halt why)) = Unit {0}
+
+abbrev pub IsWhole : Machine → Type 0
+IsWhole m = Pending m m.last
