@@ -285,6 +285,9 @@ impl Row {
             Command::Withdraw => self.take_command(&Command::Withdraw, reach, draws),
             Command::Verify(short) => self.take_command(&Command::Verify(short), reach, draws),
             Command::Program(short) => self.take_command(&Command::Program(short), reach, draws),
+            Command::RandomByte(short, part) => {
+                self.take_command(&Command::RandomByte(short, part), reach, draws)
+            }
             Command::Arc(frame) => self.take_command(&Command::Arc(frame), reach, draws),
             Command::Other(frame) => self.take_command(&Command::Other(frame), reach, draws),
             _ => self.take_command(command, reach, draws),
