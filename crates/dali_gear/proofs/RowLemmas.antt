@@ -95,6 +95,28 @@ module _ (r : Inside) (i : ℕ) (here : i < r.count) (wide : Wide r i) where
       (rw (get_or-set_same r.powered i g.powered false wide.powered, get_or-set_same r.state i g.state Disabled wide.state, get_or-set_same r.random i g.random 0 wide.random, get_or-set_same r.search_high i g.search.high 0 wide.search_high, get_or-set_same r.search_middle i g.search.middle 0 wide.search_middle, get_or-set_same r.search_low i g.search.low 0 wide.search_low, get_or-set_same r.short i g.short None wide.short, get_or-set_same r.paired i paired false wide.paired, is, kept) refl)
       (λ k other. rw (get_or-set_other r.powered i k g.powered false other, get_or-set_other r.state i k g.state Disabled other, get_or-set_other r.random i k g.random 0 other, get_or-set_other r.search_high i k g.search.high 0 other, get_or-set_other r.search_middle i k g.search.middle 0 other, get_or-set_other r.search_low i k g.search.low 0 other, get_or-set_other r.short i k g.short None other, get_or-set_other r.paired i k paired false other) refl)
 
+  -- the state of a gear is written, whose half pair is gone or stays
+  pub put_state_is : (g : Gear) (paired : Bool) → paired ≡ is_some g.half → (g.half ≡ None) ⊎ (g.half ≡ (get_or (all_gear r) i fresh).half)
+      → g ≡ record (get_or (all_gear r) i fresh) { state = g.state; half = g.half }
+      → all_gear (record {
+        count = r.count;
+        powered = r.powered;
+        state = set r.state i g.state;
+        random = r.random;
+        search_high = r.search_high;
+        search_middle = r.search_middle;
+        search_low = r.search_low;
+        short = r.short;
+        paired = set r.paired i paired;
+        first = r.first;
+      }) ≡ set (all_gear r) i g
+  put_state_is g paired is half others =
+      let kept : (if is_some g.half then Some (get_or r.first i Terminate) else None) ≡ g.half = half_kept g.half (get_or r.paired i false) (get_or r.first i Terminate) (rw (gear_at r i here) at half) in
+      let known : g ≡ record (gear_in r i) { state = g.state; half = g.half } = rw (gear_at r i here) at others in
+      row_set (gear_in r) _ r.count i g here
+      (rw (get_or-set_same r.state i g.state Disabled wide.state, get_or-set_same r.paired i paired false wide.paired, is, kept) (sym known))
+      (λ k other. rw (get_or-set_other r.state i k g.state Disabled other, get_or-set_other r.paired i k paired false other) refl)
+
   -- a gear has another half pair
   pub pair_is : (c : Command) → all_gear (record {
     count = r.count;

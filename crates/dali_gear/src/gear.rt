@@ -189,8 +189,13 @@ impl Gear {
             Command::QueryShort if self.is_active() && self.is_found() => {
                 Some(self.short.map_or(NO_ADDRESS, Short::code))
             }
-            Command::RandomByte(short, part) if self.short == Some(short) => {
-                Some(self.random_byte(part))
+            Command::RandomByte(short, part) => {
+                let byte = self.random_byte(part);
+                if self.short == Some(short) {
+                    Some(byte)
+                } else {
+                    None
+                }
             }
             _ => None,
         }

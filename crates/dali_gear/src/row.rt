@@ -8,7 +8,7 @@ ghost use Rattle.dali_gear.specs.Row.{reaches, heard_by, one_after};
 use crate::gear::{Effect, Gear};
 use crate::state::InitialisationState;
 use dali_frame::{Answer, Random24, SearchAddress, Short};
-use dali_special::Command;
+use dali_special::{Command, Part};
 use std::marker::Model;
 
 /// Some of the gear of a row: gear g is the bit of value 2^g. A bit past the last gear has no effect.
@@ -83,7 +83,7 @@ impl Model for Row {
 
 impl Row {
     ghost use Rattle.dali_frame.specs.Random.{MASK24};
-    ghost use Rattle.dali_special.specs.declared.command.Command.TheVariants.{Randomise};
+    ghost use Rattle.dali_special.specs.declared.command.Command.TheVariants.{Randomise, Withdraw};
     ghost use Rattle.dali_gear.specs.Gear.{would_draw, answer, without_power, with_power, gear_expired, gear_quieted};
     ghost use Rattle.dali_gear.specs.Row.{row_after, answers_of, heard_of, draws_needed};
 
@@ -156,6 +156,36 @@ impl Row {
         self.search_middle[number] = gear.search.middle;
         self.search_low[number] = gear.search.low;
         self.paired[number] = gear.half.is_some();
+    }
+
+    /// Writes the state of a gear, whose half pair is gone or stays. Its other variables stay.
+    #[tactic(auto, using(crate::proofs::RowLemmas::row_len))]
+    #[inline(always)]
+    fn put_state(&mut self, number: usize, gear: Gear)
+        requires there { number < length self.old }
+        requires half { (gear.half ≡ None) ⊎ (gear.half ≡ (slice_index_or self.old number fresh).half) }
+        requires others { gear
+            ≡ record (slice_index_or self.old number fresh) { state = gear.state; half = gear.half } }
+        ensures { self.new ≡ slice_set self.old number gear }
+    {
+        self.state[number] = gear.state;
+        self.paired[number] = gear.half.is_some();
+    }
+
+    /// Writes a gear after a command that is not send-twice. At WITHDRAW it writes no more than that changes, since the
+    /// compiler takes many gear at a time then; of the other commands the compiler sees what they change.
+    #[inline(always)]
+    fn put_taken(&mut self, number: usize, command: &Command, gear: Gear)
+        requires there { number < length self.old }
+        requires half { (gear.half ≡ None) ⊎ (gear.half ≡ (slice_index_or self.old number fresh).half) }
+        requires withdrawn { command.now ≡ Withdraw
+            → gear ≡ record (slice_index_or self.old number fresh) { state = gear.state; half = gear.half } }
+        ensures { self.new ≡ slice_set self.old number gear }
+    {
+        match *command {
+            Command::Withdraw => self.put_state(number, gear),
+            _ => self.put(number, gear),
+        }
     }
 
     /// A gear has this half pair.
@@ -285,6 +315,15 @@ impl Row {
             Command::Withdraw => self.take_command(&Command::Withdraw, reach, draws),
             Command::Verify(short) => self.take_command(&Command::Verify(short), reach, draws),
             Command::Program(short) => self.take_command(&Command::Program(short), reach, draws),
+            Command::RandomByte(short, Part::High) => {
+                self.take_command(&Command::RandomByte(short, Part::High), reach, draws)
+            }
+            Command::RandomByte(short, Part::Middle) => {
+                self.take_command(&Command::RandomByte(short, Part::Middle), reach, draws)
+            }
+            Command::RandomByte(short, Part::Low) => {
+                self.take_command(&Command::RandomByte(short, Part::Low), reach, draws)
+            }
             Command::Arc(frame) => self.take_command(&Command::Arc(frame), reach, draws),
             Command::Other(frame) => self.take_command(&Command::Other(frame), reach, draws),
             _ => self.take_command(command, reach, draws),
@@ -303,7 +342,8 @@ impl Row {
         let mut answers = 0;
         let mut bytes = 0;
         let mut drawn = 0;
-        for number in 0..self.len() {
+        // No row is longer: the bound tells the compiler that the arrays do not reach into one another.
+        for number in 0..self.len().min(128) {
             let effect = self.take_at(number, command, reach.includes(number), &draws[drawn..]);
             answers += u32::from(effect.answer.is_some());
             bytes += u32::from(effect.answer.unwrap_or(0));
@@ -342,7 +382,7 @@ impl Row {
         if command.is_send_twice() {
             self.set(number, after);
         } else {
-            self.put(number, after);
+            self.put_taken(number, command, after);
         }
         let answer = gear.answer(command);
         Effect {
