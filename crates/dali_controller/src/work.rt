@@ -59,7 +59,12 @@ impl Work {
             ≡ tries_after (is_complete self.now.kept (closing_of self.now.purpose) (stage_of self.now.trace))
             self.now.tries }
     {
-        if self.is_complete() { 0 } else { self.tries }
+        // Of a transaction that was not lost before, it need not be known.
+        if self.tries == 0 || self.is_complete() {
+            0
+        } else {
+            self.tries
+        }
     }
 
     /// The silent searches, with the running transaction.

@@ -83,6 +83,7 @@ impl Trace {
     }
 
     /// Adds a frame that was sent, and what was heard after it. The frame must be one that some records allow here.
+    #[inline(always)]
     pub fn push(&mut self, frame: Forward, heard: Answer)
         requires { IsLawful self.old frame }
         ensures { self.new ≡ self.old ++ (record { frame = frame; heard = heard }) ∷ [] }
