@@ -29,7 +29,7 @@ use Rattle.dali_script.proofs.Transactions.{self, middle_next, low_next, turn, g
 use Rattle.dali_script.proofs.Found.{finding_after}
 use Rattle.dali_enrol.specs.Table.{Table}
 use Rattle.dali_search.specs.declared.step.Step.TheVariants.{Again}
-use Rattle.dali_script.proofs.Lists.{has_map, has_at, has_last}
+use Rattle.dali_script.proofs.Lists.{has_map, has_at, has_last, once_before}
 use Rattle.dali_search.specs.Least.{Search}
 use Rattle.dali_script.specs.declared.orders.Order.{Order}
 use Rattle.dali_script.specs.declared.orders.Order.TheVariants.{Put, Commit, Done, Halt}
@@ -638,13 +638,7 @@ fine_at_first w table trace last tries silent opened opening = record {
   });
 }
 
--- an element stands in no earlier place of a list in which its key stands once
-once_before : (key : Assignment → ℕ) (xs : List Assignment) (i : ℕ) (d : Assignment) → IsOnce (map key xs) → i < length xs → Has (map key (take i xs)) (key (get_or xs i d)) → ⊥
-once_before key [] i d once h has = absurd (omega arith)
-once_before key (x ∷ xs) zero d once h has = has
-once_before key (x ∷ xs) (suc i) d once h (inl same) = once.0 (subst (Has (map key xs)) (sym same) (has_map key xs (get_or xs i d) (has_at xs i d (omega arith))))
-once_before key (x ∷ xs) (suc i) d once h (inr more) = once_before key xs i d once.1 (omega arith) more
-
+-- what is entered in turn from a list in which its key stands once stands in no earlier place
 pub not_before : (key : Assignment → ℕ) (xs : List Assignment) (i : ℕ) (p : Assignment) (t : Table) (b : Block) → IsOnce (map key xs) → i < length xs → p ≡ get_or xs i p
     → t ≡ record { block = b; entries = take i xs } → Has (map key t.entries) (key p) → ⊥
 not_before key xs i p t b once h is table has =

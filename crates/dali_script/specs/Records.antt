@@ -71,6 +71,16 @@ pub record IsKept (k : Kept) : Type 0 where
   pub enrolled_drawn : AllDrawn k.enrolled
   pub within : (a : ℕ) → HasAddress k.reserved a → InBlock k.block a
 
+-- the same of each of its lists
+pub record AreReserved (b : Block) (xs : List Assignment) : Type 0 where
+  pub map : IsMap xs
+  pub drawn : AllDrawn xs
+  pub within : (a : ℕ) → HasAddress xs a → InBlock b a
+
+pub record AreEnrolled (xs : List Assignment) : Type 0 where
+  pub map : IsMap xs
+  pub drawn : AllDrawn xs
+
 -- A record fits a block: a reserved address lies in it, and so does one that is released; and the
 -- number is one that gear draw.
 abbrev pub Fits : Block → Record → Type 0

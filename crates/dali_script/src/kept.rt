@@ -1,6 +1,7 @@
 ghost use Rattle.std.specs.Prelude.{◌≡◌, ℕ, ◌+◌, ◌<◌, ◌≤◌, ◌↔◌, ◌==◌, ◌&&◌, nat_lt, IsTrue, IsOk, OnOk, OnErr, IfOk};
-ghost use Rattle.std.specs.Prelude.{MatchOption};
+ghost use Rattle.std.specs.Prelude.{MatchOption, IsSome, IfSome, [], true};
 ghost use Rattle.dali_script.specs.Records.{Kept, Has, HasAddress, HasRandom, IsLeastFree, IsFull};
+ghost use Rattle.dali_script.specs.Records.{Fits, MayAdd, with_record, AreReserved, AreEnrolled};
 
 use crate::assignments::Assignments;
 use crate::block::Block;
@@ -42,6 +43,24 @@ impl Kept {
             reserved: Assignments::new(),
             enrolled: Assignments::new(),
         }
+    }
+
+    /// The records of these reservations and enrolments, each oldest first.
+    ///
+    /// None where no controller keeps them: where an address or a random address stands twice in one of the lists, a
+    /// reserved address lies outside the block, or a random address is `FFFFFF`.
+    pub fn of(
+        block: Block,
+        reserved: &[(Short, Random24)],
+        enrolled: &[(Short, Random24)],
+    ) -> Option<Kept>
+        ensures kept { IsSome result
+            ↔ IsKept (record { block = block; reserved = reserved.now; enrolled = enrolled.now }) }
+        ensures records { IfSome result
+            (λ k. k ≡ record { block = block; reserved = reserved.now; enrolled = enrolled.now }) }
+    {
+        let kept = all_reserved(block, reserved)?;
+        all_enrolled(kept, enrolled)
     }
 
     /// The same records once more.
@@ -204,4 +223,46 @@ impl Kept {
     {
         self.reserved.address_for(random).is_some()
     }
+}
+
+/// Adds a record, if it fits and may be added. Whether it was.
+fn is_added(kept: &mut Kept, added: Record) -> bool
+    ensures may { IsTrue result ↔ (Fits kept.old.block added × MayAdd kept.old added) }
+    ensures added { result ≡ true → kept.new ≡ with_record kept.old added }
+{
+    kept.fits(&added) && kept.add(added).is_ok()
+}
+
+/// These reservations, and no enrolments.
+fn all_reserved(block: Block, pairs: &[(Short, Random24)]) -> Option<Kept>
+    ensures kept { IsSome result ↔ AreReserved block pairs.now }
+    ensures records { IfSome result
+        (λ k. k ≡ record { block = block; reserved = pairs.now; enrolled = [] }) }
+{
+    let mut kept = Kept::new(block);
+    for (address, random) in pairs {
+        if !is_added(&mut kept, Record::Reserve(*address, *random)) {
+            return None;
+        }
+    }
+    // What is kept is what a controller keeps.
+    let _ = kept.block();
+    Some(kept)
+}
+
+/// The reservations that there are, and these enrolments.
+fn all_enrolled(kept: Kept, pairs: &[(Short, Random24)]) -> Option<Kept>
+    requires { kept.enrolled ≡ [] }
+    ensures kept { IsSome result ↔ AreEnrolled pairs.now }
+    ensures records { IfSome result
+        (λ k. k ≡ record { block = kept.block; reserved = kept.reserved; enrolled = pairs.now }) }
+{
+    let mut all = kept;
+    for (address, random) in pairs {
+        if !is_added(&mut all, Record::Enrol(*address, *random)) {
+            return None;
+        }
+    }
+    let _ = all.block();
+    Some(all)
 }

@@ -93,6 +93,38 @@ fn a_copy_is_the_same(rt: HostRuntime) -> Result<(), Fail> {
     Ok(())
 }
 
+type Numbers = [(u8, u32); 2];
+
+/// Whether block 4 to 7 has records with these two reservations and these two enrolments, and whether they are those.
+fn made_of(reserved: Numbers, enrolled: Numbers) -> Result<(bool, bool), Fail> {
+    let [(first, one), (second, two)] = reserved;
+    let reserved = [(short(first)?, random(one)?), (short(second)?, random(two)?)];
+    let [(first, one), (second, two)] = enrolled;
+    let enrolled = [(short(first)?, random(one)?), (short(second)?, random(two)?)];
+    Ok(match Kept::of(block(4, 7)?, &reserved, &enrolled) {
+        Some(kept) => (true, kept.reserved() == reserved && kept.enrolled() == enrolled),
+        None => (false, false),
+    })
+}
+
+#[test]
+fn records_are_made_of_two_lists(rt: HostRuntime) -> Result<(), Fail> {
+    let enrolled = [(5, 1), (63, 9)];
+    same(&rt, &made_of([(4, 1), (7, 0xFFFFFE)], enrolled)?, &(true, true));
+    let cases = [
+        [(4, 1), (4, 2)],
+        [(4, 1), (5, 1)],
+        [(4, 1), (8, 2)],
+        [(3, 1), (4, 2)],
+        [(4, 1), (5, 0xFFFFFF)],
+    ];
+    for reserved in cases {
+        same(&rt, &made_of(reserved, enrolled)?, &(false, false));
+    }
+    same(&rt, &made_of([(4, 1), (5, 2)], [(9, 1), (9, 2)])?, &(false, false));
+    Ok(())
+}
+
 /// Whether each of these fits.
 fn fit<R: Abort>(rt: &R, kept: &Kept, records: &[(Pair, bool)]) -> Result<(), Fail> {
     for (added, wanted) in records {

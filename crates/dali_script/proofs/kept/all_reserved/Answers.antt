@@ -1,0 +1,11 @@
+use Rattle.std.proofs.Common.{◌≡◌, ◌∙◌, sym, false, true}
+use Rattle.dali_script.proofs.Lists.{reserved_next}
+use Rattle.dali_script.proofs.kept.all_reserved.Goals as goal
+
+pub returns-then-not-is_added-clause-kept : goal.returns-then-not-is_added-clause-kept
+returns-then-not-is_added-clause-kept c = (
+  λ e. absurd (cc),
+  λ are.
+      sym c.if-not-is_added.true ∙ c.is_added.ensures.may.1
+      (reserved_next c.args.block c.args.pairs.now c.loop-address.address-index c.loop-address-item.result c.loop-address.kept are c.loop-address-test.true c.loop-address-item.is c.loop-address.invariant),
+)
