@@ -1,4 +1,4 @@
-use Rattle.std.proofs.Common.{◌≡◌, ◌∙◌, sym, false, true}
+use Rattle.std.proofs.Common.{◌∙◌, sym}
 use Rattle.dali_script.proofs.Lists.{enrolled_next}
 use Rattle.dali_script.proofs.kept.all_enrolled.Goals as goal
 
