@@ -98,11 +98,20 @@ type Numbers = [(u8, u32); 2];
 /// Whether block 4 to 7 has records with these two reservations and these two enrolments, and whether they are those.
 fn made_of(reserved: Numbers, enrolled: Numbers) -> Result<(bool, bool), Fail> {
     let [(first, one), (second, two)] = reserved;
-    let reserved = [(short(first)?, random(one)?), (short(second)?, random(two)?)];
+    let reserved = [
+        (short(first)?, random(one)?),
+        (short(second)?, random(two)?),
+    ];
     let [(first, one), (second, two)] = enrolled;
-    let enrolled = [(short(first)?, random(one)?), (short(second)?, random(two)?)];
+    let enrolled = [
+        (short(first)?, random(one)?),
+        (short(second)?, random(two)?),
+    ];
     Ok(match Kept::of(block(4, 7)?, &reserved, &enrolled) {
-        Some(kept) => (true, kept.reserved() == reserved && kept.enrolled() == enrolled),
+        Some(kept) => (
+            true,
+            kept.reserved() == reserved.as_slice() && kept.enrolled() == enrolled.as_slice(),
+        ),
         None => (false, false),
     })
 }
@@ -110,7 +119,11 @@ fn made_of(reserved: Numbers, enrolled: Numbers) -> Result<(bool, bool), Fail> {
 #[test]
 fn records_are_made_of_two_lists(rt: HostRuntime) -> Result<(), Fail> {
     let enrolled = [(5, 1), (63, 9)];
-    same(&rt, &made_of([(4, 1), (7, 0xFFFFFE)], enrolled)?, &(true, true));
+    same(
+        &rt,
+        &made_of([(4, 1), (7, 0xFFFFFE)], enrolled)?,
+        &(true, true),
+    );
     let cases = [
         [(4, 1), (4, 2)],
         [(4, 1), (5, 1)],
@@ -121,7 +134,11 @@ fn records_are_made_of_two_lists(rt: HostRuntime) -> Result<(), Fail> {
     for reserved in cases {
         same(&rt, &made_of(reserved, enrolled)?, &(false, false));
     }
-    same(&rt, &made_of([(4, 1), (5, 2)], [(9, 1), (9, 2)])?, &(false, false));
+    same(
+        &rt,
+        &made_of([(4, 1), (5, 2)], [(9, 1), (9, 2)])?,
+        &(false, false),
+    );
     Ok(())
 }
 
