@@ -23,8 +23,8 @@ use Rattle.dali_controller.specs.declared.purpose.Purpose.TheVariants.{Resolving
 use Rattle.dali_controller.specs.Course.{first_of, turn_of, closing_of}
 use Rattle.dali_controller.specs.Machine.{Machine}
 
--- WHAT IS TRUE OF EVERY MACHINE between two inputs: its last order is one that it gives in this state.
--- Of the numbers and records that are no machine's state, something below is false.
+-- WHAT IS TRUE OF EVERY MACHINE between two inputs: its last order is one that it gives in this
+-- state. Of parts that are no machine's, something below is false.
 
 -- what was sent of the transaction's search address, or that its short address is asked
 abbrev pub IsAt : Stage → Purpose → SearchAddress → Type 0
