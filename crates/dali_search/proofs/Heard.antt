@@ -4,13 +4,13 @@ use Rattle.std.proofs.lemmas.Bool.Decides.{nat_tests}
 use Rattle.dali_search.specs.Least.{probe_between}
 use Rattle.dali_search.specs.Narrowing.{asked_of, answer_of, left_by, left_of, answers_of}
 
-asked_within : (l : ℕ × ℕ) → l.0 ≤ l.1 → l.1 ≤ 0xFFFFFF → l.0 ≤ asked_of l + 1 × asked_of l ≤ l.1
+pub asked_within : (l : ℕ × ℕ) → l.0 ≤ l.1 → l.1 ≤ 0xFFFFFF → l.0 ≤ asked_of l + 1 × asked_of l ≤ l.1
 asked_within l order top = (grind (arith, nat_tests), grind (arith, nat_tests))
 
-narrowed_no : (l : ℕ × ℕ) (n : ℕ) → nat_lt (asked_of l) n ≡ true → left_by l n ≡ (asked_of l + 1, l.1)
+pub narrowed_no : (l : ℕ × ℕ) (n : ℕ) → nat_lt (asked_of l) n ≡ true → left_by l n ≡ (asked_of l + 1, l.1)
 narrowed_no l n less = ap (λ b. if b then (asked_of l + 1, l.1) else (l.0, asked_of l)) less
 
-narrowed_yes : (l : ℕ × ℕ) (n : ℕ) → nat_lt (asked_of l) n ≡ false → left_by l n ≡ (l.0, asked_of l)
+pub narrowed_yes : (l : ℕ × ℕ) (n : ℕ) → nat_lt (asked_of l) n ≡ false → left_by l n ≡ (l.0, asked_of l)
 narrowed_yes l n less = ap (λ b. if b then (asked_of l + 1, l.1) else (l.0, asked_of l)) less
 
 -- the least member is left
@@ -25,7 +25,7 @@ narrowed_within l n low high top = go (nat_lt (asked_of l) n) refl (asked_within
       let within : n ≤ asked_of l = grind (arith, nat_tests) in
       rw (narrowed_yes l n less) (low, within, omega (arith, asked.1, top))
 
-left_within : (k n : ℕ) → n ≤ 0xFFFFFF → (left_of k n).0 ≤ n × n ≤ (left_of k n).1 × (left_of k n).1 ≤ 0xFFFFFF
+pub left_within : (k n : ℕ) → n ≤ 0xFFFFFF → (left_of k n).0 ≤ n × n ≤ (left_of k n).1 × (left_of k n).1 ≤ 0xFFFFFF
 left_within zero n small = (omega arith, small, omega arith)
 left_within (suc k) n small =
     let before = left_within k n small in

@@ -1,3 +1,4 @@
 pub mod Agreement
 mod Heard
 mod Narrowing
+mod Led

@@ -8,39 +8,39 @@ use Rattle.dali_search.specs.Narrowing.{Narrows, left_of, answers_of}
 use Rattle.dali_search.proofs.Heard.{heard_more}
 
 -- a further answer
-lowest_yes : (xs : List (ℕ × Bool)) (p : ℕ) → lowest (xs ++ (p, true) ∷ []) ≡ lowest xs
+pub lowest_yes : (xs : List (ℕ × Bool)) (p : ℕ) → lowest (xs ++ (p, true) ∷ []) ≡ lowest xs
 lowest_yes [] p = refl
 lowest_yes ((q, true) ∷ xs) p = lowest_yes xs p
 lowest_yes ((q, false) ∷ xs) p = ap (λ l. max (q + 1) l) (lowest_yes xs p)
 
-highest_no : (xs : List (ℕ × Bool)) (p : ℕ) → highest (xs ++ (p, false) ∷ []) ≡ highest xs
+pub highest_no : (xs : List (ℕ × Bool)) (p : ℕ) → highest (xs ++ (p, false) ∷ []) ≡ highest xs
 highest_no [] p = refl
 highest_no ((q, true) ∷ xs) p = ap (λ h. min q h) (highest_no xs p)
 highest_no ((q, false) ∷ xs) p = highest_no xs p
 
-above_both : (q l p : ℕ) → max (q + 1) l ≤ p → l ≤ p × q ≤ p
+above_both : (q l p : ℕ) → max (q + 1) l ≤ p → l ≤ p × q + 1 ≤ p
 above_both q l p h = (grind (arith, nat_tests), grind (arith, nat_tests))
 
-lowest_no : (xs : List (ℕ × Bool)) (p : ℕ) → lowest xs ≤ p → lowest (xs ++ (p, false) ∷ []) ≡ p + 1
+pub lowest_no : (xs : List (ℕ × Bool)) (p : ℕ) → lowest xs ≤ p + 1 → lowest (xs ++ (p, false) ∷ []) ≡ p + 1
 lowest_no [] p h = grind (arith, nat_tests)
 lowest_no ((q, true) ∷ xs) p h = lowest_no xs p h
 lowest_no ((q, false) ∷ xs) p h =
-    let both : lowest xs ≤ p × q ≤ p = above_both q (lowest xs) p h in
+    let both : lowest xs ≤ p + 1 × q + 1 ≤ p + 1 = above_both q (lowest xs) (p + 1) h in
     rw (lowest_no xs p both.0) (at_top q p both.1)
   where
-    at_top : (q p : ℕ) → q ≤ p → max (q + 1) (p + 1) ≡ p + 1
+    at_top : (q p : ℕ) → q + 1 ≤ p + 1 → max (q + 1) (p + 1) ≡ p + 1
     at_top q p h = grind (arith, nat_tests)
 
-below_both : (q h p : ℕ) → p < min q h → p < h × p < q
-below_both q h p less = (grind (arith, nat_tests), grind (arith, nat_tests))
+below_both : (q h p : ℕ) → p ≤ min q h → p ≤ h × p ≤ q
+below_both q h p most = (grind (arith, nat_tests), grind (arith, nat_tests))
 
-highest_yes : (xs : List (ℕ × Bool)) (p : ℕ) → p < highest xs → highest (xs ++ (p, true) ∷ []) ≡ p
+pub highest_yes : (xs : List (ℕ × Bool)) (p : ℕ) → p ≤ highest xs → highest (xs ++ (p, true) ∷ []) ≡ p
 highest_yes [] p h = grind (arith, nat_tests)
 highest_yes ((q, true) ∷ xs) p h =
-    let both : p < highest xs × p < q = below_both q (highest xs) p h in
+    let both : p ≤ highest xs × p ≤ q = below_both q (highest xs) p h in
     rw (highest_yes xs p both.0) (at_bottom q p both.1)
   where
-    at_bottom : (q p : ℕ) → p < q → min q p ≡ p
+    at_bottom : (q p : ℕ) → p ≤ q → min q p ≡ p
     at_bottom q p h = grind (arith, nat_tests)
 highest_yes ((q, false) ∷ xs) p h = highest_yes xs p h
 
@@ -184,7 +184,7 @@ narrows_more low high next_low next_high s t said n running answers low_is high_
         → Narrows next_low next_high t
     go true answers low_is high_is less asked first_low inside one_more few = record {
       low_is = ap lowest answers ∙ lowest_yes s.answers s.probe ∙ n.low_is ∙ sym low_is;
-      high_is = ap highest answers ∙ highest_yes s.answers s.probe (subst (λ h. s.probe < h) (sym n.high_is) inside.1) ∙ sym high_is;
+      high_is = ap highest answers ∙ highest_yes s.answers s.probe (subst (λ h. s.probe ≤ h) (sym n.high_is) (omega (arith, inside.1))) ∙ sym high_is;
       step_is = step;
       probe_is = next_probe next_low next_high s.probe t.probe t.step step probe;
       order = omega (arith, low_is, high_is, inside.0);
@@ -195,7 +195,7 @@ narrows_more low high next_low next_high s t said n running answers low_is high_
       few = (few.0, rw one_more few.1, rw (low_is, high_is) few.2);
     }
     go false answers low_is high_is less asked first_low inside one_more few = record {
-      low_is = ap lowest answers ∙ lowest_no s.answers s.probe (subst (λ l. l ≤ s.probe) (sym n.low_is) inside.0) ∙ sym low_is;
+      low_is = ap lowest answers ∙ lowest_no s.answers s.probe (subst (λ l. l ≤ s.probe + 1) (sym n.low_is) (omega (arith, inside.0))) ∙ sym low_is;
       high_is = ap highest answers ∙ highest_no s.answers s.probe ∙ n.high_is ∙ sym high_is;
       step_is = step;
       probe_is = next_probe next_low next_high s.probe t.probe t.step step probe;

@@ -42,3 +42,9 @@ left_of (suc k) least = left_by (left_of k least) least
 abbrev pub answers_of : ℕ → ℕ → List (ℕ × Bool)
 answers_of zero least = []
 answers_of (suc k) least = answers_of k least ++ answer_of (left_of k least) least ∷ []
+
+-- WHAT IS TRUE OF EVERY SEARCH: it is told by three numbers, how many answers there were, the least
+-- number that they leave, and the probe
+pub record IsSearch (s : Search) : Type 0 where
+  pub narrows : Narrows (lowest s.answers) (highest s.answers) s
+  pub told : s.answers ≡ answers_of (length s.answers) (lowest s.answers)

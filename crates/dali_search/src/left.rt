@@ -1,5 +1,6 @@
-ghost use Rattle.std.specs.Prelude.{◌≡◌, ◌+◌, ◌^◌, ◌<◌, nat_lt, if◌then◌else◌};
+ghost use Rattle.std.specs.Prelude.{◌≡◌, ◌+◌, ◌^◌, ◌<◌, ◌==◌, true, nat_lt, if◌then◌else◌};
 ghost use Rattle.dali_search.specs.Least.{step_between, probe_between};
+ghost use Rattle.dali_search.specs.Narrowing.{left_of};
 
 use crate::step::Step;
 use dali_frame::Random24;
@@ -40,6 +41,22 @@ impl Left {
         }
     }
 
+    /// The numbers that so many answers of a set leave, by its least member.
+    pub(crate) fn led_to(answers: u8, least: Random24) -> Left
+        ensures low { result.low ≡ (left_of answers least).0 }
+        ensures high { result.high ≡ (left_of answers least).1 }
+        ensures below { result.low < 2 ^ 24 }
+        ensures above { result.high < 2 ^ 24 }
+    {
+        let least = least.value();
+        let mut left = Left::ALL;
+        for _ in 0..answers {
+            let asked = left.probe();
+            left = left.narrowed(asked, least <= asked.value());
+        }
+        left
+    }
+
     /// What the answers lead to.
     pub(crate) fn step(self) -> Step
         requires { self.low < 2 ^ 24 }
@@ -66,6 +83,19 @@ impl Left {
             (self.low + self.high) / 2
         };
         Random24::of(middle).unwrap()
+    }
+
+    /// Whether a number may be the probe: it is the number to ask next, or there is nothing more to ask.
+    pub(crate) fn may_ask(self, probe: Random24) -> bool
+        requires low { self.low < 2 ^ 24 }
+        requires high { self.high < 2 ^ 24 }
+        ensures { result ≡ (if nat_lt self.low self.high then probe == probe_between self.low self.high else true) }
+    {
+        if self.low < self.high {
+            probe == self.probe()
+        } else {
+            true
+        }
     }
 
     /// The number to ask next, or the last that was asked where there is nothing more to ask.

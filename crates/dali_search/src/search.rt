@@ -1,12 +1,17 @@
-ghost use Rattle.std.specs.Prelude.{◌≡◌, ℕ, ◌+◌, ◌<◌, ◌≤◌, Bool, true, false, List, [], ◌∷◌, ◌++◌, length};
+ghost use Rattle.std.specs.Prelude.{◌≡◌, ℕ, ◌+◌, ◌<◌, ◌≤◌, Bool, true, false, List, [], ◌∷◌, ◌++◌, length, IfSome, Some};
 ghost use Rattle.dali_search.specs.declared.step.Step.{Step};
 ghost use Rattle.dali_search.specs.declared.step.Step.TheVariants.{Again, Nobody};
-ghost use Rattle.dali_search.specs.Least.{Search, at_first, step_after, probe_after, IsBelow, Agrees, Says, NumberOf};
+ghost use Rattle.dali_search.specs.Least.{Search, at_first, step_after, probe_after, lowest, IsBelow, Agrees, Says};
+ghost use Rattle.dali_search.specs.Least.{NumberOf};
+ghost use Rattle.dali_search.specs.Narrowing.{IsSearch};
 
 use crate::left::Left;
 use crate::step::Step;
 use dali_frame::Random24;
 use std::marker::Model;
+
+/// The answers that a search takes at most.
+const MOST: u8 = 25;
 
 /// A search for the least member of a set of numbers below `FFFFFF`, as the random addresses of the gear that answer
 /// COMPARE (IEC 62386-102:2014, COMPARE).
@@ -67,6 +72,47 @@ impl Search {
         ensures { result ≡ self.now.step }
     {
         self.step
+    }
+
+    /// How many answers there were, 0 to 25.
+    pub fn answers(&self) -> u8
+        ensures value { result ≡ length self.now.answers }
+        ensures search { IsSearch self.now }
+    {
+        self.answers
+    }
+
+    /// The least number that the answers leave; `FFFFFF` where they leave none.
+    pub fn least(&self) -> Random24
+        ensures value { result ≡ lowest self.now.answers }
+    {
+        Random24::of(self.left.low).unwrap()
+    }
+
+    /// The search that has had so many answers, which leave this as the least number, and has this probe. So a search is
+    /// laid down as three numbers, and made again. None where no search has these.
+    pub fn of(answers: u8, least: Random24, probe: Random24) -> Option<Search>
+        ensures numbers { IfSome result (λ s. (length s.answers ≡ answers) × (lowest s.answers ≡ least)
+            × (s.probe ≡ probe)) }
+        ensures same { (s : Search) → IsSearch s → length s.answers ≡ answers → lowest s.answers ≡ least
+            → s.probe ≡ probe → result ≡ Some s }
+    {
+        if answers > MOST || probe >= Random24::MASK {
+            return None;
+        }
+        let left = Left::led_to(answers, least);
+        if left.low != least.value() {
+            return None;
+        }
+        if !left.may_ask(probe) {
+            return None;
+        }
+        Some(Search {
+            answers,
+            left,
+            probe,
+            step: left.step(),
+        })
     }
 
     /// Takes the answer to the question whether some member is at most the probe.

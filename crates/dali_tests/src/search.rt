@@ -68,3 +68,56 @@ fn an_end_comes_again(rt: HostRuntime) {
     let probes = [(0xFFFFFE, false), (0xFFFFFE, true), (0xFFFFFE, false)];
     asks(&rt, &mut Search::new(), &probes, Step::Nobody);
 }
+
+/// The search that is made of the three numbers of this one.
+fn made_again(search: &Search) -> Option<Search> {
+    Search::of(search.answers(), search.least(), search.probe())
+}
+
+/// Whether a search for this number that is made again after each answer goes on as it would have, to its end.
+fn goes_on_anew(number: u32) -> bool {
+    let mut search = Search::new();
+    for _ in 0..26 {
+        let Some(made) = made_again(&search) else {
+            return false;
+        };
+        if made.probe() != search.probe() || made.step() != search.step() {
+            return false;
+        }
+        search = made;
+        let yes = number <= search.probe().value();
+        search.answer(yes);
+    }
+    search.step() != Step::Again
+}
+
+#[test]
+fn a_search_is_made_again_of_three_numbers(rt: HostRuntime) {
+    same(&rt, &goes_on_anew(0), &true);
+    same(&rt, &goes_on_anew(0x123456), &true);
+    same(&rt, &goes_on_anew(0xFFFFFE), &true);
+    same(&rt, &goes_on_anew(0xFFFFFF), &true);
+}
+
+/// Whether there is a search of so many answers that leave this least number, with this probe.
+fn is_search(answers: u8, least: u32, probe: u32) -> Result<bool, Fail> {
+    Ok(Search::of(answers, random(least)?, random(probe)?).is_some())
+}
+
+#[test]
+fn numbers_of_no_search_are_refused(rt: HostRuntime) -> Result<(), Fail> {
+    let cases = [
+        ((0, 0, 0xFFFFFE), true),
+        ((1, 0, 0x7FFFFF), true),
+        ((1, 0xFFFFFF, 0xFFFFFE), true),
+        ((0, 0, 0x7FFFFF), false),
+        ((0, 1, 0xFFFFFE), false),
+        ((1, 5, 0x7FFFFF), false),
+        ((1, 0xFFFFFF, 0xFFFFFF), false),
+        ((26, 0, 0), false),
+    ];
+    for ((answers, least, probe), wanted) in cases {
+        same(&rt, &is_search(answers, least, probe)?, &wanted);
+    }
+    Ok(())
+}
