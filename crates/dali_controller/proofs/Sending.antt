@@ -17,7 +17,6 @@ use Rattle.dali_frame.specs.declared.frames.Forward.{Forward}
 use Rattle.dali_search.specs.Least.{Search}
 use Rattle.dali_controller.specs.declared.purpose.Purpose.{Purpose}
 use Rattle.dali_controller.specs.declared.purpose.Purpose.TheVariants.{Resolving}
-use Rattle.dali_controller.specs.Course.{first_of}
 use Rattle.dali_controller.specs.Whole.{Sends, Knows, IsChosen}
 use Rattle.dali_script.proofs.Lists.{has_map}
 use Rattle.dali_script.proofs.Members.{same_member}

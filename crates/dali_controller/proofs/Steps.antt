@@ -1,5 +1,5 @@
 use Rattle.std.proofs.Common.{map, take, lit<, length, get_or, ◌≡◌, ◌⊎◌, inl, inr, ℕ, ◌+◌, ◌<◌, ◌≤◌, Bool, true, false, List, [], ◌∷◌, ◌++◌, refl, sym, ap, subst, ◌∙◌, arith, Option, Some, None}
-use Rattle.std.specs.Prelude.{◌==◌, zero, suc, if◌then◌else◌}
+use Rattle.std.specs.Prelude.{◌==◌, if◌then◌else◌}
 use Rattle.dali_frame.specs.declared.frames.Forward.{Forward}
 use Rattle.dali_frame.specs.declared.frames.Answer.{Answer}
 use Rattle.dali_frame.specs.declared.frames.Answer.TheVariants.{Silence, Byte, Damaged}
@@ -29,7 +29,7 @@ use Rattle.dali_script.proofs.Transactions.{self, middle_next, low_next, turn, g
 use Rattle.dali_script.proofs.Found.{finding_after}
 use Rattle.dali_enrol.specs.Table.{Table}
 use Rattle.dali_search.specs.declared.step.Step.TheVariants.{Again}
-use Rattle.dali_script.proofs.Lists.{has_map, has_at, has_last, once_before}
+use Rattle.dali_script.proofs.Lists.{has_map, has_last, once_before}
 use Rattle.dali_search.specs.Least.{Search}
 use Rattle.dali_script.specs.declared.orders.Order.{Order}
 use Rattle.dali_script.specs.declared.orders.Order.TheVariants.{Put, Commit, Done, Halt}
@@ -45,7 +45,7 @@ use Rattle.dali_controller.specs.Course.{Course, first_of, closing_of}
 use Rattle.dali_controller.specs.Machine.{machine_lost, Machine, table_of, opened_after, silent_after, tries_after}
 use Rattle.dali_controller.specs.Next.{begins_at, course_by}
 use Rattle.dali_controller.specs.Orders.{Contradicts, IsBegun, AfterMask, IsOrderedTo, machine_ordered, closing as closing_in}
-use Rattle.dali_controller.specs.Whole.{Sends, Knows, IsCalm, IsReady, IsSending, Pending, IsWhole}
+use Rattle.dali_controller.specs.Whole.{Sends, Knows, IsCalm, IsReady, IsSending, Pending}
 use Rattle.dali_controller.specs.Moments.{FoundAt, IsBetween, Closes, Settles, course_of, machine_of, Arrived, KnowsAt, CalmAt, IsFine, IsHeard, Turns, Begins, IsNext}
 
 -- THE COMMANDS OF A TRANSACTION. A command that is sent at a stage may follow there and is read from its frame; it is no

@@ -1,37 +1,31 @@
-use Rattle.std.specs.Prelude.{◌≡◌, ℕ, ◌<◌, ◌≤◌, ◌⊎◌, Bool, true, false, Option, Some, None, IfSome}
-use Rattle.dali_frame.specs.declared.frames.Forward.{Forward}
+use Rattle.std.specs.Prelude.{◌≡◌, ℕ, ◌<◌, ◌≤◌, ◌⊎◌, Bool, true, Option, Some, None}
 use Rattle.dali_frame.specs.declared.numbers.SearchAddress.{SearchAddress}
 use Rattle.dali_frame.specs.Random.{value_of, MASK24}
 use Rattle.dali_special.specs.declared.command.Command.{Command}
-use Rattle.dali_special.specs.declared.command.Command.TheVariants.{Program}
-use Rattle.dali_special.specs.Command.{command_of, IsSpelled}
 use Rattle.dali_script.specs.declared.finding.Finding.{Finding}
 use Rattle.dali_script.specs.declared.finding.Finding.TheVariants.{Queried, Resolved}
-use Rattle.dali_script.specs.declared.records.Record.{Record}
 use Rattle.dali_script.specs.declared.records.Record.TheVariants.{Enrol}
 use Rattle.dali_script.specs.declared.stage.Stage.{Stage}
 use Rattle.dali_script.specs.declared.stage.Stage.TheVariants.{Free, Terminated}
 use Rattle.dali_script.specs.declared.stage.Stage.TheVariants.{Opened}
 use Rattle.dali_script.specs.declared.stage.Stage.TheVariants.{Probed, Unnamed, Unanswered}
 use Rattle.dali_script.specs.declared.stage.Stage.TheVariants.{Inconclusive}
-use Rattle.dali_script.specs.declared.stage.Stage.TheVariants.{Withdrawn, HighAsked}
-use Rattle.dali_script.specs.declared.stage.Stage.TheVariants.{MiddleAsked, Spelled}
-use Rattle.dali_script.specs.Records.{Kept, Has, HasRandom, Fits, MayAdd, IsFull}
-use Rattle.dali_script.specs.Scripts.{MayGive}
+use Rattle.dali_script.specs.declared.stage.Stage.TheVariants.{Withdrawn}
+use Rattle.dali_script.specs.declared.stage.Stage.TheVariants.{Spelled}
+use Rattle.dali_script.specs.Records.{Kept, Has, HasRandom, IsFull}
 use Rattle.dali_script.specs.Findings.{assigned, MayEnrol, finding_of}
-use Rattle.dali_script.specs.Stages.{stage_of, given, IsSearched}
-use Rattle.dali_search.specs.declared.step.Step.TheVariants.{Again}
+use Rattle.dali_script.specs.Stages.{stage_of}
 use Rattle.dali_search.specs.Least.{Search}
 use Rattle.dali_script.specs.declared.orders.Input.{Input}
 use Rattle.dali_script.specs.declared.orders.Order.{Order}
-use Rattle.dali_script.specs.declared.orders.Order.TheVariants.{Put, Commit, Done, Halt}
+use Rattle.dali_script.specs.declared.orders.Order.TheVariants.{Commit}
 use Rattle.dali_script.specs.declared.orders.End.{End}
-use Rattle.dali_script.specs.declared.orders.End.TheVariants.{BlockFull, GaveUp}
+use Rattle.dali_script.specs.declared.orders.End.TheVariants.{BlockFull}
 use Rattle.dali_controller.specs.declared.purpose.Purpose.{Purpose}
 use Rattle.dali_controller.specs.declared.purpose.Purpose.TheVariants.{Opening, Probing, Visiting}
 use Rattle.dali_controller.specs.declared.purpose.Purpose.TheVariants.{Resolving, Closing}
 use Rattle.dali_controller.specs.declared.work.Work.{Work}
-use Rattle.dali_controller.specs.Course.{Course, first_of, turn_of, closing_of}
+use Rattle.dali_controller.specs.Course.{Course, closing_of}
 use Rattle.dali_controller.specs.Machine.{Machine, table_of}
 use Rattle.dali_controller.specs.Next.{beginning, next_course, goes_on_to}
 use Rattle.dali_controller.specs.Orders.{Cause, IsOrderedTo, machine_ordered, IsAnswered}

@@ -15,10 +15,7 @@ use dali_script::{Block, Kept};
 use sqlite::{Alter, Connection};
 
 /// The replay of the table's rows, and how many there are.
-pub fn replay<S: Alter>(
-    conn: &mut Connection<S>,
-    block: Block,
-) -> Result<(Kept, usize), KeepError>
+pub fn replay<S: Alter>(conn: &mut Connection<S>, block: Block) -> Result<(Kept, usize), KeepError>
     ensures block { IfOk result (λ answer. answer.0.block ≡ block) }
     ensures known { HasCleanDisk (state S.Store conn.new) → IfOk result (λ answer. HasTable (state S.Store conn.old)
         → (xs : List Record) × Holds (state S.Store conn.new) xs × IsKnown answer.0 answer.1 xs) }

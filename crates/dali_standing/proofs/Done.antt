@@ -1,6 +1,6 @@
-use Rattle.std.proofs.Common.{◌≡◌, ℕ, ◌<◌, ◌≤◌, ◌⊎◌, inl, inr, Bool, true, false, not, List, [], ◌∷◌, ◌++◌, refl, sym, ap, subst, ◌∙◌, length, length-set, get_or, Option, Some, None, Result, Ok, Err, OnOk, OnErr, IfSome, ◌↔◌}
+use Rattle.std.proofs.Common.{◌≡◌, ℕ, ◌<◌, ◌≤◌, ◌⊎◌, inl, inr, Bool, true, false, not, List, [], ◌∷◌, ◌++◌, refl, sym, ap, subst, ◌∙◌, length, length-set, get_or, Option, Some, None, IfSome, ◌↔◌}
 use Rattle.std.specs.Prelude.{if◌then◌else◌}
-use Rattle.std.proofs.lemmas.List.{get_or_read_under, set-get_or, length-map}
+use Rattle.std.proofs.lemmas.List.{get_or_read_under, length-map}
 use Rattle.dali_frame.specs.declared.frames.Forward.{Forward}
 use Rattle.dali_frame.specs.declared.frames.Answer.{Answer}
 use Rattle.dali_special.specs.Command.{command_of}
@@ -27,7 +27,6 @@ use Rattle.dali_standing.specs.Seats.{Seat, Agrees, IsRunning, IsTied, MayAnswer
 use Rattle.dali_standing.specs.Standing.{Seated, seat_in, empty_seat, Standing, flat, stand_of, controller_on, machine_in, machines_after, Moves, MayBeSent}
 use Rattle.dali_standing.proofs.Seats.{seat_at, world_of, with_seat, running_in, goes_on_in, has_acted, has_offered, has_sent, has_lost, has_collided, has_lapsed, has_gone_down, has_come_up, IsMove}
 use Rattle.dali_standing.specs.Settled.{IsAccepted, IsHearing, IsPlacedBy, IsPlacedOn, Settled}
-use Rattle.dali_standing.specs.declared.refusal.Refusal.{Refusal}
 use Rattle.dali_standing.specs.declared.trouble.Trouble.{Trouble}
 use Rattle.dali_standing.specs.declared.trouble.Trouble.TheVariants as trouble
 use Rattle.dali_standing.specs.Troubles.{heard_under, nobody_at_all}
