@@ -22,6 +22,7 @@ use Rattle.dali_script.specs.Records.{Assignment}
 use Rattle.dali_script.specs.Scripts.{Step, steps, IsFront, Lawful, IsLawful}
 use Rattle.dali_script.specs.Findings.{search_after, at_power_on, search_from, search_of, Asked, nothing, asked_after, asked_from, asked_of, found_by, later, finding_from, finding_of}
 use Rattle.dali_script.proofs.Transactions.{self, equal, middle_next, low_next, middle_same, low_same, Tracks, tracks, follows_lawful, stage_none, stage_more}
+use Rattle.dali_script.proofs.Senders.{sent_more}
 use Rattle.dali_script.specs.Stages.{named, queried, answered, verified, byte_heard, bytes_heard, number_heard, next_stage, stage_from, stage_of, Follows, finding_at, IsSearched, IsAsked, IsTrace}
 
 -- What is kept beside the stage of a trace: the search address, what queries of a random address were heard as, and the
@@ -162,7 +163,7 @@ says_more b xs (MiddleAsked a bytes) (RandomByte c Low) h r q found on k = says_
 says_more b xs _ _ h r q found on k = absurd (let none = on.leads_on in cc)
 
 pub trace_none : IsTrace Free []
-trace_none = record { stage = sym stage_none; searched = tt; asked = tt; finding = refl }
+trace_none = record { stage = sym stage_none; searched = tt; asked = tt; finding = refl; sent = tt }
 
 pub trace_more : (s : Stage) (t : List Entry) (f : Forward) (h : Answer) → IsLawful t f → IsTrace s t
     → IsTrace (next_stage s (command_of f) h) (t ++ (record { frame = f; heard = h }) ∷ [])
@@ -178,6 +179,7 @@ trace_more s t f h lawful k =
       searched = subst (λ r. IsSearched (next_stage s (command_of f) h) r) (sym (searched_more t e)) more.searched;
       asked = subst (λ q. IsAsked (next_stage s (command_of f) h) q) (sym (asked_more t e)) more.asked;
       finding = finding_more t e ∙ more.finding;
+      sent = sent_more t e k.sent lawful;
     }
 
 -- WHAT A FRONT OF A SCRIPT SAYS

@@ -2,5 +2,6 @@ pub mod Lists
 pub mod Members
 pub mod Giving
 pub mod Transactions
+pub mod Senders
 pub mod Found
 pub mod Examples

@@ -1,4 +1,4 @@
-use Rattle.std.specs.Prelude.{◌≡◌, ℕ, ◌<◌, List, [], ◌∷◌, Some}
+use Rattle.std.specs.Prelude.{◌≡◌, ℕ, ◌<◌, List, [], ◌∷◌, ◌++◌, Some}
 use Rattle.dali_frame.specs.declared.frames.Forward.{Forward}
 use Rattle.dali_frame.specs.declared.frames.Answer.{Answer}
 use Rattle.dali_frame.specs.declared.frames.Answer.TheVariants.{Byte}
@@ -100,6 +100,15 @@ Lawful b reserved t f = (s : Script) × MaySend b reserved s × IsFront t f (ste
 -- some sender may send the frame after the trace
 abbrev pub IsLawful : List Entry → Forward → Type 0
 IsLawful t f = (b : Block) × (reserved : List Assignment) × Lawful b reserved t f
+
+-- A TRANSACTION, as far as it is: each of its frames was lawful after those before it, for some
+-- sender.
+abbrev pub AreSent : List Entry → List Entry → Type 0
+AreSent before [] = Unit {0}
+AreSent before (e ∷ t) = IsLawful before e.frame × AreSent (before ++ e ∷ []) t
+
+abbrev pub IsTransaction : List Entry → Type 0
+IsTransaction t = AreSent [] t
 
 -- A first frame: one that may begin a transaction.
 abbrev pub IsFirst : Forward → Type 0

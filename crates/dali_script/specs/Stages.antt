@@ -29,7 +29,7 @@ use Rattle.dali_script.specs.declared.stage.Stage.TheVariants.{MiddleAsked, Spel
 use Rattle.dali_script.specs.declared.finding.Finding.{Finding}
 use Rattle.dali_script.specs.declared.finding.Finding.TheVariants.{Queried, Resolved}
 use Rattle.dali_script.specs.Records.{Assignment}
-use Rattle.dali_script.specs.Scripts.{MayGive}
+use Rattle.dali_script.specs.Scripts.{MayGive, IsTransaction}
 use Rattle.dali_script.specs.Findings.{search_of, Asked, nothing, high_byte, two_bytes}
 use Rattle.dali_script.specs.Findings.{asked_of, finding_of}
 
@@ -135,6 +135,14 @@ may_give_if b reserved None = true
 abbrev pub follows : Block → List Assignment → Stage → Command → Bool
 follows b reserved s c = is_some (leads s c Silence) && may_give_if b reserved (given s c)
 
+-- the same for some sender: what is given, if anything, is given to a number that gear draw
+abbrev pub is_drawn_if : Option (SearchAddress × ℕ) → Bool
+is_drawn_if (Some g) = nat_lt (value_of g.0) MASK24
+is_drawn_if None = true
+
+abbrev pub may_come : Stage → Command → Bool
+may_come s c = is_some (leads s c Silence) && is_drawn_if (given s c)
+
 -- some address may be given to the gear at a search address
 abbrev pub may_give_some : Block → List Assignment → ℕ → Bool
 may_give_some b reserved n =
@@ -192,3 +200,4 @@ pub record IsTrace (s : Stage) (t : List Entry) : Type 0 where
   pub searched : IsSearched s (search_of t)
   pub asked : IsAsked s (asked_of t)
   pub finding : finding_of t ≡ finding_at s
+  pub sent : IsTransaction t

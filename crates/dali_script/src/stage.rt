@@ -59,7 +59,7 @@ pub enum Stage {
 
 impl Stage {
     ghost use Rattle.dali_script.specs.Stages.{leads, next_stage, queried, verified, follows, given, may_follow};
-    ghost use Rattle.dali_script.specs.Stages.{finding_at};
+    ghost use Rattle.dali_script.specs.Stages.{finding_at, may_come};
 
     /// The stage that the first command of a script leads to.
     fn first(command: Command, heard: Answer) -> Option<Stage>
@@ -141,6 +141,20 @@ impl Stage {
         match self.next(command, Answer::Silence) {
             Some(_) => match given {
                 Some((number, short)) => kept.may_give(number.value(), short),
+                None => true,
+            },
+            None => false,
+        }
+    }
+
+    /// Whether a command may come next, for some sender.
+    pub(crate) fn leads_on(self, command: Command) -> bool
+        ensures { result ≡ may_come self command }
+    {
+        let given = self.given(&command);
+        match self.next(command, Answer::Silence) {
+            Some(_) => match given {
+                Some((number, _)) => number.value() < Random24::MASK,
                 None => true,
             },
             None => false,

@@ -1,5 +1,5 @@
-ghost use Rattle.std.specs.Prelude.{◌≡◌, ℕ, ◌<◌, ◌↔◌, List, [], ◌∷◌, ◌++◌, false, not, IsTrue, length};
-ghost use Rattle.std.specs.Prelude.{option_map};
+ghost use Rattle.std.specs.Prelude.{◌≡◌, ℕ, ◌<◌, ◌≤◌, ◌↔◌, List, [], ◌∷◌, ◌++◌, false, not, IsTrue, length};
+ghost use Rattle.std.specs.Prelude.{option_map, IsSome, IfSome};
 ghost use Rattle.dali_frame.specs.declared.frames.Forward.{Forward};
 ghost use Rattle.dali_special.specs.Command.{command_of};
 
@@ -59,7 +59,7 @@ impl Model for Trace {
 }
 
 impl Trace {
-    ghost use Rattle.dali_script.specs.Scripts.{Lawful, IsLawful, IsComplete, GoesOn};
+    ghost use Rattle.dali_script.specs.Scripts.{Lawful, IsLawful, IsTransaction, IsComplete, GoesOn};
     ghost use Rattle.dali_script.specs.Findings.{assigned, finding_of};
     ghost use Rattle.dali_script.specs.Stages.{stage_of, follows, may_follow};
 
@@ -71,6 +71,41 @@ impl Trace {
             entries: ArrayVec::new(),
             stage: Stage::Free,
         }
+    }
+
+    /// The running transaction of these frames, each with what was heard, oldest first.
+    ///
+    /// None where no controller has sent them: where one of them is not lawful after those before it, for any sender.
+    pub fn of(entries: &[Entry]) -> Option<Trace>
+        ensures sent { IsSome result ↔ IsTransaction entries.now }
+        ensures same { IfSome result (λ t. t ≡ entries.now) }
+    {
+        let mut trace = Trace::new();
+        for entry in entries {
+            if !trace.allows_some(entry.frame) {
+                return None;
+            }
+            trace.push(entry.frame, entry.heard);
+        }
+        // What is a trace was sent.
+        let _ = trace.entries();
+        Some(trace)
+    }
+
+    /// The frames, each with what was heard after it, oldest first.
+    pub fn entries(&self) -> &[Entry]
+        ensures value { result.now ≡ self.now }
+        ensures sent { IsTransaction self.now }
+        ensures short { length self.now ≤ 7 }
+    {
+        &self.entries
+    }
+
+    /// Whether a frame may follow, for some sender.
+    fn allows_some(&self, frame: Forward) -> bool
+        ensures { IsTrue result ↔ IsLawful self.now frame }
+    {
+        self.stage.leads_on(Command::read(frame))
     }
 
     /// Whether a frame may follow, for a sender with these records.

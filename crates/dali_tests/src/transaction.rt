@@ -6,7 +6,7 @@
 use super::values::Pair::Reserve;
 use super::values::{frame, kept_of, random, same, short};
 use dali_frame::{Answer, Forward, Random24, SearchAddress, Short};
-use dali_script::{Finding, Kept, Stage, Trace};
+use dali_script::{Entry, Finding, Kept, Stage, Trace};
 use std::process::Abort;
 use std::test::Fail;
 
@@ -41,15 +41,21 @@ fn send(trace: &mut Trace, kept: &Kept, frame: Forward, heard: Answer) -> Result
     Ok(())
 }
 
+/// A frame, and behind a `=` what was heard after it.
+fn entry_of(word: &str) -> Result<Entry, Fail> {
+    let (text, heard) = match word.split_once('=') {
+        Some((text, heard)) => (text, heard_of(heard)),
+        None => (word, Answer::Silence),
+    };
+    Ok(Entry { frame: frame(text.as_bytes())?, heard })
+}
+
 /// The trace of these frames.
 fn trace_of(kept: &Kept, frames: &str) -> Result<Trace, Fail> {
     let mut trace = Trace::new();
     for word in frames.split_ascii_whitespace() {
-        let (text, heard) = match word.split_once('=') {
-            Some((text, heard)) => (text, heard_of(heard)),
-            None => (word, Answer::Silence),
-        };
-        send(&mut trace, kept, frame(text.as_bytes())?, heard)?;
+        let entry = entry_of(word)?;
+        send(&mut trace, kept, entry.frame, entry.heard)?;
     }
     Ok(trace)
 }
@@ -268,4 +274,60 @@ fn a_confirmed_address_needs_its_reservation(rt: HostRuntime) -> Result<(), Fail
     let kept = one_reserved()?;
     let none = none_reserved()?;
     confirmed(&rt, &kept, &none)
+}
+
+/// The trace of its entries allows the same frames, and has the same finding.
+fn is_made_again<R: Abort>(rt: &R, kept: &Kept, frames: &str) -> Result<(), Fail> {
+    let trace = trace_of(kept, frames)?;
+    let again = Trace::of(trace.entries()).ok_or("a trace")?;
+    for text in FRAMES.split_ascii_whitespace() {
+        let frame = frame(text.as_bytes())?;
+        same(rt, &(frames, text, again.allows(kept, frame)), &(frames, text, trace.allows(kept, frame)));
+    }
+    same(rt, &again.finding(), &trace.finding());
+    Ok(())
+}
+
+/// No controller sends these frames.
+fn is_no_trace<R: Abort>(rt: &R, frames: &str) -> Result<(), Fail> {
+    let mut entries = [Entry::default(); 8];
+    let mut count = 0;
+    for word in frames.split_ascii_whitespace() {
+        let entry = entries.get_mut(count).ok_or("room for a frame")?;
+        *entry = entry_of(word)?;
+        count = count + 1;
+    }
+    let sent = entries.get(..count).ok_or("the frames")?;
+    same(rt, &(frames, Trace::of(sent).is_some()), &(frames, false));
+    Ok(())
+}
+
+fn made_again<R: Abort>(rt: &R, kept: &Kept) -> Result<(), Fail> {
+    let traces = [
+        "",
+        "A100 A5FF A5FF A700",
+        "B10A B3BC B5DE A900=FF",
+        "B10A B3BC B5DE BB00=09",
+        "B10A B3BC B5DE BB00=FF B709 BB00=09",
+        "09C2=0A 09C3=BC",
+    ];
+    let others = [
+        "AB00",
+        "A100 A700",
+        "B10A B3BC B5DE BB00=09 B709",
+        "B1FF B3FF B5FF BB00=FF B709",
+        "B10A B3BC B5DE A900=FF B10A",
+    ];
+    for frames in traces {
+        is_made_again(rt, kept, frames)?;
+    }
+    for frames in others {
+        is_no_trace(rt, frames)?;
+    }
+    Ok(())
+}
+
+#[test]
+fn a_trace_is_made_again_of_its_entries(rt: HostRuntime) -> Result<(), Fail> {
+    made_again(&rt, &one_reserved()?)
 }

@@ -1,0 +1,88 @@
+use Rattle.std.proofs.Common.{◌≡◌, ℕ, ◌+◌, ◌<◌, ◌≤◌, Bool, true, false, Option, Some, None, List, [], ◌∷◌, ◌++◌, refl, sym, ap, subst, ◌∙◌, arith, length, length-append, append-nil, get_or, take, inl}
+use Rattle.std.specs.Prelude.{zero, suc, is_some, IfSome}
+use Rattle.std.specs.Prelude.{◌&&◌, nat_lt}
+use mathlib.Core.List.{append_assoc}
+use Rattle.std.proofs.lemmas.Bool.Decides.{nat_tests}
+use Rattle.dali_frame.specs.declared.frames.Forward.{Forward}
+use Rattle.dali_frame.specs.declared.frames.Answer.TheVariants.{Silence}
+use Rattle.dali_frame.specs.declared.numbers.SearchAddress.{SearchAddress}
+use Rattle.dali_frame.specs.Random.{value_of, MASK24}
+use Rattle.dali_special.specs.declared.command.Command.{Command}
+use Rattle.dali_special.specs.Command.{command_of}
+use Rattle.dali_script.specs.declared.block.Block.{Block}
+use Rattle.dali_script.specs.declared.trace.Entry.{Entry}
+use Rattle.dali_script.specs.declared.stage.Stage.{Stage}
+use Rattle.dali_script.specs.Records.{Assignment}
+use Rattle.dali_script.specs.Scripts.{MayGive, Lawful, IsLawful, AreSent, IsTransaction}
+use Rattle.dali_script.specs.Stages.{leads, given, is_drawn_if, may_come, stage_of, Follows}
+use Rattle.dali_script.proofs.Giving.{first_of_both, second_of_both}
+use Rattle.dali_script.proofs.Transactions.{follows_lawful, lawful_follows, room}
+
+-- SOME SENDER may send a command: one that has reserved what is given, in a block of that one address.
+drawn_by : (b : Block) (xs : List Assignment) (o : Option (SearchAddress × ℕ)) → IfSome o (λ g. MayGive b xs g.0 g.1) → is_drawn_if o ≡ true
+drawn_by b xs None may = refl
+drawn_by b xs (Some g) may = below (value_of g.0) MASK24 may.drawn where
+  below : (n m : ℕ) → n < m → nat_lt n m ≡ true
+  below n m h = grind (arith, nat_tests)
+
+pub comes_by : (b : Block) (xs : List Assignment) (s : Stage) (c : Command) → Follows b xs s c → may_come s c ≡ true
+comes_by b xs s c on = rw (on.leads_on, drawn_by b xs (given s c) on.may) refl
+
+abbrev block_for : Option (SearchAddress × ℕ) → Block
+block_for (Some g) = record { first = g.1; last = g.1 }
+block_for None = record { first = 0; last = 0 }
+
+abbrev reserved_for : Option (SearchAddress × ℕ) → List Assignment
+reserved_for (Some g) = (g.1, value_of g.0) ∷ []
+reserved_for None = []
+
+may_for : (o : Option (SearchAddress × ℕ)) → is_drawn_if o ≡ true → IfSome o (λ g. MayGive (block_for o) (reserved_for o) g.0 g.1)
+may_for None e = tt
+may_for (Some g) e = record { drawn = below (value_of g.0) MASK24 e; within = (omega arith, omega arith); reserved_for = inl refl } where
+  below : (n m : ℕ) → nat_lt n m ≡ true → n < m
+  below n m t = grind (arith, nat_tests)
+
+pub comes_from : (s : Stage) (c : Command) → may_come s c ≡ true → Follows (block_for (given s c)) (reserved_for (given s c)) s c
+comes_from s c e = record { leads_on = first_of_both _ _ e; may = may_for (given s c) (second_of_both _ _ e) }
+
+pub lawful_comes : (t : List Entry) (f : Forward) → IsLawful t f → may_come (stage_of t) (command_of f) ≡ true
+lawful_comes t f lawful = comes_by lawful.0 lawful.1 (stage_of t) (command_of f) (follows_lawful lawful.0 lawful.1 t f lawful.2)
+
+pub comes_lawful : (t : List Entry) (f : Forward) → may_come (stage_of t) (command_of f) ≡ true → IsLawful t f
+comes_lawful t f e =
+    let o : Option (SearchAddress × ℕ) = given (stage_of t) (command_of f) in
+    (block_for o, reserved_for o, lawful_follows (block_for o) (reserved_for o) t f (comes_from (stage_of t) (command_of f) e))
+
+-- ONE MORE FRAME of a transaction
+append_step : (before : List Entry) (e : Entry) (t : List Entry) → (before ++ e ∷ []) ++ t ≡ before ++ e ∷ t
+append_step before e t = append_assoc before (e ∷ []) t
+
+sent_from_more : (before t : List Entry) (e : Entry) → AreSent before t → IsLawful (before ++ t) e.frame → AreSent before (t ++ e ∷ [])
+sent_from_more before [] e sent lawful = (subst (λ r. IsLawful r e.frame) (append-nil before) lawful, tt)
+sent_from_more before (x ∷ t) e sent lawful =
+    (sent.0, sent_from_more (before ++ x ∷ []) t e sent.1 (subst (λ r. IsLawful r e.frame) (sym (append_step before x t)) lawful))
+
+pub sent_more : (t : List Entry) (e : Entry) → IsTransaction t → IsLawful t e.frame → IsTransaction (t ++ e ∷ [])
+sent_more t e sent lawful = sent_from_more [] t e sent lawful
+
+-- and each frame is lawful after those before it
+sent_from_at : (before t : List Entry) (i : ℕ) (d : Entry) → AreSent before t → i < length t → IsLawful (before ++ take i t) (get_or t i d).frame
+sent_from_at before [] i d sent inside = absurd (omega arith)
+sent_from_at before (x ∷ t) zero d sent inside = subst (λ r. IsLawful r x.frame) (sym (append-nil before)) sent.0
+sent_from_at before (x ∷ t) (suc i) d sent inside =
+    subst (λ r. IsLawful r (get_or t i d).frame) (append_step before x (take i t)) (sent_from_at (before ++ x ∷ []) t i d sent.1 (omega arith))
+
+pub sent_at : (t : List Entry) (i : ℕ) (d : Entry) → IsTransaction t → i < length t → IsLawful (take i t) (get_or t i d).frame
+sent_at t i d sent inside = sent_from_at [] t i d sent inside
+
+-- a transaction has at most seven frames
+sent_from_short : (before t : List Entry) → length before ≤ 7 → AreSent before t → length before + length t ≤ 7
+sent_from_short before [] short sent = omega arith
+sent_from_short before (e ∷ t) short sent =
+    let less : length before < 7 = room sent.0.0 sent.0.1 before e.frame sent.0.2 in
+    let more : length (before ++ e ∷ []) ≡ length before + 1 = length-append before (e ∷ []) in
+    let rest : length (before ++ e ∷ []) + length t ≤ 7 = sent_from_short (before ++ e ∷ []) t (omega arith) sent.1 in
+    omega arith
+
+pub sent_short : (t : List Entry) → IsTransaction t → length t ≤ 7
+sent_short t sent = let short : 0 + length t ≤ 7 = sent_from_short [] t (omega arith) sent in omega arith
