@@ -1,0 +1,58 @@
+use Rattle.std.specs.Prelude.{ℕ, ◌==◌, ◌&&◌, nat_le, Option, Some, None, option_map}
+use Rattle.std.specs.Prelude.{if◌then◌else◌}
+use Rattle.dali_script.specs.declared.records.Record.{Record}
+use Rattle.dali_script.specs.declared.records.Record.TheVariants.{Reserve, Enrol, Release}
+use Rattle.dali_script.specs.declared.orders.Order.{Order}
+use Rattle.dali_script.specs.declared.orders.Order.TheVariants.{Put, Commit, Done, Halt}
+use Rattle.dali_script.specs.declared.finding.Finding.{Finding}
+use Rattle.dali_script.specs.declared.finding.Finding.TheVariants.{Queried, Resolved}
+use Rattle.dali_script.specs.Records.{Assignment}
+use Rattle.dali_c.specs.Codes.{end_of, fault_of}
+use Rattle.dali_c.specs.Pairs.{read_pair}
+use Rattle.dali_c.specs.declared.orders.PlainRecord.{PlainRecord}
+use Rattle.dali_c.specs.declared.orders.PlainOrder.{PlainOrder}
+use Rattle.dali_c.specs.declared.orders.PlainFinding.{PlainFinding}
+
+-- struct dali_record, with the kinds of enum dali_record_kind
+abbrev pub record_by : ℕ → Assignment → Option Record
+record_by kind p =
+    if kind == 1 then Some (Reserve p.0 p.1) else
+    (if kind == 2 then Some (Enrol p.0 p.1) else
+    (if kind == 3 then Some (Release p.0 p.1) else None))
+
+abbrev pub record_if : ℕ → Option Assignment → Option Record
+record_if kind (Some p) = record_by kind p
+record_if kind None = None
+
+abbrev pub record_of : PlainRecord → Option Record
+record_of x = record_if x.kind (read_pair x.pair)
+
+-- struct dali_order, with the kinds of enum dali_order_kind: kind 0 is no order yet
+abbrev pub put_of : PlainOrder → Option Order
+put_of o =
+    if nat_le 1 o.priority && nat_le o.priority 5
+    then Some (Put o.priority (record { address_byte = o.address_byte; opcode_byte = o.opcode_byte }))
+    else None
+
+abbrev pub given_of : PlainOrder → Option Order
+given_of o =
+    if o.kind == 1 then put_of o else
+    (if o.kind == 2 then option_map (λ x. Commit x) (record_of o.record) else
+    (if o.kind == 3 then option_map (λ e. Done e) (end_of o.reason) else
+    (if o.kind == 4 then option_map (λ w. Halt w) (fault_of o.reason) else None)))
+
+abbrev pub order_of : PlainOrder → Option (Option Order)
+order_of o = if o.kind == 0 then Some None else option_map (λ x. Some x) (given_of o)
+
+-- struct dali_finding: kind 0 is none, 1 by QUERY SHORT ADDRESS, 2 by QUERY RANDOM ADDRESS
+abbrev pub finding_by : ℕ → Assignment → Option (Option Finding)
+finding_by kind p =
+    if kind == 1 then Some (Some (Queried p.0 p.1)) else
+    (if kind == 2 then Some (Some (Resolved p.0 p.1)) else None)
+
+abbrev pub finding_if : ℕ → Option Assignment → Option (Option Finding)
+finding_if kind (Some p) = finding_by kind p
+finding_if kind None = None
+
+abbrev pub finding_of : PlainFinding → Option (Option Finding)
+finding_of f = if f.kind == 0 then Some None else finding_if f.kind (read_pair f.pair)

@@ -1,0 +1,109 @@
+//! The codes of what a machine is told and of what it answers with.
+
+ghost use Rattle.std.specs.Prelude.{◌≡◌, Some};
+ghost use Rattle.dali_c.specs.Codes.{answer_of, input_of, end_of, fault_of, bool_of, due_code};
+
+use dali_frame::Answer;
+use dali_script::{Due, End, Fault, Input};
+
+/// What was heard.
+pub(crate) fn answer_of(code: u8, byte: u8) -> Option<Answer>
+    ensures { result ≡ answer_of code byte }
+{
+    match code {
+        1 => Some(Answer::Silence),
+        2 => Some(Answer::Byte(byte)),
+        3 => Some(Answer::Damaged),
+        _ => None,
+    }
+}
+
+/// The code of what was heard, and the byte.
+pub(crate) fn answer_code(heard: Answer) -> (u8, u8)
+    ensures { answer_of result.0 result.1 ≡ Some heard }
+{
+    match heard {
+        Answer::Silence => (1, 0),
+        Answer::Byte(byte) => (2, byte),
+        Answer::Damaged => (3, 0),
+    }
+}
+
+/// What a machine is told.
+pub(crate) fn input_of(code: u8, byte: u8) -> Option<Input>
+    ensures { result ≡ input_of code byte }
+{
+    match code {
+        0 => Some(Input::Start),
+        4 => Some(Input::Destroyed),
+        5 => Some(Input::Lapsed),
+        6 => Some(Input::Committed),
+        7 => Some(Input::CommitFailed),
+        _ => Some(Input::Heard(answer_of(code, byte)?)),
+    }
+}
+
+/// How a machine ends.
+pub(crate) fn end_of(code: u8) -> Option<End>
+    ensures { result ≡ end_of code }
+{
+    match code {
+        1 => Some(End::AllFound),
+        2 => Some(End::BlockFull),
+        3 => Some(End::GaveUp),
+        _ => None,
+    }
+}
+
+pub(crate) fn end_code(end: End) -> u8
+    ensures { end_of result ≡ Some end }
+{
+    match end {
+        End::AllFound => 1,
+        End::BlockFull => 2,
+        End::GaveUp => 3,
+    }
+}
+
+/// Why a machine cannot go on.
+pub(crate) fn fault_of(code: u8) -> Option<Fault>
+    ensures { result ≡ fault_of code }
+{
+    match code {
+        1 => Some(Fault::Conflict),
+        2 => Some(Fault::Store),
+        _ => None,
+    }
+}
+
+pub(crate) fn fault_code(fault: Fault) -> u8
+    ensures { fault_of result ≡ Some fault }
+{
+    match fault {
+        Fault::Conflict => 1,
+        Fault::Store => 2,
+    }
+}
+
+/// What a machine waits for.
+pub(crate) fn due_code(due: Due) -> u8
+    ensures { result ≡ due_code due }
+{
+    match due {
+        Due::Start => 0,
+        Due::Bus => 1,
+        Due::Store => 2,
+        Due::Nothing => 3,
+    }
+}
+
+/// 0 is no, 1 is yes.
+pub(crate) fn bool_of(code: u8) -> Option<bool>
+    ensures { result ≡ bool_of code }
+{
+    match code {
+        0 => Some(false),
+        1 => Some(true),
+        _ => None,
+    }
+}

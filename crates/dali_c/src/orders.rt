@@ -1,0 +1,181 @@
+//! Records, orders and findings as plain bytes.
+
+ghost use Rattle.std.specs.Prelude.{◌≡◌, Some};
+ghost use Rattle.dali_c.specs.Orders.{record_of, order_of, finding_of};
+
+use crate::codes::{end_code, end_of, fault_code, fault_of};
+use crate::pairs::PlainPair;
+use dali_frame::{Forward, Priority};
+use dali_script::{Finding, Order, Record};
+
+/// A record: kind 1 reserves, 2 enrols, 3 releases.
+#[repr(C)]
+#[derive(Clone, Copy)]
+pub struct PlainRecord {
+    pub kind: u8,
+    pub pair: PlainPair,
+}
+
+impl PlainRecord {
+    pub(crate) fn of(added: Record) -> PlainRecord
+        ensures { record_of result ≡ Some added }
+    {
+        let (kind, short, random) = match added {
+            Record::Reserve(short, random) => (1, short, random),
+            Record::Enrol(short, random) => (2, short, random),
+            Record::Release(short, random) => (3, short, random),
+        };
+        PlainRecord {
+            kind,
+            pair: PlainPair::of(short, random),
+        }
+    }
+
+    pub(crate) fn read(self) -> Option<Record>
+        ensures { result ≡ record_of self }
+    {
+        let (short, random) = self.pair.read()?;
+        match self.kind {
+            1 => Some(Record::Reserve(short, random)),
+            2 => Some(Record::Enrol(short, random)),
+            3 => Some(Record::Release(short, random)),
+            _ => None,
+        }
+    }
+}
+
+/// An order: kind 0 is none yet, 1 a put, 2 a commit, 3 done, 4 halt.
+#[repr(C)]
+#[derive(Clone, Copy)]
+pub struct PlainOrder {
+    pub kind: u8,
+    pub priority: u8,
+    pub address_byte: u8,
+    pub opcode_byte: u8,
+    pub record: PlainRecord,
+    pub reason: u8,
+}
+
+impl PlainOrder {
+    /// Of this kind, and all other bytes 0.
+    fn empty(kind: u8) -> PlainOrder
+        ensures { result.kind ≡ kind }
+    {
+        PlainOrder {
+            kind,
+            priority: 0,
+            address_byte: 0,
+            opcode_byte: 0,
+            record: PlainRecord {
+                kind: 0,
+                pair: PlainPair::default(),
+            },
+            reason: 0,
+        }
+    }
+
+    pub(crate) fn of(last: Option<Order>) -> PlainOrder
+        ensures { order_of result ≡ Some last }
+    {
+        match last {
+            None => PlainOrder::empty(0),
+            Some(order) => PlainOrder::ordered(order),
+        }
+    }
+
+    fn ordered(order: Order) -> PlainOrder
+        ensures { order_of result ≡ Some (Some order) }
+    {
+        match order {
+            Order::Put(priority, frame) => PlainOrder {
+                priority: priority.number(),
+                address_byte: frame.address_byte,
+                opcode_byte: frame.opcode_byte,
+                ..PlainOrder::empty(1)
+            },
+            Order::Commit(added) => PlainOrder {
+                record: PlainRecord::of(added),
+                ..PlainOrder::empty(2)
+            },
+            Order::Done(end) => PlainOrder {
+                reason: end_code(end),
+                ..PlainOrder::empty(3)
+            },
+            Order::Halt(fault) => PlainOrder {
+                reason: fault_code(fault),
+                ..PlainOrder::empty(4)
+            },
+        }
+    }
+
+    /// None where it is no order.
+    pub(crate) fn read(self) -> Option<Option<Order>>
+        ensures { result ≡ order_of self }
+    {
+        match self.kind {
+            0 => Some(None),
+            1 => {
+                let priority = Priority::of(self.priority)?;
+                let frame = Forward {
+                    address_byte: self.address_byte,
+                    opcode_byte: self.opcode_byte,
+                };
+                Some(Some(Order::Put(priority, frame)))
+            }
+            2 => Some(Some(Order::Commit(self.record.read()?))),
+            3 => Some(Some(Order::Done(end_of(self.reason)?))),
+            4 => Some(Some(Order::Halt(fault_of(self.reason)?))),
+            _ => None,
+        }
+    }
+}
+
+/// The last finding: kind 0 is none, 1 by QUERY SHORT ADDRESS, 2 by QUERY RANDOM ADDRESS.
+#[repr(C)]
+#[derive(Clone, Copy)]
+pub struct PlainFinding {
+    pub kind: u8,
+    pub pair: PlainPair,
+}
+
+impl PlainFinding {
+    pub(crate) fn of(finding: Option<Finding>) -> PlainFinding
+        ensures { finding_of result ≡ Some finding }
+    {
+        match finding {
+            None => PlainFinding {
+                kind: 0,
+                pair: PlainPair::default(),
+            },
+            Some(found) => PlainFinding::found(found),
+        }
+    }
+
+    fn found(finding: Finding) -> PlainFinding
+        ensures { finding_of result ≡ Some (Some finding) }
+    {
+        let (kind, short, random) = match finding {
+            Finding::Queried(short, random) => (1, short, random),
+            Finding::Resolved(short, random) => (2, short, random),
+        };
+        PlainFinding {
+            kind,
+            pair: PlainPair::of(short, random),
+        }
+    }
+
+    /// None where it is no finding.
+    pub(crate) fn read(self) -> Option<Option<Finding>>
+        ensures { result ≡ finding_of self }
+    {
+        if self.kind == 0 {
+            return Some(None);
+        }
+        let (short, random) = self.pair.read()?;
+        match self.kind {
+            1 => Some(Some(Finding::Queried(short, random))),
+            2 => Some(Some(Finding::Resolved(short, random))),
+            _ => None,
+        }
+    }
+}

@@ -1,0 +1,251 @@
+/*
+ * The machine of an application controller, which gives short addresses to DALI control gear
+ * (IEC 62386-102:2014), as a static library.
+ *
+ * A machine is a plain struct that you own. It holds no pointer, and no call takes memory, keeps
+ * anything between two calls, or prints; so a machine may be copied, laid down and handed over as
+ * bytes, and two threads may call at the same time for two machines. Give no call two pointers to
+ * the same thing, and none a null pointer.
+ *
+ * Every call takes any bytes: it answers DALI_OK, or says by another status why it did nothing. What
+ * is handed to it to be written is then as it was.
+ *
+ * docs/VENDOR.md says how to drive a machine on a real bus and with a real store.
+ */
+#ifndef DALI_C_H
+#define DALI_C_H
+
+#include <stdint.h>
+
+#ifdef __cplusplus
+extern "C" {
+#endif
+
+/* How many short addresses there are, and the most records of a kind. */
+#define DALI_ADDRESSES 64
+/* The most frames of a running transaction. */
+#define DALI_FRAMES 8
+/* The priority of a transaction's first frame, and of its later ones: 1 is sent first, 5 last. */
+#define DALI_FIRST_PRIORITY 3
+#define DALI_LATER_PRIORITY 1
+
+/* What every call answers. */
+enum dali_status {
+    DALI_OK = 0,
+    /* The machine waits for something else (dali_machine_due), or for nothing. */
+    DALI_NOT_DUE = 1,
+    /* The struct is no machine's: its bytes are none that a call left there. */
+    DALI_NO_MACHINE = 2,
+    /* An argument is out of its range, or the addition is no record. */
+    DALI_BAD_ARGUMENT = 3,
+    /* The struct is no controller's records. */
+    DALI_NO_RECORDS = 4,
+    /* The record's short address is outside the block, or its random address is FFFFFF, or it releases nothing. */
+    DALI_DOES_NOT_FIT = 5,
+    /* The short address is reserved or enrolled for another random address. */
+    DALI_ADDRESS_TAKEN = 6,
+    /* The random address is reserved or enrolled for another short address. */
+    DALI_RANDOM_TAKEN = 7,
+    /* What is released is not reserved. */
+    DALI_NOT_RESERVED = 8
+};
+
+/* What a machine is told. */
+enum dali_input {
+    DALI_START = 0,
+    /* The frame was sent whole, and within the time of a backward frame nothing was heard; */
+    DALI_HEARD_SILENCE = 1,
+    /* one backward frame, its byte in `byte`; */
+    DALI_HEARD_BYTE = 2,
+    /* or something that is no backward frame. */
+    DALI_HEARD_DAMAGED = 3,
+    /* The frame was destroyed, or may have been. */
+    DALI_DESTROYED = 4,
+    /* The bus was lost before the frame was sent. */
+    DALI_LAPSED = 5,
+    /* The record is kept. */
+    DALI_COMMITTED = 6,
+    /* The record cannot be kept. */
+    DALI_COMMIT_FAILED = 7
+};
+
+/* What a machine orders. */
+enum dali_order_kind {
+    /* No order yet: what dali_machine_last gives of a machine that has not started. */
+    DALI_NOTHING_ORDERED = 0,
+    /* Send a forward frame at a priority. */
+    DALI_PUT = 1,
+    /* Keep a record, safe from a loss of power. */
+    DALI_COMMIT = 2,
+    /* The commissioning is over, for a reason of enum dali_end. */
+    DALI_DONE = 3,
+    /* The machine has stopped, for a reason of enum dali_fault. */
+    DALI_HALT = 4
+};
+
+/* Why a commissioning is over. */
+enum dali_end {
+    /* No gear answers any more: all that could be found are enrolled. */
+    DALI_ALL_FOUND = 1,
+    /* The block has no free short address. */
+    DALI_BLOCK_FULL = 2,
+    /* Eight transactions in a row were lost, or sixteen searches in a row led to no gear. */
+    DALI_GAVE_UP = 3
+};
+
+/* Why a machine has stopped. */
+enum dali_fault {
+    /* A gear names itself otherwise than the records do. */
+    DALI_CONFLICT = 1,
+    /* A record could not be kept. */
+    DALI_STORE = 2
+};
+
+/* What a machine waits for. */
+enum dali_due {
+    DALI_DUE_START = 0,
+    /* What became of the frame that it ordered. */
+    DALI_DUE_BUS = 1,
+    /* What became of the record that it ordered. */
+    DALI_DUE_STORE = 2,
+    DALI_DUE_NOTHING = 3
+};
+
+/* What a record says of a short address and a random address. */
+enum dali_record_kind {
+    /* The short address is kept free for the gear with the random address. */
+    DALI_RESERVE = 1,
+    /* The gear with the random address has the short address. */
+    DALI_ENROL = 2,
+    /* A reservation is given back. */
+    DALI_RELEASE = 3
+};
+
+/* A random address of 24 bits, as its three bytes. */
+struct dali_random {
+    uint8_t high;
+    uint8_t middle;
+    uint8_t low;
+};
+
+/* A short address, 0 to 63, and a random address. */
+struct dali_pair {
+    uint8_t short_address;
+    struct dali_random random_address;
+};
+
+/* One record. Its kind is of enum dali_record_kind. */
+struct dali_record {
+    uint8_t kind;
+    struct dali_pair pair;
+};
+
+/* The records of one controller: the block of short addresses that it may give, both ends within it, and the pairs that
+ * are reserved and that are enrolled. Make one with dali_records_new, and add to it with dali_records_add. */
+struct dali_records {
+    uint8_t first;
+    uint8_t last;
+    uint8_t reserved_count;
+    uint8_t enrolled_count;
+    struct dali_pair reserved[DALI_ADDRESSES];
+    struct dali_pair enrolled[DALI_ADDRESSES];
+};
+
+/* One order. Its kind is of enum dali_order_kind. What the kind does not name is 0. */
+struct dali_order {
+    uint8_t kind;
+    /* DALI_PUT: the frame's priority, and its two bytes in the order in which they are sent. */
+    uint8_t priority;
+    uint8_t address_byte;
+    uint8_t opcode_byte;
+    /* DALI_COMMIT: the record. */
+    struct dali_record record;
+    /* DALI_DONE and DALI_HALT: of enum dali_end, or of enum dali_fault. */
+    uint8_t reason;
+};
+
+/* Of a machine: one frame of the running transaction, and what was heard after it. */
+struct dali_entry {
+    uint8_t address_byte;
+    uint8_t opcode_byte;
+    uint8_t heard;
+    uint8_t byte;
+};
+
+/* Of a machine: the last gear that was found, and how. */
+struct dali_finding {
+    uint8_t kind;
+    struct dali_pair pair;
+};
+
+/* A machine between two calls. Make one with dali_machine_new; its fields are the library's alone, and only so many
+ * bytes to you. */
+struct dali_machine {
+    uint8_t id;
+    uint8_t opened;
+    uint8_t tries;
+    uint8_t silent;
+    uint8_t from;
+    uint8_t purpose;
+    uint8_t detail;
+    uint8_t answers;
+    struct dali_random number;
+    struct dali_random least;
+    struct dali_random probe;
+    struct dali_finding finding;
+    struct dali_order last;
+    uint8_t entry_count;
+    struct dali_entry entries[DALI_FRAMES];
+    struct dali_records records;
+};
+
+/* The enrolment table: which gear has which short address, in order of the short addresses. */
+struct dali_table {
+    uint8_t count;
+    struct dali_pair gear[DALI_ADDRESSES];
+};
+
+/* The records of a controller that has kept none, for a block of short addresses, from `first` to `last`. A block whose
+ * first is above its last is empty.
+ *
+ * DALI_BAD_ARGUMENT: one of them is above 63. */
+uint8_t dali_records_new(struct dali_records *records, uint8_t first, uint8_t last);
+
+/* Adds a record that was kept, as a controller reads them from its store: all of them, oldest first.
+ *
+ * DALI_NO_RECORDS: `records` is no controller's records. DALI_BAD_ARGUMENT: `addition` is no record: its kind is not one
+ * of three, or its short address is above 63. DALI_DOES_NOT_FIT, DALI_ADDRESS_TAKEN, DALI_RANDOM_TAKEN,
+ * DALI_NOT_RESERVED: it is none that a machine orders after these. A store whose records are refused is not the one
+ * that was written. */
+uint8_t dali_records_add(struct dali_records *records, const struct dali_record *addition);
+
+/* A machine that has not started, for the controller with this number, with these records.
+ *
+ * DALI_NO_RECORDS: `records` is no controller's records. */
+uint8_t dali_machine_new(struct dali_machine *machine, uint8_t id, const struct dali_records *records);
+
+/* Tells a machine what happened, and gives its next order. `input` is of enum dali_input; `byte` is read with
+ * DALI_HEARD_BYTE alone.
+ *
+ * DALI_NO_MACHINE: `machine` is no machine's. DALI_BAD_ARGUMENT: `input` is above 7. DALI_NOT_DUE: the machine waits for
+ * something else. */
+uint8_t dali_machine_step(struct dali_machine *machine, uint8_t input, uint8_t byte, struct dali_order *order);
+
+/* What a machine waits for, of enum dali_due. DALI_NO_MACHINE: `machine` is no machine's. */
+uint8_t dali_machine_due(const struct dali_machine *machine, uint8_t *due);
+
+/* What a machine ordered last. DALI_NO_MACHINE: `machine` is no machine's. */
+uint8_t dali_machine_last(const struct dali_machine *machine, struct dali_order *order);
+
+/* The records of a machine: those that it began with, and each that it was told of as committed.
+ * DALI_NO_MACHINE: `machine` is no machine's. */
+uint8_t dali_machine_records(const struct dali_machine *machine, struct dali_records *records);
+
+/* The enrolment table of a machine. DALI_NO_MACHINE: `machine` is no machine's. */
+uint8_t dali_machine_table(const struct dali_machine *machine, struct dali_table *table);
+
+#ifdef __cplusplus
+}
+#endif
+
+#endif
