@@ -40,13 +40,13 @@ enum dali_status {
     DALI_BAD_ARGUMENT = 3,
     /* The struct is no controller's records. */
     DALI_NO_RECORDS = 4,
-    /* The record's short address is outside the block, or its random address is FFFFFF, or it releases nothing. */
+    /* The random address is FFFFFF, or the short address that is reserved or released is outside the block. */
     DALI_DOES_NOT_FIT = 5,
-    /* The short address is reserved or enrolled for another random address. */
+    /* A record of the same kind has the short address. */
     DALI_ADDRESS_TAKEN = 6,
-    /* The random address is reserved or enrolled for another short address. */
+    /* A record of the same kind has the random address, and none the short address. */
     DALI_RANDOM_TAKEN = 7,
-    /* What is released is not reserved. */
+    /* What is released is not reserved so. */
     DALI_NOT_RESERVED = 8
 };
 
@@ -199,7 +199,7 @@ struct dali_machine {
     struct dali_records records;
 };
 
-/* The enrolment table: which gear has which short address, in order of the short addresses. */
+/* The enrolment table: which gear has which short address, in the order in which they were enrolled. */
 struct dali_table {
     uint8_t count;
     struct dali_pair gear[DALI_ADDRESSES];
