@@ -1,0 +1,378 @@
+/* Reaches each status of each call, and throws bytes at the calls that no call left there. What a
+ * call refuses it must leave as it was; what it accepts it must answer with codes of the header.
+ *
+ *     statuses [ROUNDS [SEED]]
+ *
+ * Each round tries a machine and records, some as they are, some with one byte changed, some with
+ * all bytes at random. It says which of the first checks were wrong, and how many were right and
+ * how many wrong; the status is 1 where one was wrong. */
+#include "chance.h"
+#include "controller.h"
+#include "dali_c.h"
+#include "gear.h"
+
+#include <stdio.h>
+#include <stdlib.h>
+#include <string.h>
+
+#define ROUNDS 400000
+#define MACHINES 128
+#define UNTOUCHED 0xA5
+#define MOST_TOLD 20
+
+static unsigned long right;
+static unsigned long wrong;
+
+static void check(int is_so, const char *what)
+{
+    if (is_so) {
+        right++;
+    } else if (++wrong <= MOST_TOLD) {
+        printf("wrong: %s\n", what);
+    }
+}
+
+/* A call with this status wrote the thing, which was painted before, or left it untouched. */
+static void check_written(const void *thing, size_t size, uint8_t status, const char *what)
+{
+    static uint8_t untouched[sizeof(struct dali_machine)];
+
+    memset(untouched, UNTOUCHED, size);
+    check((memcmp(thing, untouched, size) == 0) == (status != DALI_OK), what);
+}
+
+/* The struct is laid out as the library lays it out: of bytes alone, without a gap. */
+#define CHECK_LAYOUT(type, size)                                                                   \
+    do {                                                                                           \
+        struct aligned {                                                                           \
+            char before;                                                                           \
+            struct type it;                                                                        \
+        };                                                                                         \
+        check(sizeof(struct type) == (size), "the size of " #type);                                \
+        check(sizeof(struct aligned) == (size) + 1, "the alignment of " #type);                    \
+    } while (0)
+
+static void check_layouts(void)
+{
+    CHECK_LAYOUT(dali_record, 5);
+    CHECK_LAYOUT(dali_records, 516);
+    CHECK_LAYOUT(dali_order, 10);
+    CHECK_LAYOUT(dali_machine, 581);
+    CHECK_LAYOUT(dali_table, 257);
+}
+
+static struct dali_record record_of(uint8_t kind, uint8_t short_address, uint32_t random_address)
+{
+    struct dali_random random = {(uint8_t)(random_address >> 16), (uint8_t)(random_address >> 8),
+                                 (uint8_t)random_address};
+
+    return (struct dali_record){kind, {short_address, random}};
+}
+
+/* Each call must answer so, and leave everything untouched where it refuses. */
+
+static void check_records_new(uint8_t first, uint8_t last, uint8_t status)
+{
+    struct dali_records records;
+
+    memset(&records, UNTOUCHED, sizeof records);
+    check(dali_records_new(&records, first, last) == status, "the status of dali_records_new");
+    check_written(&records, sizeof records, status, "what dali_records_new writes");
+    if (status == DALI_OK)
+        check(records.first == first && records.last == last && records.reserved_count == 0
+                  && records.enrolled_count == 0,
+              "what dali_records_new makes");
+}
+
+static void check_add(struct dali_records *records, struct dali_record addition, uint8_t status)
+{
+    struct dali_records before = *records;
+
+    check(dali_records_add(records, &addition) == status, "the status of dali_records_add");
+    check((memcmp(records, &before, sizeof before) == 0) == (status != DALI_OK),
+          "what dali_records_add changes");
+}
+
+static void check_new(const struct dali_records *records, uint8_t status)
+{
+    struct dali_machine machine;
+
+    memset(&machine, UNTOUCHED, sizeof machine);
+    check(dali_machine_new(&machine, 0, records) == status, "the status of dali_machine_new");
+    check_written(&machine, sizeof machine, status, "what dali_machine_new writes");
+}
+
+static void check_step(struct dali_machine *machine, uint8_t input, uint8_t byte, uint8_t status)
+{
+    struct dali_machine before = *machine;
+    struct dali_order order;
+
+    memset(&order, UNTOUCHED, sizeof order);
+    check(dali_machine_step(machine, input, byte, &order) == status, "the status of a step");
+    check_written(&order, sizeof order, status, "the order of a step");
+    if (status != DALI_OK)
+        check(memcmp(machine, &before, sizeof before) == 0, "a step refuses and changes");
+}
+
+static void check_reads(const struct dali_machine *machine, uint8_t status)
+{
+    struct dali_order order;
+    struct dali_records records;
+    struct dali_table table;
+    uint8_t due = UNTOUCHED;
+
+    memset(&order, UNTOUCHED, sizeof order);
+    memset(&records, UNTOUCHED, sizeof records);
+    memset(&table, UNTOUCHED, sizeof table);
+    check(dali_machine_due(machine, &due) == status, "the status of dali_machine_due");
+    check(dali_machine_last(machine, &order) == status, "the status of dali_machine_last");
+    check(dali_machine_records(machine, &records) == status, "the status of dali_machine_records");
+    check(dali_machine_table(machine, &table) == status, "the status of dali_machine_table");
+    check_written(&due, sizeof due, status, "what dali_machine_due writes");
+    check_written(&order, sizeof order, status, "what dali_machine_last writes");
+    check_written(&records, sizeof records, status, "what dali_machine_records writes");
+    check_written(&table, sizeof table, status, "what dali_machine_table writes");
+}
+
+static void reach_statuses(void)
+{
+    struct dali_records none;
+    struct dali_records records;
+    struct dali_machine machine;
+
+    check_records_new(0, 63, DALI_OK);
+    check_records_new(63, 0, DALI_OK);
+    check_records_new(64, 0, DALI_BAD_ARGUMENT);
+    check_records_new(0, 64, DALI_BAD_ARGUMENT);
+
+    memset(&none, 0xFF, sizeof none);
+    dali_records_new(&records, 2, 5);
+    check_add(&none, record_of(DALI_RESERVE, 2, 0x123456), DALI_NO_RECORDS);
+    check_add(&none, record_of(0, 64, 0xFFFFFF), DALI_NO_RECORDS);
+    check_add(&records, record_of(0, 2, 0x123456), DALI_BAD_ARGUMENT);
+    check_add(&records, record_of(4, 2, 0x123456), DALI_BAD_ARGUMENT);
+    check_add(&records, record_of(DALI_RESERVE, 64, 0x123456), DALI_BAD_ARGUMENT);
+    check_add(&records, record_of(DALI_RESERVE, 1, 0x123456), DALI_DOES_NOT_FIT);
+    check_add(&records, record_of(DALI_RESERVE, 6, 0x123456), DALI_DOES_NOT_FIT);
+    check_add(&records, record_of(DALI_RESERVE, 2, 0xFFFFFF), DALI_DOES_NOT_FIT);
+    check_add(&records, record_of(DALI_ENROL, 2, 0xFFFFFF), DALI_DOES_NOT_FIT);
+    check_add(&records, record_of(DALI_RELEASE, 6, 0x123456), DALI_DOES_NOT_FIT);
+    check_add(&records, record_of(DALI_RELEASE, 2, 0x123456), DALI_NOT_RESERVED);
+    check_add(&records, record_of(DALI_RESERVE, 2, 0x123456), DALI_OK);
+    check_add(&records, record_of(DALI_RESERVE, 2, 0x123456), DALI_ADDRESS_TAKEN);
+    check_add(&records, record_of(DALI_RESERVE, 2, 0x654321), DALI_ADDRESS_TAKEN);
+    check_add(&records, record_of(DALI_RESERVE, 3, 0x123456), DALI_RANDOM_TAKEN);
+    check_add(&records, record_of(DALI_RELEASE, 2, 0x654321), DALI_NOT_RESERVED);
+    check_add(&records, record_of(DALI_ENROL, 9, 0x123456), DALI_OK);
+    check_add(&records, record_of(DALI_ENROL, 9, 0x654321), DALI_ADDRESS_TAKEN);
+    check_add(&records, record_of(DALI_ENROL, 2, 0x123456), DALI_RANDOM_TAKEN);
+    check_add(&records, record_of(DALI_RELEASE, 2, 0x123456), DALI_OK);
+
+    check_new(&none, DALI_NO_RECORDS);
+    check_new(&records, DALI_OK);
+
+    memset(&machine, 0xFF, sizeof machine);
+    check_reads(&machine, DALI_NO_MACHINE);
+    check_step(&machine, DALI_START, 0, DALI_NO_MACHINE);
+    check_step(&machine, DALI_COMMIT_FAILED + 1, 0, DALI_NO_MACHINE);
+    dali_machine_new(&machine, 0, &records);
+    check_reads(&machine, DALI_OK);
+    check_step(&machine, DALI_COMMIT_FAILED + 1, 0, DALI_BAD_ARGUMENT);
+    check_step(&machine, DALI_HEARD_SILENCE, 0, DALI_NOT_DUE);
+    check_step(&machine, DALI_START, 0, DALI_OK);
+    check_reads(&machine, DALI_OK);
+    check_step(&machine, DALI_START, 0, DALI_NOT_DUE);
+    check_step(&machine, 0xFF, 0, DALI_BAD_ARGUMENT);
+    check_step(&machine, DALI_COMMITTED, 0, DALI_NOT_DUE);
+    check_step(&machine, DALI_LAPSED, 0, DALI_OK);
+}
+
+/* The codes of an order that a step gives, and nothing in what its kind does not name. */
+static int is_order(const struct dali_order *order)
+{
+    struct dali_order plain = {order->kind, 0, 0, 0, {0, {0, {0, 0, 0}}}, 0};
+    int is_one;
+
+    switch (order->kind) {
+    case DALI_PUT:
+        plain.priority = order->priority;
+        plain.address_byte = order->address_byte;
+        plain.opcode_byte = order->opcode_byte;
+        is_one = order->priority == DALI_FIRST_PRIORITY || order->priority == DALI_LATER_PRIORITY;
+        break;
+    case DALI_COMMIT:
+        plain.record = order->record;
+        is_one = order->record.kind >= DALI_RESERVE && order->record.kind <= DALI_RELEASE
+                 && order->record.pair.short_address < DALI_ADDRESSES;
+        break;
+    case DALI_DONE:
+        plain.reason = order->reason;
+        is_one = order->reason >= DALI_ALL_FOUND && order->reason <= DALI_GAVE_UP;
+        break;
+    case DALI_HALT:
+        plain.reason = order->reason;
+        is_one = order->reason == DALI_CONFLICT || order->reason == DALI_STORE;
+        break;
+    default:
+        is_one = 0;
+    }
+    return is_one && memcmp(order, &plain, sizeof plain) == 0;
+}
+
+/* What is due after an order of each kind, and when each input may come. */
+static const uint8_t due_after[] = {DALI_DUE_START, DALI_DUE_BUS, DALI_DUE_STORE, DALI_DUE_NOTHING,
+                                    DALI_DUE_NOTHING};
+static const uint8_t due_for[] = {DALI_DUE_START, DALI_DUE_BUS, DALI_DUE_BUS, DALI_DUE_BUS,
+                                  DALI_DUE_BUS, DALI_DUE_BUS, DALI_DUE_STORE, DALI_DUE_STORE};
+
+/* Any bytes: the calls must agree whether they are a machine. */
+static void try_machine(const struct dali_machine *given, uint8_t input, uint8_t byte)
+{
+    struct dali_machine machine = *given;
+    struct dali_order last;
+    struct dali_order order;
+    struct dali_records records;
+    struct dali_table table;
+    uint8_t due = UNTOUCHED;
+
+    if (dali_machine_due(&machine, &due) != DALI_OK) {
+        check_reads(&machine, DALI_NO_MACHINE);
+        check_step(&machine, input, byte, DALI_NO_MACHINE);
+        return;
+    }
+    check_reads(&machine, DALI_OK);
+    dali_machine_last(&machine, &last);
+    dali_machine_records(&machine, &records);
+    dali_machine_table(&machine, &table);
+    check(last.kind <= DALI_HALT && due == due_after[last.kind], "what is due, by the last order");
+    check(table.count == records.enrolled_count, "the count of the table");
+    check(memcmp(table.gear, records.enrolled, sizeof table.gear) == 0, "the table");
+    check_new(&records, DALI_OK);
+    check(memcmp(&machine, given, sizeof machine) == 0, "a call that reads changes the machine");
+    if (input > DALI_COMMIT_FAILED) {
+        check_step(&machine, input, byte, DALI_BAD_ARGUMENT);
+    } else if (due != due_for[input]) {
+        check_step(&machine, input, byte, DALI_NOT_DUE);
+    } else {
+        check_step(&machine, input, byte, DALI_OK);
+        check(dali_machine_last(&machine, &order) == DALI_OK, "a machine after a step");
+        check(is_order(&order), "the codes of an order");
+        check_reads(&machine, DALI_OK);
+    }
+}
+
+/* Any bytes as records, and any as an addition. */
+static void try_records(const struct dali_records *given, const struct dali_record *addition)
+{
+    struct dali_records records = *given;
+    struct dali_machine machine;
+    uint8_t status = dali_records_add(&records, addition);
+    const struct dali_pair *added;
+    int count = given->reserved_count + given->enrolled_count;
+
+    check(status != DALI_NOT_DUE && status != DALI_NO_MACHINE && status <= DALI_NOT_RESERVED,
+          "the status of an addition");
+    check((dali_machine_new(&machine, 0, given) == DALI_OK) == (status != DALI_NO_RECORDS),
+          "what are records");
+    if (status != DALI_OK) {
+        check(memcmp(&records, given, sizeof records) == 0, "a refused addition changes");
+        return;
+    }
+    check(records.reserved_count + records.enrolled_count
+              == count + (addition->kind == DALI_RELEASE ? -1 : 1),
+          "how many records there are after an addition");
+    if (addition->kind != DALI_RELEASE) {
+        added = addition->kind == DALI_RESERVE ? &records.reserved[records.reserved_count - 1]
+                                               : &records.enrolled[records.enrolled_count - 1];
+        check(memcmp(added, &addition->pair, sizeof *added) == 0, "what was added");
+    }
+    check_new(&records, DALI_OK);
+}
+
+/* Machines in the midst of a commissioning on a bus with troubles. Every one of them was there. */
+static void collect(struct dali_machine *machines, uint64_t seed)
+{
+    struct dali_records records;
+    struct dali_machine machine;
+    struct dali_order order;
+    struct bus bus;
+    struct told told = {DALI_START, 0};
+    int every = 40;
+    int steps = 0;
+
+    bus_new(&bus, seed, 30);
+    bus.troubles = (struct troubles){3000, 3000, 3000, 3000, 3000, 300};
+    dali_records_new(&records, 4, 40);
+    dali_machine_new(&machine, 7, &records);
+    while (steps < MACHINES * every) {
+        if (steps % every == 0)
+            machines[steps / every] = machine;
+        steps++;
+        if (dali_machine_step(&machine, told.input, told.byte, &order) != DALI_OK) {
+            check(0, "a step of a commissioning");
+            return;
+        }
+        check(is_order(&order), "the codes of an order");
+        if (order.kind == DALI_PUT) {
+            told = bus_send(&bus, order.address_byte, order.opcode_byte);
+        } else if (order.kind == DALI_COMMIT) {
+            told.input = DALI_COMMITTED;
+        } else {
+            dali_machine_records(&machine, &records);
+            dali_machine_new(&machine, 7, &records);
+            told.input = DALI_START;
+        }
+    }
+}
+
+static void change(void *thing, size_t size, uint64_t *chance)
+{
+    uint8_t *bytes = thing;
+    uint32_t how = chance_below(chance, 16);
+
+    if (how == 0) {
+        for (size_t at = 0; at < size; at++)
+            bytes[at] = (uint8_t)chance_next(chance);
+    } else if (how > 1) {
+        bytes[chance_below(chance, (uint32_t)size)] = (uint8_t)chance_next(chance);
+    }
+}
+
+/* A record that often has an address or a number of these records. */
+static struct dali_record some_record(const struct dali_records *records, uint64_t *chance)
+{
+    struct dali_record record = record_of((uint8_t)chance_below(chance, 5), 0, 0);
+
+    record.pair = records->reserved[chance_below(chance, DALI_ADDRESSES)];
+    if (chance_below(chance, 2) == 0)
+        record.pair.short_address = (uint8_t)chance_below(chance, DALI_ADDRESSES + 2);
+    if (chance_below(chance, 2) == 0)
+        record.pair.random_address = records->enrolled[0].random_address;
+    else if (chance_below(chance, 2) == 0)
+        record.pair.random_address.low = (uint8_t)chance_next(chance);
+    return record;
+}
+
+int main(int count, char **words)
+{
+    static struct dali_machine machines[MACHINES];
+    unsigned long rounds = count > 1 ? strtoul(words[1], NULL, 10) : ROUNDS;
+    uint64_t chance = count > 2 ? strtoul(words[2], NULL, 10) : 1;
+
+    check_layouts();
+    reach_statuses();
+    collect(machines, chance);
+    for (unsigned long round = 0; round < rounds; round++) {
+        struct dali_machine machine = machines[chance_below(&chance, MACHINES)];
+        struct dali_records records = machine.records;
+        struct dali_record addition = some_record(&records, &chance);
+        uint8_t input = (uint8_t)chance_below(&chance, DALI_COMMIT_FAILED + 3);
+
+        change(&machine, sizeof machine, &chance);
+        change(&records, sizeof records, &chance);
+        try_machine(&machine, input, (uint8_t)chance_next(&chance));
+        try_records(&records, &addition);
+    }
+    printf("%lu right, %lu wrong\n", right, wrong);
+    return wrong > 0;
+}
