@@ -24,7 +24,7 @@ fn push_known(text: &mut String, known: bool) -> Result<(), AllocError>
 }
 
 /// Lets a line happen on a bench, and appends the report of it.
-pub fn report(text: &mut String, bench: &mut Bench, line: BenchLine) -> Result<(), AllocError>
+pub fn report_bench(text: &mut String, bench: &mut Bench, line: BenchLine) -> Result<(), AllocError>
     ensures text { OnOk result (string_bytes text.new ≡ string_bytes text.old ++ report bench.old line) }
     ensures world { bench.new ≡ after bench.old line }
 {

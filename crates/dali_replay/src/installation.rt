@@ -279,6 +279,13 @@ impl Installation {
         self.site.quiet()
     }
 
+    /// The site.
+    pub fn site(&self) -> &SiteState
+        ensures { result.now ≡ self.now.site }
+    {
+        &self.site
+    }
+
     /// How many gear there are.
     pub fn gear_count(&self) -> u32
         ensures value { result ≡ self.now.site.plan.gear }

@@ -16,7 +16,14 @@ mod site_report;
 mod streams;
 mod text;
 
+pub use bench::Bench;
+pub use bench_line::{BenchLine, bench_line_of};
+pub use bench_report::report_bench;
+pub use installation::Installation;
+pub use lines::{INPUT_LIMIT, Script};
 pub use numbers::block_of;
-pub use replay::{ReplayFault, run_replay};
+pub use replay::{ReplayFault, plan, read_input, run_replay};
+pub use site_line::{SiteLine, site_line_of};
+pub use site_report::report_site;
 pub use streams::{replay_streams, replay_through};
 pub use text::{push_gear, push_table};

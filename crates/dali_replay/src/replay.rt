@@ -10,11 +10,12 @@ ghost use Rattle.dali_replay.specs.Replay.{PlansNot, Plays, PlaysSite, Replays, 
 
 use crate::bench::Bench;
 use crate::bench_line::bench_line_of;
+use crate::bench_report::report_bench;
 use crate::heading::{draws_of, heading_of};
 use crate::installation::Installation;
 use crate::lines::{INPUT_LIMIT, Script};
 use crate::site_line::site_line_of;
-use crate::{bench_report, site_report};
+use crate::site_report::report_site;
 use dali_world::{Plan, PlanError};
 use std::alloc::{AllocError, Global};
 use std::io::{Read, Write};
@@ -65,7 +66,7 @@ impl From<AllocError> for ReplayFault {
 }
 
 /// Reads the whole input. Every error of the reader, `Interrupted` too, and an input past the limit is `Read`.
-fn read_input<R: Read>(alloc: Global, reader: &mut R) -> Result<Vec<u8>, ReplayFault>
+pub fn read_input<R: Read>(alloc: Global, reader: &mut R) -> Result<Vec<u8>, ReplayFault>
     ensures read { IfOk result (λ input. Consumes (R.remaining reader.old) (R.remaining reader.new) input.items) }
     ensures whole { IfOk result (λ input. IfSome (R.remaining reader.old) (λ left. left ≡ input.items)) }
     ensures limit { IfOk result (λ input. length input.items ≤ 1048576) }
@@ -86,7 +87,7 @@ fn read_input<R: Read>(alloc: Global, reader: &mut R) -> Result<Vec<u8>, ReplayF
 }
 
 /// The first two lines: whether they set up a bench, and the plan.
-fn plan(alloc: Global, script: &mut Script) -> Result<(bool, Plan), ReplayFault>
+pub fn plan(alloc: Global, script: &mut Script) -> Result<(bool, Plan), ReplayFault>
     requires { script.old.read + length script.old.rest.now ≤ 1048576 }
     ensures planned { IfOk result
         (λ setting. planned (script.old.read + length (lines_of script.old.rest.now)
@@ -133,7 +134,7 @@ fn play_bench<W: Write>(
             return Err(ReplayFault::BadLine(script.number()));
         };
         text.clear();
-        bench_report::report(&mut text, bench, asked)?;
+        report_bench(&mut text, bench, asked)?;
         match writer.write_all(text.as_bytes()) {
             Ok(()) => {}
             Err(_) => return Err(ReplayFault::Write),
@@ -159,7 +160,7 @@ fn play_site<W: Write>(
             return Err(ReplayFault::BadLine(script.number()));
         };
         report.clear();
-        site_report::report(&mut report, installation, asked)?;
+        report_site(&mut report, installation, asked)?;
         match writer.write_all(report.as_bytes()) {
             Ok(()) => {}
             Err(_) => return Err(ReplayFault::Write),

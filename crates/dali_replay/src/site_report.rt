@@ -106,7 +106,7 @@ fn show(text: &mut String, installation: &Installation) -> Result<(), AllocError
 }
 
 /// Plays a line on a site, and appends the report of it.
-pub fn report(
+pub fn report_site(
     text: &mut String,
     installation: &mut Installation,
     line: SiteLine,

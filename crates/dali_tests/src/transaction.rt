@@ -47,7 +47,10 @@ fn entry_of(word: &str) -> Result<Entry, Fail> {
         Some((text, heard)) => (text, heard_of(heard)),
         None => (word, Answer::Silence),
     };
-    Ok(Entry { frame: frame(text.as_bytes())?, heard })
+    Ok(Entry {
+        frame: frame(text.as_bytes())?,
+        heard,
+    })
 }
 
 /// The trace of these frames.
@@ -282,7 +285,11 @@ fn is_made_again<R: Abort>(rt: &R, kept: &Kept, frames: &str) -> Result<(), Fail
     let again = Trace::of(trace.entries()).ok_or("a trace")?;
     for text in FRAMES.split_ascii_whitespace() {
         let frame = frame(text.as_bytes())?;
-        same(rt, &(frames, text, again.allows(kept, frame)), &(frames, text, trace.allows(kept, frame)));
+        same(
+            rt,
+            &(frames, text, again.allows(kept, frame)),
+            &(frames, text, trace.allows(kept, frame)),
+        );
     }
     same(rt, &again.finding(), &trace.finding());
     Ok(())

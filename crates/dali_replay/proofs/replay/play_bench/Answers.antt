@@ -9,8 +9,8 @@ returns-in_default-bench_line_of g c =
     (rw c.number.ensures
     (plays_bad_line c.loop-line.bench _ _ _ c.in-Some.line.now _ c.in-Some.ensures.line (sym c.in_default-bench_line_of.ensures)))
 
-pub returns-in_err-report : goal.returns-in_err-report
-returns-in_err-report g c =
+pub returns-in_err-report_bench : goal.returns-in_err-report_bench
+returns-in_err-report_bench g c =
     let is : c.from_residual.result ≡ Err Memory = search rules in
     c.loop-line.invariant.leads _ _ (plays_memory _ _ _ is)
 
@@ -20,8 +20,8 @@ loop-line-preserved g c = record {
       (plays_line c.loop-line.bench _ _ _ c.in-Some.line.now c.in-Some-bench_line_of.asked _ _ d r
       c.in-Some.ensures.line
       (sym c.in-Some-bench_line_of.ensures)
-      (rw (c.as_bytes.ensures.value, c.in_ok-report.ensures.text, c.clear.ensures.bytes) at c.in-Ok.ensures.bytes)
-      (rw c.in_ok-report.ensures.world at more));
+      (rw (c.as_bytes.ensures.value, c.in_ok-report_bench.ensures.text, c.clear.ensures.bytes) at c.in-Ok.ensures.bytes)
+      (rw c.in_ok-report_bench.ensures.world at more));
   range = c.next.ensures.range;
 }
 

@@ -7,8 +7,8 @@ pub returns-in_default-site_line_of : goal.returns-in_default-site_line_of
 returns-in_default-site_line_of g c =
     rw c.number.ensures (site_bad_line _ _ _ _ _ _ c.in-Some.line.now _ _ c.loop-line.invariant.played c.in-Some.ensures.line (sym c.in_default-site_line_of.ensures))
 
-pub returns-in_err-report : goal.returns-in_err-report
-returns-in_err-report g c =
+pub returns-in_err-report_site : goal.returns-in_err-report_site
+returns-in_err-report_site g c =
     let is : c.from_residual.result ≡ Err Memory = search rules in
     site_memory _ _ _ _ _ _ _ c.loop-line.invariant.played is
 
@@ -17,9 +17,9 @@ loop-line-init g c = record { played = have_played_none _ _ _; range = c.require
 
 pub loop-line-preserved : goal.loop-line-preserved
 loop-line-preserved g c = record {
-  played = have_played_more _ _ _ _ _ _ _ c.in-Some.line.now c.in-Some-site_line_of.asked c.in_ok-report.ensures.0 _ _ _
-      c.loop-line.invariant.played c.in-Some.ensures.line (sym c.in-Some-site_line_of.ensures) c.in_ok-report.ensures.2
-      (rw (c.as_bytes.ensures.value, c.in_ok-report.ensures.1, c.clear.ensures.bytes) at c.in-Ok.ensures.bytes);
+  played = have_played_more _ _ _ _ _ _ _ c.in-Some.line.now c.in-Some-site_line_of.asked c.in_ok-report_site.ensures.0 _ _ _
+      c.loop-line.invariant.played c.in-Some.ensures.line (sym c.in-Some-site_line_of.ensures) c.in_ok-report_site.ensures.2
+      (rw (c.as_bytes.ensures.value, c.in_ok-report_site.ensures.1, c.clear.ensures.bytes) at c.in-Ok.ensures.bytes);
   range = c.next.ensures.range;
 }
 

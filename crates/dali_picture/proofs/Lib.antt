@@ -1,0 +1,2 @@
+mod FoldLemmas
+mod Benches

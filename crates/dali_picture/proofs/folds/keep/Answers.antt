@@ -1,0 +1,8 @@
+use Rattle.std.proofs.Common.{subst, sym}
+use Rattle.dali_picture.specs.Folds.{AreFolds}
+use Rattle.dali_picture.proofs.FoldLemmas.{folds_more}
+use Rattle.dali_picture.proofs.folds.keep.Goals as goal
+
+pub returns-in_ok-push : goal.returns-in_ok-push
+returns-in_ok-push c =
+    λ are. subst (λ xs. AreFolds xs c.args.fold.after) (sym c.in_ok-push.ensures.items) (folds_more c.args.folds.now.items c.args.fold c.if-fold.true are)

@@ -1,0 +1,166 @@
+//! The folds of a log: what is drawn in one column of a short picture.
+
+ghost use Rattle.std.specs.Prelude.{◌≡◌, ◌≤◌, length, IfOk};
+ghost use Rattle.dali_picture.specs.Folds.{AreFolds};
+
+use crate::mark::{Look, Mark};
+use crate::transactions::{Purpose, Transaction};
+use std::alloc::{AllocError, Global};
+
+/// What a fold holds.
+#[derive(Clone, Copy)]
+pub enum Held {
+    /// Orders to send a frame, and no frame yet.
+    Orders,
+    /// The frames of transactions for this, with the orders between them. Only probes are more than one.
+    Frames(Purpose),
+    /// One event that stands alone.
+    Alone,
+}
+
+/// Events of a log that follow one another: those from place `first` up to, but not with, place `after`.
+#[derive(Clone, Copy)]
+pub struct Fold {
+    pub first: usize,
+    pub after: usize,
+    pub held: Held,
+    /// How many frames it has, and how many transactions began in it.
+    pub frames: u32,
+    pub transactions: u32,
+    /// The controllers that sent frames in it: controller c is the bit of value 2^c.
+    pub senders: u8,
+}
+
+/// What an event is to a fold.
+#[derive(Clone, Copy)]
+enum Part {
+    /// An order to send a frame.
+    Order,
+    /// An undisturbed frame of a transaction, which is the first one or not.
+    Frame(Transaction, bool),
+    /// Anything else.
+    Alone,
+}
+
+/// Whether one more transaction joins those of a fold: a probe joins probes.
+fn joins(held: Purpose, purpose: Purpose) -> bool {
+    matches!(held, Purpose::Probe) && matches!(purpose, Purpose::Probe)
+}
+
+/// A controller's bit.
+fn bit_of(sender: u8) -> u8 {
+    match sender {
+        0 => 1,
+        1 => 2,
+        2 => 4,
+        3 => 8,
+        _ => 0,
+    }
+}
+
+impl Fold {
+    /// A fold with no events.
+    fn empty(at: usize) -> Fold
+        ensures first { result.first ≡ at }
+        ensures after { result.after ≡ at }
+    {
+        Fold {
+            first: at,
+            after: at,
+            held: Held::Orders,
+            frames: 0,
+            transactions: 0,
+            senders: 0,
+        }
+    }
+
+    /// Whether an event stands in the fold with those before it.
+    fn takes(&self, part: Part) -> bool {
+        match (self.held, part) {
+            (Held::Alone, _) | (_, Part::Alone) => false,
+            (_, Part::Order) => true,
+            (Held::Orders, Part::Frame(..)) => true,
+            (Held::Frames(held), Part::Frame(transaction, is_first)) => {
+                !is_first || joins(held, transaction.purpose)
+            }
+        }
+    }
+
+    /// With the event that follows.
+    fn with(self, part: Part, after: usize) -> Fold
+        ensures first { result.first ≡ self.first }
+        ensures after { result.after ≡ after }
+    {
+        match part {
+            Part::Order => Fold { after, ..self },
+            Part::Alone => Fold {
+                after,
+                held: Held::Alone,
+                ..self
+            },
+            Part::Frame(transaction, is_first) => Fold {
+                after,
+                held: Held::Frames(transaction.purpose),
+                frames: self.frames.saturating_add(1),
+                transactions: self.transactions.saturating_add(u32::from(is_first)),
+                senders: self.senders | bit_of(transaction.sender),
+                ..self
+            },
+        }
+    }
+}
+
+/// What the event at a place is to a fold. The transactions are those that end there or later.
+fn part_of(mark: Mark, at: usize, transactions: &[Transaction]) -> Part {
+    match (mark.look, transactions.first()) {
+        (Look::Asked(_), _) => Part::Order,
+        (Look::Sent(..), Some(transaction)) if transaction.first <= at => {
+            Part::Frame(*transaction, transaction.first == at)
+        }
+        _ => Part::Alone,
+    }
+}
+
+/// The transactions that end at a place or later.
+fn from_place(transactions: &[Transaction], at: usize) -> &[Transaction] {
+    match transactions {
+        [first, rest @ ..] if first.last < at => rest,
+        _ => transactions,
+    }
+}
+
+/// Keeps a fold, if it has events.
+fn keep(folds: &mut Vec<Fold>, fold: Fold) -> Result<(), AllocError>
+    requires { fold.first ≤ fold.after }
+    ensures { IfOk result (λ _. AreFolds folds.old.items fold.first → AreFolds folds.new.items fold.after) }
+{
+    if fold.first < fold.after {
+        folds.push(fold)?;
+    }
+    Ok(())
+}
+
+/// The folds of these marks: each event stands in one of them, in its order.
+pub fn folds_of(
+    alloc: Global,
+    marks: &[Mark],
+    transactions: &[Transaction],
+) -> Result<Vec<Fold>, AllocError>
+    ensures { IfOk result (λ folds. AreFolds folds.items (length marks.now)) }
+{
+    let mut folds = Vec::new(alloc);
+    let mut fold = Fold::empty(0);
+    let mut left = transactions;
+    for at in 0..marks.len() {
+        left = from_place(left, at);
+        let part = part_of(marks[at], at, left);
+        if fold.takes(part) {
+            fold = fold.with(part, at + 1);
+        } else {
+            keep(&mut folds, fold)?;
+            fold = Fold::empty(at).with(part, at + 1);
+        }
+    }
+    keep(&mut folds, fold)?;
+    Ok(folds)
+}

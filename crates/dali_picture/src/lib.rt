@@ -1,0 +1,19 @@
+//! A run of a script as a picture: what is drawn of it, and where.
+//!
+//! A [`Picture`] is a script that was played, with one mark for each event of its log; with folds, in each of which the
+//! short picture shows several events; and with the transactions, and what each gear shows for how long.
+#![tactic(auto)]
+
+mod folds;
+mod mark;
+mod picture;
+mod played;
+mod stays;
+mod transactions;
+
+pub use folds::{Fold, Held};
+pub use mark::{Lane, Look, Mark, Reply, Tone, mark_of, marks_of, tone_of};
+pub use picture::Picture;
+pub use played::{Played, PlayedLine};
+pub use stays::{Shown, Stay};
+pub use transactions::{Purpose, Transaction};

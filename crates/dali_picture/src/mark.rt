@@ -1,0 +1,212 @@
+//! The marks of a picture: one for each event of a log.
+
+ghost use Rattle.std.specs.Prelude.{◌≡◌, map, IfOk};
+ghost use Rattle.dali_picture.specs.Marks.{tone_of, heard_look, order_look, mark_of};
+
+use dali_frame::{Answer, Forward};
+use dali_script::{Order, Record};
+use dali_special::Command;
+use dali_world::Event;
+use std::alloc::{AllocError, Global};
+
+/// Where a mark stands.
+#[derive(Clone, Copy)]
+pub enum Lane {
+    /// The lane of this controller.
+    Controller(u8),
+    /// The lane of the bus.
+    Bus,
+    /// The lane of this gear.
+    Gear(u32),
+}
+
+/// Which commands a frame is drawn like.
+#[derive(Clone, Copy)]
+pub enum Tone {
+    /// INITIALISE and RANDOMISE.
+    Opening,
+    /// SEARCHADDRH, SEARCHADDRM and SEARCHADDRL.
+    Search,
+    /// COMPARE.
+    Compare,
+    /// QUERY SHORT ADDRESS, VERIFY SHORT ADDRESS and QUERY RANDOM ADDRESS.
+    Query,
+    /// PROGRAM SHORT ADDRESS.
+    Program,
+    /// WITHDRAW.
+    Withdraw,
+    /// TERMINATE.
+    Terminate,
+    /// Direct arc power, and every frame that is no addressing command.
+    Other,
+}
+
+/// What was heard after a frame, without the byte.
+#[derive(Clone, Copy)]
+pub enum Reply {
+    Silence,
+    Byte,
+    Damaged,
+}
+
+/// What a mark looks like.
+#[derive(Clone, Copy)]
+pub enum Look {
+    /// A frame waits for the bus.
+    Asked(Tone),
+    /// A reservation, an enrolment or a release is to be kept.
+    Reserves,
+    Enrols,
+    Releases,
+    /// A commissioning ended.
+    Ended,
+    /// A machine halted.
+    Halted,
+    /// A frame was sent, and this was heard.
+    Sent(Tone, Reply),
+    /// A frame was destroyed; or two, in a collision.
+    Destroyed,
+    Collided,
+    /// The bus lapsed, or was quiet.
+    Lapsed,
+    Quiet,
+    /// A gear lost its power, has it again, or its initialisation ran out.
+    PowerOff,
+    PowerOn,
+    Expired,
+    /// A controller went down, or came up.
+    Down,
+    Up,
+}
+
+/// The mark of one event.
+#[derive(Clone, Copy)]
+pub struct Mark {
+    pub lane: Lane,
+    pub look: Look,
+}
+
+impl Default for Mark {
+    ghost use Rattle.std.specs.Prelude.{◌≡◌};
+    ghost use Rattle.dali_picture.specs.declared.mark.Lane.TheVariants.{Bus};
+    ghost use Rattle.dali_picture.specs.declared.mark.Look.TheVariants.{Quiet};
+
+    ghost is_default = { λ m. m ≡ record { lane = Bus; look = Quiet } };
+
+    fn default() -> Mark {
+        Mark {
+            lane: Lane::Bus,
+            look: Look::Quiet,
+        }
+    }
+}
+
+/// Which commands a frame is drawn like.
+pub fn tone_of(frame: Forward) -> Tone
+    ensures { result ≡ tone_of frame }
+{
+    match Command::read(frame) {
+        Command::Terminate => Tone::Terminate,
+        Command::Initialise(_) | Command::Randomise => Tone::Opening,
+        Command::Compare => Tone::Compare,
+        Command::Withdraw => Tone::Withdraw,
+        Command::SearchHigh(_) | Command::SearchMiddle(_) | Command::SearchLow(_) => Tone::Search,
+        Command::Program(_) => Tone::Program,
+        Command::Verify(_) | Command::QueryShort | Command::RandomByte(..) => Tone::Query,
+        Command::Arc(_) | Command::Other(_) => Tone::Other,
+    }
+}
+
+fn reply_of(heard: Answer) -> Reply
+    ensures { result ≡ heard_look heard }
+{
+    match heard {
+        Answer::Silence => Reply::Silence,
+        Answer::Byte(_) => Reply::Byte,
+        Answer::Damaged => Reply::Damaged,
+    }
+}
+
+fn order_look(order: Order) -> Look
+    ensures { result ≡ order_look order }
+{
+    match order {
+        Order::Put(_, frame) => Look::Asked(tone_of(frame)),
+        Order::Commit(Record::Reserve(..)) => Look::Reserves,
+        Order::Commit(Record::Enrol(..)) => Look::Enrols,
+        Order::Commit(Record::Release(..)) => Look::Releases,
+        Order::Done(_) => Look::Ended,
+        Order::Halt(_) => Look::Halted,
+    }
+}
+
+/// The mark of an event.
+pub fn mark_of(event: Event) -> Mark
+    ensures { result ≡ mark_of event }
+{
+    match event {
+        Event::Acted(c, _, order) => Mark {
+            lane: Lane::Controller(c),
+            look: order_look(order),
+        },
+        Event::Offered(c, frame) => {
+            Mark {
+                lane: Lane::Controller(c),
+                look: Look::Asked(tone_of(frame)),
+            }
+        }
+        Event::Sent(_, frame, heard) => {
+            Mark {
+                lane: Lane::Bus,
+                look: Look::Sent(tone_of(frame), reply_of(heard)),
+            }
+        }
+        Event::Destroyed(..) => Mark {
+            lane: Lane::Bus,
+            look: Look::Destroyed,
+        },
+        Event::Collided(..) => Mark {
+            lane: Lane::Bus,
+            look: Look::Collided,
+        },
+        Event::Lapsed => Mark {
+            lane: Lane::Bus,
+            look: Look::Lapsed,
+        },
+        Event::Quiet => Mark {
+            lane: Lane::Bus,
+            look: Look::Quiet,
+        },
+        Event::Power(g, true) => Mark {
+            lane: Lane::Gear(g),
+            look: Look::PowerOn,
+        },
+        Event::Power(g, false) => Mark {
+            lane: Lane::Gear(g),
+            look: Look::PowerOff,
+        },
+        Event::Expired(g) => Mark {
+            lane: Lane::Gear(g),
+            look: Look::Expired,
+        },
+        Event::Down(c) => Mark {
+            lane: Lane::Controller(c),
+            look: Look::Down,
+        },
+        Event::Up(c, _) => Mark {
+            lane: Lane::Controller(c),
+            look: Look::Up,
+        },
+    }
+}
+
+/// The marks of a log: one for each event, in their order, and no other.
+pub fn marks_of(alloc: Global, log: &[Event]) -> Result<Vec<Mark>, AllocError>
+    ensures { IfOk result (λ marks. marks.items ≡ map mark_of log.now) }
+{
+    let mut marks = Vec::with_capacity(alloc, log.len())?;
+    for event in log {
+        marks.push(mark_of(*event))?;
+    }
+    Ok(marks)
+}

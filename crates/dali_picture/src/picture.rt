@@ -1,0 +1,68 @@
+//! A run as a picture: its marks, and the folds of a short picture.
+
+ghost use Rattle.std.specs.Prelude.{◌≡◌, length, map, IfOk};
+ghost use Rattle.dali_replay.specs.Replay.{setting_of};
+ghost use Rattle.dali_picture.specs.Marks.{mark_of};
+ghost use Rattle.dali_picture.specs.Folds.{AreFolds};
+ghost use Rattle.dali_picture.specs.Played.{IsLogBy};
+
+use crate::folds::{Fold, folds_of};
+use crate::mark::{Mark, marks_of};
+use crate::played::Played;
+use crate::stays::{Stay, stays_of};
+use crate::transactions::{Transaction, transactions_of};
+use dali_replay::{INPUT_LIMIT, ReplayFault};
+use std::alloc::{AllocError, Global};
+
+/// A script that was played, and what is drawn of it.
+#[derive(Drop)]
+pub struct Picture<'a> {
+    pub played: Played<'a>,
+    /// One mark for each event of the log, in their order.
+    pub marks: Vec<Mark>,
+    /// What stands in one column of the short picture: each event in one of them, in their order.
+    pub folds: Vec<Fold>,
+    pub transactions: Vec<Transaction>,
+    pub stays: Vec<Stay>,
+}
+
+impl<'a> Picture<'a> {
+    /// The picture of a script: a mark for each event of its log, in their order, and no other.
+    ///
+    /// Faults: a bad line or a plan that is refused, memory, and `Read` of an input past the limit.
+    pub fn of(alloc: Global, input: &'a [u8]) -> Result<Picture<'a>, ReplayFault>
+        ensures log { IfOk result (λ picture. IsLogBy (setting_of input.now) picture.played.log.items) }
+        ensures marks { IfOk result (λ picture. picture.marks.items ≡ map mark_of picture.played.log.items) }
+        ensures folds { IfOk result (λ picture. AreFolds picture.folds.items (length picture.played.log.items)) }
+    {
+        if input.len() > INPUT_LIMIT {
+            return Err(ReplayFault::Read);
+        }
+        let played = Played::of(alloc, input)?;
+        Ok(Picture::drawn(alloc, played)?)
+    }
+
+    /// The picture of what was played.
+    fn drawn(alloc: Global, played: Played<'a>) -> Result<Picture<'a>, AllocError>
+        ensures log { IfOk result (λ picture. picture.played.log.items ≡ played.entry.log.items) }
+        ensures marks { IfOk result (λ picture. picture.marks.items ≡ map mark_of played.entry.log.items) }
+        ensures folds { IfOk result (λ picture. AreFolds picture.folds.items (length played.entry.log.items)) }
+    {
+        let marks = marks_of(alloc, &played.log)?;
+        let transactions = transactions_of(alloc, &played.log)?;
+        let folds = folds_of(alloc, &marks, &transactions)?;
+        let gear = if played.gear <= 128 {
+            played.gear as usize
+        } else {
+            128
+        };
+        let stays = stays_of(alloc, gear, &played.draws, &played.log)?;
+        Ok(Picture {
+            played,
+            marks,
+            folds,
+            transactions,
+            stays,
+        })
+    }
+}

@@ -1,0 +1,205 @@
+//! What the gear of a run show, and for how long.
+
+ghost use Rattle.std.specs.Prelude.{◌≡◌, ◌<◌, ◌≤◌, true, length, All};
+ghost use Rattle.dali_frame.specs.Random.{MASK24};
+
+use dali_frame::{Forward, Random24, Short};
+use dali_gear::{Gear, InitialisationState, Reach, Row};
+use dali_special::Command;
+use dali_world::Event;
+use std::alloc::{AllocError, Global};
+
+/// What a gear shows.
+#[derive(Clone, Copy)]
+pub struct Shown {
+    pub powered: bool,
+    pub state: InitialisationState,
+    pub random: Random24,
+    pub short: Option<Short>,
+}
+
+impl Shown {
+    fn of(gear: &Gear) -> Shown {
+        Shown {
+            powered: gear.is_powered(),
+            state: gear.state(),
+            random: gear.random(),
+            short: gear.short(),
+        }
+    }
+
+    fn is(&self, other: &Shown) -> bool {
+        self.powered == other.powered
+            && self.state == other.state
+            && self.random == other.random
+            && self.short == other.short
+    }
+}
+
+/// What a gear shows from an event, at place `first` of the log, until another one: from `after` on it shows something
+/// else, or the log is over.
+#[derive(Clone, Copy)]
+pub struct Stay {
+    pub gear: usize,
+    pub first: usize,
+    pub after: usize,
+    pub shown: Shown,
+}
+
+/// The gear of a run at one moment, what each shows and since when, and how many numbers were drawn.
+#[derive(Drop)]
+struct Watch<'a> {
+    gear: Row,
+    draws: &'a [Random24],
+    drawn: usize,
+    since: Vec<(usize, Shown)>,
+}
+
+/// Whether gear draw all of these.
+fn are_drawn(draws: &[Random24]) -> bool
+    ensures { result ≡ true → All (λ r. r < MASK24) draws.now }
+{
+    for at in 0..draws.len() {
+        if draws[at].value() >= 0xFFFFFF {
+            return false;
+        }
+    }
+    true
+}
+
+/// The gear take a frame. How many numbers they draw: none, where too few are left, as never in a run that was played.
+fn take(gear: &mut Row, frame: Forward, reach: Reach, left: &[Random24]) -> usize {
+    let command = Command::read(frame);
+    let needed = gear.draws_needed(&command, reach);
+    if needed > left.len() || !are_drawn(left) {
+        return 0;
+    }
+    gear.take(&command, reach, left).drawn
+}
+
+/// The numbers that are left where a frame makes gear draw; else none, so that nobody goes over them.
+fn left_for<'a>(draws: &'a [Random24], drawn: usize, frame: Forward) -> &'a [Random24] {
+    match (Command::read(frame), draws.get(drawn..)) {
+        (Command::Randomise, Some(left)) => left,
+        _ => &[],
+    }
+}
+
+/// The power of a gear comes or goes, where it is there.
+fn power(gear: &mut Row, number: u32, on: bool) {
+    let number = number as usize;
+    if number >= gear.len() {
+        return;
+    }
+    if on {
+        gear.power_on(number);
+    } else {
+        gear.power_off(number);
+    }
+}
+
+/// The initialisation of a gear runs out, where it is there.
+fn expire(gear: &mut Row, number: u32) {
+    let number = number as usize;
+    if number < gear.len() {
+        gear.expire(number);
+    }
+}
+
+impl Watch<'_> {
+    /// A frame reaches gear.
+    fn reached(&mut self, frame: Forward, reach: Reach) {
+        let left = left_for(self.draws, self.drawn, frame);
+        let drawn = take(&mut self.gear, frame, reach, left);
+        self.drawn = self.drawn.saturating_add(drawn);
+    }
+
+    /// An event befalls the gear.
+    fn befall(&mut self, event: Event) {
+        match event {
+            Event::Sent(_, frame, _) => self.reached(frame, Reach::Everyone),
+            Event::Destroyed(_, frame, set) => self.reached(frame, Reach::Only(set)),
+            Event::Power(number, on) => power(&mut self.gear, number, on),
+            Event::Expired(number) => expire(&mut self.gear, number),
+            Event::Quiet => self.gear.quiet(),
+            _ => {}
+        }
+    }
+
+    /// Notes whom the event at a place has changed.
+    fn note(&mut self, stays: &mut Vec<Stay>, at: usize) -> Result<(), AllocError> {
+        for number in 0..self.gear.len() {
+            let shown = Shown::of(&self.gear.gear(number));
+            if let Some(since) = self.since.get_mut(number) {
+                if !since.1.is(&shown) {
+                    stays.push(Stay {
+                        gear: number,
+                        first: since.0,
+                        after: at,
+                        shown: since.1,
+                    })?;
+                    *since = (at, shown);
+                }
+            }
+        }
+        Ok(())
+    }
+
+    /// Notes what all show at the end of the log.
+    fn end(&self, stays: &mut Vec<Stay>, after: usize) -> Result<(), AllocError> {
+        for (number, since) in self.since.iter().enumerate() {
+            stays.push(Stay {
+                gear: number,
+                first: since.0,
+                after,
+                shown: since.1,
+            })?;
+        }
+        Ok(())
+    }
+}
+
+/// What all gear show at first.
+fn at_first(alloc: Global, gear: &Row) -> Result<Vec<(usize, Shown)>, AllocError> {
+    let mut since = Vec::with_capacity(alloc, gear.len())?;
+    for number in 0..gear.len() {
+        since.push((0, Shown::of(&gear.gear(number))))?;
+    }
+    Ok(since)
+}
+
+/// Whether an event may change what gear show.
+fn is_felt(event: Event) -> bool {
+    match event {
+        Event::Sent(..) | Event::Destroyed(..) | Event::Power(..) | Event::Expired(_) => true,
+        _ => false,
+    }
+}
+
+/// What so many gear showed, from the factory on, while this happened, in which they drew of these numbers.
+pub fn stays_of(
+    alloc: Global,
+    gear: usize,
+    draws: &[Random24],
+    log: &[Event],
+) -> Result<Vec<Stay>, AllocError>
+    requires { gear ≤ 128 }
+{
+    let gear = Row::new(gear);
+    let since = at_first(alloc, &gear)?;
+    let mut watch = Watch {
+        gear,
+        draws,
+        drawn: 0,
+        since,
+    };
+    let mut stays = Vec::new(alloc);
+    for (at, event) in log.iter().enumerate() {
+        watch.befall(*event);
+        if is_felt(*event) {
+            watch.note(&mut stays, at)?;
+        }
+    }
+    watch.end(&mut stays, log.len())?;
+    Ok(stays)
+}

@@ -1,0 +1,141 @@
+//! The transactions of a log: which frames belong together, and what they are for.
+
+use dali_frame::Forward;
+use dali_special::{Command, Part};
+use dali_world::Event;
+use std::alloc::{AllocError, Global};
+
+/// What a transaction is for, as far as its frames tell.
+#[derive(Clone, Copy)]
+pub enum Purpose {
+    /// A search address was sent, or a part of one, and no more.
+    Search,
+    /// COMPARE under a search address.
+    Probe,
+    /// QUERY SHORT ADDRESS under a search address.
+    Visit,
+    /// PROGRAM SHORT ADDRESS under a search address.
+    Program,
+    /// QUERY RANDOM ADDRESS of a short address.
+    Resolve,
+    /// INITIALISE and RANDOMISE.
+    Opening,
+    /// TERMINATE alone.
+    Close,
+    /// Direct arc power, or a frame that is no addressing command.
+    Other,
+}
+
+impl Default for Purpose {
+    fn default() -> Purpose {
+        Purpose::Other
+    }
+}
+
+/// The frames of one transaction.
+#[derive(Clone, Copy, Default)]
+pub struct Transaction {
+    /// The controller that sent them.
+    pub sender: u8,
+    pub purpose: Purpose,
+    /// The first and the last of its frames, as places in the log.
+    pub first: usize,
+    pub last: usize,
+    /// How many frames it has.
+    pub frames: u32,
+}
+
+/// The frame that came on the bus by an event, and its sender. Of two that collided neither counts.
+pub fn frame_of(event: Event) -> Option<(u8, Forward)> {
+    match event {
+        Event::Sent(c, frame, _) | Event::Destroyed(c, frame, _) => Some((c, frame)),
+        _ => None,
+    }
+}
+
+/// Whether a frame begins a transaction: no later frame of one is such a frame.
+pub fn is_first(frame: Forward) -> bool {
+    match Command::read(frame) {
+        Command::Terminate | Command::SearchHigh(_) | Command::Arc(_) | Command::Other(_) => true,
+        Command::RandomByte(_, part) => matches!(part, Part::High),
+        _ => false,
+    }
+}
+
+/// What a transaction is for, after one more frame.
+fn purpose_after(purpose: Purpose, frame: Forward) -> Purpose {
+    match Command::read(frame) {
+        Command::Terminate => Purpose::Close,
+        Command::Initialise(_) | Command::Randomise => Purpose::Opening,
+        Command::SearchHigh(_) => Purpose::Search,
+        Command::Compare => Purpose::Probe,
+        Command::Program(_) => Purpose::Program,
+        Command::QueryShort => visited(purpose),
+        Command::RandomByte(..) => Purpose::Resolve,
+        Command::Arc(_) | Command::Other(_) => Purpose::Other,
+        _ => purpose,
+    }
+}
+
+/// What a transaction with a QUERY SHORT ADDRESS is for: the query after PROGRAM SHORT ADDRESS belongs to that.
+fn visited(purpose: Purpose) -> Purpose {
+    match purpose {
+        Purpose::Program => Purpose::Program,
+        _ => Purpose::Visit,
+    }
+}
+
+impl Transaction {
+    /// A transaction of one frame, at a place of the log.
+    fn begun(sender: u8, frame: Forward, at: usize) -> Transaction {
+        Transaction {
+            sender,
+            purpose: purpose_after(Purpose::Other, frame),
+            first: at,
+            last: at,
+            frames: 1,
+        }
+    }
+
+    /// With one more frame.
+    fn with(self, frame: Forward, at: usize) -> Transaction {
+        Transaction {
+            purpose: purpose_after(self.purpose, frame),
+            last: at,
+            frames: self.frames.saturating_add(1),
+            ..self
+        }
+    }
+
+    /// Whether a frame of this sender goes on with it. Nothing follows direct arc power.
+    fn goes_on(&self, sender: u8, frame: Forward) -> bool {
+        let is_over = matches!(self.purpose, Purpose::Other);
+        !is_over && self.sender == sender && !is_first(frame)
+    }
+}
+
+/// Keeps a transaction, if it has frames.
+fn keep(kept: &mut Vec<Transaction>, running: Transaction) -> Result<(), AllocError> {
+    if running.frames > 0 {
+        kept.push(running)?;
+    }
+    Ok(())
+}
+
+/// The transactions of a log, in their order.
+pub fn transactions_of(alloc: Global, log: &[Event]) -> Result<Vec<Transaction>, AllocError> {
+    let mut kept = Vec::new(alloc);
+    let mut running = Transaction::default();
+    for (at, event) in log.iter().enumerate() {
+        if let Some((sender, frame)) = frame_of(*event) {
+            if running.goes_on(sender, frame) {
+                running = running.with(frame, at);
+            } else {
+                keep(&mut kept, running)?;
+                running = Transaction::begun(sender, frame, at);
+            }
+        }
+    }
+    keep(&mut kept, running)?;
+    Ok(kept)
+}
