@@ -4,16 +4,23 @@
 //! short picture shows several events; and with the transactions, and what each gear shows for how long.
 #![tactic(auto)]
 
+mod draw;
 mod folds;
+mod geometry;
 mod mark;
+mod page;
 mod picture;
 mod played;
+mod shapes;
 mod stays;
+mod streams;
 mod transactions;
+mod words;
 
 pub use folds::{Fold, Held};
 pub use mark::{Lane, Look, Mark, Reply, Tone, mark_of, marks_of, tone_of};
 pub use picture::Picture;
 pub use played::{Played, PlayedLine};
 pub use stays::{Shown, Stay};
+pub use streams::{draw_run, draw_streams};
 pub use transactions::{Purpose, Transaction};

@@ -1,0 +1,309 @@
+//! A whole picture as SVG: lanes from top to bottom, events from left to right.
+
+use crate::folds::Fold;
+use crate::geometry::{AXIS_TOP, Columns, EVENT_WIDTH, FOLD_WIDTH, Lanes};
+use crate::mark::Look;
+use crate::picture::Picture;
+use crate::shapes::{
+    push_address, push_fold_bar, push_fold_count, push_line, push_mark, push_name, push_number,
+    push_only_name, push_sender, push_stay, push_transaction_bar,
+};
+use std::alloc::{AllocError, Global};
+
+/// A column for each event.
+pub fn long_columns(alloc: Global, events: usize) -> Result<Columns, AllocError> {
+    let mut of = Vec::new(alloc);
+    let mut column: u32 = 0;
+    for _ in 0..events {
+        of.push(column)?;
+        column = column.saturating_add(1);
+    }
+    of.push(column)?;
+    Ok(Columns {
+        of,
+        width: EVENT_WIDTH,
+    })
+}
+
+/// A column for each fold.
+pub fn short_columns(alloc: Global, folds: &[Fold]) -> Result<Columns, AllocError> {
+    let mut of = Vec::new(alloc);
+    let mut column: u32 = 0;
+    for fold in folds {
+        for _ in fold.first..fold.after {
+            of.push(column)?;
+        }
+        column = column.saturating_add(1);
+    }
+    of.push(column)?;
+    Ok(Columns {
+        of,
+        width: FOLD_WIDTH,
+    })
+}
+
+/// How wide the column of an event is drawn.
+fn inner(columns: &Columns) -> u64 {
+    u64::from(columns.width).saturating_sub(2)
+}
+
+/// The mark of one event.
+fn push_mark_at(
+    text: &mut String,
+    picture: &Picture,
+    columns: &Columns,
+    lanes: &Lanes,
+    at: usize,
+) -> Result<(), AllocError> {
+    match (picture.marks.get(at), picture.played.log.get(at)) {
+        (Some(mark), Some(event)) => {
+            push_mark(
+                text,
+                *mark,
+                *event,
+                at,
+                columns.left(at),
+                lanes.top(mark.lane),
+            )
+        }
+        _ => Ok(()),
+    }
+}
+
+/// The marks of all events.
+fn push_marks(
+    text: &mut String,
+    picture: &Picture,
+    columns: &Columns,
+    lanes: &Lanes,
+) -> Result<(), AllocError> {
+    for at in 0..picture.marks.len() {
+        push_mark_at(text, picture, columns, lanes, at)?;
+    }
+    Ok(())
+}
+
+/// The transactions, below the frames.
+fn push_transactions(
+    text: &mut String,
+    picture: &Picture,
+    columns: &Columns,
+    lanes: &Lanes,
+) -> Result<(), AllocError> {
+    let y = lanes.bus_top().saturating_add(24);
+    for transaction in &picture.transactions {
+        let x = columns.left(transaction.first);
+        let width = columns
+            .left(transaction.last)
+            .saturating_sub(x)
+            .saturating_add(inner(columns));
+        push_transaction_bar(text, transaction, x, y, width)?;
+    }
+    Ok(())
+}
+
+/// Whether a controller sent frames in a fold.
+fn has_sender(fold: &Fold, c: u8) -> bool {
+    match c {
+        0 => fold.senders % 2 == 1,
+        1 => fold.senders / 2 % 2 == 1,
+        2 => fold.senders / 4 % 2 == 1,
+        _ => fold.senders / 8 % 2 == 1,
+    }
+}
+
+/// What the controllers did in a fold.
+fn push_senders(
+    text: &mut String,
+    fold: &Fold,
+    columns: &Columns,
+    lanes: &Lanes,
+) -> Result<(), AllocError> {
+    let x = columns.left(fold.first);
+    for c in 0..lanes.controllers {
+        if has_sender(fold, c) {
+            push_sender(
+                text,
+                fold,
+                x,
+                lanes.controller_top(c).saturating_add(8),
+                inner(columns),
+            )?;
+        }
+    }
+    Ok(())
+}
+
+/// A fold of several events.
+fn push_many(
+    text: &mut String,
+    fold: &Fold,
+    columns: &Columns,
+    lanes: &Lanes,
+) -> Result<(), AllocError> {
+    let x = columns.left(fold.first);
+    let y = lanes.bus_top().saturating_add(6);
+    push_fold_bar(text, fold, x, y, inner(columns))?;
+    push_fold_count(text, fold, x.saturating_add(3), y.saturating_add(14))?;
+    push_senders(text, fold, columns, lanes)
+}
+
+/// The folds: one event as its mark, several as a bar.
+fn push_folds(
+    text: &mut String,
+    picture: &Picture,
+    columns: &Columns,
+    lanes: &Lanes,
+) -> Result<(), AllocError> {
+    for fold in &picture.folds {
+        if fold.after == fold.first.saturating_add(1) {
+            push_mark_at(text, picture, columns, lanes, fold.first)?;
+        } else {
+            push_many(text, fold, columns, lanes)?;
+        }
+    }
+    Ok(())
+}
+
+/// What the gear show.
+fn push_stays(
+    text: &mut String,
+    picture: &Picture,
+    columns: &Columns,
+    lanes: &Lanes,
+) -> Result<(), AllocError> {
+    for stay in &picture.stays {
+        let x = columns.left(stay.first);
+        let width = columns.left(stay.after).saturating_sub(x);
+        let y = lanes.place_top(stay.gear).saturating_add(2);
+        push_stay(text, stay, x, y, width)?;
+        if width > 14 {
+            push_address(text, stay, x.saturating_add(3), y.saturating_add(11))?;
+        }
+    }
+    Ok(())
+}
+
+/// The lines of the script, where they began; one that would hide the line before it is left out.
+fn push_lines(text: &mut String, picture: &Picture, columns: &Columns) -> Result<(), AllocError> {
+    let mut next: u64 = 0;
+    for line in &picture.played.lines {
+        let x = columns.left(line.first);
+        if x >= next {
+            push_line(
+                text,
+                line.line,
+                line.number,
+                x.saturating_add(8),
+                AXIS_TOP.saturating_sub(4),
+            )?;
+            next = x.saturating_add(10);
+        }
+    }
+    Ok(())
+}
+
+/// Whether a mark is a frame on the bus.
+fn is_frame(look: Look) -> bool {
+    matches!(look, Look::Sent(..) | Look::Destroyed | Look::Collided)
+}
+
+/// The numbers of the frames, along the axis.
+fn push_axis(text: &mut String, picture: &Picture, columns: &Columns) -> Result<(), AllocError> {
+    let mut next: u64 = 0;
+    let mut frames: u32 = 0;
+    for (at, mark) in picture.marks.iter().enumerate() {
+        if is_frame(mark.look) {
+            frames = frames.saturating_add(1);
+            let x = columns.left(at);
+            if x >= next {
+                push_number(text, frames, x, AXIS_TOP.saturating_add(11))?;
+                next = x.saturating_add(40);
+            }
+        }
+    }
+    Ok(())
+}
+
+/// The names of the lanes.
+fn push_names(text: &mut String, lanes: &Lanes) -> Result<(), AllocError> {
+    push_only_name(text, "script", AXIS_TOP.saturating_sub(40))?;
+    push_only_name(text, "frame", AXIS_TOP.saturating_add(11))?;
+    for c in 0..lanes.controllers {
+        push_name(
+            text,
+            "controller",
+            u32::from(c),
+            lanes.controller_top(c).saturating_add(16),
+        )?;
+    }
+    push_only_name(text, "bus", lanes.bus_top().saturating_add(20))?;
+    for number in 0..lanes.gear {
+        push_name(
+            text,
+            "gear",
+            number,
+            lanes.gear_top(number).saturating_add(13),
+        )?;
+    }
+    Ok(())
+}
+
+/// The lanes of a picture.
+pub fn lanes_of(picture: &Picture) -> Lanes {
+    Lanes {
+        controllers: picture.played.controllers,
+        gear: picture.played.gear,
+    }
+}
+
+fn push_open(text: &mut String, class: &str, width: u64, height: u64) -> Result<(), AllocError> {
+    write!(
+        text,
+        "<svg class=\"{class}\" xmlns=\"http://www.w3.org/2000/svg\" width=\"{width}\" height=\"{height}\">\n"
+    )
+}
+
+/// What both pictures have.
+fn push_common(text: &mut String, picture: &Picture, columns: &Columns) -> Result<(), AllocError> {
+    push_lines(text, picture, columns)?;
+    push_axis(text, picture, columns)?;
+    push_stays(text, picture, columns, &lanes_of(picture))
+}
+
+/// The names beside a picture, and the begin of the picture.
+fn push_begin(text: &mut String, picture: &Picture, columns: &Columns) -> Result<(), AllocError> {
+    let lanes = lanes_of(picture);
+    let height = lanes.height();
+    text.push_str("<div class=\"run\">\n")?;
+    push_open(text, "names", 90, height)?;
+    push_names(text, &lanes)?;
+    text.push_str("</svg>\n<div class=\"scroll\">\n")?;
+    push_open(text, "marks", columns.end(), height)
+}
+
+/// The picture with a column for each event.
+pub fn push_long(
+    text: &mut String,
+    picture: &Picture,
+    columns: &Columns,
+) -> Result<(), AllocError> {
+    let lanes = lanes_of(picture);
+    push_begin(text, picture, columns)?;
+    push_common(text, picture, columns)?;
+    push_transactions(text, picture, columns, &lanes)?;
+    push_marks(text, picture, columns, &lanes)?;
+    text.push_str("</svg>\n</div>\n</div>\n")
+}
+
+/// The picture with a column for each fold.
+pub fn push_short_picture(
+    text: &mut String,
+    picture: &Picture,
+    columns: &Columns,
+) -> Result<(), AllocError> {
+    push_begin(text, picture, columns)?;
+    push_common(text, picture, columns)?;
+    push_folds(text, picture, columns, &lanes_of(picture))?;
+    text.push_str("</svg>\n</div>\n</div>\n")
+}

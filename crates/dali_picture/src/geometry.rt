@@ -1,0 +1,107 @@
+//! Where things stand in a picture, in pixels.
+
+ghost use Rattle.std.specs.Prelude.{◌≡◌, ◌+◌, ◌*◌};
+
+use crate::mark::Lane;
+
+/// The width of one event in the long picture, and of one fold in the short one.
+pub const EVENT_WIDTH: u8 = 10;
+
+pub const FOLD_WIDTH: u8 = 22;
+/// The height of the lane with the lines of the script, where the numbers of frames stand, and of one lane each.
+const SCRIPT_HEIGHT: u64 = 110;
+
+const AXIS_HEIGHT: u64 = 16;
+
+const CONTROLLER_HEIGHT: u64 = 26;
+
+const BUS_HEIGHT: u64 = 36;
+
+const GEAR_HEIGHT: u64 = 18;
+
+/// How many lanes a picture has.
+#[derive(Clone, Copy)]
+pub struct Lanes {
+    pub controllers: u8,
+    pub gear: u32,
+}
+
+/// The top of the lanes with the numbers of frames, and of the first controller.
+pub const AXIS_TOP: u64 = SCRIPT_HEIGHT;
+
+const CONTROLLERS_TOP: u64 = SCRIPT_HEIGHT + AXIS_HEIGHT;
+
+impl Lanes {
+    /// The top of a controller's lane, of the bus, of a gear's lane; and the height of the picture.
+    pub fn controller_top(&self, c: u8) -> u64
+        ensures { result ≡ 126 + 26 * c }
+    {
+        CONTROLLERS_TOP + u64::from(c) * CONTROLLER_HEIGHT
+    }
+
+    pub fn bus_top(&self) -> u64
+        ensures { result ≡ 126 + 26 * self.now.controllers }
+    {
+        self.controller_top(self.controllers)
+    }
+
+    pub fn gear_top(&self, number: u32) -> u64
+        ensures { result ≡ 162 + 26 * self.now.controllers + 18 * number }
+    {
+        self.bus_top() + BUS_HEIGHT + u64::from(number) * GEAR_HEIGHT
+    }
+
+    /// The top of the lane of a gear that is told by its place in a row.
+    pub fn place_top(&self, place: usize) -> u64 {
+        match u32::try_from(place) {
+            Ok(number) => self.gear_top(number),
+            Err(_) => self.height(),
+        }
+    }
+
+    pub fn height(&self) -> u64 {
+        self.gear_top(self.gear) + 6
+    }
+
+    /// The top of the lane of a mark.
+    pub fn top(&self, lane: Lane) -> u64 {
+        match lane {
+            Lane::Controller(c) => self.controller_top(c),
+            Lane::Bus => self.bus_top(),
+            Lane::Gear(number) => self.gear_top(number),
+        }
+    }
+}
+
+/// Where events stand: each in a column of its own, or each fold.
+#[derive(Drop)]
+pub struct Columns {
+    /// The column of each event, and after them that of the end.
+    pub of: Vec<u32>,
+    pub width: u8,
+}
+
+impl Columns {
+    /// The left end of an event's column; the end of the picture for an event that is not there.
+    pub fn left(&self, event: usize) -> u64 {
+        let column = match self.of.get(event) {
+            Some(column) => *column,
+            None => self.last(),
+        };
+        4 + u64::from(column) * u64::from(self.width)
+    }
+
+    fn last(&self) -> u32 {
+        match self.of.last() {
+            Some(column) => *column,
+            None => 0,
+        }
+    }
+
+    /// How wide the picture is.
+    pub fn end(&self) -> u64 {
+        let column = self.last();
+        let width = u64::from(self.width);
+        12 + u64::from(column) * width + width
+    }
+}

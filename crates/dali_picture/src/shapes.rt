@@ -1,0 +1,233 @@
+//! The marks, bars and texts of a picture, as elements of SVG.
+
+use crate::folds::{Fold, Held};
+use crate::mark::{Look, Mark, Reply, Tone};
+use crate::stays::{Shown, Stay};
+use crate::transactions::{Purpose, Transaction};
+use crate::words::{push_event, push_fold, push_plain, push_short, push_shown, push_transaction};
+use dali_gear::InitialisationState;
+use dali_world::Event;
+use std::alloc::AllocError;
+
+/// The class that gives a frame its colour.
+fn tone_class(tone: Tone) -> &'static str {
+    match tone {
+        Tone::Opening => "o",
+        Tone::Search => "s",
+        Tone::Compare => "k",
+        Tone::Query => "q",
+        Tone::Program => "p",
+        Tone::Withdraw => "w",
+        Tone::Terminate => "t",
+        Tone::Other => "x",
+    }
+}
+
+/// The class that shows what was heard.
+fn reply_class(reply: Reply) -> &'static str {
+    match reply {
+        Reply::Silence => "",
+        Reply::Byte => " b",
+        Reply::Damaged => " d",
+    }
+}
+
+/// The shape of a mark, and its classes.
+fn shape_of(look: Look) -> (&'static str, &'static str, &'static str) {
+    match look {
+        Look::Asked(tone) => ("ask", tone_class(tone), ""),
+        Look::Sent(tone, reply) => ("frame", tone_class(tone), reply_class(reply)),
+        Look::Reserves => ("commit", "p", ""),
+        Look::Enrols => ("commit", "e", ""),
+        Look::Releases => ("commit", "x", ""),
+        Look::Ended => ("end", "e", ""),
+        Look::Halted => ("end", "h", ""),
+        Look::Destroyed => ("struck", "h", ""),
+        Look::Collided => ("struck", "c", ""),
+        Look::Lapsed => ("gap", "h", ""),
+        Look::Quiet => ("gap", "x", ""),
+        Look::PowerOff => ("fall", "h", ""),
+        Look::PowerOn => ("rise", "e", ""),
+        Look::Expired => ("gap", "x", ""),
+        Look::Down => ("fall", "h", ""),
+        Look::Up => ("rise", "e", ""),
+    }
+}
+
+fn push_use(text: &mut String, look: Look, x: u64, y: u64) -> Result<(), AllocError> {
+    let (shape, class, more) = shape_of(look);
+    write!(
+        text,
+        "<use href=\"#{shape}\" class=\"{class}{more}\" x=\"{x}\" y=\"{y}\"><title>"
+    )
+}
+
+/// The mark of an event, with the event as its hover text.
+pub fn push_mark(
+    text: &mut String,
+    mark: Mark,
+    event: Event,
+    at: usize,
+    x: u64,
+    y: u64,
+) -> Result<(), AllocError> {
+    push_use(text, mark.look, x, y)?;
+    write!(text, "event {at}: ")?;
+    push_event(text, event)?;
+    text.push_str("</title></use>\n")
+}
+
+/// The class of transactions for this.
+fn purpose_class(purpose: Purpose) -> &'static str {
+    match purpose {
+        Purpose::Search => "s",
+        Purpose::Probe => "k",
+        Purpose::Visit => "q",
+        Purpose::Program => "p",
+        Purpose::Resolve => "q",
+        Purpose::Opening => "o",
+        Purpose::Close => "t",
+        Purpose::Other => "x",
+    }
+}
+
+fn held_class(held: Held) -> &'static str {
+    match held {
+        Held::Frames(purpose) => purpose_class(purpose),
+        Held::Orders | Held::Alone => "x",
+    }
+}
+
+fn push_bar(
+    text: &mut String,
+    class: &str,
+    x: u64,
+    y: u64,
+    width: u64,
+    height: u64,
+) -> Result<(), AllocError> {
+    write!(
+        text,
+        "<rect class=\"bar {class}\" x=\"{x}\" y=\"{y}\" width=\"{width}\" height=\"{height}\"><title>"
+    )
+}
+
+/// A transaction, as a bar.
+pub fn push_transaction_bar(
+    text: &mut String,
+    transaction: &Transaction,
+    x: u64,
+    y: u64,
+    width: u64,
+) -> Result<(), AllocError> {
+    push_bar(text, purpose_class(transaction.purpose), x, y, width, 7)?;
+    push_transaction(text, transaction)?;
+    text.push_str("</title></rect>\n")
+}
+
+/// The number of transactions in a fold, where they are more than one.
+fn push_count(text: &mut String, count: u32, x: u64, y: u64) -> Result<(), AllocError> {
+    if count < 2 {
+        return Ok(());
+    }
+    write!(
+        text,
+        "<text class=\"n\" x=\"{x}\" y=\"{y}\">{count}</text>\n"
+    )
+}
+
+/// A fold of several events, as a bar in the lane of the bus, with the number of its transactions.
+pub fn push_fold_bar(
+    text: &mut String,
+    fold: &Fold,
+    x: u64,
+    y: u64,
+    width: u64,
+) -> Result<(), AllocError> {
+    push_bar(text, held_class(fold.held), x, y, width, 20)?;
+    push_fold(text, fold)?;
+    text.push_str("</title></rect>\n")
+}
+
+/// The number of a fold's transactions, on its bar.
+pub fn push_fold_count(text: &mut String, fold: &Fold, x: u64, y: u64) -> Result<(), AllocError> {
+    push_count(text, fold.transactions, x, y)
+}
+
+/// What a fold says in the lane of a controller that sent frames in it.
+pub fn push_sender(
+    text: &mut String,
+    fold: &Fold,
+    x: u64,
+    y: u64,
+    width: u64,
+) -> Result<(), AllocError> {
+    push_bar(text, held_class(fold.held), x, y, width, 8)?;
+    push_fold(text, fold)?;
+    text.push_str("</title></rect>\n")
+}
+
+fn shown_class(shown: &Shown) -> &'static str {
+    if !shown.powered {
+        return "off";
+    }
+    match shown.state {
+        InitialisationState::Disabled => "dis",
+        InitialisationState::Enabled => "ena",
+        InitialisationState::Withdrawn => "wit",
+    }
+}
+
+/// What a gear shows for a while, as a bar.
+pub fn push_stay(
+    text: &mut String,
+    stay: &Stay,
+    x: u64,
+    y: u64,
+    width: u64,
+) -> Result<(), AllocError> {
+    push_bar(text, shown_class(&stay.shown), x, y, width, 14)?;
+    push_shown(text, stay.gear, &stay.shown)?;
+    text.push_str("</title></rect>\n")
+}
+
+/// The short address of a gear, on its bar.
+pub fn push_address(text: &mut String, stay: &Stay, x: u64, y: u64) -> Result<(), AllocError> {
+    write!(text, "<text class=\"a\" x=\"{x}\" y=\"{y}\">")?;
+    push_short(text, stay.shown.short)?;
+    text.push_str("</text>\n")
+}
+
+/// A line of the script, upright.
+pub fn push_line(
+    text: &mut String,
+    line: &[u8],
+    number: u32,
+    x: u64,
+    y: u64,
+) -> Result<(), AllocError> {
+    write!(
+        text,
+        "<text class=\"l\" transform=\"translate({x},{y}) rotate(-90)\">"
+    )?;
+    push_plain(text, line)?;
+    write!(text, "<title>line {number}</title></text>\n")
+}
+
+/// A number on the axis.
+pub fn push_number(text: &mut String, number: u32, x: u64, y: u64) -> Result<(), AllocError> {
+    write!(
+        text,
+        "<text class=\"f\" x=\"{x}\" y=\"{y}\">{number}</text>\n"
+    )
+}
+
+/// The name of a lane.
+pub fn push_name(text: &mut String, name: &str, number: u32, y: u64) -> Result<(), AllocError> {
+    write!(text, "<text x=\"4\" y=\"{y}\">{name} {number}</text>\n")
+}
+
+/// The name of a lane of which there is one.
+pub fn push_only_name(text: &mut String, name: &str, y: u64) -> Result<(), AllocError> {
+    write!(text, "<text x=\"4\" y=\"{y}\">{name}</text>\n")
+}

@@ -1,0 +1,312 @@
+//! What is said of an event, of a frame and of a gear.
+
+use crate::folds::{Fold, Held};
+use crate::stays::Shown;
+use crate::transactions::{Purpose, Transaction};
+use dali_frame::{Answer, Forward, Random24, Short};
+use dali_gear::{GearSet, InitialisationState, Reach};
+use dali_script::{End, Fault, Input, Order, Record};
+use dali_special::{Command, Part};
+use dali_world::Event;
+use std::alloc::AllocError;
+
+/// The name of a command, as the standard has it.
+fn command_name(command: Command) -> &'static str {
+    match command {
+        Command::Terminate => "TERMINATE",
+        Command::Initialise(_) => "INITIALISE",
+        Command::Randomise => "RANDOMISE",
+        Command::Compare => "COMPARE",
+        Command::Withdraw => "WITHDRAW",
+        Command::SearchHigh(_) => "SEARCHADDRH",
+        Command::SearchMiddle(_) => "SEARCHADDRM",
+        Command::SearchLow(_) => "SEARCHADDRL",
+        Command::Program(_) => "PROGRAM SHORT ADDRESS",
+        Command::Verify(_) => "VERIFY SHORT ADDRESS",
+        Command::QueryShort => "QUERY SHORT ADDRESS",
+        Command::RandomByte(_, part) => part_name(part),
+        Command::Arc(_) => "direct arc power",
+        Command::Other(_) => "no addressing command",
+    }
+}
+
+fn part_name(part: Part) -> &'static str {
+    match part {
+        Part::High => "QUERY RANDOM ADDRESS (H)",
+        Part::Middle => "QUERY RANDOM ADDRESS (M)",
+        Part::Low => "QUERY RANDOM ADDRESS (L)",
+    }
+}
+
+/// A frame: its four digits, and the name of its command.
+fn push_frame(text: &mut String, frame: Forward) -> Result<(), AllocError> {
+    let name = command_name(Command::read(frame));
+    write!(text, "{frame} {name}")
+}
+
+fn push_heard(text: &mut String, heard: Answer) -> Result<(), AllocError> {
+    match heard {
+        Answer::Silence => text.push_str(", silence"),
+        Answer::Byte(byte) => write!(text, ", heard {byte:02X}"),
+        Answer::Damaged => text.push_str(", heard damaged"),
+    }
+}
+
+fn push_record(
+    text: &mut String,
+    kind: &str,
+    short: Short,
+    random: Random24,
+) -> Result<(), AllocError> {
+    let address = short.number();
+    write!(text, "commits: {kind} short address {address} for {random}")
+}
+
+fn push_commit(text: &mut String, record: Record) -> Result<(), AllocError> {
+    match record {
+        Record::Reserve(short, random) => push_record(text, "reserve", short, random),
+        Record::Enrol(short, random) => push_record(text, "enrol", short, random),
+        Record::Release(short, random) => push_record(text, "release", short, random),
+    }
+}
+
+fn end_name(end: End) -> &'static str {
+    match end {
+        End::AllFound => "done: all found",
+        End::BlockFull => "done: block full",
+        End::GaveUp => "done: gave up",
+    }
+}
+
+fn fault_name(fault: Fault) -> &'static str {
+    match fault {
+        Fault::Conflict => "halted: a gear contradicts the table",
+        Fault::Store => "halted: a commit failed",
+    }
+}
+
+fn push_order(text: &mut String, order: Order) -> Result<(), AllocError> {
+    match order {
+        Order::Put(priority, frame) => {
+            let number = priority.number();
+            write!(text, "asks at priority {number} to send ")?;
+            push_frame(text, frame)
+        }
+        Order::Commit(record) => push_commit(text, record),
+        Order::Done(end) => text.push_str(end_name(end)),
+        Order::Halt(fault) => text.push_str(fault_name(fault)),
+    }
+}
+
+/// What a controller heard.
+fn push_told(text: &mut String, heard: Answer) -> Result<(), AllocError> {
+    match heard {
+        Answer::Silence => text.push_str("heard silence, "),
+        Answer::Byte(byte) => write!(text, "heard {byte:02X}, "),
+        Answer::Damaged => text.push_str("heard a damaged answer, "),
+    }
+}
+
+/// What a controller was told.
+fn push_input(text: &mut String, input: Input) -> Result<(), AllocError> {
+    let words = match input {
+        Input::Heard(heard) => return push_told(text, heard),
+        Input::Start => "is to start, ",
+        Input::Destroyed => "was told that its frame was destroyed, ",
+        Input::Lapsed => "was told that the bus lapsed, ",
+        Input::Committed => "was told that its record is kept, ",
+        Input::CommitFailed => "was told that its commit failed, ",
+    };
+    text.push_str(words)
+}
+
+fn push_acted(text: &mut String, c: u8, input: Input, order: Order) -> Result<(), AllocError> {
+    write!(text, "controller {c} ")?;
+    push_input(text, input)?;
+    push_order(text, order)
+}
+
+fn push_offered(text: &mut String, c: u8, frame: Forward) -> Result<(), AllocError> {
+    write!(text, "controller {c} asks at priority 2 to send ")?;
+    push_frame(text, frame)
+}
+
+fn push_sent(text: &mut String, c: u8, frame: Forward, heard: Answer) -> Result<(), AllocError> {
+    write!(text, "sent for controller {c}: ")?;
+    push_frame(text, frame)?;
+    push_heard(text, heard)
+}
+
+fn push_destroyed(
+    text: &mut String,
+    c: u8,
+    frame: Forward,
+    set: GearSet,
+) -> Result<(), AllocError> {
+    write!(text, "destroyed, of controller {c}: ")?;
+    push_frame(text, frame)?;
+    push_set(text, set)
+}
+
+fn push_power(text: &mut String, g: u32, on: bool) -> Result<(), AllocError> {
+    let words = if on {
+        "has its power again"
+    } else {
+        "lost its power"
+    };
+    write!(text, "gear {g} {words}")
+}
+
+fn push_up(text: &mut String, c: u8, with: bool) -> Result<(), AllocError> {
+    let words = if with {
+        ", with the record that was outstanding"
+    } else {
+        ""
+    };
+    write!(text, "controller {c} came up{words}")
+}
+
+fn push_collided(
+    text: &mut String,
+    c: u8,
+    frame: Forward,
+    d: u8,
+    other: Forward,
+) -> Result<(), AllocError> {
+    write!(
+        text,
+        "collided, of controller {c}: {frame}, and of controller {d}: {other}"
+    )
+}
+
+fn push_numbered(
+    text: &mut String,
+    before: &str,
+    number: u32,
+    after: &str,
+) -> Result<(), AllocError> {
+    write!(text, "{before}{number}{after}")
+}
+
+/// The whole event.
+pub fn push_event(text: &mut String, event: Event) -> Result<(), AllocError> {
+    match event {
+        Event::Acted(c, input, order) => push_acted(text, c, input, order),
+        Event::Offered(c, frame) => push_offered(text, c, frame),
+        Event::Sent(c, frame, heard) => push_sent(text, c, frame, heard),
+        Event::Destroyed(c, frame, set) => push_destroyed(text, c, frame, set),
+        Event::Collided(c, frame, d, other) => push_collided(text, c, frame, d, other),
+        Event::Lapsed => text.push_str("the bus lapsed"),
+        Event::Quiet => text.push_str("the bus was quiet: half pairs are forgotten"),
+        Event::Power(g, on) => push_power(text, g, on),
+        Event::Expired(g) => push_numbered(text, "the initialisation of gear ", g, " ran out"),
+        Event::Down(c) => push_numbered(text, "controller ", u32::from(c), " went down"),
+        Event::Up(c, with) => push_up(text, c, with),
+    }
+}
+
+/// Which gear took a frame all the same.
+fn push_set(text: &mut String, set: GearSet) -> Result<(), AllocError> {
+    text.push_str("; taken by gear:")?;
+    for number in 0..128usize {
+        if Reach::Only(set).includes(number) {
+            push_taker(text, number)?;
+        }
+    }
+    Ok(())
+}
+
+fn push_taker(text: &mut String, number: usize) -> Result<(), AllocError> {
+    write!(text, " {number}")
+}
+
+/// What transactions of a purpose are called.
+pub fn purpose_name(purpose: Purpose) -> &'static str {
+    match purpose {
+        Purpose::Search => "search address, cut short",
+        Purpose::Probe => "probe by COMPARE",
+        Purpose::Visit => "visit by QUERY SHORT ADDRESS",
+        Purpose::Program => "PROGRAM SHORT ADDRESS",
+        Purpose::Resolve => "QUERY RANDOM ADDRESS",
+        Purpose::Opening => "opening",
+        Purpose::Close => "TERMINATE",
+        Purpose::Other => "other frames",
+    }
+}
+
+/// What is said of a fold of several events.
+pub fn push_fold(text: &mut String, fold: &Fold) -> Result<(), AllocError> {
+    let first = fold.first;
+    let last = fold.after.saturating_sub(1);
+    let name = match fold.held {
+        Held::Orders | Held::Alone => "orders to send",
+        Held::Frames(purpose) => purpose_name(purpose),
+    };
+    let transactions = fold.transactions;
+    let frames = fold.frames;
+    write!(
+        text,
+        "events {first} to {last}: {name}; transactions begun: {transactions}, frames: {frames}"
+    )
+}
+
+/// What is said of a transaction.
+pub fn push_transaction(text: &mut String, transaction: &Transaction) -> Result<(), AllocError> {
+    let sender = transaction.sender;
+    let name = purpose_name(transaction.purpose);
+    let frames = transaction.frames;
+    write!(
+        text,
+        "transaction of controller {sender}: {name}, frames: {frames}"
+    )
+}
+
+fn state_name(state: InitialisationState) -> &'static str {
+    match state {
+        InitialisationState::Disabled => "disabled",
+        InitialisationState::Enabled => "enabled",
+        InitialisationState::Withdrawn => "withdrawn",
+    }
+}
+
+/// The short address that a gear shows, as a number, or a dash.
+pub fn push_short(text: &mut String, short: Option<Short>) -> Result<(), AllocError> {
+    match short {
+        None => text.push_str("-"),
+        Some(short) => {
+            let number = short.number();
+            write!(text, "{number}")
+        }
+    }
+}
+
+/// What a gear shows.
+pub fn push_shown(text: &mut String, gear: usize, shown: &Shown) -> Result<(), AllocError> {
+    let power = if shown.powered { "on" } else { "off" };
+    let state = state_name(shown.state);
+    let random = shown.random;
+    write!(
+        text,
+        "gear {gear}: {power}, {state}, random address {random}, short address "
+    )?;
+    push_short(text, shown.short)
+}
+
+fn push_byte(text: &mut String, byte: u8) -> Result<(), AllocError> {
+    match byte {
+        b'&' => text.push_str("&amp;"),
+        b'<' => text.push_str("&lt;"),
+        b'>' => text.push_str("&gt;"),
+        b'\n' => text.push_str("; "),
+        32..=126 => text.push(char::from(byte)),
+        _ => text.push_str("?"),
+    }
+}
+
+/// A line of a script or of a report, with the marks of the page's language in their place.
+pub fn push_plain(text: &mut String, bytes: &[u8]) -> Result<(), AllocError> {
+    for byte in bytes {
+        push_byte(text, *byte)?;
+    }
+    Ok(())
+}
