@@ -6,7 +6,7 @@ use crate::mark::Look;
 use crate::picture::Picture;
 use crate::shapes::{
     push_address, push_fold_bar, push_fold_count, push_line, push_mark, push_name, push_number,
-    push_only_name, push_sender, push_stay, push_transaction_bar,
+    push_only_name, push_owner, push_sender, push_stay, push_transaction_bar,
 };
 use std::alloc::{AllocError, Global};
 
@@ -98,6 +98,12 @@ fn push_transactions(
             .saturating_sub(x)
             .saturating_add(inner(columns));
         push_transaction_bar(text, transaction, x, y, width)?;
+        push_owner(
+            text,
+            transaction.sender,
+            x.saturating_add(2),
+            y.saturating_add(9),
+        )?;
     }
     Ok(())
 }
@@ -184,12 +190,12 @@ fn push_stays(
     Ok(())
 }
 
-/// The lines of the script, where they began; one that would hide the line before it is left out.
+/// The lines of the script that caused something, where they began. One that would hide another is left out.
 fn push_lines(text: &mut String, picture: &Picture, columns: &Columns) -> Result<(), AllocError> {
     let mut next: u64 = 0;
     for line in &picture.played.lines {
         let x = columns.left(line.first);
-        if x >= next {
+        if line.first < line.after && x >= next {
             push_line(
                 text,
                 line.line,

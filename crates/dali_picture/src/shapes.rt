@@ -120,9 +120,17 @@ pub fn push_transaction_bar(
     y: u64,
     width: u64,
 ) -> Result<(), AllocError> {
-    push_bar(text, purpose_class(transaction.purpose), x, y, width, 7)?;
+    push_bar(text, purpose_class(transaction.purpose), x, y, width, 11)?;
     push_transaction(text, transaction)?;
     text.push_str("</title></rect>\n")
+}
+
+/// Who owns the bus in a transaction, on its bar.
+pub fn push_owner(text: &mut String, sender: u8, x: u64, y: u64) -> Result<(), AllocError> {
+    write!(
+        text,
+        "<text class=\"n\" x=\"{x}\" y=\"{y}\">{sender}</text>\n"
+    )
 }
 
 /// The number of transactions in a fold, where they are more than one.
