@@ -69,11 +69,13 @@ const LEGEND: &str = "<h2>Legend</h2>
 <b style=\"color: #555\">TERMINATE</b>,
 <b style=\"color: #999\">other frames</b>.
 A frame after which a byte was heard has a black edge, and one after which a damaged answer was heard a red one, broken.
-A cross is a frame that was destroyed, or two that collided. Two bars in the lane of the bus are a lapse (red) or quiet.</p>
-<p>A box in the lane of the bus is a transaction, in the colour of what it is for; one with a number is so many probes in a
-row. Where every event is shown, the box stands below its frames, with the number of the controller that owns the bus.</p>
-<p>Of a controller: a diamond is a record to be kept, a reservation (orange), an enrolment (green) or a release (grey); a
-circle is its end (green) or a halt (red); an arrow down, it went down, and an arrow up, it came up.</p>
+A cross is a frame that was destroyed, or two that collided. Two bars in the lane of the bus are a lapse (red) or
+quiet.</p>
+<p>A box in the lane of the bus is a transaction, in the colour of what it is for; one with a number is so many probes in
+a row. Where every event is shown, the box stands below its frames, with the number of the controller that owns the
+bus.</p>
+<p>Of a controller: a diamond is a record to be kept, a reservation (orange), an enrolment (green) or a release (grey);
+a circle is its end (green) or a halt (red); an arrow down, it went down, and an arrow up, it came up.</p>
 <p>Of a gear: <b>grey</b> is disabled, <b>blue</b> enabled, <b>green</b> withdrawn, <b>white with a red edge</b> without
 power. The number is its short address, or a dash. An arrow is its power, two bars the end of its 15 minutes.</p>
 <p>Move the pointer over a mark to read the whole event.</p>

@@ -1,6 +1,6 @@
 //! What is drawn of a script.
 
-use dali_picture::Picture;
+use dali_picture::{Picture, draw_run};
 use dali_replay::ReplayFault;
 use std::alloc::Global;
 use std::process::Abort;
@@ -88,4 +88,144 @@ fn is_refused<R: Abort + AllocGlobal>(rt: &R, script: &str, line: u32) -> Result
 #[test]
 fn a_bad_line_is_not_drawn(rt: HostRuntime) -> Result<(), Fail> {
     is_refused(&rt, "bench 1\ndraws\nframe A1\n", 3)
+}
+
+/// The page of a script.
+fn page(alloc: Global, script: &str) -> Result<String, Fail> {
+    let mut reader = script.as_bytes();
+    let mut written = Vec::new(alloc);
+    let ended = draw_run(alloc, &mut reader, &mut written);
+    let text = std::str::from_utf8(&written).ok().ok_or("a page is text")?;
+    match ended {
+        Ok(()) => Ok(String::from_str(alloc, text)?),
+        Err(_) => Err(Fail::from("a page")),
+    }
+}
+
+/// Appends the words of a line of the page, if it is a mark.
+fn push_words(words: &mut String, line: &str) -> Result<(), Fail> {
+    let Some((_, after)) = line.split_once("<title>") else {
+        return Ok(());
+    };
+    let Some((title, _)) = after.split_once("</title>") else {
+        return Ok(());
+    };
+    words.push_str(title)?;
+    words.push('\n')?;
+    Ok(())
+}
+
+/// The words of all marks where every event is shown.
+fn words_of(alloc: Global, page: &str) -> Result<String, Fail> {
+    let mut words = String::new(alloc);
+    if let Some((_, long)) = page.split_once("<summary>Every event</summary>") {
+        for line in long.lines() {
+            if line.starts_with("<use ") {
+                push_words(&mut words, line)?;
+            }
+        }
+    }
+    Ok(words)
+}
+
+/// Wants these words of the events of a script, in their order.
+fn says<R: Abort + AllocGlobal>(rt: &R, script: &str, wanted: &str) -> Result<(), Fail> {
+    let drawn = page(rt.alloc(), script)?;
+    let words = words_of(rt.alloc(), drawn.as_str())?;
+    assert_eq!(rt; words.as_str(), wanted, "of {script:?}");
+    Ok(())
+}
+
+/// Whether this is a line of a text.
+fn is_line_of(text: &str, line: &str) -> bool {
+    let mut is = false;
+    for other in text.lines() {
+        if other == line {
+            is = true;
+        }
+    }
+    is
+}
+
+/// The lines of a text that are lines of another one too.
+fn lines_in(alloc: Global, text: &str, wanted: &str) -> Result<String, Fail> {
+    let mut found = String::new(alloc);
+    for line in text.lines() {
+        if is_line_of(wanted, line) {
+            found.push_str(line)?;
+            found.push('\n')?;
+        }
+    }
+    Ok(found)
+}
+
+/// Wants these words among those of the events of a script, in their order.
+fn mentions<R: Abort + AllocGlobal>(rt: &R, script: &str, wanted: &str) -> Result<(), Fail> {
+    let drawn = page(rt.alloc(), script)?;
+    let words = words_of(rt.alloc(), drawn.as_str())?;
+    let found = lines_in(rt.alloc(), words.as_str(), wanted)?;
+    assert_eq!(rt; found.as_str(), wanted, "of {script:?}");
+    Ok(())
+}
+
+/// Everything that may befall a site, but a commissioning.
+const TROUBLED: &str = "site 3 0-0 1-3
+draws 123456 123457 654321
+arc 0 0280
+go 0
+pump
+go 1
+pump collision
+lapse
+go 0
+pump destroyed 0,2
+expire 0
+off 1
+on 1
+quiet
+down 0
+up 0
+";
+
+#[test]
+fn a_page_says_what_befell(rt: HostRuntime) -> Result<(), Fail> {
+    says(
+        &rt,
+        TROUBLED,
+        "event 0: controller 0 asks at priority 2 to send 0280 direct arc power
+event 1: controller 0 is to start, asks at priority 3 to send A100 TERMINATE
+event 2: sent for controller 0: 0280 direct arc power, silence
+event 3: controller 1 is to start, asks at priority 3 to send A100 TERMINATE
+event 4: collided, of controller 0: A100, and of controller 1: A100
+event 5: the bus lapsed
+event 6: controller 0 was told that its frame was destroyed, asks at priority 3 to send A100 TERMINATE
+event 7: destroyed, of controller 0: A100 TERMINATE; taken by gear: 0 2
+event 8: the initialisation of gear 0 ran out
+event 9: gear 1 lost its power
+event 10: gear 1 has its power again
+event 11: the bus was quiet: half pairs are forgotten
+event 12: controller 0 went down
+event 13: controller 0 came up
+",
+    )
+}
+
+/// Of two gear the first is given the only address of the block.
+const COMMISSIONED: &str = "site 2 0-0
+draws 123456 654321
+run 500
+";
+
+#[test]
+fn a_page_says_what_was_found(rt: HostRuntime) -> Result<(), Fail> {
+    mentions(
+        &rt,
+        COMMISSIONED,
+        "event 33: sent for controller 0: A900 COMPARE, heard FF
+event 34: controller 0 heard FF, asks at priority 3 to send B11F SEARCHADDRH
+event 218: controller 0 heard FF, commits: reserve short address 0 for 123456
+event 233: controller 0 heard silence, commits: enrol short address 0 for 123456
+event 444: controller 0 heard silence, done: block full
+",
+    )
 }
