@@ -24,11 +24,11 @@ use Rattle.dali_script.specs.declared.orders.Due.TheVariants as due
 use Rattle.dali_script.specs.Due.{due_after, frame_put, record_ordered}
 use Rattle.dali_search.specs.declared.step.Step.{Step}
 use Rattle.dali_search.specs.declared.step.Step.TheVariants.{Again, Found, Nobody}
-use Rattle.dali_search.specs.Least.{Search, step_after, probe_after}
+use Rattle.dali_search.specs.Least.{Search, step_after, probe_after, next_probe, answered}
 use Rattle.dali_controller.specs.declared.purpose.Purpose.{Purpose}
 use Rattle.dali_controller.specs.declared.purpose.Purpose.TheVariants.{Opening, Probing, Visiting, Resolving, Closing}
 use Rattle.dali_controller.specs.declared.work.Work.{Work}
-use Rattle.dali_controller.specs.Course.{Course, turn_of, is_yes, answered, next_probe, after_step, probed, number_at, address_for, unless_enrolled, unfinished_at, unfinished_among, here_or_later}
+use Rattle.dali_controller.specs.Course.{Course, turn_of, is_yes, after_step, probed, number_at, address_for, unless_enrolled, unfinished_at, unfinished_among, here_or_later}
 use Rattle.dali_controller.specs.Machine.{Machine, machine_lost, machine_committed, machine_told}
 use Rattle.dali_controller.specs.Next.{begins_at, course_by}
 use Rattle.dali_controller.specs.Orders.{AfterFinding, AfterEnrolled, IsFollowed}

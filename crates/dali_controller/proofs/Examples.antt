@@ -12,8 +12,8 @@ use Rattle.dali_script.specs.declared.orders.Order.TheVariants.{Put, Commit, Don
 use Rattle.dali_script.specs.declared.orders.End.{End}
 use Rattle.dali_script.specs.declared.orders.End.TheVariants.{AllFound}
 use Rattle.dali_script.specs.Due.{due_after, accepts}
-use Rattle.dali_search.specs.Least.{at_first as search_at_first}
-use Rattle.dali_controller.specs.Course.{course_at_first, sought, probed, answered, searching_anew, closing, next_unfinished}
+use Rattle.dali_search.specs.Least.{answered, at_first as search_at_first}
+use Rattle.dali_controller.specs.Course.{course_at_first, sought, probed, searching_anew, closing, next_unfinished}
 use Rattle.dali_controller.specs.Next.{next_course}
 use Rattle.dali_controller.specs.Machine.{Machine, at_first, machine_lost, silent_after}
 use Rattle.dali_controller.specs.Orders.{IsWarranted}

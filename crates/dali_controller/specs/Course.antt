@@ -1,4 +1,4 @@
-use Rattle.std.specs.Prelude.{ℕ, zero, suc, ◌+◌, ◌-◌, ◌==◌, Bool, true, false, List, [], ◌∷◌, ◌++◌, Option}
+use Rattle.std.specs.Prelude.{ℕ, zero, suc, ◌+◌, ◌-◌, ◌==◌, Bool, true, false, List, [], ◌∷◌, Option}
 use Rattle.std.specs.Prelude.{Some, None, is_some, if◌then◌else◌}
 use Rattle.dali_frame.specs.declared.frames.Answer.{Answer}
 use Rattle.dali_frame.specs.declared.frames.Answer.TheVariants.{Silence}
@@ -21,7 +21,7 @@ use Rattle.dali_script.specs.declared.stage.Stage.TheVariants.{HighAsked, Middle
 use Rattle.dali_script.specs.Records.{Assignment, Kept}
 use Rattle.dali_search.specs.declared.step.Step.{Step}
 use Rattle.dali_search.specs.declared.step.Step.TheVariants.{Again, Found, Nobody}
-use Rattle.dali_search.specs.Least.{Search, at_first, step_after, probe_after}
+use Rattle.dali_search.specs.Least.{Search, at_first, answered}
 use Rattle.dali_script.specs.declared.orders.End.{End}
 use Rattle.dali_script.specs.declared.orders.End.TheVariants.{AllFound}
 use Rattle.dali_controller.specs.declared.purpose.Purpose.{Purpose}
@@ -109,20 +109,6 @@ closing c e = taking c (Closing e) c.number
 abbrev pub is_yes : Answer → Bool
 is_yes Silence = false
 is_yes _ = true
-
-abbrev pub next_probe : Step → ℕ → ℕ → ℕ
-next_probe Again last next = next
-next_probe _ last next = last
-
-abbrev pub search_with : Search → List (ℕ × Bool) → Search
-search_with s answers = record {
-  answers = answers;
-  probe = next_probe (step_after answers) s.probe (probe_after answers);
-  step = step_after answers;
-}
-
-abbrev pub answered : Search → Bool → Search
-answered s said = search_with s (s.answers ++ (s.probe, said) ∷ [])
 
 -- what an answer leads to: the next probe, a visit to who was found, or the close
 abbrev pub after_step : Step → Course → Course

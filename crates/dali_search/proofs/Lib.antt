@@ -2,3 +2,4 @@ pub mod Agreement
 mod Heard
 mod Narrowing
 mod Led
+pub mod Answered

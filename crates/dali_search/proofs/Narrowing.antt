@@ -158,12 +158,12 @@ at_top low high p is e = grind (arith, nat_tests)
 low_at_first : (low high : ℕ) (s : Search) → Narrows low high s → low < high → high ≡ 0xFFFFFF → low ≡ 0
 low_at_first low high s n less e = sym n.low_is ∙ nothing_asked s.answers (n.untouched e less)
 
-probe_inside : (low high : ℕ) (s : Search) → Narrows low high s → s.step ≡ Again → low ≤ s.probe × s.probe < high
+pub probe_inside : (low high : ℕ) (s : Search) → Narrows low high s → s.step ≡ Again → low ≤ s.probe × s.probe < high
 probe_inside low high s n running =
     let less : low < high = again_less low high (sym n.step_is ∙ running) in
     subst (λ p. low ≤ p × p < high) (sym (n.probe_is running)) (probe_between_both low high less n.top (low_at_first low high s n less))
 
-narrows_more : (low high next_low next_high : ℕ) (s t : Search) (said : Bool) → Narrows low high s → s.step ≡ Again
+pub narrows_more : (low high next_low next_high : ℕ) (s t : Search) (said : Bool) → Narrows low high s → s.step ≡ Again
     → t.answers ≡ s.answers ++ (s.probe, said) ∷ []
     → next_low ≡ (if said then low else s.probe + 1) → next_high ≡ (if said then s.probe else high)
     → t.step ≡ step_between next_low next_high

@@ -1,5 +1,5 @@
 use Rattle.std.specs.Prelude.{◌≡◌, ℕ, ◌+◌, ◌/◌, ◌<◌, ◌≤◌, ◌==◌, Bool, true, false, List, [], ◌∷◌}
-use Rattle.std.specs.Prelude.{nat_lt, max, min, if◌then◌else◌}
+use Rattle.std.specs.Prelude.{◌++◌, nat_lt, max, min, if◌then◌else◌}
 use Rattle.std.specs.List.{AllByRecursion}
 use Rattle.dali_search.specs.declared.step.Step.{Step}
 use Rattle.dali_search.specs.declared.step.Step.TheVariants.{Again, Found, Nobody}
@@ -76,3 +76,18 @@ probe_between low high = if high == 0xFFFFFF then 0xFFFFFE else (low + high) / 2
 
 abbrev pub probe_after : List (ℕ × Bool) → ℕ
 probe_after answers = probe_between (lowest answers) (highest answers)
+
+-- A SEARCH WITH ONE MORE ANSWER, while it goes on: an end keeps the probe that was last.
+abbrev pub next_probe : Step → ℕ → ℕ → ℕ
+next_probe Again last next = next
+next_probe _ last next = last
+
+abbrev pub search_with : Search → List (ℕ × Bool) → Search
+search_with s answers = record {
+  answers = answers;
+  probe = next_probe (step_after answers) s.probe (probe_after answers);
+  step = step_after answers;
+}
+
+abbrev pub answered : Search → Bool → Search
+answered s said = search_with s (s.answers ++ (s.probe, said) ∷ [])

@@ -17,6 +17,10 @@ pub record Narrows (low high : ℕ) (s : Search) : Type 0 where
   pub count : length s.answers ≤ 25
   pub few : (left : ℕ) × (length s.answers + left ≡ 25) × (high < low + 2 ^ left)
 
+-- the numbers that its answers leave are few enough for the answers to come
+abbrev pub IsNarrowing : Search → Type 0
+IsNarrowing s = Narrows (lowest s.answers) (highest s.answers) s
+
 -- What a search has heard is told by how many answers there were, and by the least number that they
 -- leave: a set with this least member, where FFFFFF stands for a set with none, gives the same
 -- answers.

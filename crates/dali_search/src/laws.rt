@@ -1,9 +1,12 @@
-//! Who answers truly at each probe has a set that agrees with all the answers.
+//! Who answers truly at each probe has a set that agrees with all the answers, and a search that is answered as long as
+//! it goes on ends.
 //!
-//! This is a law over the definitions that the contracts of this crate cite. Programs don't call it.
+//! These are laws over the definitions that the contracts of this crate cite. Programs don't call them.
 
-ghost use Rattle.std.specs.Prelude.{◌≡◌, ℕ, Bool, List, [], ◌∷◌, ◌++◌};
-ghost use Rattle.dali_search.specs.Least.{Agrees, Gives};
+ghost use Rattle.std.specs.Prelude.{◌≡◌, ℕ, ◌<◌, ◌≤◌, Bool, false, List, [], ◌∷◌, ◌++◌, length};
+ghost use Rattle.dali_search.specs.declared.step.Step.TheVariants.{Again, Nobody};
+ghost use Rattle.dali_search.specs.Least.{Search, at_first, answered, IsBelow, Agrees, Gives, Says, NumberOf};
+ghost use Rattle.dali_search.specs.Narrowing.{IsNarrowing};
 
 /// A set agrees with answers and one more just where it agrees with the answers and gives the one more.
 pub fn answers_agree_one_by_one()
@@ -12,4 +15,19 @@ pub fn answers_agree_one_by_one()
         → Agrees has answers → Gives has probe said → Agrees has (answers ++ (probe, said) ∷ []) }
     ensures before { (has : ℕ → Bool) (answers : List (ℕ × Bool)) (probe : ℕ) (said : Bool)
         → Agrees has (answers ++ (probe, said) ∷ []) → Agrees has answers × Gives has probe said }
+{}
+
+/// A search narrows from its start, with each answer while it goes on. One that narrows goes on for fewer than 25
+/// answers; its end is true of each set that agrees with its answers; and nobody is left only by a no at `FFFFFE`.
+pub fn searches_narrow_to_an_end()
+    ensures begins { IsNarrowing at_first }
+    ensures goes_on { (s : Search) (said : Bool) → IsNarrowing s → s.step ≡ Again → IsNarrowing (answered s said) }
+    ensures ends { (s : Search) → IsNarrowing s → s.step ≡ Again → length s.answers < 25 }
+    ensures count { (s : Search) → IsNarrowing s → length s.answers ≤ 25 }
+    ensures least { (s : Search) → IsNarrowing s → (has : ℕ → Bool) → IsBelow has 0xFFFFFF → Agrees has s.answers
+        → Says has s.step }
+    ensures asked { (s : Search) → IsNarrowing s → s.probe < 0xFFFFFF }
+    ensures found { (s : Search) → IsNarrowing s → NumberOf s.step (λ r. r < 0xFFFFFF) }
+    ensures nobody { (s : Search) (said : Bool) → IsNarrowing s → s.step ≡ Again → (answered s said).step ≡ Nobody
+        → (said ≡ false) × (s.probe ≡ 0xFFFFFE) }
 {}
