@@ -6,8 +6,7 @@ use Rattle.dali_script.specs.Records.{Kept, Fits, MayAdd}
 use Rattle.dali_script.specs.Records.{IsAddressTaken, IsRandomTaken, IsNotReserved}
 use Rattle.dali_script.specs.Due.{record_ordered}
 use Rattle.dali_controller.specs.Machine.{Machine}
-use Rattle.dali_controller.specs.Next.{BeginsWith}
-use Rattle.dali_controller.specs.Orders.{IsAnswered, IsFollowedAt, machine_after}
+use Rattle.dali_controller.specs.Orders.{IsGiven, machine_after}
 use Rattle.dali_c.specs.Orders.{order_of}
 use Rattle.dali_c.specs.Machines.{Holds}
 use Rattle.dali_c.specs.declared.machine.PlainMachine.{PlainMachine}
@@ -54,8 +53,6 @@ pub record AnswersAdd (k : Kept) (x : Record) (status : ℕ) : Type 0 where
 pub record Steps (m : Machine) (i : Input) (after : PlainMachine) (order : PlainOrder) : Type 0 where
   pub ordered : Order
   pub spelled : order_of order ≡ Some (Some ordered)
-  pub answered : IsAnswered m i ordered
+  pub given : IsGiven m i ordered
   pub state : Holds after (machine_after m i ordered)
-  pub begins : BeginsWith (machine_after m i ordered).course ordered
-  pub followed : IsFollowedAt m i ordered
   pub fits : IfSome (record_ordered (Some ordered)) (Fits m.kept.block)

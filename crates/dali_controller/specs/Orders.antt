@@ -29,7 +29,7 @@ use Rattle.dali_script.specs.declared.orders.Fault.TheVariants as fault
 use Rattle.dali_controller.specs.Machine.{Machine, machine_told}
 use Rattle.dali_controller.specs.declared.purpose.Purpose.TheVariants.{Closing}
 use Rattle.dali_controller.specs.Course.{Course, closing_of, turn_of}
-use Rattle.dali_controller.specs.Next.{course_by}
+use Rattle.dali_controller.specs.Next.{course_by, BeginsWith}
 
 -- WHAT AN ORDER DOES, to a machine that was told an input.
 
@@ -193,3 +193,10 @@ IsFollowedAt m i o = IsFollowed (machine_told m i) o
 -- THE STATE AFTER A STEP, by the state before it, the input and the order.
 abbrev pub machine_after : Machine → Input → Order → Machine
 machine_after m i o = machine_ordered (machine_told m i) o
+
+-- WHAT A STEP GIVES: an order of the machine, a first frame only of the transaction that begins, and
+-- what follows the transaction that runs.
+pub record IsGiven (m : Machine) (i : Input) (o : Order) : Type 0 where
+  pub answered : IsAnswered m i o
+  pub begins : BeginsWith (machine_after m i o).course o
+  pub followed : IsFollowedAt m i o

@@ -295,7 +295,7 @@ pub seat_acted : (machine : Option Machine) (beside : Option Kept) (outstanding 
     → IsSeat machine beside outstanding found told → IsDue (seat_by machine beside outstanding found told).controller i → MayAnswer machine i o
     → IsSeat (option_map (λ m. machine_after m i o) machine) beside (outstanding_after (outstanding_told outstanding i) o) found None
 seat_acted None beside outstanding found told i o seat due answer = elim answer [ ]
-seat_acted (Some m) beside outstanding found told i o seat due answer = (running_acted m beside outstanding found told i o seat.0 due answer, seat.1)
+seat_acted (Some m) beside outstanding found told i o seat due answer = (running_acted m beside outstanding found told i o seat.0 due answer.answered, seat.1)
 
 informed_bus : (w : World) (c : ℕ) (k : Controller) (m : Machine) (i : Input) → IsOfBus i → k.told ≡ Some i → IsRunning k m → IsPlacedBy (owns w.bus.owner c) w.trace k (Some m)
     → AreInformed w c (controller_informed k i) (machine_told m i)

@@ -97,7 +97,7 @@ may_order_at w c p i o due tied answer placed = go p.machine tied answer placed 
   go : (m : Option Machine) → IsTied p.controller m → MayAnswer m i o → IsPlaced (owns w.bus.owner c) w.trace (record { controller = p.controller; machine = m })
       → MayOrder w c (controller_informed p.controller i) o
   go None tied answer placed = elim answer [ ]
-  go (Some m) tied answer placed = (may_order w c p.controller m i o due tied answer placed).may
+  go (Some m) tied answer placed = (may_order w c p.controller m i o due tied answer.answered placed).may
 
 pub moves_acted : (s : Seated) (c : ℕ) (i : Input) (o : Order) → (seat_at s c).controller.up ≡ true → IsDue (seat_at s c).controller i
     → IsTied (seat_at s c).controller (seat_at s c).machine → MayAnswer (seat_at s c).machine i o → IsPlaced (owns s.bus.owner c) s.trace (seat_at s c)

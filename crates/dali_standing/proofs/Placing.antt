@@ -71,7 +71,7 @@ placed_acted w c p i o due tied answer placed = go p.machine tied answer placed 
   go : (m : Option Machine) → IsTied p.controller m → MayAnswer m i o → IsPlacedBy (owns w.bus.owner c) w.trace p.controller m
       → IsPlaced (owns (bus_acted w.bus c o).owner c) (if gives_up w.bus c o then [] else w.trace) (acted_at (record { controller = p.controller; machine = m }) i o)
   go None tied answer placed = elim answer [ ]
-  go (Some m) tied answer placed = placed_left w c p.controller m i o (may_order w c p.controller m i o due tied answer placed).left
+  go (Some m) tied answer placed = placed_left w c p.controller m i o (may_order w c p.controller m i o due tied answer.answered placed).left
 
 -- the bus for another controller
 owner_acted : (b : Arbiter) (c : ℕ) (o : Order) → (bus_acted b c o).owner ≡ (if gives_up b c o then None else b.owner)

@@ -218,7 +218,7 @@ pub may_ask : (w : World) (c : ℕ) (p : Seat) (i : Input) (o : Order) → IsDue
 may_ask w c p i o due tied answer placed = go p.machine tied answer placed where
   go : (m : Option Machine) → IsTied p.controller m → MayAnswer m i o → IsPlaced (owns w.bus.owner c) w.trace (record { controller = p.controller; machine = m }) → MayAsk w.bus.owner c o
   go None tied answer placed = elim answer [ ]
-  go (Some m) tied answer placed = left_asks w c (controller_informed p.controller i) (machine_after m i o) o (may_order w c p.controller m i o due tied answer placed).left
+  go (Some m) tied answer placed = left_asks w c (controller_informed p.controller i) (machine_after m i o) o (may_order w c p.controller m i o due tied answer.answered placed).left
 
 emptied_less : (lists : List (List Request)) → sum_by length (first_emptied lists) ≤ sum_by length lists
 emptied_less [] = omega arith

@@ -16,7 +16,7 @@ use Rattle.dali_script.specs.declared.orders.Due.{Due}
 use Rattle.dali_script.specs.declared.orders.Due.TheVariants as due
 use Rattle.dali_script.specs.Due.{due_after, accepts}
 use Rattle.dali_controller.specs.Machine.{Machine, at_first, machine_told}
-use Rattle.dali_controller.specs.Orders.{IsAnswered, machine_after}
+use Rattle.dali_controller.specs.Orders.{IsGiven, machine_after}
 use Rattle.dali_events.specs.World.{Controller, controller_begun, nobody}
 use Rattle.dali_events.specs.Allowed.{HasOutstanding}
 use Rattle.dali_events.specs.Happens.{controller_acted, gone_down, come_up}
@@ -138,10 +138,10 @@ up_at id kept p = record {
 abbrev pub told_at : (Controller → Controller) → Seat → Seat
 told_at change p = record { controller = change p.controller; machine = p.machine }
 
--- an order that the machine, if there is one, may give
+-- an order that the machine, if there is one, may give: all that its step tells of it
 abbrev pub MayAnswer : Option Machine → Input → Order → Type 0
 MayAnswer None i o = ⊥
-MayAnswer (Some m) i o = IsAnswered m i o
+MayAnswer (Some m) i o = IsGiven m i o
 
 -- the frames of the machine's running transaction
 abbrev pub trace_of : Option Machine → List Entry

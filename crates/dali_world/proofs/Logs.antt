@@ -262,7 +262,7 @@ never_conflicts s was old shares room c i view site there due placed answer = go
   go None has answer = elim answer [ ]
   go (Some m) has answer =
       let known = subst (λ (k : Controller). IsRunning k m × IsPlacedBy (owns old.bus.owner c) old.trace k (Some m)) is (placed m has) in
-      no_conflict s.plan s.queue s.log c m i (owns old.bus.owner c) old.trace site.run there_s (subst (λ (k : Controller). IsDue k i) is due) known.0 known.1 answer
+      no_conflict s.plan s.queue s.log c m i (owns old.bus.owner c) old.trace site.run there_s (subst (λ (k : Controller). IsDue k i) is due) known.0 known.1 answer.answered
 
 -- ---------------------------------------------------------------- a machine keeps its controller's records
 
