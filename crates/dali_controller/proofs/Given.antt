@@ -1,0 +1,277 @@
+use Rattle.std.proofs.Common.{arith, ◌≡◌, ◌⊎◌, inl, inr, ℕ, Bool, true, false, List, [], refl, sym, ap, subst, ◌∙◌, Option, Some, None}
+use Rattle.std.specs.Prelude.{is_some}
+use Rattle.dali_frame.specs.declared.frames.Forward.{Forward}
+use Rattle.dali_frame.specs.declared.frames.Answer.TheVariants.{Silence}
+use Rattle.dali_frame.specs.declared.numbers.SearchAddress.{SearchAddress}
+use Rattle.dali_frame.specs.Random.{value_of}
+use Rattle.dali_frame.specs.Priority.{FIRST, LATER}
+use Rattle.dali_special.specs.declared.command.Command.{Command}
+use Rattle.dali_special.specs.declared.command.Command.TheVariants.{Terminate, Program}
+use Rattle.dali_special.specs.Command.{command_of, frame_of}
+use Rattle.dali_script.specs.declared.records.Record.{Record}
+use Rattle.dali_script.specs.declared.records.Record.TheVariants.{Reserve, Enrol, Release}
+use Rattle.dali_script.specs.declared.stage.Stage.{Stage}
+use Rattle.dali_script.specs.declared.stage.Stage.TheVariants.{Free, Terminated, Opened, Probed, Unnamed, Unanswered, Inconclusive, Withdrawn, Spelled}
+use Rattle.dali_script.specs.Records.{Assignment, Has, HasAddress, HasRandom, IsLeastFree, IsFull, IsMap, IsFresh, MayAdd}
+use Rattle.dali_script.specs.Scripts.{Lawful}
+use Rattle.dali_script.specs.Findings.{finding_of}
+use Rattle.dali_script.specs.Stages.{leads, stage_of}
+use Rattle.dali_script.proofs.Lists.{has_map}
+use Rattle.dali_script.proofs.Members.{same_member}
+use Rattle.dali_script.proofs.Transactions.{follows_lawful, stage_none}
+use Rattle.dali_script.specs.declared.orders.Input.{Input}
+use Rattle.dali_script.specs.declared.orders.Input.TheVariants as input
+use Rattle.dali_script.specs.declared.orders.Order.{Order}
+use Rattle.dali_script.specs.declared.orders.Order.TheVariants.{Put, Commit, Done, Halt}
+use Rattle.dali_script.specs.declared.orders.End.{End}
+use Rattle.dali_script.specs.declared.orders.End.TheVariants.{BlockFull, GaveUp}
+use Rattle.dali_script.specs.declared.orders.Fault.TheVariants as fault
+use Rattle.dali_controller.specs.declared.purpose.Purpose.TheVariants.{Closing}
+use Rattle.dali_controller.specs.Course.{Course, closing_of, turn_of, going_on, visit_or_opening, next_unfinished}
+use Rattle.dali_controller.specs.Machine.{Machine, machine_told}
+use Rattle.dali_controller.specs.Next.{next_course, begins_at, course_by, beginning, BeginsWith}
+use Rattle.dali_controller.specs.Orders.{IsAllowed, MayPut, IsWarranted, IsBegun, IsCaused, Contradicts, AfterMask, AfterFinding, AfterEnrolled, IsFollowed, IsOrdered, IsGiven, closing}
+
+-- WHICH ORDER A MACHINE GIVES at which stage, once it was told its input: what is told of a step leaves no other.
+pub record IsGivenBy (t : Machine) (o : Order) : Type 0 where
+  pub ordered : IsOrdered t o
+  pub begins : BeginsWith (course_by t o) o
+  pub followed : IsFollowed t o
+
+-- each input but a commit that failed is followed so
+pub given_by : (m : Machine) (i : Input) (o : Order) → (i ≡ input.CommitFailed → ⊥) → IsGiven m i o → IsGivenBy (machine_told m i) o
+given_by m input.Start o other given = record { ordered = given.answered; begins = given.begins; followed = given.followed }
+given_by m (input.Heard h) o other given = record { ordered = given.answered; begins = given.begins; followed = given.followed }
+given_by m input.Destroyed o other given = record { ordered = given.answered; begins = given.begins; followed = given.followed }
+given_by m input.Lapsed o other given = record { ordered = given.answered; begins = given.begins; followed = given.followed }
+given_by m input.Committed o other given = record { ordered = given.answered; begins = given.begins; followed = given.followed }
+given_by m input.CommitFailed o other given = absurd (other refl)
+
+-- the last order was the commit of no enrolment
+abbrev pub IsNoEnrolment : Option Order → Type 0
+IsNoEnrolment last = (b n : ℕ) → last ≡ Some (Commit (Enrol b n)) → ⊥
+
+-- A TRANSACTION THAT GOES ON. Its next frame is the one of its turn.
+pub turns : (t : Machine) (o : Order) (c : Command) → IsGivenBy t o → turn_of t.course.purpose t.course.number (stage_of t.trace) ≡ Some c → o ≡ Put LATER (frame_of c)
+turns t o c given turn = given.followed.sent c turn
+
+-- A TRANSACTION THAT BEGINS. A first frame is that of the transaction that begins, and it is put where no later one may be.
+put_first : (t : Machine) (p : ℕ) (f : Forward) → p ≡ FIRST → BeginsWith (course_by t (Put p f)) (Put p f) → Put p f ≡ beginning (next_course t)
+put_first t p f first begins =
+    let here : BeginsWith (next_course t) (Put FIRST f) = subst (λ q. BeginsWith (course_by t (Put q f)) (Put q f)) first begins in
+    ap (λ q. Put q f) first ∙ ap (λ g. Put FIRST g) (here refl)
+
+abbrev NothingLater : Machine → Type 0
+NothingLater t = (f : Forward) → (t.trace ≡ [] → ⊥) → Lawful t.kept.block t.kept.reserved t.trace f → ⊥
+
+put_begins : (t : Machine) (p : ℕ) (f : Forward) → MayPut t p f → BeginsWith (course_by t (Put p f)) (Put p f) → NothingLater t → Put p f ≡ beginning (next_course t)
+put_begins t p f (inl may) begins none = put_first t p f may.0 begins
+put_begins t p f (inr may) begins none = absurd (none f may.1 may.2)
+
+nothing_free : (t : Machine) → t.trace ≡ [] → NothingLater t
+nothing_free t free f running lawful = running free
+
+-- a transaction is over at these stages, and has found nothing
+abbrev pub IsSpent : Stage → Type 0
+IsSpent Opened = Unit {0}
+IsSpent (Probed r h) = Unit {0}
+IsSpent (Unanswered r) = Unit {0}
+IsSpent (Inconclusive r None) = Unit {0}
+IsSpent (Spelled a None) = Unit {0}
+IsSpent _ = ⊥
+
+spent_ends : (s : Stage) (c : Command) → IsSpent s → is_some (leads s c Silence) ≡ true → ⊥
+spent_ends Opened c spent e = cc
+spent_ends (Probed r h) c spent e = cc
+spent_ends (Unanswered r) c spent e = cc
+spent_ends (Inconclusive r None) c spent e = cc
+spent_ends (Spelled a None) c spent e = cc
+spent_ends _ c spent e = elim spent [ ]
+
+nothing_after : (t : Machine) (s : Stage) → stage_of t.trace ≡ s → ((c : Command) → is_some (leads s c Silence) ≡ true → ⊥) → NothingLater t
+nothing_after t s stage ends f running lawful =
+    ends (command_of f) (subst (λ x. is_some (leads x (command_of f) Silence) ≡ true) stage (follows_lawful t.kept.block t.kept.reserved t.trace f lawful).leads_on)
+
+-- no record is ordered without a cause
+unwarranted : (t : Machine) (x : Record) → ((r : SearchAddress) → stage_of t.trace ≡ Unnamed r → ⊥) → finding_of t.trace ≡ None → IsNoEnrolment t.last → IsWarranted t x → ⊥
+unwarranted t (Reserve a r) named none last w = named w.0 w.1
+unwarranted t (Enrol b r) named none last w = let found = w.2 in cc
+unwarranted t (Release a r) named none last w = last w.0 r w.1
+
+no_conflict : (t : Machine) (c : Course) → finding_of t.trace ≡ None → IsCaused t c (Halt fault.Conflict) → ⊥
+no_conflict t c none cause = let found = cause.2 in cc
+
+no_end : (t : Machine) (c : Course) (e : End) → (t.tries ≡ 8 → ⊥) → (stage_of t.trace ≡ Terminated → ⊥) → IsCaused t c (Done e) → ⊥
+no_end t c e tries unclosed (inl cause) = tries cause.1
+no_end t c e tries unclosed (inr cause) = unclosed cause.1
+
+begins_anew : (t : Machine) (o : Order) → IsGivenBy t o → NothingLater t → ((r : SearchAddress) → stage_of t.trace ≡ Unnamed r → ⊥) → (stage_of t.trace ≡ Terminated → ⊥)
+    → finding_of t.trace ≡ None → IsNoEnrolment t.last → (t.tries ≡ 8 → ⊥) → o ≡ beginning (next_course t)
+begins_anew t (Put p f) given none named unclosed found last tries = put_begins t p f given.ordered.allowed given.begins none
+begins_anew t (Commit x) given none named unclosed found last tries = absurd (unwarranted t x named found last given.ordered.allowed.warranted)
+begins_anew t (Done e) given none named unclosed found last tries = absurd (no_end t t.course e tries unclosed given.ordered.caused)
+begins_anew t (Halt fault.Conflict) given none named unclosed found last tries = absurd (no_conflict t t.course found given.ordered.caused)
+begins_anew t (Halt fault.Store) given none named unclosed found last tries = elim given.ordered.caused [ ]
+
+-- after a transaction that found nothing
+pub begins_after : (t : Machine) (o : Order) (s : Stage) → IsGivenBy t o → stage_of t.trace ≡ s → IsSpent s → finding_of t.trace ≡ None → IsNoEnrolment t.last → (t.tries ≡ 8 → ⊥)
+    → o ≡ beginning (next_course t)
+begins_after t o s given stage spent found last tries =
+    begins_anew t o given (nothing_after t s stage (λ c. spent_ends s c spent))
+    (λ r e. subst IsSpent (sym stage ∙ e) spent) (λ e. subst IsSpent (sym stage ∙ e) spent) found last tries
+
+-- where no transaction runs
+pub begins_free : (t : Machine) (o : Order) → IsGivenBy t o → t.trace ≡ [] → IsNoEnrolment t.last → (t.tries ≡ 8 → ⊥) → o ≡ beginning (next_course t)
+begins_free t o given free last tries =
+    let stage : stage_of t.trace ≡ Free = ap stage_of free ∙ stage_none in
+    begins_anew t o given (nothing_free t free)
+    (λ r e. let other : Free ≡ Unnamed r = sym stage ∙ e in cc)
+    (λ e. let other : Free ≡ Terminated = sym stage ∙ e in cc)
+    (ap finding_of free) last tries
+
+-- A VISIT WHERE MASK WAS ANSWERED. The address that is reserved for the number is programmed; else the least free one is
+-- reserved; else the close begins.
+abbrev pub IsUnnamedBy : Machine → SearchAddress → Order → Type 0
+IsUnnamedBy t r o =
+    ((a : ℕ) × Has t.kept.reserved (a, value_of r) × (o ≡ Put LATER (frame_of (Program (Some a)))))
+    ⊎ (((HasRandom t.kept.reserved (value_of r) → ⊥) × ((a : ℕ) × IsLeastFree t.kept.block t.kept.reserved a × (o ≡ Commit (Reserve a (value_of r)))))
+    ⊎ ((HasRandom t.kept.reserved (value_of r) → ⊥) × IsFull t.kept.block t.kept.reserved × (o ≡ Put FIRST (frame_of Terminate))
+    × ((course_by t o).purpose ≡ Closing BlockFull)))
+
+closes : (t : Machine) (c : Course) (p : ℕ) (f : Forward) → c.purpose ≡ Closing BlockFull → IsCaused t c (Put p f) → Put p f ≡ Put FIRST (frame_of Terminate)
+closes t c p f full cause = go cause.1 where
+  go : (closing_of c.purpose ≡ None) ⊎ ((p ≡ FIRST) × (f ≡ frame_of Terminate)) → Put p f ≡ Put FIRST (frame_of Terminate)
+  go (inl none) = absurd (let ends : Some BlockFull ≡ None = sym (ap closing_of full) ∙ none in cc)
+  go (inr is) = ap (λ q. Put q f) is.0 ∙ ap (λ g. Put FIRST g) is.1
+
+pub unnamed : (t : Machine) (o : Order) (r : SearchAddress) → IsGivenBy t o → stage_of t.trace ≡ Unnamed r → IsUnnamedBy t r o
+unnamed t o r given stage = go o (given.ordered.unnamed r stage) given.ordered.caused where
+  go : (o : Order) → AfterMask t (course_by t o) r o → IsCaused t (course_by t o) o → IsUnnamedBy t r o
+  go (Put p f) (inl is) cause = inl (is.0, is.1, ap (λ q. Put q f) is.2 ∙ ap (λ g. Put LATER g) is.3)
+  go (Put p f) (inr is) cause = inr (inr (is.0, is.1, closes t (course_by t (Put p f)) p f is.2 cause, is.2))
+  go (Commit (Reserve a n)) is cause =
+      inr (inl (subst (λ m. HasRandom t.kept.reserved m → ⊥) (sym is.0) is.1, (a, is.2, ap (λ m. Commit (Reserve a m)) (sym is.0))))
+  go (Commit (Enrol b n)) is cause = elim is [ ]
+  go (Commit (Release a n)) is cause = elim is [ ]
+  go (Done e) is cause = elim is [ ]
+  go (Halt why) is cause = elim is [ ]
+
+-- A VISIT THAT FOUND ITS GEAR. It is enrolled where no entry has its address or its number.
+has_address : (xs : List Assignment) (a n : ℕ) → Has xs (a, n) → HasAddress xs a
+has_address xs a n has = has_map (λ (q : Assignment). q.0) xs (a, n) has
+
+has_random : (xs : List Assignment) (a n : ℕ) → Has xs (a, n) → HasRandom xs n
+has_random xs a n has = has_map (λ (q : Assignment). q.1) xs (a, n) has
+
+uncontradicted : (xs : List Assignment) (b n : ℕ) → (HasAddress xs b → ⊥) → (HasRandom xs n → ⊥) → Contradicts xs b n → ⊥
+uncontradicted xs b n address number (inl is) = address (has_address xs b is.0 is.1)
+uncontradicted xs b n address number (inr is) = number (has_random xs is.0 n is.1)
+
+enrols_found : (t : Machine) (b n : ℕ) (o : Order) → (HasAddress t.kept.enrolled b → ⊥) → (HasRandom t.kept.enrolled n → ⊥) → AfterFinding t b n o → o ≡ Commit (Enrol b n)
+enrols_found t b n (Put p f) address number is = absurd (address (has_address t.kept.enrolled b n is))
+enrols_found t b n (Commit x) address number is = ap Commit is
+enrols_found t b n (Done e) address number is = elim is [ ]
+enrols_found t b n (Halt why) address number is = absurd (uncontradicted t.kept.enrolled b n address number is)
+
+pub withdrawn : (t : Machine) (o : Order) (r : SearchAddress) (b : ℕ) → IsGivenBy t o → stage_of t.trace ≡ Withdrawn r b
+    → (HasAddress t.kept.enrolled b → ⊥) → (HasRandom t.kept.enrolled (value_of r) → ⊥) → o ≡ Commit (Enrol b (value_of r))
+withdrawn t o r b given stage address number = enrols_found t b (value_of r) o address number (given.ordered.found r b stage)
+
+-- the same where the queries of a random address told the number that was visited
+pub spelled : (t : Machine) (o : Order) (b n : ℕ) → IsGivenBy t o → stage_of t.trace ≡ Spelled b (Some n) → n ≡ value_of t.course.number
+    → (HasAddress t.kept.enrolled b → ⊥) → (HasRandom t.kept.enrolled n → ⊥) → o ≡ Commit (Enrol b n)
+spelled t o b n given stage visited address number = enrols_found t b n o address number (given.followed.told b n stage visited)
+
+-- and where it is enrolled already, a transaction begins
+agrees_with : (xs : List Assignment) (b n : ℕ) → IsMap xs → Has xs (b, n) → Contradicts xs b n → ⊥
+agrees_with xs b n map has (inl is) =
+    is.2 (ap (λ (q : Assignment). q.1) (same_member (λ (q : Assignment). q.0) xs (b, is.0) (b, n) map.address_once is.1 has refl))
+agrees_with xs b n map has (inr is) =
+    is.2 (ap (λ (q : Assignment). q.0) (same_member (λ (q : Assignment). q.1) xs (is.0, n) (b, n) map.random_once is.1 has refl))
+
+begins_known : (t : Machine) (o : Order) (b n : ℕ) → IsGivenBy t o → NothingLater t → IsMap t.kept.enrolled → Has t.kept.enrolled (b, n) → AfterFinding t b n o → o ≡ beginning (next_course t)
+begins_known t (Put p f) b n given none map has is = put_begins t p f given.ordered.allowed given.begins none
+begins_known t (Commit x) b n given none map has is =
+    let fresh : IsFresh t.kept.enrolled (b, n) = subst (λ y. MayAdd t.kept y) is given.ordered.allowed.may in
+    absurd (fresh.0 (has_address t.kept.enrolled b n has))
+begins_known t (Done e) b n given none map has is = elim is [ ]
+begins_known t (Halt why) b n given none map has is = absurd (agrees_with t.kept.enrolled b n map has is)
+
+pub withdrawn_known : (t : Machine) (o : Order) (r : SearchAddress) (b : ℕ) → IsGivenBy t o → stage_of t.trace ≡ Withdrawn r b
+    → IsMap t.kept.enrolled → Has t.kept.enrolled (b, value_of r) → o ≡ beginning (next_course t)
+withdrawn_known t o r b given stage map has =
+    begins_known t o b (value_of r) given (nothing_after t (Withdrawn r b) stage (λ c e. let none : is_some (leads (Withdrawn r b) c Silence) ≡ true = e in cc)) map has
+    (given.ordered.found r b stage)
+
+pub spelled_known : (t : Machine) (o : Order) (b n : ℕ) → IsGivenBy t o → stage_of t.trace ≡ Spelled b (Some n) → n ≡ value_of t.course.number
+    → IsMap t.kept.enrolled → Has t.kept.enrolled (b, n) → o ≡ beginning (next_course t)
+spelled_known t o b n given stage visited map has =
+    begins_known t o b n given (nothing_after t (Spelled b (Some n)) stage (λ c e. let none : is_some (leads (Spelled b (Some n)) c Silence) ≡ true = e in cc)) map has
+    (given.followed.told b n stage visited)
+
+-- AN ENROLMENT THAT IS KEPT. A transaction begins where no other address is reserved for the number; else one is released.
+enrolled_once : (b n d m : ℕ) → Some (Commit (Enrol b n)) ≡ Some (Commit (Enrol d m)) → d ≡ b
+enrolled_once b n d m e = cc
+
+pub enrolled : (t : Machine) (o : Order) (b n : ℕ) → IsGivenBy t o → t.last ≡ Some (Commit (Enrol b n)) → t.trace ≡ [] → ((a : ℕ) → Has t.kept.reserved (a, n) → a ≡ b)
+    → o ≡ beginning (next_course t)
+enrolled t o b n given last free own = go o given (given.followed.enrolled b n last) where
+  go : (o : Order) → IsGivenBy t o → AfterEnrolled t b n o → o ≡ beginning (next_course t)
+  go (Put p f) given is = put_begins t p f given.ordered.allowed given.begins (nothing_free t free)
+  go (Commit x) given is =
+      let other : IsWarranted t (Release is.0 n) = subst (λ y. IsWarranted t y) is.2 given.ordered.allowed.warranted in
+      absurd (other.2 (enrolled_once b n other.0 n (sym last ∙ other.1) ∙ sym (own is.0 is.1)))
+  go (Done e) given is = elim is [ ]
+  go (Halt why) given is = elim is [ ]
+
+pub releases : (t : Machine) (o : Order) (b n c : ℕ) → IsGivenBy t o → t.last ≡ Some (Commit (Enrol b n)) → Has t.kept.reserved (c, n) → (c ≡ b → ⊥)
+    → (a : ℕ) × Has t.kept.reserved (a, n) × (a ≡ b → ⊥) × (o ≡ Commit (Release a n))
+releases t o b n c given last has other = go o given (given.followed.enrolled b n last) where
+  go : (o : Order) → IsGivenBy t o → AfterEnrolled t b n o → (a : ℕ) × Has t.kept.reserved (a, n) × (a ≡ b → ⊥) × (o ≡ Commit (Release a n))
+  go (Put p f) given is = absurd (other (is c has))
+  go (Commit x) given is =
+      let free : IsWarranted t (Release is.0 n) = subst (λ y. IsWarranted t y) is.2 given.ordered.allowed.warranted in
+      (is.0, is.1, (λ e. free.2 (enrolled_once b n free.0 n (sym last ∙ free.1) ∙ sym e)), ap Commit is.2)
+  go (Done e) given is = elim is [ ]
+  go (Halt why) given is = elim is [ ]
+
+-- A CLOSE THAT WAS HEARD is the end that it was begun with.
+goes_on_open : (t : Machine) → closing_of (going_on t.kept t.opened t.course).purpose ≡ None
+goes_on_open t = go t.opened where
+  visits : (next : Option (ℕ × ℕ)) → closing_of (visit_or_opening t.course next).purpose ≡ None
+  visits None = refl
+  visits (Some next) = refl
+
+  go : (opened : Bool) → closing_of (going_on t.kept opened t.course).purpose ≡ None
+  go true = refl
+  go false = visits (next_unfinished t.kept t.course.from)
+
+-- no frame is put where a close was heard: it would be none of the close, and begin no other
+no_put : (t : Machine) (p : ℕ) (f : Forward) (e : End) → closing t ≡ Some e → stage_of t.trace ≡ Terminated → MayPut t p f → IsCaused t (course_by t (Put p f)) (Put p f) → ⊥
+no_put t p f e runs stage (inl may) cause =
+    let unclosed : closing_of (next_course t).purpose ≡ None = ap (λ s. closing_of (begins_at t s).purpose) stage ∙ goes_on_open t in
+    let here : IsBegun t (closing_of (next_course t).purpose) = (subst (λ q. IsCaused t (course_by t (Put q f)) (Put q f)) may.0 cause).0 in
+    let ends : closing t ≡ None = subst (λ c. IsBegun t c) unclosed here in
+    cc
+no_put t p f e runs stage (inr may) cause =
+    let here : (closing t ≡ None) ⊎ ((LATER ≡ FIRST) × (f ≡ frame_of Terminate)) = (subst (λ q. IsCaused t (course_by t (Put q f)) (Put q f)) may.0 cause).1 in
+    go here
+  where
+    go : (closing t ≡ None) ⊎ ((LATER ≡ FIRST) × (f ≡ frame_of Terminate)) → ⊥
+    go (inl none) = cc
+    go (inr is) = omega (arith, is.0)
+
+pub closed : (t : Machine) (o : Order) (e : End) → IsGivenBy t o → closing t ≡ Some e → stage_of t.trace ≡ Terminated → finding_of t.trace ≡ None → (t.tries ≡ 8 → ⊥) → o ≡ Done e
+closed t o e given runs stage found tries = go o given.ordered.allowed given.ordered.caused where
+  ended : (x : End) → ((x ≡ GaveUp) × (t.tries ≡ 8)) ⊎ ((closing t ≡ Some x) × (stage_of t.trace ≡ Terminated)) → Done x ≡ Done e
+  ended x (inl is) = absurd (tries is.1)
+  ended x (inr is) = ap Done (same x (sym is.0 ∙ runs)) where
+    same : (x : End) → Some x ≡ Some e → x ≡ e
+    same x k = cc
+
+  go : (o : Order) → IsAllowed t o → IsCaused t (course_by t o) o → o ≡ Done e
+  go (Put p f) may cause = absurd (no_put t p f e runs stage may cause)
+  go (Commit x) may cause = absurd (let none : closing t ≡ None = cause in cc)
+  go (Done x) may cause = ended x cause
+  go (Halt fault.Conflict) may cause = absurd (no_conflict t t.course found cause)
+  go (Halt fault.Store) may cause = elim cause [ ]
