@@ -6,3 +6,4 @@ pub mod Runs
 pub mod Promise
 pub mod Laws
 pub mod Searching
+pub mod Wanted
