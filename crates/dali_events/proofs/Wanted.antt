@@ -1,18 +1,20 @@
-use Rattle.std.proofs.Common.{◌≡◌, ℕ, ◌<◌, ◌≤◌, inl, Bool, true, false, zero, suc, List, [], ◌∷◌, refl, sym, subst, arith, length, get_or, Some, None}
+use Rattle.std.proofs.Common.{◌≡◌, ◌≢◌, ℕ, ◌+◌, ◌<◌, ◌≤◌, inl, Bool, true, false, zero, suc, List, [], ◌∷◌, refl, sym, ap, subst, ◌∙◌, arith, length, get_or, Some, None}
 use Rattle.std.specs.Prelude.{◌&&◌, ◌||◌, ◌==◌, nat_le, if◌then◌else◌}
 use Rattle.std.specs.List.{list_any}
 use Rattle.std.proofs.lemmas.Bool.Decides.{nat_tests}
 use Rattle.dali_frame.specs.declared.frames.Answer.TheVariants.{Silence}
 use Rattle.dali_frame.specs.declared.numbers.SearchAddress.{SearchAddress}
-use Rattle.dali_frame.specs.Random.{value_of}
-use Rattle.dali_special.specs.declared.command.Command.TheVariants.{Compare}
+use Rattle.dali_frame.specs.Random.{value_of, MASK24}
+use Rattle.dali_special.specs.declared.command.Command.{Command}
+use Rattle.dali_special.specs.declared.command.Command.TheVariants.{Terminate, Initialise, Randomise, Compare, Withdraw, Program}
 use Rattle.dali_gear.specs.declared.state.InitialisationState.{InitialisationState}
 use Rattle.dali_gear.specs.declared.state.InitialisationState.TheVariants.{Disabled, Enabled, Withdrawn}
 use Rattle.dali_gear.specs.declared.row.Reach.TheVariants.{Everyone}
-use Rattle.dali_gear.specs.Gear.{Gear, fresh, YES, is_enabled, is_active, answer}
-use Rattle.dali_gear.specs.Row.{answers_of, heard_of}
+use Rattle.dali_gear.specs.Gear.{Gear, fresh, YES, is_enabled, is_active, gear_taken, answer}
+use Rattle.dali_gear.specs.Row.{takes, row_after, drawn_of, answers_of, heard_of}
 use Rattle.dali_script.specs.Records.{Has}
-use Rattle.dali_events.specs.Wanted.{is_wanted, wants, Seek}
+use Rattle.dali_events.specs.Wanted.{is_wanted, wants, is_bare, count_of, OfPowered, Seek, AreApart, IsOpened, NoneNamed, NoneNamedBut}
+use Rattle.dali_events.proofs.Takes.{Moved, stays, goes, moves_at, row_length}
 use Rattle.dali_events.proofs.Answers.{answered, answers_have}
 use Rattle.dali_events.proofs.Sending.{powered_takes, takes_powered}
 
@@ -123,3 +125,179 @@ heard_below gs r seek loud =
     let wanted : is_wanted (get_or gs there.0 fresh) ≡ true = is_wanted_by (get_or gs there.0 fresh) on compared.0 in
     let search : (get_or gs there.0 fresh).search ≡ r = seek there.0 there.1 on (wanted_active (get_or gs there.0 fresh) wanted) in
     ((get_or gs there.0 fresh).random, wants_by gs (get_or gs there.0 fresh).random there.0 there.1 wanted refl, subst (λ s. (get_or gs there.0 fresh).random ≤ value_of s) search compared.1)
+
+-- COUNTS OF TWO LISTS, gear by gear
+count_same : (p q : Gear → Bool) (gs hs : List Gear) → length hs ≡ length gs → ((k : ℕ) → k < length gs → q (get_or hs k fresh) ≡ p (get_or gs k fresh)) → count_of q hs ≡ count_of p gs
+count_same p q [] [] e same = refl
+count_same p q [] (h ∷ hs) e same = absurd (omega arith)
+count_same p q (g ∷ gs) [] e same = absurd (omega arith)
+count_same p q (g ∷ gs) (h ∷ hs) e same =
+    let here : q h ≡ p g = same 0 (omega arith) in
+    rw here (ap (λ n. (if p g then 1 else 0) + n) (count_same p q gs hs (omega arith) (λ k in_row. same (suc k) (omega arith))))
+
+one_at_most : (a b : Bool) (m n : ℕ) → (a ≡ true → b ≡ true) → m ≤ n → (if a then 1 else 0) + m ≤ (if b then 1 else 0) + n
+one_at_most true true m n pass h = omega arith
+one_at_most true false m n pass h = absurd (let there : false ≡ true = pass refl in cc)
+one_at_most false true m n pass h = omega arith
+one_at_most false false m n pass h = omega arith
+
+count_at_most : (p q : Gear → Bool) (gs hs : List Gear) → length hs ≡ length gs → ((k : ℕ) → k < length gs → q (get_or hs k fresh) ≡ true → p (get_or gs k fresh) ≡ true) → count_of q hs ≤ count_of p gs
+count_at_most p q [] [] e pass = omega arith
+count_at_most p q [] (h ∷ hs) e pass = absurd (omega arith)
+count_at_most p q (g ∷ gs) [] e pass = absurd (omega arith)
+count_at_most p q (g ∷ gs) (h ∷ hs) e pass =
+    one_at_most (q h) (p g) (count_of q hs) (count_of p gs) (pass 0 (omega arith)) (count_at_most p q gs hs (omega arith) (λ k in_row. pass (suc k) (omega arith)))
+
+one_less : (a b : Bool) (m n : ℕ) → (a ≡ true → b ≡ true) → m < n → (if a then 1 else 0) + m < (if b then 1 else 0) + n
+one_less true true m n pass h = omega arith
+one_less true false m n pass h = absurd (let there : false ≡ true = pass refl in cc)
+one_less false true m n pass h = omega arith
+one_less false false m n pass h = omega arith
+
+count_less : (p q : Gear → Bool) (gs hs : List Gear) (i : ℕ) → length hs ≡ length gs → ((k : ℕ) → k < length gs → q (get_or hs k fresh) ≡ true → p (get_or gs k fresh) ≡ true)
+    → i < length gs → p (get_or gs i fresh) ≡ true → q (get_or hs i fresh) ≡ false → count_of q hs < count_of p gs
+count_less p q [] hs i e pass h was now = absurd (omega arith)
+count_less p q (g ∷ gs) [] i e pass h was now = absurd (omega arith)
+count_less p q (g ∷ gs) (h ∷ hs) zero e pass in_row was now =
+    let rest : count_of q hs ≤ count_of p gs = count_at_most p q gs hs (omega arith) (λ k in_row. pass (suc k) (omega arith)) in
+    rw (was, now) (omega (arith, rest))
+count_less p q (g ∷ gs) (h ∷ hs) (suc i) e pass in_row was now =
+    one_less (q h) (p g) (count_of q hs) (count_of p gs) (pass 0 (omega arith)) (count_less p q gs hs i (omega arith) (λ k in_row. pass (suc k) (omega arith)) (omega arith) was now)
+
+-- and what they want
+same_tests : (a b : Bool) → (a ≡ true → b ≡ true) → (b ≡ true → a ≡ true) → a ≡ b
+same_tests true b there back = sym (there refl)
+same_tests false true there back = back refl
+same_tests false false there back = refl
+
+-- GEAR BY GEAR THE SAME but for the search address and the half pair
+pub record SameGear (g h : Gear) : Type 0 where
+  pub same_powered : h.powered ≡ g.powered
+  pub same_state : h.state ≡ g.state
+  pub same_random : h.random ≡ g.random
+  pub same_short : h.short ≡ g.short
+
+pub record SameCore (gs hs : List Gear) : Type 0 where
+  pub same_length : length hs ≡ length gs
+  pub each : (k : ℕ) → k < length gs → SameGear (get_or gs k fresh) (get_or hs k fresh)
+
+pub core_wanted : (g h : Gear) → SameGear g h → is_wanted h ≡ is_wanted g
+core_wanted g h same = rw (same.same_powered, same.same_state) refl
+
+pub core_bare : (g h : Gear) → SameGear g h → is_bare h ≡ is_bare g
+core_bare g h same = rw (same.same_powered, same.same_short) refl
+
+-- what is said of each powered gear
+abbrev Enabling : Gear → Type 0
+Enabling g = g.short ≡ None → g.state ≡ Enabled
+
+abbrev Drawing : Gear → Type 0
+Drawing g = is_active g.state ≡ true → g.random < MASK24
+
+abbrev Unnamed : Gear → Type 0
+Unnamed g = g.state ≡ Enabled → g.short ≡ None
+
+abbrev UnnamedBut : ℕ → Gear → Type 0
+UnnamedBut n g = g.state ≡ Enabled → g.random ≢ n → g.short ≡ None
+
+-- it goes over
+powered_over : (P Q : Gear → Type 0) (gs hs : List Gear) → length hs ≡ length gs → ((k : ℕ) → k < length gs → (get_or hs k fresh).powered ≡ (get_or gs k fresh).powered)
+    → ((k : ℕ) → k < length gs → (get_or gs k fresh).powered ≡ true → P (get_or gs k fresh) → Q (get_or hs k fresh)) → OfPowered gs P → OfPowered hs Q
+powered_over P Q gs hs e powered step all k h on =
+    let there : k < length gs = subst (λ n. k < n) e h in
+    let was : (get_or gs k fresh).powered ≡ true = sym (powered k there) ∙ on in
+    step k there was (all k there was)
+
+-- numbers that stay wanted
+wants_over : (gs hs : List Gear) (n : ℕ) → length hs ≡ length gs → ((k : ℕ) → k < length gs → is_wanted (get_or hs k fresh) ≡ true → is_wanted (get_or gs k fresh) ≡ true)
+    → ((k : ℕ) → k < length gs → (get_or hs k fresh).random ≡ (get_or gs k fresh).random) → wants hs n ≡ true → wants gs n ≡ true
+wants_over gs hs n e wanted random wants =
+    let there = wants_at hs n wants in
+    let inside : there.0 < length gs = subst (λ m. there.0 < m) e there.1 in
+    wants_by gs n there.0 inside (wanted there.0 inside there.2) (sym (random there.0 inside) ∙ there.3)
+
+wants_same : (gs hs : List Gear) (n : ℕ) → length hs ≡ length gs → ((k : ℕ) → k < length gs → is_wanted (get_or hs k fresh) ≡ is_wanted (get_or gs k fresh))
+    → ((k : ℕ) → k < length gs → (get_or hs k fresh).random ≡ (get_or gs k fresh).random) → wants hs n ≡ wants gs n
+wants_same gs hs n e wanted random =
+    same_tests (wants hs n) (wants gs n) (wants_over gs hs n e (λ k h w. sym (wanted k h) ∙ w) random)
+    (wants_over hs gs n (sym e) (λ k h w. wanted k (back k h) ∙ w) (λ k h. sym (random k (back k h)))) where
+      back : (k : ℕ) → k < length hs → k < length gs
+      back k h = subst (λ m. k < m) e h
+
+pub core_wants : (gs hs : List Gear) (n : ℕ) → SameCore gs hs → wants hs n ≡ wants gs n
+core_wants gs hs n same =
+    wants_same gs hs n same.same_length (λ k h. core_wanted (get_or gs k fresh) (get_or hs k fresh) (same.each k h)) (λ k h. (same.each k h).same_random)
+
+pub core_count_wanted : (gs hs : List Gear) → SameCore gs hs → count_of is_wanted hs ≡ count_of is_wanted gs
+core_count_wanted gs hs same = count_same is_wanted is_wanted gs hs same.same_length (λ k h. core_wanted (get_or gs k fresh) (get_or hs k fresh) (same.each k h))
+
+pub core_count_bare : (gs hs : List Gear) → SameCore gs hs → count_of is_bare hs ≡ count_of is_bare gs
+core_count_bare gs hs same = count_same is_bare is_bare gs hs same.same_length (λ k h. core_bare (get_or gs k fresh) (get_or hs k fresh) (same.each k h))
+
+pub core_opened : (gs hs : List Gear) → SameCore gs hs → IsOpened gs → IsOpened hs
+core_opened gs hs same opened = record {
+  bare = powered_over Enabling Enabling gs hs same.same_length (λ k h. (same.each k h).same_powered)
+      (λ k h on was none. (same.each k h).same_state ∙ was (sym (same.each k h).same_short ∙ none)) opened.bare;
+  drawn = powered_over Drawing Drawing gs hs same.same_length (λ k h. (same.each k h).same_powered)
+      (λ k h on was active. subst (λ n. n < MASK24) (sym (same.each k h).same_random) (was (subst (λ s. is_active s ≡ true) (same.each k h).same_state active))) opened.drawn;
+}
+
+pub core_none_named : (gs hs : List Gear) → SameCore gs hs → NoneNamed gs → NoneNamed hs
+core_none_named gs hs same named =
+    powered_over Unnamed Unnamed gs hs same.same_length (λ k h. (same.each k h).same_powered)
+    (λ k h on was enabled. (same.each k h).same_short ∙ was (sym (same.each k h).same_state ∙ enabled)) named
+
+pub core_none_named_but : (gs hs : List Gear) (n : ℕ) → SameCore gs hs → NoneNamedBut gs n → NoneNamedBut hs n
+core_none_named_but gs hs n same named =
+    powered_over (UnnamedBut n) (UnnamedBut n) gs hs same.same_length (λ k h. (same.each k h).same_powered)
+    (λ k h on was enabled other. (same.each k h).same_short ∙ was (sym (same.each k h).same_state ∙ enabled) (λ e. other ((same.each k h).same_random ∙ e))) named
+
+-- gear that are apart stay apart
+apart_over : (gs hs : List Gear) → length hs ≡ length gs → ((k : ℕ) → k < length gs → (get_or hs k fresh).powered ≡ (get_or gs k fresh).powered)
+    → ((k : ℕ) → k < length gs → is_active (get_or hs k fresh).state ≡ true → is_active (get_or gs k fresh).state ≡ true)
+    → ((k : ℕ) → k < length gs → (get_or hs k fresh).random ≡ (get_or gs k fresh).random) → AreApart gs → AreApart hs
+apart_over gs hs e powered active random apart j k h i on up live awake same =
+    let there : j < length gs = subst (λ n. j < n) e h in
+    let here : k < length gs = subst (λ n. k < n) e i in
+    apart j k there here (sym (powered j there) ∙ on) (sym (powered k here) ∙ up) (active j there live) (active k here awake) (sym (random j there) ∙ same ∙ random k here)
+
+pub core_apart : (gs hs : List Gear) → SameCore gs hs → AreApart gs → AreApart hs
+core_apart gs hs same apart =
+    apart_over gs hs same.same_length (λ k h. (same.each k h).same_powered) (λ k h active. subst (λ s. is_active s ≡ true) (same.each k h).same_state active)
+    (λ k h. (same.each k h).same_random) apart
+
+-- WHAT A FRAME DOES TO EACH GEAR, if it does so to each that has power
+moved_by : (c : Command) (P : Gear → Gear → Type 0) → ((g : Gear) → (g.powered ≡ true → ⊥) → P g g) → ((g : Gear) (x : ℕ) → g.powered ≡ true → P g (gear_taken c x g))
+    → (ds : List (ℕ × ℕ)) (k : ℕ) (g h : Gear) → Moved Everyone c ds k g h → P g h
+moved_by c P off on ds k g _ (stays e) = off g (λ up. absurd (let there : takes Everyone k g ≡ true = powered_takes k g up in cc))
+moved_by c P off on ds k g _ (goes x e drew) = on g x (takes_powered Everyone k g e)
+
+pub after_at : (c : Command) (P : Gear → Gear → Type 0) → ((g : Gear) → (g.powered ≡ true → ⊥) → P g g) → ((g : Gear) (x : ℕ) → g.powered ≡ true → P g (gear_taken c x g))
+    → (gs : List Gear) (left : List ℕ) (k : ℕ) → k < length gs → P (get_or gs k fresh) (get_or (row_after Everyone c 0 gs left) k fresh)
+after_at c P off on gs left k h = moved_by c P off on (drawn_of Everyone c 0 gs left) k (get_or gs k fresh) (get_or (row_after Everyone c 0 gs left) k fresh) (moves_at Everyone c gs left k h)
+
+-- FRAMES THAT LEAVE all but search addresses and half pairs
+abbrev pub LeavesCore : Command → Type 0
+LeavesCore Terminate = ⊥
+LeavesCore (Initialise target) = ⊥
+LeavesCore Randomise = ⊥
+LeavesCore Withdraw = ⊥
+LeavesCore (Program short) = ⊥
+LeavesCore _ = Unit {0}
+
+same_self : (g : Gear) → SameGear g g
+same_self g = record { same_powered = refl; same_state = refl; same_random = refl; same_short = refl }
+
+core_taken : (c : Command) (g : Gear) (x : ℕ) → LeavesCore c → SameGear g (gear_taken c x g)
+core_taken Terminate g x leaves = absurd leaves
+core_taken (Initialise target) g x leaves = absurd leaves
+core_taken Randomise g x leaves = absurd leaves
+core_taken Withdraw g x leaves = absurd leaves
+core_taken (Program short) g x leaves = absurd leaves
+core_taken _ g x leaves = record { same_powered = refl; same_state = refl; same_random = refl; same_short = refl }
+
+pub core_after : (c : Command) (gs : List Gear) (left : List ℕ) → LeavesCore c → SameCore gs (row_after Everyone c 0 gs left)
+core_after c gs left leaves = record {
+  same_length = row_length Everyone c 0 gs left;
+  each = after_at c SameGear (λ g off. same_self g) (λ g x on. core_taken c g x leaves) gs left;
+}
