@@ -1,24 +1,29 @@
-use Rattle.std.proofs.Common.{◌≡◌, ◌≢◌, ℕ, ◌+◌, ◌<◌, ◌≤◌, inl, Bool, true, false, zero, suc, List, [], ◌∷◌, refl, sym, ap, subst, ◌∙◌, arith, length, get_or, Option, Some, None}
+use Rattle.std.proofs.Common.{◌≡◌, ◌≢◌, ℕ, ◌+◌, ◌<◌, ◌≤◌, ◌⊎◌, inl, inr, Bool, true, false, zero, suc, List, [], ◌∷◌, refl, sym, ap, subst, ◌∙◌, arith, length, get_or, Option, Some, None}
 use Rattle.std.specs.Prelude.{◌&&◌, ◌||◌, ◌==◌, nat_le, if◌then◌else◌}
 use Rattle.std.specs.List.{list_any}
 use Rattle.std.proofs.lemmas.Bool.Decides.{nat_tests}
-use Rattle.dali_frame.specs.declared.frames.Answer.TheVariants.{Silence}
+use Rattle.dali_frame.specs.declared.frames.Answer.TheVariants.{Silence, Byte}
 use Rattle.dali_frame.specs.declared.numbers.SearchAddress.{SearchAddress}
 use Rattle.dali_frame.specs.Random.{value_of, MASK24}
 use Rattle.dali_special.specs.declared.command.Target.TheVariants.{Unaddressed}
 use Rattle.dali_special.specs.declared.command.Command.{Command}
-use Rattle.dali_special.specs.declared.command.Command.TheVariants.{Terminate, Initialise, Randomise, Compare, Withdraw, Program}
+use Rattle.dali_special.specs.declared.command.Command.TheVariants.{Terminate, Initialise, Randomise, Compare, Withdraw, Program, QueryShort}
+use Rattle.dali_special.specs.Command.{program_data}
 use Rattle.dali_gear.specs.declared.state.InitialisationState.{InitialisationState}
 use Rattle.dali_gear.specs.declared.state.InitialisationState.TheVariants.{Disabled, Enabled, Withdrawn}
 use Rattle.dali_gear.specs.declared.row.Reach.TheVariants.{Everyone}
-use Rattle.dali_gear.specs.Gear.{Gear, fresh, YES, is_enabled, is_active, would_draw, gear_taken, state_after, half_after, answer}
-use Rattle.dali_gear.specs.Row.{takes, row_after, drawn_of, draws_needed, answers_of, heard_of}
+use Rattle.dali_gear.specs.Gear.{Gear, fresh, YES, is_enabled, is_active, is_found, would_draw, gear_taken, state_after, half_after, answer, answer_to}
+use Rattle.dali_gear.specs.Row.{takes, row_after, drawn_of, draws_needed, option_cons, answers_of, heard_of}
 use Rattle.dali_script.specs.declared.stage.Stage.{Stage}
 use Rattle.dali_script.specs.declared.stage.Stage.TheVariants as stage
 use Rattle.dali_script.specs.Records.{Has}
+use Rattle.dali_events.specs.World.{World}
+use Rattle.dali_events.specs.Runs.{AreDrawn}
 use Rattle.dali_events.specs.Wanted.{is_wanted, wants, is_bare, count_of, OfPowered, Seek, AreApart, IsOpened, NoneNamed, NoneNamedBut}
+use Rattle.dali_script.proofs.Members.{same_member}
 use Rattle.dali_events.proofs.Takes.{Moved, stays, goes, moves_at, row_length}
 use Rattle.dali_events.proofs.Answers.{answered, answers_have}
+use Rattle.dali_events.proofs.Known.{found_random}
 use Rattle.dali_events.proofs.Opening.{draws_at}
 use Rattle.dali_events.proofs.Sending.{powered_takes, takes_powered}
 
@@ -444,3 +449,68 @@ wanted_bare g opened = go g.powered g.short refl refl where
 
 pub opened_count : (gs : List Gear) → AreOpening stage.Opened gs → count_of is_wanted gs ≡ count_of is_bare gs
 opened_count gs all = count_same is_bare is_wanted gs gs refl (λ k h. wanted_bare (get_or gs k fresh) (λ on. (all k h on).1))
+
+-- ONE GEAR ANSWERS, and no other
+answers_first : (c : Command) (k : ℕ) (g : Gear) (gs : List Gear) → answers_of Everyone c k (g ∷ gs) ≡ option_cons (answer_to c g) (answers_of Everyone c (k + 1) gs)
+answers_first c k g gs = ap (λ o. option_cons o (answers_of Everyone c (k + 1) gs)) (go g.powered) where
+  go : (on : Bool) → (if on && true then answer c g else None) ≡ (if on then answer c g else None)
+  go true = refl
+  go false = refl
+
+none_answer : (c : Command) (k : ℕ) (gs : List Gear) → ((i : ℕ) → i < length gs → answer_to c (get_or gs i fresh) ≡ None) → answers_of Everyone c k gs ≡ []
+none_answer c k [] none = refl
+none_answer c k (g ∷ gs) none =
+    let here : answer_to c g ≡ None = none 0 (omega arith) in
+    answers_first c k g gs ∙ ap (λ o. option_cons o (answers_of Everyone c (k + 1) gs)) here ∙ none_answer c (k + 1) gs (λ i h. none (suc i) (omega arith))
+
+one_answers : (c : Command) (k : ℕ) (gs : List Gear) (i v : ℕ) → i < length gs → answer_to c (get_or gs i fresh) ≡ Some v
+    → ((j : ℕ) → j < length gs → (j ≡ i → ⊥) → answer_to c (get_or gs j fresh) ≡ None) → answers_of Everyone c k gs ≡ v ∷ []
+one_answers c k [] i v h e none = absurd (omega arith)
+one_answers c k (g ∷ gs) zero v h e none =
+    answers_first c k g gs ∙ ap (λ o. option_cons o (answers_of Everyone c (k + 1) gs)) e ∙ ap (λ bytes. v ∷ bytes) (none_answer c (k + 1) gs (λ j in_row. none (suc j) (omega arith) (λ same. omega arith)))
+one_answers c k (g ∷ gs) (suc i) v h e none =
+    let here : answer_to c g ≡ None = none 0 (omega arith) (λ same. omega arith) in
+    answers_first c k g gs ∙ ap (λ o. option_cons o (answers_of Everyone c (k + 1) gs)) here
+    ∙ one_answers c (k + 1) gs i v (omega arith) e (λ j in_row other. none (suc j) (omega arith) (λ same. other (omega arith)))
+
+-- QUERY SHORT ADDRESS
+random_found : (g : Gear) (r : SearchAddress) → g.search ≡ r → g.random ≡ value_of r → is_found g ≡ true
+random_found g r search random = number_same g.random (value_of g.search) (random ∙ ap value_of (sym search))
+
+queried_short : (g : Gear) → g.powered ≡ true → is_active g.state ≡ true → is_found g ≡ true → answer_to QueryShort g ≡ Some (program_data g.short)
+queried_short g on active found = rw (on, active, found) refl
+
+queried_none : (g : Gear) → (g.powered ≡ true → is_active g.state ≡ true → is_found g ≡ true → ⊥) → answer_to QueryShort g ≡ None
+queried_none g other = go g.powered (is_active g.state) (is_found g) refl refl refl where
+  go : (a b c : Bool) → g.powered ≡ a → is_active g.state ≡ b → is_found g ≡ c → answer_to QueryShort g ≡ None
+  go false b c on active found = rw on refl
+  go true false c on active found = rw (on, active) refl
+  go true true false on active found = rw (on, active, found) refl
+  go true true true on active found = absurd (other on active found)
+
+pub query_answers : (gs : List Gear) (r : SearchAddress) (k : ℕ) → Seek gs r → AreApart gs → k < length gs → (get_or gs k fresh).powered ≡ true → is_active (get_or gs k fresh).state ≡ true
+    → (get_or gs k fresh).random ≡ value_of r → answers_of Everyone QueryShort 0 gs ≡ program_data (get_or gs k fresh).short ∷ []
+query_answers gs r k seek apart h on active random =
+    one_answers QueryShort 0 gs k (program_data (get_or gs k fresh).short) h (queried_short (get_or gs k fresh) on active (random_found (get_or gs k fresh) r (seek k h on active) random))
+    (λ j in_row other. queried_none (get_or gs j fresh) (λ up awake found.
+    other (apart j k in_row h up on awake active (found_random (get_or gs j fresh) r (seek j in_row up awake) found ∙ sym random))))
+
+pub query_heard : (gs : List Gear) (r : SearchAddress) (k : ℕ) → Seek gs r → AreApart gs → k < length gs → is_wanted (get_or gs k fresh) ≡ true → (get_or gs k fresh).random ≡ value_of r
+    → heard_of (answers_of Everyone QueryShort 0 gs) ≡ Byte (program_data (get_or gs k fresh).short)
+query_heard gs r k seek apart h wanted random =
+    ap heard_of (query_answers gs r k seek apart h (wanted_powered (get_or gs k fresh) wanted) (wanted_active (get_or gs k fresh) wanted) random)
+
+-- gear that have drawn are apart
+pub drawn_apart : (w : World) → AreDrawn w → OfPowered w.gear (λ g. is_active g.state ≡ true → g.random < MASK24) → AreApart w.gear
+drawn_apart w drawn below j k h i on up live awake same =
+    let first : Has w.drawn (j, (get_or w.gear j fresh).random) = drew j h on live in
+    let second : Has w.drawn (k, (get_or w.gear k fresh).random) = drew k i up awake in
+    ap (λ draw. draw.0) (same_member (λ draw. draw.1) w.drawn (j, (get_or w.gear j fresh).random) (k, (get_or w.gear k fresh).random) drawn.once first second same) where
+      drew : (g : ℕ) → g < length w.gear → (get_or w.gear g fresh).powered ≡ true → is_active (get_or w.gear g fresh).state ≡ true → Has w.drawn (g, (get_or w.gear g fresh).random)
+      drew g there on active = go (drawn.random g there) where
+        go : ((get_or w.gear g fresh).random ≡ MASK24) ⊎ Has w.drawn (g, (get_or w.gear g fresh).random) → Has w.drawn (g, (get_or w.gear g fresh).random)
+        go (inl none) = absurd (let small : (get_or w.gear g fresh).random < MASK24 = below g there on active in omega (arith, none))
+        go (inr has) = has
+
+pub opened_apart : (w : World) → AreDrawn w → IsOpened w.gear → AreApart w.gear
+opened_apart w drawn opened = drawn_apart w drawn opened.drawn
