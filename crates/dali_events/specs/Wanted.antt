@@ -5,6 +5,7 @@ use Rattle.dali_frame.specs.declared.numbers.SearchAddress.{SearchAddress}
 use Rattle.dali_frame.specs.Random.{MASK24}
 use Rattle.dali_gear.specs.declared.state.InitialisationState.TheVariants.{Enabled}
 use Rattle.dali_gear.specs.Gear.{Gear, fresh, is_enabled, is_active}
+use Rattle.dali_events.specs.Searching.{HasShort}
 
 -- WHAT GEAR A SEARCH IS TO FIND, and what it stands on.
 
@@ -57,3 +58,7 @@ NoneNamed gs = OfPowered gs (λ g. g.state ≡ Enabled → g.short ≡ None)
 -- none but one with this random address, perhaps
 abbrev pub NoneNamedBut : List Gear → ℕ → Type 0
 NoneNamedBut gs n = OfPowered gs (λ g. g.state ≡ Enabled → g.random ≢ n → g.short ≡ None)
+
+-- each gear with power that is ENABLED and has this random address has a short address
+abbrev pub AreNamed : List Gear → ℕ → Type 0
+AreNamed gs n = OfPowered gs (λ g. g.state ≡ Enabled → g.random ≡ n → HasShort g)
