@@ -1,5 +1,5 @@
 use Rattle.std.proofs.Common.{◌≡◌, ◌≢◌, ℕ, ◌+◌, ◌<◌, ◌≤◌, ◌⊎◌, inl, inr, Bool, true, false, zero, suc, List, [], ◌∷◌, refl, sym, ap, subst, ◌∙◌, arith, length, get_or, Option, Some, None}
-use Rattle.std.specs.Prelude.{◌&&◌, ◌||◌, ◌==◌, nat_le, if◌then◌else◌}
+use Rattle.std.specs.Prelude.{◌&&◌, ◌||◌, ◌==◌, not, nat_le, is_some, if◌then◌else◌}
 use Rattle.std.specs.List.{list_any}
 use Rattle.std.proofs.lemmas.Bool.Decides.{nat_tests}
 use Rattle.dali_frame.specs.declared.frames.Answer.TheVariants.{Silence, Byte}
@@ -12,7 +12,7 @@ use Rattle.dali_special.specs.Command.{program_data}
 use Rattle.dali_gear.specs.declared.state.InitialisationState.{InitialisationState}
 use Rattle.dali_gear.specs.declared.state.InitialisationState.TheVariants.{Disabled, Enabled, Withdrawn}
 use Rattle.dali_gear.specs.declared.row.Reach.TheVariants.{Everyone}
-use Rattle.dali_gear.specs.Gear.{Gear, fresh, YES, is_enabled, is_active, is_found, would_draw, gear_taken, state_after, search_after, half_after, answer, answer_to}
+use Rattle.dali_gear.specs.Gear.{Gear, fresh, YES, is_enabled, is_active, is_found, would_draw, gear_taken, state_after, search_after, short_after, half_after, answer, answer_to}
 use Rattle.dali_gear.specs.Row.{takes, row_after, drawn_of, draws_needed, option_cons, answers_of, heard_of}
 use Rattle.dali_script.specs.declared.stage.Stage.{Stage}
 use Rattle.dali_script.specs.declared.stage.Stage.TheVariants as stage
@@ -673,3 +673,137 @@ withdrawn_apart gs left r seek apart =
     apart_over gs (row_after Everyone Withdraw 0 gs left) (row_length Everyone Withdraw 0 gs left) (λ k h. (withdraws_at gs left r seek k h).same_powered)
     (λ k h active. withdraws_active (value_of r) (get_or gs k fresh) (get_or (row_after Everyone Withdraw 0 gs left) k fresh) (withdraws_at gs left r seek k h) active)
     (λ k h. (withdraws_at gs left r seek k h).same_random) apart
+
+-- PROGRAM SHORT ADDRESS: gear by gear
+pub record Programs (n a : ℕ) (g h : Gear) : Type 0 where
+  pub same_powered : h.powered ≡ g.powered
+  pub same_state : h.state ≡ g.state
+  pub same_random : h.random ≡ g.random
+  pub programmed : g.powered ≡ true → is_active g.state ≡ true → g.random ≡ n → h.short ≡ Some a
+  pub others : (g.powered ≡ true → is_active g.state ≡ true → g.random ≡ n → ⊥) → h.short ≡ g.short
+
+programs_on : (r : SearchAddress) (a : ℕ) (g : Gear) (x : ℕ) → g.powered ≡ true → (g.powered ≡ true → is_active g.state ≡ true → g.search ≡ r) → Programs (value_of r) a g (gear_taken (Program (Some a)) x g)
+programs_on r a g x on seek = record { same_powered = refl; same_state = refl; same_random = refl; programmed = programmed; others = others } where
+  programmed : g.powered ≡ true → is_active g.state ≡ true → g.random ≡ value_of r → short_after (Program (Some a)) g ≡ Some a
+  programmed up active random =
+      let found : is_found g ≡ true = random_found g r (seek up active) random in
+      rw (active, found) refl
+
+  others : (g.powered ≡ true → is_active g.state ≡ true → g.random ≡ value_of r → ⊥) → short_after (Program (Some a)) g ≡ g.short
+  others other = go (is_active g.state) (is_found g) refl refl where
+    go : (b c : Bool) → is_active g.state ≡ b → is_found g ≡ c → (if is_active g.state && is_found g then Some a else g.short) ≡ g.short
+    go false c active found = rw active refl
+    go true false active found = rw (active, found) refl
+    go true true active found = absurd (other on active (found_random g r (seek on active) found))
+
+pub programs_at : (gs : List Gear) (left : List ℕ) (r : SearchAddress) (a : ℕ) → Seek gs r → (k : ℕ) → k < length gs → Programs (value_of r) a (get_or gs k fresh) (get_or (row_after Everyone (Program (Some a)) 0 gs left) k fresh)
+programs_at gs left r a seek k h =
+    after_at (Program (Some a)) (λ g h. (g.powered ≡ true → is_active g.state ≡ true → g.search ≡ r) → Programs (value_of r) a g h)
+    (λ g off was. record { same_powered = refl; same_state = refl; same_random = refl; programmed = λ on active random. absurd (off on); others = λ other. refl })
+    (λ g x on was. programs_on r a g x on was) gs left k h (seek k h)
+
+-- the same are wanted
+programs_wanted : (n a : ℕ) (g h : Gear) → Programs n a g h → is_wanted h ≡ is_wanted g
+programs_wanted n a g h p = rw (p.same_powered, p.same_state) refl
+
+pub programmed_wants : (gs : List Gear) (left : List ℕ) (r : SearchAddress) (a n : ℕ) → Seek gs r → wants (row_after Everyone (Program (Some a)) 0 gs left) n ≡ wants gs n
+programmed_wants gs left r a n seek =
+    wants_same gs (row_after Everyone (Program (Some a)) 0 gs left) n (row_length Everyone (Program (Some a)) 0 gs left)
+    (λ k h. programs_wanted (value_of r) a (get_or gs k fresh) (get_or (row_after Everyone (Program (Some a)) 0 gs left) k fresh) (programs_at gs left r a seek k h)) (λ k h. (programs_at gs left r a seek k h).same_random)
+
+pub programmed_count : (gs : List Gear) (left : List ℕ) (r : SearchAddress) (a : ℕ) → Seek gs r → count_of is_wanted (row_after Everyone (Program (Some a)) 0 gs left) ≡ count_of is_wanted gs
+programmed_count gs left r a seek =
+    count_same is_wanted is_wanted gs (row_after Everyone (Program (Some a)) 0 gs left) (row_length Everyone (Program (Some a)) 0 gs left)
+    (λ k h. programs_wanted (value_of r) a (get_or gs k fresh) (get_or (row_after Everyone (Program (Some a)) 0 gs left) k fresh) (programs_at gs left r a seek k h))
+
+-- who has a short address keeps one, and who is bare then was so before, and was not meant
+programs_none : (n a : ℕ) (g h : Gear) → Programs n a g h → g.powered ≡ true → is_active g.state ≡ true → h.short ≡ None → (g.short ≡ None) × (g.random ≢ n)
+programs_none n a g h p on active none = (sym (p.others (λ up awake random. other random)) ∙ none, other) where
+  other : g.random ≡ n → ⊥
+  other random = let never : None ≡ Some a = sym none ∙ p.programmed on active random in absurd (cc)
+
+programs_bare : (n a : ℕ) (g h : Gear) → Programs n a g h → h.short ≡ None → g.short ≡ None
+programs_bare n a g h p none = sym (p.others (λ on active random. let never : None ≡ Some a = sym none ∙ p.programmed on active random in absurd (cc))) ∙ none
+
+bare_is : (g : Gear) → is_bare g ≡ true → (g.powered ≡ true) × (g.short ≡ None)
+bare_is g e = go g.powered g.short refl refl e where
+  go : (b : Bool) (o : Option ℕ) → g.powered ≡ b → g.short ≡ o → (b && not (is_some o)) ≡ true → (g.powered ≡ true) × (g.short ≡ None)
+  go true None on short e = (on, short)
+  go true (Some a) on short e = absurd (cc)
+  go false o on short e = absurd (cc)
+
+pub is_bare_by : (g : Gear) → g.powered ≡ true → g.short ≡ None → is_bare g ≡ true
+is_bare_by g on none = rw (on, none) refl
+
+still_bare : (n a : ℕ) (g h : Gear) → Programs n a g h → is_bare h ≡ true → is_bare g ≡ true
+still_bare n a g h p bare = is_bare_by g (sym p.same_powered ∙ (bare_is h bare).0) (programs_bare n a g h p (bare_is h bare).1)
+
+pub programmed_count_bare : (gs : List Gear) (left : List ℕ) (r : SearchAddress) (a : ℕ) → Seek gs r → count_of is_bare (row_after Everyone (Program (Some a)) 0 gs left) ≤ count_of is_bare gs
+programmed_count_bare gs left r a seek =
+    count_at_most is_bare is_bare gs (row_after Everyone (Program (Some a)) 0 gs left) (row_length Everyone (Program (Some a)) 0 gs left)
+    (λ k h. still_bare (value_of r) a (get_or gs k fresh) (get_or (row_after Everyone (Program (Some a)) 0 gs left) k fresh) (programs_at gs left r a seek k h))
+
+-- fewer are bare where one was that is meant
+pub programmed_fewer_bare : (gs : List Gear) (left : List ℕ) (r : SearchAddress) (a k : ℕ) → Seek gs r → k < length gs → is_wanted (get_or gs k fresh) ≡ true → (get_or gs k fresh).random ≡ value_of r
+    → (get_or gs k fresh).short ≡ None → count_of is_bare (row_after Everyone (Program (Some a)) 0 gs left) < count_of is_bare gs
+programmed_fewer_bare gs left r a k seek h wanted random none =
+    let on : (get_or gs k fresh).powered ≡ true = wanted_powered (get_or gs k fresh) wanted in
+    let p = programs_at gs left r a seek k h in
+    let short : (get_or (row_after Everyone (Program (Some a)) 0 gs left) k fresh).short ≡ Some a = p.programmed on (wanted_active (get_or gs k fresh) wanted) random in
+    count_less is_bare is_bare gs (row_after Everyone (Program (Some a)) 0 gs left) k (row_length Everyone (Program (Some a)) 0 gs left)
+    (λ j i. still_bare (value_of r) a (get_or gs j fresh) (get_or (row_after Everyone (Program (Some a)) 0 gs left) j fresh) (programs_at gs left r a seek j i)) h
+    (is_bare_by (get_or gs k fresh) on none) (named (get_or (row_after Everyone (Program (Some a)) 0 gs left) k fresh) short) where
+      named : (g : Gear) → g.short ≡ Some a → is_bare g ≡ false
+      named g short = go g.powered refl where
+        go : (b : Bool) → g.powered ≡ b → is_bare g ≡ false
+        go true on = rw (on, short) refl
+        go false on = rw on refl
+
+-- what the search stands on
+pub programmed_opened : (gs : List Gear) (left : List ℕ) (r : SearchAddress) (a : ℕ) → Seek gs r → IsOpened gs → IsOpened (row_after Everyone (Program (Some a)) 0 gs left)
+programmed_opened gs left r a seek opened = record {
+  bare = powered_over Enabling Enabling gs (row_after Everyone (Program (Some a)) 0 gs left) (row_length Everyone (Program (Some a)) 0 gs left) (λ k h. (programs_at gs left r a seek k h).same_powered)
+      (λ k h on was none. (programs_at gs left r a seek k h).same_state
+      ∙ was (programs_bare (value_of r) a (get_or gs k fresh) (get_or (row_after Everyone (Program (Some a)) 0 gs left) k fresh) (programs_at gs left r a seek k h) none)) opened.bare;
+  drawn = powered_over Drawing Drawing gs (row_after Everyone (Program (Some a)) 0 gs left) (row_length Everyone (Program (Some a)) 0 gs left) (λ k h. (programs_at gs left r a seek k h).same_powered)
+      (λ k h on was active. subst (λ n. n < MASK24) (sym (programs_at gs left r a seek k h).same_random) (was (subst (λ s. is_active s ≡ true) (programs_at gs left r a seek k h).same_state active))) opened.drawn;
+}
+
+pub programmed_none_named : (gs : List Gear) (left : List ℕ) (r : SearchAddress) (a : ℕ) → Seek gs r → NoneNamedBut gs (value_of r) → NoneNamedBut (row_after Everyone (Program (Some a)) 0 gs left) (value_of r)
+programmed_none_named gs left r a seek named =
+    powered_over (UnnamedBut (value_of r)) (UnnamedBut (value_of r)) gs (row_after Everyone (Program (Some a)) 0 gs left) (row_length Everyone (Program (Some a)) 0 gs left)
+    (λ k h. (programs_at gs left r a seek k h).same_powered)
+    (λ k h on was enabled other.
+    let p = programs_at gs left r a seek k h in
+    let elsewhere : (get_or gs k fresh).random ≢ value_of r = λ random. other (p.same_random ∙ random) in
+    p.others (λ up active random. elsewhere random) ∙ was (sym p.same_state ∙ enabled) elsewhere) named
+
+-- the gear that is meant has a short address then
+pub programmed_named : (gs : List Gear) (left : List ℕ) (r : SearchAddress) (a : ℕ) → Seek gs r → AreNamed (row_after Everyone (Program (Some a)) 0 gs left) (value_of r)
+programmed_named gs left r a seek k in_row on enabled random =
+    let h : k < length gs = subst (λ n. k < n) (row_length Everyone (Program (Some a)) 0 gs left) in_row in
+    let p = programs_at gs left r a seek k h in
+    let was : (get_or gs k fresh).state ≡ Enabled = sym p.same_state ∙ enabled in
+    let active : is_active (get_or gs k fresh).state ≡ true = rw was refl in
+    (a, p.programmed (sym p.same_powered ∙ on) active (sym p.same_random ∙ random))
+
+pub programmed_apart : (gs : List Gear) (left : List ℕ) (r : SearchAddress) (a : ℕ) → Seek gs r → AreApart gs → AreApart (row_after Everyone (Program (Some a)) 0 gs left)
+programmed_apart gs left r a seek apart =
+    apart_over gs (row_after Everyone (Program (Some a)) 0 gs left) (row_length Everyone (Program (Some a)) 0 gs left) (λ k h. (programs_at gs left r a seek k h).same_powered)
+    (λ k h active. subst (λ s. is_active s ≡ true) (programs_at gs left r a seek k h).same_state active) (λ k h. (programs_at gs left r a seek k h).same_random) apart
+
+-- a gear with this random address that is wanted and has a short address: all such have one
+pub named_by : (gs : List Gear) (n k : ℕ) → AreApart gs → k < length gs → is_wanted (get_or gs k fresh) ≡ true → (get_or gs k fresh).random ≡ n → HasShort (get_or gs k fresh) → AreNamed gs n
+named_by gs n k apart h wanted random short j in_row on enabled same =
+    let active : is_active (get_or gs j fresh).state ≡ true = rw enabled refl in
+    let one : k ≡ j = apart k j h in_row (wanted_powered (get_or gs k fresh) wanted) on (wanted_active (get_or gs k fresh) wanted) active (random ∙ sym same) in
+    subst (λ i. HasShort (get_or gs i fresh)) one short
+
+-- AreNamed goes over
+abbrev Named : ℕ → Gear → Type 0
+Named n g = g.state ≡ Enabled → g.random ≡ n → HasShort g
+
+pub core_named : (gs hs : List Gear) (n : ℕ) → SameCore gs hs → AreNamed gs n → AreNamed hs n
+core_named gs hs n same named =
+    powered_over (Named n) (Named n) gs hs same.same_length (λ k h. (same.each k h).same_powered)
+    (λ k h on was enabled random. let short = was (sym (same.each k h).same_state ∙ enabled) (sym (same.each k h).same_random ∙ random) in (short.0, (same.each k h).same_short ∙ short.1)) named
