@@ -24,3 +24,8 @@ pub mod OpeningAlone
 pub mod LapseForgotten
 pub mod GiftReleased
 pub mod Wanted
+pub mod Leaving
+pub mod Heard
+pub mod Opened
+pub mod Withdrawing
+pub mod Programming

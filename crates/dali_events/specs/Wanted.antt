@@ -1,5 +1,5 @@
-use Rattle.std.specs.Prelude.{◌≡◌, ◌≢◌, ℕ, ◌+◌, ◌<◌, Bool, true, not, ◌==◌, ◌&&◌, if◌then◌else◌}
-use Rattle.std.specs.Prelude.{List, [], ◌∷◌, length, None, is_some, slice_index_or}
+use Rattle.std.specs.Prelude.{◌≡◌, ◌≢◌, ℕ, ◌<◌, Bool, true, not, ◌==◌, ◌&&◌}
+use Rattle.std.specs.Prelude.{List, length, None, is_some, slice_index_or}
 use Rattle.std.specs.List.{list_any}
 use Rattle.dali_frame.specs.declared.numbers.SearchAddress.{SearchAddress}
 use Rattle.dali_frame.specs.Random.{MASK24}
@@ -7,7 +7,12 @@ use Rattle.dali_gear.specs.declared.state.InitialisationState.TheVariants.{Enabl
 use Rattle.dali_gear.specs.Gear.{Gear, fresh, is_enabled, is_active}
 use Rattle.dali_events.specs.Searching.{HasShort}
 
--- WHAT GEAR A SEARCH IS TO FIND, and what it stands on.
+-- WHAT GEAR A SEARCH IS TO FIND, and what it stands on. How many gear of a list pass a test is
+-- `count_by`.
+
+-- gear k of a list
+abbrev pub gear_of : List Gear → ℕ → Gear
+gear_of gs k = slice_index_or gs k fresh
 
 -- a gear that a search is to find: it has power, and is ENABLED
 abbrev pub is_wanted : Gear → Bool
@@ -21,16 +26,10 @@ wants gs n = list_any (λ g. is_wanted g && (g.random == n)) gs
 abbrev pub is_bare : Gear → Bool
 is_bare g = g.powered && not (is_some g.short)
 
--- how many gear pass a test
-abbrev pub count_of : (Gear → Bool) → List Gear → ℕ
-count_of test [] = 0
-count_of test (g ∷ gs) = (if test g then 1 else 0) + count_of test gs
-
 -- each gear of a list that has power
 abbrev pub OfPowered : List Gear → (Gear → Type 0) → Type 0
 OfPowered gs P =
-    (k : ℕ) → k < length gs → (slice_index_or gs k fresh).powered ≡ true
-    → P (slice_index_or gs k fresh)
+    (k : ℕ) → k < length gs → (gear_of gs k).powered ≡ true → P (gear_of gs k)
 
 -- all gear with power that are not DISABLED seek this search address
 abbrev pub Seek : List Gear → SearchAddress → Type 0
@@ -39,11 +38,10 @@ Seek gs r = OfPowered gs (λ g. is_active g.state ≡ true → g.search ≡ r)
 -- no two gear with power that are not DISABLED have one random address
 abbrev pub AreApart : List Gear → Type 0
 AreApart gs =
-    (j k : ℕ) → j < length gs → k < length gs → (slice_index_or gs j fresh).powered ≡ true
-    → (slice_index_or gs k fresh).powered ≡ true
-    → is_active (slice_index_or gs j fresh).state ≡ true
-    → is_active (slice_index_or gs k fresh).state ≡ true
-    → (slice_index_or gs j fresh).random ≡ (slice_index_or gs k fresh).random → j ≡ k
+    (j k : ℕ) → j < length gs → k < length gs → (gear_of gs j).powered ≡ true
+    → (gear_of gs k).powered ≡ true → is_active (gear_of gs j).state ≡ true
+    → is_active (gear_of gs k).state ≡ true → (gear_of gs j).random ≡ (gear_of gs k).random
+    → j ≡ k
 
 -- AFTER AN OPENING, of the gear with power: one without short address is ENABLED, and one that is
 -- not DISABLED has drawn its random address.

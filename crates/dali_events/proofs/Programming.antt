@@ -1,0 +1,122 @@
+use Rattle.std.proofs.Common.{◌≡◌, ◌≢◌, ℕ, ◌<◌, ◌≤◌, Bool, true, false, List, refl, sym, subst, ◌∙◌, length, Some, None}
+use Rattle.std.specs.Prelude.{◌&&◌, if◌then◌else◌}
+use Rattle.std.specs.List.{count_by}
+use Rattle.dali_frame.specs.declared.numbers.SearchAddress.{SearchAddress}
+use Rattle.dali_frame.specs.Random.{value_of, MASK24}
+use Rattle.dali_special.specs.declared.command.Command.TheVariants.{Program}
+use Rattle.dali_gear.specs.declared.state.InitialisationState.TheVariants.{Enabled}
+use Rattle.dali_gear.specs.declared.row.Reach.TheVariants.{Everyone}
+use Rattle.dali_gear.specs.Gear.{Gear, is_active, is_found, gear_taken, short_after}
+use Rattle.dali_gear.specs.Row.{row_after}
+use Rattle.dali_events.specs.Wanted.{is_wanted, wants, is_bare, gear_of, Seek, AreApart, IsOpened, NoneNamedBut, AreNamed}
+use Rattle.dali_events.proofs.Takes.{row_length}
+use Rattle.dali_events.proofs.Known.{found_random}
+use Rattle.dali_events.proofs.Wanted.{wanted_powered, wanted_active, is_bare_by, bare_is, count_same, count_at_most, count_less, Enabling, Drawing, UnnamedBut, powered_over, wants_same, apart_over, after_at}
+use Rattle.dali_events.proofs.Heard.{random_found}
+
+-- the gear after PROGRAM SHORT ADDRESS
+abbrev pub after_program : ℕ → List Gear → List ℕ → List Gear
+after_program a gs left = row_after Everyone (Program (Some a)) 0 gs left
+
+-- gear by gear
+pub record Programs (n a : ℕ) (g h : Gear) : Type 0 where
+  pub same_powered : h.powered ≡ g.powered
+  pub same_state : h.state ≡ g.state
+  pub same_random : h.random ≡ g.random
+  pub programmed : g.powered ≡ true → is_active g.state ≡ true → g.random ≡ n → h.short ≡ Some a
+  pub others : (g.powered ≡ true → is_active g.state ≡ true → g.random ≡ n → ⊥) → h.short ≡ g.short
+
+programs_on : (r : SearchAddress) (a : ℕ) (g : Gear) (x : ℕ) → g.powered ≡ true → (g.powered ≡ true → is_active g.state ≡ true → g.search ≡ r) → Programs (value_of r) a g (gear_taken (Program (Some a)) x g)
+programs_on r a g x on seek = record { same_powered = refl; same_state = refl; same_random = refl; programmed = programmed; others = others } where
+  programmed : g.powered ≡ true → is_active g.state ≡ true → g.random ≡ value_of r → short_after (Program (Some a)) g ≡ Some a
+  programmed up active random =
+      let found : is_found g ≡ true = random_found g r (seek up active) random in
+      rw (active, found) refl
+
+  others : (g.powered ≡ true → is_active g.state ≡ true → g.random ≡ value_of r → ⊥) → short_after (Program (Some a)) g ≡ g.short
+  others other = go (is_active g.state) (is_found g) refl refl where
+    go : (b c : Bool) → is_active g.state ≡ b → is_found g ≡ c → (if is_active g.state && is_found g then Some a else g.short) ≡ g.short
+    go false c active found = rw active refl
+    go true false active found = rw (active, found) refl
+    go true true active found = absurd (other on active (found_random g r (seek on active) found))
+
+pub programs_at : (gs : List Gear) (left : List ℕ) (r : SearchAddress) (a : ℕ) → Seek gs r → (k : ℕ) → k < length gs → Programs (value_of r) a (gear_of gs k) (gear_of (after_program a gs left) k)
+programs_at gs left r a seek k h =
+    after_at (Program (Some a)) (λ g h. (g.powered ≡ true → is_active g.state ≡ true → g.search ≡ r) → Programs (value_of r) a g h)
+    (λ g off was. record { same_powered = refl; same_state = refl; same_random = refl; programmed = λ on active random. absurd (off on); others = λ other. refl })
+    (λ g x on was. programs_on r a g x on was) gs left k h (seek k h)
+
+-- the same are wanted
+programs_wanted : (n a : ℕ) (g h : Gear) → Programs n a g h → is_wanted h ≡ is_wanted g
+programs_wanted n a g h p = rw (p.same_powered, p.same_state) refl
+
+pub programmed_wants : (gs : List Gear) (left : List ℕ) (r : SearchAddress) (a n : ℕ) → Seek gs r → wants (after_program a gs left) n ≡ wants gs n
+programmed_wants gs left r a n seek =
+    wants_same gs (after_program a gs left) n (row_length Everyone (Program (Some a)) 0 gs left)
+    (λ k h. programs_wanted (value_of r) a (gear_of gs k) (gear_of (after_program a gs left) k) (programs_at gs left r a seek k h)) (λ k h. (programs_at gs left r a seek k h).same_random)
+
+pub programmed_count : (gs : List Gear) (left : List ℕ) (r : SearchAddress) (a : ℕ) → Seek gs r → count_by is_wanted (after_program a gs left) ≡ count_by is_wanted gs
+programmed_count gs left r a seek =
+    count_same is_wanted is_wanted gs (after_program a gs left) (row_length Everyone (Program (Some a)) 0 gs left)
+    (λ k h. programs_wanted (value_of r) a (gear_of gs k) (gear_of (after_program a gs left) k) (programs_at gs left r a seek k h))
+
+-- who is bare then was so before
+programs_bare : (n a : ℕ) (g h : Gear) → Programs n a g h → h.short ≡ None → g.short ≡ None
+programs_bare n a g h p none = sym (p.others (λ on active random. let never : None ≡ Some a = sym none ∙ p.programmed on active random in absurd (cc))) ∙ none
+
+still_bare : (n a : ℕ) (g h : Gear) → Programs n a g h → is_bare h ≡ true → is_bare g ≡ true
+still_bare n a g h p bare = is_bare_by g (sym p.same_powered ∙ (bare_is h bare).0) (programs_bare n a g h p (bare_is h bare).1)
+
+pub programmed_count_bare : (gs : List Gear) (left : List ℕ) (r : SearchAddress) (a : ℕ) → Seek gs r → count_by is_bare (after_program a gs left) ≤ count_by is_bare gs
+programmed_count_bare gs left r a seek =
+    count_at_most is_bare is_bare gs (after_program a gs left) (row_length Everyone (Program (Some a)) 0 gs left)
+    (λ k h. still_bare (value_of r) a (gear_of gs k) (gear_of (after_program a gs left) k) (programs_at gs left r a seek k h))
+
+-- fewer are bare where one was that is meant
+pub programmed_fewer_bare : (gs : List Gear) (left : List ℕ) (r : SearchAddress) (a k : ℕ) → Seek gs r → k < length gs → is_wanted (gear_of gs k) ≡ true → (gear_of gs k).random ≡ value_of r
+    → (gear_of gs k).short ≡ None → count_by is_bare (after_program a gs left) < count_by is_bare gs
+programmed_fewer_bare gs left r a k seek h wanted random none =
+    let on : (gear_of gs k).powered ≡ true = wanted_powered (gear_of gs k) wanted in
+    let p = programs_at gs left r a seek k h in
+    let short : (gear_of (after_program a gs left) k).short ≡ Some a = p.programmed on (wanted_active (gear_of gs k) wanted) random in
+    count_less is_bare is_bare gs (after_program a gs left) k (row_length Everyone (Program (Some a)) 0 gs left)
+    (λ j i. still_bare (value_of r) a (gear_of gs j) (gear_of (after_program a gs left) j) (programs_at gs left r a seek j i)) h
+    (is_bare_by (gear_of gs k) on none) (named (gear_of (after_program a gs left) k) short) where
+      named : (g : Gear) → g.short ≡ Some a → is_bare g ≡ false
+      named g short = go g.powered refl where
+        go : (b : Bool) → g.powered ≡ b → is_bare g ≡ false
+        go true on = rw (on, short) refl
+        go false on = rw on refl
+
+-- what the search stands on
+pub programmed_opened : (gs : List Gear) (left : List ℕ) (r : SearchAddress) (a : ℕ) → Seek gs r → IsOpened gs → IsOpened (after_program a gs left)
+programmed_opened gs left r a seek opened = record {
+  bare = powered_over Enabling Enabling gs (after_program a gs left) (row_length Everyone (Program (Some a)) 0 gs left) (λ k h. (programs_at gs left r a seek k h).same_powered)
+      (λ k h on was none. (programs_at gs left r a seek k h).same_state
+      ∙ was (programs_bare (value_of r) a (gear_of gs k) (gear_of (after_program a gs left) k) (programs_at gs left r a seek k h) none)) opened.bare;
+  drawn = powered_over Drawing Drawing gs (after_program a gs left) (row_length Everyone (Program (Some a)) 0 gs left) (λ k h. (programs_at gs left r a seek k h).same_powered)
+      (λ k h on was active. subst (λ n. n < MASK24) (sym (programs_at gs left r a seek k h).same_random) (was (subst (λ s. is_active s ≡ true) (programs_at gs left r a seek k h).same_state active))) opened.drawn;
+}
+
+pub programmed_none_named : (gs : List Gear) (left : List ℕ) (r : SearchAddress) (a : ℕ) → Seek gs r → NoneNamedBut gs (value_of r) → NoneNamedBut (after_program a gs left) (value_of r)
+programmed_none_named gs left r a seek named =
+    powered_over (UnnamedBut (value_of r)) (UnnamedBut (value_of r)) gs (after_program a gs left) (row_length Everyone (Program (Some a)) 0 gs left)
+    (λ k h. (programs_at gs left r a seek k h).same_powered)
+    (λ k h on was enabled other.
+    let p = programs_at gs left r a seek k h in
+    let elsewhere : (gear_of gs k).random ≢ value_of r = λ random. other (p.same_random ∙ random) in
+    p.others (λ up active random. elsewhere random) ∙ was (sym p.same_state ∙ enabled) elsewhere) named
+
+-- the gear that is meant has a short address then
+pub programmed_named : (gs : List Gear) (left : List ℕ) (r : SearchAddress) (a : ℕ) → Seek gs r → AreNamed (after_program a gs left) (value_of r)
+programmed_named gs left r a seek k in_row on enabled random =
+    let h : k < length gs = subst (λ n. k < n) (row_length Everyone (Program (Some a)) 0 gs left) in_row in
+    let p = programs_at gs left r a seek k h in
+    let was : (gear_of gs k).state ≡ Enabled = sym p.same_state ∙ enabled in
+    let active : is_active (gear_of gs k).state ≡ true = rw was refl in
+    (a, p.programmed (sym p.same_powered ∙ on) active (sym p.same_random ∙ random))
+
+pub programmed_apart : (gs : List Gear) (left : List ℕ) (r : SearchAddress) (a : ℕ) → Seek gs r → AreApart gs → AreApart (after_program a gs left)
+programmed_apart gs left r a seek apart =
+    apart_over gs (after_program a gs left) (row_length Everyone (Program (Some a)) 0 gs left) (λ k h. (programs_at gs left r a seek k h).same_powered)
+    (λ k h active. subst (λ s. is_active s ≡ true) (programs_at gs left r a seek k h).same_state active) (λ k h. (programs_at gs left r a seek k h).same_random) apart
