@@ -17,10 +17,11 @@ use Rattle.dali_events.proofs.Opening.{draws_at}
 use Rattle.dali_events.proofs.Sending.{powered_takes}
 use Rattle.dali_events.proofs.Wanted.{wanted_count, after_at}
 
--- THE OPENING, of each powered gear
+-- WHAT AN OPENING SAYS of each powered gear: one without short address is ENABLED, and one with it DISABLED
 abbrev pub OpenedBy : Gear → Type 0
 OpenedBy g = (g.short ≡ None → g.state ≡ Enabled) × ((a : ℕ) → g.short ≡ Some a → g.state ≡ Disabled)
 
+-- stage by stage
 abbrev pub IsOpening : Stage → Gear → Type 0
 IsOpening stage.Terminated g = (g.half ≡ None) × (g.state ≡ Disabled)
 IsOpening stage.InitialisedOnce g = (g.half ≡ Some (Initialise Unaddressed)) × (g.state ≡ Disabled)

@@ -14,11 +14,11 @@ use Rattle.dali_events.proofs.Known.{found_random}
 use Rattle.dali_events.proofs.Wanted.{wanted_powered, wanted_active, is_bare_by, bare_is, count_same, count_at_most, count_less, Enabling, Drawing, UnnamedBut, powered_over, wants_same, apart_over, after_at}
 use Rattle.dali_events.proofs.Heard.{random_found}
 
--- the gear after PROGRAM SHORT ADDRESS
+-- PROGRAM SHORT ADDRESS: the gear after it
 abbrev pub after_program : ℕ → List Gear → List ℕ → List Gear
 after_program a gs left = row_after Everyone (Program (Some a)) 0 gs left
 
--- gear by gear
+-- one gear before and after: who has power, is not DISABLED and has this random address stores a
 pub record Programs (n a : ℕ) (g h : Gear) : Type 0 where
   pub same_powered : h.powered ≡ g.powered
   pub same_state : h.state ≡ g.state

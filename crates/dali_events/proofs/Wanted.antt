@@ -118,7 +118,7 @@ count_less p q (g ∷ gs) (h ∷ hs) (suc i) e pass in_row was now =
     rw (count_first q h hs, count_first p g gs)
     (one_less (q h) (p g) (count_by q hs) (count_by p gs) (pass 0 (omega arith)) (count_less p q gs hs i (omega arith) (λ k in_row. pass (suc k) (omega arith)) (omega arith) was now))
 
--- and what they want
+-- two tests that pass alike
 pub same_tests : (a b : Bool) → (a ≡ true → b ≡ true) → (b ≡ true → a ≡ true) → a ≡ b
 same_tests true b there back = sym (there refl)
 same_tests false true there back = back refl
@@ -140,7 +140,7 @@ UnnamedBut n g = g.state ≡ Enabled → g.random ≢ n → g.short ≡ None
 abbrev pub Named : ℕ → Gear → Type 0
 Named n g = g.state ≡ Enabled → g.random ≡ n → HasShort g
 
--- it goes over
+-- what goes over from one list to another
 pub powered_over : (P Q : Gear → Type 0) (gs hs : List Gear) → length hs ≡ length gs → ((k : ℕ) → k < length gs → (gear_of hs k).powered ≡ (gear_of gs k).powered)
     → ((k : ℕ) → k < length gs → (gear_of gs k).powered ≡ true → P (gear_of gs k) → Q (gear_of hs k)) → OfPowered gs P → OfPowered hs Q
 powered_over P Q gs hs e powered step all k h on =
@@ -173,7 +173,7 @@ apart_over gs hs e powered active random apart j k h i on up live awake same =
     let here : k < length gs = subst (λ n. k < n) e i in
     apart j k there here (sym (powered j there) ∙ on) (sym (powered k here) ∙ up) (active j there live) (active k here awake) (sym (random j there) ∙ same ∙ random k here)
 
--- WHAT IS WANTED OF GEAR THAT WERE OPENED: numbers that were drawn
+-- WHAT IS WANTED OF GEAR THAT WERE OPENED: only numbers below FFFFFF
 pub wanted_below : (gs : List Gear) (n : ℕ) → IsOpened gs → wants gs n ≡ true → n < MASK24
 wanted_below gs n opened wants =
     let there = wants_at gs n wants in

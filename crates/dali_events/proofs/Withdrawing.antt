@@ -16,11 +16,11 @@ use Rattle.dali_events.proofs.Known.{found_random}
 use Rattle.dali_events.proofs.Wanted.{enabled_is, wanted_powered, wanted_enabled, is_wanted_by, wants_by, wants_at, count_less, Enabling, Drawing, Unnamed, UnnamedBut, powered_over, apart_over, after_at}
 use Rattle.dali_events.proofs.Heard.{random_found}
 
--- the gear after WITHDRAW
+-- WITHDRAW: the gear after it
 abbrev pub after_withdraw : List Gear → List ℕ → List Gear
 after_withdraw gs left = row_after Everyone Withdraw 0 gs left
 
--- gear by gear
+-- one gear before and after: who has power, is ENABLED and has this random address is WITHDRAWN
 pub record Withdraws (n : ℕ) (g h : Gear) : Type 0 where
   pub same_powered : h.powered ≡ g.powered
   pub same_random : h.random ≡ g.random

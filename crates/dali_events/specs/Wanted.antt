@@ -7,8 +7,8 @@ use Rattle.dali_gear.specs.declared.state.InitialisationState.TheVariants.{Enabl
 use Rattle.dali_gear.specs.Gear.{Gear, fresh, is_enabled, is_active}
 use Rattle.dali_events.specs.Searching.{HasShort}
 
--- WHAT GEAR A SEARCH IS TO FIND, and what it stands on. How many gear of a list pass a test is
--- `count_by`.
+-- WHAT GEAR A SEARCH IS TO FIND, and what the search stands on. How many gear of a list pass a test
+-- is `count_by`.
 
 -- gear k of a list
 abbrev pub gear_of : List Gear → ℕ → Gear
@@ -26,10 +26,9 @@ wants gs n = list_any (λ g. is_wanted g && (g.random == n)) gs
 abbrev pub is_bare : Gear → Bool
 is_bare g = g.powered && not (is_some g.short)
 
--- each gear of a list that has power
+-- P holds of each gear of a list that has power
 abbrev pub OfPowered : List Gear → (Gear → Type 0) → Type 0
-OfPowered gs P =
-    (k : ℕ) → k < length gs → (gear_of gs k).powered ≡ true → P (gear_of gs k)
+OfPowered gs P = (k : ℕ) → k < length gs → (gear_of gs k).powered ≡ true → P (gear_of gs k)
 
 -- all gear with power that are not DISABLED seek this search address
 abbrev pub Seek : List Gear → SearchAddress → Type 0
