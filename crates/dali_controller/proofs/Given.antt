@@ -55,7 +55,7 @@ IsNoEnrolment last = (b n : ℕ) → last ≡ Some (Commit (Enrol b n)) → ⊥
 pub turns : (t : Machine) (o : Order) (c : Command) → IsGivenBy t o → turn_of t.course.purpose t.course.number (stage_of t.trace) ≡ Some c → o ≡ Put LATER (frame_of c)
 turns t o c given turn = given.followed.sent c turn
 
--- A TRANSACTION THAT BEGINS. A first frame is that of the transaction that begins, and it is put where no later one may be.
+-- A TRANSACTION THAT BEGINS. A first frame is that of the transaction that begins; it is put where no later one may be.
 put_first : (t : Machine) (p : ℕ) (f : Forward) → p ≡ FIRST → BeginsWith (course_by t (Put p f)) (Put p f) → Put p f ≡ beginning (next_course t)
 put_first t p f first begins =
     let here : BeginsWith (next_course t) (Put FIRST f) = subst (λ q. BeginsWith (course_by t (Put q f)) (Put q f)) first begins in
@@ -129,8 +129,8 @@ begins_free t o given free last tries =
     (λ e. let other : Free ≡ Terminated = sym stage ∙ e in cc)
     (ap finding_of free) last tries
 
--- A VISIT WHERE MASK WAS ANSWERED. The address that is reserved for the number is programmed; else the least free one is
--- reserved; else the close begins.
+-- A VISIT WHERE MASK WAS ANSWERED. The address that is reserved for the number is programmed; else the least free one
+-- is reserved; else the close begins.
 abbrev pub IsUnnamedBy : Machine → SearchAddress → Order → Type 0
 IsUnnamedBy t r o =
     ((a : ℕ) × Has t.kept.reserved (a, value_of r) × (o ≡ Put LATER (frame_of (Program (Some a)))))
@@ -209,7 +209,8 @@ spelled_known t o b n given stage visited map has =
     begins_known t o b n given (nothing_after t (Spelled b (Some n)) stage (λ c e. let none : is_some (leads (Spelled b (Some n)) c Silence) ≡ true = e in cc)) map has
     (given.followed.told b n stage visited)
 
--- AN ENROLMENT THAT IS KEPT. A transaction begins where no other address is reserved for the number; else one is released.
+-- AN ENROLMENT THAT IS KEPT. A transaction begins where no other address is reserved for the number; else one is
+-- released.
 enrolled_once : (b n d m : ℕ) → Some (Commit (Enrol b n)) ≡ Some (Commit (Enrol d m)) → d ≡ b
 enrolled_once b n d m e = cc
 
