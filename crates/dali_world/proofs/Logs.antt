@@ -42,7 +42,7 @@ use Rattle.dali_standing.specs.declared.trouble.Trouble.TheVariants as trouble
 
 -- A LOG GROWS BY ONE EVENT, and all that is read from it follows.
 
-machines_more : (w : World) (ms : List (Option Machine)) (es : List Event) (e : Event) → machines_all w ms (es ++ e ∷ []) ≡ machines_after (after_all w es) (machines_all w ms es) e
+pub machines_more : (w : World) (ms : List (Option Machine)) (es : List Event) (e : Event) → machines_all w ms (es ++ e ∷ []) ≡ machines_after (after_all w es) (machines_all w ms es) e
 machines_more w ms [] e = refl
 machines_more w ms (f ∷ es) e = machines_more (happens w f) (machines_after w ms f) es e
 

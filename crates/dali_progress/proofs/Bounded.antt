@@ -1,0 +1,172 @@
+use Rattle.std.proofs.Common.{◌≡◌, ℕ, ◌+◌, ◌*◌, ◌<◌, ◌≤◌, ◌⊎◌, inl, inr, Bool, true, false, zero, suc, List, [], ◌∷◌, ◌++◌, refl, sym, ap, subst, ◌∙◌, arith, length, get_or, get_or-set_same, set, Option, Some, None}
+use Rattle.std.specs.Prelude.{if◌then◌else◌}
+use Rattle.std.specs.Option.{option_map}
+use Rattle.std.specs.List.{count_by}
+use Rattle.dali_frame.specs.declared.frames.Forward.{Forward}
+use Rattle.dali_frame.specs.declared.frames.Answer.{Answer}
+use Rattle.dali_special.specs.Command.{command_of}
+use Rattle.dali_gear.specs.declared.row.Reach.TheVariants.{Everyone}
+use Rattle.dali_gear.specs.Row.{answers_of, heard_of}
+use Rattle.dali_arbiter.specs.declared.request.Request.{Request}
+use Rattle.dali_script.specs.Records.{IsKept, without_records}
+use Rattle.dali_script.specs.declared.orders.Input.{Input}
+use Rattle.dali_script.specs.declared.orders.Input.TheVariants as input
+use Rattle.dali_script.specs.declared.orders.Order.{Order}
+use Rattle.dali_controller.specs.Machine.{Machine, at_first}
+use Rattle.dali_controller.specs.Orders.{IsGiven, machine_after}
+use Rattle.dali_events.specs.declared.event.Event.{Event}
+use Rattle.dali_events.specs.declared.event.Event.TheVariants as event
+use Rattle.dali_events.specs.Plan.{Plan}
+use Rattle.dali_events.specs.World.{World, controller_at, start}
+use Rattle.dali_events.specs.Happens.{happens}
+use Rattle.dali_events.specs.Allowed.{Allowed, IsUp}
+use Rattle.dali_events.specs.Runs.{after, IsRun, AreDrawn}
+use Rattle.dali_events.specs.Wanted.{is_bare}
+use Rattle.dali_events.proofs.Drawn.{are_drawn, draws_after}
+use Rattle.dali_events.proofs.Growing.{after_more, run_more}
+use Rattle.dali_events.proofs.Halves.{gear_are_searched}
+use Rattle.dali_standing.specs.Seats.{MayAnswer}
+use Rattle.dali_standing.specs.Standing.{machine_in, machines_at, machines_after}
+use Rattle.dali_world.specs.Site.{SiteState, world, site_logged, machines, machine_at, next_request}
+use Rattle.dali_world.proofs.Logs.{machines_more, records_now}
+use Rattle.dali_progress.specs.Rounds.{StartsAlone, Succeeds, IsOfRound, Rounds, site_after, is_frame, frames}
+use Rattle.dali_progress.proofs.Lone.{IsLone}
+use Rattle.dali_progress.proofs.Stands.{search_frames}
+use Rattle.dali_progress.proofs.Turns.{IsCalm}
+use Rattle.dali_progress.proofs.Goes.{Goes, IsFresh, IsKnown, goes_acted, goes_sent}
+
+-- A LIST OF EVENTS OF ROUNDS, one after the other.
+
+-- a site on which commissioning goes on
+pub record Runs (s : SiteState) (c left : ℕ) : Type 0 where
+  pub run : IsRun s.plan s.queue s.log
+  pub machine : Machine
+  pub there : machine_at s c ≡ Some machine
+  pub goes : Goes (world s) s.queue c machine left
+
+-- one event more
+world_logged : (s : SiteState) (e : Event) → world (site_logged s e) ≡ happens (world s) e
+world_logged s e = after_more (start s.plan s.queue) s.log e
+
+run_logged : (s : SiteState) (e : Event) → IsRun s.plan s.queue s.log → Allowed (world s) e → IsRun s.plan s.queue (site_logged s e).log
+run_logged s e run here = run_more s.plan s.queue s.log e run here
+
+machines_logged : (s : SiteState) (e : Event) → machines (site_logged s e) ≡ machines_after (world s) (machines s) e
+machines_logged s e = machines_more (start s.plan s.queue) (machines_at 0 s.plan.blocks) s.log e
+
+some_within : (ms : List (Option Machine)) (c : ℕ) (m : Machine) → get_or ms c None ≡ Some m → c < length ms
+some_within [] c m is = absurd (cc)
+some_within (x ∷ ms) zero m is = omega arith
+some_within (x ∷ ms) (suc c) m is = let inside : c < length ms = some_within ms c m is in omega (arith, inside)
+
+acted_machine : (s : SiteState) (c : ℕ) (i : Input) (o : Order) (m : Machine) → machine_at s c ≡ Some m → machine_at (site_logged s (event.Acted c i o)) c ≡ Some (machine_after m i o)
+acted_machine s c i o m there =
+    ap (λ ms. machine_in ms c) (machines_logged s (event.Acted c i o))
+    ∙ get_or-set_same (machines s) c (option_map (λ n. machine_after n i o) (machine_in (machines s) c)) None (some_within (machines s) c m there)
+    ∙ ap (option_map (λ n. machine_after n i o)) there
+
+drawn_now : (s : SiteState) → IsRun s.plan s.queue s.log → AreDrawn (world s)
+drawn_now s run = are_drawn s.plan (world s) run.plan (draws_after s.plan s.queue s.log)
+
+kept_now : (s : SiteState) (c : ℕ) → IsRun s.plan s.queue s.log → IsUp (world s) c → IsKept (controller_at (world s) c).records
+kept_now s c run up = (records_now s.plan s.queue s.log run).kept c up.known
+
+-- frames that were sent are frames that are no longer left
+pub record RunsOn (s : SiteState) (c left : ℕ) (e : Event) : Type 0 where
+  pub rest : ℕ
+  pub sum : left ≡ (if is_frame e then 1 else 0) + rest
+  pub runs : Runs (site_logged s e) c rest
+
+acted_on : (s : SiteState) (c left : ℕ) (i : Input) (o : Order) → Runs s c left → Allowed (world s) (event.Acted c i o) → Succeeds i → MayAnswer (machine_at s c) i o → RunsOn s c left (event.Acted c i o)
+acted_on s c left i o r here good may =
+    let given : IsGiven r.machine i o = subst (λ n. MayAnswer n i o) r.there may in
+    record {
+      rest = left;
+      sum = omega arith;
+      runs = record {
+        run = run_logged s (event.Acted c i o) r.run here;
+        machine = machine_after r.machine i o;
+        there = acted_machine s c i o r.machine r.there;
+        goes = subst (λ w. Goes w s.queue c (machine_after r.machine i o) left) (sym (world_logged s (event.Acted c i o)))
+            (goes_acted (world s) s.queue c r.machine i o left r.goes good here given (kept_now s c r.run r.goes.lone.up));
+      };
+    }
+
+sent_on : (s : SiteState) (c left : ℕ) (r : Request) (h : Answer) → Runs s c left → Allowed (world s) (event.Sent r.sender r.frame h) → next_request s ≡ Some r
+    → h ≡ heard_of (answers_of Everyone (command_of r.frame) 0 (world s).gear) → RunsOn s c left (event.Sent r.sender r.frame h)
+sent_on s c left r h u here is heard =
+    let run : IsRun s.plan s.queue (site_logged s (event.Sent r.sender r.frame h)).log = run_logged s (event.Sent r.sender r.frame h) u.run here in
+    let known : IsKnown (world s) r.sender r.frame h = record {
+      drawn = drawn_now s u.run;
+      then = subst AreDrawn (world_logged s (event.Sent r.sender r.frame h)) (drawn_now (site_logged s (event.Sent r.sender r.frame h)) run);
+      seeks = λ n at. gear_are_searched s.plan s.queue s.log n u.run at;
+    } in
+    let sent = goes_sent (world s) s.queue c u.machine r h left u.goes is here known heard in
+    record {
+      rest = sent.0;
+      sum = sent.1 ∙ omega arith;
+      runs = record {
+        run = run;
+        machine = u.machine;
+        there = ap (λ ms. machine_in ms c) (machines_logged s (event.Sent r.sender r.frame h)) ∙ u.there;
+        goes = subst (λ w. Goes w s.queue c u.machine sent.0) (sym (world_logged s (event.Sent r.sender r.frame h))) sent.2;
+      };
+    }
+
+sent_by : (s : SiteState) (c left d : ℕ) (f : Forward) (h : Answer) → Runs s c left → Allowed (world s) (event.Sent d f h) → IsOfRound s c (event.Sent d f h) → RunsOn s c left (event.Sent d f h)
+sent_by s c left d f h u here of =
+    subst (λ e. Allowed (world s) e → RunsOn s c left e) (sym (ap (λ n. event.Sent n f h) of.2 ∙ ap (λ g. event.Sent of.0.sender g h) of.3))
+    (λ now. sent_on s c left of.0 h u now of.1 (of.4 ∙ ap (λ g. heard_of (answers_of Everyone (command_of g) 0 (world s).gear)) of.3)) here
+
+pub runs_on : (s : SiteState) (c left : ℕ) (e : Event) → Runs s c left → Allowed (world s) e → IsOfRound s c e → RunsOn s c left e
+runs_on s c left (event.Acted d i o) u here of =
+    subst (λ n. Allowed (world s) (event.Acted n i o) → RunsOn s c left (event.Acted n i o)) (sym of.0) (λ now. acted_on s c left i o u now of.1 of.2) here
+runs_on s c left (event.Sent d f h) u here of = sent_by s c left d f h u here of
+runs_on s c left _ u here of = absurd of
+
+-- ALL ROUNDS
+pub record RunsAll (s : SiteState) (c left : ℕ) (es : List Event) : Type 0 where
+  pub rest : ℕ
+  pub sum : left ≡ frames es + rest
+  pub runs : Runs (site_after s es) c rest
+
+pub runs_all : (s : SiteState) (c left : ℕ) (es : List Event) → Runs s c left → Rounds s c es → RunsAll s c left es
+runs_all s c left [] u rounds = record { rest = left; sum = omega arith; runs = u }
+runs_all s c left (e ∷ es) u rounds =
+    let on = runs_on s c left e u rounds.0 rounds.1 in
+    let all = runs_all (site_logged s e) c on.rest es on.runs rounds.2 in
+    record { rest = all.rest; sum = both (if is_frame e then 1 else 0) (frames es) left on.rest all.rest on.sum all.sum; runs = all.runs }
+  where
+    both : (x more left rest last : ℕ) → left ≡ x + rest → rest ≡ more + last → left ≡ x + more + last
+    both x more left rest last one two = omega (arith, one, two)
+
+-- THE START
+starts : (s : SiteState) (c : ℕ) → StartsAlone s c → Runs s c (111 * count_by is_bare (world s).gear + 10)
+starts s c a = record {
+  run = a.run;
+  machine = at_first c (without_records a.block);
+  there = a.machine;
+  goes = record {
+    lone = record {
+      up = a.up;
+      kept = sym a.records;
+      last = sym a.last;
+      addresses = rw a.last tt;
+      moment = rw (a.last, a.told) ((a.bus, a.trace), refl);
+    };
+    holds = rw (a.last, a.told) (record {
+      calm = record { tries = refl; silent = refl; within = λ x has. absurd has };
+      free = refl;
+      nothing = refl;
+      unopened = refl;
+      opening = refl;
+      frames = omega arith;
+    });
+  };
+}
+
+-- NO MORE FRAMES than these are sent
+pub bounded : (s : SiteState) (c : ℕ) (es : List Event) → StartsAlone s c → Rounds s c es → frames es ≤ 111 * count_by is_bare (world s).gear + 10
+bounded s c es a rounds =
+    let all = runs_all s c (111 * count_by is_bare (world s).gear + 10) es (starts s c a) rounds in
+    omega (arith, all.sum)

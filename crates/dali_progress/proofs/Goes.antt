@@ -1,0 +1,231 @@
+use Rattle.std.proofs.Common.{◌≡◌, ℕ, ◌+◌, ◌*◌, ◌<◌, ◌≤◌, ◌⊎◌, inl, inr, Bool, true, false, zero, suc, List, [], ◌∷◌, ◌++◌, refl, sym, ap, subst, ◌∙◌, arith, length, get_or, Option, Some, None}
+use Rattle.std.specs.List.{count_by}
+use Rattle.dali_frame.specs.declared.frames.Forward.{Forward}
+use Rattle.dali_frame.specs.declared.frames.Answer.{Answer}
+use Rattle.dali_frame.specs.declared.numbers.SearchAddress.{SearchAddress}
+use Rattle.dali_frame.specs.Random.{MASK24}
+use Rattle.dali_special.specs.declared.command.Command.{Command}
+use Rattle.dali_special.specs.declared.command.Command.TheVariants.{Arc}
+use Rattle.dali_special.specs.Command.{command_of}
+use Rattle.dali_gear.specs.declared.row.Reach.TheVariants.{Everyone}
+use Rattle.dali_gear.specs.Gear.{Gear}
+use Rattle.dali_gear.specs.Row.{answers_of, heard_of, drawn_of}
+use Rattle.dali_arbiter.specs.declared.request.Request.{Request}
+use Rattle.dali_arbiter.specs.Arbiter.{next}
+use Rattle.dali_script.specs.declared.block.Block.{Block}
+use Rattle.dali_script.specs.declared.trace.Entry.{Entry}
+use Rattle.dali_script.specs.declared.records.Record.{Record}
+use Rattle.dali_script.specs.declared.records.Record.TheVariants.{Enrol}
+use Rattle.dali_script.specs.Records.{Kept, Has, IsKept}
+use Rattle.dali_script.specs.Scripts.{Lawful, IsLawful}
+use Rattle.dali_script.specs.declared.stage.Stage.{Stage}
+use Rattle.dali_script.specs.declared.stage.Stage.TheVariants as stage
+use Rattle.dali_script.specs.Stages.{IsTrace, stage_of, next_stage}
+use Rattle.dali_script.specs.Due.{frame_put, record_ordered}
+use Rattle.dali_script.proofs.Members.{has_right}
+use Rattle.dali_script.proofs.Transactions.{stage_more, free_is_empty}
+use Rattle.dali_script.proofs.Found.{trace_more}
+use Rattle.dali_script.specs.declared.orders.Input.{Input}
+use Rattle.dali_script.specs.declared.orders.Input.TheVariants as input
+use Rattle.dali_script.specs.declared.orders.Order.{Order}
+use Rattle.dali_script.specs.declared.orders.Order.TheVariants.{Put, Commit, Done, Halt}
+use Rattle.dali_search.specs.Least.{Search}
+use Rattle.dali_controller.specs.declared.purpose.Purpose.{Purpose}
+use Rattle.dali_controller.specs.declared.purpose.Purpose.TheVariants.{Opening, Probing, Visiting, Resolving, Closing}
+use Rattle.dali_controller.specs.Machine.{Machine, machine_heard, machine_heard_to, machine_committed, machine_told, tries_after, silent_after, opened_after}
+use Rattle.dali_controller.specs.Orders.{IsGiven, IsAddressing, machine_ordered, machine_after}
+use Rattle.dali_controller.proofs.Given.{IsGivenBy, given_by, IsNoEnrolment}
+use Rattle.dali_events.specs.declared.event.Event.{Event}
+use Rattle.dali_events.specs.declared.event.Event.TheVariants as event
+use Rattle.dali_events.specs.World.{World, controller_at}
+use Rattle.dali_events.specs.Happens.{happens, entry, is_arc, trace_running}
+use Rattle.dali_events.specs.Allowed.{Allowed, IsDue}
+use Rattle.dali_events.specs.Runs.{AreDrawn}
+use Rattle.dali_events.specs.Searching.{number_at}
+use Rattle.dali_events.specs.Wanted.{is_bare, Seek}
+use Rattle.dali_events.proofs.Sending.{lawful_of}
+use Rattle.dali_events.proofs.Heard.{opened_apart}
+use Rattle.dali_progress.specs.Rounds.{Succeeds}
+use Rattle.dali_progress.proofs.Lone.{IsLone, Moment, IsDueOf, due_of, Addresses, acted_last, acted_told, lone_acted, lone_next, sent_last, lone_sent}
+use Rattle.dali_progress.proofs.Stands.{search_frames, At, VisitsAt, Stands, Sends}
+use Rattle.dali_progress.proofs.Frames.{IsTaken, Seeks, at_sent}
+use Rattle.dali_progress.proofs.Turns.{IsCalm, CommitsTo, IsNext, turned, started, committed, with_kept}
+
+-- COMMISSIONING GOES ON, event by event.
+
+-- before the start
+pub record IsFresh (m : Machine) (gs : List Gear) (left : ℕ) : Type 0 where
+  pub calm : IsCalm m
+  pub free : m.trace ≡ []
+  pub nothing : m.kept.reserved ≡ []
+  pub unopened : m.opened ≡ false
+  pub opening : m.course.purpose ≡ Opening
+  pub frames : 5 + search_frames (count_by is_bare gs) ≤ left
+
+-- a frame was heard: the machine stands so, once it is told
+pub record Hears (m : Machine) (f : Forward) (h : Answer) (gs : List Gear) (left : ℕ) : Type 0 where
+  pub stands : Stands (machine_heard m (Some f) h) gs left
+  pub running : stage_of (machine_heard m (Some f) h).trace ≡ stage.Free → ⊥
+
+abbrev pub Holds : Machine → Option Order → Option Input → List Gear → ℕ → Type 0
+Holds m None (Some input.Start) gs left = IsFresh m gs left
+Holds m (Some (Put p f)) (Some (input.Heard h)) gs left = Hears m f h gs left
+Holds m (Some o) None gs left = IsNext m o gs left
+Holds m _ _ gs left = ⊥
+
+pub record Goes (w : World) (q c : ℕ) (m : Machine) (left : ℕ) : Type 0 where
+  pub lone : IsLone w q c m
+  pub holds : Holds m (controller_at w c).last (controller_at w c).told w.gear left
+
+-- ---------------------------------------------------------------- the controller acts
+
+put_no_enrolment : (p : ℕ) (f : Forward) (last : Option Order) → last ≡ Some (Put p f) → IsNoEnrolment last
+put_no_enrolment p f last is b n e = let other : Some (Put p f) ≡ Some (Commit (Enrol b n)) = sym is ∙ e in cc
+
+heard_next : (m : Machine) (p : ℕ) (f : Forward) (h : Answer) (o : Order) (gs : List Gear) (left : ℕ) → m.last ≡ Some (Put p f) → IsGivenBy (machine_told m (input.Heard h)) o → IsKept m.kept → Hears m f h gs left
+    → IsNext (machine_after m (input.Heard h) o) o gs left
+heard_next m p f h o gs left is g kept hears =
+    let told : machine_told m (input.Heard h) ≡ machine_heard m (Some f) h = ap (λ l. machine_heard m (frame_put l) h) is in
+    subst (λ t. IsNext (machine_ordered t o) o gs left) (sym told)
+    (turned (machine_heard m (Some f) h) o gs left (subst (λ t. IsGivenBy t o) told g) hears.stands kept (put_no_enrolment p f m.last is) hears.running)
+
+kept_next : (m : Machine) (x : Record) (o : Order) (gs : List Gear) (left : ℕ) → m.last ≡ Some (Commit x) → IsGivenBy (machine_told m input.Committed) o → IsKept m.kept → m.trace ≡ [] → IsCalm m × CommitsTo m x gs left
+    → IsNext (machine_after m input.Committed o) o gs left
+kept_next m x o gs left is g kept free commits =
+    let told : machine_told m input.Committed ≡ with_kept m x = ap (λ l. machine_committed m (record_ordered l)) is in
+    subst (λ t. IsNext (machine_ordered t o) o gs left) (sym told)
+    (committed m x o gs left commits.0 commits.1 free is kept.reserved (subst (λ t. IsGivenBy t o) told g))
+
+-- what is due, by the last order and by what was told
+acts : (w : World) (q c : ℕ) (m : Machine) (out : Option Record) (last : Option Order) (told : Option Input) (i : Input) (o : Order) (left : ℕ) → Moment w q c m out last told → m.last ≡ last
+    → IsDueOf last told i → Succeeds i → IsGivenBy (machine_told m i) o → IsKept m.kept → Holds m last told w.gear left → IsNext (machine_after m i o) o w.gear left
+acts w q c m out None (Some input.Start) input.Start o left at is due good g kept holds =
+    started m o w.gear left g holds.calm holds.free is holds.nothing holds.unopened holds.opening holds.frames
+acts w q c m out (Some (Put p f)) (Some (input.Heard h)) (input.Heard a) o left at is due good g kept holds =
+    let same : h ≡ a = cc in
+    heard_next m p f a o w.gear left is g kept (subst (λ b. Hears m f b w.gear left) same holds)
+acts w q c m out (Some (Commit x)) None input.Committed o left at is due good g kept holds = kept_next m x o w.gear left is g kept at.1 holds
+acts w q c m out last told input.CommitFailed o left at is due good g kept holds = absurd good
+acts w q c m out None told input.Committed o left at is due good g kept holds = absurd due
+acts w q c m out (Some (Put p f)) told input.Committed o left at is due good g kept holds = absurd due
+acts w q c m out (Some (Done e)) told input.Committed o left at is due good g kept holds = absurd due
+acts w q c m out (Some (Halt why)) told input.Committed o left at is due good g kept holds = absurd due
+acts w q c m out None None i o left at is due good g kept holds = absurd at
+acts w q c m out None (Some input.Start) i o left at is due good g kept holds = absurd (cc)
+acts w q c m out None (Some j) i o left at is due good g kept holds = absurd at
+acts w q c m out (Some (Put p f)) (Some (input.Heard h)) i o left at is due good g kept holds = absurd (cc)
+acts w q c m out (Some (Put p f)) (Some j) i o left at is due good g kept holds = absurd at
+acts w q c m out (Some l) (Some j) i o left at is due good g kept holds = absurd at
+acts w q c m out (Some l) None i o left at is due good g kept holds = absurd (cc)
+
+addresses_by : (o : Order) → IsAddressing o → Addresses (Some o)
+addresses_by (Put p f) addressing = go (command_of f) refl where
+  go : (d : Command) → command_of f ≡ d → is_arc d ≡ false
+  go (Arc x) e = absurd (addressing x e)
+  go _ e = refl
+addresses_by (Commit x) addressing = tt
+addresses_by (Done e) addressing = tt
+addresses_by (Halt why) addressing = tt
+
+not_failed : (i : Input) → Succeeds i → i ≡ input.CommitFailed → ⊥
+not_failed i good e = subst Succeeds e good
+
+holds_next : (m : Machine) (o : Order) (gs : List Gear) (left : ℕ) → IsNext m o gs left → Holds m (Some o) None gs left
+holds_next m (Put p f) gs left next = next
+holds_next m (Commit x) gs left next = next
+holds_next m (Done e) gs left next = next
+holds_next m (Halt why) gs left next = next
+
+next_holds : (m : Machine) (o : Order) (gs : List Gear) (left : ℕ) → Holds m (Some o) None gs left → IsNext m o gs left
+next_holds m (Put p f) gs left next = next
+next_holds m (Commit x) gs left next = next
+next_holds m (Done e) gs left next = next
+next_holds m (Halt why) gs left next = next
+
+pub goes_acted : (w : World) (q c : ℕ) (m : Machine) (i : Input) (o : Order) (left : ℕ) → Goes w q c m left → Succeeds i → Allowed w (event.Acted c i o) → IsGiven m i o → IsKept (controller_at w c).records
+    → Goes (happens w (event.Acted c i o)) q c (machine_after m i o) left
+goes_acted w q c m i o left goes good here given kept =
+    let by : IsGivenBy (machine_told m i) o = given_by m i o (not_failed i good) given in
+    let lone = lone_acted w q c m i o goes.lone good (addresses_by o by.ordered.addressing) here in
+    let next = acts w q c m (controller_at w c).outstanding (controller_at w c).last (controller_at w c).told i o left goes.lone.moment goes.lone.last (due_of (controller_at w c) i here.due) good by
+        (subst IsKept (sym goes.lone.kept) kept) goes.holds in
+    record { lone = lone; holds = rw (acted_last w c i o goes.lone.up, acted_told w c i o goes.lone.up) (holds_next (machine_after m i o) o w.gear left next) }
+
+-- ---------------------------------------------------------------- its frame is sent
+
+-- no stage on the way is one of a search that led to no gear
+never_silent : (p : Purpose) (s : Stage) (k : Kept) (opened o : Bool) (x : Search) (n : SearchAddress) (gs : List Gear) (left : ℕ) → At p s k opened x n gs left → silent_after s o 0 ≡ 0
+never_silent Opening (stage.Unanswered r) k opened o x n gs left at = absurd at.stage_is
+never_silent Opening (stage.Inconclusive r other) k opened o x n gs left at = absurd at.stage_is
+never_silent Probing (stage.Unanswered r) k opened o x n gs left at = absurd at.1.stage_is
+never_silent Probing (stage.Inconclusive r other) k opened o x n gs left at = absurd at.1.stage_is
+never_silent Visiting (stage.Unanswered r) k opened o x n gs left at = absurd at.1.stage_is
+never_silent Visiting (stage.Inconclusive r other) k opened o x n gs left at = absurd at.1.stage_is
+never_silent (Resolving a) (stage.Unanswered r) k opened o x n gs left at = absurd at
+never_silent (Resolving a) (stage.Inconclusive r other) k opened o x n gs left at = absurd at
+never_silent (Closing e) (stage.Unanswered r) k opened o x n gs left at = absurd at.stage_is
+never_silent (Closing e) (stage.Inconclusive r other) k opened o x n gs left at = absurd at.stage_is
+never_silent p (stage.Withdrawn r a) k opened o x n gs left at = refl
+never_silent p _ k opened o x n gs left at = refl
+
+no_tries : (complete : Bool) (n : ℕ) → n ≡ 0 → tries_after complete n ≡ 0
+no_tries true n is = refl
+no_tries false n is = is
+
+not_free : (t : List Entry) (x : Entry) → stage_of (t ++ x ∷ []) ≡ stage.Free → ⊥
+not_free t x e = go t (free_is_empty (t ++ x ∷ []) e) where
+  go : (t : List Entry) → t ++ x ∷ [] ≡ [] → ⊥
+  go [] e = cc
+  go (y ∷ t) e = cc
+
+-- the machine stands so once it is told what was heard
+stands_heard : (m : Machine) (f : Forward) (h : Answer) (gs hs : List Gear) (left l : ℕ) → Stands m gs left → IsLawful m.trace f
+    → At m.course.purpose (next_stage (stage_of m.trace) (command_of f) h) m.kept (opened_after (next_stage (stage_of m.trace) (command_of f) h) m.opened) m.course.search m.course.number hs l
+    → Stands (machine_heard m (Some f) h) hs l
+stands_heard m f h gs hs left l st lawful at =
+    let more : stage_of (m.trace ++ entry f h ∷ []) ≡ next_stage (stage_of m.trace) (command_of f) h = stage_more m.trace (entry f h) in
+    record {
+      tries = no_tries _ m.tries st.tries;
+      silent = rw (more, st.silent) (never_silent m.course.purpose (next_stage (stage_of m.trace) (command_of f) h) m.kept
+          (opened_after (next_stage (stage_of m.trace) (command_of f) h) m.opened) m.opened m.course.search m.course.number hs l at);
+      trace = subst (λ s. IsTrace s (m.trace ++ entry f h ∷ [])) (sym more) (trace_more (stage_of m.trace) m.trace f h lawful st.trace);
+      within = st.within;
+      at = rw more at;
+    }
+
+-- what is known of a frame that is allowed, in a run
+pub record IsKnown (w : World) (c : ℕ) (f : Forward) (h : Answer) : Type 0 where
+  pub drawn : AreDrawn w
+  pub then : AreDrawn (happens w (event.Sent c f h))
+  pub seeks : (r : SearchAddress) → number_at (stage_of w.trace) ≡ Some r → Seek w.gear r
+
+taken_of : (w : World) (c : ℕ) (f : Forward) (h : Answer) → Allowed w (event.Sent c f h) → IsKnown w c f h → h ≡ heard_of (answers_of Everyone (command_of f) 0 w.gear) → IsTaken (command_of f) w.gear w.left h
+taken_of w c f h here known heard = record {
+  heard = heard;
+  enough = here.draws;
+  below = λ x has. known.then.below x.0 x.1 (has_right w.drawn (drawn_of Everyone (command_of f) 0 w.gear w.left) x has);
+  apart = opened_apart w known.drawn;
+}
+
+pub goes_sent : (w : World) (q c : ℕ) (m : Machine) (r : Request) (h : Answer) (left : ℕ) → Goes w q c m left → next w.bus ≡ Some r → Allowed w (event.Sent r.sender r.frame h) → IsKnown w r.sender r.frame h
+    → h ≡ heard_of (answers_of Everyone (command_of r.frame) 0 w.gear) → (l : ℕ) × (left ≡ suc l) × Goes (happens w (event.Sent r.sender r.frame h)) q c m l
+goes_sent w q c m r h left goes is here known heard =
+    let put = lone_next w q c m r goes.lone is in
+    let at : r.sender ≡ c = put.3 in
+    subst (λ d. Allowed w (event.Sent d r.frame h) → IsKnown w d r.frame h → (l : ℕ) × (left ≡ suc l) × Goes (happens w (event.Sent d r.frame h)) q c m l) (sym at)
+    (λ here known. go put.0 put.1 put.2 here known) here known
+  where
+    go : (p : ℕ) → m.last ≡ Some (Put p r.frame) → (controller_at w c).told ≡ None → Allowed w (event.Sent c r.frame h) → IsKnown w c r.frame h → (l : ℕ) × (left ≡ suc l) × Goes (happens w (event.Sent c r.frame h)) q c m l
+    go p last told here known =
+        let lone = lone_sent w q c m p r.frame h goes.lone last told in
+        let holds : IsNext m (Put p r.frame) w.gear left = next_holds m (Put p r.frame) w.gear left (rw (sym goes.lone.last ∙ last, told) at goes.holds) in
+        let same : w.trace ≡ m.trace = lone.3 in
+        let sent = at_sent m.course.purpose (stage_of m.trace) m.kept m.opened m.course.search m.course.number w.gear w.left left (command_of r.frame) h holds.0.at holds.1
+            (taken_of w c r.frame h here known heard) (subst (λ t. Seeks (stage_of t) w.gear) same known.seeks) in
+        let lawful : IsLawful m.trace r.frame =
+            ((controller_at w c).records.block, (controller_at w c).records.reserved, subst (λ t. Lawful (controller_at w c).records.block (controller_at w c).records.reserved t r.frame) lone.2 (lawful_of w c r.frame here.may)) in
+        (sent.0, sent.1, record {
+          lone = lone.0;
+          holds = rw (sent_last w c r.frame h goes.lone.up ∙ sym goes.lone.last ∙ last, lone.1)
+              (record { stands = stands_heard m r.frame h w.gear _ left sent.0 holds.0 lawful sent.2; running = not_free m.trace (entry r.frame h) });
+        })

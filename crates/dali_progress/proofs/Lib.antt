@@ -1,0 +1,6 @@
+mod Lone
+mod Stands
+mod Frames
+mod Turns
+mod Goes
+mod Bounded

@@ -1,0 +1,302 @@
+use Rattle.std.proofs.Common.{◌≡◌, ℕ, ◌<◌, ◌⊎◌, inl, inr, Bool, true, false, List, [], ◌∷◌, ◌++◌, refl, sym, ap, subst, ◌∙◌, arith, length, length-set, get_or, get_or-set_same, get_or-set_other, nat_eq, Option, Some, None}
+use Rattle.std.specs.Prelude.{◌==◌, if◌then◌else◌}
+use Rattle.std.proofs.lemmas.Bool.Decides.{nat_tests}
+use Rattle.dali_frame.specs.declared.frames.Forward.{Forward}
+use Rattle.dali_frame.specs.declared.frames.Answer.{Answer}
+use Rattle.dali_frame.specs.Priority.{FIRST, LATER}
+use Rattle.dali_special.specs.declared.command.Command.{Command}
+use Rattle.dali_special.specs.Command.{command_of}
+use Rattle.dali_arbiter.specs.declared.request.Request.{Request}
+use Rattle.dali_arbiter.specs.Arbiter.{Arbiter, idle, owns, next, request_of}
+use Rattle.dali_script.specs.declared.trace.Entry.{Entry}
+use Rattle.dali_script.specs.declared.records.Record.{Record}
+use Rattle.dali_script.specs.Records.{Kept}
+use Rattle.dali_script.specs.Stages.{stage_of, may_follow}
+use Rattle.dali_script.specs.declared.orders.Input.{Input}
+use Rattle.dali_script.specs.declared.orders.Input.TheVariants as input
+use Rattle.dali_script.specs.declared.orders.Order.{Order}
+use Rattle.dali_script.specs.declared.orders.Order.TheVariants.{Put, Commit, Done, Halt}
+use Rattle.dali_script.specs.Due.{frame_put, record_ordered}
+use Rattle.dali_controller.specs.Machine.{Machine, machine_heard, machine_committed, machine_told}
+use Rattle.dali_controller.specs.Orders.{machine_after}
+use Rattle.dali_events.specs.declared.event.Event.{Event}
+use Rattle.dali_events.specs.declared.event.Event.TheVariants as event
+use Rattle.dali_events.specs.World.{World, Controller, controller_at, nobody}
+use Rattle.dali_events.specs.Happens.{happens, entry, controller_informed, controller_acted, outstanding_told, outstanding_after, with_outstanding, kept_after, bus_acted, gives_up, told_sent, trace_running, goes_on, sent_by, is_arc}
+use Rattle.dali_events.specs.Allowed.{Allowed, IsUp, IsDue, IsCommit, MayOrder}
+use Rattle.dali_progress.specs.Rounds.{Succeeds}
+
+-- ONE CONTROLLER ALONE ON THE BUS. What waits on the bus, what was told and what is to come go together with the
+-- last order of its machine.
+
+-- the bus on which nothing waits
+abbrev pub still : ℕ → Option ℕ → Arbiter
+still capacity owner = record { lists = (idle capacity).lists; owner = owner; capacity = capacity }
+
+-- the bus on which one later frame of c waits, or one first frame
+abbrev pub with_later : ℕ → ℕ → Forward → Arbiter
+with_later capacity c f = record { lists = (request_of c LATER f ∷ []) ∷ [] ∷ [] ∷ [] ∷ [] ∷ []; owner = Some c; capacity = capacity }
+
+abbrev pub with_first : ℕ → ℕ → Forward → Arbiter
+with_first capacity c f = record { lists = [] ∷ [] ∷ (request_of c FIRST f ∷ []) ∷ [] ∷ [] ∷ []; owner = None; capacity = capacity }
+
+-- a frame waits
+abbrev pub Waits : World → ℕ → ℕ → Machine → ℕ → Forward → Type 0
+Waits w q c m p f =
+    ((p ≡ LATER) × (w.bus ≡ with_later q c f) × (w.trace ≡ m.trace))
+    ⊎ ((p ≡ FIRST) × (w.bus ≡ with_first q c f) × (w.trace ≡ []) × (m.trace ≡ []))
+
+-- a frame was heard, and c owns the bus or nobody does
+abbrev pub Heard : World → ℕ → ℕ → Machine → Forward → Answer → Type 0
+Heard w q c m f h =
+    ((w.bus ≡ still q (Some c)) × (w.trace ≡ m.trace ++ entry f h ∷ []))
+    ⊎ ((w.bus ≡ still q None) × (w.trace ≡ []))
+
+-- nothing runs
+abbrev pub Rests : World → ℕ → Type 0
+Rests w q = (w.bus ≡ still q None) × (w.trace ≡ [])
+
+abbrev pub Moment : World → ℕ → ℕ → Machine → Option Record → Option Order → Option Input → Type 0
+Moment w q c m outstanding None (Some input.Start) = Rests w q × (m.trace ≡ [])
+Moment w q c m outstanding (Some (Put p f)) None = Waits w q c m p f
+Moment w q c m outstanding (Some (Put p f)) (Some (input.Heard h)) = Heard w q c m f h
+Moment w q c m outstanding (Some (Commit x)) None = Rests w q × (m.trace ≡ []) × (outstanding ≡ Some x)
+Moment w q c m outstanding (Some (Done e)) None = Rests w q
+Moment w q c m outstanding (Some (Halt why)) None = Rests w q
+Moment w q c m outstanding _ _ = ⊥
+
+abbrev no_input : Option Input
+no_input = None
+
+-- what was put is no direct arc power
+abbrev pub Addresses : Option Order → Type 0
+Addresses (Some (Put p f)) = is_arc (command_of f) ≡ false
+Addresses _ = Unit {0}
+
+pub record IsLone (w : World) (q c : ℕ) (m : Machine) : Type 0 where
+  pub up : IsUp w c
+  pub kept : m.kept ≡ (controller_at w c).records
+  pub last : m.last ≡ (controller_at w c).last
+  pub addresses : Addresses (controller_at w c).last
+  pub moment : Moment w q c m (controller_at w c).outstanding (controller_at w c).last (controller_at w c).told
+
+-- ---------------------------------------------------------------- the controller acts
+
+
+-- before an order, of a machine that was told its input
+abbrev Before : World → ℕ → ℕ → List Entry → Type 0
+Before w q c t = ((w.bus ≡ still q (Some c)) × (w.trace ≡ t)) ⊎ ((w.bus ≡ still q None) × (w.trace ≡ []))
+
+-- and what is to come of the order
+abbrev Comes : World → ℕ → ℕ → List Entry → Order → Type 0
+Comes w q c t (Put p f) =
+    ((p ≡ LATER) × (bus_acted w.bus c (Put p f) ≡ with_later q c f) × ((if gives_up w.bus c (Put p f) then [] else w.trace) ≡ t))
+    ⊎ ((p ≡ FIRST) × (bus_acted w.bus c (Put p f) ≡ with_first q c f) × ((if gives_up w.bus c (Put p f) then [] else w.trace) ≡ []))
+Comes w q c t o = (bus_acted w.bus c o ≡ still q None) × ((if gives_up w.bus c o then [] else w.trace) ≡ [])
+
+abbrev Puts : World → ℕ → Order → Type 0
+Puts w c (Put p f) = (p ≡ FIRST) ⊎ ((p ≡ LATER) × (w.bus.owner ≡ Some c))
+Puts w c o = Unit {0}
+
+same : (c : ℕ) → (c == c) ≡ true
+same c = grind (arith, nat_tests)
+
+comes : (w : World) (q c : ℕ) (t : List Entry) (o : Order) → Puts w c o → Before w q c t → Comes w q c t o
+comes w q c t (Put p f) (inl first) (inl own) = rw (first, own.0, same c) (inr (refl, refl, refl))
+comes w q c t (Put p f) (inl first) (inr free) = rw (first, free.0, free.1) (inr (refl, refl, refl))
+comes w q c t (Put p f) (inr later) (inl own) = rw (later.0, own.0, same c) (inl (refl, refl, own.1))
+comes w q c t (Put p f) (inr later) (inr free) = absurd (let owner : (still q None).owner ≡ Some c = subst (λ (b : Arbiter). b.owner ≡ Some c) free.0 later.1 in cc)
+comes w q c t (Commit x) puts (inl own) = rw (own.0, same c) (refl, refl)
+comes w q c t (Commit x) puts (inr free) = rw (free.0, free.1) (refl, refl)
+comes w q c t (Done e) puts (inl own) = rw (own.0, same c) (refl, refl)
+comes w q c t (Done e) puts (inr free) = rw (free.0, free.1) (refl, refl)
+comes w q c t (Halt why) puts (inl own) = rw (own.0, same c) (refl, refl)
+comes w q c t (Halt why) puts (inr free) = rw (free.0, free.1) (refl, refl)
+
+-- what was told, and what the machine knows then
+abbrev pub IsDueOf : Option Order → Option Input → Input → Type 0
+IsDueOf last told input.Committed = IsCommit last
+IsDueOf last told input.CommitFailed = IsCommit last
+IsDueOf last told i = told ≡ Some i
+
+pub due_of : (k : Controller) (i : Input) → IsDue k i → IsDueOf k.last k.told i
+due_of k input.Committed due = due
+due_of k input.CommitFailed due = due
+due_of k input.Start due = due
+due_of k (input.Heard h) due = due
+due_of k input.Destroyed due = due
+due_of k input.Lapsed due = due
+
+before : (w : World) (q c : ℕ) (m : Machine) (out : Option Record) (last : Option Order) (told : Option Input) (i : Input) → m.last ≡ last → Succeeds i → IsDueOf last told i
+    → Moment w q c m out last told → Before w q c (machine_told m i).trace
+before w q c m out None (Some input.Start) input.Start is good due at = inr at.0
+before w q c m out (Some (Put p f)) (Some (input.Heard h)) (input.Heard g) is good due at = rw is (go at) where
+  same_answer : h ≡ g
+  same_answer = cc
+
+  go : Heard w q c m f h → Before w q c (m.trace ++ entry f g ∷ [])
+  go (inl own) = inl (own.0, own.1 ∙ ap (λ a. m.trace ++ entry f a ∷ []) same_answer)
+  go (inr free) = inr free
+before w q c m out (Some (Commit x)) None input.Committed is good due at = rw is (inr at.0)
+before w q c m out last told input.CommitFailed is good due at = absurd good
+before w q c m out None told input.Committed is good due at = absurd due
+before w q c m out (Some (Put p f)) told input.Committed is good due at = absurd due
+before w q c m out (Some (Done e)) told input.Committed is good due at = absurd due
+before w q c m out (Some (Halt why)) told input.Committed is good due at = absurd due
+before w q c m out None None i is good due at = absurd at
+before w q c m out None (Some input.Start) i is good due at = absurd (cc)
+before w q c m out None (Some j) i is good due at = absurd at
+before w q c m out (Some (Put p f)) (Some (input.Heard h)) i is good due at = absurd (cc)
+before w q c m out (Some (Put p f)) (Some j) i is good due at = absurd at
+before w q c m out (Some o) (Some j) i is good due at = absurd at
+before w q c m out (Some o) None i is good due at = absurd (cc)
+
+heard_kept : (m : Machine) (o : Option Forward) (h : Answer) → (machine_heard m o h).kept ≡ m.kept
+heard_kept m (Some f) h = refl
+heard_kept m None h = refl
+
+committed_kept : (w : World) (q c : ℕ) (m : Machine) (k : Controller) (last : Option Order) (told : Option Input) → k.last ≡ last → k.told ≡ told → m.last ≡ last → IsCommit last → m.kept ≡ k.records
+    → Moment w q c m k.outstanding last told → (machine_committed m (record_ordered m.last)).kept ≡ with_outstanding k.records k.outstanding
+committed_kept w q c m k (Some (Commit x)) None at_last at_told is commit kept at = rw (is, at.2, kept) refl
+committed_kept w q c m k (Some (Commit x)) (Some i) at_last at_told is commit kept at = absurd at
+committed_kept w q c m k (Some (Put p f)) told at_last at_told is commit kept at = absurd commit
+committed_kept w q c m k (Some (Done e)) told at_last at_told is commit kept at = absurd commit
+committed_kept w q c m k (Some (Halt why)) told at_last at_told is commit kept at = absurd commit
+committed_kept w q c m k None told at_last at_told is commit kept at = absurd commit
+
+told_kept : (w : World) (q c : ℕ) (m : Machine) (k : Controller) (i : Input) → IsDue k i → Succeeds i → m.last ≡ k.last → m.kept ≡ k.records
+    → Moment w q c m k.outstanding k.last k.told → (machine_told m i).kept ≡ kept_after k i
+told_kept w q c m k input.Committed due good last kept at = committed_kept w q c m k k.last k.told refl refl last due kept at
+told_kept w q c m k input.CommitFailed due good last kept at = absurd good
+told_kept w q c m k input.Start due good last kept at = kept
+told_kept w q c m k (input.Heard h) due good last kept at = heard_kept m (frame_put m.last) h ∙ kept
+told_kept w q c m k input.Destroyed due good last kept at = kept
+told_kept w q c m k input.Lapsed due good last kept at = kept
+
+-- what an order that is allowed asks of the bus
+puts : (w : World) (c : ℕ) (k : Controller) (o : Order) → MayOrder w c k o → Puts w c o
+puts w c k (Put p f) (inl first) = inl first.0
+puts w c k (Put p f) (inr later) = inr (later.0, later.1)
+puts w c k (Commit x) may = tt
+puts w c k (Done e) may = tt
+puts w c k (Halt why) may = tt
+
+came : (w : World) (q c : ℕ) (m : Machine) (i : Input) (o : Order) (out : Option Record) → Comes w q c (machine_told m i).trace o
+    → Moment (happens w (event.Acted c i o)) q c (machine_after m i o) (outstanding_after out o) (Some o) None
+came w q c m i (Put p f) out (inl later) = inl (later.0, later.1, later.2 ∙ sym (rw later.0 refl))
+came w q c m i (Put p f) out (inr first) = inr (first.0, first.1, first.2, rw first.0 refl)
+came w q c m i (Commit x) out at = (at, refl, refl)
+came w q c m i (Done e) out at = at
+came w q c m i (Halt why) out at = at
+
+acted_there : (w : World) (c : ℕ) (i : Input) (o : Order) → IsUp w c → controller_at (happens w (event.Acted c i o)) c ≡ controller_acted (controller_at w c) i o
+acted_there w c i o up = get_or-set_same w.controllers c (controller_acted (controller_at w c) i o) nobody up.known
+
+pub acted_last : (w : World) (c : ℕ) (i : Input) (o : Order) → IsUp w c → (controller_at (happens w (event.Acted c i o)) c).last ≡ Some o
+acted_last w c i o up = ap (λ (k : Controller). k.last) (acted_there w c i o up)
+
+pub acted_told : (w : World) (c : ℕ) (i : Input) (o : Order) → IsUp w c → (controller_at (happens w (event.Acted c i o)) c).told ≡ None
+acted_told w c i o up = ap (λ (k : Controller). k.told) (acted_there w c i o up)
+
+pub lone_acted : (w : World) (q c : ℕ) (m : Machine) (i : Input) (o : Order) → IsLone w q c m → Succeeds i → Addresses (Some o) → Allowed w (event.Acted c i o)
+    → IsLone (happens w (event.Acted c i o)) q c (machine_after m i o)
+lone_acted w q c m i o l good addresses here =
+    let there : controller_at (happens w (event.Acted c i o)) c ≡ controller_acted (controller_at w c) i o = acted_there w c i o l.up in
+    record {
+      up = record {
+        known = subst (λ n. c < n) (sym (length-set w.controllers c (controller_acted (controller_at w c) i o))) l.up.known;
+        up = ap (λ (k : Controller). k.up) there ∙ l.up.up;
+      };
+      kept = told_kept w q c m (controller_at w c) i here.due good l.last l.kept l.moment ∙ sym (ap (λ (k : Controller). k.records) there);
+      last = sym (ap (λ (k : Controller). k.last) there);
+      addresses = subst Addresses (sym (ap (λ (k : Controller). k.last) there)) addresses;
+      moment = subst (λ (k : Controller). Moment (happens w (event.Acted c i o)) q c (machine_after m i o) k.outstanding k.last k.told) (sym there)
+          (came w q c m i o (outstanding_told (controller_at w c).outstanding i)
+          (comes w q c (machine_told m i).trace o (puts w c (controller_informed (controller_at w c) i) o here.order)
+          (before w q c m (controller_at w c).outstanding (controller_at w c).last (controller_at w c).told i l.last good (due_of (controller_at w c) i here.due) l.moment)));
+    }
+
+-- ---------------------------------------------------------------- its frame is sent
+
+-- the frame that is next is that of its last order
+request_is : (c n p : ℕ) (f : Forward) (r : Request) → Some (request_of c n f) ≡ Some r → (k : ℕ) × (Some (Put p f) ≡ Some (Put k r.frame)) × (no_input ≡ None) × (r.sender ≡ c)
+request_is c n p f r e =
+    let here : request_of c n f ≡ r = cc in
+    (p, ap (λ (x : Request). Some (Put p x.frame)) here, refl, sym (ap (λ (x : Request). x.sender) here))
+
+next_at : (w : World) (q c : ℕ) (m : Machine) (out : Option Record) (last : Option Order) (told : Option Input) (r : Request) → Moment w q c m out last told → next w.bus ≡ Some r
+    → (p : ℕ) × (last ≡ Some (Put p r.frame)) × (told ≡ None) × (r.sender ≡ c)
+next_at w q c m out (Some (Put p f)) None r (inl later) is = request_is c LATER p f r (sym (ap next later.1) ∙ is)
+next_at w q c m out (Some (Put p f)) None r (inr first) is = request_is c FIRST p f r (sym (ap next first.1) ∙ is)
+next_at w q c m out None (Some input.Start) r at is = absurd (let none : None ≡ Some r = sym (ap next at.0.0) ∙ is in cc)
+next_at w q c m out (Some (Put p f)) (Some (input.Heard h)) r (inl own) is = absurd (let none : None ≡ Some r = sym (ap next own.0) ∙ is in cc)
+next_at w q c m out (Some (Put p f)) (Some (input.Heard h)) r (inr free) is = absurd (let none : None ≡ Some r = sym (ap next free.0) ∙ is in cc)
+next_at w q c m out (Some (Commit x)) None r at is = absurd (let none : None ≡ Some r = sym (ap next at.0.0) ∙ is in cc)
+next_at w q c m out (Some (Done e)) None r at is = absurd (let none : None ≡ Some r = sym (ap next at.0) ∙ is in cc)
+next_at w q c m out (Some (Halt why)) None r at is = absurd (let none : None ≡ Some r = sym (ap next at.0) ∙ is in cc)
+next_at w q c m out None None r at is = absurd at
+next_at w q c m out None (Some i) r at is = absurd at
+next_at w q c m out (Some (Put p f)) (Some i) r at is = absurd at
+next_at w q c m out (Some (Commit x)) (Some i) r at is = absurd at
+next_at w q c m out (Some (Done e)) (Some i) r at is = absurd at
+next_at w q c m out (Some (Halt why)) (Some i) r at is = absurd at
+
+pub lone_next : (w : World) (q c : ℕ) (m : Machine) (r : Request) → IsLone w q c m → next w.bus ≡ Some r
+    → (p : ℕ) × (m.last ≡ Some (Put p r.frame)) × ((controller_at w c).told ≡ None) × (r.sender ≡ c)
+lone_next w q c m r l is =
+    let at = next_at w q c m (controller_at w c).outstanding (controller_at w c).last (controller_at w c).told r l.moment is in
+    (at.0, l.last ∙ at.1, at.2, at.3)
+
+-- what was sent of the transaction
+running_of : (w : World) (q c : ℕ) (m : Machine) (p : ℕ) (f : Forward) → Waits w q c m p f → trace_running w c ≡ m.trace
+running_of w q c m p f (inl later) = rw (later.1, same c) later.2
+running_of w q c m p f (inr first) = rw (first.1) (sym first.3)
+
+bus_after : (q c p : ℕ) (f : Forward) (b : Arbiter) (more : Bool) → ((b ≡ with_later q c f) ⊎ (b ≡ with_first q c f)) → sent_by b c more ≡ still q (if more then Some c else None)
+bus_after q c p f b true (inl later) = rw later refl
+bus_after q c p f b false (inl later) = rw later refl
+bus_after q c p f b true (inr first) = rw first refl
+bus_after q c p f b false (inr first) = rw first refl
+
+bus_waits : (w : World) (q c : ℕ) (m : Machine) (p : ℕ) (f : Forward) → Waits w q c m p f → ((w.bus ≡ with_later q c f) ⊎ (w.bus ≡ with_first q c f))
+bus_waits w q c m p f (inl later) = inl later.1
+bus_waits w q c m p f (inr first) = inr first.1
+
+heard_at : (w : World) (q c : ℕ) (m : Machine) (p : ℕ) (f : Forward) (h : Answer) → Waits w q c m p f → Heard (happens w (event.Sent c f h)) q c m f h
+heard_at w q c m p f h at = go (goes_on w c (trace_running w c ++ entry f h ∷ [])) refl where
+  go : (more : Bool) → goes_on w c (trace_running w c ++ entry f h ∷ []) ≡ more → Heard (happens w (event.Sent c f h)) q c m f h
+  go true is = inl (rw is (bus_after q c p f w.bus true (bus_waits w q c m p f at)), rw is (ap (λ t. t ++ entry f h ∷ []) (running_of w q c m p f at)))
+  go false is = inr (rw is (bus_after q c p f w.bus false (bus_waits w q c m p f at)), rw is refl)
+
+waits_at : (w : World) (q c : ℕ) (m : Machine) (out : Option Record) (last : Option Order) (told : Option Input) (p : ℕ) (f : Forward) → last ≡ Some (Put p f) → told ≡ None → Moment w q c m out last told → Waits w q c m p f
+waits_at w q c m out last told p f is none at = rw (is, none) at at
+
+sent_there : (w : World) (c : ℕ) (f : Forward) (h : Answer) → IsUp w c → controller_at (happens w (event.Sent c f h)) c ≡ told_sent (trace_running w c) f h (controller_at w c)
+sent_there w c f h up = get_or-set_same w.controllers c (told_sent (trace_running w c) f h (controller_at w c)) nobody up.known
+
+trace_is : (w : World) (q c : ℕ) (m : Machine) (p : ℕ) (f : Forward) → Waits w q c m p f → w.trace ≡ m.trace
+trace_is w q c m p f (inl later) = later.2
+trace_is w q c m p f (inr first) = first.2 ∙ sym first.3
+
+pub sent_last : (w : World) (c : ℕ) (f : Forward) (h : Answer) → IsUp w c → (controller_at (happens w (event.Sent c f h)) c).last ≡ (controller_at w c).last
+sent_last w c f h up = ap (λ (k : Controller). k.last) (sent_there w c f h up)
+
+pub lone_sent : (w : World) (q c : ℕ) (m : Machine) (p : ℕ) (f : Forward) (h : Answer) → IsLone w q c m → m.last ≡ Some (Put p f) → (controller_at w c).told ≡ None
+    → IsLone (happens w (event.Sent c f h)) q c m × ((controller_at (happens w (event.Sent c f h)) c).told ≡ Some (input.Heard h)) × (trace_running w c ≡ m.trace) × (w.trace ≡ m.trace)
+lone_sent w q c m p f h l is none =
+    let there : controller_at (happens w (event.Sent c f h)) c ≡ told_sent (trace_running w c) f h (controller_at w c) = sent_there w c f h l.up in
+    let last : (controller_at w c).last ≡ Some (Put p f) = sym l.last ∙ is in
+    let waits : Waits w q c m p f = waits_at w q c m (controller_at w c).outstanding (controller_at w c).last (controller_at w c).told p f last none l.moment in
+    let addresses : is_arc (command_of f) ≡ false = subst Addresses last l.addresses in
+    let last_there : (controller_at (happens w (event.Sent c f h)) c).last ≡ Some (Put p f) = ap (λ (k : Controller). k.last) there ∙ last in
+    let told_there : (controller_at (happens w (event.Sent c f h)) c).told ≡ Some (input.Heard h) = ap (λ (k : Controller). k.told) there ∙ rw addresses refl in
+    (record {
+      up = record {
+        known = subst (λ n. c < n) (sym (length-set w.controllers c (told_sent (trace_running w c) f h (controller_at w c)))) l.up.known;
+        up = ap (λ (k : Controller). k.up) there ∙ l.up.up;
+      };
+      kept = l.kept ∙ sym (ap (λ (k : Controller). k.records) there);
+      last = is ∙ sym last_there;
+      addresses = subst Addresses (sym last_there) addresses;
+      moment = rw (last_there, told_there) (heard_at w q c m p f h waits);
+    }, told_there, running_of w q c m p f waits, trace_is w q c m p f waits)

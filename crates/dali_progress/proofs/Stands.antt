@@ -1,0 +1,204 @@
+use Rattle.std.proofs.Common.{◌≡◌, ℕ, ◌+◌, ◌-◌, ◌*◌, ◌<◌, ◌≤◌, ◌⊎◌, inl, inr, Bool, true, false, zero, suc, List, [], ◌∷◌, refl, sym, ap, subst, ◌∙◌, arith, length, Option, Some, None}
+use Rattle.std.specs.List.{count_by}
+use Rattle.dali_frame.specs.declared.frames.Answer.{Answer}
+use Rattle.dali_frame.specs.declared.numbers.SearchAddress.{SearchAddress}
+use Rattle.dali_frame.specs.Random.{value_of, MASK24}
+use Rattle.dali_special.specs.declared.command.Command.{Command}
+use Rattle.dali_special.specs.declared.command.Command.TheVariants.{Program}
+use Rattle.dali_gear.specs.Gear.{Gear, is_active}
+use Rattle.dali_script.specs.Records.{Assignment, Kept, Has, HasRandom, IsFull}
+use Rattle.dali_script.specs.declared.stage.Stage.{Stage}
+use Rattle.dali_script.specs.declared.stage.Stage.TheVariants as stage
+use Rattle.dali_script.specs.Stages.{IsSearched, IsTrace, stage_of}
+use Rattle.dali_script.specs.declared.orders.End.{End}
+use Rattle.dali_script.specs.declared.orders.End.TheVariants.{AllFound, BlockFull, GaveUp}
+use Rattle.dali_search.specs.declared.step.Step.TheVariants.{Again}
+use Rattle.dali_search.specs.Least.{Search, Agrees, Gives}
+use Rattle.dali_search.specs.Narrowing.{IsNarrowing}
+use Rattle.dali_controller.specs.declared.purpose.Purpose.{Purpose}
+use Rattle.dali_controller.specs.declared.purpose.Purpose.TheVariants.{Opening, Probing, Visiting, Resolving, Closing}
+use Rattle.dali_controller.specs.Course.{first_of, turn_of, sought, is_yes}
+use Rattle.dali_controller.specs.Machine.{Machine}
+use Rattle.dali_events.specs.Searching.{HasShort}
+use Rattle.dali_events.specs.Wanted.{is_wanted, wants, is_bare, OfPowered, IsOpened, NoneNamed, NoneNamedBut}
+use Rattle.dali_events.proofs.Opened.{AreOpening}
+
+-- HOW FAR COMMISSIONING IS, where nothing is disturbed: what is true of gear, records and search at each stage of the
+-- running transaction, and how many frames are left to be sent, at the most.
+
+-- so many frames of the transaction were sent
+abbrev pub sent_at : Stage → ℕ
+sent_at stage.Terminated = 1
+sent_at stage.InitialisedOnce = 2
+sent_at stage.Initialised = 3
+sent_at stage.RandomisedOnce = 4
+sent_at stage.Opened = 5
+sent_at (stage.HighSent high) = 1
+sent_at (stage.MiddleSent high middle) = 2
+sent_at (stage.NumberSent r) = 3
+sent_at (stage.Probed r h) = 4
+sent_at (stage.Unnamed r) = 4
+sent_at (stage.Programmed r a) = 5
+sent_at (stage.Confirmed r a) = 6
+sent_at _ = 0
+
+-- so many frames take a search for so many gear, and the close after it
+abbrev pub search_frames : ℕ → ℕ
+search_frames n = 111 * n + 5
+
+-- a probe after so many answers, and what may follow it
+abbrev pub probe_frames : ℕ → ℕ → ℕ
+probe_frames answers zero = 5
+probe_frames answers (suc more) = 4 + (4 * (24 - answers) + 11 + search_frames more)
+
+-- ---------------------------------------------------------------- an opening
+
+abbrev pub OpeningStage : Stage → Bool → Type 0
+OpeningStage stage.Free opened = Unit {0}
+OpeningStage stage.Terminated opened = Unit {0}
+OpeningStage stage.InitialisedOnce opened = Unit {0}
+OpeningStage stage.Initialised opened = Unit {0}
+OpeningStage stage.RandomisedOnce opened = Unit {0}
+OpeningStage stage.Opened opened = opened ≡ true
+OpeningStage _ opened = ⊥
+
+pub record Opens (s : Stage) (opened : Bool) (gs : List Gear) (left : ℕ) : Type 0 where
+  pub stage_is : OpeningStage s opened
+  pub gear : AreOpening s gs
+  pub frames : 5 + search_frames (count_by is_bare gs) ≤ left + sent_at s
+
+-- ---------------------------------------------------------------- a probe
+
+abbrev pub ProbeStage : Stage → List Gear → ℕ → Type 0
+ProbeStage stage.Free gs probe = Unit {0}
+ProbeStage (stage.HighSent high) gs probe = Unit {0}
+ProbeStage (stage.MiddleSent high middle) gs probe = Unit {0}
+ProbeStage (stage.NumberSent r) gs probe = Unit {0}
+ProbeStage (stage.Probed r h) gs probe = Gives (wants gs) probe (is_yes h)
+ProbeStage _ gs probe = ⊥
+
+-- what is known of a search
+pub record Searches (x : Search) (gs : List Gear) : Type 0 where
+  pub running : x.step ≡ Again
+  pub narrowing : IsNarrowing x
+  pub agrees : Agrees (wants gs) x.answers
+
+pub record Probes (s : Stage) (x : Search) (n : SearchAddress) (gs : List Gear) (left : ℕ) : Type 0 where
+  pub stage_is : ProbeStage s gs x.probe
+  pub searched : IsSearched s n
+  pub ready : IsOpened gs
+  pub unnamed : NoneNamed gs
+  pub searches : Searches x gs
+  pub number : n ≡ sought x.probe
+  pub frames : probe_frames (length x.answers) (count_by is_wanted gs) ≤ left + sent_at s
+
+-- ---------------------------------------------------------------- a visit
+
+abbrev pub VisitStage : Stage → Type 0
+VisitStage stage.Free = Unit {0}
+VisitStage (stage.HighSent high) = Unit {0}
+VisitStage (stage.MiddleSent high middle) = Unit {0}
+VisitStage (stage.NumberSent r) = Unit {0}
+VisitStage (stage.Unnamed r) = Unit {0}
+VisitStage _ = ⊥
+
+-- a gear is visited, whose number is wanted and is a random address
+pub record IsVisited (n : SearchAddress) (gs : List Gear) (more : ℕ) : Type 0 where
+  pub wanted : wants gs (value_of n) ≡ true
+  pub number : ℕ
+  pub number_is : n ≡ sought number
+  pub drawn : number < MASK24
+  pub count : count_by is_wanted gs ≡ suc more
+
+-- before its address is programmed: where one is reserved for it, this is the last visit
+abbrev pub VisitFrames : Kept → SearchAddress → ℕ → ℕ → Type 0
+VisitFrames k n more left =
+    (HasRandom k.reserved (value_of n) × (7 + search_frames more ≤ left))
+    ⊎ (11 + search_frames more ≤ left)
+
+pub record Visits (s : Stage) (k : Kept) (n : SearchAddress) (gs : List Gear) (left : ℕ) : Type 0 where
+  pub stage_is : VisitStage s
+  pub searched : IsSearched s n
+  pub ready : IsOpened gs
+  pub unnamed : NoneNamed gs
+  pub more : ℕ
+  pub visited : IsVisited n gs more
+  pub frames : VisitFrames k n more (left + sent_at s)
+
+-- afterwards it has the address
+abbrev pub HaveShort : List Gear → ℕ → ℕ → Type 0
+HaveShort gs n a = OfPowered gs (λ g. is_active g.state ≡ true → g.random ≡ n → g.short ≡ Some a)
+
+pub record Names (s : Stage) (r : SearchAddress) (a : ℕ) (k : Kept) (n : SearchAddress) (gs : List Gear) (left : ℕ) : Type 0 where
+  pub searched : r ≡ n
+  pub ready : IsOpened gs
+  pub unnamed : NoneNamedBut gs (value_of n)
+  pub named : HaveShort gs (value_of n) a
+  pub address : a < 64
+  pub reserved : Has k.reserved (a, value_of n)
+  pub more : ℕ
+  pub visited : IsVisited n gs more
+  pub frames : 7 + search_frames more ≤ left + sent_at s
+
+-- and it is withdrawn
+pub record Leaves (r : SearchAddress) (a : ℕ) (k : Kept) (n : SearchAddress) (gs : List Gear) (left : ℕ) : Type 0 where
+  pub searched : r ≡ n
+  pub ready : IsOpened gs
+  pub unnamed : NoneNamed gs
+  pub address : a < 64
+  pub number : ℕ
+  pub number_is : n ≡ sought number
+  pub drawn : number < MASK24
+  pub reserved : Has k.reserved (a, value_of n)
+  pub frames : search_frames (count_by is_wanted gs) ≤ left
+
+abbrev pub VisitsAt : Stage → Kept → SearchAddress → List Gear → ℕ → Type 0
+VisitsAt (stage.Programmed r a) k n gs left = Names (stage.Programmed r a) r a k n gs left
+VisitsAt (stage.Confirmed r a) k n gs left = Names (stage.Confirmed r a) r a k n gs left
+VisitsAt (stage.Withdrawn r a) k n gs left = Leaves r a k n gs left
+VisitsAt s k n gs left = Visits s k n gs left
+
+-- ---------------------------------------------------------------- the close
+
+abbrev pub CloseStage : Stage → Type 0
+CloseStage stage.Free = Unit {0}
+CloseStage stage.Terminated = Unit {0}
+CloseStage _ = ⊥
+
+-- what its end says
+abbrev pub EndsWell : End → Kept → List Gear → Type 0
+EndsWell AllFound k gs = OfPowered gs HasShort
+EndsWell BlockFull k gs = IsFull k.block k.reserved
+EndsWell GaveUp k gs = ⊥
+
+pub record Closes (e : End) (s : Stage) (k : Kept) (gs : List Gear) (left : ℕ) : Type 0 where
+  pub stage_is : CloseStage s
+  pub well : EndsWell e k gs
+  pub frames : 1 ≤ left + sent_at s
+
+-- ---------------------------------------------------------------- the table
+
+abbrev pub At : Purpose → Stage → Kept → Bool → Search → SearchAddress → List Gear → ℕ → Type 0
+At Opening s k opened x n gs left = Opens s opened gs left
+At Probing s k opened x n gs left = (opened ≡ true) × Probes s x n gs left
+At Visiting s k opened x n gs left = (opened ≡ true) × VisitsAt s k n gs left
+At (Resolving a) s k opened x n gs left = ⊥
+At (Closing e) s k opened x n gs left = Closes e s k gs left
+
+-- what is enrolled is reserved
+abbrev pub IsWithin : Kept → Type 0
+IsWithin k = (x : Assignment) → Has k.enrolled x → Has k.reserved x
+
+pub record Stands (m : Machine) (gs : List Gear) (left : ℕ) : Type 0 where
+  pub tries : m.tries ≡ 0
+  pub silent : m.silent ≡ 0
+  pub trace : IsTrace (stage_of m.trace) m.trace
+  pub within : IsWithin m.kept
+  pub at : At m.course.purpose (stage_of m.trace) m.kept m.opened m.course.search m.course.number gs left
+
+-- ---------------------------------------------------------------- the frame that is to be sent
+
+abbrev pub Sends : Purpose → SearchAddress → Kept → Stage → Command → Type 0
+Sends p n k stage.Free c = c ≡ first_of p n
+Sends p n k (stage.Unnamed r) c = (a : ℕ) × (a < 64) × Has k.reserved (a, value_of r) × (c ≡ Program (Some a))
+Sends p n k s c = turn_of p n s ≡ Some c

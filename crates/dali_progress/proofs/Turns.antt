@@ -1,0 +1,477 @@
+use Rattle.std.proofs.Common.{◌≡◌, ℕ, ◌+◌, ◌*◌, ◌-◌, ◌<◌, ◌≤◌, ◌⊎◌, inl, inr, Bool, true, false, zero, suc, List, [], ◌∷◌, ◌++◌, refl, sym, ap, subst, ◌∙◌, arith, length, length-append, nat_lt, get_or, Option, Some, None}
+use Rattle.std.specs.Prelude.{◌==◌, if◌then◌else◌, max, min}
+use Rattle.std.specs.List.{count_by}
+use Rattle.std.proofs.lemmas.Bool.Decides.{nat_tests}
+use Rattle.dali_frame.specs.declared.frames.Forward.{Forward}
+use Rattle.dali_frame.specs.declared.frames.Answer.{Answer}
+use Rattle.dali_frame.specs.declared.numbers.SearchAddress.{SearchAddress}
+use Rattle.dali_frame.specs.Random.{value_of, MASK24}
+use Rattle.dali_frame.specs.Priority.{FIRST, LATER}
+use Rattle.dali_special.specs.declared.command.Command.{Command}
+use Rattle.dali_special.specs.declared.command.Command.TheVariants.{Program}
+use Rattle.dali_special.specs.Command.{command_of, frame_of, IsSpelled}
+use Rattle.dali_special.proofs.Table.{read_written}
+use Rattle.dali_gear.specs.declared.state.InitialisationState.TheVariants.{Enabled}
+use Rattle.dali_gear.specs.Gear.{Gear, fresh}
+use Rattle.dali_script.specs.declared.records.Record.{Record}
+use Rattle.dali_script.specs.declared.records.Record.TheVariants.{Reserve, Enrol, Release}
+use Rattle.dali_script.specs.Records.{Assignment, Kept, Has, HasAddress, HasRandom, IsKept, IsMap, IsFull, with_record}
+use Rattle.dali_script.specs.declared.stage.Stage.{Stage}
+use Rattle.dali_script.specs.declared.stage.Stage.TheVariants as stage
+use Rattle.dali_script.specs.Findings.{finding_of}
+use Rattle.dali_script.specs.Stages.{IsTrace, stage_of, finding_at}
+use Rattle.dali_script.proofs.Lists.{has_map, has_cases, has_last}
+use Rattle.dali_script.proofs.Members.{has_left, same_member}
+use Rattle.dali_script.proofs.Transactions.{stage_none}
+use Rattle.dali_script.proofs.Found.{trace_none}
+use Rattle.dali_script.specs.declared.orders.Order.{Order}
+use Rattle.dali_script.specs.declared.orders.Order.TheVariants.{Put, Commit, Done, Halt}
+use Rattle.dali_script.specs.declared.orders.End.{End}
+use Rattle.dali_script.specs.declared.orders.End.TheVariants.{AllFound, BlockFull, GaveUp}
+use Rattle.dali_search.specs.declared.step.Step.{Step}
+use Rattle.dali_search.specs.declared.step.Step.TheVariants.{Again, Found, Nobody}
+use Rattle.dali_search.specs.Least.{Search, Agrees, Gives, Says, HasAtMost, IsBelow, NumberOf, lowest, highest, answered, step_between}
+use Rattle.dali_search.specs.Narrowing.{IsNarrowing}
+use Rattle.dali_search.proofs.Agreement.{agrees_more}
+use Rattle.dali_search.proofs.Answered as searching
+use Rattle.dali_controller.specs.declared.purpose.Purpose.{Purpose}
+use Rattle.dali_controller.specs.declared.purpose.Purpose.TheVariants.{Opening, Probing, Visiting, Resolving, Closing}
+use Rattle.dali_controller.specs.Course.{Course, first_of, turn_of, sought, is_yes, closing_of, searching_anew, visiting, probing, probed, after_step}
+use Rattle.dali_controller.specs.Course.{closing as closing_by}
+use Rattle.dali_controller.specs.Course.{opening as opening_of}
+use Rattle.dali_controller.specs.Course.{unfinished_at, unfinished_among, visit_or_opening}
+use Rattle.dali_controller.specs.Machine.{Machine}
+use Rattle.dali_controller.specs.Next.{next_course, begins_at, at_rest, beginning, goes_on_to}
+use Rattle.dali_controller.specs.Orders.{machine_ordered, Contradicts, AfterFinding}
+use Rattle.dali_controller.proofs.Given as given
+use Rattle.dali_controller.proofs.Given.{IsGivenBy, IsNoEnrolment}
+use Rattle.dali_events.specs.Searching.{HasShort}
+use Rattle.dali_events.specs.Wanted.{is_wanted, wants, is_bare, OfPowered, IsOpened, NoneNamed}
+use Rattle.dali_events.proofs.Wanted as wanted
+use Rattle.dali_events.proofs.Opened as opening
+use Rattle.dali_progress.proofs.Stands.{sent_at, search_frames, probe_frames, Opens, Searches, Probes, IsVisited, VisitFrames, Visits, Names, Leaves, VisitsAt, EndsWell, Closes, At, IsWithin, Stands, Sends}
+use Rattle.dali_progress.proofs.Frames.{value_sought}
+
+-- A CONTROLLER ACTS on what it was told, and what it orders goes on with the commissioning.
+
+-- what every machine has that is not disturbed
+pub record IsCalm (m : Machine) : Type 0 where
+  pub tries : m.tries ≡ 0
+  pub silent : m.silent ≡ 0
+  pub within : IsWithin m.kept
+
+-- a reservation is to be kept, and then its gear is visited once more
+pub record Reserves (m : Machine) (r : ℕ) (gs : List Gear) (left : ℕ) : Type 0 where
+  pub opened : m.opened ≡ true
+  pub ready : IsOpened gs
+  pub unnamed : NoneNamed gs
+  pub wanted : wants gs r ≡ true
+  pub drawn : r < MASK24
+  pub more : ℕ
+  pub count : count_by is_wanted gs ≡ suc more
+  pub frames : 7 + search_frames more ≤ left
+
+-- an enrolment is to be kept, and then a new search begins
+pub record Enrols (m : Machine) (b r : ℕ) (gs : List Gear) (left : ℕ) : Type 0 where
+  pub opened : m.opened ≡ true
+  pub ready : IsOpened gs
+  pub unnamed : NoneNamed gs
+  pub reserved : Has m.kept.reserved (b, r)
+  pub frames : search_frames (count_by is_wanted gs) ≤ left
+
+abbrev pub CommitsTo : Machine → Record → List Gear → ℕ → Type 0
+CommitsTo m (Reserve a r) gs left = Reserves m r gs left
+CommitsTo m (Enrol b r) gs left = Enrols m b r gs left
+CommitsTo m (Release a r) gs left = ⊥
+
+-- what is to come of an order
+abbrev pub IsNext : Machine → Order → List Gear → ℕ → Type 0
+IsNext m (Put p f) gs left = Stands m gs left × Sends m.course.purpose m.course.number m.kept (stage_of m.trace) (command_of f)
+IsNext m (Commit x) gs left = IsCalm m × CommitsTo m x gs left
+IsNext m (Done e) gs left = EndsWell e m.kept gs
+IsNext m (Halt why) gs left = ⊥
+
+calm_of : (t : Machine) (gs : List Gear) (left : ℕ) → Stands t gs left → IsCalm t
+calm_of t gs left st = record { tries = st.tries; silent = st.silent; within = st.within }
+
+never_eight : (n : ℕ) → n ≡ 0 → n ≡ 8 → ⊥
+never_eight n none e = omega (arith, none, e)
+
+-- ---------------------------------------------------------------- a later frame, and a first one
+
+goes_later : (t : Machine) (o : Order) (c : Command) (gs : List Gear) (left : ℕ) → Stands t gs left → o ≡ Put LATER (frame_of c) → IsSpelled c
+    → Sends t.course.purpose t.course.number t.kept (stage_of t.trace) c → IsNext (machine_ordered t o) o gs left
+goes_later t o c gs left st is spelled sends = subst (λ q. IsNext (machine_ordered t q) q gs left) (sym is) (
+  record { tries = st.tries; silent = st.silent; trace = st.trace; within = st.within; at = st.at },
+  subst (λ d. Sends t.course.purpose t.course.number t.kept (stage_of t.trace) d) (sym (read_written c spelled)) sends,
+)
+
+goes_first : (t : Machine) (o : Order) (gs : List Gear) (left : ℕ) → IsCalm t → o ≡ beginning (next_course t)
+    → IsSpelled (first_of (next_course t).purpose (next_course t).number)
+    → At (next_course t).purpose stage.Free t.kept t.opened (next_course t).search (next_course t).number gs left → IsNext (machine_ordered t o) o gs left
+goes_first t o gs left calm is spelled at = subst (λ q. IsNext (machine_ordered t q) q gs left) (sym is) (
+  record {
+    tries = calm.tries;
+    silent = calm.silent;
+    trace = subst (λ s. IsTrace s []) (sym stage_none) trace_none;
+    within = calm.within;
+    at = subst (λ s. At (next_course t).purpose s t.kept t.opened (next_course t).search (next_course t).number gs left) (sym stage_none) at;
+  },
+  subst (λ s. Sends (next_course t).purpose (next_course t).number t.kept s (command_of (frame_of (first_of (next_course t).purpose (next_course t).number)))) (sym stage_none)
+  (read_written (first_of (next_course t).purpose (next_course t).number) spelled),
+)
+
+-- of a course that is known
+goes_by : (t : Machine) (o : Order) (cs : Course) (gs : List Gear) (left : ℕ) → IsCalm t → o ≡ beginning (next_course t) → next_course t ≡ cs
+    → IsSpelled (first_of cs.purpose cs.number) → At cs.purpose stage.Free t.kept t.opened cs.search cs.number gs left → IsNext (machine_ordered t o) o gs left
+goes_by t o cs gs left calm is same spelled at =
+    goes_first t o gs left calm is (subst (λ (d : Course). IsSpelled (first_of d.purpose d.number)) (sym same) spelled)
+    (subst (λ (d : Course). At d.purpose stage.Free t.kept t.opened d.search d.number gs left) (sym same) at)
+
+-- the finding of a transaction by its stage
+found_none : (t : Machine) (gs : List Gear) (left : ℕ) (s : Stage) → Stands t gs left → stage_of t.trace ≡ s → finding_at s ≡ None → finding_of t.trace ≡ None
+found_none t gs left s st is none = st.trace.finding ∙ ap finding_at is ∙ none
+
+-- ---------------------------------------------------------------- a new search
+
+search_at_first : (gs : List Gear) (left : ℕ) → search_frames (count_by is_wanted gs) ≤ left → probe_frames 0 (count_by is_wanted gs) ≤ left + 0
+search_at_first gs left enough = go (count_by is_wanted gs) enough where
+  go : (n : ℕ) → search_frames n ≤ left → probe_frames 0 n ≤ left + 0
+  go zero e = omega (arith, e)
+  go (suc n) e = omega (arith, e)
+
+begins_search : (c : Course) (gs : List Gear) (left : ℕ) → IsOpened gs → NoneNamed gs → search_frames (count_by is_wanted gs) ≤ left
+    → Probes stage.Free (searching_anew c).search (searching_anew c).number gs left
+begins_search c gs left ready unnamed enough = record {
+  stage_is = tt;
+  searched = tt;
+  ready = ready;
+  unnamed = unnamed;
+  searches = record { running = refl; narrowing = searching.begins; agrees = tt };
+  number = refl;
+  frames = search_at_first gs left enough;
+}
+
+searches_anew : (t : Machine) (o : Order) (gs : List Gear) (left : ℕ) → IsCalm t → o ≡ beginning (next_course t) → next_course t ≡ searching_anew t.course → t.opened ≡ true
+    → IsOpened gs → NoneNamed gs → search_frames (count_by is_wanted gs) ≤ left → IsNext (machine_ordered t o) o gs left
+searches_anew t o gs left calm is same opened ready unnamed enough =
+    goes_by t o (searching_anew t.course) gs left calm is same tt (opened, begins_search t.course gs left ready unnamed enough)
+
+-- after an opening before which an opening was complete
+goes_on_anew : (t : Machine) → t.opened ≡ true → goes_on_to t ≡ searching_anew t.course
+goes_on_anew t opened = rw opened refl
+
+-- ---------------------------------------------------------------- the opening
+
+-- its next frame
+turns_later : (t : Machine) (o : Order) (p : Purpose) (s : Stage) (c : Command) (gs : List Gear) (left : ℕ) → IsGivenBy t o → Stands t gs left → t.course.purpose ≡ p → stage_of t.trace ≡ s
+    → turn_of p t.course.number s ≡ Some c → IsSpelled c → Sends p t.course.number t.kept s c → IsNext (machine_ordered t o) o gs left
+turns_later t o p s c gs left g st purpose is turn spelled sends =
+    goes_later t o c gs left st (given.turns t o c g (rw (purpose, is) turn)) spelled (rw (purpose, is) sends)
+
+opening_turns : (t : Machine) (o : Order) (s : Stage) (gs : List Gear) (left : ℕ) → IsGivenBy t o → Stands t gs left → IsNoEnrolment t.last → t.course.purpose ≡ Opening → stage_of t.trace ≡ s → (s ≡ stage.Free → ⊥)
+    → Opens s t.opened gs left → IsNext (machine_ordered t o) o gs left
+opening_turns t o stage.Free gs left g st last purpose is running opens = absurd (running refl)
+opening_turns t o stage.Terminated gs left g st last purpose is running opens = turns_later t o Opening stage.Terminated _ gs left g st purpose is refl tt refl
+opening_turns t o stage.InitialisedOnce gs left g st last purpose is running opens = turns_later t o Opening stage.InitialisedOnce _ gs left g st purpose is refl tt refl
+opening_turns t o stage.Initialised gs left g st last purpose is running opens = turns_later t o Opening stage.Initialised _ gs left g st purpose is refl tt refl
+opening_turns t o stage.RandomisedOnce gs left g st last purpose is running opens = turns_later t o Opening stage.RandomisedOnce _ gs left g st purpose is refl tt refl
+opening_turns t o stage.Opened gs left g st last purpose is running opens =
+    let count : count_by is_wanted gs ≡ count_by is_bare gs = opening.opened_count gs opens.gear in
+    let enough : 5 + search_frames (count_by is_bare gs) ≤ left + 5 = opens.frames in
+    searches_anew t o gs left (calm_of t gs left st) (given.begins_after t o stage.Opened g is tt (found_none t gs left stage.Opened st is refl) last (never_eight t.tries st.tries))
+    (ap (begins_at t) is) opens.stage_is (opening.opened_is gs opens.gear) (opening.opened_none_named gs opens.gear) (omega (arith, count, enough))
+opening_turns t o _ gs left g st last purpose is running opens = absurd opens.stage_is
+
+-- ---------------------------------------------------------------- a probe that was answered
+
+-- where nobody is wanted, each answer is a no
+none_said : (has : ℕ → Bool) (answers : List (ℕ × Bool)) → ((m : ℕ) → has m ≡ true → ⊥) → Agrees has answers → highest answers ≡ 0xFFFFFF
+none_said has [] none agrees = refl
+none_said has ((q, true) ∷ later) none agrees = let some = agrees.0 in absurd (none some.0 some.1)
+none_said has ((q, false) ∷ later) none agrees = none_said has later none agrees.1
+
+again_less : (low high : ℕ) → step_between low high ≡ Again → low < high
+again_less low high e = go (nat_lt low high) (low == 0xFFFFFF) refl e where
+  go : (b c : Bool) → nat_lt low high ≡ b → (if b then Again else (if c then Nobody else Found low)) ≡ Again → low < high
+  go true c is e = grind (arith, nat_tests)
+  go false true is e = cc
+  go false false is e = cc
+
+length_more : (answers : List (ℕ × Bool)) (p : ℕ) (b : Bool) → length (answers ++ (p, b) ∷ []) ≡ length answers + 1
+length_more answers p b = length-append answers ((p, b) ∷ [])
+
+-- so a search that was answered does not go on
+again_some : (x : Search) (said : Bool) (has : ℕ → Bool) → IsNarrowing (answered x said) → (answered x said).step ≡ Again → Agrees has (answered x said).answers → ((m : ℕ) → has m ≡ true → ⊥) → ⊥
+again_some x said has n running agrees none =
+    let top : highest (answered x said).answers ≡ 0xFFFFFF = none_said has (answered x said).answers none agrees in
+    let less : lowest (answered x said).answers < highest (answered x said).answers = again_less (lowest (answered x said).answers) (highest (answered x said).answers) (sym n.step_is ∙ running) in
+    let count : length (answered x said).answers ≡ 0 = n.untouched top less in
+    let more : length (answered x said).answers ≡ length x.answers + 1 = length_more x.answers x.probe said in
+    omega (arith, count, more)
+
+nobody_wanted : (gs : List Gear) → count_by is_wanted gs ≡ 0 → (m : ℕ) → wants gs m ≡ true → ⊥
+nobody_wanted gs none m e =
+    let some : 0 < count_by is_wanted gs = wanted.count_some gs m e in
+    omega (arith, none, some)
+
+again_frames : (gs : List Gear) (x : Search) (said : Bool) (left n : ℕ) → IsNarrowing (answered x said) → (answered x said).step ≡ Again → Agrees (wants gs) (answered x said).answers → count_by is_wanted gs ≡ n
+    → probe_frames (length x.answers) n ≤ left + 4 → probe_frames (length (answered x said).answers) n ≤ left + 0
+again_frames gs x said left zero narrowing running agrees count enough = absurd (again_some x said (wants gs) narrowing running agrees (nobody_wanted gs count))
+again_frames gs x said left (suc n) narrowing running agrees count enough =
+    let more : length (answered x said).answers ≡ length x.answers + 1 = length_more x.answers x.probe said in
+    let few : length (answered x said).answers < 25 = searching.ends (answered x said) narrowing running in
+    let small : length x.answers + 1 < 25 = subst (λ m. m < 25) more few in
+    let now : 4 + (4 * (24 - (length x.answers + 1)) + 11 + search_frames n) ≤ left + 0 = less (length x.answers) small enough in
+    subst (λ m. 4 + (4 * (24 - m) + 11 + search_frames n) ≤ left + 0) (sym more) now
+  where
+    less : (k : ℕ) → k + 1 < 25 → 4 + (4 * (24 - k) + 11 + search_frames n) ≤ left + 4 → 4 + (4 * (24 - (k + 1)) + 11 + search_frames n) ≤ left + 0
+    less k small enough = omega (arith, small, enough)
+
+more_wanted : (n : ℕ) → 0 < n → (more : ℕ) × (n ≡ suc more)
+more_wanted zero some = absurd (omega (arith, some))
+more_wanted (suc more) some = (more, refl)
+
+-- the number that was found is wanted, and is a random address
+found_wanted : (gs : List Gear) (x : Search) (r : ℕ) → IsOpened gs → IsNarrowing x → Agrees (wants gs) x.answers → x.step ≡ Found r → (wants gs r ≡ true) × (r < MASK24)
+found_wanted gs x r ready narrowing agrees is =
+    let says : Says (wants gs) (Found r) = subst (Says (wants gs)) is (searching.says_least x narrowing (wants gs) (λ m e. wanted.wanted_below gs m ready e) agrees) in
+    (says.0, subst (λ s. NumberOf s (λ m. m < 0xFFFFFF)) is (searching.finds_below x narrowing))
+
+-- where nobody is left, every gear with power has a short address
+all_have : (gs : List Gear) (x : Search) → IsOpened gs → IsNarrowing x → Agrees (wants gs) x.answers → x.step ≡ Nobody → OfPowered gs HasShort
+all_have gs x ready narrowing agrees is k in_row on = go (get_or gs k fresh).short refl where
+  nobody : (m : ℕ) → wants gs m ≡ true → ⊥
+  nobody = subst (Says (wants gs)) is (searching.says_least x narrowing (wants gs) (λ m e. wanted.wanted_below gs m ready e) agrees)
+
+  go : (o : Option ℕ) → (get_or gs k fresh).short ≡ o → HasShort (get_or gs k fresh)
+  go (Some a) e = (a, e)
+  go None e = absurd (nobody (get_or gs k fresh).random (wanted.wants_by gs (get_or gs k fresh).random k in_row (wanted.is_wanted_by (get_or gs k fresh) on (ready.bare k in_row on e)) refl))
+
+found_frames : (answers n left more : ℕ) → probe_frames answers n ≤ left + 4 → n ≡ suc more → 11 + search_frames more ≤ left + 0
+found_frames answers zero left more enough is = absurd (omega (arith, is))
+found_frames answers (suc n) left more enough is = omega (arith, enough, is)
+
+close_frames : (answers n left : ℕ) → probe_frames answers n ≤ left + 4 → 1 ≤ left + 0
+close_frames answers zero left enough = omega (arith, enough)
+close_frames answers (suc n) left enough = omega (arith, enough)
+
+-- what an answer leads to
+probed_at : (s : Step) (k : Kept) (c : Course) (said : Bool) (gs : List Gear) (left : ℕ) → (answered c.search said).step ≡ s → IsOpened gs → NoneNamed gs → IsNarrowing (answered c.search said)
+    → Agrees (wants gs) (answered c.search said).answers → probe_frames (length c.search.answers) (count_by is_wanted gs) ≤ left + 4
+    → IsSpelled (first_of (after_step s (record c { search = answered c.search said })).purpose (after_step s (record c { search = answered c.search said })).number)
+    × At (after_step s (record c { search = answered c.search said })).purpose stage.Free k true (after_step s (record c { search = answered c.search said })).search
+    (after_step s (record c { search = answered c.search said })).number gs left
+probed_at Again k c said gs left is ready unnamed narrowing agrees enough = (tt, (refl, record {
+  stage_is = tt;
+  searched = tt;
+  ready = ready;
+  unnamed = unnamed;
+  searches = record { running = is; narrowing = narrowing; agrees = agrees };
+  number = refl;
+  frames = again_frames gs c.search said left (count_by is_wanted gs) narrowing is agrees refl enough;
+}))
+probed_at (Found r) k c said gs left is ready unnamed narrowing agrees enough =
+    let found = found_wanted gs (answered c.search said) r ready narrowing agrees is in
+    let more = more_wanted (count_by is_wanted gs) (wanted.count_some gs r found.0) in
+    (tt, (refl, record {
+      stage_is = tt;
+      searched = tt;
+      ready = ready;
+      unnamed = unnamed;
+      more = more.0;
+      visited = record { wanted = subst (λ m. wants gs m ≡ true) (sym (value_sought r)) found.0; number = r; number_is = refl; drawn = found.1; count = more.1 };
+      frames = inr (found_frames (length c.search.answers) (count_by is_wanted gs) left more.0 enough more.1);
+    }))
+probed_at Nobody k c said gs left is ready unnamed narrowing agrees enough = (tt, record {
+  stage_is = tt;
+  well = all_have gs (answered c.search said) ready narrowing agrees is;
+  frames = close_frames (length c.search.answers) (count_by is_wanted gs) left enough;
+})
+
+probing_turns : (t : Machine) (o : Order) (s : Stage) (gs : List Gear) (left : ℕ) → IsGivenBy t o → Stands t gs left → IsNoEnrolment t.last → t.course.purpose ≡ Probing → stage_of t.trace ≡ s → (s ≡ stage.Free → ⊥)
+    → t.opened ≡ true → Probes s t.course.search t.course.number gs left → IsNext (machine_ordered t o) o gs left
+probing_turns t o stage.Free gs left g st last purpose is running opened p = absurd (running refl)
+probing_turns t o (stage.HighSent high) gs left g st last purpose is running opened p = turns_later t o Probing (stage.HighSent high) _ gs left g st purpose is refl tt refl
+probing_turns t o (stage.MiddleSent high middle) gs left g st last purpose is running opened p = turns_later t o Probing (stage.MiddleSent high middle) _ gs left g st purpose is refl tt refl
+probing_turns t o (stage.NumberSent r) gs left g st last purpose is running opened p = turns_later t o Probing (stage.NumberSent r) _ gs left g st purpose is refl tt refl
+probing_turns t o (stage.Probed r h) gs left g st last purpose is running opened p =
+    let c : Course = t.course in
+    let narrowing : IsNarrowing (answered t.course.search (is_yes h)) = searching.goes_on t.course.search (is_yes h) p.searches.narrowing p.searches.running in
+    let agrees : Agrees (wants gs) (answered t.course.search (is_yes h)).answers = agrees_more (wants gs) t.course.search.answers t.course.search.probe (is_yes h) p.searches.agrees p.stage_is in
+    let there = probed_at (answered t.course.search (is_yes h)).step t.kept t.course (is_yes h) gs left refl p.ready p.unnamed narrowing agrees p.frames in
+    goes_by t o (probed t.course h) gs left (calm_of t gs left st) (given.begins_after t o (stage.Probed r h) g is tt (found_none t gs left (stage.Probed r h) st is refl) last (never_eight t.tries st.tries))
+    (ap (begins_at t) is) there.0 (subst (λ b. At (probed t.course h).purpose stage.Free t.kept b (probed t.course h).search (probed t.course h).number gs left) (sym opened) there.1)
+probing_turns t o _ gs left g st last purpose is running opened p = absurd p.stage_is
+
+-- ---------------------------------------------------------------- a visit
+
+-- the number of a search address that is a random address
+drawn_of : (n : SearchAddress) (r : ℕ) → n ≡ sought r → r < MASK24 → value_of n < MASK24
+drawn_of n r is drawn = subst (λ m. m < MASK24) (sym (ap value_of is ∙ value_sought r)) drawn
+
+has_random : (xs : List Assignment) (a n : ℕ) → Has xs (a, n) → HasRandom xs n
+has_random xs a n has = has_map (λ (q : Assignment). q.1) xs (a, n) has
+
+has_address : (xs : List Assignment) (a n : ℕ) → Has xs (a, n) → HasAddress xs a
+has_address xs a n has = has_map (λ (q : Assignment). q.0) xs (a, n) has
+
+unnamed_turns : (t : Machine) (o : Order) (r : SearchAddress) (gs : List Gear) (left : ℕ) → IsGivenBy t o → Stands t gs left → IsKept t.kept → t.course.purpose ≡ Visiting → stage_of t.trace ≡ stage.Unnamed r
+    → t.opened ≡ true → Visits (stage.Unnamed r) t.kept t.course.number gs left → IsNext (machine_ordered t o) o gs left
+unnamed_turns t o r gs left g st kept purpose is opened v = go (given.unnamed t o r g is) where
+  same : value_of r ≡ value_of t.course.number
+  same = ap value_of (sym v.searched)
+
+  frames : (HasRandom t.kept.reserved (value_of r) → ⊥) → VisitFrames t.kept t.course.number v.more (left + 4) → 7 + search_frames v.more ≤ left
+  frames none (inl e) = absurd (none (subst (HasRandom t.kept.reserved) (sym same) e.0))
+  frames none (inr e) = omega (arith, e)
+
+  some : VisitFrames t.kept t.course.number v.more (left + 4) → 1 ≤ left + 0
+  some (inl e) = let enough : 7 + search_frames v.more ≤ left + 4 = e.1 in omega (arith, enough)
+  some (inr e) = omega (arith, e)
+
+  go : given.IsUnnamedBy t r o → IsNext (machine_ordered t o) o gs left
+  go (inl e) =
+      let small : e.0 < 64 = kept.reserved.short e.0 (has_address t.kept.reserved e.0 (value_of r) e.1) in
+      goes_later t o (Program (Some e.0)) gs left st e.2 small (rw is (e.0, small, e.1, refl))
+  go (inr (inl e)) = subst (λ q. IsNext (machine_ordered t q) q gs left) (sym e.1.2) (record { tries = st.tries; silent = st.silent; within = st.within }, record {
+    opened = opened;
+    ready = v.ready;
+    unnamed = v.unnamed;
+    wanted = subst (λ m. wants gs m ≡ true) (sym same) v.visited.wanted;
+    drawn = subst (λ m. m < MASK24) (sym same) (drawn_of t.course.number v.visited.number v.visited.number_is v.visited.drawn);
+    more = v.more;
+    count = v.visited.count;
+    frames = frames e.0 v.frames;
+  })
+  go (inr (inr e)) =
+      let next : next_course t ≡ closing_by t.course BlockFull = ap (begins_at t) is in
+      goes_by t o (closing_by t.course BlockFull) gs left (calm_of t gs left st) (e.2 ∙ sym (ap beginning next)) next tt (record { stage_is = tt; well = e.1; frames = some v.frames })
+
+-- what is enrolled is reserved, so nothing contradicts what is reserved
+no_contradiction : (k : Kept) (b n : ℕ) → IsKept k → IsWithin k → Has k.reserved (b, n) → Contradicts k.enrolled b n → ⊥
+no_contradiction k b n kept within has (inl is) =
+    is.2 (ap (λ (q : Assignment). q.1) (same_member (λ (q : Assignment). q.0) k.reserved (b, is.0) (b, n) kept.reserved.address_once (within (b, is.0) is.1) has refl))
+no_contradiction k b n kept within has (inr is) =
+    is.2 (ap (λ (q : Assignment). q.0) (same_member (λ (q : Assignment). q.1) k.reserved (is.0, n) (b, n) kept.reserved.random_once (within (is.0, n) is.1) has refl))
+
+withdrawn_turns : (t : Machine) (o : Order) (r : SearchAddress) (a : ℕ) (gs : List Gear) (left : ℕ) → IsGivenBy t o → Stands t gs left → IsKept t.kept → t.course.purpose ≡ Visiting → stage_of t.trace ≡ stage.Withdrawn r a
+    → t.opened ≡ true → Leaves r a t.kept t.course.number gs left → IsNext (machine_ordered t o) o gs left
+withdrawn_turns t o r a gs left g st kept purpose is opened v = go o g (g.ordered.found r a is) where
+  reserved : Has t.kept.reserved (a, value_of r)
+  reserved = subst (λ (m : SearchAddress). Has t.kept.reserved (a, value_of m)) (sym v.searched) v.reserved
+
+  go : (q : Order) → IsGivenBy t q → AfterFinding t a (value_of r) q → IsNext (machine_ordered t q) q gs left
+  go (Put p f) g has =
+      searches_anew t (Put p f) gs left (calm_of t gs left st) (given.withdrawn_known t (Put p f) r a g is kept.enrolled has) (ap (begins_at t) is ∙ goes_on_anew t opened) opened v.ready v.unnamed v.frames
+  go (Commit x) g has = subst (λ y. IsNext (machine_ordered t (Commit y)) (Commit y) gs left) (sym has)
+      (record { tries = st.tries; silent = st.silent; within = st.within }, record { opened = opened; ready = v.ready; unnamed = v.unnamed; reserved = reserved; frames = v.frames })
+  go (Done e) g has = absurd has
+  go (Halt why) g has = absurd (no_contradiction t.kept a (value_of r) kept st.within reserved has)
+
+visiting_turns : (t : Machine) (o : Order) (s : Stage) (gs : List Gear) (left : ℕ) → IsGivenBy t o → Stands t gs left → IsKept t.kept → t.course.purpose ≡ Visiting → stage_of t.trace ≡ s → (s ≡ stage.Free → ⊥)
+    → t.opened ≡ true → VisitsAt s t.kept t.course.number gs left → IsNext (machine_ordered t o) o gs left
+visiting_turns t o stage.Free gs left g st kept purpose is running opened v = absurd (running refl)
+visiting_turns t o (stage.HighSent high) gs left g st kept purpose is running opened v = turns_later t o Visiting (stage.HighSent high) _ gs left g st purpose is refl tt refl
+visiting_turns t o (stage.MiddleSent high middle) gs left g st kept purpose is running opened v = turns_later t o Visiting (stage.MiddleSent high middle) _ gs left g st purpose is refl tt refl
+visiting_turns t o (stage.NumberSent r) gs left g st kept purpose is running opened v = turns_later t o Visiting (stage.NumberSent r) _ gs left g st purpose is refl tt refl
+visiting_turns t o (stage.Unnamed r) gs left g st kept purpose is running opened v = unnamed_turns t o r gs left g st kept purpose is opened v
+visiting_turns t o (stage.Programmed r a) gs left g st kept purpose is running opened v = turns_later t o Visiting (stage.Programmed r a) _ gs left g st purpose is refl tt refl
+visiting_turns t o (stage.Confirmed r a) gs left g st kept purpose is running opened v = turns_later t o Visiting (stage.Confirmed r a) _ gs left g st purpose is refl tt refl
+visiting_turns t o (stage.Withdrawn r a) gs left g st kept purpose is running opened v = withdrawn_turns t o r a gs left g st kept purpose is opened v
+visiting_turns t o _ gs left g st kept purpose is running opened v = absurd v.stage_is
+
+-- ---------------------------------------------------------------- the close
+
+closing_turns : (t : Machine) (o : Order) (e : End) (s : Stage) (gs : List Gear) (left : ℕ) → IsGivenBy t o → Stands t gs left → t.course.purpose ≡ Closing e → stage_of t.trace ≡ s → (s ≡ stage.Free → ⊥)
+    → Closes e s t.kept gs left → IsNext (machine_ordered t o) o gs left
+closing_turns t o e stage.Free gs left g st purpose is running v = absurd (running refl)
+closing_turns t o e stage.Terminated gs left g st purpose is running v =
+    let ends : o ≡ Done e = given.closed t o e g (ap closing_of purpose) is (found_none t gs left stage.Terminated st is refl) (never_eight t.tries st.tries) in
+    subst (λ q. IsNext (machine_ordered t q) q gs left) (sym ends) v.well
+closing_turns t o e _ gs left g st purpose is running v = absurd v.stage_is
+
+-- ---------------------------------------------------------------- of whatever transaction
+
+-- after a frame that was heard
+pub turned : (t : Machine) (o : Order) (gs : List Gear) (left : ℕ) → IsGivenBy t o → Stands t gs left → IsKept t.kept → IsNoEnrolment t.last → (stage_of t.trace ≡ stage.Free → ⊥) → IsNext (machine_ordered t o) o gs left
+turned t o gs left g st kept last running = go t.course.purpose refl st.at where
+  go : (p : Purpose) → t.course.purpose ≡ p → At p (stage_of t.trace) t.kept t.opened t.course.search t.course.number gs left → IsNext (machine_ordered t o) o gs left
+  go Opening purpose at = opening_turns t o (stage_of t.trace) gs left g st last purpose refl running at
+  go Probing purpose at = probing_turns t o (stage_of t.trace) gs left g st last purpose refl running at.0 at.1
+  go Visiting purpose at = visiting_turns t o (stage_of t.trace) gs left g st kept purpose refl running at.0 at.1
+  go (Resolving a) purpose at = absurd at
+  go (Closing e) purpose at = closing_turns t o e (stage_of t.trace) gs left g st purpose refl running at
+
+-- ---------------------------------------------------------------- the start
+
+nothing_unfinished : (k : Kept) (n from : ℕ) → k.reserved ≡ [] → unfinished_among k n from ≡ None
+nothing_unfinished k zero from none = refl
+nothing_unfinished k (suc n) from none =
+    let here : unfinished_at k from ≡ None = rw none refl in
+    rw here (nothing_unfinished k n (from + 1) none)
+
+no_enrolment_yet : IsNoEnrolment None
+no_enrolment_yet b n e = cc
+
+pub started : (t : Machine) (o : Order) (gs : List Gear) (left : ℕ) → IsGivenBy t o → IsCalm t → t.trace ≡ [] → t.last ≡ None → t.kept.reserved ≡ [] → t.opened ≡ false → t.course.purpose ≡ Opening
+    → 5 + search_frames (count_by is_bare gs) ≤ left → IsNext (machine_ordered t o) o gs left
+started t o gs left g calm free last none unopened purpose enough =
+    let stage : stage_of t.trace ≡ stage.Free = ap stage_of free ∙ stage_none in
+    let next : next_course t ≡ opening_of t.course = ap (begins_at t) stage ∙ rw (last, unopened) (ap (visit_or_opening t.course) (nothing_unfinished t.kept (64 - t.course.from) t.course.from none)) in
+    goes_by t o (opening_of t.course) gs left calm
+    (given.begins_free t o g free (subst IsNoEnrolment (sym last) no_enrolment_yet) (never_eight t.tries calm.tries))
+    next tt (record { stage_is = tt; gear = λ k in_row on. tt; frames = omega (arith, enough) })
+
+-- ---------------------------------------------------------------- a record that is kept
+
+within_reserved : (k : Kept) (a r : ℕ) → IsWithin k → IsWithin (with_record k (Reserve a r))
+within_reserved k a r within x has = has_left k.reserved ((a, r) ∷ []) x (within x has)
+
+within_enrolled : (k : Kept) (b r : ℕ) → IsWithin k → Has k.reserved (b, r) → IsWithin (with_record k (Enrol b r))
+within_enrolled k b r within reserved x has = go (has_cases k.enrolled (b, r) x has) where
+  go : Has k.enrolled x ⊎ ((b, r) ≡ x) → Has k.reserved x
+  go (inl e) = within x e
+  go (inr e) = subst (Has k.reserved) e reserved
+
+no_enrolment : (a r : ℕ) (last : Option Order) → last ≡ Some (Commit (Reserve a r)) → IsNoEnrolment last
+no_enrolment a r last is b n e = let other : Some (Commit (Reserve a r)) ≡ Some (Commit (Enrol b n)) = sym is ∙ e in cc
+
+-- with its record
+abbrev pub with_kept : Machine → Record → Machine
+with_kept m x = record m { kept = with_record m.kept x }
+
+reserved_next : (m : Machine) (a r : ℕ) (o : Order) (gs : List Gear) (left : ℕ) → IsCalm m → Reserves m r gs left → m.trace ≡ [] → m.last ≡ Some (Commit (Reserve a r))
+    → IsGivenBy (with_kept m (Reserve a r)) o → IsNext (machine_ordered (with_kept m (Reserve a r)) o) o gs left
+reserved_next m a r o gs left calm v free last g =
+    let stage : stage_of m.trace ≡ stage.Free = ap stage_of free ∙ stage_none in
+    let t : Machine = with_kept m (Reserve a r) in
+    goes_by (with_kept m (Reserve a r)) o (visiting m.course r) gs left
+    (record { tries = calm.tries; silent = calm.silent; within = within_reserved m.kept a r calm.within })
+    (given.begins_free (with_kept m (Reserve a r)) o g free (no_enrolment a r m.last last) (never_eight m.tries calm.tries))
+    (ap (begins_at (with_kept m (Reserve a r))) stage ∙ ap (at_rest (with_kept m (Reserve a r))) last) tt
+    (v.opened, record {
+      stage_is = tt;
+      searched = tt;
+      ready = v.ready;
+      unnamed = v.unnamed;
+      more = v.more;
+      visited = record { wanted = subst (λ n. wants gs n ≡ true) (sym (value_sought r)) v.wanted; number = r; number_is = refl; drawn = v.drawn; count = v.count };
+      frames = inl (subst (HasRandom (m.kept.reserved ++ (a, r) ∷ [])) (sym (value_sought r)) (has_random (m.kept.reserved ++ (a, r) ∷ []) a r (has_last m.kept.reserved (a, r))), omega (arith, v.frames));
+    })
+
+enrolled_next : (m : Machine) (b r : ℕ) (o : Order) (gs : List Gear) (left : ℕ) → IsCalm m → Enrols m b r gs left → m.trace ≡ [] → m.last ≡ Some (Commit (Enrol b r)) → IsMap m.kept.reserved
+    → IsGivenBy (with_kept m (Enrol b r)) o → IsNext (machine_ordered (with_kept m (Enrol b r)) o) o gs left
+enrolled_next m b r o gs left calm v free last map g =
+    let stage : stage_of m.trace ≡ stage.Free = ap stage_of free ∙ stage_none in
+    searches_anew (with_kept m (Enrol b r)) o gs left
+    (record { tries = calm.tries; silent = calm.silent; within = within_enrolled m.kept b r calm.within v.reserved })
+    (given.enrolled (with_kept m (Enrol b r)) o b r g last free (λ a has. ap (λ (q : Assignment). q.0) (same_member (λ (q : Assignment). q.1) m.kept.reserved (a, r) (b, r) map.random_once has v.reserved refl)))
+    (ap (begins_at (with_kept m (Enrol b r))) stage ∙ ap (at_rest (with_kept m (Enrol b r))) last ∙ goes_on_anew (with_kept m (Enrol b r)) v.opened)
+    v.opened v.ready v.unnamed v.frames
+
+pub committed : (m : Machine) (x : Record) (o : Order) (gs : List Gear) (left : ℕ) → IsCalm m → CommitsTo m x gs left → m.trace ≡ [] → m.last ≡ Some (Commit x) → IsMap m.kept.reserved
+    → IsGivenBy (with_kept m x) o → IsNext (machine_ordered (with_kept m x) o) o gs left
+committed m (Reserve a r) o gs left calm v free last map g = reserved_next m a r o gs left calm v free last g
+committed m (Enrol b r) o gs left calm v free last map g = enrolled_next m b r o gs left calm v free last map g
+committed m (Release a r) o gs left calm v free last map g = absurd v

@@ -1,0 +1,66 @@
+use Rattle.std.specs.Prelude.{◌≡◌, ℕ, ◌+◌, Bool, true, false, List, [], ◌∷◌}
+use Rattle.std.specs.Prelude.{Some, None, if◌then◌else◌}
+use Rattle.dali_special.specs.Command.{command_of}
+use Rattle.dali_gear.specs.declared.row.Reach.TheVariants.{Everyone}
+use Rattle.dali_gear.specs.Row.{answers_of, heard_of}
+use Rattle.dali_arbiter.specs.declared.request.Request.{Request}
+use Rattle.dali_arbiter.specs.Arbiter.{idle}
+use Rattle.dali_script.specs.declared.block.Block.{Block}
+use Rattle.dali_script.specs.Records.{without_records}
+use Rattle.dali_script.specs.declared.orders.Input.{Input}
+use Rattle.dali_script.specs.declared.orders.Input.TheVariants as input
+use Rattle.dali_controller.specs.Machine.{at_first}
+use Rattle.dali_events.specs.declared.event.Event.{Event}
+use Rattle.dali_events.specs.declared.event.Event.TheVariants as event
+use Rattle.dali_events.specs.World.{controller_at}
+use Rattle.dali_events.specs.Allowed.{Allowed, IsUp}
+use Rattle.dali_events.specs.Runs.{IsRun}
+use Rattle.dali_standing.specs.Seats.{MayAnswer}
+use Rattle.dali_world.specs.Site.{SiteState, world, machine_at, next_request, site_logged}
+
+-- ONE CONTROLLER ALONE: it is up and all others are down; it has just begun, with nothing kept; no
+-- request waits, and nobody owns the bus.
+pub record StartsAlone (s : SiteState) (c : ℕ) : Type 0 where
+  pub run : IsRun s.plan s.queue s.log
+  pub up : IsUp (world s) c
+  pub alone : (d : ℕ) → (controller_at (world s) d).up ≡ true → d ≡ c
+  pub told : (controller_at (world s) c).told ≡ Some input.Start
+  pub last : (controller_at (world s) c).last ≡ None
+  pub block : Block
+  pub records : (controller_at (world s) c).records ≡ without_records block
+  pub machine : machine_at s c ≡ Some (at_first c (without_records block))
+  pub bus : (world s).bus ≡ idle s.queue
+  pub trace : (world s).trace ≡ []
+
+-- WHAT A ROUND DOES, where nothing is disturbed: the controller acts on what is due for it, and a
+-- commit that is due succeeds; or the request that is next is sent, every gear with power takes it,
+-- and what they answer is heard.
+abbrev pub Succeeds : Input → Type 0
+Succeeds input.CommitFailed = ⊥
+Succeeds _ = Unit {0}
+
+abbrev pub IsOfRound : SiteState → ℕ → Event → Type 0
+IsOfRound s c (event.Acted d i o) = (d ≡ c) × Succeeds i × MayAnswer (machine_at s c) i o
+IsOfRound s c (event.Sent d f h) =
+    (r : Request) × (next_request s ≡ Some r) × (d ≡ r.sender) × (f ≡ r.frame)
+    × (h ≡ heard_of (answers_of Everyone (command_of f) 0 (world s).gear))
+IsOfRound s c _ = ⊥
+
+-- events, each of which is one that a call of the site adds to its log in a round
+abbrev pub Rounds : SiteState → ℕ → List Event → Type 0
+Rounds s c [] = Unit {0}
+Rounds s c (e ∷ es) = Allowed (world s) e × IsOfRound s c e × Rounds (site_logged s e) c es
+
+-- the site after them
+abbrev pub site_after : SiteState → List Event → SiteState
+site_after s [] = s
+site_after s (e ∷ es) = site_after (site_logged s e) es
+
+-- how many of them are frames on the bus
+abbrev pub is_frame : Event → Bool
+is_frame (event.Sent c f h) = true
+is_frame _ = false
+
+abbrev pub frames : List Event → ℕ
+frames [] = 0
+frames (e ∷ es) = (if is_frame e then 1 else 0) + frames es

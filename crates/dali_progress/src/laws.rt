@@ -1,0 +1,1 @@
+//! What is proved of commissioning that nothing disturbs. Programs don't call these.
