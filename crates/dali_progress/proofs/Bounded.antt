@@ -8,18 +8,24 @@ use Rattle.dali_special.specs.Command.{command_of}
 use Rattle.dali_gear.specs.declared.row.Reach.TheVariants.{Everyone}
 use Rattle.dali_gear.specs.Row.{answers_of, heard_of}
 use Rattle.dali_arbiter.specs.declared.request.Request.{Request}
-use Rattle.dali_script.specs.Records.{IsKept, without_records}
+use Rattle.dali_arbiter.specs.Arbiter.{next, request_of}
+use Rattle.dali_frame.specs.Priority.{FIRST, LATER}
+use Rattle.dali_gear.specs.Gear.{Gear}
+use Rattle.dali_script.specs.Records.{Kept, IsKept, IsFull, without_records}
 use Rattle.dali_script.specs.declared.orders.Input.{Input}
 use Rattle.dali_script.specs.declared.orders.Input.TheVariants as input
 use Rattle.dali_script.specs.declared.orders.Order.{Order}
+use Rattle.dali_script.specs.declared.orders.Order.TheVariants.{Put, Commit, Done, Halt}
+use Rattle.dali_script.specs.declared.orders.End.{End}
+use Rattle.dali_script.specs.declared.orders.End.TheVariants.{AllFound, BlockFull, GaveUp}
 use Rattle.dali_controller.specs.Machine.{Machine, at_first}
 use Rattle.dali_controller.specs.Orders.{IsGiven, machine_after}
 use Rattle.dali_events.specs.declared.event.Event.{Event}
 use Rattle.dali_events.specs.declared.event.Event.TheVariants as event
 use Rattle.dali_events.specs.Plan.{Plan}
-use Rattle.dali_events.specs.World.{World, controller_at, start}
+use Rattle.dali_events.specs.World.{World, Controller, controller_at, start}
 use Rattle.dali_events.specs.Happens.{happens}
-use Rattle.dali_events.specs.Allowed.{Allowed, IsUp}
+use Rattle.dali_events.specs.Allowed.{Allowed, IsUp, IsDue}
 use Rattle.dali_events.specs.Runs.{after, IsRun, AreDrawn}
 use Rattle.dali_events.specs.Wanted.{is_bare}
 use Rattle.dali_events.proofs.Drawn.{are_drawn, draws_after}
@@ -29,11 +35,11 @@ use Rattle.dali_standing.specs.Seats.{MayAnswer}
 use Rattle.dali_standing.specs.Standing.{machine_in, machines_at, machines_after}
 use Rattle.dali_world.specs.Site.{SiteState, world, site_logged, machines, machine_at, next_request}
 use Rattle.dali_world.proofs.Logs.{machines_more, records_now}
-use Rattle.dali_progress.specs.Rounds.{StartsAlone, Succeeds, IsOfRound, Rounds, site_after, is_frame, frames}
-use Rattle.dali_progress.proofs.Lone.{IsLone}
-use Rattle.dali_progress.proofs.Stands.{search_frames}
+use Rattle.dali_progress.specs.Rounds.{StartsAlone, Succeeds, IsOfRound, Rounds, site_after, is_frame, frames, GoesOn, HasEnded, IsDone}
+use Rattle.dali_progress.proofs.Lone.{IsLone, Moment}
+use Rattle.dali_progress.proofs.Stands.{search_frames, EndsWell}
 use Rattle.dali_progress.proofs.Turns.{IsCalm}
-use Rattle.dali_progress.proofs.Goes.{Goes, IsFresh, IsKnown, goes_acted, goes_sent}
+use Rattle.dali_progress.proofs.Goes.{Goes, Holds, IsFresh, IsKnown, goes_acted, goes_sent}
 
 -- A LIST OF EVENTS OF ROUNDS, one after the other.
 
@@ -170,3 +176,49 @@ pub bounded : (s : SiteState) (c : ℕ) (es : List Event) → StartsAlone s c �
 bounded s c es a rounds =
     let all = runs_all s c (111 * count_by is_bare (world s).gear + 10) es (starts s c a) rounds in
     omega (arith, all.sum)
+
+-- ---------------------------------------------------------------- it ends, or goes on
+
+-- what is due or next, by the last order and by what was told
+due_by : (w : World) (q c : ℕ) (m : Machine) (k : Controller) (last : Option Order) (told : Option Input) (left : ℕ) → k.last ≡ last → k.told ≡ told → Moment w q c m k.outstanding last told → Holds m last told w.gear left
+    → ((e : End) × (last ≡ Some (Done e))) ⊎ (((i : Input) × Succeeds i × IsDue k i) ⊎ ((r : Request) × (next w.bus ≡ Some r)))
+due_by w q c m k None (Some input.Start) left is told at holds = inr (inl (input.Start, tt, told))
+due_by w q c m k (Some (Put p f)) (Some (input.Heard h)) left is told at holds = inr (inl (input.Heard h, tt, told))
+due_by w q c m k (Some (Put p f)) None left is told (inl later) holds = inr (inr (request_of c LATER f, ap next later.1))
+due_by w q c m k (Some (Put p f)) None left is told (inr first) holds = inr (inr (request_of c FIRST f, ap next first.1))
+due_by w q c m k (Some (Commit x)) None left is told at holds = inr (inl (input.Committed, tt, rw is tt))
+due_by w q c m k (Some (Done e)) None left is told at holds = inl (e, refl)
+due_by w q c m k (Some (Halt why)) None left is told at holds = absurd holds
+due_by w q c m k None None left is told at holds = absurd at
+due_by w q c m k None (Some i) left is told at holds = absurd at
+due_by w q c m k (Some (Put p f)) (Some i) left is told at holds = absurd at
+due_by w q c m k (Some (Commit x)) (Some i) left is told at holds = absurd at
+due_by w q c m k (Some (Done e)) (Some i) left is told at holds = absurd at
+due_by w q c m k (Some (Halt why)) (Some i) left is told at holds = absurd at
+
+pub goes_on : (s : SiteState) (c : ℕ) (es : List Event) → StartsAlone s c → Rounds s c es → GoesOn (site_after s es) c
+goes_on s c es a rounds =
+    let all = runs_all s c (111 * count_by is_bare (world s).gear + 10) es (starts s c a) rounds in
+    let g = all.runs.goes in
+    due_by (world (site_after s es)) _ c all.runs.machine (controller_at (world (site_after s es)) c) (controller_at (world (site_after s es)) c).last (controller_at (world (site_after s es)) c).told all.rest
+    refl refl g.lone.moment g.holds
+
+-- an end says what is true
+well_by : (m : Machine) (last : Option Order) (told : Option Input) (e : End) (gs : List Gear) (left : ℕ) → last ≡ Some (Done e) → Holds m last told gs left → EndsWell e m.kept gs
+well_by m (Some (Done x)) None e gs left is holds = subst (λ y. EndsWell y m.kept gs) (let same : x ≡ e = cc in same) holds
+well_by m (Some (Done x)) (Some i) e gs left is holds = absurd holds
+well_by m None told e gs left is holds = absurd (cc)
+well_by m (Some (Put p f)) told e gs left is holds = absurd (cc)
+well_by m (Some (Commit x)) told e gs left is holds = absurd (cc)
+well_by m (Some (Halt why)) told e gs left is holds = absurd (cc)
+
+pub ends : (s : SiteState) (c : ℕ) (es : List Event) (e : End) → StartsAlone s c → Rounds s c es → HasEnded (site_after s es) c e → IsDone (site_after s es) c e
+ends s c es e a rounds ended =
+    let all = runs_all s c (111 * count_by is_bare (world s).gear + 10) es (starts s c a) rounds in
+    let g = all.runs.goes in
+    done_by (site_after s es) c e all.runs.machine g.lone.kept (well_by all.runs.machine (controller_at (world (site_after s es)) c).last (controller_at (world (site_after s es)) c).told e (world (site_after s es)).gear all.rest ended g.holds)
+  where
+    done_by : (s : SiteState) (c : ℕ) (e : End) (m : Machine) → m.kept ≡ (controller_at (world s) c).records → EndsWell e m.kept (world s).gear → IsDone s c e
+    done_by s c AllFound m kept well = well
+    done_by s c BlockFull m kept well = subst (λ (k : Kept). IsFull k.block k.reserved) kept well
+    done_by s c GaveUp m kept well = well

@@ -1,4 +1,4 @@
-use Rattle.std.specs.Prelude.{◌≡◌, ℕ, ◌+◌, Bool, true, false, List, [], ◌∷◌}
+use Rattle.std.specs.Prelude.{◌≡◌, ◌⊎◌, ℕ, ◌+◌, Bool, true, false, List, [], ◌∷◌}
 use Rattle.std.specs.Prelude.{Some, None, if◌then◌else◌}
 use Rattle.dali_special.specs.Command.{command_of}
 use Rattle.dali_gear.specs.declared.row.Reach.TheVariants.{Everyone}
@@ -6,15 +6,19 @@ use Rattle.dali_gear.specs.Row.{answers_of, heard_of}
 use Rattle.dali_arbiter.specs.declared.request.Request.{Request}
 use Rattle.dali_arbiter.specs.Arbiter.{idle}
 use Rattle.dali_script.specs.declared.block.Block.{Block}
-use Rattle.dali_script.specs.Records.{without_records}
+use Rattle.dali_script.specs.Records.{IsFull, without_records}
 use Rattle.dali_script.specs.declared.orders.Input.{Input}
 use Rattle.dali_script.specs.declared.orders.Input.TheVariants as input
+use Rattle.dali_script.specs.declared.orders.Order.TheVariants.{Done}
+use Rattle.dali_script.specs.declared.orders.End.{End}
+use Rattle.dali_script.specs.declared.orders.End.TheVariants.{AllFound, BlockFull, GaveUp}
 use Rattle.dali_controller.specs.Machine.{at_first}
 use Rattle.dali_events.specs.declared.event.Event.{Event}
 use Rattle.dali_events.specs.declared.event.Event.TheVariants as event
 use Rattle.dali_events.specs.World.{controller_at}
-use Rattle.dali_events.specs.Allowed.{Allowed, IsUp}
+use Rattle.dali_events.specs.Allowed.{Allowed, IsUp, IsDue}
 use Rattle.dali_events.specs.Runs.{IsRun}
+use Rattle.dali_events.specs.Searching.{EachPowered, HasShort}
 use Rattle.dali_standing.specs.Seats.{MayAnswer}
 use Rattle.dali_world.specs.Site.{SiteState, world, machine_at, next_request, site_logged}
 
@@ -64,3 +68,28 @@ is_frame _ = false
 abbrev pub frames : List Event → ℕ
 frames [] = 0
 frames (e ∷ es) = (if is_frame e then 1 else 0) + frames es
+
+-- ---------------------------------------------------------------- an end
+
+-- the last order of the controller says that it has ended so
+abbrev pub HasEnded : SiteState → ℕ → End → Type 0
+HasEnded s c e = (controller_at (world s) c).last ≡ Some (Done e)
+
+-- something is due for the controller that may be done, or a request is next
+abbrev pub HasDue : SiteState → ℕ → Type 0
+HasDue s c = (i : Input) × Succeeds i × IsDue (controller_at (world s) c) i
+
+abbrev pub HasNext : SiteState → Type 0
+HasNext s = (r : Request) × (next_request s ≡ Some r)
+
+-- IT HAS ENDED, OR GOES ON
+abbrev pub GoesOn : SiteState → ℕ → Type 0
+GoesOn s c = ((e : End) × HasEnded s c e) ⊎ (HasDue s c ⊎ HasNext s)
+
+-- WHAT AN END SAYS: that each gear with power has a short address, or that each address of the block
+-- is reserved; it never gives up
+abbrev pub IsDone : SiteState → ℕ → End → Type 0
+IsDone s c AllFound = EachPowered (world s) HasShort
+IsDone s c BlockFull =
+    IsFull (controller_at (world s) c).records.block (controller_at (world s) c).records.reserved
+IsDone s c GaveUp = ⊥
