@@ -1,1 +1,34 @@
 //! What is proved of commissioning that nothing disturbs. Programs don't call these.
+//!
+//! A site on which one controller starts alone, with nothing kept, while no other controller is up (`StartsAlone`), and a
+//! list of events that rounds add to its log (`Rounds`): the controller acts on what is due, its commits succeed, frames
+//! that are next are sent, and what the gear answer is heard. No gear's power comes or goes meanwhile.
+
+ghost use Rattle.std.specs.Prelude.{ℕ, ◌+◌, ◌*◌, ◌≤◌, List};
+ghost use Rattle.std.specs.List.{count_by};
+ghost use Rattle.dali_script.specs.declared.orders.End.{End};
+ghost use Rattle.dali_events.specs.declared.event.Event.{Event};
+ghost use Rattle.dali_events.specs.Wanted.{is_bare};
+ghost use Rattle.dali_world.specs.Site.{SiteState, world};
+ghost use Rattle.dali_progress.specs.Rounds.{StartsAlone, Rounds, site_after, frames, GoesOn, HasEnded, IsDone};
+
+/// FRAMES ARE BOUNDED. With n gear that have power and no short address, a controller that starts alone sends at most
+/// 111 n + 10 frames: for each gear at most 25 probes of four frames, and 11 frames of visits; and the opening of five
+/// frames, a last probe of four, and the close.
+pub fn frames_are_bounded()
+    ensures { (s : SiteState) (c : ℕ) (es : List Event) → StartsAlone s c → Rounds s c es
+        → frames es ≤ 111 * count_by is_bare (world s).gear + 10 }
+{}
+
+/// IT GOES ON OR HAS ENDED. At each moment the controller has ended, something is due for it, or a request is next on
+/// the bus; it never halts.
+pub fn commissioning_goes_on()
+    ensures { (s : SiteState) (c : ℕ) (es : List Event) → StartsAlone s c → Rounds s c es → GoesOn (site_after s es) c }
+{}
+
+/// ITS END IS TRUE. Where it ends with all-found, every gear with power has a short address; where it ends with
+/// block-full, every address of its block is reserved; and it never gives up.
+pub fn ends_are_true()
+    ensures { (s : SiteState) (c : ℕ) (es : List Event) (e : End) → StartsAlone s c → Rounds s c es
+        → HasEnded (site_after s es) c e → IsDone (site_after s es) c e }
+{}
