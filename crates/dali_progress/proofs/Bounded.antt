@@ -35,7 +35,7 @@ use Rattle.dali_standing.specs.Seats.{MayAnswer}
 use Rattle.dali_standing.specs.Standing.{machine_in, machines_at, machines_after}
 use Rattle.dali_world.specs.Site.{SiteState, world, site_logged, machines, machine_at, next_request}
 use Rattle.dali_world.proofs.Logs.{machines_more, records_now}
-use Rattle.dali_progress.specs.Rounds.{StartsAlone, Succeeds, IsOfRound, Rounds, site_after, is_frame, frames, GoesOn, HasEnded, IsDone}
+use Rattle.dali_progress.specs.Rounds.{StartsAlone, Succeeds, IsOfRound, Rounds, site_after, is_frame, frames, GoesOn, HasEnded, IsDone, AreTabled, IsTabled}
 use Rattle.dali_progress.proofs.Lone.{IsLone, Moment}
 use Rattle.dali_progress.proofs.Stands.{search_frames, EndsWell}
 use Rattle.dali_progress.proofs.Turns.{IsCalm}
@@ -44,11 +44,11 @@ use Rattle.dali_progress.proofs.Goes.{Goes, Holds, IsFresh, IsKnown, goes_acted,
 -- A LIST OF EVENTS OF ROUNDS, one after the other.
 
 -- a site on which commissioning goes on
-pub record Runs (s : SiteState) (c left : ℕ) : Type 0 where
+pub record Runs (before : List Gear) (s : SiteState) (c left : ℕ) : Type 0 where
   pub run : IsRun s.plan s.queue s.log
   pub machine : Machine
   pub there : machine_at s c ≡ Some machine
-  pub goes : Goes (world s) s.queue c machine left
+  pub goes : Goes before (world s) s.queue c machine left
 
 -- one event more
 world_logged : (s : SiteState) (e : Event) → world (site_logged s e) ≡ happens (world s) e
@@ -78,13 +78,13 @@ kept_now : (s : SiteState) (c : ℕ) → IsRun s.plan s.queue s.log → IsUp (wo
 kept_now s c run up = (records_now s.plan s.queue s.log run).kept c up.known
 
 -- frames that were sent are frames that are no longer left
-pub record RunsOn (s : SiteState) (c left : ℕ) (e : Event) : Type 0 where
+pub record RunsOn (before : List Gear) (s : SiteState) (c left : ℕ) (e : Event) : Type 0 where
   pub rest : ℕ
   pub sum : left ≡ (if is_frame e then 1 else 0) + rest
-  pub runs : Runs (site_logged s e) c rest
+  pub runs : Runs before (site_logged s e) c rest
 
-acted_on : (s : SiteState) (c left : ℕ) (i : Input) (o : Order) → Runs s c left → Allowed (world s) (event.Acted c i o) → Succeeds i → MayAnswer (machine_at s c) i o → RunsOn s c left (event.Acted c i o)
-acted_on s c left i o r here good may =
+acted_on : (before : List Gear) (s : SiteState) (c left : ℕ) (i : Input) (o : Order) → Runs before s c left → Allowed (world s) (event.Acted c i o) → Succeeds i → MayAnswer (machine_at s c) i o → RunsOn before s c left (event.Acted c i o)
+acted_on before s c left i o r here good may =
     let given : IsGiven r.machine i o = subst (λ n. MayAnswer n i o) r.there may in
     record {
       rest = left;
@@ -93,21 +93,21 @@ acted_on s c left i o r here good may =
         run = run_logged s (event.Acted c i o) r.run here;
         machine = machine_after r.machine i o;
         there = acted_machine s c i o r.machine r.there;
-        goes = subst (λ w. Goes w s.queue c (machine_after r.machine i o) left) (sym (world_logged s (event.Acted c i o)))
-            (goes_acted (world s) s.queue c r.machine i o left r.goes good here given (kept_now s c r.run r.goes.lone.up));
+        goes = subst (λ w. Goes before w s.queue c (machine_after r.machine i o) left) (sym (world_logged s (event.Acted c i o)))
+            (goes_acted before (world s) s.queue c r.machine i o left r.goes good here given (kept_now s c r.run r.goes.lone.up));
       };
     }
 
-sent_on : (s : SiteState) (c left : ℕ) (r : Request) (h : Answer) → Runs s c left → Allowed (world s) (event.Sent r.sender r.frame h) → next_request s ≡ Some r
-    → h ≡ heard_of (answers_of Everyone (command_of r.frame) 0 (world s).gear) → RunsOn s c left (event.Sent r.sender r.frame h)
-sent_on s c left r h u here is heard =
+sent_on : (before : List Gear) (s : SiteState) (c left : ℕ) (r : Request) (h : Answer) → Runs before s c left → Allowed (world s) (event.Sent r.sender r.frame h) → next_request s ≡ Some r
+    → h ≡ heard_of (answers_of Everyone (command_of r.frame) 0 (world s).gear) → RunsOn before s c left (event.Sent r.sender r.frame h)
+sent_on before s c left r h u here is heard =
     let run : IsRun s.plan s.queue (site_logged s (event.Sent r.sender r.frame h)).log = run_logged s (event.Sent r.sender r.frame h) u.run here in
     let known : IsKnown (world s) r.sender r.frame h = record {
       drawn = drawn_now s u.run;
       then = subst AreDrawn (world_logged s (event.Sent r.sender r.frame h)) (drawn_now (site_logged s (event.Sent r.sender r.frame h)) run);
       seeks = λ n at. gear_are_searched s.plan s.queue s.log n u.run at;
     } in
-    let sent = goes_sent (world s) s.queue c u.machine r h left u.goes is here known heard in
+    let sent = goes_sent before (world s) s.queue c u.machine r h left u.goes is here known heard in
     record {
       rest = sent.0;
       sum = sent.1 ∙ omega arith;
@@ -115,39 +115,39 @@ sent_on s c left r h u here is heard =
         run = run;
         machine = u.machine;
         there = ap (λ ms. machine_in ms c) (machines_logged s (event.Sent r.sender r.frame h)) ∙ u.there;
-        goes = subst (λ w. Goes w s.queue c u.machine sent.0) (sym (world_logged s (event.Sent r.sender r.frame h))) sent.2;
+        goes = subst (λ w. Goes before w s.queue c u.machine sent.0) (sym (world_logged s (event.Sent r.sender r.frame h))) sent.2;
       };
     }
 
-sent_by : (s : SiteState) (c left d : ℕ) (f : Forward) (h : Answer) → Runs s c left → Allowed (world s) (event.Sent d f h) → IsOfRound s c (event.Sent d f h) → RunsOn s c left (event.Sent d f h)
-sent_by s c left d f h u here of =
-    subst (λ e. Allowed (world s) e → RunsOn s c left e) (sym (ap (λ n. event.Sent n f h) of.2 ∙ ap (λ g. event.Sent of.0.sender g h) of.3))
-    (λ now. sent_on s c left of.0 h u now of.1 (of.4 ∙ ap (λ g. heard_of (answers_of Everyone (command_of g) 0 (world s).gear)) of.3)) here
+sent_by : (before : List Gear) (s : SiteState) (c left d : ℕ) (f : Forward) (h : Answer) → Runs before s c left → Allowed (world s) (event.Sent d f h) → IsOfRound s c (event.Sent d f h) → RunsOn before s c left (event.Sent d f h)
+sent_by before s c left d f h u here of =
+    subst (λ e. Allowed (world s) e → RunsOn before s c left e) (sym (ap (λ n. event.Sent n f h) of.2 ∙ ap (λ g. event.Sent of.0.sender g h) of.3))
+    (λ now. sent_on before s c left of.0 h u now of.1 (of.4 ∙ ap (λ g. heard_of (answers_of Everyone (command_of g) 0 (world s).gear)) of.3)) here
 
-pub runs_on : (s : SiteState) (c left : ℕ) (e : Event) → Runs s c left → Allowed (world s) e → IsOfRound s c e → RunsOn s c left e
-runs_on s c left (event.Acted d i o) u here of =
-    subst (λ n. Allowed (world s) (event.Acted n i o) → RunsOn s c left (event.Acted n i o)) (sym of.0) (λ now. acted_on s c left i o u now of.1 of.2) here
-runs_on s c left (event.Sent d f h) u here of = sent_by s c left d f h u here of
-runs_on s c left _ u here of = absurd of
+pub runs_on : (before : List Gear) (s : SiteState) (c left : ℕ) (e : Event) → Runs before s c left → Allowed (world s) e → IsOfRound s c e → RunsOn before s c left e
+runs_on before s c left (event.Acted d i o) u here of =
+    subst (λ n. Allowed (world s) (event.Acted n i o) → RunsOn before s c left (event.Acted n i o)) (sym of.0) (λ now. acted_on before s c left i o u now of.1 of.2) here
+runs_on before s c left (event.Sent d f h) u here of = sent_by before s c left d f h u here of
+runs_on before s c left _ u here of = absurd of
 
 -- ALL ROUNDS
-pub record RunsAll (s : SiteState) (c left : ℕ) (es : List Event) : Type 0 where
+pub record RunsAll (before : List Gear) (s : SiteState) (c left : ℕ) (es : List Event) : Type 0 where
   pub rest : ℕ
   pub sum : left ≡ frames es + rest
-  pub runs : Runs (site_after s es) c rest
+  pub runs : Runs before (site_after s es) c rest
 
-pub runs_all : (s : SiteState) (c left : ℕ) (es : List Event) → Runs s c left → Rounds s c es → RunsAll s c left es
-runs_all s c left [] u rounds = record { rest = left; sum = omega arith; runs = u }
-runs_all s c left (e ∷ es) u rounds =
-    let on = runs_on s c left e u rounds.0 rounds.1 in
-    let all = runs_all (site_logged s e) c on.rest es on.runs rounds.2 in
+pub runs_all : (before : List Gear) (s : SiteState) (c left : ℕ) (es : List Event) → Runs before s c left → Rounds s c es → RunsAll before s c left es
+runs_all before s c left [] u rounds = record { rest = left; sum = omega arith; runs = u }
+runs_all before s c left (e ∷ es) u rounds =
+    let on = runs_on before s c left e u rounds.0 rounds.1 in
+    let all = runs_all before (site_logged s e) c on.rest es on.runs rounds.2 in
     record { rest = all.rest; sum = both (if is_frame e then 1 else 0) (frames es) left on.rest all.rest on.sum all.sum; runs = all.runs }
   where
     both : (x more left rest last : ℕ) → left ≡ x + rest → rest ≡ more + last → left ≡ x + more + last
     both x more left rest last one two = omega (arith, one, two)
 
 -- THE START
-starts : (s : SiteState) (c : ℕ) → StartsAlone s c → Runs s c (111 * count_by is_bare (world s).gear + 10)
+starts : (s : SiteState) (c : ℕ) → StartsAlone s c → Runs (world s).gear s c (111 * count_by is_bare (world s).gear + 10)
 starts s c a = record {
   run = a.run;
   machine = at_first c (without_records a.block);
@@ -162,6 +162,7 @@ starts s c a = record {
     };
     holds = rw (a.last, a.told) (record {
       calm = record { tries = refl; silent = refl; within = λ x has. absurd has };
+      tabled = λ g b in_row short. inl short;
       free = refl;
       nothing = refl;
       unopened = refl;
@@ -174,51 +175,62 @@ starts s c a = record {
 -- NO MORE FRAMES than these are sent
 pub bounded : (s : SiteState) (c : ℕ) (es : List Event) → StartsAlone s c → Rounds s c es → frames es ≤ 111 * count_by is_bare (world s).gear + 10
 bounded s c es a rounds =
-    let all = runs_all s c (111 * count_by is_bare (world s).gear + 10) es (starts s c a) rounds in
+    let all = runs_all (world s).gear s c (111 * count_by is_bare (world s).gear + 10) es (starts s c a) rounds in
     omega (arith, all.sum)
 
 -- ---------------------------------------------------------------- it ends, or goes on
 
 -- what is due or next, by the last order and by what was told
-due_by : (w : World) (q c : ℕ) (m : Machine) (k : Controller) (last : Option Order) (told : Option Input) (left : ℕ) → k.last ≡ last → k.told ≡ told → Moment w q c m k.outstanding last told → Holds m last told w.gear left
+due_by : (before : List Gear) (w : World) (q c : ℕ) (m : Machine) (k : Controller) (last : Option Order) (told : Option Input) (left : ℕ) → k.last ≡ last → k.told ≡ told → Moment w q c m k.outstanding last told → Holds before m last told w.gear left
     → ((e : End) × (last ≡ Some (Done e))) ⊎ (((i : Input) × Succeeds i × IsDue k i) ⊎ ((r : Request) × (next w.bus ≡ Some r)))
-due_by w q c m k None (Some input.Start) left is told at holds = inr (inl (input.Start, tt, told))
-due_by w q c m k (Some (Put p f)) (Some (input.Heard h)) left is told at holds = inr (inl (input.Heard h, tt, told))
-due_by w q c m k (Some (Put p f)) None left is told (inl later) holds = inr (inr (request_of c LATER f, ap next later.1))
-due_by w q c m k (Some (Put p f)) None left is told (inr first) holds = inr (inr (request_of c FIRST f, ap next first.1))
-due_by w q c m k (Some (Commit x)) None left is told at holds = inr (inl (input.Committed, tt, rw is tt))
-due_by w q c m k (Some (Done e)) None left is told at holds = inl (e, refl)
-due_by w q c m k (Some (Halt why)) None left is told at holds = absurd holds
-due_by w q c m k None None left is told at holds = absurd at
-due_by w q c m k None (Some i) left is told at holds = absurd at
-due_by w q c m k (Some (Put p f)) (Some i) left is told at holds = absurd at
-due_by w q c m k (Some (Commit x)) (Some i) left is told at holds = absurd at
-due_by w q c m k (Some (Done e)) (Some i) left is told at holds = absurd at
-due_by w q c m k (Some (Halt why)) (Some i) left is told at holds = absurd at
+due_by before w q c m k None (Some input.Start) left is told at holds = inr (inl (input.Start, tt, told))
+due_by before w q c m k (Some (Put p f)) (Some (input.Heard h)) left is told at holds = inr (inl (input.Heard h, tt, told))
+due_by before w q c m k (Some (Put p f)) None left is told (inl later) holds = inr (inr (request_of c LATER f, ap next later.1))
+due_by before w q c m k (Some (Put p f)) None left is told (inr first) holds = inr (inr (request_of c FIRST f, ap next first.1))
+due_by before w q c m k (Some (Commit x)) None left is told at holds = inr (inl (input.Committed, tt, rw is tt))
+due_by before w q c m k (Some (Done e)) None left is told at holds = inl (e, refl)
+due_by before w q c m k (Some (Halt why)) None left is told at holds = absurd holds
+due_by before w q c m k None None left is told at holds = absurd at
+due_by before w q c m k None (Some i) left is told at holds = absurd at
+due_by before w q c m k (Some (Put p f)) (Some i) left is told at holds = absurd at
+due_by before w q c m k (Some (Commit x)) (Some i) left is told at holds = absurd at
+due_by before w q c m k (Some (Done e)) (Some i) left is told at holds = absurd at
+due_by before w q c m k (Some (Halt why)) (Some i) left is told at holds = absurd at
 
 pub goes_on : (s : SiteState) (c : ℕ) (es : List Event) → StartsAlone s c → Rounds s c es → GoesOn (site_after s es) c
 goes_on s c es a rounds =
-    let all = runs_all s c (111 * count_by is_bare (world s).gear + 10) es (starts s c a) rounds in
+    let all = runs_all (world s).gear s c (111 * count_by is_bare (world s).gear + 10) es (starts s c a) rounds in
     let g = all.runs.goes in
-    due_by (world (site_after s es)) _ c all.runs.machine (controller_at (world (site_after s es)) c) (controller_at (world (site_after s es)) c).last (controller_at (world (site_after s es)) c).told all.rest
+    due_by (world s).gear (world (site_after s es)) _ c all.runs.machine (controller_at (world (site_after s es)) c) (controller_at (world (site_after s es)) c).last (controller_at (world (site_after s es)) c).told all.rest
     refl refl g.lone.moment g.holds
 
 -- an end says what is true
-well_by : (m : Machine) (last : Option Order) (told : Option Input) (e : End) (gs : List Gear) (left : ℕ) → last ≡ Some (Done e) → Holds m last told gs left → EndsWell e m.kept gs
-well_by m (Some (Done x)) None e gs left is holds = subst (λ y. EndsWell y m.kept gs) (let same : x ≡ e = cc in same) holds
-well_by m (Some (Done x)) (Some i) e gs left is holds = absurd holds
-well_by m None told e gs left is holds = absurd (cc)
-well_by m (Some (Put p f)) told e gs left is holds = absurd (cc)
-well_by m (Some (Commit x)) told e gs left is holds = absurd (cc)
-well_by m (Some (Halt why)) told e gs left is holds = absurd (cc)
+well_by : (before : List Gear) (m : Machine) (last : Option Order) (told : Option Input) (e : End) (gs : List Gear) (left : ℕ) → last ≡ Some (Done e) → Holds before m last told gs left → EndsWell e m.kept gs × AreTabled before m.kept.enrolled gs
+well_by before m (Some (Done x)) None e gs left is holds = (subst (λ y. EndsWell y m.kept gs) (let same : x ≡ e = cc in same) holds.0, holds.1)
+well_by before m (Some (Done x)) (Some i) e gs left is holds = absurd holds
+well_by before m None told e gs left is holds = absurd (cc)
+well_by before m (Some (Put p f)) told e gs left is holds = absurd (cc)
+well_by before m (Some (Commit x)) told e gs left is holds = absurd (cc)
+well_by before m (Some (Halt why)) told e gs left is holds = absurd (cc)
+
+-- what an end leaves
+ended_by : (s : SiteState) (c : ℕ) (es : List Event) (e : End) → StartsAlone s c → Rounds s c es → HasEnded (site_after s es) c e
+    → (m : Machine) × (m.kept ≡ (controller_at (world (site_after s es)) c).records) × EndsWell e m.kept (world (site_after s es)).gear × AreTabled (world s).gear m.kept.enrolled (world (site_after s es)).gear
+ended_by s c es e a rounds ended =
+    let all = runs_all (world s).gear s c (111 * count_by is_bare (world s).gear + 10) es (starts s c a) rounds in
+    let g = all.runs.goes in
+    let well = well_by (world s).gear all.runs.machine (controller_at (world (site_after s es)) c).last (controller_at (world (site_after s es)) c).told e (world (site_after s es)).gear all.rest ended g.holds in
+    (all.runs.machine, g.lone.kept, well.0, well.1)
+
+done_by : (s : SiteState) (c : ℕ) (e : End) (m : Machine) → m.kept ≡ (controller_at (world s) c).records → EndsWell e m.kept (world s).gear → IsDone s c e
+done_by s c AllFound m kept well = well
+done_by s c BlockFull m kept well = subst (λ (k : Kept). IsFull k.block k.reserved) kept well
+done_by s c GaveUp m kept well = well
 
 pub ends : (s : SiteState) (c : ℕ) (es : List Event) (e : End) → StartsAlone s c → Rounds s c es → HasEnded (site_after s es) c e → IsDone (site_after s es) c e
-ends s c es e a rounds ended =
-    let all = runs_all s c (111 * count_by is_bare (world s).gear + 10) es (starts s c a) rounds in
-    let g = all.runs.goes in
-    done_by (site_after s es) c e all.runs.machine g.lone.kept (well_by all.runs.machine (controller_at (world (site_after s es)) c).last (controller_at (world (site_after s es)) c).told e (world (site_after s es)).gear all.rest ended g.holds)
-  where
-    done_by : (s : SiteState) (c : ℕ) (e : End) (m : Machine) → m.kept ≡ (controller_at (world s) c).records → EndsWell e m.kept (world s).gear → IsDone s c e
-    done_by s c AllFound m kept well = well
-    done_by s c BlockFull m kept well = subst (λ (k : Kept). IsFull k.block k.reserved) kept well
-    done_by s c GaveUp m kept well = well
+ends s c es e a rounds ended = let by = ended_by s c es e a rounds ended in done_by (site_after s es) c e by.0 by.1 by.2
+
+pub tabled : (s : SiteState) (c : ℕ) (es : List Event) (e : End) → StartsAlone s c → Rounds s c es → HasEnded (site_after s es) c e → IsTabled s (site_after s es) c
+tabled s c es e a rounds ended =
+    let by = ended_by s c es e a rounds ended in
+    subst (λ (k : Kept). AreTabled (world s).gear k.enrolled (world (site_after s es)).gear) by.1 by.3

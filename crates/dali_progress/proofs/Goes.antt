@@ -9,7 +9,7 @@ use Rattle.dali_special.specs.declared.command.Command.TheVariants.{Arc}
 use Rattle.dali_special.specs.Command.{command_of}
 use Rattle.dali_gear.specs.declared.row.Reach.TheVariants.{Everyone}
 use Rattle.dali_gear.specs.Gear.{Gear}
-use Rattle.dali_gear.specs.Row.{answers_of, heard_of, drawn_of}
+use Rattle.dali_gear.specs.Row.{row_after, answers_of, heard_of, drawn_of}
 use Rattle.dali_arbiter.specs.declared.request.Request.{Request}
 use Rattle.dali_arbiter.specs.Arbiter.{next}
 use Rattle.dali_script.specs.declared.block.Block.{Block}
@@ -45,17 +45,19 @@ use Rattle.dali_events.specs.Searching.{number_at}
 use Rattle.dali_events.specs.Wanted.{is_bare, Seek}
 use Rattle.dali_events.proofs.Sending.{lawful_of}
 use Rattle.dali_events.proofs.Heard.{opened_apart}
-use Rattle.dali_progress.specs.Rounds.{Succeeds}
+use Rattle.dali_progress.specs.Rounds.{Succeeds, AreTabled}
 use Rattle.dali_progress.proofs.Lone.{IsLone, Moment, IsDueOf, due_of, Addresses, acted_last, acted_told, lone_acted, lone_next, sent_last, lone_sent}
-use Rattle.dali_progress.proofs.Stands.{search_frames, At, VisitsAt, Stands, Sends}
+use Rattle.dali_progress.proofs.Stands.{search_frames, to_come, At, VisitsAt, Stands, Sends}
 use Rattle.dali_progress.proofs.Frames.{IsTaken, Seeks, at_sent}
+use Rattle.dali_progress.proofs.Tables.{IsTabledTo, at_tabled}
 use Rattle.dali_progress.proofs.Turns.{IsCalm, CommitsTo, IsNext, turned, started, committed, with_kept}
 
 -- COMMISSIONING GOES ON, event by event.
 
 -- before the start
-pub record IsFresh (m : Machine) (gs : List Gear) (left : ℕ) : Type 0 where
+pub record IsFresh (before : List Gear) (m : Machine) (gs : List Gear) (left : ℕ) : Type 0 where
   pub calm : IsCalm m
+  pub tabled : AreTabled before m.kept.enrolled gs
   pub free : m.trace ≡ []
   pub nothing : m.kept.reserved ≡ []
   pub unopened : m.opened ≡ false
@@ -63,60 +65,60 @@ pub record IsFresh (m : Machine) (gs : List Gear) (left : ℕ) : Type 0 where
   pub frames : 5 + search_frames (count_by is_bare gs) ≤ left
 
 -- a frame was heard: the machine stands so, once it is told
-pub record Hears (m : Machine) (f : Forward) (h : Answer) (gs : List Gear) (left : ℕ) : Type 0 where
-  pub stands : Stands (machine_heard m (Some f) h) gs left
+pub record Hears (before : List Gear) (m : Machine) (f : Forward) (h : Answer) (gs : List Gear) (left : ℕ) : Type 0 where
+  pub stands : Stands before (machine_heard m (Some f) h) gs left
   pub running : stage_of (machine_heard m (Some f) h).trace ≡ stage.Free → ⊥
 
-abbrev pub Holds : Machine → Option Order → Option Input → List Gear → ℕ → Type 0
-Holds m None (Some input.Start) gs left = IsFresh m gs left
-Holds m (Some (Put p f)) (Some (input.Heard h)) gs left = Hears m f h gs left
-Holds m (Some o) None gs left = IsNext m o gs left
-Holds m _ _ gs left = ⊥
+abbrev pub Holds : List Gear → Machine → Option Order → Option Input → List Gear → ℕ → Type 0
+Holds before m None (Some input.Start) gs left = IsFresh before m gs left
+Holds before m (Some (Put p f)) (Some (input.Heard h)) gs left = Hears before m f h gs left
+Holds before m (Some o) None gs left = IsNext before m o gs left
+Holds before m _ _ gs left = ⊥
 
-pub record Goes (w : World) (q c : ℕ) (m : Machine) (left : ℕ) : Type 0 where
+pub record Goes (before : List Gear) (w : World) (q c : ℕ) (m : Machine) (left : ℕ) : Type 0 where
   pub lone : IsLone w q c m
-  pub holds : Holds m (controller_at w c).last (controller_at w c).told w.gear left
+  pub holds : Holds before m (controller_at w c).last (controller_at w c).told w.gear left
 
 -- ---------------------------------------------------------------- the controller acts
 
 put_no_enrolment : (p : ℕ) (f : Forward) (last : Option Order) → last ≡ Some (Put p f) → IsNoEnrolment last
 put_no_enrolment p f last is b n e = let other : Some (Put p f) ≡ Some (Commit (Enrol b n)) = sym is ∙ e in cc
 
-heard_next : (m : Machine) (p : ℕ) (f : Forward) (h : Answer) (o : Order) (gs : List Gear) (left : ℕ) → m.last ≡ Some (Put p f) → IsGivenBy (machine_told m (input.Heard h)) o → IsKept m.kept → Hears m f h gs left
-    → IsNext (machine_after m (input.Heard h) o) o gs left
-heard_next m p f h o gs left is g kept hears =
+heard_next : (before : List Gear) (m : Machine) (p : ℕ) (f : Forward) (h : Answer) (o : Order) (gs : List Gear) (left : ℕ) → m.last ≡ Some (Put p f) → IsGivenBy (machine_told m (input.Heard h)) o → IsKept m.kept → Hears before m f h gs left
+    → IsNext before (machine_after m (input.Heard h) o) o gs left
+heard_next before m p f h o gs left is g kept hears =
     let told : machine_told m (input.Heard h) ≡ machine_heard m (Some f) h = ap (λ l. machine_heard m (frame_put l) h) is in
-    subst (λ t. IsNext (machine_ordered t o) o gs left) (sym told)
-    (turned (machine_heard m (Some f) h) o gs left (subst (λ t. IsGivenBy t o) told g) hears.stands kept (put_no_enrolment p f m.last is) hears.running)
+    subst (λ t. IsNext before (machine_ordered t o) o gs left) (sym told)
+    (turned before (machine_heard m (Some f) h) o gs left (subst (λ t. IsGivenBy t o) told g) hears.stands kept (put_no_enrolment p f m.last is) hears.running)
 
-kept_next : (m : Machine) (x : Record) (o : Order) (gs : List Gear) (left : ℕ) → m.last ≡ Some (Commit x) → IsGivenBy (machine_told m input.Committed) o → IsKept m.kept → m.trace ≡ [] → IsCalm m × CommitsTo m x gs left
-    → IsNext (machine_after m input.Committed o) o gs left
-kept_next m x o gs left is g kept free commits =
+kept_next : (before : List Gear) (m : Machine) (x : Record) (o : Order) (gs : List Gear) (left : ℕ) → m.last ≡ Some (Commit x) → IsGivenBy (machine_told m input.Committed) o → IsKept m.kept → m.trace ≡ [] → IsCalm m × CommitsTo before m x gs left
+    → IsNext before (machine_after m input.Committed o) o gs left
+kept_next before m x o gs left is g kept free commits =
     let told : machine_told m input.Committed ≡ with_kept m x = ap (λ l. machine_committed m (record_ordered l)) is in
-    subst (λ t. IsNext (machine_ordered t o) o gs left) (sym told)
-    (committed m x o gs left commits.0 commits.1 free is kept.reserved (subst (λ t. IsGivenBy t o) told g))
+    subst (λ t. IsNext before (machine_ordered t o) o gs left) (sym told)
+    (committed before m x o gs left commits.0 commits.1 free is kept.reserved (subst (λ t. IsGivenBy t o) told g))
 
 -- what is due, by the last order and by what was told
-acts : (w : World) (q c : ℕ) (m : Machine) (out : Option Record) (last : Option Order) (told : Option Input) (i : Input) (o : Order) (left : ℕ) → Moment w q c m out last told → m.last ≡ last
-    → IsDueOf last told i → Succeeds i → IsGivenBy (machine_told m i) o → IsKept m.kept → Holds m last told w.gear left → IsNext (machine_after m i o) o w.gear left
-acts w q c m out None (Some input.Start) input.Start o left at is due good g kept holds =
-    started m o w.gear left g holds.calm holds.free is holds.nothing holds.unopened holds.opening holds.frames
-acts w q c m out (Some (Put p f)) (Some (input.Heard h)) (input.Heard a) o left at is due good g kept holds =
+acts : (before : List Gear) (w : World) (q c : ℕ) (m : Machine) (out : Option Record) (last : Option Order) (told : Option Input) (i : Input) (o : Order) (left : ℕ) → Moment w q c m out last told → m.last ≡ last
+    → IsDueOf last told i → Succeeds i → IsGivenBy (machine_told m i) o → IsKept m.kept → Holds before m last told w.gear left → IsNext before (machine_after m i o) o w.gear left
+acts before w q c m out None (Some input.Start) input.Start o left at is due good g kept holds =
+    started before m o w.gear left g holds.calm holds.tabled holds.free is holds.nothing holds.unopened holds.opening holds.frames
+acts before w q c m out (Some (Put p f)) (Some (input.Heard h)) (input.Heard a) o left at is due good g kept holds =
     let same : h ≡ a = cc in
-    heard_next m p f a o w.gear left is g kept (subst (λ b. Hears m f b w.gear left) same holds)
-acts w q c m out (Some (Commit x)) None input.Committed o left at is due good g kept holds = kept_next m x o w.gear left is g kept at.1 holds
-acts w q c m out last told input.CommitFailed o left at is due good g kept holds = absurd good
-acts w q c m out None told input.Committed o left at is due good g kept holds = absurd due
-acts w q c m out (Some (Put p f)) told input.Committed o left at is due good g kept holds = absurd due
-acts w q c m out (Some (Done e)) told input.Committed o left at is due good g kept holds = absurd due
-acts w q c m out (Some (Halt why)) told input.Committed o left at is due good g kept holds = absurd due
-acts w q c m out None None i o left at is due good g kept holds = absurd at
-acts w q c m out None (Some input.Start) i o left at is due good g kept holds = absurd (cc)
-acts w q c m out None (Some j) i o left at is due good g kept holds = absurd at
-acts w q c m out (Some (Put p f)) (Some (input.Heard h)) i o left at is due good g kept holds = absurd (cc)
-acts w q c m out (Some (Put p f)) (Some j) i o left at is due good g kept holds = absurd at
-acts w q c m out (Some l) (Some j) i o left at is due good g kept holds = absurd at
-acts w q c m out (Some l) None i o left at is due good g kept holds = absurd (cc)
+    heard_next before m p f a o w.gear left is g kept (subst (λ b. Hears before m f b w.gear left) same holds)
+acts before w q c m out (Some (Commit x)) None input.Committed o left at is due good g kept holds = kept_next before m x o w.gear left is g kept at.1 holds
+acts before w q c m out last told input.CommitFailed o left at is due good g kept holds = absurd good
+acts before w q c m out None told input.Committed o left at is due good g kept holds = absurd due
+acts before w q c m out (Some (Put p f)) told input.Committed o left at is due good g kept holds = absurd due
+acts before w q c m out (Some (Done e)) told input.Committed o left at is due good g kept holds = absurd due
+acts before w q c m out (Some (Halt why)) told input.Committed o left at is due good g kept holds = absurd due
+acts before w q c m out None None i o left at is due good g kept holds = absurd at
+acts before w q c m out None (Some input.Start) i o left at is due good g kept holds = absurd (cc)
+acts before w q c m out None (Some j) i o left at is due good g kept holds = absurd at
+acts before w q c m out (Some (Put p f)) (Some (input.Heard h)) i o left at is due good g kept holds = absurd (cc)
+acts before w q c m out (Some (Put p f)) (Some j) i o left at is due good g kept holds = absurd at
+acts before w q c m out (Some l) (Some j) i o left at is due good g kept holds = absurd at
+acts before w q c m out (Some l) None i o left at is due good g kept holds = absurd (cc)
 
 addresses_by : (o : Order) → IsAddressing o → Addresses (Some o)
 addresses_by (Put p f) addressing = go (command_of f) refl where
@@ -130,26 +132,26 @@ addresses_by (Halt why) addressing = tt
 not_failed : (i : Input) → Succeeds i → i ≡ input.CommitFailed → ⊥
 not_failed i good e = subst Succeeds e good
 
-holds_next : (m : Machine) (o : Order) (gs : List Gear) (left : ℕ) → IsNext m o gs left → Holds m (Some o) None gs left
-holds_next m (Put p f) gs left next = next
-holds_next m (Commit x) gs left next = next
-holds_next m (Done e) gs left next = next
-holds_next m (Halt why) gs left next = next
+holds_next : (before : List Gear) (m : Machine) (o : Order) (gs : List Gear) (left : ℕ) → IsNext before m o gs left → Holds before m (Some o) None gs left
+holds_next before m (Put p f) gs left next = next
+holds_next before m (Commit x) gs left next = next
+holds_next before m (Done e) gs left next = next
+holds_next before m (Halt why) gs left next = next
 
-next_holds : (m : Machine) (o : Order) (gs : List Gear) (left : ℕ) → Holds m (Some o) None gs left → IsNext m o gs left
-next_holds m (Put p f) gs left next = next
-next_holds m (Commit x) gs left next = next
-next_holds m (Done e) gs left next = next
-next_holds m (Halt why) gs left next = next
+next_holds : (before : List Gear) (m : Machine) (o : Order) (gs : List Gear) (left : ℕ) → Holds before m (Some o) None gs left → IsNext before m o gs left
+next_holds before m (Put p f) gs left next = next
+next_holds before m (Commit x) gs left next = next
+next_holds before m (Done e) gs left next = next
+next_holds before m (Halt why) gs left next = next
 
-pub goes_acted : (w : World) (q c : ℕ) (m : Machine) (i : Input) (o : Order) (left : ℕ) → Goes w q c m left → Succeeds i → Allowed w (event.Acted c i o) → IsGiven m i o → IsKept (controller_at w c).records
-    → Goes (happens w (event.Acted c i o)) q c (machine_after m i o) left
-goes_acted w q c m i o left goes good here given kept =
+pub goes_acted : (before : List Gear) (w : World) (q c : ℕ) (m : Machine) (i : Input) (o : Order) (left : ℕ) → Goes before w q c m left → Succeeds i → Allowed w (event.Acted c i o) → IsGiven m i o → IsKept (controller_at w c).records
+    → Goes before (happens w (event.Acted c i o)) q c (machine_after m i o) left
+goes_acted before w q c m i o left goes good here given kept =
     let by : IsGivenBy (machine_told m i) o = given_by m i o (not_failed i good) given in
     let lone = lone_acted w q c m i o goes.lone good (addresses_by o by.ordered.addressing) here in
-    let next = acts w q c m (controller_at w c).outstanding (controller_at w c).last (controller_at w c).told i o left goes.lone.moment goes.lone.last (due_of (controller_at w c) i here.due) good by
+    let next = acts before w q c m (controller_at w c).outstanding (controller_at w c).last (controller_at w c).told i o left goes.lone.moment goes.lone.last (due_of (controller_at w c) i here.due) good by
         (subst IsKept (sym goes.lone.kept) kept) goes.holds in
-    record { lone = lone; holds = rw (acted_last w c i o goes.lone.up, acted_told w c i o goes.lone.up) (holds_next (machine_after m i o) o w.gear left next) }
+    record { lone = lone; holds = rw (acted_last w c i o goes.lone.up, acted_told w c i o goes.lone.up) (holds_next before (machine_after m i o) o w.gear left next) }
 
 -- ---------------------------------------------------------------- its frame is sent
 
@@ -179,17 +181,18 @@ not_free t x e = go t (free_is_empty (t ++ x ∷ []) e) where
   go (y ∷ t) e = cc
 
 -- the machine stands so once it is told what was heard
-stands_heard : (m : Machine) (f : Forward) (h : Answer) (gs hs : List Gear) (left l : ℕ) → Stands m gs left → IsLawful m.trace f
-    → At m.course.purpose (next_stage (stage_of m.trace) (command_of f) h) m.kept (opened_after (next_stage (stage_of m.trace) (command_of f) h) m.opened) m.course.search m.course.number hs l
-    → Stands (machine_heard m (Some f) h) hs l
-stands_heard m f h gs hs left l st lawful at =
+stands_heard : (before : List Gear) (m : Machine) (f : Forward) (h : Answer) (gs : List Gear) (numbers : List ℕ) (left l : ℕ) → Stands before m gs left → IsLawful m.trace f → IsTabledTo before (stage_of m.trace) m.course.number m.kept.enrolled gs numbers (command_of f) h
+    → At m.course.purpose (next_stage (stage_of m.trace) (command_of f) h) m.kept (opened_after (next_stage (stage_of m.trace) (command_of f) h) m.opened) m.course.search m.course.number (row_after Everyone (command_of f) 0 gs numbers) l
+    → Stands before (machine_heard m (Some f) h) (row_after Everyone (command_of f) 0 gs numbers) l
+stands_heard before m f h gs numbers left l st lawful tabled at =
     let more : stage_of (m.trace ++ entry f h ∷ []) ≡ next_stage (stage_of m.trace) (command_of f) h = stage_more m.trace (entry f h) in
     record {
       tries = no_tries _ m.tries st.tries;
       silent = rw (more, st.silent) (never_silent m.course.purpose (next_stage (stage_of m.trace) (command_of f) h) m.kept
-          (opened_after (next_stage (stage_of m.trace) (command_of f) h) m.opened) m.opened m.course.search m.course.number hs l at);
+          (opened_after (next_stage (stage_of m.trace) (command_of f) h) m.opened) m.opened m.course.search m.course.number (row_after Everyone (command_of f) 0 gs numbers) l at);
       trace = subst (λ s. IsTrace s (m.trace ++ entry f h ∷ [])) (sym more) (trace_more (stage_of m.trace) m.trace f h lawful st.trace);
       within = st.within;
+      tabled = subst (λ s. AreTabled before (to_come s m.course.number m.kept.enrolled) (row_after Everyone (command_of f) 0 gs numbers)) (sym more) tabled;
       at = rw more at;
     }
 
@@ -207,25 +210,27 @@ taken_of w c f h here known heard = record {
   apart = opened_apart w known.drawn;
 }
 
-pub goes_sent : (w : World) (q c : ℕ) (m : Machine) (r : Request) (h : Answer) (left : ℕ) → Goes w q c m left → next w.bus ≡ Some r → Allowed w (event.Sent r.sender r.frame h) → IsKnown w r.sender r.frame h
-    → h ≡ heard_of (answers_of Everyone (command_of r.frame) 0 w.gear) → (l : ℕ) × (left ≡ suc l) × Goes (happens w (event.Sent r.sender r.frame h)) q c m l
-goes_sent w q c m r h left goes is here known heard =
+pub goes_sent : (before : List Gear) (w : World) (q c : ℕ) (m : Machine) (r : Request) (h : Answer) (left : ℕ) → Goes before w q c m left → next w.bus ≡ Some r → Allowed w (event.Sent r.sender r.frame h) → IsKnown w r.sender r.frame h
+    → h ≡ heard_of (answers_of Everyone (command_of r.frame) 0 w.gear) → (l : ℕ) × (left ≡ suc l) × Goes before (happens w (event.Sent r.sender r.frame h)) q c m l
+goes_sent before w q c m r h left goes is here known heard =
     let put = lone_next w q c m r goes.lone is in
     let at : r.sender ≡ c = put.3 in
-    subst (λ d. Allowed w (event.Sent d r.frame h) → IsKnown w d r.frame h → (l : ℕ) × (left ≡ suc l) × Goes (happens w (event.Sent d r.frame h)) q c m l) (sym at)
+    subst (λ d. Allowed w (event.Sent d r.frame h) → IsKnown w d r.frame h → (l : ℕ) × (left ≡ suc l) × Goes before (happens w (event.Sent d r.frame h)) q c m l) (sym at)
     (λ here known. go put.0 put.1 put.2 here known) here known
   where
-    go : (p : ℕ) → m.last ≡ Some (Put p r.frame) → (controller_at w c).told ≡ None → Allowed w (event.Sent c r.frame h) → IsKnown w c r.frame h → (l : ℕ) × (left ≡ suc l) × Goes (happens w (event.Sent c r.frame h)) q c m l
+    go : (p : ℕ) → m.last ≡ Some (Put p r.frame) → (controller_at w c).told ≡ None → Allowed w (event.Sent c r.frame h) → IsKnown w c r.frame h → (l : ℕ) × (left ≡ suc l) × Goes before (happens w (event.Sent c r.frame h)) q c m l
     go p last told here known =
         let lone = lone_sent w q c m p r.frame h goes.lone last told in
-        let holds : IsNext m (Put p r.frame) w.gear left = next_holds m (Put p r.frame) w.gear left (rw (sym goes.lone.last ∙ last, told) at goes.holds) in
+        let holds : IsNext before m (Put p r.frame) w.gear left = next_holds before m (Put p r.frame) w.gear left (rw (sym goes.lone.last ∙ last, told) at goes.holds) in
         let same : w.trace ≡ m.trace = lone.3 in
         let sent = at_sent m.course.purpose (stage_of m.trace) m.kept m.opened m.course.search m.course.number w.gear w.left left (command_of r.frame) h holds.0.at holds.1
             (taken_of w c r.frame h here known heard) (subst (λ t. Seeks (stage_of t) w.gear) same known.seeks) in
+        let tabled = at_tabled before m.course.purpose (stage_of m.trace) m.kept m.opened _ m.course.search m.course.number w.gear w.left left sent.0 (command_of r.frame) h holds.0.at holds.1
+            (subst (λ t. Seeks (stage_of t) w.gear) same known.seeks) sent.2 holds.0.tabled in
         let lawful : IsLawful m.trace r.frame =
             ((controller_at w c).records.block, (controller_at w c).records.reserved, subst (λ t. Lawful (controller_at w c).records.block (controller_at w c).records.reserved t r.frame) lone.2 (lawful_of w c r.frame here.may)) in
         (sent.0, sent.1, record {
           lone = lone.0;
           holds = rw (sent_last w c r.frame h goes.lone.up ∙ sym goes.lone.last ∙ last, lone.1)
-              (record { stands = stands_heard m r.frame h w.gear _ left sent.0 holds.0 lawful sent.2; running = not_free m.trace (entry r.frame h) });
+              (record { stands = stands_heard before m r.frame h w.gear w.left left sent.0 holds.0 lawful tabled sent.2; running = not_free m.trace (entry r.frame h) });
         })

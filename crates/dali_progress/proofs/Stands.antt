@@ -22,6 +22,7 @@ use Rattle.dali_controller.specs.Machine.{Machine}
 use Rattle.dali_events.specs.Searching.{HasShort}
 use Rattle.dali_events.specs.Wanted.{is_wanted, wants, is_bare, OfPowered, IsOpened, NoneNamed, NoneNamedBut}
 use Rattle.dali_events.proofs.Opened.{AreOpening}
+use Rattle.dali_progress.specs.Rounds.{AreTabled}
 
 -- HOW FAR COMMISSIONING IS, where nothing is disturbed: what is true of gear, records and search at each stage of the
 -- running transaction, and how many frames are left to be sent, at the most.
@@ -189,11 +190,19 @@ At (Closing e) s k opened x n gs left = Closes e s k gs left
 abbrev pub IsWithin : Kept → Type 0
 IsWithin k = (x : Assignment) → Has k.enrolled x → Has k.reserved x
 
-pub record Stands (m : Machine) (gs : List Gear) (left : ℕ) : Type 0 where
+-- the entries of its table, with the one that is to come of a visit
+abbrev pub to_come : Stage → SearchAddress → List Assignment → List Assignment
+to_come (stage.Programmed r a) n xs = (a, value_of n) ∷ xs
+to_come (stage.Confirmed r a) n xs = (a, value_of n) ∷ xs
+to_come (stage.Withdrawn r a) n xs = (a, value_of n) ∷ xs
+to_come _ n xs = xs
+
+pub record Stands (before : List Gear) (m : Machine) (gs : List Gear) (left : ℕ) : Type 0 where
   pub tries : m.tries ≡ 0
   pub silent : m.silent ≡ 0
   pub trace : IsTrace (stage_of m.trace) m.trace
   pub within : IsWithin m.kept
+  pub tabled : AreTabled before (to_come (stage_of m.trace) m.course.number m.kept.enrolled) gs
   pub at : At m.course.purpose (stage_of m.trace) m.kept m.opened m.course.search m.course.number gs left
 
 -- ---------------------------------------------------------------- the frame that is to be sent

@@ -46,11 +46,13 @@ use Rattle.dali_controller.specs.Orders.{machine_ordered, Contradicts, AfterFind
 use Rattle.dali_controller.proofs.Given as given
 use Rattle.dali_controller.proofs.Given.{IsGivenBy, IsNoEnrolment}
 use Rattle.dali_events.specs.Searching.{HasShort}
-use Rattle.dali_events.specs.Wanted.{is_wanted, wants, is_bare, OfPowered, IsOpened, NoneNamed}
+use Rattle.dali_events.specs.Wanted.{gear_of, is_wanted, wants, is_bare, OfPowered, IsOpened, NoneNamed}
 use Rattle.dali_events.proofs.Wanted as wanted
 use Rattle.dali_events.proofs.Opened as opening
-use Rattle.dali_progress.proofs.Stands.{sent_at, search_frames, probe_frames, Opens, Searches, Probes, IsVisited, VisitFrames, Visits, Names, Leaves, VisitsAt, EndsWell, Closes, At, IsWithin, Stands, Sends}
+use Rattle.dali_progress.specs.Rounds.{AreTabled}
+use Rattle.dali_progress.proofs.Stands.{to_come, sent_at, search_frames, probe_frames, Opens, Searches, Probes, IsVisited, VisitFrames, Visits, Names, Leaves, VisitsAt, EndsWell, Closes, At, IsWithin, Stands, Sends}
 use Rattle.dali_progress.proofs.Frames.{value_sought}
+use Rattle.dali_progress.proofs.Tables.{tabled_over}
 
 -- A CONTROLLER ACTS on what it was told, and what it orders goes on with the commissioning.
 
@@ -61,7 +63,7 @@ pub record IsCalm (m : Machine) : Type 0 where
   pub within : IsWithin m.kept
 
 -- a reservation is to be kept, and then its gear is visited once more
-pub record Reserves (m : Machine) (r : ℕ) (gs : List Gear) (left : ℕ) : Type 0 where
+pub record Reserves (before : List Gear) (m : Machine) (r : ℕ) (gs : List Gear) (left : ℕ) : Type 0 where
   pub opened : m.opened ≡ true
   pub ready : IsOpened gs
   pub unnamed : NoneNamed gs
@@ -69,52 +71,55 @@ pub record Reserves (m : Machine) (r : ℕ) (gs : List Gear) (left : ℕ) : Type
   pub drawn : r < MASK24
   pub more : ℕ
   pub count : count_by is_wanted gs ≡ suc more
+  pub tabled : AreTabled before m.kept.enrolled gs
   pub frames : 7 + search_frames more ≤ left
 
 -- an enrolment is to be kept, and then a new search begins
-pub record Enrols (m : Machine) (b r : ℕ) (gs : List Gear) (left : ℕ) : Type 0 where
+pub record Enrols (before : List Gear) (m : Machine) (b r : ℕ) (gs : List Gear) (left : ℕ) : Type 0 where
   pub opened : m.opened ≡ true
   pub ready : IsOpened gs
   pub unnamed : NoneNamed gs
   pub reserved : Has m.kept.reserved (b, r)
+  pub tabled : AreTabled before ((b, r) ∷ m.kept.enrolled) gs
   pub frames : search_frames (count_by is_wanted gs) ≤ left
 
-abbrev pub CommitsTo : Machine → Record → List Gear → ℕ → Type 0
-CommitsTo m (Reserve a r) gs left = Reserves m r gs left
-CommitsTo m (Enrol b r) gs left = Enrols m b r gs left
-CommitsTo m (Release a r) gs left = ⊥
+abbrev pub CommitsTo : List Gear → Machine → Record → List Gear → ℕ → Type 0
+CommitsTo before m (Reserve a r) gs left = Reserves before m r gs left
+CommitsTo before m (Enrol b r) gs left = Enrols before m b r gs left
+CommitsTo before m (Release a r) gs left = ⊥
 
 -- what is to come of an order
-abbrev pub IsNext : Machine → Order → List Gear → ℕ → Type 0
-IsNext m (Put p f) gs left = Stands m gs left × Sends m.course.purpose m.course.number m.kept (stage_of m.trace) (command_of f)
-IsNext m (Commit x) gs left = IsCalm m × CommitsTo m x gs left
-IsNext m (Done e) gs left = EndsWell e m.kept gs
-IsNext m (Halt why) gs left = ⊥
+abbrev pub IsNext : List Gear → Machine → Order → List Gear → ℕ → Type 0
+IsNext before m (Put p f) gs left = Stands before m gs left × Sends m.course.purpose m.course.number m.kept (stage_of m.trace) (command_of f)
+IsNext before m (Commit x) gs left = IsCalm m × CommitsTo before m x gs left
+IsNext before m (Done e) gs left = EndsWell e m.kept gs × AreTabled before m.kept.enrolled gs
+IsNext before m (Halt why) gs left = ⊥
 
-calm_of : (t : Machine) (gs : List Gear) (left : ℕ) → Stands t gs left → IsCalm t
-calm_of t gs left st = record { tries = st.tries; silent = st.silent; within = st.within }
+calm_of : (before : List Gear) (t : Machine) (gs : List Gear) (left : ℕ) → Stands before t gs left → IsCalm t
+calm_of before t gs left st = record { tries = st.tries; silent = st.silent; within = st.within }
 
 never_eight : (n : ℕ) → n ≡ 0 → n ≡ 8 → ⊥
 never_eight n none e = omega (arith, none, e)
 
 -- ---------------------------------------------------------------- a later frame, and a first one
 
-goes_later : (t : Machine) (o : Order) (c : Command) (gs : List Gear) (left : ℕ) → Stands t gs left → o ≡ Put LATER (frame_of c) → IsSpelled c
-    → Sends t.course.purpose t.course.number t.kept (stage_of t.trace) c → IsNext (machine_ordered t o) o gs left
-goes_later t o c gs left st is spelled sends = subst (λ q. IsNext (machine_ordered t q) q gs left) (sym is) (
-  record { tries = st.tries; silent = st.silent; trace = st.trace; within = st.within; at = st.at },
+goes_later : (before : List Gear) (t : Machine) (o : Order) (c : Command) (gs : List Gear) (left : ℕ) → Stands before t gs left → o ≡ Put LATER (frame_of c) → IsSpelled c
+    → Sends t.course.purpose t.course.number t.kept (stage_of t.trace) c → IsNext before (machine_ordered t o) o gs left
+goes_later before t o c gs left st is spelled sends = subst (λ q. IsNext before (machine_ordered t q) q gs left) (sym is) (
+  record { tries = st.tries; silent = st.silent; trace = st.trace; within = st.within; tabled = st.tabled; at = st.at },
   subst (λ d. Sends t.course.purpose t.course.number t.kept (stage_of t.trace) d) (sym (read_written c spelled)) sends,
 )
 
-goes_first : (t : Machine) (o : Order) (gs : List Gear) (left : ℕ) → IsCalm t → o ≡ beginning (next_course t)
+goes_first : (before : List Gear) (t : Machine) (o : Order) (gs : List Gear) (left : ℕ) → IsCalm t → AreTabled before t.kept.enrolled gs → o ≡ beginning (next_course t)
     → IsSpelled (first_of (next_course t).purpose (next_course t).number)
-    → At (next_course t).purpose stage.Free t.kept t.opened (next_course t).search (next_course t).number gs left → IsNext (machine_ordered t o) o gs left
-goes_first t o gs left calm is spelled at = subst (λ q. IsNext (machine_ordered t q) q gs left) (sym is) (
+    → At (next_course t).purpose stage.Free t.kept t.opened (next_course t).search (next_course t).number gs left → IsNext before (machine_ordered t o) o gs left
+goes_first before t o gs left calm tabled is spelled at = subst (λ q. IsNext before (machine_ordered t q) q gs left) (sym is) (
   record {
     tries = calm.tries;
     silent = calm.silent;
     trace = subst (λ s. IsTrace s []) (sym stage_none) trace_none;
     within = calm.within;
+    tabled = subst (λ s. AreTabled before (to_come s (next_course t).number t.kept.enrolled) gs) (sym stage_none) tabled;
     at = subst (λ s. At (next_course t).purpose s t.kept t.opened (next_course t).search (next_course t).number gs left) (sym stage_none) at;
   },
   subst (λ s. Sends (next_course t).purpose (next_course t).number t.kept s (command_of (frame_of (first_of (next_course t).purpose (next_course t).number)))) (sym stage_none)
@@ -122,15 +127,19 @@ goes_first t o gs left calm is spelled at = subst (λ q. IsNext (machine_ordered
 )
 
 -- of a course that is known
-goes_by : (t : Machine) (o : Order) (cs : Course) (gs : List Gear) (left : ℕ) → IsCalm t → o ≡ beginning (next_course t) → next_course t ≡ cs
-    → IsSpelled (first_of cs.purpose cs.number) → At cs.purpose stage.Free t.kept t.opened cs.search cs.number gs left → IsNext (machine_ordered t o) o gs left
-goes_by t o cs gs left calm is same spelled at =
-    goes_first t o gs left calm is (subst (λ (d : Course). IsSpelled (first_of d.purpose d.number)) (sym same) spelled)
+goes_by : (before : List Gear) (t : Machine) (o : Order) (cs : Course) (gs : List Gear) (left : ℕ) → IsCalm t → AreTabled before t.kept.enrolled gs → o ≡ beginning (next_course t) → next_course t ≡ cs
+    → IsSpelled (first_of cs.purpose cs.number) → At cs.purpose stage.Free t.kept t.opened cs.search cs.number gs left → IsNext before (machine_ordered t o) o gs left
+goes_by before t o cs gs left calm tabled is same spelled at =
+    goes_first before t o gs left calm tabled is (subst (λ (d : Course). IsSpelled (first_of d.purpose d.number)) (sym same) spelled)
     (subst (λ (d : Course). At d.purpose stage.Free t.kept t.opened d.search d.number gs left) (sym same) at)
 
 -- the finding of a transaction by its stage
-found_none : (t : Machine) (gs : List Gear) (left : ℕ) (s : Stage) → Stands t gs left → stage_of t.trace ≡ s → finding_at s ≡ None → finding_of t.trace ≡ None
-found_none t gs left s st is none = st.trace.finding ∙ ap finding_at is ∙ none
+found_none : (before : List Gear) (t : Machine) (gs : List Gear) (left : ℕ) (s : Stage) → Stands before t gs left → stage_of t.trace ≡ s → finding_at s ≡ None → finding_of t.trace ≡ None
+found_none before t gs left s st is none = st.trace.finding ∙ ap finding_at is ∙ none
+
+-- the table by its stage
+tabled_at : (before : List Gear) (t : Machine) (gs : List Gear) (left : ℕ) (s : Stage) → Stands before t gs left → stage_of t.trace ≡ s → AreTabled before (to_come s t.course.number t.kept.enrolled) gs
+tabled_at before t gs left s st is = subst (λ q. AreTabled before (to_come q t.course.number t.kept.enrolled) gs) is st.tabled
 
 -- ---------------------------------------------------------------- a new search
 
@@ -152,10 +161,10 @@ begins_search c gs left ready unnamed enough = record {
   frames = search_at_first gs left enough;
 }
 
-searches_anew : (t : Machine) (o : Order) (gs : List Gear) (left : ℕ) → IsCalm t → o ≡ beginning (next_course t) → next_course t ≡ searching_anew t.course → t.opened ≡ true
-    → IsOpened gs → NoneNamed gs → search_frames (count_by is_wanted gs) ≤ left → IsNext (machine_ordered t o) o gs left
-searches_anew t o gs left calm is same opened ready unnamed enough =
-    goes_by t o (searching_anew t.course) gs left calm is same tt (opened, begins_search t.course gs left ready unnamed enough)
+searches_anew : (before : List Gear) (t : Machine) (o : Order) (gs : List Gear) (left : ℕ) → IsCalm t → AreTabled before t.kept.enrolled gs → o ≡ beginning (next_course t) → next_course t ≡ searching_anew t.course → t.opened ≡ true
+    → IsOpened gs → NoneNamed gs → search_frames (count_by is_wanted gs) ≤ left → IsNext before (machine_ordered t o) o gs left
+searches_anew before t o gs left calm tabled is same opened ready unnamed enough =
+    goes_by before t o (searching_anew t.course) gs left calm tabled is same tt (opened, begins_search t.course gs left ready unnamed enough)
 
 -- after an opening before which an opening was complete
 goes_on_anew : (t : Machine) → t.opened ≡ true → goes_on_to t ≡ searching_anew t.course
@@ -164,24 +173,24 @@ goes_on_anew t opened = rw opened refl
 -- ---------------------------------------------------------------- the opening
 
 -- its next frame
-turns_later : (t : Machine) (o : Order) (p : Purpose) (s : Stage) (c : Command) (gs : List Gear) (left : ℕ) → IsGivenBy t o → Stands t gs left → t.course.purpose ≡ p → stage_of t.trace ≡ s
-    → turn_of p t.course.number s ≡ Some c → IsSpelled c → Sends p t.course.number t.kept s c → IsNext (machine_ordered t o) o gs left
-turns_later t o p s c gs left g st purpose is turn spelled sends =
-    goes_later t o c gs left st (given.turns t o c g (rw (purpose, is) turn)) spelled (rw (purpose, is) sends)
+turns_later : (before : List Gear) (t : Machine) (o : Order) (p : Purpose) (s : Stage) (c : Command) (gs : List Gear) (left : ℕ) → IsGivenBy t o → Stands before t gs left → t.course.purpose ≡ p → stage_of t.trace ≡ s
+    → turn_of p t.course.number s ≡ Some c → IsSpelled c → Sends p t.course.number t.kept s c → IsNext before (machine_ordered t o) o gs left
+turns_later before t o p s c gs left g st purpose is turn spelled sends =
+    goes_later before t o c gs left st (given.turns t o c g (rw (purpose, is) turn)) spelled (rw (purpose, is) sends)
 
-opening_turns : (t : Machine) (o : Order) (s : Stage) (gs : List Gear) (left : ℕ) → IsGivenBy t o → Stands t gs left → IsNoEnrolment t.last → t.course.purpose ≡ Opening → stage_of t.trace ≡ s → (s ≡ stage.Free → ⊥)
-    → Opens s t.opened gs left → IsNext (machine_ordered t o) o gs left
-opening_turns t o stage.Free gs left g st last purpose is running opens = absurd (running refl)
-opening_turns t o stage.Terminated gs left g st last purpose is running opens = turns_later t o Opening stage.Terminated _ gs left g st purpose is refl tt refl
-opening_turns t o stage.InitialisedOnce gs left g st last purpose is running opens = turns_later t o Opening stage.InitialisedOnce _ gs left g st purpose is refl tt refl
-opening_turns t o stage.Initialised gs left g st last purpose is running opens = turns_later t o Opening stage.Initialised _ gs left g st purpose is refl tt refl
-opening_turns t o stage.RandomisedOnce gs left g st last purpose is running opens = turns_later t o Opening stage.RandomisedOnce _ gs left g st purpose is refl tt refl
-opening_turns t o stage.Opened gs left g st last purpose is running opens =
+opening_turns : (before : List Gear) (t : Machine) (o : Order) (s : Stage) (gs : List Gear) (left : ℕ) → IsGivenBy t o → Stands before t gs left → IsNoEnrolment t.last → t.course.purpose ≡ Opening → stage_of t.trace ≡ s → (s ≡ stage.Free → ⊥)
+    → Opens s t.opened gs left → IsNext before (machine_ordered t o) o gs left
+opening_turns before t o stage.Free gs left g st last purpose is running opens = absurd (running refl)
+opening_turns before t o stage.Terminated gs left g st last purpose is running opens = turns_later before t o Opening stage.Terminated _ gs left g st purpose is refl tt refl
+opening_turns before t o stage.InitialisedOnce gs left g st last purpose is running opens = turns_later before t o Opening stage.InitialisedOnce _ gs left g st purpose is refl tt refl
+opening_turns before t o stage.Initialised gs left g st last purpose is running opens = turns_later before t o Opening stage.Initialised _ gs left g st purpose is refl tt refl
+opening_turns before t o stage.RandomisedOnce gs left g st last purpose is running opens = turns_later before t o Opening stage.RandomisedOnce _ gs left g st purpose is refl tt refl
+opening_turns before t o stage.Opened gs left g st last purpose is running opens =
     let count : count_by is_wanted gs ≡ count_by is_bare gs = opening.opened_count gs opens.gear in
     let enough : 5 + search_frames (count_by is_bare gs) ≤ left + 5 = opens.frames in
-    searches_anew t o gs left (calm_of t gs left st) (given.begins_after t o stage.Opened g is tt (found_none t gs left stage.Opened st is refl) last (never_eight t.tries st.tries))
+    searches_anew before t o gs left (calm_of before t gs left st) (tabled_at before t gs left stage.Opened st is) (given.begins_after t o stage.Opened g is tt (found_none before t gs left stage.Opened st is refl) last (never_eight t.tries st.tries))
     (ap (begins_at t) is) opens.stage_is (opening.opened_is gs opens.gear) (opening.opened_none_named gs opens.gear) (omega (arith, count, enough))
-opening_turns t o _ gs left g st last purpose is running opens = absurd opens.stage_is
+opening_turns before t o _ gs left g st last purpose is running opens = absurd opens.stage_is
 
 -- ---------------------------------------------------------------- a probe that was answered
 
@@ -289,20 +298,20 @@ probed_at Nobody k c said gs left is ready unnamed narrowing agrees enough = (tt
   frames = close_frames (length c.search.answers) (count_by is_wanted gs) left enough;
 })
 
-probing_turns : (t : Machine) (o : Order) (s : Stage) (gs : List Gear) (left : ℕ) → IsGivenBy t o → Stands t gs left → IsNoEnrolment t.last → t.course.purpose ≡ Probing → stage_of t.trace ≡ s → (s ≡ stage.Free → ⊥)
-    → t.opened ≡ true → Probes s t.course.search t.course.number gs left → IsNext (machine_ordered t o) o gs left
-probing_turns t o stage.Free gs left g st last purpose is running opened p = absurd (running refl)
-probing_turns t o (stage.HighSent high) gs left g st last purpose is running opened p = turns_later t o Probing (stage.HighSent high) _ gs left g st purpose is refl tt refl
-probing_turns t o (stage.MiddleSent high middle) gs left g st last purpose is running opened p = turns_later t o Probing (stage.MiddleSent high middle) _ gs left g st purpose is refl tt refl
-probing_turns t o (stage.NumberSent r) gs left g st last purpose is running opened p = turns_later t o Probing (stage.NumberSent r) _ gs left g st purpose is refl tt refl
-probing_turns t o (stage.Probed r h) gs left g st last purpose is running opened p =
+probing_turns : (before : List Gear) (t : Machine) (o : Order) (s : Stage) (gs : List Gear) (left : ℕ) → IsGivenBy t o → Stands before t gs left → IsNoEnrolment t.last → t.course.purpose ≡ Probing → stage_of t.trace ≡ s → (s ≡ stage.Free → ⊥)
+    → t.opened ≡ true → Probes s t.course.search t.course.number gs left → IsNext before (machine_ordered t o) o gs left
+probing_turns before t o stage.Free gs left g st last purpose is running opened p = absurd (running refl)
+probing_turns before t o (stage.HighSent high) gs left g st last purpose is running opened p = turns_later before t o Probing (stage.HighSent high) _ gs left g st purpose is refl tt refl
+probing_turns before t o (stage.MiddleSent high middle) gs left g st last purpose is running opened p = turns_later before t o Probing (stage.MiddleSent high middle) _ gs left g st purpose is refl tt refl
+probing_turns before t o (stage.NumberSent r) gs left g st last purpose is running opened p = turns_later before t o Probing (stage.NumberSent r) _ gs left g st purpose is refl tt refl
+probing_turns before t o (stage.Probed r h) gs left g st last purpose is running opened p =
     let c : Course = t.course in
     let narrowing : IsNarrowing (answered t.course.search (is_yes h)) = searching.goes_on t.course.search (is_yes h) p.searches.narrowing p.searches.running in
     let agrees : Agrees (wants gs) (answered t.course.search (is_yes h)).answers = agrees_more (wants gs) t.course.search.answers t.course.search.probe (is_yes h) p.searches.agrees p.stage_is in
     let there = probed_at (answered t.course.search (is_yes h)).step t.kept t.course (is_yes h) gs left refl p.ready p.unnamed narrowing agrees p.frames in
-    goes_by t o (probed t.course h) gs left (calm_of t gs left st) (given.begins_after t o (stage.Probed r h) g is tt (found_none t gs left (stage.Probed r h) st is refl) last (never_eight t.tries st.tries))
+    goes_by before t o (probed t.course h) gs left (calm_of before t gs left st) (tabled_at before t gs left (stage.Probed r h) st is) (given.begins_after t o (stage.Probed r h) g is tt (found_none before t gs left (stage.Probed r h) st is refl) last (never_eight t.tries st.tries))
     (ap (begins_at t) is) there.0 (subst (λ b. At (probed t.course h).purpose stage.Free t.kept b (probed t.course h).search (probed t.course h).number gs left) (sym opened) there.1)
-probing_turns t o _ gs left g st last purpose is running opened p = absurd p.stage_is
+probing_turns before t o _ gs left g st last purpose is running opened p = absurd p.stage_is
 
 -- ---------------------------------------------------------------- a visit
 
@@ -316,9 +325,9 @@ has_random xs a n has = has_map (λ (q : Assignment). q.1) xs (a, n) has
 has_address : (xs : List Assignment) (a n : ℕ) → Has xs (a, n) → HasAddress xs a
 has_address xs a n has = has_map (λ (q : Assignment). q.0) xs (a, n) has
 
-unnamed_turns : (t : Machine) (o : Order) (r : SearchAddress) (gs : List Gear) (left : ℕ) → IsGivenBy t o → Stands t gs left → IsKept t.kept → t.course.purpose ≡ Visiting → stage_of t.trace ≡ stage.Unnamed r
-    → t.opened ≡ true → Visits (stage.Unnamed r) t.kept t.course.number gs left → IsNext (machine_ordered t o) o gs left
-unnamed_turns t o r gs left g st kept purpose is opened v = go (given.unnamed t o r g is) where
+unnamed_turns : (before : List Gear) (t : Machine) (o : Order) (r : SearchAddress) (gs : List Gear) (left : ℕ) → IsGivenBy t o → Stands before t gs left → IsKept t.kept → t.course.purpose ≡ Visiting → stage_of t.trace ≡ stage.Unnamed r
+    → t.opened ≡ true → Visits (stage.Unnamed r) t.kept t.course.number gs left → IsNext before (machine_ordered t o) o gs left
+unnamed_turns before t o r gs left g st kept purpose is opened v = go (given.unnamed t o r g is) where
   same : value_of r ≡ value_of t.course.number
   same = ap value_of (sym v.searched)
 
@@ -330,11 +339,11 @@ unnamed_turns t o r gs left g st kept purpose is opened v = go (given.unnamed t 
   some (inl e) = let enough : 7 + search_frames v.more ≤ left + 4 = e.1 in omega (arith, enough)
   some (inr e) = omega (arith, e)
 
-  go : given.IsUnnamedBy t r o → IsNext (machine_ordered t o) o gs left
+  go : given.IsUnnamedBy t r o → IsNext before (machine_ordered t o) o gs left
   go (inl e) =
       let small : e.0 < 64 = kept.reserved.short e.0 (has_address t.kept.reserved e.0 (value_of r) e.1) in
-      goes_later t o (Program (Some e.0)) gs left st e.2 small (rw is (e.0, small, e.1, refl))
-  go (inr (inl e)) = subst (λ q. IsNext (machine_ordered t q) q gs left) (sym e.1.2) (record { tries = st.tries; silent = st.silent; within = st.within }, record {
+      goes_later before t o (Program (Some e.0)) gs left st e.2 small (rw is (e.0, small, e.1, refl))
+  go (inr (inl e)) = subst (λ q. IsNext before (machine_ordered t q) q gs left) (sym e.1.2) (record { tries = st.tries; silent = st.silent; within = st.within }, record {
     opened = opened;
     ready = v.ready;
     unnamed = v.unnamed;
@@ -342,11 +351,12 @@ unnamed_turns t o r gs left g st kept purpose is opened v = go (given.unnamed t 
     drawn = subst (λ m. m < MASK24) (sym same) (drawn_of t.course.number v.visited.number v.visited.number_is v.visited.drawn);
     more = v.more;
     count = v.visited.count;
+    tabled = tabled_at before t gs left (stage.Unnamed r) st is;
     frames = frames e.0 v.frames;
   })
   go (inr (inr e)) =
       let next : next_course t ≡ closing_by t.course BlockFull = ap (begins_at t) is in
-      goes_by t o (closing_by t.course BlockFull) gs left (calm_of t gs left st) (e.2 ∙ sym (ap beginning next)) next tt (record { stage_is = tt; well = e.1; frames = some v.frames })
+      goes_by before t o (closing_by t.course BlockFull) gs left (calm_of before t gs left st) (tabled_at before t gs left (stage.Unnamed r) st is) (e.2 ∙ sym (ap beginning next)) next tt (record { stage_is = tt; well = e.1; frames = some v.frames })
 
 -- what is enrolled is reserved, so nothing contradicts what is reserved
 no_contradiction : (k : Kept) (b n : ℕ) → IsKept k → IsWithin k → Has k.reserved (b, n) → Contradicts k.enrolled b n → ⊥
@@ -355,53 +365,60 @@ no_contradiction k b n kept within has (inl is) =
 no_contradiction k b n kept within has (inr is) =
     is.2 (ap (λ (q : Assignment). q.0) (same_member (λ (q : Assignment). q.1) k.reserved (is.0, n) (b, n) kept.reserved.random_once (within (is.0, n) is.1) has refl))
 
-withdrawn_turns : (t : Machine) (o : Order) (r : SearchAddress) (a : ℕ) (gs : List Gear) (left : ℕ) → IsGivenBy t o → Stands t gs left → IsKept t.kept → t.course.purpose ≡ Visiting → stage_of t.trace ≡ stage.Withdrawn r a
-    → t.opened ≡ true → Leaves r a t.kept t.course.number gs left → IsNext (machine_ordered t o) o gs left
-withdrawn_turns t o r a gs left g st kept purpose is opened v = go o g (g.ordered.found r a is) where
+withdrawn_turns : (before : List Gear) (t : Machine) (o : Order) (r : SearchAddress) (a : ℕ) (gs : List Gear) (left : ℕ) → IsGivenBy t o → Stands before t gs left → IsKept t.kept → t.course.purpose ≡ Visiting → stage_of t.trace ≡ stage.Withdrawn r a
+    → t.opened ≡ true → Leaves r a t.kept t.course.number gs left → IsNext before (machine_ordered t o) o gs left
+withdrawn_turns before t o r a gs left g st kept purpose is opened v = go o g (g.ordered.found r a is) where
   reserved : Has t.kept.reserved (a, value_of r)
   reserved = subst (λ (m : SearchAddress). Has t.kept.reserved (a, value_of m)) (sym v.searched) v.reserved
 
-  go : (q : Order) → IsGivenBy t q → AfterFinding t a (value_of r) q → IsNext (machine_ordered t q) q gs left
+  tabled : AreTabled before ((a, value_of r) ∷ t.kept.enrolled) gs
+  tabled = subst (λ (m : SearchAddress). AreTabled before ((a, value_of m) ∷ t.kept.enrolled) gs) (sym v.searched) (tabled_at before t gs left (stage.Withdrawn r a) st is)
+
+  twice : (x : Assignment) → Has ((a, value_of r) ∷ t.kept.enrolled) x → Has t.kept.enrolled (a, value_of r) → Has t.kept.enrolled x
+  twice x (inl same) has = subst (Has t.kept.enrolled) same has
+  twice x (inr h) has = h
+
+  go : (q : Order) → IsGivenBy t q → AfterFinding t a (value_of r) q → IsNext before (machine_ordered t q) q gs left
   go (Put p f) g has =
-      searches_anew t (Put p f) gs left (calm_of t gs left st) (given.withdrawn_known t (Put p f) r a g is kept.enrolled has) (ap (begins_at t) is ∙ goes_on_anew t opened) opened v.ready v.unnamed v.frames
-  go (Commit x) g has = subst (λ y. IsNext (machine_ordered t (Commit y)) (Commit y) gs left) (sym has)
-      (record { tries = st.tries; silent = st.silent; within = st.within }, record { opened = opened; ready = v.ready; unnamed = v.unnamed; reserved = reserved; frames = v.frames })
+      searches_anew before t (Put p f) gs left (calm_of before t gs left st) (tabled_over before ((a, value_of r) ∷ t.kept.enrolled) t.kept.enrolled gs (λ x h. twice x h has) tabled) (given.withdrawn_known t (Put p f) r a g is kept.enrolled has) (ap (begins_at t) is ∙ goes_on_anew t opened) opened v.ready v.unnamed v.frames
+  go (Commit x) g has = subst (λ y. IsNext before (machine_ordered t (Commit y)) (Commit y) gs left) (sym has)
+      (record { tries = st.tries; silent = st.silent; within = st.within }, record { opened = opened; ready = v.ready; unnamed = v.unnamed; reserved = reserved; tabled = tabled; frames = v.frames })
   go (Done e) g has = absurd has
   go (Halt why) g has = absurd (no_contradiction t.kept a (value_of r) kept st.within reserved has)
 
-visiting_turns : (t : Machine) (o : Order) (s : Stage) (gs : List Gear) (left : ℕ) → IsGivenBy t o → Stands t gs left → IsKept t.kept → t.course.purpose ≡ Visiting → stage_of t.trace ≡ s → (s ≡ stage.Free → ⊥)
-    → t.opened ≡ true → VisitsAt s t.kept t.course.number gs left → IsNext (machine_ordered t o) o gs left
-visiting_turns t o stage.Free gs left g st kept purpose is running opened v = absurd (running refl)
-visiting_turns t o (stage.HighSent high) gs left g st kept purpose is running opened v = turns_later t o Visiting (stage.HighSent high) _ gs left g st purpose is refl tt refl
-visiting_turns t o (stage.MiddleSent high middle) gs left g st kept purpose is running opened v = turns_later t o Visiting (stage.MiddleSent high middle) _ gs left g st purpose is refl tt refl
-visiting_turns t o (stage.NumberSent r) gs left g st kept purpose is running opened v = turns_later t o Visiting (stage.NumberSent r) _ gs left g st purpose is refl tt refl
-visiting_turns t o (stage.Unnamed r) gs left g st kept purpose is running opened v = unnamed_turns t o r gs left g st kept purpose is opened v
-visiting_turns t o (stage.Programmed r a) gs left g st kept purpose is running opened v = turns_later t o Visiting (stage.Programmed r a) _ gs left g st purpose is refl tt refl
-visiting_turns t o (stage.Confirmed r a) gs left g st kept purpose is running opened v = turns_later t o Visiting (stage.Confirmed r a) _ gs left g st purpose is refl tt refl
-visiting_turns t o (stage.Withdrawn r a) gs left g st kept purpose is running opened v = withdrawn_turns t o r a gs left g st kept purpose is opened v
-visiting_turns t o _ gs left g st kept purpose is running opened v = absurd v.stage_is
+visiting_turns : (before : List Gear) (t : Machine) (o : Order) (s : Stage) (gs : List Gear) (left : ℕ) → IsGivenBy t o → Stands before t gs left → IsKept t.kept → t.course.purpose ≡ Visiting → stage_of t.trace ≡ s → (s ≡ stage.Free → ⊥)
+    → t.opened ≡ true → VisitsAt s t.kept t.course.number gs left → IsNext before (machine_ordered t o) o gs left
+visiting_turns before t o stage.Free gs left g st kept purpose is running opened v = absurd (running refl)
+visiting_turns before t o (stage.HighSent high) gs left g st kept purpose is running opened v = turns_later before t o Visiting (stage.HighSent high) _ gs left g st purpose is refl tt refl
+visiting_turns before t o (stage.MiddleSent high middle) gs left g st kept purpose is running opened v = turns_later before t o Visiting (stage.MiddleSent high middle) _ gs left g st purpose is refl tt refl
+visiting_turns before t o (stage.NumberSent r) gs left g st kept purpose is running opened v = turns_later before t o Visiting (stage.NumberSent r) _ gs left g st purpose is refl tt refl
+visiting_turns before t o (stage.Unnamed r) gs left g st kept purpose is running opened v = unnamed_turns before t o r gs left g st kept purpose is opened v
+visiting_turns before t o (stage.Programmed r a) gs left g st kept purpose is running opened v = turns_later before t o Visiting (stage.Programmed r a) _ gs left g st purpose is refl tt refl
+visiting_turns before t o (stage.Confirmed r a) gs left g st kept purpose is running opened v = turns_later before t o Visiting (stage.Confirmed r a) _ gs left g st purpose is refl tt refl
+visiting_turns before t o (stage.Withdrawn r a) gs left g st kept purpose is running opened v = withdrawn_turns before t o r a gs left g st kept purpose is opened v
+visiting_turns before t o _ gs left g st kept purpose is running opened v = absurd v.stage_is
 
 -- ---------------------------------------------------------------- the close
 
-closing_turns : (t : Machine) (o : Order) (e : End) (s : Stage) (gs : List Gear) (left : ℕ) → IsGivenBy t o → Stands t gs left → t.course.purpose ≡ Closing e → stage_of t.trace ≡ s → (s ≡ stage.Free → ⊥)
-    → Closes e s t.kept gs left → IsNext (machine_ordered t o) o gs left
-closing_turns t o e stage.Free gs left g st purpose is running v = absurd (running refl)
-closing_turns t o e stage.Terminated gs left g st purpose is running v =
-    let ends : o ≡ Done e = given.closed t o e g (ap closing_of purpose) is (found_none t gs left stage.Terminated st is refl) (never_eight t.tries st.tries) in
-    subst (λ q. IsNext (machine_ordered t q) q gs left) (sym ends) v.well
-closing_turns t o e _ gs left g st purpose is running v = absurd v.stage_is
+closing_turns : (before : List Gear) (t : Machine) (o : Order) (e : End) (s : Stage) (gs : List Gear) (left : ℕ) → IsGivenBy t o → Stands before t gs left → t.course.purpose ≡ Closing e → stage_of t.trace ≡ s → (s ≡ stage.Free → ⊥)
+    → Closes e s t.kept gs left → IsNext before (machine_ordered t o) o gs left
+closing_turns before t o e stage.Free gs left g st purpose is running v = absurd (running refl)
+closing_turns before t o e stage.Terminated gs left g st purpose is running v =
+    let ends : o ≡ Done e = given.closed t o e g (ap closing_of purpose) is (found_none before t gs left stage.Terminated st is refl) (never_eight t.tries st.tries) in
+    subst (λ q. IsNext before (machine_ordered t q) q gs left) (sym ends) (v.well, tabled_at before t gs left stage.Terminated st is)
+closing_turns before t o e _ gs left g st purpose is running v = absurd v.stage_is
 
 -- ---------------------------------------------------------------- of whatever transaction
 
 -- after a frame that was heard
-pub turned : (t : Machine) (o : Order) (gs : List Gear) (left : ℕ) → IsGivenBy t o → Stands t gs left → IsKept t.kept → IsNoEnrolment t.last → (stage_of t.trace ≡ stage.Free → ⊥) → IsNext (machine_ordered t o) o gs left
-turned t o gs left g st kept last running = go t.course.purpose refl st.at where
-  go : (p : Purpose) → t.course.purpose ≡ p → At p (stage_of t.trace) t.kept t.opened t.course.search t.course.number gs left → IsNext (machine_ordered t o) o gs left
-  go Opening purpose at = opening_turns t o (stage_of t.trace) gs left g st last purpose refl running at
-  go Probing purpose at = probing_turns t o (stage_of t.trace) gs left g st last purpose refl running at.0 at.1
-  go Visiting purpose at = visiting_turns t o (stage_of t.trace) gs left g st kept purpose refl running at.0 at.1
+pub turned : (before : List Gear) (t : Machine) (o : Order) (gs : List Gear) (left : ℕ) → IsGivenBy t o → Stands before t gs left → IsKept t.kept → IsNoEnrolment t.last → (stage_of t.trace ≡ stage.Free → ⊥) → IsNext before (machine_ordered t o) o gs left
+turned before t o gs left g st kept last running = go t.course.purpose refl st.at where
+  go : (p : Purpose) → t.course.purpose ≡ p → At p (stage_of t.trace) t.kept t.opened t.course.search t.course.number gs left → IsNext before (machine_ordered t o) o gs left
+  go Opening purpose at = opening_turns before t o (stage_of t.trace) gs left g st last purpose refl running at
+  go Probing purpose at = probing_turns before t o (stage_of t.trace) gs left g st last purpose refl running at.0 at.1
+  go Visiting purpose at = visiting_turns before t o (stage_of t.trace) gs left g st kept purpose refl running at.0 at.1
   go (Resolving a) purpose at = absurd at
-  go (Closing e) purpose at = closing_turns t o e (stage_of t.trace) gs left g st purpose refl running at
+  go (Closing e) purpose at = closing_turns before t o e (stage_of t.trace) gs left g st purpose refl running at
 
 -- ---------------------------------------------------------------- the start
 
@@ -414,12 +431,12 @@ nothing_unfinished k (suc n) from none =
 no_enrolment_yet : IsNoEnrolment None
 no_enrolment_yet b n e = cc
 
-pub started : (t : Machine) (o : Order) (gs : List Gear) (left : ℕ) → IsGivenBy t o → IsCalm t → t.trace ≡ [] → t.last ≡ None → t.kept.reserved ≡ [] → t.opened ≡ false → t.course.purpose ≡ Opening
-    → 5 + search_frames (count_by is_bare gs) ≤ left → IsNext (machine_ordered t o) o gs left
-started t o gs left g calm free last none unopened purpose enough =
+pub started : (before : List Gear) (t : Machine) (o : Order) (gs : List Gear) (left : ℕ) → IsGivenBy t o → IsCalm t → AreTabled before t.kept.enrolled gs → t.trace ≡ [] → t.last ≡ None → t.kept.reserved ≡ [] → t.opened ≡ false → t.course.purpose ≡ Opening
+    → 5 + search_frames (count_by is_bare gs) ≤ left → IsNext before (machine_ordered t o) o gs left
+started before t o gs left g calm tabled free last none unopened purpose enough =
     let stage : stage_of t.trace ≡ stage.Free = ap stage_of free ∙ stage_none in
     let next : next_course t ≡ opening_of t.course = ap (begins_at t) stage ∙ rw (last, unopened) (ap (visit_or_opening t.course) (nothing_unfinished t.kept (64 - t.course.from) t.course.from none)) in
-    goes_by t o (opening_of t.course) gs left calm
+    goes_by before t o (opening_of t.course) gs left calm tabled
     (given.begins_free t o g free (subst IsNoEnrolment (sym last) no_enrolment_yet) (never_eight t.tries calm.tries))
     next tt (record { stage_is = tt; gear = λ k in_row on. tt; frames = omega (arith, enough) })
 
@@ -441,13 +458,17 @@ no_enrolment a r last is b n e = let other : Some (Commit (Reserve a r)) ≡ Som
 abbrev pub with_kept : Machine → Record → Machine
 with_kept m x = record m { kept = with_record m.kept x }
 
-reserved_next : (m : Machine) (a r : ℕ) (o : Order) (gs : List Gear) (left : ℕ) → IsCalm m → Reserves m r gs left → m.trace ≡ [] → m.last ≡ Some (Commit (Reserve a r))
-    → IsGivenBy (with_kept m (Reserve a r)) o → IsNext (machine_ordered (with_kept m (Reserve a r)) o) o gs left
-reserved_next m a r o gs left calm v free last g =
+entry_last : (xs : List Assignment) (y x : Assignment) → Has (y ∷ xs) x → Has (xs ++ y ∷ []) x
+entry_last xs y x (inl same) = subst (Has (xs ++ y ∷ [])) same (has_last xs y)
+entry_last xs y x (inr has) = has_left xs (y ∷ []) x has
+
+reserved_next : (before : List Gear) (m : Machine) (a r : ℕ) (o : Order) (gs : List Gear) (left : ℕ) → IsCalm m → Reserves before m r gs left → m.trace ≡ [] → m.last ≡ Some (Commit (Reserve a r))
+    → IsGivenBy (with_kept m (Reserve a r)) o → IsNext before (machine_ordered (with_kept m (Reserve a r)) o) o gs left
+reserved_next before m a r o gs left calm v free last g =
     let stage : stage_of m.trace ≡ stage.Free = ap stage_of free ∙ stage_none in
     let t : Machine = with_kept m (Reserve a r) in
-    goes_by (with_kept m (Reserve a r)) o (visiting m.course r) gs left
-    (record { tries = calm.tries; silent = calm.silent; within = within_reserved m.kept a r calm.within })
+    goes_by before (with_kept m (Reserve a r)) o (visiting m.course r) gs left
+    (record { tries = calm.tries; silent = calm.silent; within = within_reserved m.kept a r calm.within }) v.tabled
     (given.begins_free (with_kept m (Reserve a r)) o g free (no_enrolment a r m.last last) (never_eight m.tries calm.tries))
     (ap (begins_at (with_kept m (Reserve a r))) stage ∙ ap (at_rest (with_kept m (Reserve a r))) last) tt
     (v.opened, record {
@@ -460,18 +481,19 @@ reserved_next m a r o gs left calm v free last g =
       frames = inl (subst (HasRandom (m.kept.reserved ++ (a, r) ∷ [])) (sym (value_sought r)) (has_random (m.kept.reserved ++ (a, r) ∷ []) a r (has_last m.kept.reserved (a, r))), omega (arith, v.frames));
     })
 
-enrolled_next : (m : Machine) (b r : ℕ) (o : Order) (gs : List Gear) (left : ℕ) → IsCalm m → Enrols m b r gs left → m.trace ≡ [] → m.last ≡ Some (Commit (Enrol b r)) → IsMap m.kept.reserved
-    → IsGivenBy (with_kept m (Enrol b r)) o → IsNext (machine_ordered (with_kept m (Enrol b r)) o) o gs left
-enrolled_next m b r o gs left calm v free last map g =
+enrolled_next : (before : List Gear) (m : Machine) (b r : ℕ) (o : Order) (gs : List Gear) (left : ℕ) → IsCalm m → Enrols before m b r gs left → m.trace ≡ [] → m.last ≡ Some (Commit (Enrol b r)) → IsMap m.kept.reserved
+    → IsGivenBy (with_kept m (Enrol b r)) o → IsNext before (machine_ordered (with_kept m (Enrol b r)) o) o gs left
+enrolled_next before m b r o gs left calm v free last map g =
     let stage : stage_of m.trace ≡ stage.Free = ap stage_of free ∙ stage_none in
-    searches_anew (with_kept m (Enrol b r)) o gs left
+    searches_anew before (with_kept m (Enrol b r)) o gs left
     (record { tries = calm.tries; silent = calm.silent; within = within_enrolled m.kept b r calm.within v.reserved })
+    (tabled_over before ((b, r) ∷ m.kept.enrolled) (m.kept.enrolled ++ (b, r) ∷ []) gs (entry_last m.kept.enrolled (b, r)) v.tabled)
     (given.enrolled (with_kept m (Enrol b r)) o b r g last free (λ a has. ap (λ (q : Assignment). q.0) (same_member (λ (q : Assignment). q.1) m.kept.reserved (a, r) (b, r) map.random_once has v.reserved refl)))
     (ap (begins_at (with_kept m (Enrol b r))) stage ∙ ap (at_rest (with_kept m (Enrol b r))) last ∙ goes_on_anew (with_kept m (Enrol b r)) v.opened)
     v.opened v.ready v.unnamed v.frames
 
-pub committed : (m : Machine) (x : Record) (o : Order) (gs : List Gear) (left : ℕ) → IsCalm m → CommitsTo m x gs left → m.trace ≡ [] → m.last ≡ Some (Commit x) → IsMap m.kept.reserved
-    → IsGivenBy (with_kept m x) o → IsNext (machine_ordered (with_kept m x) o) o gs left
-committed m (Reserve a r) o gs left calm v free last map g = reserved_next m a r o gs left calm v free last g
-committed m (Enrol b r) o gs left calm v free last map g = enrolled_next m b r o gs left calm v free last map g
-committed m (Release a r) o gs left calm v free last map g = absurd v
+pub committed : (before : List Gear) (m : Machine) (x : Record) (o : Order) (gs : List Gear) (left : ℕ) → IsCalm m → CommitsTo before m x gs left → m.trace ≡ [] → m.last ≡ Some (Commit x) → IsMap m.kept.reserved
+    → IsGivenBy (with_kept m x) o → IsNext before (machine_ordered (with_kept m x) o) o gs left
+committed before m (Reserve a r) o gs left calm v free last map g = reserved_next before m a r o gs left calm v free last g
+committed before m (Enrol b r) o gs left calm v free last map g = enrolled_next before m b r o gs left calm v free last map g
+committed before m (Release a r) o gs left calm v free last map g = absurd v

@@ -1,12 +1,13 @@
-use Rattle.std.specs.Prelude.{◌≡◌, ◌⊎◌, ℕ, ◌+◌, Bool, true, false, List, [], ◌∷◌}
+use Rattle.std.specs.Prelude.{◌≡◌, ◌⊎◌, ℕ, ◌+◌, ◌<◌, Bool, true, false, List, [], ◌∷◌, length}
 use Rattle.std.specs.Prelude.{Some, None, if◌then◌else◌}
 use Rattle.dali_special.specs.Command.{command_of}
 use Rattle.dali_gear.specs.declared.row.Reach.TheVariants.{Everyone}
+use Rattle.dali_gear.specs.Gear.{Gear}
 use Rattle.dali_gear.specs.Row.{answers_of, heard_of}
 use Rattle.dali_arbiter.specs.declared.request.Request.{Request}
 use Rattle.dali_arbiter.specs.Arbiter.{idle}
 use Rattle.dali_script.specs.declared.block.Block.{Block}
-use Rattle.dali_script.specs.Records.{IsFull, without_records}
+use Rattle.dali_script.specs.Records.{Assignment, Has, IsFull, without_records}
 use Rattle.dali_script.specs.declared.orders.Input.{Input}
 use Rattle.dali_script.specs.declared.orders.Input.TheVariants as input
 use Rattle.dali_script.specs.declared.orders.Order.TheVariants.{Done}
@@ -19,15 +20,15 @@ use Rattle.dali_events.specs.World.{controller_at}
 use Rattle.dali_events.specs.Allowed.{Allowed, IsUp, IsDue}
 use Rattle.dali_events.specs.Runs.{IsRun}
 use Rattle.dali_events.specs.Searching.{EachPowered, HasShort}
+use Rattle.dali_events.specs.Wanted.{gear_of}
 use Rattle.dali_standing.specs.Seats.{MayAnswer}
 use Rattle.dali_world.specs.Site.{SiteState, world, machine_at, next_request, site_logged}
 
--- ONE CONTROLLER ALONE: it is up and all others are down; it has just begun, with nothing kept; no
--- request waits, and nobody owns the bus.
+-- ONE CONTROLLER ALONE: it is up, and has just begun, with nothing kept; no request waits, of
+-- whomever, and nobody owns the bus.
 pub record StartsAlone (s : SiteState) (c : ℕ) : Type 0 where
   pub run : IsRun s.plan s.queue s.log
   pub up : IsUp (world s) c
-  pub alone : (d : ℕ) → (controller_at (world s) d).up ≡ true → d ≡ c
   pub told : (controller_at (world s) c).told ≡ Some input.Start
   pub last : (controller_at (world s) c).last ≡ None
   pub block : Block
@@ -36,9 +37,9 @@ pub record StartsAlone (s : SiteState) (c : ℕ) : Type 0 where
   pub bus : (world s).bus ≡ idle s.queue
   pub trace : (world s).trace ≡ []
 
--- WHAT A ROUND DOES, where nothing is disturbed: the controller acts on what is due for it, and a
--- commit that is due succeeds; or the request that is next is sent, every gear with power takes it,
--- and what they answer is heard.
+-- WHAT A ROUND DOES, where nothing is disturbed and no other controller acts: the controller acts on
+-- what is due for it, and a commit that is due succeeds; or the request that is next is sent, every
+-- gear with power takes it, and what they answer is heard.
 abbrev pub Succeeds : Input → Type 0
 Succeeds input.CommitFailed = ⊥
 Succeeds _ = Unit {0}
@@ -93,3 +94,15 @@ IsDone s c AllFound = EachPowered (world s) HasShort
 IsDone s c BlockFull =
     IsFull (controller_at (world s) c).records.block (controller_at (world s) c).records.reserved
 IsDone s c GaveUp = ⊥
+
+-- THE TABLE, as entries of short and random address: it names each gear that has a short address, but
+-- one that had it before
+abbrev pub AreTabled : List Gear → List Assignment → List Gear → Type 0
+AreTabled before entries gs =
+    (g a : ℕ) → g < length gs → (gear_of gs g).short ≡ Some a
+    → ((gear_of before g).short ≡ Some a) ⊎ Has entries (a, (gear_of gs g).random)
+
+-- the table of the controller does so, where the site was once as `before`
+abbrev pub IsTabled : SiteState → SiteState → ℕ → Type 0
+IsTabled before s c =
+    AreTabled (world before).gear (controller_at (world s) c).records.enrolled (world s).gear

@@ -1,8 +1,9 @@
 //! What is proved of commissioning that nothing disturbs. Programs don't call these.
 //!
-//! A site on which one controller starts alone, with nothing kept, while no other controller is up (`StartsAlone`), and a
-//! list of events that rounds add to its log (`Rounds`): the controller acts on what is due, its commits succeed, frames
-//! that are next are sent, and what the gear answer is heard. No gear's power comes or goes meanwhile.
+//! They speak of a site on which a controller starts alone, with nothing kept and nothing on the bus (`StartsAlone`), and
+//! of a list of events that rounds add to its log (`Rounds`): the controller acts on what is due, and its commits
+//! succeed; frames that are next are sent, and what the gear answer is heard. So no other controller acts meanwhile, no
+//! frame is destroyed, no answer is lost or damaged, the bus never lapses, and no gear's power comes or goes.
 
 ghost use Rattle.std.specs.Prelude.{ℕ, ◌+◌, ◌*◌, ◌≤◌, List};
 ghost use Rattle.std.specs.List.{count_by};
@@ -10,7 +11,7 @@ ghost use Rattle.dali_script.specs.declared.orders.End.{End};
 ghost use Rattle.dali_events.specs.declared.event.Event.{Event};
 ghost use Rattle.dali_events.specs.Wanted.{is_bare};
 ghost use Rattle.dali_world.specs.Site.{SiteState, world};
-ghost use Rattle.dali_progress.specs.Rounds.{StartsAlone, Rounds, site_after, frames, GoesOn, HasEnded, IsDone};
+ghost use Rattle.dali_progress.specs.Rounds.{StartsAlone, Rounds, site_after, frames, GoesOn, HasEnded, IsDone, IsTabled};
 
 /// FRAMES ARE BOUNDED. With n gear that have power and no short address, a controller that starts alone sends at most
 /// 111 n + 10 frames: for each gear at most 25 probes of four frames, and 11 frames of visits; and the opening of five
@@ -27,8 +28,11 @@ pub fn commissioning_goes_on()
 {}
 
 /// ITS END IS TRUE. Where it ends with all-found, every gear with power has a short address; where it ends with
-/// block-full, every address of its block is reserved; and it never gives up.
+/// block-full, every address of its block is reserved; and it never gives up. Either way its table has each gear that
+/// has a short address, but one that had it before.
 pub fn ends_are_true()
-    ensures { (s : SiteState) (c : ℕ) (es : List Event) (e : End) → StartsAlone s c → Rounds s c es
+    ensures done { (s : SiteState) (c : ℕ) (es : List Event) (e : End) → StartsAlone s c → Rounds s c es
         → HasEnded (site_after s es) c e → IsDone (site_after s es) c e }
+    ensures table { (s : SiteState) (c : ℕ) (es : List Event) (e : End) → StartsAlone s c → Rounds s c es
+        → HasEnded (site_after s es) c e → IsTabled s (site_after s es) c }
 {}

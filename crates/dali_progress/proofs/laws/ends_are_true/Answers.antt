@@ -1,5 +1,5 @@
-use Rattle.dali_progress.proofs.Bounded.{ends}
+use Rattle.dali_progress.proofs.Bounded.{ends, tabled}
 use Rattle.dali_progress.proofs.laws.ends_are_true.Goals as goal
 
 pub returns : goal.returns
-returns c = ends
+returns c = record { done = ends; table = tabled }
