@@ -8,9 +8,10 @@ use Rattle.dali_special.specs.Command.{command_of}
 use Rattle.dali_gear.specs.declared.row.Reach.TheVariants.{Everyone}
 use Rattle.dali_gear.specs.Row.{answers_of, heard_of}
 use Rattle.dali_arbiter.specs.declared.request.Request.{Request}
-use Rattle.dali_arbiter.specs.Arbiter.{next, request_of}
+use Rattle.dali_arbiter.specs.Arbiter.{total, next, request_of}
 use Rattle.dali_frame.specs.Priority.{FIRST, LATER}
 use Rattle.dali_gear.specs.Gear.{Gear}
+use Rattle.dali_script.specs.declared.block.Block.{Block}
 use Rattle.dali_script.specs.Records.{Kept, IsKept, IsFull, without_records}
 use Rattle.dali_script.specs.declared.orders.Input.{Input}
 use Rattle.dali_script.specs.declared.orders.Input.TheVariants as input
@@ -22,7 +23,7 @@ use Rattle.dali_controller.specs.Machine.{Machine, at_first}
 use Rattle.dali_controller.specs.Orders.{IsGiven, machine_after}
 use Rattle.dali_events.specs.declared.event.Event.{Event}
 use Rattle.dali_events.specs.declared.event.Event.TheVariants as event
-use Rattle.dali_events.specs.Plan.{Plan}
+use Rattle.dali_events.specs.Plan.{Plan, IsPlan}
 use Rattle.dali_events.specs.World.{World, Controller, controller_at, start}
 use Rattle.dali_events.specs.Happens.{happens}
 use Rattle.dali_events.specs.Allowed.{Allowed, IsUp, IsDue}
@@ -33,13 +34,13 @@ use Rattle.dali_events.proofs.Growing.{after_more, run_more}
 use Rattle.dali_events.proofs.Halves.{gear_are_searched}
 use Rattle.dali_standing.specs.Seats.{MayAnswer}
 use Rattle.dali_standing.specs.Standing.{machine_in, machines_at, machines_after}
-use Rattle.dali_world.specs.Site.{SiteState, world, site_logged, machines, machine_at, next_request}
+use Rattle.dali_world.specs.Site.{SiteState, opened_site, world, site_logged, machines, machine_at, next_request}
 use Rattle.dali_world.proofs.Logs.{machines_more, records_now}
-use Rattle.dali_progress.specs.Rounds.{StartsAlone, Succeeds, IsOfRound, Rounds, site_after, is_frame, frames, GoesOn, HasEnded, IsDone, AreTabled, IsTabled}
-use Rattle.dali_progress.proofs.Lone.{IsLone, Moment}
+use Rattle.dali_progress.specs.Rounds.{StartsAlone, Succeeds, IsOfRound, Rounds, site_after, is_frame, frames, GoesOn, HasEnded, HasNext, IsDone, AreTabled, IsTabled}
+use Rattle.dali_progress.proofs.Lone.{still, IsLone, Heard, Moment}
 use Rattle.dali_progress.proofs.Stands.{search_frames, EndsWell}
 use Rattle.dali_progress.proofs.Turns.{IsCalm}
-use Rattle.dali_progress.proofs.Goes.{Goes, Holds, IsFresh, IsKnown, goes_acted, goes_sent}
+use Rattle.dali_progress.proofs.Goes.{Goes, Holds, IsFresh, IsKnown, slack_in, acted_less, sent_less, goes_acted, goes_sent}
 
 -- A LIST OF EVENTS OF ROUNDS, one after the other.
 
@@ -81,6 +82,7 @@ kept_now s c run up = (records_now s.plan s.queue s.log run).kept c up.known
 pub record RunsOn (before : List Gear) (s : SiteState) (c left : ℕ) (e : Event) : Type 0 where
   pub rest : ℕ
   pub sum : left ≡ (if is_frame e then 1 else 0) + rest
+  pub less : 3 * rest + slack_in (world (site_logged s e)) c + 1 ≤ 3 * left + slack_in (world s) c
   pub runs : Runs before (site_logged s e) c rest
 
 acted_on : (before : List Gear) (s : SiteState) (c left : ℕ) (i : Input) (o : Order) → Runs before s c left → Allowed (world s) (event.Acted c i o) → Succeeds i → MayAnswer (machine_at s c) i o → RunsOn before s c left (event.Acted c i o)
@@ -89,6 +91,8 @@ acted_on before s c left i o r here good may =
     record {
       rest = left;
       sum = omega arith;
+      less = less_acted (slack_in (world (site_logged s (event.Acted c i o))) c) (subst (λ w. slack_in w c + 1 ≤ slack_in (world s) c) (sym (world_logged s (event.Acted c i o)))
+          (acted_less before (world s) s.queue c r.machine i o left r.goes good here given (kept_now s c r.run r.goes.lone.up)));
       runs = record {
         run = run_logged s (event.Acted c i o) r.run here;
         machine = machine_after r.machine i o;
@@ -97,6 +101,9 @@ acted_on before s c left i o r here good may =
             (goes_acted before (world s) s.queue c r.machine i o left r.goes good here given (kept_now s c r.run r.goes.lone.up));
       };
     }
+  where
+    less_acted : (x : ℕ) → x + 1 ≤ slack_in (world s) c → 3 * left + x + 1 ≤ 3 * left + slack_in (world s) c
+    less_acted x less = omega (arith, less)
 
 sent_on : (before : List Gear) (s : SiteState) (c left : ℕ) (r : Request) (h : Answer) → Runs before s c left → Allowed (world s) (event.Sent r.sender r.frame h) → next_request s ≡ Some r
     → h ≡ heard_of (answers_of Everyone (command_of r.frame) 0 (world s).gear) → RunsOn before s c left (event.Sent r.sender r.frame h)
@@ -107,10 +114,13 @@ sent_on before s c left r h u here is heard =
       then = subst AreDrawn (world_logged s (event.Sent r.sender r.frame h)) (drawn_now (site_logged s (event.Sent r.sender r.frame h)) run);
       seeks = λ n at. gear_are_searched s.plan s.queue s.log n u.run at;
     } in
+    let slacks = sent_less before (world s) s.queue c u.machine r h left u.goes is in
     let sent = goes_sent before (world s) s.queue c u.machine r h left u.goes is here known heard in
     record {
       rest = sent.0;
       sum = sent.1 ∙ omega arith;
+      less = less_sent sent.0 (slack_in (world (site_logged s (event.Sent r.sender r.frame h))) c) (slack_in (world s) c) left sent.1
+          (ap (λ w. slack_in w c) (world_logged s (event.Sent r.sender r.frame h)) ∙ slacks.0) slacks.1;
       runs = record {
         run = run;
         machine = u.machine;
@@ -118,6 +128,9 @@ sent_on before s c left r h u here is heard =
         goes = subst (λ w. Goes before w s.queue c u.machine sent.0) (sym (world_logged s (event.Sent r.sender r.frame h))) sent.2;
       };
     }
+  where
+    less_sent : (rest x y left : ℕ) → left ≡ suc rest → x ≡ 2 → y ≡ 0 → 3 * rest + x + 1 ≤ 3 * left + y
+    less_sent rest x y left is two none = omega (arith, is, two, none)
 
 sent_by : (before : List Gear) (s : SiteState) (c left d : ℕ) (f : Forward) (h : Answer) → Runs before s c left → Allowed (world s) (event.Sent d f h) → IsOfRound s c (event.Sent d f h) → RunsOn before s c left (event.Sent d f h)
 sent_by before s c left d f h u here of =
@@ -134,17 +147,22 @@ runs_on before s c left _ u here of = absurd of
 pub record RunsAll (before : List Gear) (s : SiteState) (c left : ℕ) (es : List Event) : Type 0 where
   pub rest : ℕ
   pub sum : left ≡ frames es + rest
+  pub less : 3 * rest + slack_in (world (site_after s es)) c + length es ≤ 3 * left + slack_in (world s) c
   pub runs : Runs before (site_after s es) c rest
 
 pub runs_all : (before : List Gear) (s : SiteState) (c left : ℕ) (es : List Event) → Runs before s c left → Rounds s c es → RunsAll before s c left es
-runs_all before s c left [] u rounds = record { rest = left; sum = omega arith; runs = u }
+runs_all before s c left [] u rounds = record { rest = left; sum = omega arith; less = omega arith; runs = u }
 runs_all before s c left (e ∷ es) u rounds =
     let on = runs_on before s c left e u rounds.0 rounds.1 in
     let all = runs_all before (site_logged s e) c on.rest es on.runs rounds.2 in
-    record { rest = all.rest; sum = both (if is_frame e then 1 else 0) (frames es) left on.rest all.rest on.sum all.sum; runs = all.runs }
+    record { rest = all.rest; sum = both (if is_frame e then 1 else 0) (frames es) left on.rest all.rest on.sum all.sum;
+      less = fewer all.rest on.rest left (slack_in (world (site_after (site_logged s e) es)) c) (slack_in (world (site_logged s e)) c) (slack_in (world s) c) (length es) on.less all.less; runs = all.runs }
   where
     both : (x more left rest last : ℕ) → left ≡ x + rest → rest ≡ more + last → left ≡ x + more + last
     both x more left rest last one two = omega (arith, one, two)
+
+    fewer : (last rest left x y z n : ℕ) → 3 * rest + y + 1 ≤ 3 * left + z → 3 * last + x + n ≤ 3 * rest + y → 3 * last + x + suc n ≤ 3 * left + z
+    fewer last rest left x y z n one two = omega (arith, one, two)
 
 -- THE START
 starts : (s : SiteState) (c : ℕ) → StartsAlone s c → Runs (world s).gear s c (111 * count_by is_bare (world s).gear + 10)
@@ -178,31 +196,70 @@ bounded s c es a rounds =
     let all = runs_all (world s).gear s c (111 * count_by is_bare (world s).gear + 10) es (starts s c a) rounds in
     omega (arith, all.sum)
 
+-- and no more events come
+pub few_events : (s : SiteState) (c : ℕ) (es : List Event) → StartsAlone s c → Rounds s c es → length es ≤ 333 * count_by is_bare (world s).gear + 31
+few_events s c es a rounds =
+    let all = runs_all (world s).gear s c (111 * count_by is_bare (world s).gear + 10) es (starts s c a) rounds in
+    let one : slack_in (world s) c ≡ 1 = rw (a.last) refl in
+    few (count_by is_bare (world s).gear) all.rest (slack_in (world (site_after s es)) c) (length es) (subst (λ x. 3 * all.rest + slack_in (world (site_after s es)) c + length es ≤ 3 * (111 * count_by is_bare (world s).gear + 10) + x) one all.less)
+  where
+    few : (n rest x k : ℕ) → 3 * rest + x + k ≤ 3 * (111 * n + 10) + 1 → k ≤ 333 * n + 31
+    few n rest x k less = omega (arith, less)
+
+-- A NEW SITE of one controller begins so
+pub begins_alone : (p : Plan) (queue room : ℕ) (b : Block) → IsPlan p → p.blocks ≡ b ∷ [] → StartsAlone (opened_site p queue room) 0
+begins_alone p queue room b plan one = record {
+  run = record { plan = plan; allowed = tt };
+  up = record { known = rw one (omega arith); up = rw one refl };
+  told = rw one refl;
+  last = rw one refl;
+  block = b;
+  records = rw one refl;
+  machine = rw one refl;
+  bus = refl;
+  trace = refl;
+}
+
 -- ---------------------------------------------------------------- it ends, or goes on
 
+-- nothing waits
+nothing_waits : (q : ℕ) (owner : Option ℕ) → total (still q owner) ≡ 0
+nothing_waits q owner = refl
+
+heard_free : (w : World) (q c : ℕ) (m : Machine) (f : Forward) (h : Answer) → Heard w q c m f h → total w.bus ≡ 0
+heard_free w q c m f h (inl own) = ap total own.0 ∙ nothing_waits q (Some c)
+heard_free w q c m f h (inr free) = ap total free.0 ∙ nothing_waits q None
+
 -- what is due or next, by the last order and by what was told
-due_by : (before : List Gear) (w : World) (q c : ℕ) (m : Machine) (k : Controller) (last : Option Order) (told : Option Input) (left : ℕ) → k.last ≡ last → k.told ≡ told → Moment w q c m k.outstanding last told → Holds before m last told w.gear left
-    → ((e : End) × (last ≡ Some (Done e))) ⊎ (((i : Input) × Succeeds i × IsDue k i) ⊎ ((r : Request) × (next w.bus ≡ Some r)))
-due_by before w q c m k None (Some input.Start) left is told at holds = inr (inl (input.Start, tt, told))
-due_by before w q c m k (Some (Put p f)) (Some (input.Heard h)) left is told at holds = inr (inl (input.Heard h, tt, told))
-due_by before w q c m k (Some (Put p f)) None left is told (inl later) holds = inr (inr (request_of c LATER f, ap next later.1))
-due_by before w q c m k (Some (Put p f)) None left is told (inr first) holds = inr (inr (request_of c FIRST f, ap next first.1))
-due_by before w q c m k (Some (Commit x)) None left is told at holds = inr (inl (input.Committed, tt, rw is tt))
-due_by before w q c m k (Some (Done e)) None left is told at holds = inl (e, refl)
-due_by before w q c m k (Some (Halt why)) None left is told at holds = absurd holds
-due_by before w q c m k None None left is told at holds = absurd at
-due_by before w q c m k None (Some i) left is told at holds = absurd at
-due_by before w q c m k (Some (Put p f)) (Some i) left is told at holds = absurd at
-due_by before w q c m k (Some (Commit x)) (Some i) left is told at holds = absurd at
-due_by before w q c m k (Some (Done e)) (Some i) left is told at holds = absurd at
-due_by before w q c m k (Some (Halt why)) (Some i) left is told at holds = absurd at
+abbrev IsDueIn : World → ℕ → Type 0
+IsDueIn w c = (i : Input) × Succeeds i × IsDue (controller_at w c) i × (total w.bus ≡ 0)
+
+due_by : (before : List Gear) (w : World) (q c : ℕ) (m : Machine) (last : Option Order) (told : Option Input) (left : ℕ) → (controller_at w c).last ≡ last → (controller_at w c).told ≡ told
+    → Moment w q c m (controller_at w c).outstanding last told → Holds before m last told w.gear left → ((e : End) × (last ≡ Some (Done e))) ⊎ (IsDueIn w c ⊎ ((r : Request) × (next w.bus ≡ Some r)))
+due_by before w q c m None (Some input.Start) left is told at holds = inr (inl (input.Start, tt, told, ap total at.0.0 ∙ nothing_waits q None))
+due_by before w q c m (Some (Put p f)) (Some (input.Heard h)) left is told at holds = inr (inl (input.Heard h, tt, told, heard_free w q c m f h at))
+due_by before w q c m (Some (Put p f)) None left is told (inl later) holds = inr (inr (request_of c LATER f, ap next later.1))
+due_by before w q c m (Some (Put p f)) None left is told (inr first) holds = inr (inr (request_of c FIRST f, ap next first.1))
+due_by before w q c m (Some (Commit x)) None left is told at holds = inr (inl (input.Committed, tt, rw is tt, ap total at.0.0 ∙ nothing_waits q None))
+due_by before w q c m (Some (Done e)) None left is told at holds = inl (e, refl)
+due_by before w q c m (Some (Halt why)) None left is told at holds = absurd holds
+due_by before w q c m None None left is told at holds = absurd at
+due_by before w q c m None (Some i) left is told at holds = absurd at
+due_by before w q c m (Some (Put p f)) (Some i) left is told at holds = absurd at
+due_by before w q c m (Some (Commit x)) (Some i) left is told at holds = absurd at
+due_by before w q c m (Some (Done e)) (Some i) left is told at holds = absurd at
+due_by before w q c m (Some (Halt why)) (Some i) left is told at holds = absurd at
 
 pub goes_on : (s : SiteState) (c : ℕ) (es : List Event) → StartsAlone s c → Rounds s c es → GoesOn (site_after s es) c
-goes_on s c es a rounds =
-    let all = runs_all (world s).gear s c (111 * count_by is_bare (world s).gear + 10) es (starts s c a) rounds in
-    let g = all.runs.goes in
-    due_by (world s).gear (world (site_after s es)) _ c all.runs.machine (controller_at (world (site_after s es)) c) (controller_at (world (site_after s es)) c).last (controller_at (world (site_after s es)) c).told all.rest
-    refl refl g.lone.moment g.holds
+goes_on s c es a rounds = go (due_by (world s).gear (world (site_after s es)) _ c all.runs.machine (controller_at (world (site_after s es)) c).last (controller_at (world (site_after s es)) c).told all.rest
+    refl refl all.runs.goes.lone.moment all.runs.goes.holds) where
+  all : RunsAll (world s).gear s c (111 * count_by is_bare (world s).gear + 10) es
+  all = runs_all (world s).gear s c (111 * count_by is_bare (world s).gear + 10) es (starts s c a) rounds
+
+  go : ((e : End) × HasEnded (site_after s es) c e) ⊎ (IsDueIn (world (site_after s es)) c ⊎ HasNext (site_after s es)) → GoesOn (site_after s es) c
+  go (inl ended) = inl ended
+  go (inr (inl due)) = inr (inl (record { input = due.0; succeeds = due.1; due = due.2; free = due.3 }))
+  go (inr (inr next)) = inr (inr next)
 
 -- an end says what is true
 well_by : (before : List Gear) (m : Machine) (last : Option Order) (told : Option Input) (e : End) (gs : List Gear) (left : ℕ) → last ≡ Some (Done e) → Holds before m last told gs left → EndsWell e m.kept gs × AreTabled before m.kept.enrolled gs

@@ -34,6 +34,8 @@ use Rattle.dali_controller.specs.declared.purpose.Purpose.{Purpose}
 use Rattle.dali_controller.specs.declared.purpose.Purpose.TheVariants.{Opening, Probing, Visiting, Resolving, Closing}
 use Rattle.dali_controller.specs.Machine.{Machine, machine_heard, machine_heard_to, machine_committed, machine_told, tries_after, silent_after, opened_after}
 use Rattle.dali_controller.specs.Orders.{IsGiven, IsAddressing, machine_ordered, machine_after}
+use Rattle.dali_controller.specs.Course.{Course}
+use Rattle.dali_controller.specs.Next.{next_course, beginning}
 use Rattle.dali_controller.proofs.Given.{IsGivenBy, given_by, IsNoEnrolment}
 use Rattle.dali_events.specs.declared.event.Event.{Event}
 use Rattle.dali_events.specs.declared.event.Event.TheVariants as event
@@ -50,7 +52,7 @@ use Rattle.dali_progress.proofs.Lone.{IsLone, Moment, IsDueOf, due_of, Addresses
 use Rattle.dali_progress.proofs.Stands.{search_frames, to_come, At, VisitsAt, Stands, Sends}
 use Rattle.dali_progress.proofs.Frames.{IsTaken, Seeks, at_sent}
 use Rattle.dali_progress.proofs.Tables.{IsTabledTo, at_tabled}
-use Rattle.dali_progress.proofs.Turns.{IsCalm, CommitsTo, IsNext, turned, started, committed, with_kept}
+use Rattle.dali_progress.proofs.Turns.{IsCalm, CommitsTo, IsNext, turned, started, started_begins, committed, committed_begins, with_kept}
 
 -- COMMISSIONING GOES ON, event by event.
 
@@ -120,6 +122,61 @@ acts before w q c m out (Some (Put p f)) (Some j) i o left at is due good g kept
 acts before w q c m out (Some l) (Some j) i o left at is due good g kept holds = absurd at
 acts before w q c m out (Some l) None i o left at is due good g kept holds = absurd (cc)
 
+not_failed : (i : Input) → Succeeds i → i ≡ input.CommitFailed → ⊥
+not_failed i good e = subst Succeeds e good
+
+-- how many events come before the next frame is sent, at the most
+abbrev pub slack : Option Order → Option Input → ℕ
+slack None told = 1
+slack (Some (Put p f)) None = 0
+slack (Some (Put p f)) (Some i) = 2
+slack (Some (Commit x)) told = 1
+slack (Some (Done e)) told = 0
+slack (Some (Halt why)) told = 0
+
+slack_first : (o : Order) (c : Course) → o ≡ beginning c → slack (Some o) None ≡ 0
+slack_first o c is = rw is refl
+
+slack_one : (o : Order) → slack (Some o) None ≤ 1
+slack_one (Put p f) = omega arith
+slack_one (Commit x) = omega arith
+slack_one (Done e) = omega arith
+slack_one (Halt why) = omega arith
+
+acts_less : (before : List Gear) (w : World) (q c : ℕ) (m : Machine) (out : Option Record) (last : Option Order) (told : Option Input) (i : Input) (o : Order) (left : ℕ) → Moment w q c m out last told → m.last ≡ last
+    → IsDueOf last told i → Succeeds i → IsGivenBy (machine_told m i) o → IsKept m.kept → Holds before m last told w.gear left → slack (Some o) None + 1 ≤ slack last told
+acts_less before w q c m out None (Some input.Start) input.Start o left at is due good g kept holds =
+    let none : slack (Some o) None ≡ 0 = slack_first o (next_course m) (started_begins m o g holds.calm holds.free is) in
+    omega (arith, none)
+acts_less before w q c m out (Some (Put p f)) (Some (input.Heard h)) (input.Heard a) o left at is due good g kept holds = let one : slack (Some o) None ≤ 1 = slack_one o in omega (arith, one)
+acts_less before w q c m out (Some (Commit x)) None input.Committed o left at is due good g kept holds =
+    let told : machine_told m input.Committed ≡ with_kept m x = ap (λ l. machine_committed m (record_ordered l)) is in
+    let none : slack (Some o) None ≡ 0 =
+        slack_first o (next_course (with_kept m x)) (committed_begins before m x o w.gear left holds.0 holds.1 at.1 is kept.reserved (subst (λ t. IsGivenBy t o) told g)) in
+    omega (arith, none)
+acts_less before w q c m out last told input.CommitFailed o left at is due good g kept holds = absurd good
+acts_less before w q c m out None told input.Committed o left at is due good g kept holds = absurd due
+acts_less before w q c m out (Some (Put p f)) told input.Committed o left at is due good g kept holds = absurd due
+acts_less before w q c m out (Some (Done e)) told input.Committed o left at is due good g kept holds = absurd due
+acts_less before w q c m out (Some (Halt why)) told input.Committed o left at is due good g kept holds = absurd due
+acts_less before w q c m out None None i o left at is due good g kept holds = absurd at
+acts_less before w q c m out None (Some input.Start) i o left at is due good g kept holds = absurd (cc)
+acts_less before w q c m out None (Some j) i o left at is due good g kept holds = absurd at
+acts_less before w q c m out (Some (Put p f)) (Some (input.Heard h)) i o left at is due good g kept holds = absurd (cc)
+acts_less before w q c m out (Some (Put p f)) (Some j) i o left at is due good g kept holds = absurd at
+acts_less before w q c m out (Some l) (Some j) i o left at is due good g kept holds = absurd at
+acts_less before w q c m out (Some l) None i o left at is due good g kept holds = absurd (cc)
+
+abbrev pub slack_in : World → ℕ → ℕ
+slack_in w c = slack (controller_at w c).last (controller_at w c).told
+
+pub acted_less : (before : List Gear) (w : World) (q c : ℕ) (m : Machine) (i : Input) (o : Order) (left : ℕ) → Goes before w q c m left → Succeeds i → Allowed w (event.Acted c i o) → IsGiven m i o → IsKept (controller_at w c).records
+    → slack_in (happens w (event.Acted c i o)) c + 1 ≤ slack_in w c
+acted_less before w q c m i o left goes good here given kept =
+    let less = acts_less before w q c m (controller_at w c).outstanding (controller_at w c).last (controller_at w c).told i o left goes.lone.moment goes.lone.last (due_of (controller_at w c) i here.due) good
+        (given_by m i o (not_failed i good) given) (subst IsKept (sym goes.lone.kept) kept) goes.holds in
+    rw (acted_last w c i o goes.lone.up, acted_told w c i o goes.lone.up) less
+
 addresses_by : (o : Order) → IsAddressing o → Addresses (Some o)
 addresses_by (Put p f) addressing = go (command_of f) refl where
   go : (d : Command) → command_of f ≡ d → is_arc d ≡ false
@@ -128,9 +185,6 @@ addresses_by (Put p f) addressing = go (command_of f) refl where
 addresses_by (Commit x) addressing = tt
 addresses_by (Done e) addressing = tt
 addresses_by (Halt why) addressing = tt
-
-not_failed : (i : Input) → Succeeds i → i ≡ input.CommitFailed → ⊥
-not_failed i good e = subst Succeeds e good
 
 holds_next : (before : List Gear) (m : Machine) (o : Order) (gs : List Gear) (left : ℕ) → IsNext before m o gs left → Holds before m (Some o) None gs left
 holds_next before m (Put p f) gs left next = next
@@ -234,3 +288,11 @@ goes_sent before w q c m r h left goes is here known heard =
           holds = rw (sent_last w c r.frame h goes.lone.up ∙ sym goes.lone.last ∙ last, lone.1)
               (record { stands = stands_heard before m r.frame h w.gear w.left left sent.0 holds.0 lawful tabled sent.2; running = not_free m.trace (entry r.frame h) });
         })
+
+pub sent_less : (before : List Gear) (w : World) (q c : ℕ) (m : Machine) (r : Request) (h : Answer) (left : ℕ) → Goes before w q c m left → next w.bus ≡ Some r
+    → (slack_in (happens w (event.Sent r.sender r.frame h)) c ≡ 2) × (slack_in w c ≡ 0)
+sent_less before w q c m r h left goes is =
+    let put = lone_next w q c m r goes.lone is in
+    let last : (controller_at w c).last ≡ Some (Put put.0 r.frame) = sym goes.lone.last ∙ put.1 in
+    let lone = lone_sent w q c m put.0 r.frame h goes.lone put.1 put.2 in
+    (subst (λ d. slack_in (happens w (event.Sent d r.frame h)) c ≡ 2) (sym put.3) (rw (sent_last w c r.frame h goes.lone.up, lone.1, last) refl), rw (last, put.2) refl)

@@ -431,13 +431,16 @@ nothing_unfinished k (suc n) from none =
 no_enrolment_yet : IsNoEnrolment None
 no_enrolment_yet b n e = cc
 
+pub started_begins : (t : Machine) (o : Order) → IsGivenBy t o → IsCalm t → t.trace ≡ [] → t.last ≡ None → o ≡ beginning (next_course t)
+started_begins t o g calm free last = given.begins_free t o g free (subst IsNoEnrolment (sym last) no_enrolment_yet) (never_eight t.tries calm.tries)
+
 pub started : (before : List Gear) (t : Machine) (o : Order) (gs : List Gear) (left : ℕ) → IsGivenBy t o → IsCalm t → AreTabled before t.kept.enrolled gs → t.trace ≡ [] → t.last ≡ None → t.kept.reserved ≡ [] → t.opened ≡ false → t.course.purpose ≡ Opening
     → 5 + search_frames (count_by is_bare gs) ≤ left → IsNext before (machine_ordered t o) o gs left
 started before t o gs left g calm tabled free last none unopened purpose enough =
     let stage : stage_of t.trace ≡ stage.Free = ap stage_of free ∙ stage_none in
     let next : next_course t ≡ opening_of t.course = ap (begins_at t) stage ∙ rw (last, unopened) (ap (visit_or_opening t.course) (nothing_unfinished t.kept (64 - t.course.from) t.course.from none)) in
     goes_by before t o (opening_of t.course) gs left calm tabled
-    (given.begins_free t o g free (subst IsNoEnrolment (sym last) no_enrolment_yet) (never_eight t.tries calm.tries))
+    (started_begins t o g calm free last)
     next tt (record { stage_is = tt; gear = λ k in_row on. tt; frames = omega (arith, enough) })
 
 -- ---------------------------------------------------------------- a record that is kept
@@ -462,6 +465,9 @@ entry_last : (xs : List Assignment) (y x : Assignment) → Has (y ∷ xs) x → 
 entry_last xs y x (inl same) = subst (Has (xs ++ y ∷ [])) same (has_last xs y)
 entry_last xs y x (inr has) = has_left xs (y ∷ []) x has
 
+reserved_begins : (m : Machine) (a r : ℕ) (o : Order) → IsCalm m → m.trace ≡ [] → m.last ≡ Some (Commit (Reserve a r)) → IsGivenBy (with_kept m (Reserve a r)) o → o ≡ beginning (next_course (with_kept m (Reserve a r)))
+reserved_begins m a r o calm free last g = given.begins_free (with_kept m (Reserve a r)) o g free (no_enrolment a r m.last last) (never_eight m.tries calm.tries)
+
 reserved_next : (before : List Gear) (m : Machine) (a r : ℕ) (o : Order) (gs : List Gear) (left : ℕ) → IsCalm m → Reserves before m r gs left → m.trace ≡ [] → m.last ≡ Some (Commit (Reserve a r))
     → IsGivenBy (with_kept m (Reserve a r)) o → IsNext before (machine_ordered (with_kept m (Reserve a r)) o) o gs left
 reserved_next before m a r o gs left calm v free last g =
@@ -469,7 +475,7 @@ reserved_next before m a r o gs left calm v free last g =
     let t : Machine = with_kept m (Reserve a r) in
     goes_by before (with_kept m (Reserve a r)) o (visiting m.course r) gs left
     (record { tries = calm.tries; silent = calm.silent; within = within_reserved m.kept a r calm.within }) v.tabled
-    (given.begins_free (with_kept m (Reserve a r)) o g free (no_enrolment a r m.last last) (never_eight m.tries calm.tries))
+    (reserved_begins m a r o calm free last g)
     (ap (begins_at (with_kept m (Reserve a r))) stage ∙ ap (at_rest (with_kept m (Reserve a r))) last) tt
     (v.opened, record {
       stage_is = tt;
@@ -481,6 +487,11 @@ reserved_next before m a r o gs left calm v free last g =
       frames = inl (subst (HasRandom (m.kept.reserved ++ (a, r) ∷ [])) (sym (value_sought r)) (has_random (m.kept.reserved ++ (a, r) ∷ []) a r (has_last m.kept.reserved (a, r))), omega (arith, v.frames));
     })
 
+enrolled_begins : (before : List Gear) (m : Machine) (b r : ℕ) (o : Order) (gs : List Gear) (left : ℕ) → Enrols before m b r gs left → m.trace ≡ [] → m.last ≡ Some (Commit (Enrol b r)) → IsMap m.kept.reserved
+    → IsGivenBy (with_kept m (Enrol b r)) o → o ≡ beginning (next_course (with_kept m (Enrol b r)))
+enrolled_begins before m b r o gs left v free last map g =
+    given.enrolled (with_kept m (Enrol b r)) o b r g last free (λ a has. ap (λ (q : Assignment). q.0) (same_member (λ (q : Assignment). q.1) m.kept.reserved (a, r) (b, r) map.random_once has v.reserved refl))
+
 enrolled_next : (before : List Gear) (m : Machine) (b r : ℕ) (o : Order) (gs : List Gear) (left : ℕ) → IsCalm m → Enrols before m b r gs left → m.trace ≡ [] → m.last ≡ Some (Commit (Enrol b r)) → IsMap m.kept.reserved
     → IsGivenBy (with_kept m (Enrol b r)) o → IsNext before (machine_ordered (with_kept m (Enrol b r)) o) o gs left
 enrolled_next before m b r o gs left calm v free last map g =
@@ -488,7 +499,7 @@ enrolled_next before m b r o gs left calm v free last map g =
     searches_anew before (with_kept m (Enrol b r)) o gs left
     (record { tries = calm.tries; silent = calm.silent; within = within_enrolled m.kept b r calm.within v.reserved })
     (tabled_over before ((b, r) ∷ m.kept.enrolled) (m.kept.enrolled ++ (b, r) ∷ []) gs (entry_last m.kept.enrolled (b, r)) v.tabled)
-    (given.enrolled (with_kept m (Enrol b r)) o b r g last free (λ a has. ap (λ (q : Assignment). q.0) (same_member (λ (q : Assignment). q.1) m.kept.reserved (a, r) (b, r) map.random_once has v.reserved refl)))
+    (enrolled_begins before m b r o gs left v free last map g)
     (ap (begins_at (with_kept m (Enrol b r))) stage ∙ ap (at_rest (with_kept m (Enrol b r))) last ∙ goes_on_anew (with_kept m (Enrol b r)) v.opened)
     v.opened v.ready v.unnamed v.frames
 
@@ -497,3 +508,10 @@ pub committed : (before : List Gear) (m : Machine) (x : Record) (o : Order) (gs 
 committed before m (Reserve a r) o gs left calm v free last map g = reserved_next before m a r o gs left calm v free last g
 committed before m (Enrol b r) o gs left calm v free last map g = enrolled_next before m b r o gs left calm v free last map g
 committed before m (Release a r) o gs left calm v free last map g = absurd v
+
+-- a frame is put then
+pub committed_begins : (before : List Gear) (m : Machine) (x : Record) (o : Order) (gs : List Gear) (left : ℕ) → IsCalm m → CommitsTo before m x gs left → m.trace ≡ [] → m.last ≡ Some (Commit x) → IsMap m.kept.reserved
+    → IsGivenBy (with_kept m x) o → o ≡ beginning (next_course (with_kept m x))
+committed_begins before m (Reserve a r) o gs left calm v free last map g = reserved_begins m a r o calm free last g
+committed_begins before m (Enrol b r) o gs left calm v free last map g = enrolled_begins before m b r o gs left v free last map g
+committed_begins before m (Release a r) o gs left calm v free last map g = absurd v

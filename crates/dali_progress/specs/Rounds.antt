@@ -5,7 +5,7 @@ use Rattle.dali_gear.specs.declared.row.Reach.TheVariants.{Everyone}
 use Rattle.dali_gear.specs.Gear.{Gear}
 use Rattle.dali_gear.specs.Row.{answers_of, heard_of}
 use Rattle.dali_arbiter.specs.declared.request.Request.{Request}
-use Rattle.dali_arbiter.specs.Arbiter.{idle}
+use Rattle.dali_arbiter.specs.Arbiter.{idle, total}
 use Rattle.dali_script.specs.declared.block.Block.{Block}
 use Rattle.dali_script.specs.Records.{Assignment, Has, IsFull, without_records}
 use Rattle.dali_script.specs.declared.orders.Input.{Input}
@@ -76,9 +76,12 @@ frames (e ∷ es) = (if is_frame e then 1 else 0) + frames es
 abbrev pub HasEnded : SiteState → ℕ → End → Type 0
 HasEnded s c e = (controller_at (world s) c).last ≡ Some (Done e)
 
--- something is due for the controller that may be done, or a request is next
-abbrev pub HasDue : SiteState → ℕ → Type 0
-HasDue s c = (i : Input) × Succeeds i × IsDue (controller_at (world s) c) i
+-- something is due for the controller that may be done, and no request waits; or a request is next
+pub record HasDue (s : SiteState) (c : ℕ) : Type 0 where
+  pub input : Input
+  pub succeeds : Succeeds input
+  pub due : IsDue (controller_at (world s) c) input
+  pub free : total (world s).bus ≡ 0
 
 abbrev pub HasNext : SiteState → Type 0
 HasNext s = (r : Request) × (next_request s ≡ Some r)

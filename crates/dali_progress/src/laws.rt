@@ -5,24 +5,39 @@
 //! succeed; frames that are next are sent, and what the gear answer is heard. So no other controller acts meanwhile, no
 //! frame is destroyed, no answer is lost or damaged, the bus never lapses, and no gear's power comes or goes.
 
-ghost use Rattle.std.specs.Prelude.{ℕ, ◌+◌, ◌*◌, ◌≤◌, List};
+ghost use Rattle.std.specs.Prelude.{◌≡◌, ℕ, ◌+◌, ◌*◌, ◌≤◌, List, [], ◌∷◌, length};
 ghost use Rattle.std.specs.List.{count_by};
+ghost use Rattle.dali_script.specs.declared.block.Block.{Block};
 ghost use Rattle.dali_script.specs.declared.orders.End.{End};
 ghost use Rattle.dali_events.specs.declared.event.Event.{Event};
+ghost use Rattle.dali_events.specs.Plan.{Plan, IsPlan};
 ghost use Rattle.dali_events.specs.Wanted.{is_bare};
-ghost use Rattle.dali_world.specs.Site.{SiteState, world};
+ghost use Rattle.dali_world.specs.Site.{SiteState, opened_site, world};
 ghost use Rattle.dali_progress.specs.Rounds.{StartsAlone, Rounds, site_after, frames, GoesOn, HasEnded, IsDone, IsTabled};
+
+/// A new site with one controller is one on which it starts alone.
+pub fn one_controller_starts_alone()
+    ensures { (p : Plan) (queue room : ℕ) (b : Block) → IsPlan p → p.blocks ≡ b ∷ []
+        → StartsAlone (opened_site p queue room) 0 }
+{}
 
 /// FRAMES ARE BOUNDED. With n gear that have power and no short address, a controller that starts alone sends at most
 /// 111 n + 10 frames: for each gear at most 25 probes of four frames, and 11 frames of visits; and the opening of five
 /// frames, a last probe of four, and the close.
+///
+/// No more than 333 n + 31 events come, so a log with room for these never fills.
 pub fn frames_are_bounded()
-    ensures { (s : SiteState) (c : ℕ) (es : List Event) → StartsAlone s c → Rounds s c es
+    ensures frames { (s : SiteState) (c : ℕ) (es : List Event) → StartsAlone s c → Rounds s c es
         → frames es ≤ 111 * count_by is_bare (world s).gear + 10 }
+    ensures events { (s : SiteState) (c : ℕ) (es : List Event) → StartsAlone s c → Rounds s c es
+        → length es ≤ 333 * count_by is_bare (world s).gear + 31 }
 {}
 
-/// IT GOES ON OR HAS ENDED. At each moment the controller has ended, something is due for it, or a request is next on
-/// the bus; it never halts.
+/// IT GOES ON OR HAS ENDED. At each moment the controller has ended; or something is due for it that may be done, with
+/// no request waiting; or a request is next on the bus. It never halts.
+///
+/// So `SiteState::act` adds one more event of a round, or `SiteState::pump` does, where the log has room, the queue takes
+/// one request, and the numbers are there that gear draw.
 pub fn commissioning_goes_on()
     ensures { (s : SiteState) (c : ℕ) (es : List Event) → StartsAlone s c → Rounds s c es → GoesOn (site_after s es) c }
 {}
