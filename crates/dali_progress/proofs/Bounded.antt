@@ -1,4 +1,4 @@
-use Rattle.std.proofs.Common.{◌≡◌, ℕ, ◌+◌, ◌*◌, ◌<◌, ◌≤◌, ◌⊎◌, inl, inr, Bool, true, false, zero, suc, List, [], ◌∷◌, ◌++◌, refl, sym, ap, subst, ◌∙◌, arith, length, get_or, get_or-set_same, set, Option, Some, None}
+use Rattle.std.proofs.Common.{◌≡◌, ℕ, ◌+◌, ◌*◌, ◌<◌, ◌≤◌, ◌⊎◌, inl, inr, zero, suc, List, [], ◌∷◌, refl, sym, ap, subst, ◌∙◌, arith, length, get_or, get_or-set_same, Option, Some, None}
 use Rattle.std.specs.Prelude.{if◌then◌else◌}
 use Rattle.std.specs.Option.{option_map}
 use Rattle.std.specs.List.{count_by}
@@ -24,10 +24,10 @@ use Rattle.dali_controller.specs.Orders.{IsGiven, machine_after}
 use Rattle.dali_events.specs.declared.event.Event.{Event}
 use Rattle.dali_events.specs.declared.event.Event.TheVariants as event
 use Rattle.dali_events.specs.Plan.{Plan, IsPlan}
-use Rattle.dali_events.specs.World.{World, Controller, controller_at, start}
+use Rattle.dali_events.specs.World.{World, controller_at, start}
 use Rattle.dali_events.specs.Happens.{happens}
 use Rattle.dali_events.specs.Allowed.{Allowed, IsUp, IsDue}
-use Rattle.dali_events.specs.Runs.{after, IsRun, AreDrawn}
+use Rattle.dali_events.specs.Runs.{IsRun, AreDrawn}
 use Rattle.dali_events.specs.Wanted.{is_bare}
 use Rattle.dali_events.proofs.Drawn.{are_drawn, draws_after}
 use Rattle.dali_events.proofs.Growing.{after_more, run_more}
@@ -37,10 +37,9 @@ use Rattle.dali_standing.specs.Standing.{machine_in, machines_at, machines_after
 use Rattle.dali_world.specs.Site.{SiteState, opened_site, world, site_logged, machines, machine_at, next_request}
 use Rattle.dali_world.proofs.Logs.{machines_more, records_now}
 use Rattle.dali_progress.specs.Rounds.{StartsAlone, Succeeds, IsOfRound, Rounds, site_after, is_frame, frames, GoesOn, HasEnded, HasNext, IsDone, AreTabled, IsTabled}
-use Rattle.dali_progress.proofs.Lone.{still, IsLone, Heard, Moment}
-use Rattle.dali_progress.proofs.Stands.{search_frames, EndsWell}
-use Rattle.dali_progress.proofs.Turns.{IsCalm}
-use Rattle.dali_progress.proofs.Goes.{Goes, Holds, IsFresh, IsKnown, slack_in, acted_less, sent_less, goes_acted, goes_sent}
+use Rattle.dali_progress.proofs.Lone.{still, Heard, Moment}
+use Rattle.dali_progress.proofs.Stands.{EndsWell}
+use Rattle.dali_progress.proofs.Goes.{Goes, Holds, IsKnown, slack_in, acted_less, sent_less, goes_acted, goes_sent}
 
 -- A LIST OF EVENTS OF ROUNDS, one after the other.
 
@@ -155,8 +154,12 @@ runs_all before s c left [] u rounds = record { rest = left; sum = omega arith; 
 runs_all before s c left (e ∷ es) u rounds =
     let on = runs_on before s c left e u rounds.0 rounds.1 in
     let all = runs_all before (site_logged s e) c on.rest es on.runs rounds.2 in
-    record { rest = all.rest; sum = both (if is_frame e then 1 else 0) (frames es) left on.rest all.rest on.sum all.sum;
-      less = fewer all.rest on.rest left (slack_in (world (site_after (site_logged s e) es)) c) (slack_in (world (site_logged s e)) c) (slack_in (world s) c) (length es) on.less all.less; runs = all.runs }
+    record {
+      rest = all.rest;
+      sum = both (if is_frame e then 1 else 0) (frames es) left on.rest all.rest on.sum all.sum;
+      less = fewer all.rest on.rest left (slack_in (world (site_after (site_logged s e) es)) c) (slack_in (world (site_logged s e)) c) (slack_in (world s) c) (length es) on.less all.less;
+      runs = all.runs;
+    }
   where
     both : (x more left rest last : ℕ) → left ≡ x + rest → rest ≡ more + last → left ≡ x + more + last
     both x more left rest last one two = omega (arith, one, two)
@@ -253,13 +256,13 @@ due_by before w q c m (Some (Halt why)) (Some i) left is told at holds = absurd 
 pub goes_on : (s : SiteState) (c : ℕ) (es : List Event) → StartsAlone s c → Rounds s c es → GoesOn (site_after s es) c
 goes_on s c es a rounds = go (due_by (world s).gear (world (site_after s es)) _ c all.runs.machine (controller_at (world (site_after s es)) c).last (controller_at (world (site_after s es)) c).told all.rest
     refl refl all.runs.goes.lone.moment all.runs.goes.holds) where
-  all : RunsAll (world s).gear s c (111 * count_by is_bare (world s).gear + 10) es
-  all = runs_all (world s).gear s c (111 * count_by is_bare (world s).gear + 10) es (starts s c a) rounds
+      all : RunsAll (world s).gear s c (111 * count_by is_bare (world s).gear + 10) es
+      all = runs_all (world s).gear s c (111 * count_by is_bare (world s).gear + 10) es (starts s c a) rounds
 
-  go : ((e : End) × HasEnded (site_after s es) c e) ⊎ (IsDueIn (world (site_after s es)) c ⊎ HasNext (site_after s es)) → GoesOn (site_after s es) c
-  go (inl ended) = inl ended
-  go (inr (inl due)) = inr (inl (record { input = due.0; succeeds = due.1; due = due.2; free = due.3 }))
-  go (inr (inr next)) = inr (inr next)
+      go : ((e : End) × HasEnded (site_after s es) c e) ⊎ (IsDueIn (world (site_after s es)) c ⊎ HasNext (site_after s es)) → GoesOn (site_after s es) c
+      go (inl ended) = inl ended
+      go (inr (inl due)) = inr (inl (record { input = due.0; succeeds = due.1; due = due.2; free = due.3 }))
+      go (inr (inr next)) = inr (inr next)
 
 -- an end says what is true
 well_by : (before : List Gear) (m : Machine) (last : Option Order) (told : Option Input) (e : End) (gs : List Gear) (left : ℕ) → last ≡ Some (Done e) → Holds before m last told gs left → EndsWell e m.kept gs × AreTabled before m.kept.enrolled gs

@@ -1,12 +1,11 @@
-use Rattle.std.proofs.Common.{◌≡◌, ℕ, ◌+◌, ◌*◌, ◌<◌, ◌≤◌, ◌⊎◌, inl, inr, Bool, true, false, zero, suc, List, [], ◌∷◌, refl, sym, ap, subst, ◌∙◌, arith, length, get_or, Option, Some, None}
+use Rattle.std.proofs.Common.{◌≡◌, ℕ, ◌+◌, ◌<◌, ◌≤◌, inl, inr, Bool, true, false, zero, suc, List, [], ◌∷◌, refl, sym, ap, subst, ◌∙◌, arith, length, get_or, Option, Some, None}
 use Rattle.std.specs.Prelude.{◌==◌, if◌then◌else◌}
 use Rattle.std.specs.List.{count_by}
 use Rattle.std.proofs.lemmas.Bool.Decides.{nat_tests}
 use Rattle.dali_frame.specs.declared.frames.Answer.{Answer}
 use Rattle.dali_frame.specs.declared.frames.Answer.TheVariants.{Silence, Byte, Damaged}
 use Rattle.dali_frame.specs.declared.numbers.SearchAddress.{SearchAddress}
-use Rattle.dali_frame.specs.Random.{value_of, high_of, middle_of, low_of, MASK24}
-use Rattle.dali_frame.specs.Short.{code_of}
+use Rattle.dali_frame.specs.Random.{value_of, MASK24}
 use Rattle.dali_special.specs.declared.command.Command.{Command}
 use Rattle.dali_special.specs.declared.command.Command.TheVariants.{Terminate, Initialise, Randomise, Compare, Withdraw, SearchHigh, SearchMiddle, SearchLow, Program, QueryShort}
 use Rattle.dali_special.specs.declared.command.Target.TheVariants.{Unaddressed}
@@ -16,7 +15,7 @@ use Rattle.dali_gear.specs.declared.row.Reach.TheVariants.{Everyone}
 use Rattle.dali_gear.specs.declared.state.InitialisationState.TheVariants.{Enabled}
 use Rattle.dali_gear.specs.Gear.{Gear, fresh, is_active}
 use Rattle.dali_gear.specs.Row.{row_after, draws_needed, drawn_of, answers_of, heard_of}
-use Rattle.dali_script.specs.Records.{Kept, Has, HasRandom}
+use Rattle.dali_script.specs.Records.{Kept, Has}
 use Rattle.dali_script.specs.declared.stage.Stage.{Stage}
 use Rattle.dali_script.specs.declared.stage.Stage.TheVariants as stage
 use Rattle.dali_script.specs.Stages.{next_stage, queried, verified, IsSearched}
@@ -25,10 +24,10 @@ use Rattle.dali_script.specs.declared.orders.End.TheVariants.{AllFound, BlockFul
 use Rattle.dali_search.specs.Least.{Search, Agrees, Gives, HasAtMost}
 use Rattle.dali_controller.specs.declared.purpose.Purpose.{Purpose}
 use Rattle.dali_controller.specs.declared.purpose.Purpose.TheVariants.{Opening, Probing, Visiting, Resolving, Closing}
-use Rattle.dali_controller.specs.Course.{first_of, turn_of, sought, is_yes}
+use Rattle.dali_controller.specs.Course.{sought, is_yes}
 use Rattle.dali_controller.specs.Machine.{opened_after}
-use Rattle.dali_events.specs.Searching.{number_at, HasShort}
-use Rattle.dali_events.specs.Wanted.{is_wanted, wants, is_bare, OfPowered, Seek, AreApart, IsOpened, NoneNamed, NoneNamedBut, AreNamed}
+use Rattle.dali_events.specs.Searching.{number_at}
+use Rattle.dali_events.specs.Wanted.{is_wanted, wants, is_bare, OfPowered, Seek, AreApart, IsOpened, NoneNamedBut, AreNamed}
 use Rattle.dali_events.proofs.Takes.{row_length}
 use Rattle.dali_events.proofs.Wanted as wanted
 use Rattle.dali_events.proofs.Leaving as leaving
@@ -37,7 +36,7 @@ use Rattle.dali_events.proofs.Heard as hearing
 use Rattle.dali_events.proofs.Opened as opening
 use Rattle.dali_events.proofs.Programming as programming
 use Rattle.dali_events.proofs.Withdrawing as withdrawing
-use Rattle.dali_progress.proofs.Stands.{sent_at, search_frames, probe_frames, OpeningStage, Opens, ProbeStage, Searches, Probes, VisitStage, IsVisited, VisitFrames, Visits, HaveShort, Names, Leaves, VisitsAt, CloseStage, EndsWell, Closes, At, Sends}
+use Rattle.dali_progress.proofs.Stands.{sent_at, search_frames, probe_frames, Opens, ProbeStage, Probes, VisitStage, IsVisited, VisitFrames, Visits, HaveShort, Names, VisitsAt, EndsWell, Closes, At, Sends}
 
 -- A FRAME IS SENT, and each gear with power takes it. The transaction goes on to its next stage, and one frame less is
 -- left to be sent.
@@ -167,9 +166,15 @@ probing_sent (stage.HighSent high) k x n gs numbers left c h p is taken seek = s
 probing_sent (stage.MiddleSent high middle) k x n gs numbers left c h p is taken seek = subst (λ d. IsSentTo Probing (stage.MiddleSent high middle) k true x n gs numbers left d h) (some_is (SearchLow n.low) c is) go where
   go : IsSentTo Probing (stage.MiddleSent high middle) k true x n gs numbers left (SearchLow n.low) h
   go =
-      let less = one_less (probe_frames (length x.answers) (count_by is_wanted gs)) left 2 p.frames (omega (arith, probe_small (length x.answers) (count_by is_wanted gs))) in
-      (less.0, less.1, (refl, probes_on (stage.MiddleSent high middle) (stage.NumberSent (record { high = high; middle = middle; low = n.low })) x n gs _ left less.0 p
-      (leaving.core_after (SearchLow n.low) gs numbers tt) tt (whole n high middle p.searched.0 p.searched.1) less.2))
+      let less = one_less (probe_frames (length x.answers) (count_by is_wanted gs)) left 2 p.frames (omega (arith, probe_small (length x.answers) (count_by is_wanted gs))) in (
+        less.0,
+        less.1,
+        (
+          refl,
+          probes_on (stage.MiddleSent high middle) (stage.NumberSent (record { high = high; middle = middle; low = n.low })) x n gs _ left less.0 p
+              (leaving.core_after (SearchLow n.low) gs numbers tt) tt (whole n high middle p.searched.0 p.searched.1) less.2,
+        ),
+      )
 probing_sent (stage.NumberSent r) k x n gs numbers left c h p is taken seek =
     subst (λ d. IsTaken d gs numbers h → IsSentTo Probing (stage.NumberSent r) k true x n gs numbers left d h) (some_is Compare c is) go taken where
       go : IsTaken Compare gs numbers h → IsSentTo Probing (stage.NumberSent r) k true x n gs numbers left Compare h
@@ -177,9 +182,15 @@ probing_sent (stage.NumberSent r) k x n gs numbers left c h p is taken seek =
           let less = one_less (probe_frames (length x.answers) (count_by is_wanted gs)) left 3 p.frames (omega (arith, probe_small (length x.answers) (count_by is_wanted gs))) in
           let same : SameCore gs (row_after Everyone Compare 0 gs numbers) = leaving.core_after Compare gs numbers tt in
           let asked : value_of r ≡ x.probe = ap value_of (sym p.searched ∙ p.number) ∙ value_sought x.probe in
-          let says : Gives (wants gs) x.probe (is_yes h) = subst (λ q. Gives (wants gs) q (is_yes h)) asked (probe_says gs r h (seek r refl) t.heard) in
-          (less.0, less.1, (refl, probes_on (stage.NumberSent r) (stage.Probed r h) x n gs _ left less.0 p same
-          (gives_same (wants gs) (wants (row_after Everyone Compare 0 gs numbers)) x.probe (is_yes h) (λ m. leaving.core_wants gs (row_after Everyone Compare 0 gs numbers) m same) says) p.searched less.2))
+          let says : Gives (wants gs) x.probe (is_yes h) = subst (λ q. Gives (wants gs) q (is_yes h)) asked (probe_says gs r h (seek r refl) t.heard) in (
+            less.0,
+            less.1,
+            (
+              refl,
+              probes_on (stage.NumberSent r) (stage.Probed r h) x n gs _ left less.0 p same
+                  (gives_same (wants gs) (wants (row_after Everyone Compare 0 gs numbers)) x.probe (is_yes h) (λ m. leaving.core_wants gs (row_after Everyone Compare 0 gs numbers) m same) says) p.searched less.2,
+            ),
+          )
 probing_sent (stage.Probed r h') k x n gs numbers left c h p is taken seek = absurd (cc)
 probing_sent _ k x n gs numbers left c h p is taken seek = absurd p.stage_is
 
@@ -226,7 +237,7 @@ visit_heard gs n r more o h v is seek apart short heard =
     let there = wanted.wants_at gs (value_of n) v.wanted in
     let random : (get_or gs there.0 fresh).random ≡ value_of r = there.3 ∙ ap value_of is in
     let has : (get_or gs there.0 fresh).short ≡ o =
-        short there.0 there.1 (wanted.wanted_powered (get_or gs there.0 fresh) there.2) (wanted.wanted_active (get_or gs there.0 fresh) there.2) (wanted.wanted_enabled (get_or gs there.0 fresh) there.2) there.3 in
+    short there.0 there.1 (wanted.wanted_powered (get_or gs there.0 fresh) there.2) (wanted.wanted_active (get_or gs there.0 fresh) there.2) (wanted.wanted_enabled (get_or gs there.0 fresh) there.2) there.3 in
     heard ∙ hearing.query_heard gs r there.0 seek apart there.1 there.2 random ∙ ap (λ p. Byte (program_data p)) has
 
 -- of one that is programmed
@@ -257,9 +268,15 @@ visits_sent (stage.HighSent high) k x n gs numbers left c h v is taken seek = su
 visits_sent (stage.MiddleSent high middle) k x n gs numbers left c h v is taken seek = subst (λ d. IsSentTo Visiting (stage.MiddleSent high middle) k true x n gs numbers left d h) (some_is (SearchLow n.low) c is) go where
   go : IsSentTo Visiting (stage.MiddleSent high middle) k true x n gs numbers left (SearchLow n.low) h
   go =
-      let less = visit_less k n v.more left 2 v.frames (omega arith) in
-      (less.0, less.1, (refl, visits_on (stage.MiddleSent high middle) (stage.NumberSent (record { high = high; middle = middle; low = n.low })) k n gs _ left less.0 v
-      (leaving.core_after (SearchLow n.low) gs numbers tt) tt (whole n high middle v.searched.0 v.searched.1) less.2))
+      let less = visit_less k n v.more left 2 v.frames (omega arith) in (
+        less.0,
+        less.1,
+        (
+          refl,
+          visits_on (stage.MiddleSent high middle) (stage.NumberSent (record { high = high; middle = middle; low = n.low })) k n gs _ left less.0 v
+              (leaving.core_after (SearchLow n.low) gs numbers tt) tt (whole n high middle v.searched.0 v.searched.1) less.2,
+        ),
+      )
 visits_sent (stage.NumberSent r) k x n gs numbers left c h v is taken seek =
     subst (λ d. IsTaken d gs numbers h → IsSentTo Visiting (stage.NumberSent r) k true x n gs numbers left d h) (some_is QueryShort c is) go taken where
       go : IsTaken QueryShort gs numbers h → IsSentTo Visiting (stage.NumberSent r) k true x n gs numbers left QueryShort h
@@ -283,18 +300,24 @@ visits_sent (stage.Unnamed r) k x n gs numbers left c h v is taken seek = subst 
 
   go : IsSentTo Visiting (stage.Unnamed r) k true x n gs numbers left (Program (Some is.0)) h
   go =
-      let less = one_less (7 + search_frames v.more) left 4 frames (omega arith) in
-      (less.0, less.1, (refl, record {
-        searched = sym v.searched;
-        ready = programming.programmed_opened gs numbers r is.0 here v.ready;
-        unnamed = subst (NoneNamedBut (row_after Everyone (Program (Some is.0)) 0 gs numbers)) same (programming.programmed_none_named gs numbers r is.0 here (withdrawing.none_named_but gs (value_of r) v.unnamed));
-        named = subst (λ m. HaveShort (row_after Everyone (Program (Some is.0)) 0 gs numbers) m is.0) same (short_given gs numbers r is.0 here);
-        address = is.1;
-        reserved = subst (λ m. Has k.reserved (is.0, m)) same is.2;
-        more = v.more;
-        visited = visited_on n gs (row_after Everyone (Program (Some is.0)) 0 gs numbers) v.more v.visited (λ m. programming.programmed_wants gs numbers r is.0 m here) (programming.programmed_count gs numbers r is.0 here);
-        frames = less.2;
-      }))
+      let less = one_less (7 + search_frames v.more) left 4 frames (omega arith) in (
+        less.0,
+        less.1,
+        (
+          refl,
+          record {
+            searched = sym v.searched;
+            ready = programming.programmed_opened gs numbers r is.0 here v.ready;
+            unnamed = subst (NoneNamedBut (row_after Everyone (Program (Some is.0)) 0 gs numbers)) same (programming.programmed_none_named gs numbers r is.0 here (withdrawing.none_named_but gs (value_of r) v.unnamed));
+            named = subst (λ m. HaveShort (row_after Everyone (Program (Some is.0)) 0 gs numbers) m is.0) same (short_given gs numbers r is.0 here);
+            address = is.1;
+            reserved = subst (λ m. Has k.reserved (is.0, m)) same is.2;
+            more = v.more;
+            visited = visited_on n gs (row_after Everyone (Program (Some is.0)) 0 gs numbers) v.more v.visited (λ m. programming.programmed_wants gs numbers r is.0 m here) (programming.programmed_count gs numbers r is.0 here);
+            frames = less.2;
+          },
+        ),
+      )
 visits_sent _ k x n gs numbers left c h v is taken seek = absurd v.stage_is
 
 named_sent : (r : SearchAddress) (a : ℕ) (k : Kept) (x : Search) (n : SearchAddress) (gs : List Gear) (numbers : List ℕ) (left : ℕ) (h : Answer)
@@ -303,18 +326,24 @@ named_sent r a k x n gs numbers left h v t seek =
     let less = one_less (7 + search_frames v.more) left 5 v.frames (omega arith) in
     let heard : h ≡ Byte (program_data (Some a)) = visit_heard gs n r v.more (Some a) h v.visited (sym v.searched) seek (t.apart v.ready) (λ i there on active enabled random. v.named i there on active random) t.heard in
     let there : verified r a h ≡ stage.Confirmed r a = ap (verified r a) heard ∙ verified_short r a v.address in
-    let same : SameCore gs (row_after Everyone QueryShort 0 gs numbers) = leaving.core_after QueryShort gs numbers tt in
-    (less.0, less.1, rw there (refl, record {
-      searched = v.searched;
-      ready = leaving.core_opened gs _ same v.ready;
-      unnamed = leaving.core_none_named_but gs _ (value_of n) same v.unnamed;
-      named = short_kept gs _ (value_of n) a same v.named;
-      address = v.address;
-      reserved = v.reserved;
-      more = v.more;
-      visited = visited_on n gs _ v.more v.visited (λ m. leaving.core_wants gs _ m same) (leaving.core_count_wanted gs _ same);
-      frames = less.2;
-    }))
+    let same : SameCore gs (row_after Everyone QueryShort 0 gs numbers) = leaving.core_after QueryShort gs numbers tt in (
+      less.0,
+      less.1,
+      rw there (
+        refl,
+        record {
+          searched = v.searched;
+          ready = leaving.core_opened gs _ same v.ready;
+          unnamed = leaving.core_none_named_but gs _ (value_of n) same v.unnamed;
+          named = short_kept gs _ (value_of n) a same v.named;
+          address = v.address;
+          reserved = v.reserved;
+          more = v.more;
+          visited = visited_on n gs _ v.more v.visited (λ m. leaving.core_wants gs _ m same) (leaving.core_count_wanted gs _ same);
+          frames = less.2;
+        },
+      ),
+    )
 
 withdraw_sent : (r : SearchAddress) (a : ℕ) (k : Kept) (x : Search) (n : SearchAddress) (gs : List Gear) (numbers : List ℕ) (left : ℕ) (h : Answer)
     → Names (stage.Confirmed r a) r a k n gs left → Seek gs r → IsSentTo Visiting (stage.Confirmed r a) k true x n gs numbers left Withdraw h
@@ -324,18 +353,24 @@ withdraw_sent r a k x n gs numbers left h v seek =
     let named : AreNamed gs (value_of r) = λ i there on enabled random. (a, v.named i there on (rw enabled refl) (random ∙ sym same)) in
     let fewer : count_by is_wanted (row_after Everyone Withdraw 0 gs numbers) < count_by is_wanted gs = withdrawing.withdrawn_count gs numbers r seek (subst (λ m. wants gs m ≡ true) same v.visited.wanted) in
     let count : count_by is_wanted gs ≡ suc v.more = v.visited.count in
-    let enough : 7 + search_frames v.more ≤ less.0 + 7 = less.2 in
-    (less.0, less.1, (refl, record {
-      searched = v.searched;
-      ready = withdrawing.withdrawn_opened gs numbers r seek named v.ready;
-      unnamed = withdrawing.withdrawn_none_named gs numbers r seek (subst (NoneNamedBut gs) same v.unnamed);
-      address = v.address;
-      number = v.visited.number;
-      number_is = v.visited.number_is;
-      drawn = v.visited.drawn;
-      reserved = v.reserved;
-      frames = omega (arith, fewer, count, enough);
-    }))
+    let enough : 7 + search_frames v.more ≤ less.0 + 7 = less.2 in (
+      less.0,
+      less.1,
+      (
+        refl,
+        record {
+          searched = v.searched;
+          ready = withdrawing.withdrawn_opened gs numbers r seek named v.ready;
+          unnamed = withdrawing.withdrawn_none_named gs numbers r seek (subst (NoneNamedBut gs) same v.unnamed);
+          address = v.address;
+          number = v.visited.number;
+          number_is = v.visited.number_is;
+          drawn = v.visited.drawn;
+          reserved = v.reserved;
+          frames = omega (arith, fewer, count, enough);
+        },
+      ),
+    )
 
 visiting_sent : (s : Stage) (k : Kept) (x : Search) (n : SearchAddress) (gs : List Gear) (numbers : List ℕ) (left : ℕ) (c : Command) (h : Answer)
     → VisitsAt s k n gs left → Sends Visiting n k s c → IsTaken c gs numbers h → Seeks s gs → IsSentTo Visiting s k true x n gs numbers left c h

@@ -1,9 +1,8 @@
-use Rattle.std.proofs.Common.{◌≡◌, ℕ, ◌+◌, ◌*◌, ◌<◌, ◌≤◌, ◌⊎◌, inl, inr, Bool, true, false, zero, suc, List, [], ◌∷◌, ◌++◌, refl, sym, ap, subst, ◌∙◌, arith, length, get_or, Option, Some, None}
+use Rattle.std.proofs.Common.{◌≡◌, ℕ, ◌+◌, ◌≤◌, Bool, true, false, suc, List, [], ◌∷◌, ◌++◌, refl, sym, ap, subst, ◌∙◌, arith, Option, Some, None}
 use Rattle.std.specs.List.{count_by}
 use Rattle.dali_frame.specs.declared.frames.Forward.{Forward}
 use Rattle.dali_frame.specs.declared.frames.Answer.{Answer}
 use Rattle.dali_frame.specs.declared.numbers.SearchAddress.{SearchAddress}
-use Rattle.dali_frame.specs.Random.{MASK24}
 use Rattle.dali_special.specs.declared.command.Command.{Command}
 use Rattle.dali_special.specs.declared.command.Command.TheVariants.{Arc}
 use Rattle.dali_special.specs.Command.{command_of}
@@ -12,11 +11,10 @@ use Rattle.dali_gear.specs.Gear.{Gear}
 use Rattle.dali_gear.specs.Row.{row_after, answers_of, heard_of, drawn_of}
 use Rattle.dali_arbiter.specs.declared.request.Request.{Request}
 use Rattle.dali_arbiter.specs.Arbiter.{next}
-use Rattle.dali_script.specs.declared.block.Block.{Block}
 use Rattle.dali_script.specs.declared.trace.Entry.{Entry}
 use Rattle.dali_script.specs.declared.records.Record.{Record}
 use Rattle.dali_script.specs.declared.records.Record.TheVariants.{Enrol}
-use Rattle.dali_script.specs.Records.{Kept, Has, IsKept}
+use Rattle.dali_script.specs.Records.{Kept, IsKept}
 use Rattle.dali_script.specs.Scripts.{Lawful, IsLawful}
 use Rattle.dali_script.specs.declared.stage.Stage.{Stage}
 use Rattle.dali_script.specs.declared.stage.Stage.TheVariants as stage
@@ -32,16 +30,15 @@ use Rattle.dali_script.specs.declared.orders.Order.TheVariants.{Put, Commit, Don
 use Rattle.dali_search.specs.Least.{Search}
 use Rattle.dali_controller.specs.declared.purpose.Purpose.{Purpose}
 use Rattle.dali_controller.specs.declared.purpose.Purpose.TheVariants.{Opening, Probing, Visiting, Resolving, Closing}
-use Rattle.dali_controller.specs.Machine.{Machine, machine_heard, machine_heard_to, machine_committed, machine_told, tries_after, silent_after, opened_after}
+use Rattle.dali_controller.specs.Machine.{Machine, machine_heard, machine_committed, machine_told, tries_after, silent_after, opened_after}
 use Rattle.dali_controller.specs.Orders.{IsGiven, IsAddressing, machine_ordered, machine_after}
 use Rattle.dali_controller.specs.Course.{Course}
 use Rattle.dali_controller.specs.Next.{next_course, beginning}
 use Rattle.dali_controller.proofs.Given.{IsGivenBy, given_by, IsNoEnrolment}
-use Rattle.dali_events.specs.declared.event.Event.{Event}
 use Rattle.dali_events.specs.declared.event.Event.TheVariants as event
 use Rattle.dali_events.specs.World.{World, controller_at}
-use Rattle.dali_events.specs.Happens.{happens, entry, is_arc, trace_running}
-use Rattle.dali_events.specs.Allowed.{Allowed, IsDue}
+use Rattle.dali_events.specs.Happens.{happens, entry, is_arc}
+use Rattle.dali_events.specs.Allowed.{Allowed}
 use Rattle.dali_events.specs.Runs.{AreDrawn}
 use Rattle.dali_events.specs.Searching.{number_at}
 use Rattle.dali_events.specs.Wanted.{is_bare, Seek}
@@ -49,7 +46,7 @@ use Rattle.dali_events.proofs.Sending.{lawful_of}
 use Rattle.dali_events.proofs.Heard.{opened_apart}
 use Rattle.dali_progress.specs.Rounds.{Succeeds, AreTabled}
 use Rattle.dali_progress.proofs.Lone.{IsLone, Moment, IsDueOf, due_of, Addresses, acted_last, acted_told, lone_acted, lone_next, sent_last, lone_sent}
-use Rattle.dali_progress.proofs.Stands.{search_frames, to_come, At, VisitsAt, Stands, Sends}
+use Rattle.dali_progress.proofs.Stands.{search_frames, to_come, At, Stands}
 use Rattle.dali_progress.proofs.Frames.{IsTaken, Seeks, at_sent}
 use Rattle.dali_progress.proofs.Tables.{IsTabledTo, at_tabled}
 use Rattle.dali_progress.proofs.Turns.{IsCalm, CommitsTo, IsNext, turned, started, started_begins, committed, committed_begins, with_kept}
@@ -152,7 +149,7 @@ acts_less before w q c m out (Some (Put p f)) (Some (input.Heard h)) (input.Hear
 acts_less before w q c m out (Some (Commit x)) None input.Committed o left at is due good g kept holds =
     let told : machine_told m input.Committed ≡ with_kept m x = ap (λ l. machine_committed m (record_ordered l)) is in
     let none : slack (Some o) None ≡ 0 =
-        slack_first o (next_course (with_kept m x)) (committed_begins before m x o w.gear left holds.0 holds.1 at.1 is kept.reserved (subst (λ t. IsGivenBy t o) told g)) in
+    slack_first o (next_course (with_kept m x)) (committed_begins before m x o w.gear left holds.0 holds.1 at.1 is kept.reserved (subst (λ t. IsGivenBy t o) told g)) in
     omega (arith, none)
 acts_less before w q c m out last told input.CommitFailed o left at is due good g kept holds = absurd good
 acts_less before w q c m out None told input.Committed o left at is due good g kept holds = absurd due
@@ -174,7 +171,7 @@ pub acted_less : (before : List Gear) (w : World) (q c : ℕ) (m : Machine) (i :
     → slack_in (happens w (event.Acted c i o)) c + 1 ≤ slack_in w c
 acted_less before w q c m i o left goes good here given kept =
     let less = acts_less before w q c m (controller_at w c).outstanding (controller_at w c).last (controller_at w c).told i o left goes.lone.moment goes.lone.last (due_of (controller_at w c) i here.due) good
-        (given_by m i o (not_failed i good) given) (subst IsKept (sym goes.lone.kept) kept) goes.holds in
+    (given_by m i o (not_failed i good) given) (subst IsKept (sym goes.lone.kept) kept) goes.holds in
     rw (acted_last w c i o goes.lone.up, acted_told w c i o goes.lone.up) less
 
 addresses_by : (o : Order) → IsAddressing o → Addresses (Some o)
@@ -204,7 +201,7 @@ goes_acted before w q c m i o left goes good here given kept =
     let by : IsGivenBy (machine_told m i) o = given_by m i o (not_failed i good) given in
     let lone = lone_acted w q c m i o goes.lone good (addresses_by o by.ordered.addressing) here in
     let next = acts before w q c m (controller_at w c).outstanding (controller_at w c).last (controller_at w c).told i o left goes.lone.moment goes.lone.last (due_of (controller_at w c) i here.due) good by
-        (subst IsKept (sym goes.lone.kept) kept) goes.holds in
+    (subst IsKept (sym goes.lone.kept) kept) goes.holds in
     record { lone = lone; holds = rw (acted_last w c i o goes.lone.up, acted_told w c i o goes.lone.up) (holds_next before (machine_after m i o) o w.gear left next) }
 
 -- ---------------------------------------------------------------- its frame is sent
@@ -278,16 +275,19 @@ goes_sent before w q c m r h left goes is here known heard =
         let holds : IsNext before m (Put p r.frame) w.gear left = next_holds before m (Put p r.frame) w.gear left (rw (sym goes.lone.last ∙ last, told) at goes.holds) in
         let same : w.trace ≡ m.trace = lone.3 in
         let sent = at_sent m.course.purpose (stage_of m.trace) m.kept m.opened m.course.search m.course.number w.gear w.left left (command_of r.frame) h holds.0.at holds.1
-            (taken_of w c r.frame h here known heard) (subst (λ t. Seeks (stage_of t) w.gear) same known.seeks) in
+        (taken_of w c r.frame h here known heard) (subst (λ t. Seeks (stage_of t) w.gear) same known.seeks) in
         let tabled = at_tabled before m.course.purpose (stage_of m.trace) m.kept m.opened _ m.course.search m.course.number w.gear w.left left sent.0 (command_of r.frame) h holds.0.at holds.1
-            (subst (λ t. Seeks (stage_of t) w.gear) same known.seeks) sent.2 holds.0.tabled in
+        (subst (λ t. Seeks (stage_of t) w.gear) same known.seeks) sent.2 holds.0.tabled in
         let lawful : IsLawful m.trace r.frame =
-            ((controller_at w c).records.block, (controller_at w c).records.reserved, subst (λ t. Lawful (controller_at w c).records.block (controller_at w c).records.reserved t r.frame) lone.2 (lawful_of w c r.frame here.may)) in
-        (sent.0, sent.1, record {
-          lone = lone.0;
-          holds = rw (sent_last w c r.frame h goes.lone.up ∙ sym goes.lone.last ∙ last, lone.1)
-              (record { stands = stands_heard before m r.frame h w.gear w.left left sent.0 holds.0 lawful tabled sent.2; running = not_free m.trace (entry r.frame h) });
-        })
+        ((controller_at w c).records.block, (controller_at w c).records.reserved, subst (λ t. Lawful (controller_at w c).records.block (controller_at w c).records.reserved t r.frame) lone.2 (lawful_of w c r.frame here.may)) in (
+          sent.0,
+          sent.1,
+          record {
+            lone = lone.0;
+            holds = rw (sent_last w c r.frame h goes.lone.up ∙ sym goes.lone.last ∙ last, lone.1)
+                (record { stands = stands_heard before m r.frame h w.gear w.left left sent.0 holds.0 lawful tabled sent.2; running = not_free m.trace (entry r.frame h) });
+          },
+        )
 
 pub sent_less : (before : List Gear) (w : World) (q c : ℕ) (m : Machine) (r : Request) (h : Answer) (left : ℕ) → Goes before w q c m left → next w.bus ≡ Some r
     → (slack_in (happens w (event.Sent r.sender r.frame h)) c ≡ 2) × (slack_in w c ≡ 0)

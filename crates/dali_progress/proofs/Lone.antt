@@ -1,17 +1,14 @@
-use Rattle.std.proofs.Common.{◌≡◌, ℕ, ◌<◌, ◌⊎◌, inl, inr, Bool, true, false, List, [], ◌∷◌, ◌++◌, refl, sym, ap, subst, ◌∙◌, arith, length, length-set, get_or, get_or-set_same, get_or-set_other, nat_eq, Option, Some, None}
+use Rattle.std.proofs.Common.{◌≡◌, ℕ, ◌<◌, ◌⊎◌, inl, inr, Bool, true, false, List, [], ◌∷◌, ◌++◌, refl, sym, ap, subst, ◌∙◌, arith, length-set, get_or-set_same, Option, Some, None}
 use Rattle.std.specs.Prelude.{◌==◌, if◌then◌else◌}
 use Rattle.std.proofs.lemmas.Bool.Decides.{nat_tests}
 use Rattle.dali_frame.specs.declared.frames.Forward.{Forward}
 use Rattle.dali_frame.specs.declared.frames.Answer.{Answer}
 use Rattle.dali_frame.specs.Priority.{FIRST, LATER}
-use Rattle.dali_special.specs.declared.command.Command.{Command}
 use Rattle.dali_special.specs.Command.{command_of}
 use Rattle.dali_arbiter.specs.declared.request.Request.{Request}
-use Rattle.dali_arbiter.specs.Arbiter.{Arbiter, idle, owns, next, request_of}
+use Rattle.dali_arbiter.specs.Arbiter.{Arbiter, idle, next, request_of}
 use Rattle.dali_script.specs.declared.trace.Entry.{Entry}
 use Rattle.dali_script.specs.declared.records.Record.{Record}
-use Rattle.dali_script.specs.Records.{Kept}
-use Rattle.dali_script.specs.Stages.{stage_of, may_follow}
 use Rattle.dali_script.specs.declared.orders.Input.{Input}
 use Rattle.dali_script.specs.declared.orders.Input.TheVariants as input
 use Rattle.dali_script.specs.declared.orders.Order.{Order}
@@ -19,7 +16,6 @@ use Rattle.dali_script.specs.declared.orders.Order.TheVariants.{Put, Commit, Don
 use Rattle.dali_script.specs.Due.{frame_put, record_ordered}
 use Rattle.dali_controller.specs.Machine.{Machine, machine_heard, machine_committed, machine_told}
 use Rattle.dali_controller.specs.Orders.{machine_after}
-use Rattle.dali_events.specs.declared.event.Event.{Event}
 use Rattle.dali_events.specs.declared.event.Event.TheVariants as event
 use Rattle.dali_events.specs.World.{World, Controller, controller_at, nobody}
 use Rattle.dali_events.specs.Happens.{happens, entry, controller_informed, controller_acted, outstanding_told, outstanding_after, with_outstanding, kept_after, bus_acted, gives_up, told_sent, trace_running, goes_on, sent_by, is_arc}
@@ -81,7 +77,6 @@ pub record IsLone (w : World) (q c : ℕ) (m : Machine) : Type 0 where
   pub moment : Moment w q c m (controller_at w c).outstanding (controller_at w c).last (controller_at w c).told
 
 -- ---------------------------------------------------------------- the controller acts
-
 
 -- before an order, of a machine that was told its input
 abbrev Before : World → ℕ → ℕ → List Entry → Type 0
@@ -289,14 +284,18 @@ lone_sent w q c m p f h l is none =
     let waits : Waits w q c m p f = waits_at w q c m (controller_at w c).outstanding (controller_at w c).last (controller_at w c).told p f last none l.moment in
     let addresses : is_arc (command_of f) ≡ false = subst Addresses last l.addresses in
     let last_there : (controller_at (happens w (event.Sent c f h)) c).last ≡ Some (Put p f) = ap (λ (k : Controller). k.last) there ∙ last in
-    let told_there : (controller_at (happens w (event.Sent c f h)) c).told ≡ Some (input.Heard h) = ap (λ (k : Controller). k.told) there ∙ rw addresses refl in
-    (record {
-      up = record {
-        known = subst (λ n. c < n) (sym (length-set w.controllers c (told_sent (trace_running w c) f h (controller_at w c)))) l.up.known;
-        up = ap (λ (k : Controller). k.up) there ∙ l.up.up;
-      };
-      kept = l.kept ∙ sym (ap (λ (k : Controller). k.records) there);
-      last = is ∙ sym last_there;
-      addresses = subst Addresses (sym last_there) addresses;
-      moment = rw (last_there, told_there) (heard_at w q c m p f h waits);
-    }, told_there, running_of w q c m p f waits, trace_is w q c m p f waits)
+    let told_there : (controller_at (happens w (event.Sent c f h)) c).told ≡ Some (input.Heard h) = ap (λ (k : Controller). k.told) there ∙ rw addresses refl in (
+      record {
+        up = record {
+          known = subst (λ n. c < n) (sym (length-set w.controllers c (told_sent (trace_running w c) f h (controller_at w c)))) l.up.known;
+          up = ap (λ (k : Controller). k.up) there ∙ l.up.up;
+        };
+        kept = l.kept ∙ sym (ap (λ (k : Controller). k.records) there);
+        last = is ∙ sym last_there;
+        addresses = subst Addresses (sym last_there) addresses;
+        moment = rw (last_there, told_there) (heard_at w q c m p f h waits);
+      },
+      told_there,
+      running_of w q c m p f waits,
+      trace_is w q c m p f waits,
+    )

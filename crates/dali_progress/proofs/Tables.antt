@@ -1,4 +1,4 @@
-use Rattle.std.proofs.Common.{◌≡◌, ℕ, ◌+◌, ◌<◌, ◌⊎◌, inl, inr, Bool, true, false, List, [], ◌∷◌, refl, sym, ap, subst, ◌∙◌, length, Option, Some, None}
+use Rattle.std.proofs.Common.{◌≡◌, ℕ, ◌<◌, ◌⊎◌, inl, inr, Bool, true, false, List, ◌∷◌, refl, sym, ap, subst, ◌∙◌, length, Option, Some, None}
 use Rattle.std.specs.Prelude.{◌==◌, ◌&&◌, if◌then◌else◌}
 use Rattle.dali_frame.specs.declared.frames.Answer.{Answer}
 use Rattle.dali_frame.specs.declared.frames.Answer.TheVariants.{Silence, Byte, Damaged}
@@ -9,7 +9,7 @@ use Rattle.dali_special.specs.declared.command.Command.{Command}
 use Rattle.dali_special.specs.declared.command.Command.TheVariants.{Terminate, Initialise, Randomise, Compare, Withdraw, SearchHigh, SearchMiddle, SearchLow, Program, QueryShort}
 use Rattle.dali_special.specs.declared.command.Target.TheVariants.{Unaddressed}
 use Rattle.dali_gear.specs.declared.row.Reach.TheVariants.{Everyone}
-use Rattle.dali_gear.specs.Gear.{Gear, fresh, is_active, would_draw, gear_taken}
+use Rattle.dali_gear.specs.Gear.{Gear, is_active, would_draw, gear_taken}
 use Rattle.dali_gear.specs.Row.{row_after}
 use Rattle.dali_script.specs.Records.{Assignment, Kept, Has}
 use Rattle.dali_script.specs.declared.stage.Stage.{Stage}
@@ -19,15 +19,14 @@ use Rattle.dali_search.specs.Least.{Search}
 use Rattle.dali_controller.specs.declared.purpose.Purpose.{Purpose}
 use Rattle.dali_controller.specs.declared.purpose.Purpose.TheVariants.{Opening, Probing, Visiting, Resolving, Closing}
 use Rattle.dali_script.specs.declared.orders.End.{End}
-use Rattle.dali_controller.specs.Course.{first_of, turn_of}
 use Rattle.dali_events.specs.Wanted.{gear_of, OfPowered, Seek}
 use Rattle.dali_events.proofs.Takes.{row_length}
 use Rattle.dali_events.proofs.Wanted.{after_at, same_number, number_same}
-use Rattle.dali_events.proofs.Opened.{IsOpening, AreOpening}
+use Rattle.dali_events.proofs.Opened.{AreOpening}
 use Rattle.dali_events.proofs.Programming as programming
 use Rattle.dali_progress.specs.Rounds.{AreTabled}
-use Rattle.dali_progress.proofs.Stands.{to_come, Opens, Names, VisitsAt, Visits, Probes, Closes, At, Sends}
-use Rattle.dali_progress.proofs.Frames.{IsTaken, Seeks}
+use Rattle.dali_progress.proofs.Stands.{to_come, Opens, VisitsAt, Probes, Closes, At, Sends}
+use Rattle.dali_progress.proofs.Frames.{Seeks}
 
 -- THE TABLE NAMES THE GEAR, while frames are sent. A gear that has a short address keeps it, with its random address;
 -- and the one that is given an address is the one whose entry is to come.

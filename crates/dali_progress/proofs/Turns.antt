@@ -1,21 +1,18 @@
 use Rattle.std.proofs.Common.{◌≡◌, ℕ, ◌+◌, ◌*◌, ◌-◌, ◌<◌, ◌≤◌, ◌⊎◌, inl, inr, Bool, true, false, zero, suc, List, [], ◌∷◌, ◌++◌, refl, sym, ap, subst, ◌∙◌, arith, length, length-append, nat_lt, get_or, Option, Some, None}
-use Rattle.std.specs.Prelude.{◌==◌, if◌then◌else◌, max, min}
+use Rattle.std.specs.Prelude.{◌==◌, if◌then◌else◌}
 use Rattle.std.specs.List.{count_by}
 use Rattle.std.proofs.lemmas.Bool.Decides.{nat_tests}
-use Rattle.dali_frame.specs.declared.frames.Forward.{Forward}
-use Rattle.dali_frame.specs.declared.frames.Answer.{Answer}
 use Rattle.dali_frame.specs.declared.numbers.SearchAddress.{SearchAddress}
 use Rattle.dali_frame.specs.Random.{value_of, MASK24}
-use Rattle.dali_frame.specs.Priority.{FIRST, LATER}
+use Rattle.dali_frame.specs.Priority.{LATER}
 use Rattle.dali_special.specs.declared.command.Command.{Command}
 use Rattle.dali_special.specs.declared.command.Command.TheVariants.{Program}
 use Rattle.dali_special.specs.Command.{command_of, frame_of, IsSpelled}
 use Rattle.dali_special.proofs.Table.{read_written}
-use Rattle.dali_gear.specs.declared.state.InitialisationState.TheVariants.{Enabled}
 use Rattle.dali_gear.specs.Gear.{Gear, fresh}
 use Rattle.dali_script.specs.declared.records.Record.{Record}
 use Rattle.dali_script.specs.declared.records.Record.TheVariants.{Reserve, Enrol, Release}
-use Rattle.dali_script.specs.Records.{Assignment, Kept, Has, HasAddress, HasRandom, IsKept, IsMap, IsFull, with_record}
+use Rattle.dali_script.specs.Records.{Assignment, Kept, Has, HasAddress, HasRandom, IsKept, IsMap, with_record}
 use Rattle.dali_script.specs.declared.stage.Stage.{Stage}
 use Rattle.dali_script.specs.declared.stage.Stage.TheVariants as stage
 use Rattle.dali_script.specs.Findings.{finding_of}
@@ -27,16 +24,16 @@ use Rattle.dali_script.proofs.Found.{trace_none}
 use Rattle.dali_script.specs.declared.orders.Order.{Order}
 use Rattle.dali_script.specs.declared.orders.Order.TheVariants.{Put, Commit, Done, Halt}
 use Rattle.dali_script.specs.declared.orders.End.{End}
-use Rattle.dali_script.specs.declared.orders.End.TheVariants.{AllFound, BlockFull, GaveUp}
+use Rattle.dali_script.specs.declared.orders.End.TheVariants.{BlockFull}
 use Rattle.dali_search.specs.declared.step.Step.{Step}
 use Rattle.dali_search.specs.declared.step.Step.TheVariants.{Again, Found, Nobody}
-use Rattle.dali_search.specs.Least.{Search, Agrees, Gives, Says, HasAtMost, IsBelow, NumberOf, lowest, highest, answered, step_between}
+use Rattle.dali_search.specs.Least.{Search, Agrees, Says, NumberOf, lowest, highest, answered, step_between}
 use Rattle.dali_search.specs.Narrowing.{IsNarrowing}
 use Rattle.dali_search.proofs.Agreement.{agrees_more}
 use Rattle.dali_search.proofs.Answered as searching
 use Rattle.dali_controller.specs.declared.purpose.Purpose.{Purpose}
 use Rattle.dali_controller.specs.declared.purpose.Purpose.TheVariants.{Opening, Probing, Visiting, Resolving, Closing}
-use Rattle.dali_controller.specs.Course.{Course, first_of, turn_of, sought, is_yes, closing_of, searching_anew, visiting, probing, probed, after_step}
+use Rattle.dali_controller.specs.Course.{Course, first_of, turn_of, sought, is_yes, closing_of, searching_anew, visiting, probed, after_step}
 use Rattle.dali_controller.specs.Course.{closing as closing_by}
 use Rattle.dali_controller.specs.Course.{opening as opening_of}
 use Rattle.dali_controller.specs.Course.{unfinished_at, unfinished_among, visit_or_opening}
@@ -46,11 +43,11 @@ use Rattle.dali_controller.specs.Orders.{machine_ordered, Contradicts, AfterFind
 use Rattle.dali_controller.proofs.Given as given
 use Rattle.dali_controller.proofs.Given.{IsGivenBy, IsNoEnrolment}
 use Rattle.dali_events.specs.Searching.{HasShort}
-use Rattle.dali_events.specs.Wanted.{gear_of, is_wanted, wants, is_bare, OfPowered, IsOpened, NoneNamed}
+use Rattle.dali_events.specs.Wanted.{is_wanted, wants, is_bare, OfPowered, IsOpened, NoneNamed}
 use Rattle.dali_events.proofs.Wanted as wanted
 use Rattle.dali_events.proofs.Opened as opening
 use Rattle.dali_progress.specs.Rounds.{AreTabled}
-use Rattle.dali_progress.proofs.Stands.{to_come, sent_at, search_frames, probe_frames, Opens, Searches, Probes, IsVisited, VisitFrames, Visits, Names, Leaves, VisitsAt, EndsWell, Closes, At, IsWithin, Stands, Sends}
+use Rattle.dali_progress.proofs.Stands.{to_come, search_frames, probe_frames, Opens, Probes, VisitFrames, Visits, Leaves, VisitsAt, EndsWell, Closes, At, IsWithin, Stands, Sends}
 use Rattle.dali_progress.proofs.Frames.{value_sought}
 use Rattle.dali_progress.proofs.Tables.{tabled_over}
 
@@ -123,7 +120,7 @@ goes_first before t o gs left calm tabled is spelled at = subst (λ q. IsNext be
     at = subst (λ s. At (next_course t).purpose s t.kept t.opened (next_course t).search (next_course t).number gs left) (sym stage_none) at;
   },
   subst (λ s. Sends (next_course t).purpose (next_course t).number t.kept s (command_of (frame_of (first_of (next_course t).purpose (next_course t).number)))) (sym stage_none)
-  (read_written (first_of (next_course t).purpose (next_course t).number) spelled),
+      (read_written (first_of (next_course t).purpose (next_course t).number) spelled),
 )
 
 -- of a course that is known
@@ -271,32 +268,46 @@ probed_at : (s : Step) (k : Kept) (c : Course) (said : Bool) (gs : List Gear) (l
     → IsSpelled (first_of (after_step s (record c { search = answered c.search said })).purpose (after_step s (record c { search = answered c.search said })).number)
     × At (after_step s (record c { search = answered c.search said })).purpose stage.Free k true (after_step s (record c { search = answered c.search said })).search
     (after_step s (record c { search = answered c.search said })).number gs left
-probed_at Again k c said gs left is ready unnamed narrowing agrees enough = (tt, (refl, record {
-  stage_is = tt;
-  searched = tt;
-  ready = ready;
-  unnamed = unnamed;
-  searches = record { running = is; narrowing = narrowing; agrees = agrees };
-  number = refl;
-  frames = again_frames gs c.search said left (count_by is_wanted gs) narrowing is agrees refl enough;
-}))
-probed_at (Found r) k c said gs left is ready unnamed narrowing agrees enough =
-    let found = found_wanted gs (answered c.search said) r ready narrowing agrees is in
-    let more = more_wanted (count_by is_wanted gs) (wanted.count_some gs r found.0) in
-    (tt, (refl, record {
+probed_at Again k c said gs left is ready unnamed narrowing agrees enough = (
+  tt,
+  (
+    refl,
+    record {
       stage_is = tt;
       searched = tt;
       ready = ready;
       unnamed = unnamed;
-      more = more.0;
-      visited = record { wanted = subst (λ m. wants gs m ≡ true) (sym (value_sought r)) found.0; number = r; number_is = refl; drawn = found.1; count = more.1 };
-      frames = inr (found_frames (length c.search.answers) (count_by is_wanted gs) left more.0 enough more.1);
-    }))
-probed_at Nobody k c said gs left is ready unnamed narrowing agrees enough = (tt, record {
-  stage_is = tt;
-  well = all_have gs (answered c.search said) ready narrowing agrees is;
-  frames = close_frames (length c.search.answers) (count_by is_wanted gs) left enough;
-})
+      searches = record { running = is; narrowing = narrowing; agrees = agrees };
+      number = refl;
+      frames = again_frames gs c.search said left (count_by is_wanted gs) narrowing is agrees refl enough;
+    },
+  ),
+)
+probed_at (Found r) k c said gs left is ready unnamed narrowing agrees enough =
+    let found = found_wanted gs (answered c.search said) r ready narrowing agrees is in
+    let more = more_wanted (count_by is_wanted gs) (wanted.count_some gs r found.0) in (
+      tt,
+      (
+        refl,
+        record {
+          stage_is = tt;
+          searched = tt;
+          ready = ready;
+          unnamed = unnamed;
+          more = more.0;
+          visited = record { wanted = subst (λ m. wants gs m ≡ true) (sym (value_sought r)) found.0; number = r; number_is = refl; drawn = found.1; count = more.1 };
+          frames = inr (found_frames (length c.search.answers) (count_by is_wanted gs) left more.0 enough more.1);
+        },
+      ),
+    )
+probed_at Nobody k c said gs left is ready unnamed narrowing agrees enough = (
+  tt,
+  record {
+    stage_is = tt;
+    well = all_have gs (answered c.search said) ready narrowing agrees is;
+    frames = close_frames (length c.search.answers) (count_by is_wanted gs) left enough;
+  },
+)
 
 probing_turns : (before : List Gear) (t : Machine) (o : Order) (s : Stage) (gs : List Gear) (left : ℕ) → IsGivenBy t o → Stands before t gs left → IsNoEnrolment t.last → t.course.purpose ≡ Probing → stage_of t.trace ≡ s → (s ≡ stage.Free → ⊥)
     → t.opened ≡ true → Probes s t.course.search t.course.number gs left → IsNext before (machine_ordered t o) o gs left
@@ -343,17 +354,20 @@ unnamed_turns before t o r gs left g st kept purpose is opened v = go (given.unn
   go (inl e) =
       let small : e.0 < 64 = kept.reserved.short e.0 (has_address t.kept.reserved e.0 (value_of r) e.1) in
       goes_later before t o (Program (Some e.0)) gs left st e.2 small (rw is (e.0, small, e.1, refl))
-  go (inr (inl e)) = subst (λ q. IsNext before (machine_ordered t q) q gs left) (sym e.1.2) (record { tries = st.tries; silent = st.silent; within = st.within }, record {
-    opened = opened;
-    ready = v.ready;
-    unnamed = v.unnamed;
-    wanted = subst (λ m. wants gs m ≡ true) (sym same) v.visited.wanted;
-    drawn = subst (λ m. m < MASK24) (sym same) (drawn_of t.course.number v.visited.number v.visited.number_is v.visited.drawn);
-    more = v.more;
-    count = v.visited.count;
-    tabled = tabled_at before t gs left (stage.Unnamed r) st is;
-    frames = frames e.0 v.frames;
-  })
+  go (inr (inl e)) = subst (λ q. IsNext before (machine_ordered t q) q gs left) (sym e.1.2) (
+    record { tries = st.tries; silent = st.silent; within = st.within },
+    record {
+      opened = opened;
+      ready = v.ready;
+      unnamed = v.unnamed;
+      wanted = subst (λ m. wants gs m ≡ true) (sym same) v.visited.wanted;
+      drawn = subst (λ m. m < MASK24) (sym same) (drawn_of t.course.number v.visited.number v.visited.number_is v.visited.drawn);
+      more = v.more;
+      count = v.visited.count;
+      tabled = tabled_at before t gs left (stage.Unnamed r) st is;
+      frames = frames e.0 v.frames;
+    },
+  )
   go (inr (inr e)) =
       let next : next_course t ≡ closing_by t.course BlockFull = ap (begins_at t) is in
       goes_by before t o (closing_by t.course BlockFull) gs left (calm_of before t gs left st) (tabled_at before t gs left (stage.Unnamed r) st is) (e.2 ∙ sym (ap beginning next)) next tt (record { stage_is = tt; well = e.1; frames = some v.frames })
@@ -476,16 +490,18 @@ reserved_next before m a r o gs left calm v free last g =
     goes_by before (with_kept m (Reserve a r)) o (visiting m.course r) gs left
     (record { tries = calm.tries; silent = calm.silent; within = within_reserved m.kept a r calm.within }) v.tabled
     (reserved_begins m a r o calm free last g)
-    (ap (begins_at (with_kept m (Reserve a r))) stage ∙ ap (at_rest (with_kept m (Reserve a r))) last) tt
-    (v.opened, record {
-      stage_is = tt;
-      searched = tt;
-      ready = v.ready;
-      unnamed = v.unnamed;
-      more = v.more;
-      visited = record { wanted = subst (λ n. wants gs n ≡ true) (sym (value_sought r)) v.wanted; number = r; number_is = refl; drawn = v.drawn; count = v.count };
-      frames = inl (subst (HasRandom (m.kept.reserved ++ (a, r) ∷ [])) (sym (value_sought r)) (has_random (m.kept.reserved ++ (a, r) ∷ []) a r (has_last m.kept.reserved (a, r))), omega (arith, v.frames));
-    })
+    (ap (begins_at (with_kept m (Reserve a r))) stage ∙ ap (at_rest (with_kept m (Reserve a r))) last) tt (
+      v.opened,
+      record {
+        stage_is = tt;
+        searched = tt;
+        ready = v.ready;
+        unnamed = v.unnamed;
+        more = v.more;
+        visited = record { wanted = subst (λ n. wants gs n ≡ true) (sym (value_sought r)) v.wanted; number = r; number_is = refl; drawn = v.drawn; count = v.count };
+        frames = inl (subst (HasRandom (m.kept.reserved ++ (a, r) ∷ [])) (sym (value_sought r)) (has_random (m.kept.reserved ++ (a, r) ∷ []) a r (has_last m.kept.reserved (a, r))), omega (arith, v.frames));
+      },
+    )
 
 enrolled_begins : (before : List Gear) (m : Machine) (b r : ℕ) (o : Order) (gs : List Gear) (left : ℕ) → Enrols before m b r gs left → m.trace ≡ [] → m.last ≡ Some (Commit (Enrol b r)) → IsMap m.kept.reserved
     → IsGivenBy (with_kept m (Enrol b r)) o → o ≡ beginning (next_course (with_kept m (Enrol b r)))
