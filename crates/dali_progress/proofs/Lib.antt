@@ -5,3 +5,5 @@ mod Tables
 mod Turns
 mod Goes
 mod Bounded
+mod Giving
+mod Session
