@@ -7,3 +7,5 @@ mod Goes
 mod Bounded
 mod Giving
 mod Session
+mod Playing
+mod Needed
