@@ -9,3 +9,5 @@ mod Giving
 mod Session
 mod Playing
 mod Needed
+mod LatePower
+mod Numberless

@@ -1,0 +1,153 @@
+use Rattle.std.proofs.Common.{◌≡◌, ℕ, zero, suc, inl, inr, true, List, [], ◌∷◌, refl, sym, ap, subst, ◌∙◌, arith, lit<, lit≤, Some}
+use Rattle.dali_frame.specs.declared.frames.Answer.TheVariants.{Silence}
+use Rattle.dali_frame.specs.declared.frames.Forward.{Forward}
+use Rattle.dali_special.specs.Command.{command_of, frame}
+use Rattle.dali_gear.specs.declared.row.Reach.TheVariants.{Everyone}
+use Rattle.dali_arbiter.specs.declared.request.Request.{Request}
+use Rattle.dali_arbiter.specs.Arbiter.{request_of}
+use Rattle.dali_script.specs.Scripts.{Open}
+use Rattle.dali_script.specs.Stages.{stage_of}
+use Rattle.dali_script.specs.declared.orders.Input.{Input}
+use Rattle.dali_script.specs.declared.orders.Input.TheVariants as input
+use Rattle.dali_script.specs.declared.orders.Order.TheVariants.{Put}
+use Rattle.dali_script.specs.declared.orders.End.{End}
+use Rattle.dali_events.specs.declared.event.Event.{Event}
+use Rattle.dali_events.specs.declared.event.Event.TheVariants as event
+use Rattle.dali_events.specs.Plan.{Plan}
+use Rattle.dali_events.specs.World.{controller_at, start}
+use Rattle.dali_events.specs.Allowed.{Allowed, IsDue, HasDraws}
+use Rattle.dali_events.proofs.Plans.{plan_is}
+use Rattle.dali_standing.specs.Standing.{machines_at}
+use Rattle.dali_world.specs.Site.{SiteState, world, next_request}
+use Rattle.dali_progress.specs.Rounds.{StartsAlone, IsOfRound, Rounds, site_after, HasEnded}
+use Rattle.dali_progress.proofs.Session.{block, silent, given_first, given_initialise, given_initialise_again, given_randomise, given_randomise_again}
+use Rattle.dali_progress.proofs.Playing.{Plays, rounds_by}
+
+-- NUMBERS TO DRAW MATTER. One gear, no number that it could draw, and one controller that starts alone.
+-- All events are of rounds; then the second RANDOMISE is next, and may not be sent.
+
+-- no round goes on from there, though the controller has not ended
+pub record IsStuck (s : SiteState) (c : ℕ) (es : List Event) : Type 0 where
+  pub starts : StartsAlone s c
+  pub rounds : Rounds s c es
+  pub unended : (e : End) → HasEnded (site_after s es) c e → ⊥
+  pub stuck : (e : Event) → Allowed (world (site_after s es)) e → IsOfRound (site_after s es) c e → ⊥
+
+abbrev pub numberless : Plan
+numberless = record { gear = 1; blocks = block ∷ []; draws = [] }
+
+abbrev pub spent_site : SiteState
+spent_site = record { plan = numberless; queue = 8; room = 64; log = [] }
+
+one_alone : (d : ℕ) → (controller_at (world spent_site) d).up ≡ true → d ≡ 0
+one_alone zero up = refl
+one_alone (suc d) up = absurd (cc)
+
+starts : StartsAlone spent_site 0
+starts = record {
+  run = record { plan = plan_is 1 ((0, 3) ∷ []) [] refl; allowed = tt };
+  up = record { known = lit< tt; up = refl };
+  alone = one_alone;
+  told = refl;
+  last = refl;
+  block = block;
+  records = refl;
+  machine = refl;
+  bus = refl;
+  trace = refl;
+}
+
+-- an opening, up to the order to send RANDOMISE again
+abbrev pub up_to_draw : List Event
+up_to_draw =
+    event.Acted 0 input.Start (Put 3 (frame 0xA1 0)) ∷
+    event.Sent 0 (frame 0xA1 0) Silence ∷
+    event.Acted 0 silent (Put 1 (frame 0xA5 0xFF)) ∷
+    event.Sent 0 (frame 0xA5 0xFF) Silence ∷
+    event.Acted 0 silent (Put 1 (frame 0xA5 0xFF)) ∷
+    event.Sent 0 (frame 0xA5 0xFF) Silence ∷
+    event.Acted 0 silent (Put 1 (frame 0xA7 0)) ∷
+    event.Sent 0 (frame 0xA7 0) Silence ∷
+    event.Acted 0 silent (Put 1 (frame 0xA7 0)) ∷
+    []
+
+before_draw : Plays (start numberless 8) (machines_at 0 (block ∷ [])) 0 up_to_draw
+unfolding command_of stage_of
+before_draw = (
+  record { up = record { known = lit< tt; up = refl }; due = refl; order = inl (refl, (block, [], (Open, tt, refl))) },
+  (refl, tt, given_first),
+  (
+    record { up = record { known = lit< tt; up = refl }; may = inr (refl, (block, [], (Open, tt, refl))); draws = lit≤ tt; heard = tt },
+    (request_of 0 3 (frame 0xA1 0), refl, refl, refl, refl),
+    (
+      record { up = record { known = lit< tt; up = refl }; due = refl; order = inr (refl, refl, (Open, tt, (refl, tt, refl))) },
+      (refl, tt, given_initialise),
+      (
+        record { up = record { known = lit< tt; up = refl }; may = inl (refl, (Open, tt, (refl, tt, refl))); draws = lit≤ tt; heard = tt },
+        (request_of 0 1 (frame 0xA5 0xFF), refl, refl, refl, refl),
+        (
+          record { up = record { known = lit< tt; up = refl }; due = refl; order = inr (refl, refl, (Open, tt, (refl, tt, (refl, tt, refl)))) },
+          (refl, tt, given_initialise_again),
+          (
+            record { up = record { known = lit< tt; up = refl }; may = inl (refl, (Open, tt, (refl, tt, (refl, tt, refl)))); draws = lit≤ tt; heard = tt },
+            (request_of 0 1 (frame 0xA5 0xFF), refl, refl, refl, refl),
+            (
+              record { up = record { known = lit< tt; up = refl }; due = refl; order = inr (refl, refl, (Open, tt, (refl, tt, (refl, tt, (refl, tt, refl))))) },
+              (refl, tt, given_randomise),
+              (
+                record { up = record { known = lit< tt; up = refl }; may = inl (refl, (Open, tt, (refl, tt, (refl, tt, (refl, tt, refl))))); draws = lit≤ tt; heard = tt },
+                (request_of 0 1 (frame 0xA7 0), refl, refl, refl, refl),
+                (
+                  record { up = record { known = lit< tt; up = refl }; due = refl; order = inr (refl, refl, (Open, tt, (refl, tt, (refl, tt, (refl, tt, (refl, tt, refl)))))) },
+                  (refl, tt, given_randomise_again),
+                  tt,
+                ),
+              ),
+            ),
+          ),
+        ),
+      ),
+    ),
+  ),
+)
+
+some_same : {A : Type 0} (x y : A) → Some x ≡ Some y → x ≡ y
+some_same x y same = cc
+
+not_due : (i : Input) → IsDue (controller_at (world (site_after spent_site up_to_draw)) 0) i → ⊥
+unfolding command_of stage_of
+not_due input.Start due = cc
+not_due (input.Heard h) due = cc
+not_due input.Destroyed due = cc
+not_due input.Lapsed due = cc
+not_due input.Committed due = due
+not_due input.CommitFailed due = due
+
+no_draws : HasDraws (world (site_after spent_site up_to_draw)) Everyone (frame 0xA7 0) → ⊥
+unfolding command_of stage_of
+no_draws draws = omega (arith, draws)
+
+next_is : next_request (site_after spent_site up_to_draw) ≡ Some (request_of 0 1 (frame 0xA7 0))
+unfolding command_of stage_of
+next_is = refl
+
+not_sent : (r : Request) (f : Forward) → next_request (site_after spent_site up_to_draw) ≡ Some r → f ≡ r.frame → HasDraws (world (site_after spent_site up_to_draw)) Everyone f → ⊥
+not_sent r f is same draws =
+    no_draws (subst (λ g. HasDraws (world (site_after spent_site up_to_draw)) Everyone g) (same ∙ ap (λ (q : Request). q.frame) (some_same r (request_of 0 1 (frame 0xA7 0)) (sym is ∙ next_is))) draws)
+
+no_round : (e : Event) → Allowed (world (site_after spent_site up_to_draw)) e → IsOfRound (site_after spent_site up_to_draw) 0 e → ⊥
+no_round (event.Acted d i o) allowed of = not_due i (subst (λ n. IsDue (controller_at (world (site_after spent_site up_to_draw)) n) i) of.0 allowed.due)
+no_round (event.Sent d f h) allowed of = not_sent of.0 f of.1 of.3 allowed.draws
+no_round _ allowed of = of
+
+unended : (e : End) → HasEnded (site_after spent_site up_to_draw) 0 e → ⊥
+unfolding command_of stage_of
+unended e ended = cc
+
+pub no_number_is_left : IsStuck spent_site 0 up_to_draw
+no_number_is_left = record {
+  starts = starts;
+  rounds = rounds_by spent_site 0 up_to_draw before_draw;
+  unended = unended;
+  stuck = no_round;
+}
