@@ -1,4 +1,4 @@
-use Rattle.std.proofs.Common.{◌≡◌, ℕ, zero, suc, inl, inr, true, false, List, [], ◌∷◌, refl, lit<, lit≤, Some, None}
+use Rattle.std.proofs.Common.{◌≡◌, ℕ, inl, inr, true, false, List, [], ◌∷◌, refl, lit<, lit≤, Some, None}
 use Rattle.dali_frame.specs.declared.frames.Answer.TheVariants.{Silence}
 use Rattle.dali_special.specs.Command.{command_of, frame}
 use Rattle.dali_arbiter.specs.Arbiter.{request_of}
@@ -9,10 +9,10 @@ use Rattle.dali_script.specs.declared.orders.Order.TheVariants.{Put, Done}
 use Rattle.dali_script.specs.declared.orders.End.TheVariants.{AllFound}
 use Rattle.dali_events.specs.declared.event.Event.{Event}
 use Rattle.dali_events.specs.declared.event.Event.TheVariants as event
-use Rattle.dali_events.specs.World.{controller_at, start}
+use Rattle.dali_events.specs.World.{start}
 use Rattle.dali_events.specs.Happens.{happens}
 use Rattle.dali_standing.specs.Standing.{machines_at}
-use Rattle.dali_world.specs.Site.{SiteState, world}
+use Rattle.dali_world.specs.Site.{SiteState}
 use Rattle.dali_progress.specs.Rounds.{StartsAlone}
 use Rattle.dali_progress.proofs.Session.{block, highest, silent, given_first, given_initialise, given_initialise_again, given_randomise, given_randomise_again, given_high, given_middle, given_low, given_compare, given_close, given_done}
 use Rattle.dali_progress.proofs.Playing.{Plays, rounds_by, BreaksEnd}
@@ -25,15 +25,10 @@ use Rattle.dali_progress.proofs.Needed.{plan, is_plan}
 abbrev pub dark_site : SiteState
 dark_site = record { plan = plan; queue = 8; room = 64; log = event.Power 0 false ∷ [] }
 
-one_alone : (d : ℕ) → (controller_at (world dark_site) d).up ≡ true → d ≡ 0
-one_alone zero up = refl
-one_alone (suc d) up = absurd (cc)
-
 starts : StartsAlone dark_site 0
 starts = record {
   run = record { plan = is_plan; allowed = (tt, tt) };
   up = record { known = lit< tt; up = refl };
-  alone = one_alone;
   told = refl;
   last = refl;
   block = block;

@@ -1,4 +1,4 @@
-use Rattle.std.proofs.Common.{◌≡◌, ℕ, zero, suc, inl, inr, true, List, [], ◌∷◌, refl, lit<, lit≤, Some, None}
+use Rattle.std.proofs.Common.{◌≡◌, ℕ, inl, inr, List, [], ◌∷◌, refl, lit<, lit≤, Some, None}
 use Rattle.dali_frame.specs.declared.frames.Answer.TheVariants.{Silence}
 use Rattle.dali_special.specs.Command.{command_of, frame}
 use Rattle.dali_gear.specs.declared.row.Reach.TheVariants.{Everyone}
@@ -12,7 +12,7 @@ use Rattle.dali_script.specs.declared.orders.End.TheVariants.{AllFound}
 use Rattle.dali_events.specs.declared.event.Event.{Event}
 use Rattle.dali_events.specs.declared.event.Event.TheVariants as event
 use Rattle.dali_events.specs.Plan.{Plan, IsPlan}
-use Rattle.dali_events.specs.World.{controller_at, start}
+use Rattle.dali_events.specs.World.{start}
 use Rattle.dali_events.proofs.Plans.{plan_is}
 use Rattle.dali_standing.specs.Standing.{machines_at}
 use Rattle.dali_world.specs.Site.{SiteState, world, site_logged, machines}
@@ -34,15 +34,10 @@ is_plan = plan_is 1 ((0, 3) ∷ []) (0x123456 ∷ []) refl
 abbrev pub site : SiteState
 site = record { plan = plan; queue = 8; room = 64; log = [] }
 
-one_alone : (d : ℕ) → (controller_at (world site) d).up ≡ true → d ≡ 0
-one_alone zero up = refl
-one_alone (suc d) up = absurd (cc)
-
 pub starts : StartsAlone site 0
 starts = record {
   run = record { plan = is_plan; allowed = tt };
   up = record { known = lit< tt; up = refl };
-  alone = one_alone;
   told = refl;
   last = refl;
   block = block;

@@ -1,4 +1,4 @@
-use Rattle.std.proofs.Common.{◌≡◌, ℕ, zero, suc, inl, inr, true, List, [], ◌∷◌, refl, sym, ap, subst, ◌∙◌, arith, lit<, lit≤, Some}
+use Rattle.std.proofs.Common.{◌≡◌, ℕ, inl, inr, List, [], ◌∷◌, refl, sym, ap, subst, ◌∙◌, arith, lit<, lit≤, Some}
 use Rattle.dali_frame.specs.declared.frames.Answer.TheVariants.{Silence}
 use Rattle.dali_frame.specs.declared.frames.Forward.{Forward}
 use Rattle.dali_special.specs.Command.{command_of, frame}
@@ -39,15 +39,10 @@ numberless = record { gear = 1; blocks = block ∷ []; draws = [] }
 abbrev pub spent_site : SiteState
 spent_site = record { plan = numberless; queue = 8; room = 64; log = [] }
 
-one_alone : (d : ℕ) → (controller_at (world spent_site) d).up ≡ true → d ≡ 0
-one_alone zero up = refl
-one_alone (suc d) up = absurd (cc)
-
 starts : StartsAlone spent_site 0
 starts = record {
   run = record { plan = plan_is 1 ((0, 3) ∷ []) [] refl; allowed = tt };
   up = record { known = lit< tt; up = refl };
-  alone = one_alone;
   told = refl;
   last = refl;
   block = block;
