@@ -264,6 +264,12 @@ goes_on s c es a rounds = go (due_by (world s).gear (world (site_after s es)) _ 
       go (inr (inl due)) = inr (inl (record { input = due.0; succeeds = due.1; due = due.2; free = due.3 }))
       go (inr (inr next)) = inr (inr next)
 
+-- and it stays up
+pub stays_up : (s : SiteState) (c : ℕ) (es : List Event) → StartsAlone s c → Rounds s c es → IsUp (world (site_after s es)) c
+stays_up s c es a rounds =
+    let all = runs_all (world s).gear s c (111 * count_by is_bare (world s).gear + 10) es (starts s c a) rounds in
+    all.runs.goes.lone.up
+
 -- an end says what is true
 well_by : (before : List Gear) (m : Machine) (last : Option Order) (told : Option Input) (e : End) (gs : List Gear) (left : ℕ) → last ≡ Some (Done e) → Holds before m last told gs left → EndsWell e m.kept gs × AreTabled before m.kept.enrolled gs
 well_by before m (Some (Done x)) None e gs left is holds = (subst (λ y. EndsWell y m.kept gs) (let same : x ≡ e = cc in same) holds.0, holds.1)

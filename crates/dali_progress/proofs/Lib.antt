@@ -11,3 +11,4 @@ mod Playing
 mod Needed
 mod LatePower
 mod Numberless
+mod Running

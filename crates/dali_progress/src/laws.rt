@@ -5,7 +5,7 @@
 //! succeed; frames that are next are sent, and what the gear answer is heard. So no other controller acts meanwhile, no
 //! frame is destroyed, no answer is lost or damaged, the bus never lapses, and no gear's power comes or goes.
 
-ghost use Rattle.std.specs.Prelude.{◌≡◌, ℕ, ◌+◌, ◌*◌, ◌≤◌, List, [], ◌∷◌, length};
+ghost use Rattle.std.specs.Prelude.{◌≡◌, ◌⊎◌, ℕ, ◌+◌, ◌*◌, ◌<◌, ◌≤◌, List, [], ◌∷◌, length};
 ghost use Rattle.std.specs.List.{count_by};
 ghost use Rattle.dali_script.specs.declared.block.Block.{Block};
 ghost use Rattle.dali_script.specs.declared.orders.End.{End};
@@ -13,7 +13,10 @@ ghost use Rattle.dali_events.specs.declared.event.Event.{Event};
 ghost use Rattle.dali_events.specs.Plan.{Plan, IsPlan};
 ghost use Rattle.dali_events.specs.Wanted.{is_bare};
 ghost use Rattle.dali_world.specs.Site.{SiteState, opened_site, world};
+ghost use Rattle.dali_replay.specs.Installation.{Installation};
+ghost use Rattle.dali_replay.specs.Rounds.{controllers, Ran};
 ghost use Rattle.dali_progress.specs.Rounds.{StartsAlone, Rounds, site_after, frames, GoesOn, HasEnded, IsDone, IsTabled};
+ghost use Rattle.dali_progress.specs.Running.{HasCommissioned, WasRefused};
 
 /// A new site with one controller is one on which it starts alone.
 pub fn one_controller_starts_alone()
@@ -50,4 +53,17 @@ pub fn ends_are_true()
         → HasEnded (site_after s es) c e → IsDone (site_after s es) c e }
     ensures table { (s : SiteState) (c : ℕ) (es : List Event) (e : End) → StartsAlone s c → Rounds s c es
         → HasEnded (site_after s es) c e → IsTabled s (site_after s es) c }
+{}
+
+/// A RUN OF ENOUGH ROUNDS ENDS. On an installation with one controller that starts alone, with n gear that have power and
+/// no short address, a run of more than 333 n + 31 rounds ends with the end of the controller, which is true; or at a
+/// call that was refused.
+///
+/// And a run of any length sends at most 111 n + 10 frames.
+pub fn a_run_ends()
+    ensures ends { (limit : ℕ) (n : Installation) (sent : ℕ) (text : List ℕ) (m : Installation) → StartsAlone n.site 0
+        → controllers n ≡ 1 → 333 * count_by is_bare (world n.site).gear + 31 < limit → Ran limit n sent text m
+        → HasCommissioned n.site m.site 0 ⊎ WasRefused n sent text m }
+    ensures frames { (limit : ℕ) (n : Installation) (sent : ℕ) (text : List ℕ) (m : Installation) → StartsAlone n.site 0
+        → controllers n ≡ 1 → Ran limit n sent text m → sent ≤ 111 * count_by is_bare (world n.site).gear + 10 }
 {}

@@ -1,0 +1,293 @@
+use Rattle.std.proofs.Common.{◌≡◌, ℕ, ◌+◌, ◌*◌, ◌<◌, ◌≤◌, ◌⊎◌, inl, inr, Bool, true, false, zero, suc, List, [], ◌∷◌, ◌++◌, refl, sym, ap, subst, ◌∙◌, arith, length, Option, Some, None, Ok}
+use Rattle.std.specs.Prelude.{if◌then◌else◌, ◌||◌}
+use Rattle.std.specs.List.{count_by}
+use Rattle.dali_special.specs.Command.{command_of}
+use Rattle.dali_gear.specs.declared.row.GearSet.{GearSet}
+use Rattle.dali_gear.specs.declared.row.Reach.TheVariants.{Everyone}
+use Rattle.dali_gear.specs.Row.{answers_of, heard_of}
+use Rattle.dali_arbiter.specs.Arbiter.{collision}
+use Rattle.dali_script.specs.declared.orders.Input.{Input}
+use Rattle.dali_script.specs.declared.orders.Input.TheVariants as input
+use Rattle.dali_script.specs.declared.orders.Order.{Order}
+use Rattle.dali_script.specs.declared.orders.Order.TheVariants.{Put, Commit, Done, Halt}
+use Rattle.dali_script.specs.declared.orders.Due.{Due}
+use Rattle.dali_script.specs.declared.orders.Due.TheVariants as due
+use Rattle.dali_script.specs.Due.{due_after}
+use Rattle.dali_events.specs.declared.event.Event.{Event}
+use Rattle.dali_events.specs.declared.event.Event.TheVariants as event
+use Rattle.dali_events.specs.Plan.{Plan}
+use Rattle.dali_events.specs.World.{Controller, controller_at}
+use Rattle.dali_events.specs.Allowed.{IsDue, IsCommit}
+use Rattle.dali_events.specs.Wanted.{is_bare}
+use Rattle.dali_standing.specs.declared.trouble.Trouble.TheVariants as trouble
+use Rattle.dali_standing.specs.declared.trouble.Report.{Report}
+use Rattle.dali_standing.specs.declared.trouble.Report.TheVariants as report
+use Rattle.dali_standing.specs.Troubles.{nobody_at_all}
+use Rattle.dali_standing.specs.Seats.{due_of}
+use Rattle.dali_world.specs.Site.{SiteState, HasActed, Pumps, world, site_logged, next_request}
+use Rattle.dali_replay.specs.declared.rounds.Round.TheVariants as round
+use Rattle.dali_replay.specs.Installation.{Installation, Goes, HasStepped, IsGiven, IsGivenBy, controller}
+use Rattle.dali_replay.specs.Rounds.{has_turn, has_turn_by, IsTurn, Turns, controllers, is_sent, came_of, IsRound, Ran}
+use Rattle.dali_replay.specs.Rounds as replay
+use Rattle.dali_progress.specs.Rounds.{StartsAlone, Succeeds, Rounds, site_after, frames, GoesOn}
+use Rattle.dali_progress.specs.Running.{HasCommissioned, WasRefused}
+use Rattle.dali_progress.proofs.Bounded.{bounded, few_events, goes_on, stays_up, ends, tabled}
+
+-- A RUN OF ROUNDS on an installation with one controller is a list of events of rounds.
+
+-- ---------------------------------------------------------------- lists of events
+
+rounds_both : (s : SiteState) (c : ℕ) (es fs : List Event) → Rounds s c es → Rounds (site_after s es) c fs → Rounds s c (es ++ fs)
+rounds_both s c [] fs one two = two
+rounds_both s c (e ∷ es) fs one two = (one.0, one.1, rounds_both (site_logged s e) c es fs one.2 two)
+
+after_both : (s : SiteState) (es fs : List Event) → site_after (site_after s es) fs ≡ site_after s (es ++ fs)
+after_both s [] fs = refl
+after_both s (e ∷ es) fs = after_both (site_logged s e) es fs
+
+frames_both : (es fs : List Event) → frames (es ++ fs) ≡ frames es + frames fs
+frames_both [] fs = omega arith
+frames_both (e ∷ es) fs = let both = frames_both es fs in omega (arith, both)
+
+length_both : (es fs : List Event) → length (es ++ fs) ≡ length es + length fs
+length_both [] fs = omega arith
+length_both (e ∷ es) fs = let both = length_both es fs in omega (arith, both)
+
+plan_after : (s : SiteState) (es : List Event) → (site_after s es).plan ≡ s.plan
+plan_after s [] = refl
+plan_after s (e ∷ es) = plan_after (site_logged s e) es
+
+-- at least k events of rounds, f of them frames, after which the site is t
+pub record Comes (s t : SiteState) (k f : ℕ) : Type 0 where
+  pub events : List Event
+  pub rounds : Rounds s 0 events
+  pub is : t ≡ site_after s events
+  pub many : k ≤ length events
+  pub sent : frames events ≡ f
+
+comes_none : (s t : SiteState) → t ≡ s → Comes s t 0 0
+comes_none s t is = record { events = []; rounds = tt; is = is; many = omega arith; sent = refl }
+
+comes_both : (s t u : SiteState) (k l f g : ℕ) → Comes s t k f → Comes t u l g → Comes s u (k + l) (f + g)
+comes_both s t u k l f g one two = record {
+  events = one.events ++ two.events;
+  rounds = rounds_both s 0 one.events two.events one.rounds (subst (λ x. Rounds x 0 two.events) one.is two.rounds);
+  is = two.is ∙ ap (λ x. site_after x two.events) one.is ∙ after_both s one.events two.events;
+  many = enough (length one.events) (length two.events) (length (one.events ++ two.events)) one.many two.many (length_both one.events two.events);
+  sent = frames_both one.events two.events ∙ sum (frames one.events) (frames two.events) one.sent two.sent;
+} where
+  enough : (x y z : ℕ) → k ≤ x → l ≤ y → z ≡ x + y → k + l ≤ z
+  enough x y z first second is = omega (arith, first, second, is)
+
+  sum : (x y : ℕ) → x ≡ f → y ≡ g → x + y ≡ f + g
+  sum x y first second = omega (arith, first, second)
+
+-- with other numbers
+comes_as : (s t : SiteState) (k l f g : ℕ) → l ≤ k → f ≡ g → Comes s t k f → Comes s t l g
+comes_as s t k l f g less same comes = record { events = comes.events; rounds = comes.rounds; is = comes.is; many = fewer (length comes.events) comes.many; sent = comes.sent ∙ same }
+  where
+    fewer : (x : ℕ) → k ≤ x → l ≤ x
+    fewer x many = omega (arith, less, many)
+
+-- ---------------------------------------------------------------- a turn
+
+stored_by : (last : Option Order) → IsCommit last → due_after last ≡ due.Store
+stored_by None is = absurd is
+stored_by (Some (Put p f)) is = absurd is
+stored_by (Some (Commit x)) is = refl
+stored_by (Some (Done e)) is = absurd is
+stored_by (Some (Halt w)) is = absurd is
+
+-- a controller that is up and has ordered a commit waits for its store
+stored : (k : Controller) → k.up ≡ true → IsCommit k.last → due_of k ≡ due.Store
+stored k up is = rw up (stored_by k.last is)
+
+-- what `go` gives never says that a commit failed
+given_well : (d : Due) (n : Installation) (c : ℕ) (i : Input) (m : Installation) → (i ≡ input.CommitFailed → d ≡ due.Store) → IsGivenBy d n c i m → Succeeds i
+given_well d n c input.CommitFailed m waits given =
+    let at : IsGivenBy due.Store n c input.CommitFailed m = subst (λ x. IsGivenBy x n c input.CommitFailed m) (waits refl) given in
+    let is : input.CommitFailed ≡ input.Committed = at.0 in
+    absurd (cc)
+given_well d n c input.Start m waits given = tt
+given_well d n c (input.Heard h) m waits given = tt
+given_well d n c input.Destroyed m waits given = tt
+given_well d n c input.Lapsed m waits given = tt
+given_well d n c input.Committed m waits given = tt
+
+due_commit : (k : Controller) (i : Input) → IsDue k i → i ≡ input.CommitFailed → IsCommit k.last
+due_commit k i due is = subst (λ x. IsDue k x) is due
+
+given_site : (d : Due) (n : Installation) (c : ℕ) (i : Input) (m : Installation) → IsGivenBy d n c i m → m.site ≡ n.site
+given_site due.Store n c i m given = ap (λ (x : Installation). x.site) given.1
+given_site due.Start n c i m given = ap (λ (x : Installation). x.site) given.1
+given_site due.Bus n c i m given = ap (λ (x : Installation). x.site) given.1
+given_site due.Nothing n c i m given = ap (λ (x : Installation). x.site) given.1
+
+went : (n m : Installation) (o : Order) → Goes n 0 (Ok o) m → Comes n.site m.site 1 0
+went n m o goes = by goes.1 goes.2 goes.3 goes.4 where
+  by : (i : Input) (given : Installation) → IsGiven n 0 i given → HasStepped given 0 i o m → Comes n.site m.site 1 0
+  by i given is stepped =
+      let acted : HasActed n.site 0 i stepped.receipt m.site = subst (λ s. HasActed s 0 i stepped.receipt m.site) (given_site (due_of (controller n 0)) n 0 i given is) stepped.acted in
+      let logs = acted.logs.0 in
+      record {
+        events = event.Acted 0 i stepped.receipt.order ∷ [];
+        rounds = (logs.allowed, (refl, given_well (due_of (controller n 0)) n 0 i given (λ failed. stored (controller n 0) logs.allowed.up.up (due_commit (controller n 0) i logs.allowed.due failed)) is, acted.ordered), tt);
+        is = logs.logged;
+        many = omega arith;
+        sent = refl;
+      }
+
+turn : (n m : Installation) (acted : Bool) (text : List ℕ) → IsTurn n 0 (Some acted) text m → Comes n.site m.site (if acted then 1 else 0) 0
+turn n m false text is = comes_none n.site m.site (ap (λ (x : Installation). x.site) is.2)
+turn n m true text is = went n m is.1 is.2
+
+-- the turns of one controller are its turn
+pub record IsOneTurn (n : Installation) (acted : Bool) (m : Installation) : Type 0 where
+  pub last : List ℕ
+  pub turn : IsTurn n 0 (Some acted) last m
+
+one_turn : (n m : Installation) (acted : Bool) (text : List ℕ) → Turns n 1 acted text m → IsOneTurn n acted m
+one_turn n m acted text (before, front, between, none, now, last, is, all, whole) = record {
+  last = last;
+  turn = subst (λ x. IsTurn n 0 (Some x) last m) (sym (all ∙ ap (λ x. x || now) none.0)) (subst (λ x. IsTurn x 0 (Some now) last m) none.2 is);
+}
+
+turns_of : (n m : Installation) (acted : Bool) (text : List ℕ) → controllers n ≡ 1 → Turns n (controllers n) acted text m → IsOneTurn n acted m
+turns_of n m acted text one turns = one_turn n m acted text (subst (λ x. Turns n x acted text m) one turns)
+
+-- ---------------------------------------------------------------- the bus
+
+abbrev logs_count : Report → ℕ
+logs_count report.Idle = 0
+logs_count _ = 1
+
+-- where there is no trouble no frame is destroyed
+undisturbed : (s : SiteState) (set : GearSet) → (trouble.None ≡ trouble.Destroyed set) ⊎ ((trouble.None ≡ trouble.Collision) × (set ≡ nobody_at_all) × (collision (world s).bus.lists ≡ None)) → ⊥
+undisturbed s set (inl is) = cc
+undisturbed s set (inr (is, nobody, none)) = cc
+
+pumped : (s t : SiteState) (x : Report) → Pumps s trouble.None x t → Comes s t (logs_count x) (if is_sent x then 1 else 0)
+pumped s t report.Idle pump = comes_none s t pump.1
+pumped s t (report.Sent c f h) (r, next, there, (can, sender, frame, heard, logs)) = record {
+  events = event.Sent c f h ∷ [];
+  rounds = (logs.allowed, (r, next, sender, frame, heard ∙ ap (λ g. heard_of (answers_of Everyone (command_of g) 0 (world s).gear)) (sym frame)), tt);
+  is = logs.logged;
+  many = omega arith;
+  sent = refl;
+}
+pumped s t (report.Destroyed c f) (r, next, there, (sender, frame, (set, why, logs))) = absurd (undisturbed s set why)
+pumped s t (report.Collided c f d g) (r, next, there, (never, more, frame, other, logs)) = absurd (cc)
+
+-- ---------------------------------------------------------------- rounds
+
+-- a round that is played logs an event, and counts its frame
+logs_some : (acted sent : Bool) (x : Report) → round.Played sent ≡ came_of acted x → (1 ≤ (if acted then 1 else 0) + logs_count x) × (is_sent x ≡ sent)
+logs_some false sent report.Idle is = absurd (cc)
+logs_some true sent report.Idle is = (omega arith, let same : sent ≡ false = cc in sym same)
+logs_some false sent (report.Sent c f h) is = (omega arith, let same : sent ≡ true = cc in sym same)
+logs_some true sent (report.Sent c f h) is = (omega arith, let same : sent ≡ true = cc in sym same)
+logs_some false sent (report.Destroyed c f) is = (omega arith, let same : sent ≡ false = cc in sym same)
+logs_some true sent (report.Destroyed c f) is = (omega arith, let same : sent ≡ false = cc in sym same)
+logs_some false sent (report.Collided c f d g) is = (omega arith, let same : sent ≡ false = cc in sym same)
+logs_some true sent (report.Collided c f d g) is = (omega arith, let same : sent ≡ false = cc in sym same)
+
+played : (n m : Installation) (sent : Bool) (text : List ℕ) → controllers n ≡ 1 → IsRound n (round.Played sent) text m → Comes n.site m.site 1 (if sent then 1 else 0)
+played n m sent text one is =
+    let turns = turns_of n is.between is.acted text one is.turns in
+    let some = logs_some is.acted sent is.report is.ended in
+    comes_as n.site m.site ((if is.acted then 1 else 0) + logs_count is.report) 1 (0 + (if is_sent is.report then 1 else 0)) (if sent then 1 else 0) some.0
+    (zero_more (if is_sent is.report then 1 else 0) (if sent then 1 else 0) (ap (λ (x : Bool). if x then 1 else 0) some.1))
+    (comes_both n.site is.between.site m.site (if is.acted then 1 else 0) (logs_count is.report) 0 (if is_sent is.report then 1 else 0) (turn n is.between is.acted turns.last turns.turn) (pumped is.between.site m.site is.report is.pump.0))
+  where
+    zero_more : (x y : ℕ) → x ≡ y → 0 + x ≡ y
+    zero_more x y same = omega (arith, same)
+
+one_more : (n m : Installation) (k f : ℕ) → controllers n ≡ 1 → Comes n.site m.site k f → controllers m ≡ 1
+one_more n m k f one comes = ap (λ (p : Plan). length p.blocks) (ap (λ (x : SiteState). x.plan) comes.is ∙ plan_after n.site comes.events) ∙ one
+
+all_played : (n m : Installation) (k f : ℕ) (text : List ℕ) → controllers n ≡ 1 → replay.Rounds n k f text m → Comes n.site m.site k f
+all_played n m zero f text one (none, empty, is) = comes_as n.site m.site 0 0 0 f (omega arith) (sym none) (comes_none n.site m.site (ap (λ (x : Installation). x.site) is))
+all_played n m (suc k) f text one (before, front, between, rounds, sent, last, is, more, whole) =
+    let first = all_played n between k before front one rounds in
+    comes_as n.site m.site (k + 1) (suc k) (before + (if sent then 1 else 0)) f (omega arith) (sym more)
+    (comes_both n.site between.site m.site k 1 before (if sent then 1 else 0) first (played between m sent last (one_more n between k before one first) is))
+
+-- ---------------------------------------------------------------- the end of a run
+
+-- NO MORE FRAMES are sent
+pub run_frames : (limit : ℕ) (n : Installation) (sent : ℕ) (text : List ℕ) (m : Installation) → StartsAlone n.site 0 → controllers n ≡ 1 → Ran limit n sent text m → sent ≤ 111 * count_by is_bare (world n.site).gear + 10
+run_frames limit n sent text m alone one ran =
+    let comes = all_played n ran.between ran.rounds sent ran.front one ran.played in
+    few (count_by is_bare (world n.site).gear) (frames comes.events) comes.sent (bounded n.site 0 comes.events alone comes.rounds)
+  where
+    few : (g x : ℕ) → x ≡ sent → x ≤ 111 * g + 10 → sent ≤ 111 * g + 10
+    few g x same less = omega (arith, same, less)
+
+-- what is due for a controller gives it a turn
+told_turn : (d : Due) (k : Controller) (i : Input) → k.told ≡ Some i → has_turn_by d k ≡ true
+told_turn due.Store k i told = refl
+told_turn due.Start k i told = rw told refl
+told_turn due.Bus k i told = rw told refl
+told_turn due.Nothing k i told = rw told refl
+
+due_turn : (k : Controller) (i : Input) → k.up ≡ true → Succeeds i → IsDue k i → has_turn k ≡ true
+due_turn k input.CommitFailed up good due = absurd good
+due_turn k input.Committed up good due = subst (λ d. has_turn_by d k ≡ true) (sym (stored k up due)) refl
+due_turn k input.Start up good due = told_turn (due_of k) k input.Start due
+due_turn k (input.Heard h) up good due = told_turn (due_of k) k (input.Heard h) due
+due_turn k input.Destroyed up good due = told_turn (due_of k) k input.Destroyed due
+due_turn k input.Lapsed up good due = told_turn (due_of k) k input.Lapsed due
+
+-- a round after which a run is over changes nothing: nobody had a turn, and no request was next
+pub record IsOver (s t : SiteState) : Type 0 where
+  pub same : t ≡ s
+  pub turn : has_turn (controller_at (world s) 0) ≡ false
+  pub next : next_request s ≡ None
+
+over_by : (n between m : Installation) (acted : Bool) (x : Report) (text : List ℕ) → round.Over ≡ came_of acted x → IsTurn n 0 (Some acted) text between → Pumps between.site trouble.None x m.site → IsOver n.site m.site
+over_by n between m false report.Idle text is turn pump =
+    let same : between.site ≡ n.site = ap (λ (y : Installation). y.site) turn.2 in
+    record { same = pump.1 ∙ same; turn = turn.0; next = subst (λ s. next_request s ≡ None) same pump.0 }
+over_by n between m true report.Idle text is turn pump = absurd (cc)
+over_by n between m false (report.Sent c f h) text is turn pump = absurd (cc)
+over_by n between m true (report.Sent c f h) text is turn pump = absurd (cc)
+over_by n between m false (report.Destroyed c f) text is turn pump = absurd (cc)
+over_by n between m true (report.Destroyed c f) text is turn pump = absurd (cc)
+over_by n between m false (report.Collided c f d g) text is turn pump = absurd (cc)
+over_by n between m true (report.Collided c f d g) text is turn pump = absurd (cc)
+
+over : (n m : Installation) (text : List ℕ) → controllers n ≡ 1 → IsRound n round.Over text m → IsOver n.site m.site
+over n m text one is =
+    let turns = turns_of n is.between is.acted text one is.turns in
+    over_by n is.between m is.acted is.report turns.last is.ended turns.turn is.pump.0
+
+-- and then the controller has ended
+over_ended : (s t : SiteState) (es : List Event) → StartsAlone s 0 → Rounds s 0 es → t ≡ site_after s es → has_turn (controller_at (world t) 0) ≡ false → next_request t ≡ None → HasCommissioned s t 0
+over_ended s t es alone rounds is turn next = subst (λ x. HasCommissioned s x 0) (sym is) (go (goes_on s 0 es alone rounds)) where
+  go : GoesOn (site_after s es) 0 → HasCommissioned s (site_after s es) 0
+  go (inl (e, ended)) = record { outcome = e; ended = ended; done = ends s 0 es e alone rounds ended; tabled = tabled s 0 es e alone rounds ended }
+  go (inr (inl due)) =
+      let none : has_turn (controller_at (world (site_after s es)) 0) ≡ false = subst (λ (x : SiteState). has_turn (controller_at (world x) 0) ≡ false) is turn in
+      let some : has_turn (controller_at (world (site_after s es)) 0) ≡ true = due_turn (controller_at (world (site_after s es)) 0) due.input (stays_up s 0 es alone rounds).up due.succeeds due.due in
+      let both : true ≡ false = sym some ∙ none in
+      absurd (cc)
+  go (inr (inr (r, waits))) =
+      let both : Some r ≡ None = sym waits ∙ subst (λ (x : SiteState). next_request x ≡ None) is next in
+      absurd (cc)
+
+-- A RUN OF ENOUGH ROUNDS ENDS
+pub run_ends : (limit : ℕ) (n : Installation) (sent : ℕ) (text : List ℕ) (m : Installation) → StartsAlone n.site 0 → controllers n ≡ 1 → 333 * count_by is_bare (world n.site).gear + 31 < limit → Ran limit n sent text m
+    → HasCommissioned n.site m.site 0 ⊎ WasRefused n sent text m
+run_ends limit n sent text m alone one enough ran = go ran.ends where
+  comes : Comes n.site ran.between.site ran.rounds sent
+  comes = all_played n ran.between ran.rounds sent ran.front one ran.played
+
+  fewer : (g k x : ℕ) → 333 * g + 31 < limit → k ≤ x → x ≤ 333 * g + 31 → k ≡ limit → ⊥
+  fewer g k x more many few is = omega (arith, more, many, few, is)
+
+  go : replay.Ends limit ran.rounds ran.between ran.last m → HasCommissioned n.site m.site 0 ⊎ WasRefused n sent text m
+  go (inl (is, empty, same)) = absurd (fewer (count_by is_bare (world n.site).gear) ran.rounds (length comes.events) enough comes.many (few_events n.site 0 comes.events alone comes.rounds) is)
+  go (inr (below, inl last)) =
+      let ended = over ran.between m ran.last (one_more n ran.between ran.rounds sent one comes) last in
+      inl (subst (λ t. HasCommissioned n.site t 0) (sym ended.same) (over_ended n.site ran.between.site comes.events alone comes.rounds comes.is ended.turn ended.next))
+  go (inr (below, inr refused)) = inr (record { rounds = ran.rounds; front = ran.front; between = ran.between; last = ran.last; played = ran.played; refused = refused; whole = ran.whole })
