@@ -12,3 +12,5 @@ mod Needed
 mod LatePower
 mod Numberless
 mod Running
+mod Another
+mod AnotherTerminates

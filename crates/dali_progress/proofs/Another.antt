@@ -1,0 +1,131 @@
+use Rattle.std.proofs.Common.{◌≡◌, ℕ, ◌⊎◌, inl, inr, List, [], ◌∷◌, refl, lit<, lit≤, Some, None}
+use Rattle.dali_frame.specs.declared.frames.Answer.TheVariants.{Silence}
+use Rattle.dali_special.specs.Command.{command_of, frame}
+use Rattle.dali_special.specs.declared.command.Command.TheVariants.{Terminate}
+use Rattle.dali_arbiter.specs.declared.request.Request.{Request}
+use Rattle.dali_arbiter.specs.Arbiter.{idle, request_of}
+use Rattle.dali_script.specs.declared.block.Block.{Block}
+use Rattle.dali_script.specs.declared.stage.Stage.TheVariants.{Free}
+use Rattle.dali_script.specs.Records.{without_records}
+use Rattle.dali_script.specs.Scripts.{Open}
+use Rattle.dali_script.specs.Stages.{stage_of}
+use Rattle.dali_script.specs.declared.orders.Input.{Input}
+use Rattle.dali_script.specs.declared.orders.Input.TheVariants as input
+use Rattle.dali_script.specs.declared.orders.Order.TheVariants.{Put}
+use Rattle.dali_script.specs.declared.orders.End.{End}
+use Rattle.dali_controller.specs.Machine.{at_first}
+use Rattle.dali_controller.specs.Orders.{IsGiven}
+use Rattle.dali_events.specs.declared.event.Event.{Event}
+use Rattle.dali_events.specs.declared.event.Event.TheVariants as event
+use Rattle.dali_events.specs.Plan.{Plan}
+use Rattle.dali_events.specs.World.{controller_at}
+use Rattle.dali_events.specs.Allowed.{Allowed, IsUp, IsDue}
+use Rattle.dali_events.specs.Runs.{IsRun}
+use Rattle.dali_events.proofs.Plans.{plan_is}
+use Rattle.dali_world.specs.Site.{SiteState, world, machine_at, next_request, site_logged}
+use Rattle.dali_progress.specs.Rounds.{IsOfRound, site_after, GoesOn, HasEnded}
+use Rattle.dali_progress.proofs.Giving.{first_given}
+use Rattle.dali_progress.proofs.Session.{block, given_first}
+
+-- ALONE MATTERS. One gear and two controllers, at their start. Each event is of a round of one of the
+-- two. The second one sends the first frame of its opening, and owns the bus from then on: the first
+-- one waits for its own first frame, which isn't next, and nothing is due for it, for as long as the
+-- second one does not go on.
+
+-- the start of one controller beside others: all that is said of one alone, but that the others are down
+pub record StartsBeside (s : SiteState) (c : ℕ) : Type 0 where
+  pub run : IsRun s.plan s.queue s.log
+  pub up : IsUp (world s) c
+  pub told : (controller_at (world s) c).told ≡ Some input.Start
+  pub last : (controller_at (world s) c).last ≡ None
+  pub block : Block
+  pub records : (controller_at (world s) c).records ≡ without_records block
+  pub machine : machine_at s c ≡ Some (at_first c (without_records block))
+  pub bus : (world s).bus ≡ idle s.queue
+  pub trace : (world s).trace ≡ []
+
+-- events, each of a round of one of two controllers
+abbrev pub RoundsOfBoth : SiteState → ℕ → ℕ → List Event → Type 0
+RoundsOfBoth s c d [] = Unit {0}
+RoundsOfBoth s c d (e ∷ es) = Allowed (world s) e × (IsOfRound s c e ⊎ IsOfRound s d e) × RoundsOfBoth (site_logged s e) c d es
+
+pub record BreaksGoing (s : SiteState) (c d : ℕ) (es : List Event) : Type 0 where
+  pub starts : StartsBeside s c
+  pub rounds : RoundsOfBoth s c d es
+  pub stops : GoesOn (site_after s es) c → ⊥
+
+abbrev pub second_block : Block
+second_block = record { first = 4; last = 7 }
+
+abbrev pub two_controllers : Plan
+two_controllers = record { gear = 1; blocks = block ∷ second_block ∷ []; draws = 0x123456 ∷ [] }
+
+abbrev pub shared_site : SiteState
+shared_site = record { plan = two_controllers; queue = 8; room = 64; log = [] }
+
+-- both order TERMINATE, the second one first
+abbrev pub taking_the_bus : List Event
+taking_the_bus =
+    event.Acted 1 input.Start (Put 3 (frame 0xA1 0)) ∷
+    event.Acted 0 input.Start (Put 3 (frame 0xA1 0)) ∷
+    event.Sent 1 (frame 0xA1 0) Silence ∷
+    []
+
+pub given_second : IsGiven (at_first 1 (without_records second_block)) input.Start (Put 3 (frame 0xA1 0))
+unfolding command_of stage_of
+given_second = first_given (at_first 1 (without_records second_block)) input.Start Free Terminate (λ e. cc) (record { stage = refl; plain = tt; tries = refl; silent = refl; last = tt }) refl refl (refl, inl refl)
+    (Open, tt, refl) (λ g e. cc)
+
+pub starts : StartsBeside shared_site 0
+starts = record {
+  run = record { plan = plan_is 1 ((0, 3) ∷ (4, 7) ∷ []) (0x123456 ∷ []) refl; allowed = tt };
+  up = record { known = lit< tt; up = refl };
+  told = refl;
+  last = refl;
+  block = block;
+  records = refl;
+  machine = refl;
+  bus = refl;
+  trace = refl;
+}
+
+rounds : RoundsOfBoth shared_site 0 1 taking_the_bus
+unfolding command_of stage_of
+rounds = (
+  record { up = record { known = lit< tt; up = refl }; due = refl; order = inl (refl, (block, [], (Open, tt, refl))) },
+  inr (refl, tt, given_second),
+  (
+    record { up = record { known = lit< tt; up = refl }; due = refl; order = inl (refl, (block, [], (Open, tt, refl))) },
+    inl (refl, tt, given_first),
+    (
+      record { up = record { known = lit< tt; up = refl }; may = inr (refl, (block, [], (Open, tt, refl))); draws = lit≤ tt; heard = tt },
+      inr (request_of 1 3 (frame 0xA1 0), refl, refl, refl, refl),
+      tt,
+    ),
+  ),
+)
+
+unended : (e : End) → HasEnded (site_after shared_site taking_the_bus) 0 e → ⊥
+unfolding command_of stage_of
+unended e ended = cc
+
+not_due : (i : Input) → IsDue (controller_at (world (site_after shared_site taking_the_bus)) 0) i → ⊥
+unfolding command_of stage_of
+not_due input.Start due = cc
+not_due (input.Heard h) due = cc
+not_due input.Destroyed due = cc
+not_due input.Lapsed due = cc
+not_due input.Committed due = due
+not_due input.CommitFailed due = due
+
+none_next : (r : Request) → next_request (site_after shared_site taking_the_bus) ≡ Some r → ⊥
+unfolding command_of stage_of
+none_next r is = cc
+
+stops : GoesOn (site_after shared_site taking_the_bus) 0 → ⊥
+stops (inl ended) = unended ended.0 ended.1
+stops (inr (inl due)) = not_due due.0 due.2
+stops (inr (inr next)) = none_next next.0 next.1
+
+pub another_takes_the_bus : BreaksGoing shared_site 0 1 taking_the_bus
+another_takes_the_bus = record { starts = starts; rounds = rounds; stops = stops }
