@@ -1,9 +1,9 @@
-use Rattle.std.proofs.Common.{◌≡◌, ℕ, ◌⊎◌, inl, inr, List, [], ◌∷◌, refl, lit<, lit≤, Some, None}
+use Rattle.std.proofs.Common.{◌≡◌, ℕ, ◌⊎◌, inl, inr, List, [], ◌∷◌, refl, lit<, lit≤, Some}
 use Rattle.dali_frame.specs.declared.frames.Answer.TheVariants.{Silence}
 use Rattle.dali_special.specs.Command.{command_of, frame}
 use Rattle.dali_special.specs.declared.command.Command.TheVariants.{Terminate}
 use Rattle.dali_arbiter.specs.declared.request.Request.{Request}
-use Rattle.dali_arbiter.specs.Arbiter.{idle, request_of}
+use Rattle.dali_arbiter.specs.Arbiter.{request_of}
 use Rattle.dali_script.specs.declared.block.Block.{Block}
 use Rattle.dali_script.specs.declared.stage.Stage.TheVariants.{Free}
 use Rattle.dali_script.specs.Records.{without_records}
@@ -19,11 +19,10 @@ use Rattle.dali_events.specs.declared.event.Event.{Event}
 use Rattle.dali_events.specs.declared.event.Event.TheVariants as event
 use Rattle.dali_events.specs.Plan.{Plan}
 use Rattle.dali_events.specs.World.{controller_at}
-use Rattle.dali_events.specs.Allowed.{Allowed, IsUp, IsDue}
-use Rattle.dali_events.specs.Runs.{IsRun}
+use Rattle.dali_events.specs.Allowed.{Allowed, IsDue}
 use Rattle.dali_events.proofs.Plans.{plan_is}
-use Rattle.dali_world.specs.Site.{SiteState, world, machine_at, next_request, site_logged}
-use Rattle.dali_progress.specs.Rounds.{IsOfRound, site_after, GoesOn, HasEnded}
+use Rattle.dali_world.specs.Site.{SiteState, world, next_request, site_logged}
+use Rattle.dali_progress.specs.Rounds.{StartsAlone, IsOfRound, site_after, GoesOn, HasEnded}
 use Rattle.dali_progress.proofs.Giving.{first_given}
 use Rattle.dali_progress.proofs.Session.{block, given_first}
 
@@ -32,25 +31,13 @@ use Rattle.dali_progress.proofs.Session.{block, given_first}
 -- one waits for its own first frame, which isn't next, and nothing is due for it, for as long as the
 -- second one does not go on.
 
--- the start of one controller beside others: all that is said of one alone, but that the others are down
-pub record StartsBeside (s : SiteState) (c : ℕ) : Type 0 where
-  pub run : IsRun s.plan s.queue s.log
-  pub up : IsUp (world s) c
-  pub told : (controller_at (world s) c).told ≡ Some input.Start
-  pub last : (controller_at (world s) c).last ≡ None
-  pub block : Block
-  pub records : (controller_at (world s) c).records ≡ without_records block
-  pub machine : machine_at s c ≡ Some (at_first c (without_records block))
-  pub bus : (world s).bus ≡ idle s.queue
-  pub trace : (world s).trace ≡ []
-
 -- events, each of a round of one of two controllers
 abbrev pub RoundsOfBoth : SiteState → ℕ → ℕ → List Event → Type 0
 RoundsOfBoth s c d [] = Unit {0}
 RoundsOfBoth s c d (e ∷ es) = Allowed (world s) e × (IsOfRound s c e ⊎ IsOfRound s d e) × RoundsOfBoth (site_logged s e) c d es
 
 pub record BreaksGoing (s : SiteState) (c d : ℕ) (es : List Event) : Type 0 where
-  pub starts : StartsBeside s c
+  pub starts : StartsAlone s c
   pub rounds : RoundsOfBoth s c d es
   pub stops : GoesOn (site_after s es) c → ⊥
 
@@ -76,7 +63,7 @@ unfolding command_of stage_of
 given_second = first_given (at_first 1 (without_records second_block)) input.Start Free Terminate (λ e. cc) (record { stage = refl; plain = tt; tries = refl; silent = refl; last = tt }) refl refl (refl, inl refl)
     (Open, tt, refl) (λ g e. cc)
 
-pub starts : StartsBeside shared_site 0
+pub starts : StartsAlone shared_site 0
 starts = record {
   run = record { plan = plan_is 1 ((0, 3) ∷ (4, 7) ∷ []) (0x123456 ∷ []) refl; allowed = tt };
   up = record { known = lit< tt; up = refl };
@@ -124,7 +111,7 @@ none_next r is = cc
 
 stops : GoesOn (site_after shared_site taking_the_bus) 0 → ⊥
 stops (inl ended) = unended ended.0 ended.1
-stops (inr (inl due)) = not_due due.0 due.2
+stops (inr (inl due)) = not_due due.input due.due
 stops (inr (inr next)) = none_next next.0 next.1
 
 pub another_takes_the_bus : BreaksGoing shared_site 0 1 taking_the_bus

@@ -13,10 +13,10 @@ use Rattle.dali_events.specs.World.{start}
 use Rattle.dali_events.specs.Allowed.{Allowed}
 use Rattle.dali_standing.specs.Standing.{machines_at}
 use Rattle.dali_world.specs.Site.{SiteState, world, machines, site_logged}
-use Rattle.dali_progress.specs.Rounds.{IsOfRound, Rounds, site_after, HasEnded, IsDone}
+use Rattle.dali_progress.specs.Rounds.{StartsAlone, IsOfRound, Rounds, site_after, HasEnded, IsDone}
 use Rattle.dali_progress.proofs.Session.{block, highest, silent, given_first, given_initialise, given_initialise_again, given_randomise, given_randomise_again, given_high, given_middle, given_low, given_compare, given_close, given_done}
 use Rattle.dali_progress.proofs.Playing.{Plays, rounds_by}
-use Rattle.dali_progress.proofs.Another.{StartsBeside, second_block, two_controllers, shared_site, starts, given_second}
+use Rattle.dali_progress.proofs.Another.{second_block, two_controllers, shared_site, starts, given_second}
 
 -- ALONE MATTERS for the end. One gear and two controllers. All events are of rounds of the first one, but
 -- those of the second one, between the opening and the search of the first: the second one sends the
@@ -32,7 +32,7 @@ abbrev pub after_three : SiteState → List Event → List Event → List Event 
 after_three s front others back = site_after (site_after (site_after s front) others) back
 
 pub record BreaksEndBeside (s : SiteState) (c d : ℕ) (front others back : List Event) : Type 0 where
-  pub starts : StartsBeside s c
+  pub starts : StartsAlone s c
   pub apart : c ≡ d → ⊥
   pub before : Rounds s c front
   pub between : AreOfOther (site_after s front) d others
