@@ -226,10 +226,10 @@ begins_alone p queue room b plan one = record {
 -- ---------------------------------------------------------------- it ends, or goes on
 
 -- nothing waits
-nothing_waits : (q : ℕ) (owner : Option ℕ) → total (still q owner) ≡ 0
+pub nothing_waits : (q : ℕ) (owner : Option ℕ) → total (still q owner) ≡ 0
 nothing_waits q owner = refl
 
-heard_free : (w : World) (q c : ℕ) (m : Machine) (f : Forward) (h : Answer) → Heard w q c m f h → total w.bus ≡ 0
+pub heard_free : (w : World) (q c : ℕ) (m : Machine) (f : Forward) (h : Answer) → Heard w q c m f h → total w.bus ≡ 0
 heard_free w q c m f h (inl own) = ap total own.0 ∙ nothing_waits q (Some c)
 heard_free w q c m f h (inr free) = ap total free.0 ∙ nothing_waits q None
 
@@ -264,11 +264,9 @@ goes_on s c es a rounds = go (due_by (world s).gear (world (site_after s es)) _ 
       go (inr (inl due)) = inr (inl (record { input = due.0; succeeds = due.1; due = due.2; free = due.3 }))
       go (inr (inr next)) = inr (inr next)
 
--- and it stays up
-pub stays_up : (s : SiteState) (c : ℕ) (es : List Event) → StartsAlone s c → Rounds s c es → IsUp (world (site_after s es)) c
-stays_up s c es a rounds =
-    let all = runs_all (world s).gear s c (111 * count_by is_bare (world s).gear + 10) es (starts s c a) rounds in
-    all.runs.goes.lone.up
+-- all that is so after them
+pub runs_after : (s : SiteState) (c : ℕ) (es : List Event) → StartsAlone s c → Rounds s c es → RunsAll (world s).gear s c (111 * count_by is_bare (world s).gear + 10) es
+runs_after s c es a rounds = runs_all (world s).gear s c (111 * count_by is_bare (world s).gear + 10) es (starts s c a) rounds
 
 -- an end says what is true
 well_by : (before : List Gear) (m : Machine) (last : Option Order) (told : Option Input) (e : End) (gs : List Gear) (left : ℕ) → last ≡ Some (Done e) → Holds before m last told gs left → EndsWell e m.kept gs × AreTabled before m.kept.enrolled gs

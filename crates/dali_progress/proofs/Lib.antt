@@ -14,3 +14,4 @@ mod Numberless
 mod Running
 mod Another
 mod AnotherTerminates
+mod Refused

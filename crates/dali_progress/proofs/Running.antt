@@ -31,7 +31,7 @@ use Rattle.dali_replay.specs.Rounds.{has_turn, has_turn_by, IsTurn, Turns, contr
 use Rattle.dali_replay.specs.Rounds as replay
 use Rattle.dali_progress.specs.Rounds.{StartsAlone, Succeeds, Rounds, site_after, frames, GoesOn}
 use Rattle.dali_progress.specs.Running.{HasCommissioned, WasRefused}
-use Rattle.dali_progress.proofs.Bounded.{bounded, few_events, goes_on, stays_up, ends, tabled}
+use Rattle.dali_progress.proofs.Bounded.{bounded, few_events, goes_on, runs_after, ends, tabled}
 
 -- A RUN OF ROUNDS on an installation with one controller is a list of events of rounds.
 
@@ -68,7 +68,7 @@ pub record Comes (s t : SiteState) (k f : ℕ) : Type 0 where
 comes_none : (s t : SiteState) → t ≡ s → Comes s t 0 0
 comes_none s t is = record { events = []; rounds = tt; is = is; many = omega arith; sent = refl }
 
-comes_both : (s t u : SiteState) (k l f g : ℕ) → Comes s t k f → Comes t u l g → Comes s u (k + l) (f + g)
+pub comes_both : (s t u : SiteState) (k l f g : ℕ) → Comes s t k f → Comes t u l g → Comes s u (k + l) (f + g)
 comes_both s t u k l f g one two = record {
   events = one.events ++ two.events;
   rounds = rounds_both s 0 one.events two.events one.rounds (subst (λ x. Rounds x 0 two.events) one.is two.rounds);
@@ -99,7 +99,7 @@ stored_by (Some (Done e)) is = absurd is
 stored_by (Some (Halt w)) is = absurd is
 
 -- a controller that is up and has ordered a commit waits for its store
-stored : (k : Controller) → k.up ≡ true → IsCommit k.last → due_of k ≡ due.Store
+pub stored : (k : Controller) → k.up ≡ true → IsCommit k.last → due_of k ≡ due.Store
 stored k up is = rw up (stored_by k.last is)
 
 -- what `go` gives never says that a commit failed
@@ -137,7 +137,7 @@ went n m o goes = by goes.1 goes.2 goes.3 goes.4 where
         sent = refl;
       }
 
-turn : (n m : Installation) (acted : Bool) (text : List ℕ) → IsTurn n 0 (Some acted) text m → Comes n.site m.site (if acted then 1 else 0) 0
+pub turn : (n m : Installation) (acted : Bool) (text : List ℕ) → IsTurn n 0 (Some acted) text m → Comes n.site m.site (if acted then 1 else 0) 0
 turn n m false text is = comes_none n.site m.site (ap (λ (x : Installation). x.site) is.2)
 turn n m true text is = went n m is.1 is.2
 
@@ -152,7 +152,7 @@ one_turn n m acted text (before, front, between, none, now, last, is, all, whole
   turn = subst (λ x. IsTurn n 0 (Some x) last m) (sym (all ∙ ap (λ x. x || now) none.0)) (subst (λ x. IsTurn x 0 (Some now) last m) none.2 is);
 }
 
-turns_of : (n m : Installation) (acted : Bool) (text : List ℕ) → controllers n ≡ 1 → Turns n (controllers n) acted text m → IsOneTurn n acted m
+pub turns_of : (n m : Installation) (acted : Bool) (text : List ℕ) → controllers n ≡ 1 → Turns n (controllers n) acted text m → IsOneTurn n acted m
 turns_of n m acted text one turns = one_turn n m acted text (subst (λ x. Turns n x acted text m) one turns)
 
 -- ---------------------------------------------------------------- the bus
@@ -202,10 +202,10 @@ played n m sent text one is =
     zero_more : (x y : ℕ) → x ≡ y → 0 + x ≡ y
     zero_more x y same = omega (arith, same)
 
-one_more : (n m : Installation) (k f : ℕ) → controllers n ≡ 1 → Comes n.site m.site k f → controllers m ≡ 1
+pub one_more : (n m : Installation) (k f : ℕ) → controllers n ≡ 1 → Comes n.site m.site k f → controllers m ≡ 1
 one_more n m k f one comes = ap (λ (p : Plan). length p.blocks) (ap (λ (x : SiteState). x.plan) comes.is ∙ plan_after n.site comes.events) ∙ one
 
-all_played : (n m : Installation) (k f : ℕ) (text : List ℕ) → controllers n ≡ 1 → replay.Rounds n k f text m → Comes n.site m.site k f
+pub all_played : (n m : Installation) (k f : ℕ) (text : List ℕ) → controllers n ≡ 1 → replay.Rounds n k f text m → Comes n.site m.site k f
 all_played n m zero f text one (none, empty, is) = comes_as n.site m.site 0 0 0 f (omega arith) (sym none) (comes_none n.site m.site (ap (λ (x : Installation). x.site) is))
 all_played n m (suc k) f text one (before, front, between, rounds, sent, last, is, more, whole) =
     let first = all_played n between k before front one rounds in
@@ -268,7 +268,7 @@ over_ended s t es alone rounds is turn next = subst (λ x. HasCommissioned s x 0
   go (inl (e, ended)) = record { outcome = e; ended = ended; done = ends s 0 es e alone rounds ended; tabled = tabled s 0 es e alone rounds ended }
   go (inr (inl due)) =
       let none : has_turn (controller_at (world (site_after s es)) 0) ≡ false = subst (λ (x : SiteState). has_turn (controller_at (world x) 0) ≡ false) is turn in
-      let some : has_turn (controller_at (world (site_after s es)) 0) ≡ true = due_turn (controller_at (world (site_after s es)) 0) due.input (stays_up s 0 es alone rounds).up due.succeeds due.due in
+      let some : has_turn (controller_at (world (site_after s es)) 0) ≡ true = due_turn (controller_at (world (site_after s es)) 0) due.input (runs_after s 0 es alone rounds).runs.goes.lone.up.up due.succeeds due.due in
       let both : true ≡ false = sym some ∙ none in
       absurd (cc)
   go (inr (inr (r, waits))) =

@@ -12,8 +12,10 @@ ghost use Rattle.dali_script.specs.declared.orders.End.{End};
 ghost use Rattle.dali_events.specs.declared.event.Event.{Event};
 ghost use Rattle.dali_events.specs.Plan.{Plan, IsPlan};
 ghost use Rattle.dali_events.specs.Wanted.{is_bare};
-ghost use Rattle.dali_world.specs.Site.{SiteState, opened_site, world};
-ghost use Rattle.dali_replay.specs.Installation.{Installation};
+ghost use Rattle.dali_standing.specs.declared.refusal.Refusal.TheVariants as refusal;
+ghost use Rattle.dali_standing.specs.declared.trouble.Trouble.TheVariants as trouble;
+ghost use Rattle.dali_world.specs.Site.{SiteState, opened_site, world, IsPumpRefused};
+ghost use Rattle.dali_replay.specs.Installation.{Installation, installation_of};
 ghost use Rattle.dali_replay.specs.Rounds.{controllers, Ran};
 ghost use Rattle.dali_progress.specs.Rounds.{StartsAlone, Rounds, site_after, frames, GoesOn, HasEnded, IsDone, IsTabled};
 ghost use Rattle.dali_progress.specs.Running.{HasCommissioned, WasRefused};
@@ -66,4 +68,16 @@ pub fn a_run_ends()
         → HasCommissioned n.site m.site 0 ⊎ WasRefused n sent text m }
     ensures frames { (limit : ℕ) (n : Installation) (sent : ℕ) (text : List ℕ) (m : Installation) → StartsAlone n.site 0
         → controllers n ≡ 1 → Ran limit n sent text m → sent ≤ 111 * count_by is_bare (world n.site).gear + 10 }
+{}
+
+/// And where a request may wait and the log has room for so many events more, then the one call that may be refused is
+/// that of the bus, where the gear would draw more numbers than are left.
+pub fn a_run_with_room_ends()
+    ensures room { (limit : ℕ) (n : Installation) (sent : ℕ) (text : List ℕ) (m : Installation) → StartsAlone n.site 0
+        → controllers n ≡ 1 → 333 * count_by is_bare (world n.site).gear + 31 < limit → 0 < n.site.queue
+        → length n.site.log + 333 * count_by is_bare (world n.site).gear + 31 < n.site.room → Ran limit n sent text m
+        → HasCommissioned n.site m.site 0 ⊎ IsPumpRefused m.site trouble.None refusal.DrawsSpent }
+    ensures fresh { (limit : ℕ) (p : Plan) (b : Block) (sent : ℕ) (text : List ℕ) (m : Installation) → IsPlan p
+        → p.blocks ≡ b ∷ [] → p.gear ≤ 128 → 333 * p.gear + 31 < limit → Ran limit (installation_of p) sent text m
+        → HasCommissioned (installation_of p).site m.site 0 ⊎ IsPumpRefused m.site trouble.None refusal.DrawsSpent }
 {}
