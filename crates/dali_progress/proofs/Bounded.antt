@@ -51,13 +51,13 @@ pub record Runs (before : List Gear) (s : SiteState) (c left : ℕ) : Type 0 whe
   pub goes : Goes before (world s) s.queue c machine left
 
 -- one event more
-world_logged : (s : SiteState) (e : Event) → world (site_logged s e) ≡ happens (world s) e
+pub world_logged : (s : SiteState) (e : Event) → world (site_logged s e) ≡ happens (world s) e
 world_logged s e = after_more (start s.plan s.queue) s.log e
 
 run_logged : (s : SiteState) (e : Event) → IsRun s.plan s.queue s.log → Allowed (world s) e → IsRun s.plan s.queue (site_logged s e).log
 run_logged s e run here = run_more s.plan s.queue s.log e run here
 
-machines_logged : (s : SiteState) (e : Event) → machines (site_logged s e) ≡ machines_after (world s) (machines s) e
+pub machines_logged : (s : SiteState) (e : Event) → machines (site_logged s e) ≡ machines_after (world s) (machines s) e
 machines_logged s e = machines_more (start s.plan s.queue) (machines_at 0 s.plan.blocks) s.log e
 
 some_within : (ms : List (Option Machine)) (c : ℕ) (m : Machine) → get_or ms c None ≡ Some m → c < length ms
@@ -65,7 +65,7 @@ some_within [] c m is = absurd (cc)
 some_within (x ∷ ms) zero m is = omega arith
 some_within (x ∷ ms) (suc c) m is = let inside : c < length ms = some_within ms c m is in omega (arith, inside)
 
-acted_machine : (s : SiteState) (c : ℕ) (i : Input) (o : Order) (m : Machine) → machine_at s c ≡ Some m → machine_at (site_logged s (event.Acted c i o)) c ≡ Some (machine_after m i o)
+pub acted_machine : (s : SiteState) (c : ℕ) (i : Input) (o : Order) (m : Machine) → machine_at s c ≡ Some m → machine_at (site_logged s (event.Acted c i o)) c ≡ Some (machine_after m i o)
 acted_machine s c i o m there =
     ap (λ ms. machine_in ms c) (machines_logged s (event.Acted c i o))
     ∙ get_or-set_same (machines s) c (option_map (λ n. machine_after n i o) (machine_in (machines s) c)) None (some_within (machines s) c m there)
@@ -168,7 +168,7 @@ runs_all before s c left (e ∷ es) u rounds =
     fewer last rest left x y z n one two = omega (arith, one, two)
 
 -- THE START
-starts : (s : SiteState) (c : ℕ) → StartsAlone s c → Runs (world s).gear s c (111 * count_by is_bare (world s).gear + 10)
+pub starts : (s : SiteState) (c : ℕ) → StartsAlone s c → Runs (world s).gear s c (111 * count_by is_bare (world s).gear + 10)
 starts s c a = record {
   run = a.run;
   machine = at_first c (without_records a.block);

@@ -79,22 +79,22 @@ opening_sent stage.Free k opened x n gs numbers left c h o is taken = subst (λ 
   go : IsSentTo Opening stage.Free k opened x n gs numbers left Terminate h
   go =
       let less = opens_less Terminate gs numbers left 0 tt o.frames (omega arith) in
-      (less.0, less.1, record { stage_is = tt; gear = opening.opening_terminated gs numbers; frames = less.2 })
+      (less.0, less.1, record { stage_is = o.stage_is; gear = opening.opening_terminated gs numbers; frames = less.2 })
 opening_sent stage.Terminated k opened x n gs numbers left c h o is taken = subst (λ d. IsSentTo Opening stage.Terminated k opened x n gs numbers left d h) (some_is (Initialise Unaddressed) c is) go where
   go : IsSentTo Opening stage.Terminated k opened x n gs numbers left (Initialise Unaddressed) h
   go =
       let less = opens_less (Initialise Unaddressed) gs numbers left 1 tt o.frames (omega arith) in
-      (less.0, less.1, record { stage_is = tt; gear = opening.opening_initialised_once gs numbers o.gear; frames = less.2 })
+      (less.0, less.1, record { stage_is = o.stage_is; gear = opening.opening_initialised_once gs numbers o.gear; frames = less.2 })
 opening_sent stage.InitialisedOnce k opened x n gs numbers left c h o is taken = subst (λ d. IsSentTo Opening stage.InitialisedOnce k opened x n gs numbers left d h) (some_is (Initialise Unaddressed) c is) go where
   go : IsSentTo Opening stage.InitialisedOnce k opened x n gs numbers left (Initialise Unaddressed) h
   go =
       let less = opens_less (Initialise Unaddressed) gs numbers left 2 tt o.frames (omega arith) in
-      (less.0, less.1, record { stage_is = tt; gear = opening.opening_initialised gs numbers o.gear; frames = less.2 })
+      (less.0, less.1, record { stage_is = o.stage_is; gear = opening.opening_initialised gs numbers o.gear; frames = less.2 })
 opening_sent stage.Initialised k opened x n gs numbers left c h o is taken = subst (λ d. IsSentTo Opening stage.Initialised k opened x n gs numbers left d h) (some_is Randomise c is) go where
   go : IsSentTo Opening stage.Initialised k opened x n gs numbers left Randomise h
   go =
       let less = opens_less Randomise gs numbers left 3 tt o.frames (omega arith) in
-      (less.0, less.1, record { stage_is = tt; gear = opening.opening_randomised_once gs numbers o.gear; frames = less.2 })
+      (less.0, less.1, record { stage_is = o.stage_is; gear = opening.opening_randomised_once gs numbers o.gear; frames = less.2 })
 opening_sent stage.RandomisedOnce k opened x n gs numbers left c h o is taken =
     subst (λ d. IsTaken d gs numbers h → IsSentTo Opening stage.RandomisedOnce k opened x n gs numbers left d h) (some_is Randomise c is) go taken where
       go : IsTaken Randomise gs numbers h → IsSentTo Opening stage.RandomisedOnce k opened x n gs numbers left Randomise h

@@ -189,7 +189,7 @@ holds_next before m (Commit x) gs left next = next
 holds_next before m (Done e) gs left next = next
 holds_next before m (Halt why) gs left next = next
 
-next_holds : (before : List Gear) (m : Machine) (o : Order) (gs : List Gear) (left : ℕ) → Holds before m (Some o) None gs left → IsNext before m o gs left
+pub next_holds : (before : List Gear) (m : Machine) (o : Order) (gs : List Gear) (left : ℕ) → Holds before m (Some o) None gs left → IsNext before m o gs left
 next_holds before m (Put p f) gs left next = next
 next_holds before m (Commit x) gs left next = next
 next_holds before m (Done e) gs left next = next

@@ -15,3 +15,4 @@ mod Running
 mod Another
 mod AnotherTerminates
 mod Refused
+mod Numbers

@@ -31,6 +31,7 @@ use Rattle.dali_progress.specs.Rounds.{StartsAlone, site_after}
 use Rattle.dali_progress.specs.Running.{HasCommissioned, WasRefused}
 use Rattle.dali_progress.proofs.Lone.{Moment}
 use Rattle.dali_progress.proofs.Bounded.{RunsAll, few_events, nothing_waits, heard_free, runs_after, begins_alone}
+use Rattle.dali_progress.proofs.Numbers.{never_spent}
 use Rattle.dali_progress.proofs.Running.{Comes, comes_both, turn, turns_of, all_played, one_more, run_ends}
 
 -- WHAT MAY BE REFUSED in a run of rounds on an installation with one controller.
@@ -192,36 +193,70 @@ well_after s t k f alone waits fits comes = subst IsWell (sym comes.is) (record 
   less : (x y n g r q : ℕ) → x ≡ y + n → n ≤ 333 * g + 31 → r ≡ q → y + 333 * g + 31 < q → x < r
   less x y n g r q log few same room = omega (arith, log, few, same, room)
 
--- A RUN WITH ROOM ENDS, but where the numbers are spent
-pub run_with_room : (limit : ℕ) (n : Installation) (sent : ℕ) (text : List ℕ) (m : Installation) → StartsAlone n.site 0 → controllers n ≡ 1 → 333 * count_by is_bare (world n.site).gear + 31 < limit → 0 < n.site.queue
-    → length n.site.log + 333 * count_by is_bare (world n.site).gear + 31 < n.site.room → Ran limit n sent text m → HasCommissioned n.site m.site 0 ⊎ IsPumpRefused m.site trouble.None refusal.DrawsSpent
-run_with_room limit n sent text m alone one enough waits fits ran = go (run_ends limit n sent text m alone one enough ran) where
-  at : (u v : Installation) (k f g : ℕ) (last : List ℕ) → Comes n.site u.site k f → controllers u ≡ 1 → IsRoundOf u round.Refused last v → IsPumpRefused v.site trouble.None refusal.DrawsSpent
+-- the site after such rounds, where the numbers are spent
+pub record IsSpentOut (s t : SiteState) : Type 0 where
+  pub rounds : ℕ
+  pub sent : ℕ
+  pub comes : Comes s t rounds sent
+  pub spent : IsPumpRefused t trouble.None refusal.DrawsSpent
+
+pub run_to : (limit : ℕ) (n : Installation) (sent : ℕ) (text : List ℕ) (m : Installation) → StartsAlone n.site 0 → controllers n ≡ 1 → 333 * count_by is_bare (world n.site).gear + 31 < limit → 0 < n.site.queue
+    → length n.site.log + 333 * count_by is_bare (world n.site).gear + 31 < n.site.room → Ran limit n sent text m → HasCommissioned n.site m.site 0 ⊎ IsSpentOut n.site m.site
+run_to limit n sent text m alone one enough waits fits ran = go (run_ends limit n sent text m alone one enough ran) where
+  at : (u v : Installation) (k f g : ℕ) (last : List ℕ) → Comes n.site u.site k f → controllers u ≡ 1 → IsRoundOf u round.Refused last v → IsSpentOut n.site v.site
   at u v k f g last comes only (inl refused) = absurd (turns_never u v last (well_after n.site u.site k f alone waits fits comes) only refused)
   at u v k f g last comes only (inr r) =
       let turns = turns_of u r.between r.acted r.front only r.turns in
       let acted = comes_both n.site u.site r.between.site k (if r.acted then 1 else 0) f 0 comes (turn u r.between r.acted turns.last turns.turn) in
       let well = well_after n.site r.between.site (k + (if r.acted then 1 else 0)) (f + 0) alone waits fits acted in
-      subst (λ (x : Installation). IsPumpRefused x.site trouble.None refusal.DrawsSpent) (sym r.refused.1) (pump_refused r.between.site r.refusal well.fits r.refused.0)
+      subst (λ (x : Installation). IsSpentOut n.site x.site) (sym r.refused.1)
+      (record { rounds = k + (if r.acted then 1 else 0); sent = f + 0; comes = acted; spent = pump_refused r.between.site r.refusal well.fits r.refused.0 })
 
-  go : HasCommissioned n.site m.site 0 ⊎ WasRefused n sent text m → HasCommissioned n.site m.site 0 ⊎ IsPumpRefused m.site trouble.None refusal.DrawsSpent
+  go : HasCommissioned n.site m.site 0 ⊎ WasRefused n sent text m → HasCommissioned n.site m.site 0 ⊎ IsSpentOut n.site m.site
   go (inl ended) = inl ended
   go (inr r) =
       let comes = all_played n r.between r.rounds sent r.front one r.played in
       inr (at r.between m r.rounds sent 0 r.last comes (one_more n r.between r.rounds sent one comes) r.refused)
 
+-- A RUN WITH ROOM ENDS, but where the numbers are spent
+pub run_with_room : (limit : ℕ) (n : Installation) (sent : ℕ) (text : List ℕ) (m : Installation) → StartsAlone n.site 0 → controllers n ≡ 1 → 333 * count_by is_bare (world n.site).gear + 31 < limit → 0 < n.site.queue
+    → length n.site.log + 333 * count_by is_bare (world n.site).gear + 31 < n.site.room → Ran limit n sent text m → HasCommissioned n.site m.site 0 ⊎ IsPumpRefused m.site trouble.None refusal.DrawsSpent
+run_with_room limit n sent text m alone one enough waits fits ran = go (run_to limit n sent text m alone one enough waits fits ran) where
+  go : HasCommissioned n.site m.site 0 ⊎ IsSpentOut n.site m.site → HasCommissioned n.site m.site 0 ⊎ IsPumpRefused m.site trouble.None refusal.DrawsSpent
+  go (inl ended) = inl ended
+  go (inr out) = inr out.spent
+
+-- the gear of a new installation
+bare_few : (p : Plan) → count_by is_bare (world (opened_site p 64 65536)).gear ≤ p.gear
+bare_few p = subst (λ x. count_by is_bare (world (opened_site p 64 65536)).gear ≤ x) (length-replicate p.gear _) (count_by-le-length is_bare (world (opened_site p 64 65536)).gear)
+
+bare_enough : (p : Plan) (limit : ℕ) → 333 * p.gear + 31 < limit → 333 * count_by is_bare (world (opened_site p 64 65536)).gear + 31 < limit
+bare_enough p limit enough = more (count_by is_bare (world (opened_site p 64 65536)).gear) (bare_few p) where
+  more : (g : ℕ) → g ≤ p.gear → 333 * g + 31 < limit
+  more g less = omega (arith, less, enough)
+
+bare_fits : (p : Plan) → p.gear ≤ 128 → 0 + 333 * count_by is_bare (world (opened_site p 64 65536)).gear + 31 < 65536
+bare_fits p few = fits (count_by is_bare (world (opened_site p 64 65536)).gear) (bare_few p) where
+  fits : (g : ℕ) → g ≤ p.gear → 0 + 333 * g + 31 < 65536
+  fits g less = omega (arith, less, few)
+
 -- and so does a run of a new installation
 pub new_runs : (limit : ℕ) (p : Plan) (b : Block) (sent : ℕ) (text : List ℕ) (m : Installation) → IsPlan p → p.blocks ≡ b ∷ [] → p.gear ≤ 128 → 333 * p.gear + 31 < limit → Ran limit (installation_of p) sent text m
     → HasCommissioned (installation_of p).site m.site 0 ⊎ IsPumpRefused m.site trouble.None refusal.DrawsSpent
 new_runs limit p b sent text m plan blocks few enough ran =
-    run_with_room limit (installation_of p) sent text m (begins_alone p 64 65536 b plan blocks) (ap length blocks) (more (count_by is_bare (world (opened_site p 64 65536)).gear) bare) (omega arith)
-    (fits (count_by is_bare (world (opened_site p 64 65536)).gear) bare) ran
-  where
-    bare : count_by is_bare (world (opened_site p 64 65536)).gear ≤ p.gear
-    bare = subst (λ x. count_by is_bare (world (opened_site p 64 65536)).gear ≤ x) (length-replicate p.gear _) (count_by-le-length is_bare (world (opened_site p 64 65536)).gear)
+    run_with_room limit (installation_of p) sent text m (begins_alone p 64 65536 b plan blocks) (ap length blocks) (bare_enough p limit enough) (omega arith) (bare_fits p few) ran
 
-    more : (g : ℕ) → g ≤ p.gear → 333 * g + 31 < limit
-    more g less = omega (arith, less, enough)
+-- A RUN WITH ROOM AND NUMBERS COMMISSIONS
+pub run_commissions : (limit : ℕ) (n : Installation) (sent : ℕ) (text : List ℕ) (m : Installation) → StartsAlone n.site 0 → controllers n ≡ 1 → 333 * count_by is_bare (world n.site).gear + 31 < limit → 0 < n.site.queue
+    → length n.site.log + 333 * count_by is_bare (world n.site).gear + 31 < n.site.room → length (world n.site).gear ≤ length (world n.site).left → Ran limit n sent text m → HasCommissioned n.site m.site 0
+run_commissions limit n sent text m alone one enough waits fits numbers ran = go (run_to limit n sent text m alone one enough waits fits ran) where
+  go : HasCommissioned n.site m.site 0 ⊎ IsSpentOut n.site m.site → HasCommissioned n.site m.site 0
+  go (inl ended) = ended
+  go (inr out) =
+      absurd (never_spent n.site 0 out.comes.events alone numbers out.comes.rounds (subst (λ s. IsPumpRefused s trouble.None refusal.DrawsSpent) out.comes.is out.spent))
 
-    fits : (g : ℕ) → g ≤ p.gear → 0 + 333 * g + 31 < 65536
-    fits g less = omega (arith, less, few)
+pub new_commissions : (limit : ℕ) (p : Plan) (b : Block) (sent : ℕ) (text : List ℕ) (m : Installation) → IsPlan p → p.blocks ≡ b ∷ [] → p.gear ≤ 128 → p.gear ≤ length p.draws → 333 * p.gear + 31 < limit
+    → Ran limit (installation_of p) sent text m → HasCommissioned (installation_of p).site m.site 0
+new_commissions limit p b sent text m plan blocks few numbers enough ran =
+    run_commissions limit (installation_of p) sent text m (begins_alone p 64 65536 b plan blocks) (ap length blocks) (bare_enough p limit enough) (omega arith) (bare_fits p few)
+    (subst (λ x. x ≤ length p.draws) (sym (length-replicate p.gear _)) numbers) ran

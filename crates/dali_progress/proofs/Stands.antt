@@ -1,4 +1,4 @@
-use Rattle.std.proofs.Common.{◌≡◌, ℕ, ◌+◌, ◌-◌, ◌*◌, ◌<◌, ◌≤◌, ◌⊎◌, Bool, true, zero, suc, List, ◌∷◌, length, Some}
+use Rattle.std.proofs.Common.{◌≡◌, ℕ, ◌+◌, ◌-◌, ◌*◌, ◌<◌, ◌≤◌, ◌⊎◌, Bool, true, false, zero, suc, List, ◌∷◌, length, Some}
 use Rattle.std.specs.List.{count_by}
 use Rattle.dali_frame.specs.declared.numbers.SearchAddress.{SearchAddress}
 use Rattle.dali_frame.specs.Random.{value_of, MASK24}
@@ -54,11 +54,11 @@ probe_frames answers (suc more) = 4 + (4 * (24 - answers) + 11 + search_frames m
 -- ---------------------------------------------------------------- an opening
 
 abbrev pub OpeningStage : Stage → Bool → Type 0
-OpeningStage stage.Free opened = Unit {0}
-OpeningStage stage.Terminated opened = Unit {0}
-OpeningStage stage.InitialisedOnce opened = Unit {0}
-OpeningStage stage.Initialised opened = Unit {0}
-OpeningStage stage.RandomisedOnce opened = Unit {0}
+OpeningStage stage.Free opened = opened ≡ false
+OpeningStage stage.Terminated opened = opened ≡ false
+OpeningStage stage.InitialisedOnce opened = opened ≡ false
+OpeningStage stage.Initialised opened = opened ≡ false
+OpeningStage stage.RandomisedOnce opened = opened ≡ false
 OpeningStage stage.Opened opened = opened ≡ true
 OpeningStage _ opened = ⊥
 

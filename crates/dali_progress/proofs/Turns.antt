@@ -455,7 +455,7 @@ started before t o gs left g calm tabled free last none unopened purpose enough 
     let next : next_course t ≡ opening_of t.course = ap (begins_at t) stage ∙ rw (last, unopened) (ap (visit_or_opening t.course) (nothing_unfinished t.kept (64 - t.course.from) t.course.from none)) in
     goes_by before t o (opening_of t.course) gs left calm tabled
     (started_begins t o g calm free last)
-    next tt (record { stage_is = tt; gear = λ k in_row on. tt; frames = omega (arith, enough) })
+    next tt (record { stage_is = unopened; gear = λ k in_row on. tt; frames = omega (arith, enough) })
 
 -- ---------------------------------------------------------------- a record that is kept
 

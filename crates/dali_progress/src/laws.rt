@@ -4,6 +4,9 @@
 //! of a list of events that rounds add to its log (`Rounds`): the controller acts on what is due, and its commits
 //! succeed; frames that are next are sent, and what the gear answer is heard. So no other controller acts meanwhile, no
 //! frame is destroyed, no answer is lost or damaged, the bus never lapses, and no gear's power comes or goes.
+//!
+//! The last three speak of the runs of rounds that a replay makes of an installation with one controller (`Ran`): each is
+//! such a list of events.
 
 ghost use Rattle.std.specs.Prelude.{◌≡◌, ◌⊎◌, ℕ, ◌+◌, ◌*◌, ◌<◌, ◌≤◌, List, [], ◌∷◌, length};
 ghost use Rattle.std.specs.List.{count_by};
@@ -70,8 +73,9 @@ pub fn a_run_ends()
         → controllers n ≡ 1 → Ran limit n sent text m → sent ≤ 111 * count_by is_bare (world n.site).gear + 10 }
 {}
 
-/// And where a request may wait and the log has room for so many events more, then the one call that may be refused is
-/// that of the bus, where the gear would draw more numbers than are left.
+/// WITH ROOM IT ENDS UNLESS THE NUMBERS ARE SPENT. Where a request may wait, and the log has room for so many events more,
+/// the one call that may be refused is that of the bus, where the gear would draw more numbers than are left. A new
+/// installation has that room.
 pub fn a_run_with_room_ends()
     ensures room { (limit : ℕ) (n : Installation) (sent : ℕ) (text : List ℕ) (m : Installation) → StartsAlone n.site 0
         → controllers n ≡ 1 → 333 * count_by is_bare (world n.site).gear + 31 < limit → 0 < n.site.queue
@@ -80,4 +84,18 @@ pub fn a_run_with_room_ends()
     ensures fresh { (limit : ℕ) (p : Plan) (b : Block) (sent : ℕ) (text : List ℕ) (m : Installation) → IsPlan p
         → p.blocks ≡ b ∷ [] → p.gear ≤ 128 → 333 * p.gear + 31 < limit → Ran limit (installation_of p) sent text m
         → HasCommissioned (installation_of p).site m.site 0 ⊎ IsPumpRefused m.site trouble.None refusal.DrawsSpent }
+{}
+
+/// AND WITH NUMBERS IT COMMISSIONS. Where there also is a number to be drawn for each gear, no call is refused, and the
+/// run ends with the end of the controller, which is true. So it does on a new installation of a plan with one controller
+/// and with no fewer numbers than gear.
+pub fn a_run_commissions()
+    ensures alone { (limit : ℕ) (n : Installation) (sent : ℕ) (text : List ℕ) (m : Installation) → StartsAlone n.site 0
+        → controllers n ≡ 1 → 333 * count_by is_bare (world n.site).gear + 31 < limit → 0 < n.site.queue
+        → length n.site.log + 333 * count_by is_bare (world n.site).gear + 31 < n.site.room
+        → length (world n.site).gear ≤ length (world n.site).left → Ran limit n sent text m
+        → HasCommissioned n.site m.site 0 }
+    ensures fresh { (limit : ℕ) (p : Plan) (b : Block) (sent : ℕ) (text : List ℕ) (m : Installation) → IsPlan p
+        → p.blocks ≡ b ∷ [] → p.gear ≤ 128 → p.gear ≤ length p.draws → 333 * p.gear + 31 < limit
+        → Ran limit (installation_of p) sent text m → HasCommissioned (installation_of p).site m.site 0 }
 {}
