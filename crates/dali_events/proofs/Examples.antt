@@ -89,16 +89,16 @@ unfolding command_of
 quiet_pair = refl
 
 -- 4. a PROGRAM SHORT ADDRESS that was destroyed is taken all the same by the gear of the set alone, here gear 0
-destroyed_program : (happens found_site (event.Destroyed 0 program_0 (record { 0 = 1 }))).gifts ≡ (0, 0) ∷ []
+destroyed_program : (happens found_site (event.Destroyed 0 program_0 1)).gifts ≡ (0, 0) ∷ []
 unfolding command_of
 destroyed_program = refl
 
-destroyed_short : (gear_at (happens found_site (event.Destroyed 0 program_0 (record { 0 = 1 }))) 0).short ≡ Some 0
+destroyed_short : (gear_at (happens found_site (event.Destroyed 0 program_0 1)) 0).short ≡ Some 0
 unfolding command_of
 destroyed_short = refl
 
 -- or by none of them
-destroyed_unheard : (happens found_site (event.Destroyed 0 program_0 (record { 0 = 0 }))).gifts ≡ []
+destroyed_unheard : (happens found_site (event.Destroyed 0 program_0 0)).gifts ≡ []
 unfolding command_of
 destroyed_unheard = refl
 

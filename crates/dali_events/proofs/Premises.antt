@@ -216,7 +216,7 @@ giving_both =
     silent 0 0xA5 0xFF ∷
     silent 0 0xA5 0xFF ∷
     silent 0 0xA7 0 ∷
-    event.Destroyed 0 (frame 0xA7 0) (record { 0 = 1 }) ∷
+    event.Destroyed 0 (frame 0xA7 0) 1 ∷
     event.Acted 0 input.Destroyed (Commit (Reserve 0 0x123456)) ∷
     event.Acted 0 input.Committed (Put 3 (frame 0xB1 0x12)) ∷
     silent 0 0xB1 0x12 ∷

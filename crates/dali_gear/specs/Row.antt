@@ -11,7 +11,7 @@ use Rattle.dali_gear.specs.Gear.{Gear, is_active, is_found, would_draw, gear_tak
 -- whether a frame reaches the gear of this number: in a set, gear k is the bit of value 2^k
 abbrev pub reaches : Reach → ℕ → Bool
 reaches Everyone k = true
-reaches (Only set) k = set.0 / 2 ^ k % 2 == 1
+reaches (Only set) k = set / 2 ^ k % 2 == 1
 
 -- whether gear k takes the frame: it has power, and the frame reaches it
 abbrev pub takes : Reach → ℕ → Gear → Bool

@@ -5,9 +5,11 @@
 #![tactic(auto)]
 
 mod gear;
+mod gear_set;
 mod row;
 mod state;
 
 pub use gear::{Effect, Gear};
-pub use row::{GearSet, Heard, Reach, Row};
+pub use gear_set::GearSet;
+pub use row::{Heard, Reach, Row};
 pub use state::InitialisationState;

@@ -6,14 +6,11 @@ ghost use Rattle.dali_gear.specs.Gear.{fresh};
 ghost use Rattle.dali_gear.specs.Row.{reaches, heard_by, one_after};
 
 use crate::gear::{Effect, Gear};
+use crate::gear_set::GearSet;
 use crate::state::InitialisationState;
 use dali_frame::{Answer, Random24, SearchAddress, Short};
 use dali_special::{Command, Part};
 use std::marker::Model;
-
-/// Some of the gear of a row: gear g is the bit of value 2^g. A bit past the last gear has no effect.
-#[derive(Clone, Copy, Debug, PartialEq, Eq)]
-pub struct GearSet(pub u128);
 
 /// Which gear a frame reaches.
 #[derive(Clone, Copy)]
@@ -27,13 +24,13 @@ pub enum Reach {
 impl Reach {
     /// Whether it reaches the gear of this number, 0 to 127.
     #[inline(always)]
-    pub fn includes(self, number: usize) -> bool
+    pub fn includes(&self, number: usize) -> bool
         requires { number < 128 }
-        ensures { result ≡ reaches self number }
+        ensures { result ≡ reaches self.now number }
     {
         match self {
             Reach::Everyone => true,
-            Reach::Only(GearSet(bits)) => (bits >> number) % 2 == 1,
+            Reach::Only(set) => (set.bits() >> number) % 2 == 1,
         }
     }
 }

@@ -65,13 +65,13 @@ fn pumps<B: Bus, R: Abort + Wait>(
     bus: &B,
     driver: &mut B::Driver,
     site: &mut SiteState,
-    trouble: Trouble,
+    trouble: &Trouble,
 ) {
     if !site.idle() {
         same(rt, &bus.ready(rt, driver), &Ready::Next);
     }
-    let was = bus.pump(rt, driver, trouble);
-    same(rt, &was, &site.pump(trouble));
+    let was = bus.pump(rt, driver, *trouble);
+    same(rt, &was, &site.pump(*trouble));
 }
 
 /// Controller 0 acts and the bus has its turn, until the controller orders this. How many frames were sent.
@@ -87,7 +87,7 @@ fn runs_until<B: Bus, R: Abort + Wait>(
         if goes(rt, bus, port, site)? == wanted {
             return Some(frames);
         }
-        pumps(rt, bus, driver, site, Trouble::None);
+        pumps(rt, bus, driver, site, &Trouble::None);
     }
     None
 }
@@ -182,9 +182,9 @@ fn lapses<P0: Ledger, P1: Ledger, P2: Ledger, P3: Ledger, D: Ledger, R: Abort + 
     let owner = line.lapse(rt, driver);
     same(rt, &owner, &site.lapse());
     same(rt, &owner, &Ok(Some(0)));
-    pumps(rt, line, driver, site, Trouble::None);
+    pumps(rt, line, driver, site, &Trouble::None);
     same(rt, &goes(rt, line, port, site), &Some(Put(0xB112)));
-    pumps(rt, line, driver, site, Trouble::None);
+    pumps(rt, line, driver, site, &Trouble::None);
     ends(rt, line, port, driver, site, (6, 5));
 }
 
@@ -200,11 +200,11 @@ fn collides<P0: Ledger, P1: Ledger, P2: Ledger, P3: Ledger, D: Ledger, R: Abort 
     for trouble in [Trouble::Collision, Trouble::AnswerLost] {
         same(rt, &goes(rt, line, first, site), &terminate);
         same(rt, &goes(rt, line, second, site), &terminate);
-        pumps(rt, line, driver, site, trouble);
+        pumps(rt, line, driver, site, &trouble);
     }
     let arc = forward(0xFE80);
     does(rt, line.arc(rt, second, arc), site.arc(1, arc));
-    pumps(rt, line, driver, site, Trouble::None);
+    pumps(rt, line, driver, site, &Trouble::None);
 }
 
 /// What befalls gear and bus, and the end of all waits.

@@ -68,13 +68,13 @@ fn are_drawn(draws: &[Random24]) -> bool
 }
 
 /// The gear take a frame. How many numbers they draw: none, where too few are left, as never in a run that was played.
-fn take(gear: &mut Row, frame: Forward, reach: Reach, left: &[Random24]) -> usize {
+fn take(gear: &mut Row, frame: Forward, reach: &Reach, left: &[Random24]) -> usize {
     let command = Command::read(frame);
-    let needed = gear.draws_needed(&command, reach);
+    let needed = gear.draws_needed(&command, *reach);
     if needed > left.len() || !are_drawn(left) {
         return 0;
     }
-    gear.take(&command, reach, left).drawn
+    gear.take(&command, *reach, left).drawn
 }
 
 /// The numbers that are left where a frame makes gear draw; else none, so that nobody goes over them.
@@ -110,7 +110,7 @@ impl Watch<'_> {
     /// A frame reaches gear.
     fn reached(&mut self, frame: Forward, reach: Reach) {
         let left = left_for(self.draws, self.drawn, frame);
-        let drawn = take(&mut self.gear, frame, reach, left);
+        let drawn = take(&mut self.gear, frame, &reach, left);
         self.drawn = self.drawn.saturating_add(drawn);
     }
 

@@ -61,7 +61,7 @@ arc_of (Some c) None = None
 abbrev pub destroyed_of : List ℕ → List ℕ → Option SiteLine
 destroyed_of word set =
     if bytes_eq word (codes "destroyed")
-    then option_map (λ set. Pump (trouble.Destroyed (record { 0 = set }))) (set_of set)
+    then option_map (λ set. Pump (trouble.Destroyed set)) (set_of set)
     else None
 
 -- the lines of a name and two more words

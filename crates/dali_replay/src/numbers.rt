@@ -88,11 +88,11 @@ fn gear_number(word: &[u8]) -> Option<u32>
 
 /// A set of gear: `-`, or their numbers with commas. A number that stands twice counts once.
 pub fn set_of(word: &[u8]) -> Option<GearSet>
-    ensures { option_map (λ set. set.0) result ≡ set_of word.now }
+    ensures { result ≡ set_of word.now }
 {
     let mut set = 0u128;
     if word == b"-".as_slice() {
-        return Some(GearSet(set));
+        return Some(GearSet::of(set));
     }
     let mut rest = Some(word);
     while let Some(list) = rest {
@@ -100,5 +100,5 @@ pub fn set_of(word: &[u8]) -> Option<GearSet>
         set |= 1 << gear_number(number)?;
         rest = more;
     }
-    Some(GearSet(set))
+    Some(GearSet::of(set))
 }

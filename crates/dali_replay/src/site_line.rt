@@ -144,6 +144,7 @@ fn of_words(words: &[&[u8]]) -> Option<SiteLine>
     ensures { result ≡ site_line_of (map (λ word. word.now) words.now) }
 {
     match words {
+        [] => None,
         [name] => alone(name),
         [name, word] => one_word(name, word),
         [name, first, second] => two_words(name, first, second),

@@ -4,7 +4,7 @@ use Rattle.std.proofs.lemmas.List.{get_or_read_under, length-map}
 use Rattle.dali_frame.specs.declared.frames.Forward.{Forward}
 use Rattle.dali_frame.specs.declared.frames.Answer.{Answer}
 use Rattle.dali_special.specs.Command.{command_of}
-use Rattle.dali_gear.specs.declared.row.GearSet.{GearSet}
+use Rattle.dali_gear.specs.declared.gear_set.GearSet.{GearSet}
 use Rattle.dali_gear.specs.declared.row.Reach.TheVariants.{Everyone, Only}
 use Rattle.dali_gear.specs.Row.{answers_of, draws_needed, heard_of}
 use Rattle.dali_arbiter.specs.declared.request.Request.{Request}

@@ -5,7 +5,7 @@ use Rattle.std.proofs.lemmas.List.{length-map}
 use Rattle.dali_frame.specs.declared.frames.Forward.{Forward}
 use Rattle.dali_frame.specs.declared.frames.Answer.{Answer}
 use Rattle.dali_special.specs.Command.{command_of}
-use Rattle.dali_gear.specs.declared.row.GearSet.{GearSet}
+use Rattle.dali_gear.specs.declared.gear_set.GearSet.{GearSet}
 use Rattle.dali_gear.specs.declared.row.Reach.TheVariants.{Everyone, Only}
 use Rattle.dali_gear.specs.Gear.{gear_expired, gear_quieted}
 use Rattle.dali_gear.specs.Row.{answers_of, draws_needed}

@@ -8,7 +8,7 @@ use Rattle.dali_special.specs.declared.command.Command.{Command}
 use Rattle.dali_special.specs.declared.command.Command.TheVariants.{Arc}
 use Rattle.dali_special.specs.Command.{command_of}
 use Rattle.std.specs.Option.{option_map}
-use Rattle.dali_gear.specs.declared.row.GearSet.{GearSet}
+use Rattle.dali_gear.specs.declared.gear_set.GearSet.{GearSet}
 use Rattle.dali_arbiter.specs.declared.request.Request.{Request}
 use Rattle.dali_arbiter.specs.Arbiter.{Arbiter, owns, total, next, request_of, offer_refusal, is_barred, bus_lapsed, first_emptied, collision, bus_collided, bus_destroyed, bus_silenced, bus_freed, bus_muted}
 use Rattle.dali_script.specs.declared.block.Block.{Block}

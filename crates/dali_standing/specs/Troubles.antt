@@ -1,6 +1,6 @@
 use Rattle.dali_frame.specs.declared.frames.Answer.{Answer}
 use Rattle.dali_frame.specs.declared.frames.Answer.TheVariants.{Silence, Damaged}
-use Rattle.dali_gear.specs.declared.row.GearSet.{GearSet}
+use Rattle.dali_gear.specs.declared.gear_set.GearSet.{GearSet}
 use Rattle.dali_gear.specs.declared.row.Reach.{Reach}
 use Rattle.dali_gear.specs.declared.row.Reach.TheVariants.{Everyone, Only}
 use Rattle.dali_standing.specs.declared.trouble.Trouble.{Trouble}
@@ -15,7 +15,7 @@ heard_under _ plain = plain
 
 -- the set of no gear
 abbrev pub nobody_at_all : GearSet
-nobody_at_all = record { 0 = 0 }
+nobody_at_all = 0
 
 -- the gear that a frame reaches under a trouble
 abbrev pub reach_under : Trouble → Reach

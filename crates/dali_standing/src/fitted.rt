@@ -76,7 +76,7 @@ impl FittedGear {
         ensures answer { result ≡ heard_of (answers_of reach (command_of frame) 0 self.old.gear) }
     {
         let command = Command::read(frame);
-        note_gifts(&mut self.gifts, &self.gear, &command, reach);
+        note_gifts(&mut self.gifts, &self.gear, &command, &reach);
         let heard = self.gear.take(&command, reach, &self.draws[self.used..]);
         self.used += heard.drawn;
         heard.answer
@@ -137,9 +137,9 @@ fn stored(gear: &Gear, command: &Command) -> Option<Short>
 }
 
 /// The short address that gear `number` stores at this command, if it takes it.
-fn gift(gear: &Gear, number: usize, command: &Command, reach: Reach) -> Option<Short>
+fn gift(gear: &Gear, number: usize, command: &Command, reach: &Reach) -> Option<Short>
     requires { number < 128 }
-    ensures { result ≡ gift_of reach command.now number gear.now }
+    ensures { result ≡ gift_of reach.now command.now number gear.now }
 {
     if gear.is_powered() && reach.includes(number) {
         stored(gear, command)
@@ -149,9 +149,9 @@ fn gift(gear: &Gear, number: usize, command: &Command, reach: Reach) -> Option<S
 }
 
 /// Notes which gear will store which short address at this command.
-fn note_gifts(gifts: &mut Vec<(u32, Short)>, gear: &Row, command: &Command, reach: Reach)
-    requires room { length (gifts.old.items ++ stored_of reach command.now 0 gear.now) ≤ vec_capacity gifts.old }
-    ensures gifts { gifts.new.items ≡ gifts.old.items ++ stored_of reach command.now 0 gear.now }
+fn note_gifts(gifts: &mut Vec<(u32, Short)>, gear: &Row, command: &Command, reach: &Reach)
+    requires room { length (gifts.old.items ++ stored_of reach.now command.now 0 gear.now) ≤ vec_capacity gifts.old }
+    ensures gifts { gifts.new.items ≡ gifts.old.items ++ stored_of reach.now command.now 0 gear.now }
     ensures capacity { vec_capacity gifts.new ≡ vec_capacity gifts.old }
 {
     match *command {
@@ -161,9 +161,9 @@ fn note_gifts(gifts: &mut Vec<(u32, Short)>, gear: &Row, command: &Command, reac
 }
 
 /// Notes which gear will store which short address at PROGRAM SHORT ADDRESS, the one command at which gear store one.
-fn note_stored(gifts: &mut Vec<(u32, Short)>, gear: &Row, command: &Command, reach: Reach)
-    requires room { length (gifts.old.items ++ stored_of reach command.now 0 gear.now) ≤ vec_capacity gifts.old }
-    ensures gifts { gifts.new.items ≡ gifts.old.items ++ stored_of reach command.now 0 gear.now }
+fn note_stored(gifts: &mut Vec<(u32, Short)>, gear: &Row, command: &Command, reach: &Reach)
+    requires room { length (gifts.old.items ++ stored_of reach.now command.now 0 gear.now) ≤ vec_capacity gifts.old }
+    ensures gifts { gifts.new.items ≡ gifts.old.items ++ stored_of reach.now command.now 0 gear.now }
     ensures capacity { vec_capacity gifts.new ≡ vec_capacity gifts.old }
 {
     for number in 0..gear.len() {

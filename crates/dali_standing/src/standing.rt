@@ -274,7 +274,7 @@ impl Standing {
                 lose(seat, second.frame);
             }
             None => {
-                self.fitted.take(request.frame, Reach::Only(GearSet(0)));
+                self.fitted.take(request.frame, Reach::Only(GearSet::NONE));
             }
         }
         other

@@ -35,13 +35,13 @@ impl Trouble {
     ghost use Rattle.dali_standing.specs.Troubles.{heard_under, reach_under};
 
     /// Which gear a frame reaches.
-    pub fn reach(self) -> Reach
-        ensures { result ≡ reach_under self }
+    pub fn reach(&self) -> Reach
+        ensures { result ≡ reach_under self.now }
     {
         match self {
             Trouble::None | Trouble::AnswerLost | Trouble::Noise => Reach::Everyone,
-            Trouble::Destroyed(set) => Reach::Only(set),
-            Trouble::Collision => Reach::Only(GearSet(0)),
+            Trouble::Destroyed(set) => Reach::Only(*set),
+            Trouble::Collision => Reach::Only(GearSet::NONE),
         }
     }
 

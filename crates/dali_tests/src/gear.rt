@@ -109,7 +109,7 @@ fn compared<R: Abort>(rt: &R, row: &mut Row) -> Result<Answer, Fail> {
 fn some_gear_of_a_row_take_a_frame(rt: HostRuntime) -> Result<(), Fail> {
     let mut row = Row::new(3);
     hear(&rt, &mut row, b"A5FF", Reach::Everyone, &[])?;
-    hear(&rt, &mut row, b"A5FF", Reach::Only(GearSet(0b101)), &[])?;
+    hear(&rt, &mut row, b"A5FF", Reach::Only(GearSet::of(0b101)), &[])?;
     assert!(rt; row.len() == 3);
     let initialise = Command::Initialise(Target::Unaddressed);
     same(&rt, &row.gear(1).half_pair(), &Some(initialise));

@@ -236,9 +236,9 @@ fn all_logged<R: Abort>(rt: &R, site: &mut SiteState) -> Result<(), Fail> {
     let arc = forward(0xFE80);
     does(rt, site.arc(0, arc), Ok(()));
     logged(rt, site, 7, Event::Offered(0, arc));
-    let none = Trouble::Destroyed(GearSet(0));
+    let none = Trouble::Destroyed(GearSet::NONE);
     pumps(rt, site, none, Ok(Report::Destroyed(0, arc)));
-    logged(rt, site, 8, Event::Destroyed(0, arc, GearSet(0)));
+    logged(rt, site, 8, Event::Destroyed(0, arc, GearSet::NONE));
     Ok(())
 }
 

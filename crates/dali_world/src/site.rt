@@ -443,7 +443,7 @@ impl SiteState {
                 Report::Collided(c, frame, d, rival)
             }
             None => {
-                append(&mut self.log, &Event::Destroyed(c, frame, GearSet(0)));
+                append(&mut self.log, &Event::Destroyed(c, frame, GearSet::NONE));
                 Report::Destroyed(c, frame)
             }
         }
