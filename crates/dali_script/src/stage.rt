@@ -123,14 +123,14 @@ impl Stage {
         }
     }
 
-    /// The stage after one more frame.
-    pub(crate) fn after(self, command: Command, heard: Answer) -> Stage
-        ensures { result ≡ next_stage self command heard }
+    /// One more frame was sent, and this was heard.
+    pub(crate) fn advance(&mut self, command: Command, heard: Answer)
+        ensures { self.new ≡ next_stage self.old command heard }
     {
-        match self.next(command, heard) {
+        *self = match self.next(command, heard) {
             Some(stage) => stage,
             None => Stage::Over,
-        }
+        };
     }
 
     /// Whether a command may come next, for a sender with these records.

@@ -124,7 +124,7 @@ impl Trace {
         ensures { self.new ≡ self.old ++ (record { frame = frame; heard = heard }) ∷ [] }
     {
         self.entries.push(Entry { frame, heard });
-        self.stage = self.stage.after(Command::read(frame), heard);
+        self.stage.advance(Command::read(frame), heard);
     }
 
     /// Whether no frame may follow, for a sender with these records.

@@ -12,5 +12,5 @@ push-requires c =
 pub invariant_of-self : goal.invariant_of-self
 invariant_of-self c =
     let lawful = rw (← c.self.view_is) at c.requires in
-    rw (c.push.ensures.items, c.after-self-inside.ensures, c.read.ensures.table)
+    rw (c.push.ensures.items, c.advance.ensures, c.read.ensures.table)
     (trace_more c.self.inside.stage c.self.inside.entries.items c.args.frame c.args.heard lawful c.self.invariant)
