@@ -1,18 +1,21 @@
-use Rattle.std.proofs.Common.{◌≡◌, ◌≢◌, ℕ, ◌+◌, ◌*◌, ◌<◌, ◌≤◌, ◌⊎◌, Bool, true, false, ◌&&◌, List, [], ◌∷◌, ◌++◌, map, take, length, get_or, set, drop, replicate, refl, sym, ap, ◌∙◌, arith, add-zero, zero-add, add_assoc, inl, inr, length-set}
-use Rattle.std.proofs.lemmas.List.{drop-drop, drop_more, drop-set-lt, take_more_set, same_lists, get_or-set_same, get_or-set_other, get_or_default, get_or-replicate, length-replicate}
+use Rattle.std.proofs.Common.{◌≡◌, ◌≢◌, ℕ, ◌+◌, ◌*◌, ◌<◌, ◌≤◌, ◌⊎◌, Bool, true, false, ◌&&◌, ◌||◌, List, [], ◌∷◌, ◌++◌, map, take, length, get_or, set, drop, replicate, refl, sym, ap, ◌∙◌, arith, add-zero, zero-add, add_assoc, inl, inr, length-set}
+use Rattle.std.proofs.lemmas.List.{drop-drop, drop_more, drop-set-lt, take_more_set, same_lists, get_or-set_same, get_or-set_other, get_or_default, get_or-replicate, length-replicate, get_or_past, set-set}
 use Rattle.std.proofs.lemmas.List.FromFn.{length-map-range_with_len, get_or-map-range_with_len}
-use Rattle.std.proofs.lemmas.Bool.{cases_eq}
+use Rattle.std.proofs.lemmas.Bool.{cases_eq, cases_lt, false≢true, true≢false}
+use Rattle.std.proofs.Math.Seq.{set_out}
 use Rattle.std.specs.List.{range_with_len}
 use mathlib.Core.List.{append_assoc}
 use Rattle.dali_special.specs.declared.command.Command.{Command}
 use Rattle.dali_special.specs.declared.command.Command.TheVariants.{Randomise, Terminate}
+use Rattle.dali_gear.specs.declared.state.InitialisationState.{InitialisationState}
 use Rattle.dali_gear.specs.declared.state.InitialisationState.TheVariants.{Disabled}
+use Rattle.dali_special.specs.Command.{is_send_twice}
 use Rattle.dali_gear.specs.declared.row.Reach.{Reach}
 use Rattle.dali_gear.specs.declared.row.Row.TheInside.{Inside}
 use Rattle.dali_gear.specs.Gear.{Gear, fresh, would_draw, answer}
-use Rattle.dali_gear.specs.Columns.{gear_in, all_gear}
+use Rattle.dali_gear.specs.Columns.{gear_in, all_gear, IsRow, IsUnpaired}
 use mir.Val.{bool_byte}
-use Rattle.std.specs.Prelude.{Option, Some, None, if◌then◌else◌, is_some, unwrap_or}
+use Rattle.std.specs.Prelude.{Option, Some, None, IsSome, if◌then◌else◌, is_some, unwrap_or}
 use Rattle.dali_frame.specs.declared.frames.Answer.TheVariants.{Byte}
 use Rattle.dali_gear.specs.Row.{reaches, takes, one_after, row_after, draws_needed, answers_of, option_cons, heard_of, heard_by, left_after}
 
@@ -56,11 +59,17 @@ pub half_gone : (paired : List Bool) (first : List Command) (i : ℕ) → get_or
     → None ≡ (if get_or paired i false then Some (get_or first i Terminate) else None)
 half_gone paired first i unset = rw unset refl
 
-half_kept : (half : Option Command) (paired : Bool) (first : Command) → (half ≡ None) ⊎ (half ≡ (if paired then Some first else None))
-    → (if is_some half then Some first else None) ≡ half
-half_kept half paired first (inl none) = rw none refl
-half_kept half true first (inr same) = rw same refl
-half_kept half false first (inr same) = rw same refl
+-- a half pair that stays was there
+pair_stays : (stays paired : Bool) (first : Command) → (stays ≡ true → IsSome (if paired then Some first else None))
+    → (if stays then Some first else None) ≡ (if stays then (if paired then Some first else None) else None)
+pair_stays false paired first one = refl
+pair_stays true true first one = refl
+pair_stays true false first one = absurd (false≢true (one refl))
+
+no_pair_stays : (stays paired : Bool) (first : Command) → (stays ≡ true → IsSome (if paired then Some first else None)) → paired ≡ false → stays ≡ false
+no_pair_stays false paired first one none = refl
+no_pair_stays true true first one none = none
+no_pair_stays true false first one none = absurd (false≢true (one refl))
 
 -- there is a place for each gear in all columns
 pub record Wide (r : Inside) (i : ℕ) : Type 0 where
@@ -75,47 +84,73 @@ pub record Wide (r : Inside) (i : ℕ) : Type 0 where
   pub first : i < length r.first
 
 module _ (r : Inside) (i : ℕ) (here : i < r.count) (wide : Wide r i) where
-  -- the variables of a gear are written, whose half pair is gone or stays
-  pub put_is : (g : Gear) (paired : Bool) → paired ≡ is_some g.half → (g.half ≡ None) ⊎ (g.half ≡ (get_or (all_gear r) i fresh).half)
-      → all_gear (record {
-        count = r.count;
-        powered = set r.powered i g.powered;
-        state = set r.state i g.state;
-        random = set r.random i g.random;
-        search_high = set r.search_high i g.search.high;
-        search_middle = set r.search_middle i g.search.middle;
-        search_low = set r.search_low i g.search.low;
-        short = set r.short i g.short;
-        paired = set r.paired i paired;
-        first = r.first;
-      }) ≡ set (all_gear r) i g
-  put_is g paired is half =
-      let kept : (if is_some g.half then Some (get_or r.first i Terminate) else None) ≡ g.half = half_kept g.half (get_or r.paired i false) (get_or r.first i Terminate) (rw (gear_at r i here) at half) in
-      row_set (gear_in r) _ r.count i g here
-      (rw (get_or-set_same r.powered i g.powered false wide.powered, get_or-set_same r.state i g.state Disabled wide.state, get_or-set_same r.random i g.random 0 wide.random, get_or-set_same r.search_high i g.search.high 0 wide.search_high, get_or-set_same r.search_middle i g.search.middle 0 wide.search_middle, get_or-set_same r.search_low i g.search.low 0 wide.search_low, get_or-set_same r.short i g.short None wide.short, get_or-set_same r.paired i paired false wide.paired, is, kept) refl)
-      (λ k other. rw (get_or-set_other r.powered i k g.powered false other, get_or-set_other r.state i k g.state Disabled other, get_or-set_other r.random i k g.random 0 other, get_or-set_other r.search_high i k g.search.high 0 other, get_or-set_other r.search_middle i k g.search.middle 0 other, get_or-set_other r.search_low i k g.search.low 0 other, get_or-set_other r.short i k g.short None other, get_or-set_other r.paired i k paired false other) refl)
+  -- the variables of a gear are written, but its half pair
+  pub put_variables_is : (g : Gear) → all_gear (record {
+    count = r.count;
+    powered = set r.powered i g.powered;
+    state = set r.state i g.state;
+    random = set r.random i g.random;
+    search_high = set r.search_high i g.search.high;
+    search_middle = set r.search_middle i g.search.middle;
+    search_low = set r.search_low i g.search.low;
+    short = set r.short i g.short;
+    paired = r.paired;
+    first = r.first;
+    some_paired = r.some_paired;
+  }) ≡ set (all_gear r) i (record g { half = (get_or (all_gear r) i fresh).half })
+  put_variables_is g = row_set (gear_in r) _ r.count i _ here
+      (rw (gear_at r i here, get_or-set_same r.powered i g.powered false wide.powered, get_or-set_same r.state i g.state Disabled wide.state, get_or-set_same r.random i g.random 0 wide.random, get_or-set_same r.search_high i g.search.high 0 wide.search_high, get_or-set_same r.search_middle i g.search.middle 0 wide.search_middle, get_or-set_same r.search_low i g.search.low 0 wide.search_low, get_or-set_same r.short i g.short None wide.short) refl)
+      (λ k other. rw (get_or-set_other r.powered i k g.powered false other, get_or-set_other r.state i k g.state Disabled other, get_or-set_other r.random i k g.random 0 other, get_or-set_other r.search_high i k g.search.high 0 other, get_or-set_other r.search_middle i k g.search.middle 0 other, get_or-set_other r.search_low i k g.search.low 0 other, get_or-set_other r.short i k g.short None other) refl)
 
-  -- the state of a gear is written, whose half pair is gone or stays
-  pub put_state_is : (g : Gear) (paired : Bool) → paired ≡ is_some g.half → (g.half ≡ None) ⊎ (g.half ≡ (get_or (all_gear r) i fresh).half)
-      → g ≡ record (get_or (all_gear r) i fresh) { state = g.state; half = g.half }
-      → all_gear (record {
-        count = r.count;
-        powered = r.powered;
-        state = set r.state i g.state;
-        random = r.random;
-        search_high = r.search_high;
-        search_middle = r.search_middle;
-        search_low = r.search_low;
-        short = r.short;
-        paired = set r.paired i paired;
-        first = r.first;
-      }) ≡ set (all_gear r) i g
-  put_state_is g paired is half others =
-      let kept : (if is_some g.half then Some (get_or r.first i Terminate) else None) ≡ g.half = half_kept g.half (get_or r.paired i false) (get_or r.first i Terminate) (rw (gear_at r i here) at half) in
-      let known : g ≡ record (gear_in r i) { state = g.state; half = g.half } = rw (gear_at r i here) at others in
-      row_set (gear_in r) _ r.count i g here
-      (rw (get_or-set_same r.state i g.state Disabled wide.state, get_or-set_same r.paired i paired false wide.paired, is, kept) (sym known))
-      (λ k other. rw (get_or-set_other r.state i k g.state Disabled other, get_or-set_other r.paired i k paired false other) refl)
+  -- the state of a gear is written
+  pub put_state_is : (s : InitialisationState) → all_gear (record {
+    count = r.count;
+    powered = r.powered;
+    state = set r.state i s;
+    random = r.random;
+    search_high = r.search_high;
+    search_middle = r.search_middle;
+    search_low = r.search_low;
+    short = r.short;
+    paired = r.paired;
+    first = r.first;
+    some_paired = r.some_paired;
+  }) ≡ set (all_gear r) i (record (get_or (all_gear r) i fresh) { state = s })
+  put_state_is s = row_set (gear_in r) _ r.count i _ here
+      (rw (gear_at r i here, get_or-set_same r.state i s Disabled wide.state) refl)
+      (λ k other. rw (get_or-set_other r.state i k s Disabled other) refl)
+
+  -- the half pair of a gear stays or is gone
+  pub put_pair_is : (stays : Bool) → (stays ≡ true → IsSome (get_or (all_gear r) i fresh).half) → all_gear (record {
+    count = r.count;
+    powered = r.powered;
+    state = r.state;
+    random = r.random;
+    search_high = r.search_high;
+    search_middle = r.search_middle;
+    search_low = r.search_low;
+    short = r.short;
+    paired = set r.paired i stays;
+    first = r.first;
+    some_paired = r.some_paired;
+  }) ≡ set (all_gear r) i (record (get_or (all_gear r) i fresh) { half = if stays then (get_or (all_gear r) i fresh).half else None })
+  put_pair_is stays one =
+      let there : stays ≡ true → IsSome (gear_in r i).half = rw (gear_at r i here) at one in
+      row_set (gear_in r) _ r.count i _ here
+      (rw (gear_at r i here, get_or-set_same r.paired i stays false wide.paired, ← pair_stays stays (get_or r.paired i false) (get_or r.first i Terminate) there) refl)
+      (λ k other. rw (get_or-set_other r.paired i k stays false other) refl)
+
+  pub put_pair_unpaired : (stays : Bool) → (stays ≡ true → IsSome (get_or (all_gear r) i fresh).half) → IsRow r
+      → r.some_paired ≡ false → (k : ℕ) → k < r.count → get_or (set r.paired i stays) k false ≡ false
+  put_pair_unpaired stays one row none k below = at (cases_eq k i)
+    where
+      there : stays ≡ true → IsSome (gear_in r i).half
+      there = rw (gear_at r i here) at one
+
+      at : (k ≡ i) ⊎ (k ≢ i) → get_or (set r.paired i stays) k false ≡ false
+      at (inl same) = ap (λ j. get_or (set r.paired i stays) j false) same ∙ get_or-set_same r.paired i stays false wide.paired
+          ∙ no_pair_stays stays (get_or r.paired i false) (get_or r.first i Terminate) there (row.unpaired none i here)
+      at (inr other) = get_or-set_other r.paired i k stays false other ∙ row.unpaired none k below
 
   -- a gear has another half pair
   pub pair_is : (c : Command) → all_gear (record {
@@ -129,10 +164,72 @@ module _ (r : Inside) (i : ℕ) (here : i < r.count) (wide : Wide r i) where
     short = r.short;
     paired = set r.paired i true;
     first = set r.first i c;
+    some_paired = true;
   }) ≡ set (all_gear r) i (record (get_or (all_gear r) i fresh) { half = Some c })
   pair_is c = row_set (gear_in r) _ r.count i _ here
       (rw (gear_at r i here, get_or-set_same r.paired i true false wide.paired, get_or-set_same r.first i c Terminate wide.first) refl)
       (λ k other. rw (get_or-set_other r.paired i k true false other, get_or-set_other r.first i k c Terminate other) refl)
+
+half_kept : (half : Option Command) → (if is_some half then half else None) ≡ half
+half_kept None = refl
+half_kept (Some first) = refl
+
+-- the variables of a gear are written, and then its half pair
+module _ (gs now : List Gear) (i : ℕ) (g : Gear) (here : i < length gs) (now_is : now ≡ set gs i (record g { half = (get_or gs i fresh).half }))
+    (stays_or_goes : (g.half ≡ None) ⊎ (g.half ≡ (get_or gs i fresh).half)) where
+  pub put_whole : (stays : Bool) → stays ≡ is_some g.half
+      → set now i (record (get_or now i fresh) { half = if stays then (get_or now i fresh).half else None }) ≡ set gs i g
+  put_whole stays is =
+      let there : get_or now i fresh ≡ record g { half = (get_or gs i fresh).half } = ap (λ xs. get_or xs i fresh) now_is ∙ get_or-set_same gs i _ fresh here in
+      ap {B = List Gear} (λ x. set now i (record x { half = if stays then x.half else None })) there
+      ∙ ap (λ xs. set xs i (record g { half = if stays then (get_or gs i fresh).half else None })) now_is
+      ∙ set-set gs i _ _
+      ∙ ap (λ o. set gs i (record g { half = o })) (kept stays_or_goes)
+    where
+      kept : (g.half ≡ None) ⊎ (g.half ≡ (get_or gs i fresh).half) → (if stays then (get_or gs i fresh).half else None) ≡ g.half
+      kept (inl none) = ap (λ b. if b then (get_or gs i fresh).half else None) (is ∙ ap (λ o. is_some o) none) ∙ sym none
+      kept (inr same) = ap (λ b. if b then (get_or gs i fresh).half else None) (is ∙ ap (λ o. is_some o) same) ∙ half_kept (get_or gs i fresh).half ∙ sym same
+
+  -- where it had none, it has none
+  pub put_unpaired : (get_or gs i fresh).half ≡ None → now ≡ set gs i g
+  put_unpaired none = now_is ∙ ap (λ o. set gs i (record g { half = o })) (kept stays_or_goes)
+    where
+      kept : (g.half ≡ None) ⊎ (g.half ≡ (get_or gs i fresh).half) → (get_or gs i fresh).half ≡ g.half
+      kept (inl gone) = none ∙ sym gone
+      kept (inr same) = sym same
+
+-- one gear more was looked at
+pub seen_more : (some : Bool) (paired : List Bool) (n : ℕ) → (some ≡ false → (k : ℕ) → k < n → get_or paired k false ≡ false)
+    → (some || get_or paired n false) ≡ false → (k : ℕ) → k < n + 1 → get_or paired k false ≡ false
+seen_more true paired n seen none k below = absurd (true≢false none)
+seen_more false paired n seen none k below = at (cases_lt k n)
+  where
+    at : (k < n) ⊎ (n ≤ k) → get_or paired k false ≡ false
+    at (inl before) = seen refl k before
+    at (inr beyond) =
+        let same : k ≡ n = omega arith in
+        ap (λ j. get_or paired j false) same ∙ none
+
+-- where no gear may have a half pair, none has
+pub none_paired : (r : Inside) → IsRow r → r.some_paired ≡ false → IsUnpaired (all_gear r)
+none_paired r row none k = at (cases_lt k r.count)
+  where
+    at : (k < r.count) ⊎ (r.count ≤ k) → (get_or (all_gear r) k fresh).half ≡ None
+    at (inl below) = ap (λ g. g.half) (gear_at r k below) ∙ rw (row.unpaired none k below) refl
+    at (inr beyond) = ap (λ g. g.half) (get_or_past (all_gear r) k fresh (rw (row_len r) beyond))
+
+-- a command that is not send-twice leaves no half pair
+pub one_unpaired : (taken : Bool) (c : Command) (left : List ℕ) (g : Gear) → is_send_twice c ≡ false → g.half ≡ None → (one_after taken c left g).half ≡ None
+one_unpaired false c left g once none = none
+one_unpaired true c left g once none = rw once refl
+
+pub unpaired_set : (gs : List Gear) (i : ℕ) (g : Gear) → IsUnpaired gs → g.half ≡ None → IsUnpaired (set gs i g)
+unpaired_set gs i g before none k = at (cases_eq k i) (cases_lt i (length gs))
+  where
+    at : (k ≡ i) ⊎ (k ≢ i) → (i < length gs) ⊎ (length gs ≤ i) → (get_or (set gs i g) k fresh).half ≡ None
+    at (inl same) (inl below) = ap (λ j. (get_or (set gs i g) j fresh).half) same ∙ ap (λ x. x.half) (get_or-set_same gs i g fresh below) ∙ none
+    at (inl same) (inr beyond) = ap (λ xs. (get_or xs k fresh).half) (set_out gs i g beyond) ∙ before k
+    at (inr other) there = ap (λ x. x.half) (get_or-set_other gs i k g fresh other) ∙ before k
 
 -- ---------------------------------------------------------------- a frame
 

@@ -1,10 +1,10 @@
-use Rattle.std.specs.Prelude.{ℕ, ◌≤◌, List, map, false, Some, None}
+use Rattle.std.specs.Prelude.{◌≡◌, ℕ, ◌<◌, ◌≤◌, List, map, false, Some, None}
 use Rattle.std.specs.Prelude.{slice_index, slice_index_or, if◌then◌else◌}
 use Rattle.std.specs.List.{range_with_len}
 use Rattle.dali_special.specs.declared.command.Command.TheVariants.{Terminate}
 use Rattle.dali_gear.specs.declared.state.InitialisationState.TheVariants.{Disabled}
 use Rattle.dali_gear.specs.declared.row.Row.TheInside.{Inside}
-use Rattle.dali_gear.specs.Gear.{Gear}
+use Rattle.dali_gear.specs.Gear.{Gear, fresh}
 
 -- Inside a row each variable of all gear stands in a list of its own, by the numbers of the gear.
 abbrev pub gear_in : Inside → ℕ → Gear
@@ -29,3 +29,8 @@ all_gear r = map (gear_in r) (range_with_len 0 r.count)
 
 pub record IsRow (r : Inside) : Type 0 where
   pub few : r.count ≤ 128
+  pub unpaired : r.some_paired ≡ false → (k : ℕ) → k < r.count → slice_index_or r.paired k false ≡ false
+
+-- no gear has a half pair
+abbrev pub IsUnpaired : List Gear → Type 0
+IsUnpaired gs = (k : ℕ) → (slice_index_or gs k fresh).half ≡ None

@@ -1,7 +1,7 @@
 //! A row of gear on one bus: all that a frame reaches take it, in order of their number.
 
 ghost use Rattle.std.specs.Prelude.{◌≡◌, ◌+◌, ◌*◌, ◌<◌, ◌≤◌, ◌&&◌, ◌⊎◌, length, map, replicate, All, IsTrue, None};
-ghost use Rattle.std.specs.Prelude.{Some, slice_index_or, slice_set, if◌then◌else◌};
+ghost use Rattle.std.specs.Prelude.{true, false, IsSome, Some, slice_index_or, slice_set, if◌then◌else◌};
 ghost use Rattle.dali_gear.specs.Gear.{fresh};
 ghost use Rattle.dali_gear.specs.Row.{reaches, heard_by, one_after};
 
@@ -63,6 +63,8 @@ pub struct Row {
     paired: [bool; 128],
     /// The half pair, where there is one.
     first: [Command; 128],
+    /// Whether some gear may have a half pair. Where none has, as at most frames, none has to be forgotten.
+    some_paired: bool,
 }
 
 impl Model for Row {
@@ -83,6 +85,8 @@ impl Row {
     ghost use Rattle.dali_special.specs.declared.command.Command.TheVariants.{Randomise, Withdraw};
     ghost use Rattle.dali_gear.specs.Gear.{would_draw, answer, without_power, with_power, gear_expired, gear_quieted};
     ghost use Rattle.dali_gear.specs.Row.{row_after, answers_of, heard_of, draws_needed};
+    ghost use Rattle.dali_gear.specs.Columns.{IsUnpaired};
+    ghost use Rattle.dali_special.specs.Command.{is_send_twice};
 
     /// So many gear from the factory.
     pub fn new(count: usize) -> Row
@@ -100,6 +104,7 @@ impl Row {
             short: [None; 128],
             paired: [false; 128],
             first: [Command::Terminate; 128],
+            some_paired: false,
         }
     }
 
@@ -137,13 +142,13 @@ impl Row {
         }
     }
 
-    /// Writes the variables of a gear, whose half pair is gone or stays.
+    /// Writes the variables of a gear but its half pair.
     #[tactic(auto, using(crate::proofs::RowLemmas::row_len))]
     #[inline(always)]
-    fn put(&mut self, number: usize, gear: Gear)
-        requires there { number < length self.old }
-        requires half { (gear.half ≡ None) ⊎ (gear.half ≡ (slice_index_or self.old number fresh).half) }
-        ensures { self.new ≡ slice_set self.old number gear }
+    fn put_variables(&mut self, number: usize, gear: &Gear)
+        requires { number < length self.old }
+        ensures { self.new ≡ slice_set self.old number
+            (record gear.now { half = (slice_index_or self.old number fresh).half }) }
     {
         self.powered[number] = gear.powered;
         self.state[number] = gear.state;
@@ -152,36 +157,72 @@ impl Row {
         self.search_high[number] = gear.search.high;
         self.search_middle[number] = gear.search.middle;
         self.search_low[number] = gear.search.low;
-        self.paired[number] = gear.half.is_some();
     }
 
-    /// Writes the state of a gear, whose half pair is gone or stays. Its other variables stay.
+    /// Writes the state of a gear.
     #[tactic(auto, using(crate::proofs::RowLemmas::row_len))]
     #[inline(always)]
-    fn put_state(&mut self, number: usize, gear: Gear)
-        requires there { number < length self.old }
-        requires half { (gear.half ≡ None) ⊎ (gear.half ≡ (slice_index_or self.old number fresh).half) }
-        requires others { gear
-            ≡ record (slice_index_or self.old number fresh) { state = gear.state; half = gear.half } }
-        ensures { self.new ≡ slice_set self.old number gear }
+    fn put_state(&mut self, number: usize, state: InitialisationState)
+        requires { number < length self.old }
+        ensures { self.new ≡ slice_set self.old number (record (slice_index_or self.old number fresh) { state = state }) }
     {
-        self.state[number] = gear.state;
-        self.paired[number] = gear.half.is_some();
+        self.state[number] = state;
     }
 
-    /// Writes a gear after a command that is not send-twice. At WITHDRAW it writes no more than that changes, since the
-    /// compiler takes many gear at a time then; of the other commands the compiler sees what they change.
+    /// The half pair of a gear stays or is gone.
+    #[tactic(auto, using(crate::proofs::RowLemmas::row_len))]
     #[inline(always)]
-    fn put_taken(&mut self, number: usize, command: &Command, gear: Gear)
+    fn put_pair(&mut self, number: usize, stays: bool)
+        requires there { number < length self.old }
+        requires one { stays ≡ true → IsSome (slice_index_or self.old number fresh).half }
+        ensures { self.new ≡ slice_set self.old number (record (slice_index_or self.old number fresh)
+            { half = if stays then (slice_index_or self.old number fresh).half else None }) }
+    {
+        self.paired[number] = stays;
+    }
+
+    /// Writes the variables of a gear, whose half pair is gone or stays.
+    #[inline(always)]
+    fn put(&mut self, number: usize, gear: Gear)
         requires there { number < length self.old }
         requires half { (gear.half ≡ None) ⊎ (gear.half ≡ (slice_index_or self.old number fresh).half) }
-        requires withdrawn { command.now ≡ Withdraw
-            → gear ≡ record (slice_index_or self.old number fresh) { state = gear.state; half = gear.half } }
         ensures { self.new ≡ slice_set self.old number gear }
     {
+        let stays = gear.half.is_some();
+        self.put_variables(number, &gear);
+        self.put_pair(number, stays);
+    }
+
+    /// Writes what a command that is not send-twice may change of a gear, but its half pair. At WITHDRAW it writes the
+    /// state alone, since the compiler takes many gear at a time then; of the other commands the compiler sees what they
+    /// change.
+    #[inline(always)]
+    fn put_changed(&mut self, number: usize, command: &Command, gear: &Gear)
+        requires there { number < length self.old }
+        requires withdrawn { command.now ≡ Withdraw → gear.now
+            ≡ record (slice_index_or self.old number fresh) { state = gear.now.state; half = gear.now.half } }
+        ensures { self.new ≡ slice_set self.old number
+            (record gear.now { half = (slice_index_or self.old number fresh).half }) }
+    {
         match *command {
-            Command::Withdraw => self.put_state(number, gear),
-            _ => self.put(number, gear),
+            Command::Withdraw => self.put_state(number, gear.state),
+            _ => self.put_variables(number, gear),
+        }
+    }
+
+    /// Writes a gear after a command that is not send-twice. Where `paired` is false, it has no half pair, and had none.
+    #[inline(always)]
+    fn put_taken(&mut self, number: usize, command: &Command, gear: &Gear, paired: bool)
+        requires there { number < length self.old }
+        requires half { (gear.now.half ≡ None) ⊎ (gear.now.half ≡ (slice_index_or self.old number fresh).half) }
+        requires unpaired { paired ≡ false → (slice_index_or self.old number fresh).half ≡ None }
+        requires withdrawn { command.now ≡ Withdraw → gear.now
+            ≡ record (slice_index_or self.old number fresh) { state = gear.now.state; half = gear.now.half } }
+        ensures { self.new ≡ slice_set self.old number gear.now }
+    {
+        self.put_changed(number, command, gear);
+        if paired {
+            self.put_pair(number, gear.half.is_some());
         }
     }
 
@@ -194,6 +235,7 @@ impl Row {
     {
         self.paired[number] = true;
         self.first[number] = first;
+        self.some_paired = true;
     }
 
     /// Writes all variables of a gear.
@@ -281,57 +323,106 @@ impl Row {
         ensures drawn { result.drawn ≡ draws_needed reach command.now 0 self.old }
         ensures answer { result.answer ≡ heard_of (answers_of reach command.now 0 self.old) }
     {
+        if self.some_paired {
+            return self.take_command(command, reach, draws);
+        }
         match reach {
             Reach::Everyone => self.take_by_command(command, Reach::Everyone, draws),
             Reach::Only(_) => self.take_command(command, reach, draws),
         }
     }
 
-    /// As `take`. Most frames of a search have an arm of their own: with the command known, the compiler makes a loop
-    /// for each that does no more than the command asks.
+    /// As `take`, where no gear has a half pair. Most frames of a search have an arm of their own: with the command
+    /// known, the compiler makes a loop for each that does no more than the command asks.
     #[inline(always)]
     fn take_by_command(&mut self, command: &Command, reach: Reach, draws: &[Random24]) -> Heard
         requires enough { draws_needed reach command.now 0 self.old ≤ length draws.now }
+        requires unpaired { IsUnpaired self.old }
         requires below_mask { All (λ r. r < MASK24) draws.now }
         ensures gear { self.new ≡ row_after reach command.now 0 self.old draws.now }
         ensures drawn { result.drawn ≡ draws_needed reach command.now 0 self.old }
         ensures answer { result.answer ≡ heard_of (answers_of reach command.now 0 self.old) }
     {
         match *command {
-            Command::Compare => self.take_command(&Command::Compare, reach, draws),
+            Command::Compare => self.take_each(&Command::Compare, reach, draws, false),
             Command::SearchHigh(byte) => {
-                self.take_command(&Command::SearchHigh(byte), reach, draws)
+                self.take_each(&Command::SearchHigh(byte), reach, draws, false)
             }
             Command::SearchMiddle(byte) => {
-                self.take_command(&Command::SearchMiddle(byte), reach, draws)
+                self.take_each(&Command::SearchMiddle(byte), reach, draws, false)
             }
             Command::SearchLow(byte) => {
-                self.take_command(&Command::SearchLow(byte), reach, draws)
+                self.take_each(&Command::SearchLow(byte), reach, draws, false)
             }
-            Command::QueryShort => self.take_command(&Command::QueryShort, reach, draws),
-            Command::Withdraw => self.take_command(&Command::Withdraw, reach, draws),
-            Command::Verify(short) => self.take_command(&Command::Verify(short), reach, draws),
-            Command::Program(short) => self.take_command(&Command::Program(short), reach, draws),
+            Command::QueryShort => self.take_each(&Command::QueryShort, reach, draws, false),
+            Command::Withdraw => self.take_each(&Command::Withdraw, reach, draws, false),
+            Command::Verify(short) => self.take_each(&Command::Verify(short), reach, draws, false),
+            Command::Program(short) => self.take_each(
+                &Command::Program(short),
+                reach,
+                draws,
+                false,
+            ),
             Command::RandomByte(short, Part::High) => {
-                self.take_command(&Command::RandomByte(short, Part::High), reach, draws)
+                self.take_each(&Command::RandomByte(short, Part::High), reach, draws, false)
             }
             Command::RandomByte(short, Part::Middle) => {
-                self.take_command(&Command::RandomByte(short, Part::Middle), reach, draws)
+                self.take_each(
+                    &Command::RandomByte(short, Part::Middle),
+                    reach,
+                    draws,
+                    false,
+                )
             }
             Command::RandomByte(short, Part::Low) => {
-                self.take_command(&Command::RandomByte(short, Part::Low), reach, draws)
+                self.take_each(&Command::RandomByte(short, Part::Low), reach, draws, false)
             }
-            Command::Arc(frame) => self.take_command(&Command::Arc(frame), reach, draws),
-            Command::Other(frame) => self.take_command(&Command::Other(frame), reach, draws),
+            Command::Arc(frame) => self.take_each(&Command::Arc(frame), reach, draws, false),
+            Command::Other(frame) => self.take_each(&Command::Other(frame), reach, draws, false),
             _ => self.take_command(command, reach, draws),
         }
     }
 
-    /// One gear after the other.
-    #[inline(always)]
+    /// As `take`, of any command. Where no gear has a half pair, and the command leaves none, none is forgotten.
     fn take_command(&mut self, command: &Command, reach: Reach, draws: &[Random24]) -> Heard
         requires enough { draws_needed reach command.now 0 self.old ≤ length draws.now }
         requires below_mask { All (λ r. r < MASK24) draws.now }
+        ensures gear { self.new ≡ row_after reach command.now 0 self.old draws.now }
+        ensures drawn { result.drawn ≡ draws_needed reach command.now 0 self.old }
+        ensures answer { result.answer ≡ heard_of (answers_of reach command.now 0 self.old) }
+    {
+        if self.some_paired || command.is_send_twice() {
+            let heard = self.take_each(command, reach, draws, true);
+            self.look_for_pairs();
+            heard
+        } else {
+            self.take_each(command, reach, draws, false)
+        }
+    }
+
+    /// Looks whether some gear has a half pair still.
+    fn look_for_pairs(&mut self)
+        ensures { self.new ≡ self.old }
+    {
+        let mut some = false;
+        for number in 0..self.count {
+            some |= self.paired[number];
+        }
+        self.some_paired = some;
+    }
+
+    /// One gear after the other. Where `paired` is false, none has a half pair, before and afterwards.
+    #[inline(always)]
+    fn take_each(
+        &mut self,
+        command: &Command,
+        reach: Reach,
+        draws: &[Random24],
+        paired: bool,
+    ) -> Heard
+        requires enough { draws_needed reach command.now 0 self.old ≤ length draws.now }
+        requires below_mask { All (λ r. r < MASK24) draws.now }
+        requires unpaired { paired ≡ false → (is_send_twice command.now ≡ false) × IsUnpaired self.old }
         ensures gear { self.new ≡ row_after reach command.now 0 self.old draws.now }
         ensures drawn { result.drawn ≡ draws_needed reach command.now 0 self.old }
         ensures answer { result.answer ≡ heard_of (answers_of reach command.now 0 self.old) }
@@ -341,7 +432,13 @@ impl Row {
         let mut drawn = 0;
         // No row is longer: the bound tells the compiler that the arrays do not reach into one another.
         for number in 0..self.len().min(128) {
-            let effect = self.take_at(number, command, reach.includes(number), &draws[drawn..]);
+            let effect = self.take_at(
+                number,
+                command,
+                reach.includes(number),
+                &draws[drawn..],
+                paired,
+            );
             answers += u32::from(effect.answer.is_some());
             bytes += u32::from(effect.answer.unwrap_or(0));
             drawn += usize::from(effect.drew);
@@ -360,8 +457,10 @@ impl Row {
         command: &Command,
         reached: bool,
         draws: &[Random24],
+        paired: bool,
     ) -> Effect
         requires there { number < length self.old }
+        requires unpaired { paired ≡ false → (slice_index_or self.old number fresh).half ≡ None }
         requires enough { IsTrue (((slice_index_or self.old number fresh).powered && reached)
             && would_draw command.now (slice_index_or self.old number fresh)) → 0 < length draws.now }
         requires below_mask { All (λ r. r < MASK24) draws.now }
@@ -379,7 +478,7 @@ impl Row {
         if command.is_send_twice() {
             self.set(number, after);
         } else {
-            self.put_taken(number, command, after);
+            self.put_taken(number, command, &after, paired);
         }
         let answer = gear.answer(command);
         Effect {

@@ -1,4 +1,5 @@
-use Rattle.std.proofs.Common.{refl, replicate, true, false, None}
+use Rattle.std.proofs.Common.{refl, replicate, true, false, None, arith}
+use Rattle.std.proofs.lemmas.List.{get_or-replicate}
 use Rattle.dali_special.specs.declared.command.Command.TheVariants.{Terminate}
 use Rattle.dali_gear.specs.declared.state.InitialisationState.TheVariants.{Disabled}
 use Rattle.dali_gear.proofs.RowLemmas.{factory_is}
@@ -16,4 +17,8 @@ returns c = factory_is (record {
   short = replicate 128 None;
   paired = replicate 128 false;
   first = replicate 128 Terminate;
+  some_paired = false;
 }) c.args.count refl c.requires refl refl refl refl refl refl refl refl
+
+pub invariant_of-result-2 : goal.invariant_of-result-2
+invariant_of-result-2 c = record { few = c.requires; unpaired = λ none k below. get_or-replicate 128 k false false (let few = c.requires in omega arith) }

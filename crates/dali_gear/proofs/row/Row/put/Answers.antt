@@ -1,19 +1,9 @@
-use Rattle.std.proofs.Common.{rules, ap₂, ◌∙◌, set}
-use Rattle.dali_gear.specs.contracts.gear.Gear.{the_view}
-use Rattle.dali_gear.proofs.RowLemmas.{put_is, row_len}
+use Rattle.std.proofs.Common.{◌∙◌, ap, is_some}
+use Rattle.dali_gear.proofs.RowLemmas.{put_whole}
 use Rattle.dali_gear.proofs.row.Row.put.Goals as goal
 
 pub returns : goal.returns
 returns c =
-    put_is c.self.inside c.args.number (search (rules, row_len)) (record {
-      powered = search (rules, row_len);
-      state = search (rules, row_len);
-      random = search (rules, row_len);
-      search_high = search (rules, row_len);
-      search_middle = search (rules, row_len);
-      search_low = search (rules, row_len);
-      short = search (rules, row_len);
-      paired = search (rules, row_len);
-      first = search (rules, row_len);
-    }) (the_view c.gear.inside) c.is_some.result c.is_some.ensures (rw (← c.self.view_is, ← c.gear.view_is) at c.requires.half)
-    ∙ ap₂ (λ gs g. set gs c.args.number g) c.self.view_is c.gear.view_is
+    c.put_pair.ensures
+    ∙ put_whole c.args.self.now c.put_variables.new.self c.args.number c.args.gear c.requires.there c.put_variables.ensures c.requires.half
+    c.is_some-stays.result (c.is_some-stays.ensures ∙ ap (λ g. is_some g.half) c.gear.view_is)

@@ -1,5 +1,5 @@
-use Rattle.std.proofs.Common.{rules, ap₂, ◌∙◌, set}
-use Rattle.dali_gear.specs.contracts.gear.Gear.{the_view}
+use Rattle.std.proofs.Common.{rules, ap, ◌∙◌, set, get_or}
+use Rattle.dali_gear.specs.Gear.{fresh}
 use Rattle.dali_gear.proofs.RowLemmas.{put_state_is, row_len}
 use Rattle.dali_gear.proofs.row.Row.put_state.Goals as goal
 
@@ -15,5 +15,5 @@ returns c =
       short = search (rules, row_len);
       paired = search (rules, row_len);
       first = search (rules, row_len);
-    }) (the_view c.gear.inside) c.is_some.result c.is_some.ensures (rw (← c.self.view_is, ← c.gear.view_is) at c.requires.half) (rw (← c.self.view_is, ← c.gear.view_is) at c.requires.others)
-    ∙ ap₂ (λ gs g. set gs c.args.number g) c.self.view_is c.gear.view_is
+    }) c.args.state
+    ∙ ap (λ gs. set gs c.args.number (record (get_or gs c.args.number fresh) { state = c.args.state })) c.self.view_is

@@ -1,33 +1,14 @@
-use Rattle.std.proofs.Common.{rules, refl, ◌<◌, ◌&&◌, length, drop, get_or, ap, ◌∙◌, length-set}
-use Rattle.std.proofs.lemmas.List.{take_rest}
-use Rattle.dali_gear.specs.Gear.{fresh}
-use Rattle.dali_gear.specs.Row.{one_after}
-use Rattle.dali_gear.proofs.RowLemmas.{rest_is, next_is, Turn, gear_more, drawn_more, counted_more, summed_more, byte_bound, bit_bound}
+use Rattle.std.proofs.Common.{◌∙◌, sym, true≢false, subst}
+use Rattle.dali_gear.specs.Columns.{IsUnpaired}
+use Rattle.dali_gear.proofs.RowLemmas.{none_paired}
+use Rattle.dali_gear.proofs.row.Row.take_command.Goals.{then-self, else-self}
 use Rattle.dali_gear.proofs.row.Row.take_command.Goals as goal
 
-pub loop-number-preserved : goal.loop-number-preserved
-loop-number-preserved c =
-    let here : c.loop-number.number < length c.loop-number.self = search rules in
-    let old = get_or c.loop-number.self c.loop-number.number fresh in
-    let left = drop c.loop-number.drawn c.args.draws.now in
-    let gear = rw take_rest at c.take_at-effect.ensures.gear in
-    let turn : Turn c.args.reach c.args.command.now c.loop-number.self c.args.self.now c.loop-number.number left old
-    (one_after (old.powered && c.includes.result) c.args.command.now left old) c.take_at-effect.result.drew = record {
-      here = here;
-      untouched = c.loop-number.invariant.untouched;
-      next = next_is c.loop-number.self c.args.self.now c.loop-number.number fresh here c.loop-number.invariant.untouched;
-      reached = c.includes.result;
-      reaches_it = c.includes.ensures;
-      takes_it = refl;
-      draws_it = c.take_at-effect.ensures.drew;
-    } in
-    record {
-      untouched = rw gear (rest_is c.loop-number.self c.args.self.now c.loop-number.number _ c.loop-number.invariant.untouched);
-      gear = rw (gear, c.from-drawn.ensures) (gear_more _ _ _ _ _ _ _ _ _ _ _ turn c.loop-number.invariant.gear);
-      drawn = rw c.from-drawn.ensures (drawn_more _ _ _ _ _ _ _ _ _ _ _ turn c.loop-number.invariant.drawn);
-      counted = rw (c.from-answers.ensures, c.is_some.ensures) (counted_more _ _ _ _ _ _ _ _ _ turn _ c.take_at-effect.ensures.answer _ _ c.loop-number.invariant.counted);
-      summed = rw (c.from-bytes.ensures, c.unwrap_or.ensures) (summed_more _ _ _ _ _ _ _ _ _ turn _ c.take_at-effect.ensures.answer _ _ c.loop-number.invariant.summed);
-      few = let bit = bit_bound c.is_some.result in search rules;
-      below = let byte = byte_bound c.take_at-effect.result.answer (search rules) in search rules;
-      len = ap (λ gs. length gs) gear ∙ length-set c.loop-number.self c.loop-number.number _ ∙ c.loop-number.invariant.len;
-    }
+pub take_each-requires-clause-unpaired : goal.take_each-requires-clause-unpaired
+take_each-requires-clause-unpaired c = λ off. elim c.if-self.branch [
+  | then-self w ↦ absurd (true≢false (sym w.if-self.true ∙ sym w.value-is ∙ c.if-is_send_twice.false))
+  | else-self w ↦ (
+    sym w.is_send_twice.ensures ∙ sym w.value-is ∙ c.if-is_send_twice.false,
+    subst (λ gs. IsUnpaired gs) c.self.view_is (none_paired c.self.inside c.self.invariant w.if-self.false),
+  )
+]

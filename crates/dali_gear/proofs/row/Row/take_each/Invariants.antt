@@ -1,7 +1,8 @@
-use Rattle.std.proofs.Common.{◌≡◌, ◌≤◌, ◌+◌, ◌*◌, take, drop, ◌++◌, length}
+use Rattle.std.proofs.Common.{◌≡◌, ◌≤◌, ◌+◌, ◌*◌, take, drop, ◌++◌, length, false}
+use Rattle.dali_gear.specs.Columns.{IsUnpaired}
 use Rattle.dali_gear.specs.Row.{row_after, answers_of, draws_needed}
 use Rattle.dali_gear.proofs.RowLemmas.{total}
-use Rattle.dali_gear.proofs.row.Row.take_command.Given as goal
+use Rattle.dali_gear.proofs.row.Row.take_each.Given as goal
 
 abbrev pub invariant-loop-number : goal.invariant-loop-number
 invariant-loop-number l = record {
@@ -12,5 +13,6 @@ invariant-loop-number l = record {
   summed : l.bytes + total (answers_of l.reach l.command l.number (drop l.number l.fn.self)) ≡ total (answers_of l.reach l.command 0 l.fn.self);
   few : l.answers ≤ l.number;
   below : l.bytes ≤ 255 * l.answers;
+  unpaired : l.paired ≡ false → IsUnpaired l.self;
   len : length l.self ≡ length l.fn.self;
 }

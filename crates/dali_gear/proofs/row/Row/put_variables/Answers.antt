@@ -1,0 +1,21 @@
+use Rattle.std.proofs.Common.{rules, ap₂, ◌∙◌, set, get_or}
+use Rattle.std.specs.Prelude.{List}
+use Rattle.dali_gear.specs.Gear.{Gear, fresh}
+use Rattle.dali_gear.specs.contracts.gear.Gear.{the_view}
+use Rattle.dali_gear.proofs.RowLemmas.{put_variables_is, row_len}
+use Rattle.dali_gear.proofs.row.Row.put_variables.Goals as goal
+
+pub returns : goal.returns
+returns c =
+    put_variables_is c.self.inside c.args.number (search (rules, row_len)) (record {
+      powered = search (rules, row_len);
+      state = search (rules, row_len);
+      random = search (rules, row_len);
+      search_high = search (rules, row_len);
+      search_middle = search (rules, row_len);
+      search_low = search (rules, row_len);
+      short = search (rules, row_len);
+      paired = search (rules, row_len);
+      first = search (rules, row_len);
+    }) (the_view c.gear.inside)
+    ∙ ap₂ {B = Gear} {C = List Gear} (λ gs g. set gs c.args.number (record g { half = (get_or gs c.args.number fresh).half })) c.self.view_is c.gear.view_is
