@@ -10,7 +10,7 @@ use Rattle.dali_script.specs.declared.finding.Finding.{Finding}
 use Rattle.dali_script.specs.declared.finding.Finding.TheVariants.{Queried, Resolved}
 use Rattle.dali_script.specs.declared.records.Record.{Record}
 use Rattle.dali_script.specs.declared.records.Record.TheVariants.{Reserve, Enrol, Release}
-use Rattle.dali_script.specs.Records.{Assignment, Kept, Has, HasAddress, HasRandom, InBlock, IsKept, MayAdd, Fits, address_of}
+use Rattle.dali_script.specs.Records.{Assignment, Kept, Has, InBlock, IsKept, MayAdd, Fits, address_of}
 use Rattle.dali_script.specs.Findings.{search_of, Asked, asked_of, found_by, assigned, later}
 use Rattle.dali_script.proofs.Lists.{reserved_fits, has_map, kept_none, kept_more}
 use Rattle.dali_script.specs.declared.orders.Order.{Order}

@@ -1,10 +1,9 @@
-use Rattle.std.proofs.Common.{◌≡◌, ℕ, ◌+◌, ◌<◌, ◌≤◌, Bool, true, false, Option, Some, None, List, [], ◌∷◌, ◌++◌, refl, sym, ap, subst, ◌∙◌, arith, length, length-append, append-nil, get_or, take, inl}
-use Rattle.std.specs.Prelude.{zero, suc, is_some, IfSome}
-use Rattle.std.specs.Prelude.{◌&&◌, nat_lt}
+use Rattle.std.proofs.Common.{◌≡◌, ℕ, ◌+◌, ◌<◌, ◌≤◌, true, Option, Some, None, List, [], ◌∷◌, ◌++◌, refl, sym, subst, arith, length, length-append, append-nil, get_or, take, inl}
+use Rattle.std.specs.Prelude.{zero, suc, IfSome}
+use Rattle.std.specs.Prelude.{nat_lt}
 use mathlib.Core.List.{append_assoc}
 use Rattle.std.proofs.lemmas.Bool.Decides.{nat_tests}
 use Rattle.dali_frame.specs.declared.frames.Forward.{Forward}
-use Rattle.dali_frame.specs.declared.frames.Answer.TheVariants.{Silence}
 use Rattle.dali_frame.specs.declared.numbers.SearchAddress.{SearchAddress}
 use Rattle.dali_frame.specs.Random.{value_of, MASK24}
 use Rattle.dali_special.specs.declared.command.Command.{Command}
@@ -13,8 +12,8 @@ use Rattle.dali_script.specs.declared.block.Block.{Block}
 use Rattle.dali_script.specs.declared.trace.Entry.{Entry}
 use Rattle.dali_script.specs.declared.stage.Stage.{Stage}
 use Rattle.dali_script.specs.Records.{Assignment}
-use Rattle.dali_script.specs.Scripts.{MayGive, Lawful, IsLawful, AreSent, IsTransaction}
-use Rattle.dali_script.specs.Stages.{leads, given, is_drawn_if, may_come, stage_of, Follows}
+use Rattle.dali_script.specs.Scripts.{MayGive, IsLawful, AreSent, IsTransaction}
+use Rattle.dali_script.specs.Stages.{given, is_drawn_if, may_come, stage_of, Follows}
 use Rattle.dali_script.proofs.Giving.{first_of_both, second_of_both}
 use Rattle.dali_script.proofs.Transactions.{follows_lawful, lawful_follows, room}
 
