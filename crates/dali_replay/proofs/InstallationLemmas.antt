@@ -1,28 +1,18 @@
-use Rattle.std.proofs.Common.{◌≡◌, ℕ, ◌<◌, inl, inr, List, length, set, get_or, Option, Some, None, Result, Ok, Err, refl, sym, ap, subst, ◌∙◌}
+use Rattle.std.proofs.Common.{◌≡◌, ℕ, ◌<◌, inl, inr, List, length, set, get_or, Some, Result, Ok, Err, refl, sym, ap, subst, ◌∙◌}
 use Rattle.std.proofs.lemmas.List.{get_or_read_under, set-get_or}
 use Rattle.std.specs.Prelude.{IfSome, IfOk, IfErr, OnErr}
 use Rattle.dali_script.specs.declared.block.Block.{Block}
-use Rattle.dali_script.specs.declared.records.Record.{Record}
-use Rattle.dali_script.specs.declared.records.Record.TheVariants.{Reserve, Enrol}
-use Rattle.dali_script.specs.Records.{Kept, InBlock, Fits}
+use Rattle.dali_script.specs.Records.{Kept, Fits}
 use Rattle.dali_script.specs.declared.orders.Input.{Input}
-use Rattle.dali_script.specs.declared.orders.Input.TheVariants as input
 use Rattle.dali_script.specs.declared.orders.Order.{Order}
-use Rattle.dali_script.specs.declared.orders.Order.TheVariants.{Put, Commit, Done, Halt}
 use Rattle.dali_script.specs.declared.orders.Due.{Due}
 use Rattle.dali_script.specs.declared.orders.Due.TheVariants as due
 use Rattle.dali_script.specs.Due.{record_ordered}
-use Rattle.dali_events.specs.declared.event.Event.TheVariants as event
 use Rattle.dali_events.specs.Plan.{block_at}
-use Rattle.dali_events.specs.World.{World, Controller, controller_at}
-use Rattle.dali_events.specs.Happens.{controller_informed, with_outstanding, kept_after}
-use Rattle.dali_events.specs.Allowed.{Allowed, MayCommit, MayOrder}
-use Rattle.dali_events.specs.Laws.{KeepsRecords}
 use Rattle.dali_standing.specs.declared.refusal.Refusal.{Refusal}
-use Rattle.dali_standing.specs.declared.refusal.Refusal.TheVariants as refusal
 use Rattle.dali_standing.specs.Seats.{due_of}
-use Rattle.dali_world.specs.Site.{SiteState, Receipt, world, Acts, HasActed, IsActRefused, IsUpRefused}
-use Rattle.dali_replay.specs.Installation.{Store, Installation, no_store, store_at, controller, IsUpAt, IsInstalled, IsGivenBy, IsGiven, HasStepped, Goes, ComesUp}
+use Rattle.dali_world.specs.Site.{SiteState, Receipt, Acts, HasActed, IsActRefused, IsUpRefused}
+use Rattle.dali_replay.specs.Installation.{Store, Installation, no_store, store_at, controller, IsUpAt, IsInstalled, IsGivenBy, IsGiven, HasStepped, Goes}
 
 -- ---------------------------------------------------------------- what `act` says
 

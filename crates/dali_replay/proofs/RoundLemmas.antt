@@ -2,16 +2,15 @@ use Rattle.std.proofs.Common.{◌≡◌, ℕ, suc, ◌+◌, ◌<◌, ◌≤◌, 
 use Rattle.std.specs.Prelude.{if◌then◌else◌, ◌||◌}
 use mathlib.Core.List.{append_assoc}
 use Rattle.std.proofs.lemmas.List.{append-nil}
-use Rattle.dali_script.specs.declared.orders.Order.{Order}
 use Rattle.dali_standing.specs.declared.refusal.Refusal.{Refusal}
 use Rattle.dali_standing.specs.declared.trouble.Trouble.TheVariants as trouble
 use Rattle.dali_standing.specs.declared.trouble.Report.{Report}
 use Rattle.dali_standing.specs.declared.trouble.Report.TheVariants as report
 use Rattle.dali_replay.specs.declared.rounds.Round.{Round}
 use Rattle.dali_replay.specs.declared.rounds.Round.TheVariants as round
-use Rattle.dali_replay.specs.Installation.{Installation, controller, Goes, PumpsOn}
-use Rattle.dali_replay.specs.Rounds.{has_turn, IsTurn, Turns, controllers, AreTurns, came_of, IsRound, IsRoundOf, Rounds, Ends, Ran, Runs}
-use Rattle.dali_replay.specs.Text.{Writes, kept_text, refused_text, ran_text}
+use Rattle.dali_replay.specs.Installation.{Installation, PumpsOn}
+use Rattle.dali_replay.specs.Rounds.{IsTurn, Turns, controllers, AreTurns, came_of, IsRound, IsRoundOf, Rounds, Ends, Ran, Runs}
+use Rattle.dali_replay.specs.Text.{Writes, refused_text, ran_text}
 use Rattle.dali_replay.proofs.InstallationLemmas.{goes_plan}
 
 -- ---------------------------------------------------------------- texts
@@ -27,18 +26,7 @@ writes_more old between new front last Is first second is =
 
 -- ---------------------------------------------------------------- a turn
 
-pub turn_passed : (text : List ℕ) (n : Installation) (c : ℕ) → has_turn (controller n c) ≡ false → Writes text text (λ more. IsTurn n c (Some false) more n)
-turn_passed text n c none = writes_none text (λ more. IsTurn n c (Some false) more n) (none, refl, refl)
-
-pub turn_went : (old new : List ℕ) (n m : Installation) (c : ℕ) (o : Order) → has_turn (controller n c) ≡ true → Goes n c (Ok o) m → new ≡ old ++ kept_text c o
-    → Writes old new (λ more. IsTurn n c (Some true) more m)
-turn_went old new n m c o due goes wrote = (kept_text c o, wrote, (due, o, goes, refl))
-
-pub turn_refused : (old new : List ℕ) (n m : Installation) (c : ℕ) (e : Refusal) → has_turn (controller n c) ≡ true → Goes n c (Err e) m → new ≡ old ++ refused_text e
-    → Writes old new (λ more. IsTurn n c None more m)
-turn_refused old new n m c e due goes wrote = (refused_text e, wrote, (due, e, goes, refl))
-
--- it leaves the plan
+-- a turn leaves the plan
 pub turn_plan : (n m : Installation) (c : ℕ) (went : Option Bool) (text : List ℕ) → IsTurn n c went text m → m.site.plan ≡ n.site.plan
 turn_plan n m c (Some false) text is = ap (λ (x : Installation). x.site.plan) is.2
 turn_plan n m c (Some true) text is = goes_plan n m c (Ok is.1) is.2

@@ -1,5 +1,5 @@
 use Rattle.std.specs.Prelude.{◌≡◌, ◌⊎◌, ℕ, zero, suc, ◌+◌, ◌<◌, Bool, true, false, List, [], ◌++◌}
-use Rattle.std.specs.Prelude.{length, Option, Some, None, Ok, Err, is_some, ◌||◌, if◌then◌else◌}
+use Rattle.std.specs.Prelude.{length, Option, Some, None, Result, Ok, Err, is_some, ◌||◌, if◌then◌else◌}
 use Rattle.dali_script.specs.declared.orders.Order.{Order}
 use Rattle.dali_script.specs.declared.orders.Due.{Due}
 use Rattle.dali_script.specs.declared.orders.Due.TheVariants as due
@@ -24,6 +24,12 @@ has_turn_by _ k = is_some k.told
 
 abbrev pub has_turn : Controller → Bool
 has_turn k = has_turn_by (due_of k) k
+
+-- The turn of controller c, as it is called: it goes, if something is due.
+abbrev pub HasTurn : Installation → ℕ → Result (Option Order) Refusal → Installation → Type 0
+HasTurn n c (Ok None) m = (has_turn (controller n c) ≡ false) × (m ≡ n)
+HasTurn n c (Ok (Some o)) m = (has_turn (controller n c) ≡ true) × Goes n c (Ok o) m
+HasTurn n c (Err e) m = (has_turn (controller n c) ≡ true) × Goes n c (Err e) m
 
 -- ---------------------------------------------------------------- the turns of a round
 

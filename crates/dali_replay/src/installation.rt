@@ -13,7 +13,7 @@ ghost use Rattle.dali_replay.specs.Installation.{IsUpAt, store_committed, with_s
 ghost use Rattle.dali_replay.specs.Installation.{HasStepped, Goes, IsPending, Stores, Fails, ComesUp, Calls, PumpsOn};
 ghost use Rattle.dali_replay.specs.Calls.{Befalls, Requests, Lapses, IsLogFull, BefallsGear};
 ghost use Rattle.dali_standing.specs.declared.refusal.Refusal.TheVariants as refusal;
-ghost use Rattle.dali_replay.specs.Rounds.{has_turn};
+ghost use Rattle.dali_replay.specs.Rounds.{HasTurn};
 
 use dali_frame::{Forward, Random24, Short};
 use dali_gear::Gear;
@@ -84,17 +84,20 @@ impl Store {
         requires { IfSome (record_ordered (Some order)) (Fits self.old.keep.block) }
         ensures { self.new ≡ (record { keep = self.old.keep; pending = record_ordered (Some order) }) }
     {
-        self.pending = match order {
-            Order::Commit(record) => Some(record),
-            Order::Put(..) | Order::Done(_) | Order::Halt(_) => None,
-        };
+        match order {
+            Order::Commit(record) => self.pending = Some(record),
+            Order::Put(..) | Order::Done(_) | Order::Halt(_) => self.settle(),
+        }
     }
 
     /// Nothing is pending.
     fn settle(&mut self)
         ensures { self.new ≡ store_settled self.old.keep }
     {
-        self.pending = None;
+        // After most orders none is, and nothing is written then.
+        if self.pending.is_some() {
+            self.pending = None;
+        }
     }
 
     /// A copy of the records.
@@ -318,15 +321,23 @@ impl Installation {
         self.site.kept(c).enrolled()
     }
 
-    /// Whether something is due for a controller.
-    pub fn has_turn(&self, c: u8) -> bool
-        requires { c < length self.now.site.plan.blocks }
-        ensures { result ≡ has_turn (controller self.now c) }
+    /// The turn of controller `c`, which must be there: it goes, as by `go c`, if something is due. Answers its order,
+    /// if it went.
+    ///
+    /// Refusals: those of `go c`; they leave a commit made, as there.
+    pub fn turn(&mut self, c: u8) -> Result<Option<Order>, Refusal>
+        requires { c < length self.old.site.plan.blocks }
+        ensures { HasTurn self.old c result self.new }
     {
-        match self.site.due(c) {
-            Due::Store => true,
-            Due::Start | Due::Bus | Due::Nothing => self.site.next(c).is_some(),
+        let up = self.site.table(c).is_some();
+        let Some(input) = self.given(c) else {
+            return Ok(None);
+        };
+        if !up {
+            return Err(Refusal::ControllerDown);
         }
+        let order = self.act(c, input)?;
+        Ok(Some(order))
     }
 
     /// The controller's number, as the site has it; or that it has no such controller.

@@ -31,16 +31,15 @@ fn take_turn(
         (λ went. Writes (string_bytes text.old) (string_bytes text.new)
         (λ more. IsTurn installation.old c went more installation.new)) }
 {
-    if !installation.has_turn(c) {
-        return Ok(Some(false));
-    }
-    match installation.go(u32::from(c)) {
-        Ok(order) => {
+    let turn = installation.turn(c);
+    match &turn {
+        Ok(None) => Ok(Some(false)),
+        Ok(Some(order)) => {
             push_kept(text, u32::from(c), order)?;
             Ok(Some(true))
         }
         Err(error) => {
-            push_refused(text, error)?;
+            push_refused(text, *error)?;
             Ok(None)
         }
     }

@@ -205,12 +205,12 @@ pub fn push_ordered(text: &mut String, c: u32, order: Order) -> Result<(), Alloc
 }
 
 /// What a controller ordered in a run: nothing is reported of a frame that is put.
-pub fn push_kept(text: &mut String, c: u32, order: Order) -> Result<(), AllocError>
-    ensures { OnOk result (string_bytes text.new ≡ string_bytes text.old ++ kept_text c order) }
+pub fn push_kept(text: &mut String, c: u32, order: &Order) -> Result<(), AllocError>
+    ensures { OnOk result (string_bytes text.new ≡ string_bytes text.old ++ kept_text c order.now) }
 {
-    match order {
+    match *order {
         Order::Put(..) => Ok(()),
-        Order::Commit(_) | Order::Done(_) | Order::Halt(_) => push_ordered(text, c, order),
+        Order::Commit(_) | Order::Done(_) | Order::Halt(_) => push_ordered(text, c, *order),
     }
 }
 
