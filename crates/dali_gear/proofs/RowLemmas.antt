@@ -1,19 +1,20 @@
-use Rattle.std.proofs.Common.{◌≡◌, ◌≢◌, ℕ, ◌+◌, ◌*◌, ◌<◌, ◌≤◌, ◌⊎◌, Bool, true, false, ◌&&◌, ◌||◌, List, [], ◌∷◌, ◌++◌, map, take, length, get_or, set, drop, replicate, refl, sym, ap, ◌∙◌, arith, add-zero, zero-add, add_assoc, inl, inr, length-set}
+use Rattle.std.proofs.Common.{◌≡◌, ◌≢◌, ℕ, ◌+◌, ◌*◌, ◌%◌, ◌<◌, ◌≤◌, ◌⊎◌, Bool, true, false, ◌&&◌, ◌||◌, List, [], ◌∷◌, ◌++◌, take, length, get_or, set, drop, replicate, refl, sym, ap, ◌∙◌, arith, add-zero, zero-add, add_assoc, inl, inr}
 use Rattle.std.proofs.lemmas.List.{drop-drop, drop_more, drop-set-lt, take_more_set, same_lists, get_or-set_same, get_or-set_other, get_or_default, get_or-replicate, length-replicate, get_or_past, set-set}
 use Rattle.std.proofs.lemmas.List.FromFn.{length-map-range_with_len, get_or-map-range_with_len}
 use Rattle.std.proofs.lemmas.Bool.{cases_eq, cases_lt, false≢true, true≢false}
 use Rattle.std.proofs.Math.Seq.{set_out}
-use Rattle.std.specs.List.{range_with_len}
 use mathlib.Core.List.{append_assoc}
+use Rattle.dali_frame.specs.declared.numbers.SearchAddress.{SearchAddress}
+use Rattle.dali_frame.specs.Random.{value_of}
 use Rattle.dali_special.specs.declared.command.Command.{Command}
 use Rattle.dali_special.specs.declared.command.Command.TheVariants.{Randomise, Terminate}
-use Rattle.dali_gear.specs.declared.state.InitialisationState.{InitialisationState}
 use Rattle.dali_gear.specs.declared.state.InitialisationState.TheVariants.{Disabled}
 use Rattle.dali_special.specs.Command.{is_send_twice}
 use Rattle.dali_gear.specs.declared.row.Reach.{Reach}
 use Rattle.dali_gear.specs.declared.row.Row.TheInside.{Inside}
-use Rattle.dali_gear.specs.Gear.{Gear, fresh, would_draw, answer}
+use Rattle.dali_gear.specs.Gear.{Gear, fresh, search_mask, would_draw, answer}
 use Rattle.dali_gear.specs.Columns.{gear_in, all_gear, IsRow, IsUnpaired}
+use Rattle.dali_gear.proofs.Places.{places_set}
 use mir.Val.{bool_byte}
 use Rattle.std.specs.Prelude.{Option, Some, None, IsSome, if◌then◌else◌, is_some, unwrap_or}
 use Rattle.dali_frame.specs.declared.frames.Answer.TheVariants.{Byte}
@@ -25,31 +26,16 @@ use Rattle.dali_gear.specs.Row.{reaches, takes, one_after, row_after, draws_need
 pub row_len : (r : Inside) → length (all_gear r) ≡ r.count
 row_len r = length-map-range_with_len (gear_in r) 0 r.count
 
--- where one gear has changed, and no other has
-pub row_set : (f new : ℕ → Gear) (n i : ℕ) (g : Gear) → i < n → new i ≡ g → ((k : ℕ) → k ≢ i → new k ≡ f k)
-    → map new (range_with_len 0 n) ≡ set (map f (range_with_len 0 n)) i g
-row_set f new n i g here is others =
-    same_lists _ _ (length-map-range_with_len new 0 n ∙ sym (length-set (map f (range_with_len 0 n)) i g ∙ length-map-range_with_len f 0 n)) (λ k d below.
-    let inside : k < n = rw (length-map-range_with_len new 0 n) at below in
-    get_or-map-range_with_len new 0 n k k d inside (zero-add k) ∙ at k d inside (cases_eq k i))
-  where
-    len : i < length (map f (range_with_len 0 n))
-    len = rw (length-map-range_with_len f 0 n) here
-
-    at : (k : ℕ) (d : Gear) → k < n → (k ≡ i) ⊎ (k ≢ i) → new k ≡ get_or (set (map f (range_with_len 0 n)) i g) k d
-    at k d inside (inl same) = ap new same ∙ is ∙ sym (ap (λ j. get_or (set (map f (range_with_len 0 n)) i g) j d) same ∙ get_or-set_same (map f (range_with_len 0 n)) i g d len)
-    at k d inside (inr other) = others k other ∙ sym (get_or-set_other (map f (range_with_len 0 n)) i k g d other ∙ get_or-map-range_with_len f 0 n k k d inside (zero-add k))
-
 gear_at : (r : Inside) (k : ℕ) → k < r.count → get_or (all_gear r) k fresh ≡ gear_in r k
 gear_at r k here = get_or-map-range_with_len (gear_in r) 0 r.count k k fresh here (zero-add k)
 
 -- a gear is read from the columns
-pub gear_is : (r : Inside) (k random : ℕ) (short : Option ℕ) (half : Option Command) → k < r.count → k < length r.random → k < length r.short
-    → half ≡ (gear_in r k).half
-    → record { powered = get_or r.powered k false; state = get_or r.state k Disabled; random = get_or r.random k random; search = (gear_in r k).search; short = get_or r.short k short; half = half }
+pub gear_is : (r : Inside) (k random : ℕ) (search : SearchAddress) (short : Option ℕ) (half : Option Command) → k < r.count → k < length r.short
+    → random ≡ (gear_in r k).random → search ≡ (gear_in r k).search → half ≡ (gear_in r k).half
+    → record { powered = get_or r.powered k false; state = get_or r.state k Disabled; random = random; search = search; short = get_or r.short k short; half = half }
     ≡ get_or (all_gear r) k fresh
-gear_is r k random short half here in_random in_short is =
-    rw (gear_at r k here, is, get_or_default r.random k random 0 in_random, get_or_default r.short k short None in_short) refl
+gear_is r k random search short half here in_short random_is search_is half_is =
+    rw (gear_at r k here, random_is, search_is, half_is, get_or_default r.short k short None in_short) refl
 
 pub half_there : (paired : List Bool) (first : List Command) (i : ℕ) (c : Command) → i < length first → get_or paired i false ≡ true
     → Some (get_or first i c) ≡ (if get_or paired i false then Some (get_or first i Terminate) else None)
@@ -76,49 +62,28 @@ pub record Wide (r : Inside) (i : ℕ) : Type 0 where
   pub powered : i < length r.powered
   pub state : i < length r.state
   pub random : i < length r.random
-  pub search_high : i < length r.search_high
-  pub search_middle : i < length r.search_middle
-  pub search_low : i < length r.search_low
+  pub search : i < length r.search
   pub short : i < length r.short
   pub paired : i < length r.paired
   pub first : i < length r.first
 
 module _ (r : Inside) (i : ℕ) (here : i < r.count) (wide : Wide r i) where
   -- the variables of a gear are written, but its half pair
-  pub put_variables_is : (g : Gear) → all_gear (record {
-    count = r.count;
-    powered = set r.powered i g.powered;
-    state = set r.state i g.state;
-    random = set r.random i g.random;
-    search_high = set r.search_high i g.search.high;
-    search_middle = set r.search_middle i g.search.middle;
-    search_low = set r.search_low i g.search.low;
-    short = set r.short i g.short;
-    paired = r.paired;
-    first = r.first;
-    some_paired = r.some_paired;
-  }) ≡ set (all_gear r) i (record g { half = (get_or (all_gear r) i fresh).half })
-  put_variables_is g = row_set (gear_in r) _ r.count i _ here
-      (rw (gear_at r i here, get_or-set_same r.powered i g.powered false wide.powered, get_or-set_same r.state i g.state Disabled wide.state, get_or-set_same r.random i g.random 0 wide.random, get_or-set_same r.search_high i g.search.high 0 wide.search_high, get_or-set_same r.search_middle i g.search.middle 0 wide.search_middle, get_or-set_same r.search_low i g.search.low 0 wide.search_low, get_or-set_same r.short i g.short None wide.short) refl)
-      (λ k other. rw (get_or-set_other r.powered i k g.powered false other, get_or-set_other r.state i k g.state Disabled other, get_or-set_other r.random i k g.random 0 other, get_or-set_other r.search_high i k g.search.high 0 other, get_or-set_other r.search_middle i k g.search.middle 0 other, get_or-set_other r.search_low i k g.search.low 0 other, get_or-set_other r.short i k g.short None other) refl)
-
-  -- the state of a gear is written
-  pub put_state_is : (s : InitialisationState) → all_gear (record {
-    count = r.count;
-    powered = r.powered;
-    state = set r.state i s;
-    random = r.random;
-    search_high = r.search_high;
-    search_middle = r.search_middle;
-    search_low = r.search_low;
-    short = r.short;
-    paired = r.paired;
-    first = r.first;
-    some_paired = r.some_paired;
-  }) ≡ set (all_gear r) i (record (get_or (all_gear r) i fresh) { state = s })
-  put_state_is s = row_set (gear_in r) _ r.count i _ here
-      (rw (gear_at r i here, get_or-set_same r.state i s Disabled wide.state) refl)
-      (λ k other. rw (get_or-set_other r.state i k s Disabled other) refl)
+  pub put_variables_is : (g : Gear) (number : SearchAddress) (random search : List SearchAddress) → value_of number ≡ g.random
+      → random ≡ set r.random i number → search ≡ set r.search i g.search → all_gear (record {
+        count = r.count;
+        powered = set r.powered i g.powered;
+        state = set r.state i g.state;
+        random = random;
+        search = search;
+        short = set r.short i g.short;
+        paired = r.paired;
+        first = r.first;
+        some_paired = r.some_paired;
+      }) ≡ set (all_gear r) i (record g { half = (get_or (all_gear r) i fresh).half })
+  put_variables_is g number random search is random_is search_is = places_set (gear_in r) _ r.count i _ here
+      (rw (gear_at r i here, random_is, search_is, get_or-set_same r.powered i g.powered false wide.powered, get_or-set_same r.state i g.state Disabled wide.state, get_or-set_same r.random i number search_mask wide.random, is, get_or-set_same r.search i g.search search_mask wide.search, get_or-set_same r.short i g.short None wide.short) refl)
+      (λ k other. rw (random_is, search_is, get_or-set_other r.powered i k g.powered false other, get_or-set_other r.state i k g.state Disabled other, get_or-set_other r.random i k number search_mask other, get_or-set_other r.search i k g.search search_mask other, get_or-set_other r.short i k g.short None other) refl)
 
   -- the half pair of a gear stays or is gone
   pub put_pair_is : (stays : Bool) → (stays ≡ true → IsSome (get_or (all_gear r) i fresh).half) → all_gear (record {
@@ -126,9 +91,7 @@ module _ (r : Inside) (i : ℕ) (here : i < r.count) (wide : Wide r i) where
     powered = r.powered;
     state = r.state;
     random = r.random;
-    search_high = r.search_high;
-    search_middle = r.search_middle;
-    search_low = r.search_low;
+    search = r.search;
     short = r.short;
     paired = set r.paired i stays;
     first = r.first;
@@ -136,7 +99,7 @@ module _ (r : Inside) (i : ℕ) (here : i < r.count) (wide : Wide r i) where
   }) ≡ set (all_gear r) i (record (get_or (all_gear r) i fresh) { half = if stays then (get_or (all_gear r) i fresh).half else None })
   put_pair_is stays one =
       let there : stays ≡ true → IsSome (gear_in r i).half = rw (gear_at r i here) at one in
-      row_set (gear_in r) _ r.count i _ here
+      places_set (gear_in r) _ r.count i _ here
       (rw (gear_at r i here, get_or-set_same r.paired i stays false wide.paired, ← pair_stays stays (get_or r.paired i false) (get_or r.first i Terminate) there) refl)
       (λ k other. rw (get_or-set_other r.paired i k stays false other) refl)
 
@@ -158,15 +121,13 @@ module _ (r : Inside) (i : ℕ) (here : i < r.count) (wide : Wide r i) where
     powered = r.powered;
     state = r.state;
     random = r.random;
-    search_high = r.search_high;
-    search_middle = r.search_middle;
-    search_low = r.search_low;
+    search = r.search;
     short = r.short;
     paired = set r.paired i true;
     first = set r.first i c;
     some_paired = true;
   }) ≡ set (all_gear r) i (record (get_or (all_gear r) i fresh) { half = Some c })
-  pair_is c = row_set (gear_in r) _ r.count i _ here
+  pair_is c = places_set (gear_in r) _ r.count i _ here
       (rw (gear_at r i here, get_or-set_same r.paired i true false wide.paired, get_or-set_same r.first i c Terminate wide.first) refl)
       (λ k other. rw (get_or-set_other r.paired i k true false other, get_or-set_other r.first i k c Terminate other) refl)
 
@@ -338,21 +299,21 @@ pub byte_bound : (o : Option ℕ) → unwrap_or o 0 < 256 → unwrap_or o 0 ≤ 
 byte_bound None small = omega arith
 byte_bound (Some byte) small = omega arith
 
-pub heard_is : (bytes : List ℕ) → heard_by (length bytes) (total bytes) ≡ heard_of bytes
-heard_is [] = refl
-heard_is (byte ∷ []) = ap (λ b. Byte b) (add-zero byte)
-heard_is (byte ∷ more ∷ rest) = refl
+-- of a sum the last eight bits are known: they are the byte, where one gear answered
+pub heard_is : (bytes : List ℕ) (sum : ℕ) → sum ≡ total bytes % 256 → total bytes ≤ 255 * length bytes → heard_by (length bytes) sum ≡ heard_of bytes
+heard_is [] sum is small = refl
+heard_is (byte ∷ []) sum is small = ap (λ b. Byte b) (omega arith)
+heard_is (byte ∷ more ∷ rest) sum is small = refl
 
 -- ---------------------------------------------------------------- gear from the factory
 
 pub factory_is : (r : Inside) (n : ℕ) → r.count ≡ n → n ≤ 128
-    → r.powered ≡ replicate 128 true → r.state ≡ replicate 128 Disabled → r.random ≡ replicate 128 0xFFFFFF
-    → r.search_high ≡ replicate 128 0xFF → r.search_middle ≡ replicate 128 0xFF → r.search_low ≡ replicate 128 0xFF
+    → r.powered ≡ replicate 128 true → r.state ≡ replicate 128 Disabled → r.random ≡ replicate 128 search_mask → r.search ≡ replicate 128 search_mask
     → r.short ≡ replicate 128 None → r.paired ≡ replicate 128 false
     → all_gear r ≡ replicate n fresh
-factory_is r n count few powered state random high middle low short paired =
+factory_is r n count few powered state random search_is short paired =
     same_lists _ _ (row_len r ∙ count ∙ sym (length-replicate n fresh)) (λ k d below.
     let inside : k < r.count = rw (row_len r) at below in
     let there : k < 128 = omega arith in
     get_or-map-range_with_len (gear_in r) 0 r.count k k d inside (zero-add k)
-    ∙ rw (powered, state, random, high, middle, low, short, paired, get_or-replicate 128 k true false there, get_or-replicate 128 k Disabled Disabled there, get_or-replicate {A = ℕ} 128 k 0xFFFFFF 0 there, get_or-replicate {A = ℕ} 128 k 0xFF 0 there, get_or-replicate {A = Option ℕ} 128 k None None there, get_or-replicate 128 k false false there, get_or-replicate n k fresh d (omega arith)) refl)
+    ∙ rw (powered, state, random, search_is, short, paired, get_or-replicate 128 k true false there, get_or-replicate 128 k Disabled Disabled there, get_or-replicate 128 k search_mask search_mask there, get_or-replicate {A = Option ℕ} 128 k None None there, get_or-replicate 128 k false false there, get_or-replicate n k fresh d (omega arith)) refl)

@@ -1,3 +1,4 @@
+pub mod Addresses
 pub mod Columns
 pub mod Gear
 pub mod Row

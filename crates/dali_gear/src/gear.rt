@@ -1,5 +1,5 @@
-ghost use Rattle.std.specs.Prelude.{◌≡◌, ◌<◌, IsTrue, Some, None, if◌then◌else◌};
-ghost use Rattle.dali_frame.specs.Random.{MASK24};
+ghost use Rattle.std.specs.Prelude.{◌≡◌, ◌<◌, ◌&&◌, nat_le, IsTrue, Some, None, if◌then◌else◌};
+ghost use Rattle.dali_frame.specs.Random.{MASK24, value_of};
 
 use crate::state::InitialisationState;
 use dali_frame::{Forward, Random24, SearchAddress, Short};
@@ -144,11 +144,37 @@ impl Gear {
         self.state != InitialisationState::Disabled
     }
 
+    /// Whether the random address is the search address.
+    ///
+    /// Their bytes are compared and not their numbers, and by `&`, so that the compiler takes sixteen gear of a row at a
+    /// time.
     #[inline(always)]
     fn is_found(&self) -> bool
         ensures { result ≡ is_found self.now }
     {
-        self.random == self.search.value()
+        let random = SearchAddress::of(self.random);
+        let search = self.search;
+        (random.high == search.high) & (random.middle == search.middle) & (random.low == search.low)
+    }
+
+    /// Whether the gear takes part in the initialisation, and its random address is the search address.
+    #[inline(always)]
+    fn is_selected(&self) -> bool
+        ensures { result ≡ (is_active self.now.state && is_found self.now) }
+    {
+        self.is_active() & self.is_found()
+    }
+
+    /// Whether the random address is at most the search address; byte by byte, as above.
+    #[inline(always)]
+    fn is_at_most(&self) -> bool
+        ensures { result ≡ nat_le self.now.random (value_of self.now.search) }
+    {
+        let random = SearchAddress::of(self.random);
+        let search = self.search;
+        let low = random.low <= search.low;
+        let middle = random.middle < search.middle || (random.middle == search.middle && low);
+        random.high < search.high || (random.high == search.high && middle)
     }
 
     /// Whether an INITIALISE of this target speaks to the gear.
@@ -182,11 +208,11 @@ impl Gear {
     {
         match *command {
             Command::Compare => {
-                let below = self.random <= self.search.value();
+                let below = self.is_at_most();
                 yes_where(self.state == InitialisationState::Enabled && below)
             }
             Command::Verify(short) => yes_where(self.is_active() && self.short == Some(short)),
-            Command::QueryShort if self.is_active() && self.is_found() => {
+            Command::QueryShort if self.is_selected() => {
                 Some(self.short.map_or(NO_ADDRESS, Short::code))
             }
             Command::RandomByte(short, part) => {
@@ -230,7 +256,7 @@ impl Gear {
                 }
             }
             Command::Withdraw => {
-                if self.state == InitialisationState::Enabled && self.is_found() {
+                if (self.state == InitialisationState::Enabled) & self.is_found() {
                     InitialisationState::Withdrawn
                 } else {
                     self.state
@@ -273,7 +299,7 @@ impl Gear {
     {
         match *command {
             Command::Program(short) => {
-                if self.is_active() && self.is_found() {
+                if self.is_selected() {
                     short
                 } else {
                     self.short

@@ -4,6 +4,7 @@
 //! A gear is a pure state machine. No call takes memory or fails.
 #![tactic(auto)]
 
+mod addresses;
 mod gear;
 mod gear_set;
 mod row;

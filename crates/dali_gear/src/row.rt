@@ -5,6 +5,7 @@ ghost use Rattle.std.specs.Prelude.{true, false, IsSome, Some, slice_index_or, s
 ghost use Rattle.dali_gear.specs.Gear.{fresh};
 ghost use Rattle.dali_gear.specs.Row.{reaches, heard_by, one_after};
 
+use crate::addresses::Addresses;
 use crate::gear::{Effect, Gear};
 use crate::gear_set::GearSet;
 use crate::state::InitialisationState;
@@ -54,10 +55,8 @@ pub struct Row {
     count: usize,
     powered: [bool; 128],
     state: [InitialisationState; 128],
-    random: [Random24; 128],
-    search_high: [u8; 128],
-    search_middle: [u8; 128],
-    search_low: [u8; 128],
+    random: Addresses,
+    search: Addresses,
     short: [Option<Short>; 128],
     /// Whether there is a half pair.
     paired: [bool; 128],
@@ -82,7 +81,7 @@ impl Model for Row {
 
 impl Row {
     ghost use Rattle.dali_frame.specs.Random.{MASK24};
-    ghost use Rattle.dali_special.specs.declared.command.Command.TheVariants.{Randomise, Withdraw};
+    ghost use Rattle.dali_special.specs.declared.command.Command.TheVariants.{Randomise};
     ghost use Rattle.dali_gear.specs.Gear.{would_draw, answer, without_power, with_power, gear_expired, gear_quieted};
     ghost use Rattle.dali_gear.specs.Row.{row_after, answers_of, heard_of, draws_needed};
     ghost use Rattle.dali_gear.specs.Columns.{IsUnpaired};
@@ -97,10 +96,8 @@ impl Row {
             count,
             powered: [true; 128],
             state: [InitialisationState::Disabled; 128],
-            random: [Random24::MASK; 128],
-            search_high: [0xFF; 128],
-            search_middle: [0xFF; 128],
-            search_low: [0xFF; 128],
+            random: Addresses::masked(),
+            search: Addresses::masked(),
             short: [None; 128],
             paired: [false; 128],
             first: [Command::Terminate; 128],
@@ -127,12 +124,8 @@ impl Row {
         Gear {
             powered: self.powered[number],
             state: self.state[number],
-            random: self.random[number],
-            search: SearchAddress {
-                high: self.search_high[number],
-                middle: self.search_middle[number],
-                low: self.search_low[number],
-            },
+            random: self.random.get(number).value(),
+            search: self.search.get(number),
             short: self.short[number],
             half: if self.paired[number] {
                 Some(self.first[number])
@@ -152,21 +145,9 @@ impl Row {
     {
         self.powered[number] = gear.powered;
         self.state[number] = gear.state;
-        self.random[number] = gear.random;
+        self.random.set(number, SearchAddress::of(gear.random));
         self.short[number] = gear.short;
-        self.search_high[number] = gear.search.high;
-        self.search_middle[number] = gear.search.middle;
-        self.search_low[number] = gear.search.low;
-    }
-
-    /// Writes the state of a gear.
-    #[tactic(auto, using(crate::proofs::RowLemmas::row_len))]
-    #[inline(always)]
-    fn put_state(&mut self, number: usize, state: InitialisationState)
-        requires { number < length self.old }
-        ensures { self.new ≡ slice_set self.old number (record (slice_index_or self.old number fresh) { state = state }) }
-    {
-        self.state[number] = state;
+        self.search.set(number, gear.search);
     }
 
     /// The half pair of a gear stays or is gone.
@@ -193,34 +174,15 @@ impl Row {
         self.put_pair(number, stays);
     }
 
-    /// Writes what a command that is not send-twice may change of a gear, but its half pair. At WITHDRAW it writes the
-    /// state alone, since the compiler takes many gear at a time then; of the other commands the compiler sees what they
-    /// change.
-    #[inline(always)]
-    fn put_changed(&mut self, number: usize, command: &Command, gear: &Gear)
-        requires there { number < length self.old }
-        requires withdrawn { command.now ≡ Withdraw → gear.now
-            ≡ record (slice_index_or self.old number fresh) { state = gear.now.state; half = gear.now.half } }
-        ensures { self.new ≡ slice_set self.old number
-            (record gear.now { half = (slice_index_or self.old number fresh).half }) }
-    {
-        match *command {
-            Command::Withdraw => self.put_state(number, gear.state),
-            _ => self.put_variables(number, gear),
-        }
-    }
-
     /// Writes a gear after a command that is not send-twice. Where `paired` is false, it has no half pair, and had none.
     #[inline(always)]
-    fn put_taken(&mut self, number: usize, command: &Command, gear: &Gear, paired: bool)
+    fn put_taken(&mut self, number: usize, gear: &Gear, paired: bool)
         requires there { number < length self.old }
         requires half { (gear.now.half ≡ None) ⊎ (gear.now.half ≡ (slice_index_or self.old number fresh).half) }
         requires unpaired { paired ≡ false → (slice_index_or self.old number fresh).half ≡ None }
-        requires withdrawn { command.now ≡ Withdraw → gear.now
-            ≡ record (slice_index_or self.old number fresh) { state = gear.now.state; half = gear.now.half } }
         ensures { self.new ≡ slice_set self.old number gear.now }
     {
-        self.put_changed(number, command, gear);
+        self.put_variables(number, gear);
         if paired {
             self.put_pair(number, gear.half.is_some());
         }
@@ -427,8 +389,9 @@ impl Row {
         ensures drawn { result.drawn ≡ draws_needed reach command.now 0 self.old }
         ensures answer { result.answer ≡ heard_of (answers_of reach command.now 0 self.old) }
     {
-        let mut answers = 0;
-        let mut bytes = 0;
+        // Both are bytes, as what is compared, so that the compiler takes sixteen gear at a time.
+        let mut answers: u8 = 0;
+        let mut sum: u8 = 0;
         let mut drawn = 0;
         // No row is longer: the bound tells the compiler that the arrays do not reach into one another.
         for number in 0..self.len().min(128) {
@@ -439,12 +402,12 @@ impl Row {
                 &draws[drawn..],
                 paired,
             );
-            answers += u32::from(effect.answer.is_some());
-            bytes += u32::from(effect.answer.unwrap_or(0));
+            answers += u8::from(effect.answer.is_some());
+            sum = sum.wrapping_add(effect.answer.unwrap_or(0));
             drawn += usize::from(effect.drew);
         }
         Heard {
-            answer: heard_together(answers, bytes),
+            answer: heard_together(answers, sum),
             drawn,
         }
     }
@@ -478,7 +441,7 @@ impl Row {
         if command.is_send_twice() {
             self.set(number, after);
         } else {
-            self.put_taken(number, command, &after, paired);
+            self.put_taken(number, &after, paired);
         }
         let answer = gear.answer(command);
         Effect {
@@ -489,6 +452,8 @@ impl Row {
 }
 
 /// A gear after a command, which it takes or not; it draws the first number, if it draws.
+///
+/// What it is after the command is made in both cases, so that the compiler takes many gear at a time.
 #[inline(always)]
 fn after_one(gear: &Gear, command: &Command, taken: bool, draws: &[Random24]) -> Gear
     ensures { result ≡ one_after taken command.now draws.now gear.now }
@@ -497,22 +462,18 @@ fn after_one(gear: &Gear, command: &Command, taken: bool, draws: &[Random24]) ->
         Some(draw) => *draw,
         None => gear.random,
     };
-    if taken {
-        gear.after(command, draw)
-    } else {
-        *gear
-    }
+    let after = gear.after(command, draw);
+    if taken { after } else { *gear }
 }
 
-/// What is heard of so many answers, whose bytes have this sum.
+/// What is heard of so many answers. Where there is one, `sum` is its byte.
 #[inline(always)]
-fn heard_together(answers: u32, sum: u32) -> Answer
-    requires { sum ≤ 255 * answers }
+fn heard_together(answers: u8, sum: u8) -> Answer
     ensures { result ≡ heard_by answers sum }
 {
-    match (answers, u8::try_from(sum)) {
-        (0, _) => Answer::Silence,
-        (1, Ok(byte)) => Answer::Byte(byte),
+    match answers {
+        0 => Answer::Silence,
+        1 => Answer::Byte(sum),
         _ => Answer::Damaged,
     }
 }

@@ -1,4 +1,5 @@
 use Rattle.std.proofs.Common.{rules, ◌≡◌, Some, ap, ◌∙◌, get_or}
+use Rattle.dali_frame.specs.Random.{value_of}
 use Rattle.dali_gear.specs.Gear.{fresh}
 use Rattle.dali_gear.proofs.RowLemmas.{gear_is, row_len, half_there, half_gone}
 use Rattle.dali_gear.proofs.row.Row.gear.Goals.{then-self-number, else-self-number}
@@ -6,7 +7,8 @@ use Rattle.dali_gear.proofs.row.Row.gear.Goals as goal
 
 pub returns : goal.returns
 returns c =
-    gear_is c.self.inside c.args.number c.index-self-number.result c.index-self-number-2.result c.if-self-number.result (search (rules, row_len)) (search (rules, row_len)) (search (rules, row_len))
+    gear_is c.self.inside c.args.number c.value.result c.get-2.result c.index-self-number.result c.if-self-number.result (search (rules, row_len)) (search (rules, row_len))
+    (c.value.ensures ∙ ap (λ s. value_of s) c.get.ensures) c.get-2.ensures
     (elim c.if-self-number.branch [
       | then-self-number w ↦
           let is : c.if-self-number.result ≡ Some (get_or c.self.inside.first c.args.number w.index-self-number-then-self-number.result) = w.result-is in

@@ -11,5 +11,7 @@ loop-number-preserved c = record { seen = seen_more c.loop-number.some c.self.in
 pub invariant_of-self : goal.invariant_of-self
 invariant_of-self c = record {
   few = c.self.invariant.few;
+  random = c.self.invariant.random;
+  search = c.self.invariant.search;
   unpaired = λ none k below. c.loop-number.invariant.seen none k (let end = c.loop-number-test.false in omega arith);
 }

@@ -1,4 +1,4 @@
-use Rattle.std.proofs.Common.{refl, replicate, true, false, None, arith}
+use Rattle.std.proofs.Common.{rules, refl, replicate, true, false, None, arith}
 use Rattle.std.proofs.lemmas.List.{get_or-replicate}
 use Rattle.dali_special.specs.declared.command.Command.TheVariants.{Terminate}
 use Rattle.dali_gear.specs.declared.state.InitialisationState.TheVariants.{Disabled}
@@ -10,15 +10,13 @@ returns c = factory_is (record {
   count = c.args.count;
   powered = replicate 128 true;
   state = replicate 128 Disabled;
-  random = replicate 128 0xFFFFFF;
-  search_high = replicate 128 0xFF;
-  search_middle = replicate 128 0xFF;
-  search_low = replicate 128 0xFF;
+  random = c.masked.result;
+  search = c.masked-2.result;
   short = replicate 128 None;
   paired = replicate 128 false;
   first = replicate 128 Terminate;
   some_paired = false;
-}) c.args.count refl c.requires refl refl refl refl refl refl refl refl
+}) c.args.count refl c.requires refl refl c.masked.ensures c.masked-2.ensures refl refl
 
-pub invariant_of-result-2 : goal.invariant_of-result-2
-invariant_of-result-2 c = record { few = c.requires; unpaired = λ none k below. get_or-replicate 128 k false false (let few = c.requires in omega arith) }
+pub invariant_of-result : goal.invariant_of-result
+invariant_of-result c = record { few = c.requires; random = search rules; search = search rules; unpaired = λ none k below. get_or-replicate 128 k false false (let few = c.requires in omega arith) }

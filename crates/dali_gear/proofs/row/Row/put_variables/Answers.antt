@@ -11,11 +11,9 @@ returns c =
       powered = search (rules, row_len);
       state = search (rules, row_len);
       random = search (rules, row_len);
-      search_high = search (rules, row_len);
-      search_middle = search (rules, row_len);
-      search_low = search (rules, row_len);
+      search = search (rules, row_len);
       short = search (rules, row_len);
       paired = search (rules, row_len);
       first = search (rules, row_len);
-    }) (the_view c.gear.inside)
+    }) (the_view c.gear.inside) c.of.result c.set.new.self c.set-2.new.self c.of.ensures.value c.set.ensures c.set-2.ensures
     ∙ ap₂ {B = Gear} {C = List Gear} (λ gs g. set gs c.args.number (record g { half = (get_or gs c.args.number fresh).half })) c.self.view_is c.gear.view_is

@@ -1,5 +1,6 @@
-use Rattle.std.proofs.Common.{rules, refl, ◌<◌, ◌&&◌, length, drop, get_or, ap, ◌∙◌, length-set}
+use Rattle.std.proofs.Common.{rules, refl, ◌+◌, ◌<◌, ◌&&◌, length, drop, get_or, ap, ◌∙◌, length-set}
 use Rattle.std.proofs.lemmas.List.{take_rest}
+use Rattle.std.specs.Prelude.{unwrap_or}
 use Rattle.dali_gear.specs.Gear.{fresh}
 use Rattle.dali_gear.specs.Row.{one_after}
 use Rattle.dali_gear.proofs.RowLemmas.{rest_is, next_is, Turn, gear_more, drawn_more, counted_more, summed_more, byte_bound, bit_bound, one_unpaired, unpaired_set}
@@ -26,9 +27,15 @@ loop-number-preserved c =
       gear = rw (gear, c.from-drawn.ensures) (gear_more _ _ _ _ _ _ _ _ _ _ _ turn c.loop-number.invariant.gear);
       drawn = rw c.from-drawn.ensures (drawn_more _ _ _ _ _ _ _ _ _ _ _ turn c.loop-number.invariant.drawn);
       counted = rw (c.from-answers.ensures, c.is_some.ensures) (counted_more _ _ _ _ _ _ _ _ _ turn _ c.take_at-effect.ensures.answer _ _ c.loop-number.invariant.counted);
-      summed = rw (c.from-bytes.ensures, c.unwrap_or.ensures) (summed_more _ _ _ _ _ _ _ _ _ turn _ c.take_at-effect.ensures.answer _ _ c.loop-number.invariant.summed);
+      summed =
+          let before = c.loop-number.invariant.summed in
+          let byte = byte_bound c.take_at-effect.result.answer (search rules) in (
+            before.0 + unwrap_or c.take_at-effect.result.answer 0,
+            summed_more _ _ _ _ _ _ _ _ _ turn _ c.take_at-effect.ensures.answer _ _ before.1,
+            let kept = before.2 in search rules,
+            let small = before.3 in search rules,
+          );
       few = let bit = bit_bound c.is_some.result in search rules;
-      below = let byte = byte_bound c.take_at-effect.result.answer (search rules) in search rules;
       unpaired = λ off. rw gear (unpaired_set c.loop-number.self c.loop-number.number _ (c.loop-number.invariant.unpaired off)
           (one_unpaired (old.powered && c.includes.result) c.args.command.now left old (c.requires.unpaired off).0 (c.loop-number.invariant.unpaired off c.loop-number.number)));
       len = ap (λ gs. length gs) gear ∙ length-set c.loop-number.self c.loop-number.number _ ∙ c.loop-number.invariant.len;

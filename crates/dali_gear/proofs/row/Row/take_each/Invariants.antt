@@ -1,4 +1,4 @@
-use Rattle.std.proofs.Common.{◌≡◌, ◌≤◌, ◌+◌, ◌*◌, take, drop, ◌++◌, length, false}
+use Rattle.std.proofs.Common.{◌≡◌, ℕ, ◌≤◌, ◌+◌, ◌*◌, ◌%◌, take, drop, ◌++◌, length, false}
 use Rattle.dali_gear.specs.Columns.{IsUnpaired}
 use Rattle.dali_gear.specs.Row.{row_after, answers_of, draws_needed}
 use Rattle.dali_gear.proofs.RowLemmas.{total}
@@ -10,9 +10,9 @@ invariant-loop-number l = record {
   gear : take l.number l.self ++ row_after l.reach l.command l.number (drop l.number l.fn.self) (drop l.drawn l.draws) ≡ row_after l.reach l.command 0 l.fn.self l.draws;
   drawn : l.drawn + draws_needed l.reach l.command l.number (drop l.number l.fn.self) ≡ draws_needed l.reach l.command 0 l.fn.self;
   counted : l.answers + length (answers_of l.reach l.command l.number (drop l.number l.fn.self)) ≡ length (answers_of l.reach l.command 0 l.fn.self);
-  summed : l.bytes + total (answers_of l.reach l.command l.number (drop l.number l.fn.self)) ≡ total (answers_of l.reach l.command 0 l.fn.self);
+  summed : (bytes : ℕ) × (bytes + total (answers_of l.reach l.command l.number (drop l.number l.fn.self)) ≡ total (answers_of l.reach l.command 0 l.fn.self))
+      × (l.sum ≡ bytes % 256) × (bytes ≤ 255 * l.answers);
   few : l.answers ≤ l.number;
-  below : l.bytes ≤ 255 * l.answers;
   unpaired : l.paired ≡ false → IsUnpaired l.self;
   len : length l.self ≡ length l.fn.self;
 }
