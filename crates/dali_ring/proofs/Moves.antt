@@ -106,22 +106,22 @@ module _ {X : Type 0} (s : List (Slot X)) (n from to b : ℕ) (tails : List ℕ)
   C = record { link = at; item = item_at s c }
 
   abbrev after : List (Slot X)
-  after = set (set (set s b A) at B) c C
+  after = set (set (set s b A) c C) at B
 
   abbrev none : Slot X
   none = record { link = 0; item = None }
 
   read_b : slot_at after b ≡ A
-  read_b = get_or-set_other (set (set s b A) at B) c b C none b_c ∙ two_second s b at A B none b_within b_at
+  read_b = get_or-set_other (set (set s b A) c C) at b B none b_at ∙ two_second s b c A C none b_within b_c
 
   read_at : slot_at after at ≡ B
-  read_at = get_or-set_other (set (set s b A) at B) c at C none at_c ∙ two_first s b at A B none at_within
+  read_at = two_first (set s b A) c at C B none (omega (arith, at_within, length-set s b A))
 
   read_c : slot_at after c ≡ C
-  read_c = two_first (set s b A) at c B C none (omega (arith, c_within, length-set s b A))
+  read_c = get_or-set_other (set (set s b A) c C) at c B none (λ same. at_c (sym same)) ∙ two_first s b c A C none c_within
 
   read_other : (i : ℕ) → i ≢ b → i ≢ at → i ≢ c → slot_at after i ≡ slot_at s i
-  read_other i ub ua uc = get_or-set_other (set (set s b A) at B) c i C none uc ∙ two_other s b at i A B none ub ua
+  read_other i ub ua uc = get_or-set_other (set (set s b A) c C) at i B none ua ∙ two_other s b c i A C none ub uc
 
   items_same : (i : ℕ) → i ≢ at → item_at after i ≡ item_at s i
   items_same i ua = ⊎_elim (λ (is : i ≡ b). rw is (ap (λ (q : Slot X). q.item) read_b))
@@ -155,7 +155,7 @@ module _ {X : Type 0} (s : List (Slot X)) (n from to b : ℕ) (tails : List ℕ)
       → Holds after n (set (set tails from l) to at) (set (set (lines s n) from (us ++ rest)) to (get_or (lines s n) to [] ++ new ∷ []))
   held l is = record {
     six = omega (arith, length-set (set (lines s n) from (us ++ rest)) to (get_or (lines s n) to [] ++ new ∷ []), length-set (lines s n) from (us ++ rest));
-    slots = omega (arith, h.slots, length-set (set (set s b A) at B) c C, length-set (set s b A) at B, length-set s b A);
+    slots = omega (arith, h.slots, length-set (set (set s b A) c C) at B, length-set (set s b A) c C, length-set s b A);
     ends = omega (arith, h.ends, length-set (set tails from l) to at, length-set tails from l);
     lists = λ q low. ⊎_elim
         (λ (same : q ≡ to). rw (same, two_first tails from to l at 0 (omega (arith, h.ends)), two_first (lines s n) from to (us ++ rest) (get_or (lines s n) to [] ++ new ∷ []) [] (omega arith))
@@ -183,18 +183,18 @@ module _ {X : Type 0} (s : List (Slot X)) (n from to b : ℕ) (tails : List ℕ)
   still = started (link_at s) (link_at after) (item_at s) (item_at after) n (n + from) (n + to) t (n + from) b c (n + to) us rest (get_or (lines s n) to []) x new the_move
 
   -- the same, as the code reads and writes
-  pub moved : (first second end : Slot X) → slice_get s b ≡ Some first → slice_get s first.link ≡ Some second → slice_get s c ≡ Some end
-      → (one two three : List (Slot X)) → one ≡ set s b (record { link = second.link; item = first.item })
-      → two ≡ set one first.link (record { link = n + to; item = new }) → three ≡ set two c (record { link = first.link; item = end.item })
+  pub moved : (first second : Slot X) → slice_get s b ≡ Some first → slice_get s first.link ≡ Some second
+      → (one two three : List (Slot X)) → one ≡ set s b (record (slot_at s b) { link = second.link })
+      → two ≡ set one c (record (slot_at one c) { link = first.link }) → three ≡ set two first.link (record { link = n + to; item = new })
       → (l : ℕ) → (second.link < n → l ≡ t) → (n ≤ second.link → l ≡ b)
       → Holds three n (set (set tails from l) to first.link) (set (set (lines s n) from (us ++ rest)) to (get_or (lines s n) to [] ++ new ∷ []))
       × Leads (link_at three) (item_at three) n b (n + from) us
-  moved first second end f1 f2 f3 one two three w1 w2 w3 l low_is high_is =
+  moved first second f1 f2 one two three w1 w2 w3 l low_is high_is =
       let e1 : slot_at s b ≡ first = get_or_from_slice_get s b first none f1 in
       let e2 : slot_at s at ≡ second = ap (λ (q : Slot X). slot_at s q.link) e1 ∙ get_or_from_slice_get s first.link second none f2 in
-      let e3 : slot_at s c ≡ end = get_or_from_slice_get s c end none f3 in
+      let e3 : slot_at one c ≡ slot_at s c = ap (λ xs. slot_at xs c) w1 ∙ get_or-set_other s b c _ none (λ is. b_c (sym is)) in
       let same : last_left rest b t ≡ l = left_is l (λ low. low_is (subst (λ (q : Slot X). q.link < n) e2 low)) (λ high. high_is (subst (λ (q : Slot X). n ≤ q.link) e2 high)) in
-      rw (w3, w2, w1, ← e1, ← e2, ← e3) (held l same, still)
+      rw (w3, w2, e3, w1, ← e1, ← e2) (held l same, still)
 
   pub first_low : (first : Slot X) → slice_get s b ≡ Some first → first.link < n
   first_low first f1 = subst (λ (q : Slot X). q.link < n) (get_or_from_slice_get s b first none f1) at_low

@@ -88,29 +88,15 @@ impl<T: Copy> Links<T> {
             → Leads (link_at self.new.slots) (item_at self.new.slots) self.new.capacity before (self.new.capacity + from) us }
     {
         let last = self.tails[to];
-        let first = self.slots.read(before);
-        let at = first.link;
+        let at = self.slots.read(before).link;
         let next = self.slots.read(at).link;
-        let end = self.slots.read(last);
-        self.slots.write(
-            before,
-            Slot {
-                link: next,
-                item: first.item,
-            },
-        );
+        self.slots.relink(before, next);
+        self.slots.relink(last, at);
         self.slots.write(
             at,
             Slot {
                 link: self.capacity + to,
                 item,
-            },
-        );
-        self.slots.write(
-            last,
-            Slot {
-                link: at,
-                item: end.item,
             },
         );
         let left = if next < self.capacity {

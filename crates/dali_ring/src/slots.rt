@@ -1,5 +1,6 @@
 ghost use Rattle.std.specs.Prelude.{◌≡◌, ℕ, ◌+◌, ◌^◌, ◌<◌, length, slice_get, slice_set, Some, IfOk};
 ghost use Rattle.dali_ring.specs.Fresh.{fresh_to};
+ghost use Rattle.dali_ring.specs.Linked.{slot_at};
 
 use crate::block::{Origin, Places, Release, allocate, free};
 use std::alloc::{AllocError, Global};
@@ -93,5 +94,14 @@ impl<T: Copy> Slots<T> {
         ensures { self.new ≡ slice_set self.old number slot }
     {
         self.places.put(self.origin, number, slot);
+    }
+
+    /// Lets the slot of a number lead to another. Its item stays.
+    pub(crate) fn relink(&mut self, number: usize, link: usize)
+        requires { number < length self.old }
+        ensures { self.new ≡ slice_set self.old number (record (slot_at self.old number) { link = link }) }
+    {
+        let item = self.read(number).item;
+        self.write(number, Slot { link, item });
     }
 }
