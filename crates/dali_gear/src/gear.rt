@@ -146,8 +146,8 @@ impl Gear {
 
     /// Whether the random address is the search address.
     ///
-    /// Their bytes are compared and not their numbers, and by `&`, so that the compiler takes sixteen gear of a row at a
-    /// time.
+    /// Their bytes are compared and not their numbers, and by `&`, so that the compiler takes sixteen gear of a row at
+    /// a time.
     #[inline(always)]
     fn is_found(&self) -> bool
         ensures { result ≡ is_found self.now }

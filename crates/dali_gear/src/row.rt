@@ -174,7 +174,8 @@ impl Row {
         self.put_pair(number, stays);
     }
 
-    /// Writes a gear after a command that is not send-twice. Where `paired` is false, it has no half pair, and had none.
+    /// Writes a gear after a command that is not send-twice. Where `paired` is false, it has no half pair, and had
+    /// none.
     #[inline(always)]
     fn put_taken(&mut self, number: usize, gear: &Gear, paired: bool)
         requires there { number < length self.old }
