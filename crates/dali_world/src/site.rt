@@ -105,7 +105,6 @@ impl SiteState {
     /// Refusals, in this order: 1 UnknownController, 2 ControllerDown, 3 NotDue, 7 QueueFull (whatever it would order),
     /// 8 LogFull.
     #[tactic(auto, unfolding(crate::specs::Site::Acts))]
-    #[inline(always)]
     pub fn act(&mut self, c: u8, input: Input) -> Result<Receipt, Refusal>
         ensures sound { IsSound self.old }
         ensures answer { Acts self.old c input result self.new }
@@ -168,7 +167,6 @@ impl SiteState {
     ///
     /// Without a request it answers `Idle` before any refusal, and logs nothing. Refusals, in this order: 6 DrawsSpent,
     /// 8 LogFull.
-    #[inline(always)]
     pub fn pump(&mut self, trouble: Trouble) -> Result<Report, Refusal>
         ensures pumped { IfOk result (λ report. Pumps self.old trouble report self.new) }
         ensures refused { IfErr result (λ e. IsPumpRefused self.old trouble e) }
