@@ -36,7 +36,7 @@ docs/FORMAT.md of the repository has each line, its report and the exit statuses
 const AFTER_HELP: &str = "\
 Examples:
   dali_sim replay < examples/plain-path.txt
-  dali_sim threads --gear 8 --seed 1 --turns 100000 0-1 2-3 4-5 6-7
+  dali_sim threads --gear 8 --seed 1 --turns 100000 0-15 16-31
 
 The manual is README.md of the repository, and docs/FORMAT.md for each line that is read or written.";
 

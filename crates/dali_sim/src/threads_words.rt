@@ -22,7 +22,7 @@ has had its turns. Standard input is not read. The report is written when all ha
 What the threads do when is open, so two runs of one command line may give different addresses.";
 
 const AFTER_HELP: &str = "\
-Example: dali_sim threads --gear 8 --seed 1 --turns 100000 0-1 2-3 4-5 6-7
+Example: dali_sim threads --gear 8 --seed 1 --turns 100000 0-15 16-31
 
 README.md of the repository shows what it writes, docs/FORMAT.md has each line and the exit statuses.";
 
