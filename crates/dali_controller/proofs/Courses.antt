@@ -11,7 +11,7 @@ use Rattle.dali_special.specs.Command.{frame_of}
 use Rattle.dali_script.specs.declared.records.Record.{Record}
 use Rattle.dali_script.specs.declared.records.Record.TheVariants.{Enrol}
 use Rattle.dali_script.specs.declared.stage.Stage.{Stage}
-use Rattle.dali_script.specs.declared.stage.Stage.TheVariants.{Free, Spelled}
+use Rattle.dali_script.specs.declared.stage.Stage.TheVariants.{Free, Inconclusive, Spelled}
 use Rattle.dali_script.specs.Records.{Assignment, Kept, Has, IsOnce, addresses, randoms, HasAddress, HasRandom}
 use Rattle.dali_script.specs.Stages.{stage_of}
 use Rattle.dali_script.proofs.Lists.{has_map}
@@ -30,7 +30,7 @@ use Rattle.dali_controller.specs.declared.purpose.Purpose.TheVariants.{Opening, 
 use Rattle.dali_controller.specs.declared.work.Work.{Work}
 use Rattle.dali_controller.specs.Course.{Course, turn_of, is_yes, after_step, probed, number_at, address_for, unless_enrolled, unfinished_at, unfinished_among, here_or_later}
 use Rattle.dali_controller.specs.Machine.{Machine, machine_lost, machine_committed, machine_told}
-use Rattle.dali_controller.specs.Next.{begins_at, course_by}
+use Rattle.dali_controller.specs.Next.{begins_at, course_by, next_course, beginning}
 use Rattle.dali_controller.specs.Orders.{AfterFinding, AfterEnrolled, IsFollowed}
 use Rattle.dali_controller.specs.Moments.{machine_of, course_of, IsFine, Starts}
 use Rattle.dali_controller.specs.Whole.{Pending}
@@ -144,6 +144,8 @@ pub followed_start : (w : Work) (o : Order) → IsFine w → w.last ≡ None →
 followed_start w o fine none = record {
   sent = λ c e. absurd (no_turn w.purpose w.number (stage_of w.trace) c (subst (Pending (machine_of w)) none fine.whole).free e);
   told = λ b n s e. absurd (let there : Free ≡ Spelled b (Some n) = sym (subst (Pending (machine_of w)) none fine.whole).free ∙ s in cc);
+  another = λ b n s e. absurd (let there : Free ≡ Spelled b (Some n) = sym (subst (Pending (machine_of w)) none fine.whole).free ∙ s in cc);
+  unconfirmed = λ r x s. absurd (let there : Free ≡ Inconclusive r x = sym (subst (Pending (machine_of w)) none fine.whole).free ∙ s in cc);
   enrolled = λ b n e. absurd (let there : None ≡ Some (Commit (Enrol b n)) = sym none ∙ e in cc);
 }
 
@@ -151,6 +153,8 @@ pub followed_lost : (w : Work) (o : Order) → due_after w.last ≡ due.Bus → 
 followed_lost w o bus = record {
   sent = λ c e. absurd (no_turn w.purpose w.number (stage_of []) c stage_none e);
   told = λ b n s e. absurd (let there : Free ≡ Spelled b (Some n) = sym stage_none ∙ s in cc);
+  another = λ b n s e. absurd (let there : Free ≡ Spelled b (Some n) = sym stage_none ∙ s in cc);
+  unconfirmed = λ r x s. absurd (let there : Free ≡ Inconclusive r x = sym stage_none ∙ s in cc);
   enrolled = λ b n e. absurd (let there = subst (λ l. due_after l ≡ due.Bus) e bus in cc);
 }
 
@@ -160,10 +164,15 @@ heard_last m f h put = rw put refl
 -- a frame that was heard follows no enrolment
 pub followed_heard : (w mid : Work) (o : Order) (f : Forward) (h : Answer) → frame_put w.last ≡ Some f → machine_of mid ≡ machine_told (machine_of w) (input.Heard h)
     → ((c : Command) → turn_of mid.purpose mid.number (stage_of mid.trace) ≡ Some c → o ≡ Put LATER (frame_of c))
-    → ((b n : ℕ) → stage_of mid.trace ≡ Spelled b (Some n) → n ≡ value_of mid.number → AfterFinding (machine_of mid) b n o) → IsFollowed (machine_told (machine_of w) (input.Heard h)) o
-followed_heard w mid o f h put is sent told = record {
+    → ((b n : ℕ) → stage_of mid.trace ≡ Spelled b (Some n) → n ≡ value_of mid.number → AfterFinding (machine_of mid) b n o)
+    → ((b n : ℕ) → stage_of mid.trace ≡ Spelled b (Some n) → (n ≡ value_of mid.number → ⊥) → o ≡ beginning (next_course (machine_of mid)))
+    → ((r : SearchAddress) (x : Option ℕ) → stage_of mid.trace ≡ Inconclusive r x → o ≡ beginning (next_course (machine_of mid)))
+    → IsFollowed (machine_told (machine_of w) (input.Heard h)) o
+followed_heard w mid o f h put is sent told another unconfirmed = record {
   sent = subst (λ (t : Machine). (c : Command) → turn_of t.course.purpose t.course.number (stage_of t.trace) ≡ Some c → o ≡ Put LATER (frame_of c)) is sent;
   told = subst (λ (t : Machine). (b n : ℕ) → stage_of t.trace ≡ Spelled b (Some n) → n ≡ value_of t.course.number → AfterFinding t b n o) is told;
+  another = subst (λ (t : Machine). (b n : ℕ) → stage_of t.trace ≡ Spelled b (Some n) → (n ≡ value_of t.course.number → ⊥) → o ≡ beginning (next_course t)) is another;
+  unconfirmed = subst (λ (t : Machine). (r : SearchAddress) (x : Option ℕ) → stage_of t.trace ≡ Inconclusive r x → o ≡ beginning (next_course t)) is unconfirmed;
   enrolled = λ b n e. absurd (let there = subst (λ l. frame_put l ≡ Some f) (sym (heard_last (machine_of w) f h put) ∙ e) put in cc);
 }
 
@@ -174,6 +183,8 @@ followed_committed w x o fine ordered enrolled = record {
   sent = λ c e. absurd (no_turn w.purpose w.number (stage_of w.trace) c (free_stored w w.last x ordered fine.whole)
       (subst (λ r. turn_of (machine_committed (machine_of w) r).course.purpose (machine_committed (machine_of w) r).course.number (stage_of (machine_committed (machine_of w) r).trace) ≡ Some c) ordered e));
   told = λ b n s e. absurd (let there : Free ≡ Spelled b (Some n) = sym (free_stored w w.last x ordered fine.whole) ∙ subst (λ r. stage_of (machine_committed (machine_of w) r).trace ≡ Spelled b (Some n)) ordered s in cc);
+  another = λ b n s e. absurd (let there : Free ≡ Spelled b (Some n) = sym (free_stored w w.last x ordered fine.whole) ∙ subst (λ r. stage_of (machine_committed (machine_of w) r).trace ≡ Spelled b (Some n)) ordered s in cc);
+  unconfirmed = λ r y s. absurd (let there : Free ≡ Inconclusive r y = sym (free_stored w w.last x ordered fine.whole) ∙ subst (λ q. stage_of (machine_committed (machine_of w) q).trace ≡ Inconclusive r y) ordered s in cc);
   enrolled = λ b n e. enrolled b n (same x b n (sym ordered ∙ ap record_ordered (sym (committed_stays (machine_of w) (record_ordered w.last)) ∙ e)));
 } where
   same : (x : Record) (b n : ℕ) → Some x ≡ Some (Enrol b n) → x ≡ Enrol b n

@@ -13,7 +13,7 @@ use Rattle.dali_script.specs.declared.records.Record.{Record}
 use Rattle.dali_script.specs.declared.records.Record.TheVariants.{Reserve, Enrol, Release}
 use Rattle.dali_script.specs.declared.trace.Entry.{Entry}
 use Rattle.dali_script.specs.declared.stage.Stage.TheVariants.{Terminated, Probed, Unnamed}
-use Rattle.dali_script.specs.declared.stage.Stage.TheVariants.{Withdrawn, Spelled}
+use Rattle.dali_script.specs.declared.stage.Stage.TheVariants.{Inconclusive, Withdrawn, Spelled}
 use Rattle.dali_script.specs.Records.{Assignment, Has, HasRandom, Fits, MayAdd, IsLeastFree}
 use Rattle.dali_script.specs.Records.{IsFull}
 use Rattle.dali_script.specs.Scripts.{Lawful}
@@ -29,7 +29,7 @@ use Rattle.dali_script.specs.declared.orders.Fault.TheVariants as fault
 use Rattle.dali_controller.specs.Machine.{Machine, machine_told}
 use Rattle.dali_controller.specs.declared.purpose.Purpose.TheVariants.{Closing}
 use Rattle.dali_controller.specs.Course.{Course, closing_of, turn_of}
-use Rattle.dali_controller.specs.Next.{course_by, BeginsWith}
+use Rattle.dali_controller.specs.Next.{course_by, next_course, beginning, BeginsWith}
 
 -- WHAT AN ORDER DOES, to a machine that was told an input.
 
@@ -158,12 +158,18 @@ AfterEnrolled t b n (Done e) = ⊥
 AfterEnrolled t b n (Halt w) = ⊥
 
 -- What the transaction sends next, where it sends more; and what comes after the queries of a random
--- address that told the number which was visited, and after an enrolment.
+-- address that told the number which was visited, and after an enrolment. Where the queries told
+-- another number, or a gear that was programmed was not heard with its address, nothing is enrolled
+-- and nothing contradicts: the next transaction begins.
 pub record IsFollowed (t : Machine) (o : Order) : Type 0 where
   pub sent : (c : Command) → turn_of t.course.purpose t.course.number (stage_of t.trace) ≡ Some c
       → o ≡ Put LATER (frame_of c)
   pub told : (b n : ℕ) → stage_of t.trace ≡ Spelled b (Some n) → n ≡ value_of t.course.number
       → AfterFinding t b n o
+  pub another : (b n : ℕ) → stage_of t.trace ≡ Spelled b (Some n)
+      → (n ≡ value_of t.course.number → ⊥) → o ≡ beginning (next_course t)
+  pub unconfirmed : (r : SearchAddress) (other : Option ℕ) → stage_of t.trace ≡ Inconclusive r other
+      → o ≡ beginning (next_course t)
   pub enrolled : (b n : ℕ) → t.last ≡ Some (Commit (Enrol b n)) → AfterEnrolled t b n o
 
 -- THE ORDERS of a machine that was told an input, and that takes a course from then on.

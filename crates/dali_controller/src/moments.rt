@@ -46,11 +46,11 @@ impl Work {
     ghost use Rattle.dali_controller.specs.Moments.{Enrolled, IsStep, Starts, course_of};
     ghost use Rattle.dali_controller.specs.Course.{opening, probing, searching_anew, visiting, resolving, closing};
     ghost use Rattle.dali_controller.specs.Course.{going_on, turn_of};
-    ghost use Rattle.dali_controller.specs.Next.{course_by, next_course, silenced, BeginsWith};
+    ghost use Rattle.dali_controller.specs.Next.{course_by, next_course, beginning, silenced, BeginsWith};
     ghost use Rattle.dali_controller.specs.Machine.{machine_told};
     ghost use Rattle.dali_controller.specs.Orders.{AfterFinding, AfterEnrolled, IsFollowed};
     ghost use Rattle.dali_script.specs.declared.records.Record.TheVariants.{Enrol};
-    ghost use Rattle.dali_script.specs.declared.stage.Stage.TheVariants.{Spelled};
+    ghost use Rattle.dali_script.specs.declared.stage.Stage.TheVariants.{Inconclusive, Spelled};
     ghost use Rattle.dali_script.specs.Stages.{stage_of};
 
     /// The start: visits to what is unfinished, and then an opening.
@@ -175,6 +175,10 @@ impl Work {
             → result ≡ order.Put LATER (frame_of c) }
         ensures told { (b n : ℕ) → stage_of self.old.trace ≡ Spelled b (Some n) → n ≡ value_of self.old.number
             → AfterFinding (machine_of self.old) b n result }
+        ensures another { (b n : ℕ) → stage_of self.old.trace ≡ Spelled b (Some n)
+            → (n ≡ value_of self.old.number → ⊥) → result ≡ beginning (next_course (machine_of self.old)) }
+        ensures unconfirmed { (r : SearchAddress) (other : Option ℕ) → stage_of self.old.trace ≡ Inconclusive r other
+            → result ≡ beginning (next_course (machine_of self.old)) }
         ensures begins { BeginsWith (course_of self.new) result }
         ensures course { course_of self.new ≡ course_by (machine_of self.old) result }
         ensures next { IsNext (machine_of self.old) result (machine_of self.new) }
@@ -193,6 +197,10 @@ impl Work {
 
         ensures told { (b n : ℕ) → stage_of self.old.trace ≡ Spelled b (Some n) → n ≡ value_of self.old.number
             → AfterFinding (machine_of self.old) b n result }
+        ensures another { (b n : ℕ) → stage_of self.old.trace ≡ Spelled b (Some n)
+            → (n ≡ value_of self.old.number → ⊥) → result ≡ beginning (next_course (machine_of self.old)) }
+        ensures unconfirmed { (r : SearchAddress) (other : Option ℕ) → stage_of self.old.trace ≡ Inconclusive r other
+            → result ≡ beginning (next_course (machine_of self.old)) }
         ensures begins { BeginsWith (course_of self.new) result }
         ensures course { course_of self.new ≡ course_by (machine_of self.old) result }
         ensures next { IsNext (machine_of self.old) result (machine_of self.new) }
@@ -325,6 +333,8 @@ impl Work {
 
         ensures told { (n : ℕ) → number ≡ Some n → n ≡ value_of self.old.number
             → AfterFinding (machine_of self.old) short n result }
+        ensures another { (n : ℕ) → number ≡ Some n → (n ≡ value_of self.old.number → ⊥)
+            → result ≡ beginning (next_course (machine_of self.old)) }
         ensures begins { BeginsWith (course_of self.new) result }
         ensures course { course_of self.new ≡ course_by (machine_of self.old) result }
         ensures next { IsNext (machine_of self.old) result (machine_of self.new) }
@@ -356,6 +366,7 @@ impl Work {
             ⊎ ((other : Option ℕ) × IsHeard self.old (stage.Inconclusive number other))) }
         requires next { next_course (machine_of self.old) ≡ silenced (machine_of self.old) }
 
+        ensures starts { result ≡ beginning (next_course (machine_of self.old)) }
         ensures begins { BeginsWith (course_of self.new) result }
         ensures course { course_of self.new ≡ course_by (machine_of self.old) result }
         ensures next { IsNext (machine_of self.old) result (machine_of self.new) }

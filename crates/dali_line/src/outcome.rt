@@ -14,7 +14,7 @@ pub enum Outcome {
     TurnsSpent,
     /// The line was stopped.
     Stopped,
-    /// There was no memory for its store, its pass, or the card of an enrolment.
+    /// Its store could not be made, or there was no memory for its pass or for the card of an enrolment.
     NoMemory,
 }
 

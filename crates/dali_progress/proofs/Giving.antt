@@ -5,7 +5,7 @@ use Rattle.dali_special.specs.declared.command.Command.{Command}
 use Rattle.dali_special.specs.declared.command.Command.TheVariants.{Arc}
 use Rattle.dali_special.specs.Command.{command_of, frame_of}
 use Rattle.dali_script.specs.declared.stage.Stage.{Stage}
-use Rattle.dali_script.specs.declared.stage.Stage.TheVariants.{Unnamed, Withdrawn, Spelled, Terminated}
+use Rattle.dali_script.specs.declared.stage.Stage.TheVariants.{Unnamed, Inconclusive, Withdrawn, Spelled, Terminated}
 use Rattle.dali_script.specs.declared.records.Record.TheVariants.{Enrol}
 use Rattle.dali_script.specs.Scripts.{Lawful}
 use Rattle.dali_script.specs.Stages.{stage_of}
@@ -27,6 +27,7 @@ abbrev pub IsPlain : Stage → Type 0
 IsPlain (Unnamed r) = ⊥
 IsPlain (Withdrawn r b) = ⊥
 IsPlain (Spelled b n) = ⊥
+IsPlain (Inconclusive r other) = ⊥
 IsPlain _ = Unit {0}
 
 abbrev pub IsNoCommit : Option Order → Type 0
@@ -62,6 +63,8 @@ followed : (t : Machine) (s : Stage) (o : Order) → IsAt t s → ((c : Command)
 followed t s o at turns = record {
   sent = λ c e. turns c (subst (λ r. turn_of t.course.purpose t.course.number r ≡ Some c) at.stage e);
   told = λ b n e same. absurd (not_plain s (Spelled b (Some n)) at.plain (sym at.stage ∙ e) (λ x. x));
+  another = λ b n e other. absurd (not_plain s (Spelled b (Some n)) at.plain (sym at.stage ∙ e) (λ x. x));
+  unconfirmed = λ r x e. absurd (not_plain s (Inconclusive r x) at.plain (sym at.stage ∙ e) (λ y. y));
   enrolled = λ b n e. absurd (no_enrolment t.last b n at.last e);
 }
 

@@ -462,24 +462,43 @@ fn nothing_is_released_at_the_start(rt: HostRuntime) -> Result<(), Fail> {
     Ok(())
 }
 
+/// A start with 1 reserved for 123456.
+const RESERVED: [Pair; 1] = [Reserve(1, 0x123456)];
+
+/// The same, where the gear 133456 is enrolled with another address.
+const BESIDE_ANOTHER: [Pair; 2] = [Reserve(1, 0x123456), Enrol(5, 0x133456)];
+
 /// The gear of a visit does not answer. The queries of the gear with its address are answered by these bytes.
-fn resolves<R: Abort>(rt: &R, bytes: [u8; 3], wanted: Ordered) -> Result<(), Fail> {
+fn resolves<R: Abort>(
+    rt: &R,
+    records: &[Pair],
+    bytes: [u8; 3],
+    wanted: Ordered,
+) -> Result<(), Fail> {
     let asked = [
         (SILENCE, Put(3, 0x03C2)),
         (byte(bytes[0]), Put(1, 0x03C3)),
         (byte(bytes[1]), Put(1, 0x03C4)),
         (byte(bytes[2]), wanted),
     ];
-    plays(rt, (0, 3), &[Reserve(1, 0x123456)], 0, &[&VISIT, &asked])
+    plays(rt, (0, 3), records, 0, &[&VISIT, &asked])
 }
 
-/// It is enrolled where the three bytes are its number. With another number the machine goes on to the opening.
+/// It is enrolled where the three bytes are its number. With another number the machine goes on to the opening, also
+/// where its table has that number for another address.
 #[test]
 fn a_random_address_is_the_one_visited(rt: HostRuntime) -> Result<(), Fail> {
-    resolves(&rt, [0x12, 0x34, 0x56], Commit(Enrol(1, 0x123456)))?;
-    resolves(&rt, [0x13, 0x34, 0x56], Put(3, 0xA100))?;
-    resolves(&rt, [0x12, 0x35, 0x56], Put(3, 0xA100))?;
-    resolves(&rt, [0x12, 0x34, 0x57], Put(3, 0xA100))
+    let opens = Put(3, 0xA100);
+    resolves(
+        &rt,
+        &RESERVED,
+        [0x12, 0x34, 0x56],
+        Commit(Enrol(1, 0x123456)),
+    )?;
+    resolves(&rt, &RESERVED, [0x13, 0x34, 0x56], opens)?;
+    resolves(&rt, &RESERVED, [0x12, 0x35, 0x56], opens)?;
+    resolves(&rt, &RESERVED, [0x12, 0x34, 0x57], opens)?;
+    resolves(&rt, &BESIDE_ANOTHER, [0x13, 0x34, 0x56], opens)
 }
 
 /// A visit at the start, with 1 reserved for 123456, hears this address, where another gear is enrolled.
