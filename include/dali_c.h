@@ -85,7 +85,9 @@ enum dali_order_kind {
 
 /* Why a commissioning is over. */
 enum dali_end {
-    /* No gear answers any more: all that could be found are enrolled. */
+    /* The last question, whether any gear is left without short address, heard silence. It does not mean that all gear
+     * have one: after an answer that was lost, or after the TERMINATE of another controller, gear may be left without.
+     * docs/INSTALLER.md says what to do. */
     DALI_ALL_FOUND = 1,
     /* The block has no free short address. */
     DALI_BLOCK_FULL = 2,

@@ -1,11 +1,7 @@
-#!/usr/bin/env python3
-"""Proves and builds programs of this workspace, each with the crates below it, as many side by side as there are processors:
-
-    tools/build PROGRAM..
+"""Proves and builds programs of this workspace, each with the crates below it, as many side by side as there are processors.
 
 What is proved stays in crates/NAME/out, so a build that is interrupted goes on where it was. What the prover says of a crate
-stands in crates/NAME/out/build.log. Exit statuses: 0; 126 where a crate is refused; 127 where the kit is missing; 130 where
-the build is interrupted.
+stands in crates/NAME/out/build.log.
 """
 
 import fcntl
@@ -69,10 +65,14 @@ def workspace():
     return found
 
 
+def free_memory():
+    """The free memory of the machine in bytes."""
+    return int(re.search(r"MemAvailable:\s+(\d+)", pathlib.Path("/proc/meminfo").read_text())[1]) * 1024
+
+
 def processors():
     """How many processors there are to use, and fewer where memory is short."""
-    free = int(re.search(r"MemAvailable:\s+(\d+)", pathlib.Path("/proc/meminfo").read_text())[1]) * 1024
-    return max(min(len(os.sched_getaffinity(0)), free // MEMORY), 1)
+    return max(min(len(os.sched_getaffinity(0)), free_memory() // MEMORY), 1)
 
 
 def say(text):
@@ -90,7 +90,7 @@ class Build:
     def __init__(self, title, crates):
         self.title, self.crates, self.left = title, crates, list(crates)
         self.running, self.ended, self.begun = {}, {}, {}
-        self.processors, self.changed = processors(), threading.Condition()
+        self.processors, self.changed, self.first = processors(), threading.Condition(), time.monotonic()
 
     def behind(self, crate):
         """The lines of the longest chain of crates that begins with this one."""
@@ -103,13 +103,11 @@ class Build:
         return sorted(found, key=lambda it: -self.behind(it))
 
     def run(self):
-        """Proves all, and gives the processors that no other crate waits for to those that run."""
+        """Proves all, as many at once as there are processors. The crate with the longest chain behind it may use all of them, since it is what the others wait for."""
         while self.left or self.running:
-            ready = self.ready()
-            for at, crate in enumerate(ready):
-                idle = self.processors - sum(jobs for _, jobs in self.running.values())
-                if idle > 0:
-                    self.start(crate, max(min(4, idle // (len(ready) - at)), 1))
+            for crate in self.ready()[: self.processors - len(self.running)]:
+                is_longest = self.behind(crate) >= max(map(self.behind, [*self.left, *self.running]))
+                self.start(crate, min(self.processors, 4) if is_longest else 1)
             with self.changed:
                 self.changed.wait_for(lambda: self.ended, timeout=1)
                 ended, self.ended = self.ended, {}
@@ -125,7 +123,7 @@ class Build:
             ran = subprocess.Popen(
                 words_of(crate, jobs), cwd=place / "crates" / crate.name, stdin=given, stdout=log, stderr=log, start_new_session=True
             )
-        self.running[crate], self.begun[crate] = (ran, jobs), time.monotonic()
+        self.running[crate], self.begun[crate] = ran, time.monotonic()
         threading.Thread(target=self.wait_for, args=(crate, ran), daemon=True).start()
 
     def wait_for(self, crate, ran):
@@ -142,7 +140,8 @@ class Build:
         keep(crate, made)
         self.begun[crate] = time.monotonic() - self.begun[crate]
         count = len(self.crates) - len(self.left) - len(self.running)
-        say(f"{self.title}: {count} of {len(self.crates)} crates proved ({crate.name}){self.guess()}")
+        passed = int(time.monotonic() - self.first)
+        say(f"{self.title}: {count} of {len(self.crates)} crates proved after {passed // 60}:{passed % 60:02} ({crate.name}){self.guess()}")
 
     def guess(self):
         """What is left, by the seconds that the crates before took for their lines."""
@@ -156,7 +155,7 @@ class Build:
         return f", some {minutes} minutes left" if minutes > 1 else ", a minute or two left"
 
     def stop(self):
-        for ran, _ in self.running.values():
+        for ran in self.running.values():
             try:
                 os.killpg(ran.pid, signal.SIGKILL)
             except ProcessLookupError:
@@ -222,7 +221,7 @@ def kit():
     """Says so where the kit is missing, or another than the one that the repository was proved with; returns whether it is there."""
     named = (ROOT / "KIT").read_text().strip()
     if not shutil.which("rt"):
-        say(f"the Rattle kit is missing: install {named} (README.md), with its command rt on the PATH")
+        say(f"the Rattle kit is missing: README.md says what is needed; the repository was last proved with {named}")
         return False
     found = subprocess.run(["rt", "version"], capture_output=True, text=True, stdin=subprocess.DEVNULL).stdout.strip()
     if found != named:
@@ -230,19 +229,13 @@ def kit():
     return True
 
 
-def build(title, programs):
+def prove(title, programs):
     """Proves and builds programs, and returns an exit status."""
-
-    def interrupt(*_):
-        raise Interrupted
-
     crates = wanted(programs)
     if not crates:
         return 0
     if not kit():
         return MISSING
-    for it in (signal.SIGINT, signal.SIGTERM, signal.SIGHUP):
-        signal.signal(it, interrupt)
     run = Build(title, crates)
     say(f"{title}: proving {len(crates)} crates on {run.processors} processors; the prover's words go to crates/NAME/out/build.log")
     try:
@@ -253,31 +246,31 @@ def build(title, programs):
         say(f"{title}: {refused} is refused; the end of {log}:")
         say("\n".join(log.read_text(errors="replace").splitlines()[-20:]))
         return REFUSED
-    except Interrupted:
-        say(f"{title}: interrupted; what is proved is kept, and the next run goes on there")
-        return INTERRUPTED
     finally:
         run.stop()
         shutil.rmtree(room(), ignore_errors=True)
 
 
-def build_alone(title, programs):
-    """Builds while no other build of this checkout runs."""
-    with open(f"{room()}.lock", "w") as lock:
-        try:
-            fcntl.flock(lock, fcntl.LOCK_EX | fcntl.LOCK_NB)
-        except BlockingIOError:
-            say(f"{title}: waiting for another build of this checkout")
-            fcntl.flock(lock, fcntl.LOCK_EX)
-        return build(title, programs)
+def build(title, programs):
+    """Proves and builds programs while no other build of this checkout runs, and returns an exit status."""
+
+    def interrupt(*_):
+        raise Interrupted
+
+    for it in (signal.SIGINT, signal.SIGTERM, signal.SIGHUP):
+        signal.signal(it, interrupt)
+    try:
+        with open(f"{room()}.lock", "w") as lock:
+            wait_for_others(title, lock)
+            return prove(title, programs)
+    except Interrupted:
+        say(f"{title}: interrupted; what is proved is kept, and the next run goes on there")
+        return INTERRUPTED
 
 
-def main(programs):
-    known = [name for name, crate in workspace().items() if crate.is_program]
-    if not programs or any(it not in known for it in programs):
-        sys.exit(f"{__doc__}\nPrograms: {', '.join(known)}")
-    sys.exit(build_alone(programs[-1], programs))
-
-
-if __name__ == "__main__":
-    main(sys.argv[1:])
+def wait_for_others(title, lock):
+    try:
+        fcntl.flock(lock, fcntl.LOCK_EX | fcntl.LOCK_NB)
+    except BlockingIOError:
+        say(f"{title}: waiting for another build of this checkout")
+        fcntl.flock(lock, fcntl.LOCK_EX)

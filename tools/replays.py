@@ -13,9 +13,9 @@ TRIES = 3
 
 
 def built(program):
-    """The program to play with: the one that is named, or the one that the launcher ./dali_sim builds."""
+    """The program to play with: the one that is named, or the one that tools/build makes."""
     if program is None:
-        subprocess.run([ROOT / "dali_sim", "--help"], check=True, stdout=subprocess.DEVNULL)
+        subprocess.run([ROOT / "tools" / "build", "dali_sim"], check=True, stdout=subprocess.DEVNULL)
         program = PROGRAM
     return str(program)
 
