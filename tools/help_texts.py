@@ -1,14 +1,15 @@
-"""The help of `dali_sim`, which stands in tools/help so that it is there before the program is built."""
+"""The help and the version of `dali_sim`, which stands in tools/help so that they are there before the program is built."""
 
 import pathlib
 import subprocess
 
 FOLDER = pathlib.Path(__file__).resolve().parent / "help"
-# The file of each help, and the words that ask the program for it.
+# The file of each, and the words that ask the program for it.
 WORDS = {
     "dali_sim.txt": ["--help"],
     "dali_sim-replay.txt": ["replay", "--help"],
     "dali_sim-threads.txt": ["threads", "--help"],
+    "dali_sim-version.txt": ["--version"],
 }
 
 
