@@ -158,6 +158,9 @@ fn all_but_silence_is_a_yes(rt: HostRuntime) -> Result<(), Fail> {
 fn the_eighth_lost_frame_in_a_row_gives_up(rt: HostRuntime) -> Result<(), Fail> {
     let opening = (Input::Destroyed, Put(3, 0xA100));
     let probe = (Input::Lapsed, Put(3, 0xB1FF));
+    let given_up = (Input::Destroyed, Done(End::GaveUp));
+    let at_once = [&OPENING[..1], &[opening; 7], &[given_up]];
+    plays(&rt, (0, 3), &[], 0, &at_once)?;
     // A whole opening between: the count begins anew.
     let parts = [
         &OPENING[..1],
