@@ -1,0 +1,175 @@
+"""What a reader of this repository can see at a glance and no proof says: see tools/lint.
+
+Each rule takes the folder of a repository and gives its offences, one line of text each.
+"""
+
+import pathlib
+import re
+
+WIDTHS = {"src": (".rt", 120), "specs": (".antt", 100)}
+LONGEST = 800
+TESTS = ("dali_tests", "dali_stories", "dali_line_tests", "dali_sqlite_tests")
+
+
+def files(root, pattern):
+    """The files of the repository that match, none of those that are built."""
+    return sorted(file for file in root.glob(pattern) if "out" not in file.relative_to(root).parts)
+
+
+def named(root, file):
+    return file.relative_to(root)
+
+
+def widths(root):
+    """Lines of code are at most 120 columns wide, of definitions 100."""
+    for part, (suffix, most) in WIDTHS.items():
+        for file in files(root, f"crates/*/{part}/**/*{suffix}"):
+            for at, line in enumerate(file.read_text().splitlines(), 1):
+                if len(line) > most:
+                    yield f"{named(root, file)}:{at}: {len(line)} columns, and {most} at most"
+
+
+def lengths(root):
+    """Files of code, definitions and proofs have fewer than 800 lines."""
+    for pattern in ("crates/**/*.rt", "crates/**/*.antt"):
+        for file in files(root, pattern):
+            count = len(file.read_text().splitlines())
+            if count >= LONGEST:
+                yield f"{named(root, file)}: {count} lines, and fewer than {LONGEST} wanted"
+
+
+def imported(text):
+    """The names that the `use` items of a file bring in, with the item that does."""
+    for item in re.finditer(r"^[ \t]*(?:ghost )?use ([^;]+);", text, re.M):
+        braces = re.search(r"\{(.*)\}", item[1], re.S)
+        for name in (braces[1] if braces else re.split(r"::|\.", item[1])[-1]).split(","):
+            words = name.split()
+            if words:
+                yield re.split(r"::|\.", words[-1])[-1], item
+
+
+def is_used(name, text):
+    """Whether a text has a name; of an operator, each of its words."""
+    words = [it for it in name.split("◌") if it]
+    if name in ("self", "*", "[]") or not words:
+        return True
+    wanted = (rf"(?<![\w]){re.escape(it)}(?![\w])" if re.fullmatch(r"\w+", it) else re.escape(it) for it in words)
+    return all(re.search(it, text) for it in wanted)
+
+
+def imports(root):
+    """Each name that a file of code imports stands in it. An import for a trait's methods, or for macros, names a trait of `TRAITS`."""
+    for file in files(root, "crates/*/src/**/*.rt"):
+        text = file.read_text()
+        rest = re.sub(r"^[ \t]*(?:pub )?(?:ghost )?use [^;]+;", "", re.sub(r"//.*", "", text), flags=re.M)
+        for name, item in imported(text):
+            if not is_used(name, rest) and name not in TRAITS:
+                at = text[: item.start()].count("\n") + 1
+                yield f"{named(root, file)}:{at}: {name} is imported and not used"
+
+
+# Traits that are imported for their methods.
+TRAITS = ("BufRead", "Write", "Read", "Rng", "SeedableRng", "RngCore", "FromStr", "Error")
+
+
+def docs(root):
+    """Each public function of a library has a doc, unless it is of a trait's impl, where the trait has it."""
+    for file in files(root, "crates/*/src/**/*.rt"):
+        if file.relative_to(root).parts[1] in TESTS:
+            continue
+        lines = file.read_text().splitlines()
+        for at, line in enumerate(lines):
+            found = re.match(r"\s*pub (?:const )?(?:unsafe )?fn (\w+)", line)
+            if found and not documented(lines, at):
+                yield f"{named(root, file)}:{at + 1}: the public function {found[1]} has no doc"
+
+
+def documented(lines, at):
+    """Whether a doc stands above a line, with attributes between them or not."""
+    for line in reversed(lines[:at]):
+        if line.strip().startswith("///"):
+            return True
+        if not line.strip().startswith(("#[", "ghost ", ")]", "using(")):
+            return False
+    return False
+
+
+def crates(root):
+    """Each crate that crates.txt names below another is named by a file of that one."""
+    for line in (root / "crates.txt").read_text().splitlines():
+        head, _, below = line.partition("#")[0].partition(":")
+        if not head.strip():
+            continue
+        name = head.split()[0]
+        text = "".join(file.read_text() for kind in ("rt", "antt") for file in files(root, f"crates/{name}/**/*.{kind}"))
+        for it in below.split():
+            if it not in ("core", "std_alloc") and not re.search(rf"\b{it}\b(?!\.rt)", text):
+                yield f"crates.txt: {name} names {it}, and no file of {name} does"
+
+
+def heading(line):
+    """The name by which a link finds a heading."""
+    return re.sub(r"[^\w\- ]", "", line.strip().lower().replace("`", "")).replace(" ", "-")
+
+
+def prose(text):
+    """A document without its blocks of code."""
+    return re.sub(r"^```.*?^```", "", text, flags=re.M | re.S)
+
+
+def links(root):
+    """Links in documents lead to files and headings that are there."""
+    for file in files(root, "**/*.md"):
+        text = prose(file.read_text())
+        for target in re.findall(r"\]\(([^)\s]+)\)", text):
+            if re.match(r"\w+:", target):
+                continue
+            path, _, section = target.partition("#")
+            to = (file.parent / path).resolve() if path else file
+            if not to.exists():
+                yield f"{named(root, file)}: the link {target} leads to no file"
+            elif section and to.suffix == ".md" and section not in headings(to):
+                yield f"{named(root, file)}: the link {target} leads to no heading"
+
+
+def headings(file):
+    return {heading(it) for it in re.findall(r"^#+ (.*)$", prose(file.read_text()), re.M)}
+
+
+def paths(root):
+    """Paths of the repository that documents name, as `docs/FORMAT.md` or `tools/launch`, are there."""
+    tops = ("crates", "docs", "tools", "bench", "examples", "include")
+    for file in files(root, "**/*.md"):
+        if file.name == "CHANGELOG.md":
+            continue
+        for path in re.findall(rf"`((?:{'|'.join(tops)})/[\w./-]+)", prose(file.read_text())):
+            if not re.search(r"/out/|NAME|\.\.", path) and not (root / path.rstrip(".")).exists():
+                yield f"{named(root, file)}: there is no {path}"
+
+
+def clauses(root):
+    """Each clause that docs/PROOFS.md names stands in a contract of some crate."""
+    contracts = "".join(file.read_text() for file in files(root, "crates/*/src/**/*.rt"))
+    known = set(re.findall(r"\b(?:ensures|requires) (\w+)", contracts))
+    file = root / "docs/PROOFS.md"
+    for words in re.findall(r"clauses? ((?:`\w+`(?:, | and )?)+)", file.read_text() if file.exists() else ""):
+        for name in re.findall(r"`(\w+)`", words):
+            if name not in known:
+                yield f"docs/PROOFS.md: no contract has a clause {name}"
+
+
+def kit(root):
+    """The kit's name stands in the file KIT alone."""
+    name = (root / "KIT").read_text().split()[0]
+    for pattern in ("**/*.md", "**/*.rt", "**/*.py", "tools/*", "bench/*", ".ci/*", "*"):
+        for file in files(root, pattern):
+            if file.is_file() and file != root / "KIT" and name in file.read_text(errors="replace"):
+                yield f"{named(root, file)}: the kit's name stands here, and in KIT"
+
+
+RULES = (widths, lengths, imports, docs, crates, links, paths, clauses, kit)
+
+
+def offences(root):
+    """What each rule finds, by its name."""
+    return {rule.__name__: sorted(set(rule(pathlib.Path(root)))) for rule in RULES}
