@@ -103,28 +103,36 @@ class Build:
         return sorted(found, key=lambda it: -self.behind(it))
 
     def run(self):
-        """Proves all, as many at once as there are processors. The crate with the longest chain behind it may use all of them, since it is what the others wait for."""
+        """Proves all, as many at once as there are processors."""
         while self.left or self.running:
             for crate in self.ready()[: self.processors - len(self.running)]:
-                is_longest = self.behind(crate) >= max(map(self.behind, [*self.left, *self.running]))
-                self.start(crate, min(self.processors, 4) if is_longest else 1)
+                self.start(crate)
             with self.changed:
                 self.changed.wait_for(lambda: self.ended, timeout=1)
                 ended, self.ended = self.ended, {}
             for crate, status in ended.items():
                 self.end(crate, status)
 
-    def start(self, crate, jobs):
+    def start(self, crate):
+        is_longest = self.behind(crate) >= max(map(self.behind, [*self.left, *self.running]))
         self.left.remove(crate)
         place = room() / crate.name
         lay_out(crate, place)
         (crate.folder / "out").mkdir(exist_ok=True)
         with crate.log.open("wb") as log, input_of(crate, place) as given:
-            ran = subprocess.Popen(
-                words_of(crate, jobs), cwd=place / "crates" / crate.name, stdin=given, stdout=log, stderr=log, start_new_session=True
-            )
+            words, where = self.words_of(crate, is_longest), place / "crates" / crate.name
+            ran = subprocess.Popen(words, cwd=where, stdin=given, stdout=log, stderr=log, start_new_session=True)
         self.running[crate], self.begun[crate] = ran, time.monotonic()
         threading.Thread(target=self.wait_for, args=(crate, ran), daemon=True).start()
+
+    def words_of(self, crate, is_longest):
+        """What proves a crate. The one with the longest chain behind it may use all processors, and the others make way for it: it is what they all wait for."""
+        jobs = ["--jobs", str(min(self.processors, 4) if is_longest else 1)]
+        first = [] if is_longest else ["nice"]
+        if not crate.is_program:
+            return [*first, "rt", "lib", *jobs]
+        args = crate.folder / "args"
+        return [*first, "rt", "run", *jobs, "--", *(args.read_text().splitlines() if args.is_file() else [])]
 
     def wait_for(self, crate, ran):
         status = ran.wait()
@@ -161,13 +169,6 @@ class Build:
             except ProcessLookupError:
                 pass
             ran.wait()
-
-
-def words_of(crate, jobs):
-    if not crate.is_program:
-        return ["rt", "lib", "--jobs", str(jobs)]
-    args = crate.folder / "args"
-    return ["rt", "run", "--jobs", str(jobs), "--", *(args.read_text().splitlines() if args.is_file() else [])]
 
 
 def input_of(crate, place):
