@@ -126,8 +126,8 @@ class Build:
         threading.Thread(target=self.wait_for, args=(crate, ran), daemon=True).start()
 
     def words_of(self, crate, is_longest):
-        """What proves a crate. The one with the longest chain behind it may use all processors, and the others make way for it: it is what they all wait for."""
-        jobs = ["--jobs", str(min(self.processors, 4) if is_longest else 1)]
+        """What proves a crate, with as many jobs as processors and memory allow: it may soon run alone. All make way for the one with the longest chain behind it, which they wait for in the end."""
+        jobs = ["--jobs", str(max(min(self.processors, 4, free_memory() // MEMORY), 1))]
         first = [] if is_longest else ["nice"]
         if not crate.is_program:
             return [*first, "rt", "lib", *jobs]
