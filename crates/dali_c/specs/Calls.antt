@@ -50,7 +50,8 @@ pub record AnswersAdd (k : Kept) (x : Record) (status : ℕ) : Type 0 where
 
 -- ONE STEP: what `Machine::step` of the controller promises, of an order and a machine that were
 -- written as structs.
-pub record Steps (m : Machine) (i : Input) (after : PlainMachine) (order : PlainOrder) : Type 0 where
+pub record Steps (m : Machine) (i : Input) (after : PlainMachine) (order : PlainOrder)
+    : Type 0 where
   pub ordered : Order
   pub spelled : order_of order ≡ Some (Some ordered)
   pub given : IsGiven m i ordered

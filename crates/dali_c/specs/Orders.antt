@@ -31,7 +31,10 @@ record_of x = record_if x.kind (read_pair x.pair)
 abbrev pub put_of : PlainOrder → Option Order
 put_of o =
     if nat_le 1 o.priority && nat_le o.priority 5
-    then Some (Put o.priority (record { address_byte = o.address_byte; opcode_byte = o.opcode_byte }))
+    then Some (Put o.priority (record {
+      address_byte = o.address_byte;
+      opcode_byte = o.opcode_byte;
+    }))
     else None
 
 abbrev pub given_of : PlainOrder → Option Order

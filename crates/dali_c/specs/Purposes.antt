@@ -4,8 +4,8 @@ use Rattle.dali_controller.specs.declared.purpose.Purpose.TheVariants.{Opening, 
 use Rattle.dali_controller.specs.declared.purpose.Purpose.TheVariants.{Resolving, Closing}
 use Rattle.dali_c.specs.Codes.{end_of}
 
--- what a transaction is for: the short address that is asked, or the end of a close, is a byte of its
--- own
+-- what a transaction is for: the short address that is asked, or the end of a close, is a byte of
+-- its own
 abbrev pub resolving : ℕ → Option Purpose
 resolving a = if nat_lt a 64 then Some (Resolving a) else None
 

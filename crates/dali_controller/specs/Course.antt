@@ -16,8 +16,8 @@ use Rattle.dali_script.specs.declared.stage.Stage.{Stage}
 use Rattle.dali_script.specs.declared.stage.Stage.TheVariants.{Terminated, InitialisedOnce}
 use Rattle.dali_script.specs.declared.stage.Stage.TheVariants.{Initialised, RandomisedOnce}
 use Rattle.dali_script.specs.declared.stage.Stage.TheVariants.{HighSent, MiddleSent, NumberSent}
-use Rattle.dali_script.specs.declared.stage.Stage.TheVariants.{Found as Named, Programmed, Confirmed}
-use Rattle.dali_script.specs.declared.stage.Stage.TheVariants.{HighAsked, MiddleAsked}
+use Rattle.dali_script.specs.declared.stage.Stage.TheVariants.{Found as Named, Programmed}
+use Rattle.dali_script.specs.declared.stage.Stage.TheVariants.{Confirmed, HighAsked, MiddleAsked}
 use Rattle.dali_script.specs.Records.{Assignment, Kept}
 use Rattle.dali_search.specs.declared.step.Step.{Step}
 use Rattle.dali_search.specs.declared.step.Step.TheVariants.{Again, Found, Nobody}
@@ -47,7 +47,12 @@ sought n = record { high = high_of n; middle = middle_of n; low = low_of n }
 
 -- before the start
 abbrev pub course_at_first : Course
-course_at_first = record { purpose = Opening; number = sought 0xFFFFFF; search = at_first; from = 0 }
+course_at_first = record {
+  purpose = Opening;
+  number = sought 0xFFFFFF;
+  search = at_first;
+  from = 0;
+}
 
 -- the first command of a transaction
 abbrev pub first_of : Purpose → SearchAddress → Command
@@ -154,8 +159,8 @@ unfinished_among k (suc n) a =
 abbrev pub next_unfinished : Kept → ℕ → Option (ℕ × ℕ)
 next_unfinished k from = unfinished_among k (64 - from) from
 
--- TO GO ON: before an opening was complete a visit to the next unfinished reservation, or the opening
--- where there is none; afterwards a new search.
+-- TO GO ON: before an opening was complete a visit to the next unfinished reservation, or the
+-- opening where there is none; afterwards a new search.
 abbrev pub visit_or_opening : Course → Option (ℕ × ℕ) → Course
 visit_or_opening c None = opening c
 visit_or_opening c (Some next) = visiting (record c { from = next.0 }) next.1

@@ -16,8 +16,8 @@ use Rattle.dali_controller.specs.Course.{Course, first_of, searching_anew, visit
 use Rattle.dali_controller.specs.Course.{closing, probed, address_for, going_on}
 use Rattle.dali_controller.specs.Machine.{Machine}
 
--- THE TABLE OF MOMENTS, first half: which transaction begins next, if one does, in a machine that was
--- told an input.
+-- THE TABLE OF MOMENTS, first half: which transaction begins next, if one does, in a machine that
+-- was told an input.
 
 abbrev pub goes_on_to : Machine → Course
 goes_on_to t = going_on t.kept t.opened t.course

@@ -58,9 +58,9 @@ MayPut t p f =
     ((p ≡ FIRST) × Lawful t.kept.block t.kept.reserved [] f)
     ⊎ ((p ≡ LATER) × (t.trace ≡ [] → ⊥) × Lawful t.kept.block t.kept.reserved t.trace f)
 
--- An address is reserved for gear that has answered MASK under its number. Enrolled is what the last
--- finding lets be enrolled, and it is the one of the running transaction. Released is what is reserved
--- for a number that was just enrolled, with another address.
+-- An address is reserved for gear that has answered MASK under its number. Enrolled is what the
+-- last finding lets be enrolled, and it is the one of the running transaction. Released is what is
+-- reserved for a number that was just enrolled, with another address.
 abbrev pub IsWarranted : Machine → Record → Type 0
 IsWarranted t (Reserve a r) =
     (n : SearchAddress) × (stage_of t.trace ≡ Unnamed n) × (value_of n ≡ r)
@@ -157,10 +157,10 @@ AfterEnrolled t b n (Commit x) = (a : ℕ) × Has t.kept.reserved (a, n) × (x �
 AfterEnrolled t b n (Done e) = ⊥
 AfterEnrolled t b n (Halt w) = ⊥
 
--- What the transaction sends next, where it sends more; and what comes after the queries of a random
--- address that told the number which was visited, and after an enrolment. Where the queries told
--- another number, or a gear that was programmed was not heard with its address, nothing is enrolled
--- and nothing contradicts: the next transaction begins.
+-- What the transaction sends next, where it sends more; and what comes after the queries of a
+-- random address that told the number which was visited, and after an enrolment. Where the queries
+-- told another number, or a gear that was programmed was not heard with its address, nothing is
+-- enrolled and nothing contradicts: the next transaction begins.
 pub record IsFollowed (t : Machine) (o : Order) : Type 0 where
   pub sent : (c : Command) → turn_of t.course.purpose t.course.number (stage_of t.trace) ≡ Some c
       → o ≡ Put LATER (frame_of c)
@@ -200,8 +200,8 @@ IsFollowedAt m i o = IsFollowed (machine_told m i) o
 abbrev pub machine_after : Machine → Input → Order → Machine
 machine_after m i o = machine_ordered (machine_told m i) o
 
--- WHAT A STEP GIVES: an order of the machine, a first frame only of the transaction that begins, and
--- what follows the transaction that runs.
+-- WHAT A STEP GIVES: an order of the machine, a first frame only of the transaction that begins,
+-- and what follows the transaction that runs.
 pub record IsGiven (m : Machine) (i : Input) (o : Order) : Type 0 where
   pub answered : IsAnswered m i o
   pub begins : BeginsWith (machine_after m i o).course o

@@ -146,8 +146,8 @@ impl Machine {
     /// Takes an input, and orders what is to be done next.
     ///
     /// `NotDue`: the machine waits for something else, and nothing changed; `due` says for what. After `Done` and
-    /// `Halt` it waits for nothing. The block stays, and a record that is ordered fits it. Which transaction begins next
-    /// is a function of what the machine was told (`course`), and its first frame is the one that is put.
+    /// `Halt` it waits for nothing. The block stays, and a record that is ordered fits it. Which transaction begins
+    /// next is a function of what the machine was told (`course`), and its first frame is the one that is put.
     pub fn step(&mut self, input: Input) -> Result<Order, StepError>
         ensures due { IsOk result ↔ (accepts (due_after self.old.last) input ≡ true) }
         ensures not_due { OnErr result (self.new ≡ self.old) }

@@ -72,9 +72,9 @@ IsDue k input.Committed = IsCommit k.last
 IsDue k input.CommitFailed = IsCommit k.last
 IsDue k i = k.told ≡ Some i
 
--- A record that it may commit: an address of its block and a number, neither reserved by it; or what
--- its last finding lets be enrolled, with neither enrolled by it; the number is one that gear draw.
--- Or the release of what it has reserved for the gear of its last finding, which has another
+-- A record that it may commit: an address of its block and a number, neither reserved by it; or
+-- what its last finding lets be enrolled, with neither enrolled by it; the number is one that gear
+-- draw. Or the release of what it has reserved for the gear of its last finding, which has another
 -- address.
 abbrev pub MayCommit : Controller → Record → Type 0
 MayCommit k (Reserve a r) =

@@ -5,8 +5,8 @@ use Rattle.dali_events.specs.Plan.{Plan}
 use Rattle.dali_events.specs.World.{World, gear_at, controller_at}
 use Rattle.dali_events.specs.Runs.{after, IsDrawer}
 
--- THE PROMISE, by gear and tables alone. Below it stands what else is true of the histories of gifts
--- and of draws, from which it follows.
+-- THE PROMISE, by gear and tables alone. Below it stands what else is true of the histories of
+-- gifts and of draws, from which it follows.
 
 -- gear g is there, and its short address is a
 abbrev pub HoldsShort : World → ℕ → ℕ → Type 0
@@ -16,8 +16,9 @@ HoldsShort w g a = (g < length w.gear) × ((gear_at w g).short ≡ Some a)
 abbrev pub IsEnrolled : World → ℕ → Assignment → Type 0
 IsEnrolled w c entry = (c < length w.controllers) × Has (controller_at w c).records.enrolled entry
 
--- AT ONE MOMENT: two gear that hold one short address are the same gear; and for each kept enrolment
--- (a, r), of whichever controller, there is the gear that holds a, and its random address is r.
+-- AT ONE MOMENT: two gear that hold one short address are the same gear; and for each kept
+-- enrolment (a, r), of whichever controller, there is the gear that holds a, and its random address
+-- is r.
 pub record KeepsPromiseNow (w : World) : Type 0 where
   pub one_gear : (g h a : ℕ) → HoldsShort w g a → HoldsShort w h a → g ≡ h
   pub tables : (c : ℕ) (entry : Assignment) → IsEnrolled w c entry

@@ -28,7 +28,8 @@ pub record IsRow (r : Inside) : Type 0 where
   pub few : r.count ≤ 128
   pub random : length r.random ≡ 128
   pub search : length r.search ≡ 128
-  pub unpaired : r.some_paired ≡ false → (k : ℕ) → k < r.count → slice_index_or r.paired k false ≡ false
+  pub unpaired : r.some_paired ≡ false → (k : ℕ) → k < r.count
+      → slice_index_or r.paired k false ≡ false
 
 -- no gear has a half pair
 abbrev pub IsUnpaired : List Gear → Type 0

@@ -71,7 +71,8 @@ const LEGEND: &str = "<h2>Legend</h2>
 A frame after which a byte was heard has a black edge, and one after which a damaged answer was heard a red one, broken.
 A cross is a frame that was destroyed, or two that collided. Two bars in the lane of the bus are a lapse (red) or
 quiet.</p>
-<p>A box in the lane of the bus is a transaction, in the colour of what it is for; one with a number is so many probes in
+<p>A box in the lane of the bus is a transaction, in the colour of what it is for; one with a number is \
+so many probes in
 a row. Where every event is shown, the box stands below its frames, with the number of the controller that owns the
 bus.</p>
 <p>Of a controller: a diamond is a record to be kept, a reservation (orange), an enrolment (green) or a release (grey);

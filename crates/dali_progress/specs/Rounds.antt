@@ -37,9 +37,9 @@ pub record StartsAlone (s : SiteState) (c : ℕ) : Type 0 where
   pub bus : (world s).bus ≡ idle s.queue
   pub trace : (world s).trace ≡ []
 
--- WHAT A ROUND DOES, where nothing is disturbed and no other controller acts: the controller acts on
--- what is due for it, and a commit that is due succeeds; or the request that is next is sent, every
--- gear with power takes it, and what they answer is heard.
+-- WHAT A ROUND DOES, where nothing is disturbed and no other controller acts: the controller acts
+-- on what is due for it, and a commit that is due succeeds; or the request that is next is sent,
+-- every gear with power takes it, and what they answer is heard.
 abbrev pub Succeeds : Input → Type 0
 Succeeds input.CommitFailed = ⊥
 Succeeds _ = Unit {0}
@@ -90,16 +90,16 @@ HasNext s = (r : Request) × (next_request s ≡ Some r)
 abbrev pub GoesOn : SiteState → ℕ → Type 0
 GoesOn s c = ((e : End) × HasEnded s c e) ⊎ (HasDue s c ⊎ HasNext s)
 
--- WHAT AN END SAYS: that each gear with power has a short address, or that each address of the block
--- is reserved; it never gives up
+-- WHAT AN END SAYS: that each gear with power has a short address, or that each address of the
+-- block is reserved; it never gives up
 abbrev pub IsDone : SiteState → ℕ → End → Type 0
 IsDone s c AllFound = EachPowered (world s) HasShort
 IsDone s c BlockFull =
     IsFull (controller_at (world s) c).records.block (controller_at (world s) c).records.reserved
 IsDone s c GaveUp = ⊥
 
--- THE TABLE, as entries of short and random address: it names each gear that has a short address, but
--- one that had it before
+-- THE TABLE, as entries of short and random address: it names each gear that has a short address,
+-- but one that had it before
 abbrev pub AreTabled : List Gear → List Assignment → List Gear → Type 0
 AreTabled before entries gs =
     (g a : ℕ) → g < length gs → (gear_of gs g).short ≡ Some a

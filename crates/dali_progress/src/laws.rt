@@ -1,12 +1,12 @@
 //! What is proved of commissioning that nothing disturbs. Programs don't call these.
 //!
-//! They speak of a site on which a controller starts alone, with nothing kept and nothing on the bus (`StartsAlone`), and
-//! of a list of events that rounds add to its log (`Rounds`): the controller acts on what is due, and its commits
+//! They speak of a site on which a controller starts alone, with nothing kept and nothing on the bus (`StartsAlone`),
+//! and of a list of events that rounds add to its log (`Rounds`): the controller acts on what is due, and its commits
 //! succeed; frames that are next are sent, and what the gear answer is heard. So no other controller acts meanwhile, no
 //! frame is destroyed, no answer is lost or damaged, the bus never lapses, and no gear's power comes or goes.
 //!
-//! The last three speak of the runs of rounds that a replay makes of an installation with one controller (`Ran`): each is
-//! such a list of events.
+//! The last three speak of the runs of rounds that a replay makes of an installation with one controller (`Ran`): each
+//! is such a list of events.
 
 ghost use Rattle.std.specs.Prelude.{◌≡◌, ◌⊎◌, ℕ, ◌+◌, ◌*◌, ◌<◌, ◌≤◌, List, [], ◌∷◌, length};
 ghost use Rattle.std.specs.List.{count_by};
@@ -20,7 +20,8 @@ ghost use Rattle.dali_standing.specs.declared.trouble.Trouble.TheVariants as tro
 ghost use Rattle.dali_world.specs.Site.{SiteState, opened_site, world, IsPumpRefused};
 ghost use Rattle.dali_replay.specs.Installation.{Installation, installation_of};
 ghost use Rattle.dali_replay.specs.Rounds.{controllers, Ran};
-ghost use Rattle.dali_progress.specs.Rounds.{StartsAlone, Rounds, site_after, frames, GoesOn, HasEnded, IsDone, IsTabled};
+ghost use Rattle.dali_progress.specs.Rounds.{StartsAlone, Rounds, site_after, frames, GoesOn, HasEnded, IsDone};
+ghost use Rattle.dali_progress.specs.Rounds.{IsTabled};
 ghost use Rattle.dali_progress.specs.Running.{HasCommissioned, WasRefused};
 
 /// A new site with one controller is one on which it starts alone.
@@ -44,8 +45,8 @@ pub fn frames_are_bounded()
 /// IT GOES ON OR HAS ENDED. At each moment the controller has ended; or something is due for it that may be done, with
 /// no request waiting; or a request is next on the bus. It never halts.
 ///
-/// So `SiteState::act` adds one more event of a round, or `SiteState::pump` does, where the log has room, the queue takes
-/// one request, and the numbers are there that gear draw.
+/// So `SiteState::act` adds one more event of a round, or `SiteState::pump` does, where the log has room, the queue
+/// takes one request, and the numbers are there that gear draw.
 pub fn commissioning_goes_on()
     ensures { (s : SiteState) (c : ℕ) (es : List Event) → StartsAlone s c → Rounds s c es → GoesOn (site_after s es) c }
 {}
@@ -60,9 +61,9 @@ pub fn ends_are_true()
         → HasEnded (site_after s es) c e → IsTabled s (site_after s es) c }
 {}
 
-/// A RUN OF ENOUGH ROUNDS ENDS. On an installation with one controller that starts alone, with n gear that have power and
-/// no short address, a run of more than 333 n + 31 rounds ends with the end of the controller, which is true; or at a
-/// call that was refused.
+/// A RUN OF ENOUGH ROUNDS ENDS. On an installation with one controller that starts alone, with n gear that have power
+/// and no short address, a run of more than 333 n + 31 rounds ends with the end of the controller, which is true; or at
+/// a call that was refused.
 ///
 /// And a run of any length sends at most 111 n + 10 frames.
 pub fn a_run_ends()
@@ -73,9 +74,9 @@ pub fn a_run_ends()
         → controllers n ≡ 1 → Ran limit n sent text m → sent ≤ 111 * count_by is_bare (world n.site).gear + 10 }
 {}
 
-/// WITH ROOM IT ENDS UNLESS THE NUMBERS ARE SPENT. Where a request may wait, and the log has room for so many events more,
-/// the one call that may be refused is that of the bus, where the gear would draw more numbers than are left. A new
-/// installation has that room.
+/// WITH ROOM IT ENDS UNLESS THE NUMBERS ARE SPENT. Where a request may wait, and the log has room for so many events
+/// more, the one call that may be refused is that of the bus, where the gear would draw more numbers than are left. A
+/// new installation has that room.
 pub fn a_run_with_room_ends()
     ensures room { (limit : ℕ) (n : Installation) (sent : ℕ) (text : List ℕ) (m : Installation) → StartsAlone n.site 0
         → controllers n ≡ 1 → 333 * count_by is_bare (world n.site).gear + 31 < limit → 0 < n.site.queue
@@ -87,8 +88,8 @@ pub fn a_run_with_room_ends()
 {}
 
 /// AND WITH NUMBERS IT COMMISSIONS. Where there also is a number to be drawn for each gear, no call is refused, and the
-/// run ends with the end of the controller, which is true. So it does on a new installation of a plan with one controller
-/// and with no fewer numbers than gear.
+/// run ends with the end of the controller, which is true. So it does on a new installation of a plan with one
+/// controller and with no fewer numbers than gear.
 pub fn a_run_commissions()
     ensures alone { (limit : ℕ) (n : Installation) (sent : ℕ) (text : List ℕ) (m : Installation) → StartsAlone n.site 0
         → controllers n ≡ 1 → 333 * count_by is_bare (world n.site).gear + 31 < limit → 0 < n.site.queue

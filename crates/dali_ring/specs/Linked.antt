@@ -1,5 +1,6 @@
 use Rattle.std.specs.Prelude.{◌≡◌, ℕ, zero, suc, ◌+◌, ◌<◌, ◌≤◌, List, [], ◌∷◌, ◌++◌, length}
-use Rattle.std.specs.Prelude.{Option, Some, None, slice_index_or, nat_lt, if◌then◌else◌, sum_by, map, take}
+use Rattle.std.specs.Prelude.{Option, Some, None, slice_index_or, nat_lt, if◌then◌else◌, sum_by}
+use Rattle.std.specs.Prelude.{map, take}
 use Rattle.dali_ring.specs.declared.slots.Slot.{Slot}
 
 -- the slot of a number
@@ -32,12 +33,14 @@ follow link item n (suc k) a =
 
 -- Six lists of n slots and six beyond them, where the lists begin: list p begins behind slot n + p,
 -- and leads back to it. Each slot below n is in one of them.
-pub record Holds {X : Type 0} (s : List (Slot X)) (n : ℕ) (tails : List ℕ) (ls : List (List (Option X))) : Type 0 where
+pub record Holds {X : Type 0} (s : List (Slot X)) (n : ℕ) (tails : List ℕ)
+    (ls : List (List (Option X))) : Type 0 where
   pub six : length ls ≡ 6
   pub slots : length s ≡ n + 6
   pub ends : length tails ≡ 6
   pub lists : (p : ℕ) → p < 6
-      → IsList (link_at s) (item_at s) n (n + p) (slice_index_or tails p 0) (n + p) (slice_index_or ls p [])
+      → IsList (link_at s) (item_at s) n (n + p) (slice_index_or tails p 0) (n + p)
+          (slice_index_or ls p [])
   pub whole : sum_by length ls ≡ n
 
 -- the items of list p
@@ -50,7 +53,8 @@ lines s n =
     line s n 0 ∷ line s n 1 ∷ line s n 2 ∷ line s n 3 ∷ line s n 4 ∷ line s n 5 ∷ []
 
 -- Slot b is the one before item x of list p, which has the items us before x and rest behind it.
-pub record IsBefore {X : Type 0} (s : List (Slot X)) (n p b : ℕ) (us : List (Option X)) (x : Option X) (rest : List (Option X)) : Type 0 where
+pub record IsBefore {X : Type 0} (s : List (Slot X)) (n p b : ℕ) (us : List (Option X))
+    (x : Option X) (rest : List (Option X)) : Type 0 where
   pub items : slice_index_or (lines s n) p [] ≡ us ++ x ∷ rest
   pub way : Leads (link_at s) (item_at s) n b (n + p) us
 

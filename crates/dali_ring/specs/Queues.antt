@@ -1,7 +1,8 @@
-use Rattle.std.specs.Prelude.{ℕ, ◌+◌, ◌-◌, List, [], ◌∷◌, length, map, filter, not, replicate, sum_by, ◌==◌}
-use Rattle.std.specs.Prelude.{slice_index_or, slice_set, Option, Some, None}
+use Rattle.std.specs.Prelude.{ℕ, ◌+◌, ◌-◌, List, [], ◌∷◌, length, map, filter, not, replicate}
+use Rattle.std.specs.Prelude.{sum_by, ◌==◌, slice_index_or, slice_set, Option, Some, None}
 
--- What waits: five lists, that of priority 1 first and each oldest first, and how many items may wait.
+-- What waits: five lists, that of priority 1 first and each oldest first, and how many items may
+-- wait.
 pub record Queues (X : Type 0) : Type 0 where
   pub lists : List (List X)
   pub capacity : ℕ
@@ -38,4 +39,7 @@ without from sender xs = filter (λ x. not (from x == sender)) xs
 
 -- the queues without the items of a sender
 abbrev pub all_without : {X : Type 0} → (X → ℕ) → ℕ → Queues X → Queues X
-all_without from sender q = record { lists = map (without from sender) q.lists; capacity = q.capacity }
+all_without from sender q = record {
+  lists = map (without from sender) q.lists;
+  capacity = q.capacity;
+}

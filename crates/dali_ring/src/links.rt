@@ -85,7 +85,8 @@ impl<T: Copy> Links<T> {
             (slice_index_or (lines self.old.slots self.old.capacity) to [] ++ item ∷ [])) }
         ensures way { (us : List (Option T)) (x : Option T) (rest : List (Option T))
             → IsBefore self.old.slots self.old.capacity from before us x rest
-            → Leads (link_at self.new.slots) (item_at self.new.slots) self.new.capacity before (self.new.capacity + from) us }
+            → Leads (link_at self.new.slots) (item_at self.new.slots) self.new.capacity before
+            (self.new.capacity + from) us }
     {
         let last = self.tails[to];
         let at = self.slots.read(before).link;

@@ -124,8 +124,8 @@ pub record TransactionsEnd : Type 0 where
   pub goes_on : (b : Block) (xs : List Assignment) (t : List Entry)
       → ((a : ℕ) → HasAddress xs a → a < 64) → may_follow b xs (stage_of t) ≡ true → GoesOn b xs t
 
--- What holds of all records that are kept holds of none, and of one more that fits and may be added;
--- and a number has one address.
+-- What holds of all records that are kept holds of none, and of one more that fits and may be
+-- added; and a number has one address.
 pub record RecordsStayKept : Type 0 where
   pub none : (b : Block) → IsKept (without_records b)
   pub more : (k : Kept) (x : Record) → IsKept k → Fits k.block x → address_of x < 64 → MayAdd k x

@@ -109,8 +109,8 @@ MayAdd k (Reserve a r) = IsFresh k.reserved (a, r)
 MayAdd k (Enrol a r) = IsFresh k.enrolled (a, r)
 MayAdd k (Release a r) = Has k.reserved (a, r)
 
--- and why one may not: a record of its kind has the address; or none has it, but one has the number;
--- or the address is not reserved for the number
+-- and why one may not: a record of its kind has the address; or none has it, but one has the
+-- number; or the address is not reserved for the number
 abbrev pub IsAddressTaken : Kept → Record → Type 0
 IsAddressTaken k (Reserve a r) = HasAddress k.reserved a
 IsAddressTaken k (Enrol a r) = HasAddress k.enrolled a
@@ -133,8 +133,8 @@ is_pair x y = (y.0 == x.0) && (y.1 == x.1)
 abbrev pub without_pair : Assignment → List Assignment → List Assignment
 without_pair x xs = filter (λ y. not (is_pair x y)) xs
 
--- what is kept with one record more: a reservation or an enrolment is the last of its kind; a release
--- takes its reservation away
+-- what is kept with one record more: a reservation or an enrolment is the last of its kind; a
+-- release takes its reservation away
 abbrev pub with_record : Kept → Record → Kept
 with_record k (Reserve a r) = record k { reserved = k.reserved ++ (a, r) ∷ [] }
 with_record k (Enrol a r) = record k { enrolled = k.enrolled ++ (a, r) ∷ [] }

@@ -1,9 +1,9 @@
 //! Which transactions a controller may send while it commissions short addresses, and the records that it keeps
 //! meanwhile.
 //!
-//! A transaction is a front of one of seven scripts ([`Trace`]); what a controller has reserved and enrolled is [`Kept`].
-//! Both lists of it are [`Assignments`]. [`Input`] and [`Order`] are what a machine that runs the scripts is told, and
-//! what it orders. Nothing here takes memory.
+//! A transaction is a front of one of seven scripts ([`Trace`]); what a controller has reserved and enrolled is
+//! [`Kept`]. Both lists of it are [`Assignments`]. [`Input`] and [`Order`] are what a machine that runs the scripts is
+//! told, and what it orders. Nothing here takes memory.
 #![tactic(auto)]
 
 mod assignments;

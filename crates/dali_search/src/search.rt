@@ -89,8 +89,8 @@ impl Search {
         Random24::of(self.left.low).unwrap()
     }
 
-    /// The search that has had so many answers, which leave this as the least number, and has this probe. So a search is
-    /// laid down as three numbers, and made again. None where no search has these.
+    /// The search that has had so many answers, which leave this as the least number, and has this probe. So a search
+    /// is laid down as three numbers, and made again. None where no search has these.
     pub fn of(answers: u8, least: Random24, probe: Random24) -> Option<Search>
         ensures numbers { IfSome result (λ s. (length s.answers ≡ answers) × (lowest s.answers ≡ least)
             × (s.probe ≡ probe)) }

@@ -11,7 +11,8 @@ use Rattle.dali_special.specs.declared.command.Command.TheVariants.{Terminate, I
 use Rattle.dali_special.specs.declared.command.Command.TheVariants.{Randomise, Compare, Withdraw}
 use Rattle.dali_special.specs.declared.command.Command.TheVariants.{SearchHigh, SearchMiddle}
 use Rattle.dali_special.specs.declared.command.Command.TheVariants.{SearchLow, Program, Verify}
-use Rattle.dali_special.specs.declared.command.Command.TheVariants.{QueryShort, RandomByte, Arc, Other}
+use Rattle.dali_special.specs.declared.command.Command.TheVariants.{QueryShort, RandomByte}
+use Rattle.dali_special.specs.declared.command.Command.TheVariants.{Arc, Other}
 
 -- the data byte that stands for no short address
 abbrev pub MASK : ℕ

@@ -1,5 +1,5 @@
-ghost use Rattle.std.specs.Prelude.{◌≡◌, ◌⊎◌, ◌+◌, pos, false, List, [], ◌∷◌, ◌++◌, length, map, codes, IfOk, IfErr, OnOk, OnErr};
-ghost use Rattle.std.specs.Prelude.{is_some};
+ghost use Rattle.std.specs.Prelude.{◌≡◌, ◌⊎◌, ◌+◌, pos, false, List, [], ◌∷◌, ◌++◌, length, map, codes, IfOk, IfErr};
+ghost use Rattle.std.specs.Prelude.{OnOk, OnErr, is_some};
 ghost use Rattle.sqlite.specs.declared.types.Value.TheVariants.{Int};
 ghost use Rattle.sqlite.specs.Tree.{Trees};
 ghost use Rattle.sqlite.specs.State.{HasCleanDisk};
