@@ -32,19 +32,21 @@ pub const AXIS_TOP: u64 = SCRIPT_HEIGHT;
 const CONTROLLERS_TOP: u64 = SCRIPT_HEIGHT + AXIS_HEIGHT;
 
 impl Lanes {
-    /// The top of a controller's lane, of the bus, of a gear's lane; and the height of the picture.
+    /// The top of the lane of controller c, in pixels from the top of the picture.
     pub fn controller_top(&self, c: u8) -> u64
         ensures { result ≡ 126 + 26 * c }
     {
         CONTROLLERS_TOP + u64::from(c) * CONTROLLER_HEIGHT
     }
 
+    /// The top of the lane of the bus, in pixels: it stands below those of the controllers.
     pub fn bus_top(&self) -> u64
         ensures { result ≡ 126 + 26 * self.now.controllers }
     {
         self.controller_top(self.controllers)
     }
 
+    /// The top of the lane of the gear with this number, in pixels: the lanes of the gear stand below that of the bus.
     pub fn gear_top(&self, number: u32) -> u64
         ensures { result ≡ 162 + 26 * self.now.controllers + 18 * number }
     {
@@ -59,6 +61,7 @@ impl Lanes {
         }
     }
 
+    /// The height of the picture, in pixels: all lanes, and 6 below the last.
     pub fn height(&self) -> u64 {
         self.gear_top(self.gear) + 6
     }

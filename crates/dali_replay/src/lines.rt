@@ -1,6 +1,6 @@
 //! An input's lines and their numbers, and the parts of a line: words between spaces, numbers between other marks.
 
-ghost use Rattle.std.specs.Prelude.{◌≡◌, ◌≢◌, ℕ, ◌+◌, ◌<◌, ◌≤◌, [], ◌∷◌, length, map, slice_index, IsTrue, ◌↔◌, true};
+ghost use Rattle.std.specs.Prelude.{◌≡◌, ◌≢◌, ℕ, ◌+◌, ◌<◌, ◌≤◌, [], ◌∷◌, length, map, slice_index, true};
 ghost use Rattle.std.specs.Prelude.{IfSome, IfNone, MatchOption, option_map};
 ghost use Rattle.dali_replay.specs.Lines.{lines_of, is_skipped, numbered_after, parts_of, parts_after, words_of};
 
@@ -91,6 +91,7 @@ pub struct Script<'a> {
 }
 
 impl<'a> Script<'a> {
+    /// The script of these bytes, of which no line was taken yet.
     pub fn new(input: &'a [u8]) -> Script<'a>
         ensures rest { result.rest.now ≡ input.now }
         ensures read { result.read ≡ 0 }
