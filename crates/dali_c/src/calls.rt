@@ -3,7 +3,6 @@
 ghost use Rattle.std.specs.Prelude.{◌≡◌, ◌<◌, ◌↔◌, ◌⊎◌, true, false, [], Some, None};
 ghost use Rattle.dali_script.specs.declared.records.Record.{Record};
 ghost use Rattle.dali_script.specs.declared.orders.Input.{Input};
-ghost use Rattle.dali_script.specs.Records.{Fits, MayAdd, IsAddressTaken, IsRandomTaken, IsNotReserved};
 ghost use Rattle.dali_script.specs.Records.{with_record};
 ghost use Rattle.dali_script.specs.Due.{due_after, accepts};
 ghost use Rattle.dali_controller.specs.Machine.{Machine, at_first};

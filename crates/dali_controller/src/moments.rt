@@ -6,15 +6,14 @@ ghost use Rattle.dali_frame.specs.Priority.{LATER};
 ghost use Rattle.dali_special.specs.declared.command.Command.{Command};
 ghost use Rattle.dali_special.specs.Command.{frame_of};
 ghost use Rattle.dali_script.specs.declared.stage.Stage.TheVariants as stage;
-ghost use Rattle.dali_script.specs.Records.{Fits, MayAdd, Has, HasAddress, HasRandom, with_record};
-ghost use Rattle.dali_enrol.specs.Table.{with_entry};
+ghost use Rattle.dali_script.specs.Records.{Fits, MayAdd, Has, HasRandom, with_record};
 ghost use Rattle.dali_search.specs.declared.step.Step.TheVariants as search;
 ghost use Rattle.dali_script.specs.declared.orders.Input.TheVariants as input;
 ghost use Rattle.dali_script.specs.declared.orders.Order.TheVariants as order;
 ghost use Rattle.dali_script.specs.Due.{due_after, frame_put, record_ordered};
 ghost use Rattle.dali_script.specs.declared.orders.Due.TheVariants as due;
 ghost use Rattle.dali_controller.specs.Course.{is_yes};
-ghost use Rattle.dali_controller.specs.Machine.{machine_lost, table_of};
+ghost use Rattle.dali_controller.specs.Machine.{machine_lost};
 
 use crate::entries::enter;
 use crate::purpose::Purpose;

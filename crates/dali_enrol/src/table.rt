@@ -1,4 +1,4 @@
-ghost use Rattle.std.specs.Prelude.{◌≡◌, ℕ, ◌≤◌, ◌↔◌, Err, IsTrue, IsOk, IfOk, IfErr, OnOk, OnErr, MatchOption};
+ghost use Rattle.std.specs.Prelude.{◌≡◌, ◌↔◌, Err, IsTrue, IsOk, IfOk, IfErr, OnOk, OnErr, MatchOption};
 ghost use Rattle.dali_script.specs.Records.{Has, HasAddress, HasRandom, InBlock, IsMap};
 ghost use Rattle.dali_enrol.specs.declared.error.TableError.TheVariants.{AddressTaken, RandomTaken, NoMemory};
 

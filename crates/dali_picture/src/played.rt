@@ -2,8 +2,7 @@
 
 ghost use Rattle.std.specs.Prelude.{◌≡◌, ◌+◌, ◌≤◌, ◌++◌, ◌∷◌, [], length, true, false, IfOk, None};
 ghost use Rattle.dali_replay.specs.Lines.{numbered_after};
-ghost use Rattle.dali_replay.specs.Bench.{after, start};
-ghost use Rattle.dali_replay.specs.Installation.{installation_of};
+ghost use Rattle.dali_replay.specs.Bench.{after};
 ghost use Rattle.dali_replay.specs.Replay.{HavePlayed, setting_of};
 ghost use Rattle.dali_picture.specs.Played.{bench_event, with_event, BenchRuns, IsLogOf, IsLogBy};
 

@@ -1,6 +1,6 @@
 //! What the gear of a run show, and for how long.
 
-ghost use Rattle.std.specs.Prelude.{◌≡◌, ◌<◌, ◌≤◌, true, length, All};
+ghost use Rattle.std.specs.Prelude.{◌≡◌, ◌<◌, ◌≤◌, true, All};
 ghost use Rattle.dali_frame.specs.Random.{MASK24};
 
 use dali_frame::{Forward, Random24, Short};

@@ -32,7 +32,7 @@ impl Model for Bench {
 }
 
 impl Bench {
-    ghost use Rattle.dali_replay.specs.Bench.{start, needed, is_enough, after_command, with_gear, after};
+    ghost use Rattle.dali_replay.specs.Bench.{start, is_enough, after_command, with_gear, after};
     ghost use Rattle.dali_replay.specs.declared.bench_line.BenchLine.TheVariants.{Quiet};
 
     /// The gear of a plan, from the factory.

@@ -1,6 +1,6 @@
 //! Decimal numbers, blocks of short addresses, and sets of gear.
 
-ghost use Rattle.std.specs.Prelude.{◌≡◌, [], ◌∷◌, map, option_map};
+ghost use Rattle.std.specs.Prelude.{◌≡◌, [], ◌∷◌, map};
 ghost use Rattle.dali_replay.specs.Numbers.{number_of, number_to, starts_plain, block_of, block_of_parts, set_of};
 
 use crate::lines::{cut, parts};

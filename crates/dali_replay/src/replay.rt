@@ -1,11 +1,9 @@
 //! A run from the bytes of a script to the bytes of its reports.
 
-ghost use Rattle.std.specs.Prelude.{◌≡◌, ℕ, ◌+◌, ◌<◌, ◌≤◌, ◌⊎◌, List, length, Some, None, Ok, Err, IfOk, IfErr, IfSome};
-ghost use Rattle.std.specs.Prelude.{MatchResult, IsErrOf, IsErrAnd};
+ghost use Rattle.std.specs.Prelude.{◌≡◌, ℕ, ◌+◌, ◌<◌, ◌≤◌, ◌⊎◌, List, length, Some, Ok, Err, IfOk, IfErr, IfSome};
+ghost use Rattle.std.specs.Prelude.{IsErrOf, IsErrAnd};
 ghost use Rattle.std.specs.Io.KnownBytes.{Consumes};
 ghost use Rattle.dali_replay.specs.Lines.{lines_of, numbered_after};
-ghost use Rattle.dali_replay.specs.Bench.{start};
-ghost use Rattle.dali_replay.specs.Installation.{installation_of};
 ghost use Rattle.dali_replay.specs.Replay.{PlansNot, Plays, PlaysSite, Replays, Tells, played, planned, setting_of};
 
 use crate::bench::Bench;

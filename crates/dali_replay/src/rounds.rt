@@ -1,6 +1,6 @@
 //! A run of rounds: in each of them every controller goes that has something due, and then the bus.
 
-ghost use Rattle.std.specs.Prelude.{◌≡◌, ◌<◌, ◌≤◌, ◌++◌, length, true, OnOk, IfOk, string_bytes, if◌then◌else◌};
+ghost use Rattle.std.specs.Prelude.{◌≡◌, ◌<◌, length, true, OnOk, IfOk, string_bytes, if◌then◌else◌};
 ghost use Rattle.dali_replay.specs.Rounds.{IsTurn, AreTurns, IsRoundOf, Ran, is_sent, came_of, Runs};
 ghost use Rattle.dali_replay.specs.Text.{Writes};
 

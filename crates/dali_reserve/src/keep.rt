@@ -1,4 +1,4 @@
-ghost use Rattle.std.specs.Prelude.{◌≡◌, ◌↔◌, ◌⊎◌, Bool, true, false, List, [], ◌∷◌, ◌++◌, Ok, Err, OnOk, OnErr, IfOk};
+ghost use Rattle.std.specs.Prelude.{◌≡◌, ◌↔◌, ◌⊎◌, Bool, true, false, List, [], ◌∷◌, ◌++◌, Err, OnOk, OnErr, IfOk};
 ghost use Rattle.std.specs.Prelude.{IfErr};
 ghost use Rattle.dali_script.specs.declared.block.Block.{Block};
 ghost use Rattle.dali_script.specs.declared.records.Record.{Record};

@@ -1,5 +1,5 @@
-ghost use Rattle.std.specs.Prelude.{◌≡◌, ℕ, ◌+◌, ◌<◌, ◌≤◌, List, [], ◌∷◌, ◌++◌, Option, slice_set, slice_index_or, length, slice_get, sum_by};
-ghost use Rattle.std.specs.Prelude.{IfOk, replicate};
+ghost use Rattle.std.specs.Prelude.{◌≡◌, ◌+◌, ◌<◌, ◌≤◌, List, [], ◌∷◌, ◌++◌, Option, slice_set, slice_index_or};
+ghost use Rattle.std.specs.Prelude.{length, slice_get, sum_by, IfOk, replicate};
 ghost use Rattle.dali_ring.specs.Linked.{Holds, lines, IsBefore, Leads, link_at, item_at, IsLinked, waiting, IsAt};
 ghost use Rattle.dali_ring.specs.Queues.{without};
 

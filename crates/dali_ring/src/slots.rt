@@ -1,4 +1,4 @@
-ghost use Rattle.std.specs.Prelude.{◌≡◌, ℕ, ◌+◌, ◌^◌, ◌<◌, length, slice_get, slice_set, Some, IfOk};
+ghost use Rattle.std.specs.Prelude.{◌≡◌, ◌+◌, ◌^◌, ◌<◌, length, slice_get, slice_set, Some, IfOk};
 ghost use Rattle.dali_ring.specs.Fresh.{fresh_to};
 ghost use Rattle.dali_ring.specs.Linked.{slot_at};
 

@@ -1,4 +1,4 @@
-ghost use Rattle.std.specs.Prelude.{◌≡◌, ◌↔◌, ◌<◌, ◌≤◌, [], ◌∷◌, ◌++◌, length, IsTrue, IsOk, IfOk, IfErr, OnOk, OnErr};
+ghost use Rattle.std.specs.Prelude.{◌≡◌, ◌↔◌, ◌<◌, [], ◌∷◌, ◌++◌, length, IsTrue, IsOk, IfErr, OnOk, OnErr};
 ghost use Rattle.std.specs.Prelude.{MatchOption, slice_index_or};
 ghost use Rattle.dali_script.specs.Records.{Assignment, Has, HasAddress, HasRandom, Marks, IsFresh, without_pair};
 

@@ -1,4 +1,4 @@
-ghost use Rattle.std.specs.Prelude.{◌≡◌, ℕ, ◌+◌, ◌<◌, ◌≤◌, ◌↔◌, ◌==◌, ◌&&◌, nat_lt, IsTrue, IsOk, OnOk, OnErr, IfOk};
+ghost use Rattle.std.specs.Prelude.{◌≡◌, ◌+◌, ◌<◌, ◌↔◌, ◌==◌, ◌&&◌, IsTrue, IsOk, OnOk, OnErr};
 ghost use Rattle.std.specs.Prelude.{MatchOption, IsSome, IfSome, [], true};
 ghost use Rattle.dali_script.specs.Records.{Kept, Has, HasAddress, HasRandom, IsLeastFree, IsFull};
 ghost use Rattle.dali_script.specs.Records.{Fits, MayAdd, with_record, AreReserved, AreEnrolled};

@@ -1,5 +1,4 @@
 ghost use Rattle.std.specs.Prelude.{◌≡◌, List, [], IfErr, OnOk};
-ghost use Rattle.sqlite.specs.State.{HasCleanDisk};
 ghost use Rattle.sqlite.specs.Held.{state};
 ghost use Rattle.dali_script.specs.declared.records.Record.{Record};
 ghost use Rattle.dali_sqlite.specs.Table.{no_schema};

@@ -1,6 +1,5 @@
 //! Queues in slots that are linked by their numbers.
 
-ghost use Rattle.std.specs.Prelude.{◌≡◌};
 
 use super::values::same;
 use dali_frame::Priority;
