@@ -58,18 +58,45 @@ def is_used(name, text):
 
 
 def imports(root):
-    """Each name that a file of code imports stands in it. An import for a trait's methods, or for macros, names a trait of `TRAITS`."""
+    """Each name that a file of code imports stands in it; or it is a trait, and the file calls one of its methods."""
+    methods = methods_of_traits(root)
     for file in files(root, "crates/*/src/**/*.rt"):
         text = file.read_text()
-        rest = re.sub(r"^[ \t]*(?:pub )?(?:ghost )?use [^;]+;", "", re.sub(r"//.*", "", text), flags=re.M)
+        rest = re.sub(r"^[ \t]*(?:pub )?(?:ghost )?use [^;]+;", "", without_comments(text), flags=re.M)
         for name, item in imported(text):
-            if not is_used(name, rest) and name not in TRAITS:
+            if not is_used(name, rest) and not any(calls(it, rest) for it in methods.get(name, ())):
                 at = text[: item.start()].count("\n") + 1
                 yield f"{named(root, file)}:{at}: {name} is imported and not used"
 
 
-# Traits that are imported for their methods.
-TRAITS = ("BufRead", "Write", "Read", "Rng", "SeedableRng", "RngCore", "FromStr", "Error")
+# Traits of the kit that files import for their methods, or for macros that call these.
+METHODS = {
+    "BufRead": ("lines", "read_line", "read_until"),
+    "Crash": ("crash",),
+    "Rng": ("next_u32", "next_u64", "fill_bytes"),
+    "SeedableRng": ("from_seed", "seed_from_u64"),
+    "Write": ("flush", "write_all", "write_str", "write!", "writeln!"),
+}
+TRAIT = re.compile(r"^([ \t]*)pub trait (\w+)[^{]*\{\n(.*?)^\1\}", re.M | re.S)
+
+
+def methods_of_traits(root):
+    """The methods of the traits in `METHODS`, and of those that crates of the repository declare."""
+    them = dict(METHODS)
+    for file in files(root, "crates/*/src/**/*.rt"):
+        for it in TRAIT.finditer(without_comments(file.read_text())):
+            them[it[2]] = (*them.get(it[2], ()), *re.findall(r"\bfn (\w+)", it[3]))
+    return them
+
+
+def calls(method, text):
+    """Whether a text calls a method of this name, or a macro."""
+    return re.search(rf"\b{method}" if method.endswith("!") else rf"(?:\.|::){method}(?:\(|::<)", text)
+
+
+def without_comments(text):
+    """A file of code without its comments and docs."""
+    return re.sub(r"//.*", "", text)
 
 
 def docs(root):
@@ -95,15 +122,16 @@ def documented(lines, at):
 
 
 def crates(root):
-    """Each crate that crates.txt names below another is named by a file of that one."""
+    """Each crate that crates.txt names below another is named by a file of that one, in code and not in a comment."""
     for line in (root / "crates.txt").read_text().splitlines():
         head, _, below = line.partition("#")[0].partition(":")
         if not head.strip():
             continue
         name = head.split()[0]
-        text = "".join(file.read_text() for kind in ("rt", "antt") for file in files(root, f"crates/{name}/**/*.{kind}"))
+        code = "".join(without_comments(file.read_text()) for file in files(root, f"crates/{name}/**/*.rt"))
+        logic = "".join(re.sub("--.*", "", file.read_text()) for file in files(root, f"crates/{name}/**/*.antt"))
         for it in below.split():
-            if it not in ("core", "std_alloc") and not re.search(rf"\b{it}\b(?!\.rt)", text):
+            if not re.search(rf"\b{it}::|\buse {it};|\bRattle\.{it}\.", code + logic):
                 yield f"crates.txt: {name} names {it}, and no file of {name} does"
 
 
