@@ -1,4 +1,4 @@
-"""The help and the version of `dali_sim`, which stands in tools/help so that they are there before the program is built."""
+"""The help and the version of `dali_sim`: tools/help has them, so that they are there before the program is built."""
 
 import pathlib
 import subprocess

@@ -1,7 +1,7 @@
-"""Proves and builds programs of this workspace, each with the crates below it, as many side by side as there are processors.
+"""Proves and builds programs of this workspace, each with the crates below it, side by side on all processors.
 
-What is proved stays in crates/NAME/out, so a build that is interrupted goes on where it was. What the prover says of a crate
-stands in crates/NAME/out/build.log.
+What is proved stays in crates/NAME/out, so a build that is interrupted goes on where it was. What the prover says of a
+crate stands in crates/NAME/out/build.log.
 """
 
 import fcntl
@@ -80,7 +80,10 @@ def say(text):
 
 
 def room():
-    """The folder in which crates are proved. It is none of the checkout, where rt would take its crates for some of the repository's."""
+    """The folder in which crates are proved.
+
+    It is none of the checkout, where rt would take its crates for some of the repository's.
+    """
     return ROOT / (".git/proving" if (ROOT / ".git").is_dir() else ".proving")
 
 
@@ -126,7 +129,10 @@ class Build:
         threading.Thread(target=self.wait_for, args=(crate, ran), daemon=True).start()
 
     def words_of(self, crate, is_longest):
-        """What proves a crate, with as many jobs as processors and memory allow: it may soon run alone. All make way for the one with the longest chain behind it, which they wait for in the end."""
+        """What proves a crate, with as many jobs as processors and memory allow: it may soon run alone.
+
+        All make way for the one with the longest chain behind it, which they wait for in the end.
+        """
         jobs = ["--jobs", str(max(min(self.processors, 4, free_memory() // MEMORY), 1))]
         first = [] if is_longest else ["nice"]
         if not crate.is_program:
@@ -149,7 +155,8 @@ class Build:
         self.begun[crate] = time.monotonic() - self.begun[crate]
         count = len(self.crates) - len(self.left) - len(self.running)
         passed = int(time.monotonic() - self.first)
-        say(f"{self.title}: {count} of {len(self.crates)} crates proved after {passed // 60}:{passed % 60:02} ({crate.name}){self.guess()}")
+        so_far = f"{count} of {len(self.crates)} crates proved after {passed // 60}:{passed % 60:02} ({crate.name})"
+        say(f"{self.title}: {so_far}{self.guess()}")
 
     def guess(self):
         """What is left, by the seconds that the crates before took for their lines."""
@@ -177,7 +184,10 @@ def input_of(crate, place):
 
 
 def lay_out(crate, place):
-    """Makes a workspace of the crate and those below it, whose libraries are linked in. In one workspace rt lets one crate wait for another."""
+    """Makes a workspace of the crate and those below it, whose libraries are linked in.
+
+    In one workspace rt lets one crate wait for another.
+    """
     shutil.rmtree(place, ignore_errors=True)
     place.mkdir(parents=True)
     parts = [*crate.below, crate]
@@ -219,7 +229,7 @@ def wanted(programs):
 
 
 def kit():
-    """Says so where the kit is missing, or another than the one that the repository was proved with; returns whether it is there."""
+    """Whether the kit is there. Says so where it is not, or is not the one that the repository was proved with."""
     named = (ROOT / "KIT").read_text().strip()
     if not shutil.which("rt"):
         say(f"the Rattle kit is missing: README.md says what is needed; the repository was last proved with {named}")
@@ -238,7 +248,8 @@ def prove(title, programs):
     if not kit():
         return MISSING
     run = Build(title, crates)
-    say(f"{title}: proving {len(crates)} crates on {run.processors} processors; the prover's words go to crates/NAME/out/build.log")
+    begun = f"proving {len(crates)} crates on {run.processors} processors"
+    say(f"{title}: {begun}; the prover's words go to crates/NAME/out/build.log")
     try:
         run.run()
         return 0
