@@ -4,9 +4,10 @@ FILES = {
     "src/main.rt": r"""//! Four controllers commission gear, while the bus's thread takes them down and up at random.
 //!
 //! The program is given a seed, plays one site in sessions, and looks at it after each of them.
-//! In a session each controller has a worker, over a line round the site. A controller that is down when a session
-//! begins may be brought up in it, with what its store read before. One that is taken down stays down to the end of the
-//! session, since its worker may be at a commit; where that worker is refused for it, it stops the line.
+//! In a session each controller has a thread, over a line round the site. The bus's thread takes controllers down at any
+//! moment, also while their workers are at a commit, and half of the time it tries at once to bring one up with what its
+//! store read when the session began. A worker whose controller is down ends; its thread brings the controller up with
+//! what the store reads then, and goes on with another worker.
 #![tactic(auto)]
 
 ghost use Rattle.std.specs.Prelude.{◌≡◌, ◌<◌};
@@ -15,20 +16,20 @@ mod listed;
 
 use arrayvec::ArrayVec;
 use dali_enrol::Directory;
-use dali_line::{Bus, Driver, Line, OpenGate, Outcome, Port, Ready, Worker};
+use dali_line::{Bus, Driver, Line, OpenGate, Outcome, Port, Ready, UpRefusal, Worker};
 use dali_reserve::Keep;
 use dali_script::{Block, Kept};
 use dali_sqlite::SqliteKeep;
-use dali_world::{Event, Plan, SiteState, Trouble};
+use dali_world::{Event, Plan, Refusal, SiteState, Trouble};
 use listed::{Listed, ListedBus};
 use sqlite::MemStore;
 use std::alloc::Global;
 use std::env;
 use std::marker::Brand;
 use std::process::ExitCode;
-use std::sync::Wait;
 use std::sync::ledger::{Blank, Ledger};
-use std::thread::{Threads, join};
+use std::sync::{Mutex, Wait};
+use std::thread::{Threads, join, yield_now};
 
 const GEAR: u32 = 48;
 
@@ -38,6 +39,9 @@ const BLOCKS: [(u8, u8); 4] = [(0, 15), (16, 31), (32, 47), (48, 63)];
 const TURNS: u32 = 100_000;
 
 const SESSIONS: u32 = 100;
+
+/// How many workers a controller's thread runs in a session, after the first.
+const RESTARTS: u32 = 10_000;
 
 /// A log that is longer gets no further session.
 const LONG: usize = 50_000;
@@ -67,21 +71,22 @@ impl Chance {
     }
 }
 
-/// What the bus's thread does to controllers.
+/// What is done to controllers.
 #[derive(Clone, Copy)]
 struct Turnover {
     chance: Chance,
-    /// Which controllers are down.
-    down: [bool; 4],
-    /// Which were down when the session began, and are still.
-    waiting: [bool; 4],
+    /// Which controllers' threads have ended.
+    ended: [bool; 4],
     downs: usize,
     ups: usize,
-    /// No controller was refused to go down, or to come up.
+    /// No controller was refused to go down or to come up, unless for a cause that there may be.
     is_right: bool,
     /// What each thread noted is what the log has of it.
     is_logged: bool,
 }
+
+/// The driver, with its list, and what is done to controllers.
+type Driving<P0, P1, P2, P3, D> = (Listed<Driver<P0, P1, P2, P3, D>>, Turnover);
 
 /// A controller of these at random, as a number from 0 to 3.
 fn some_controller(chance: &mut Chance) -> usize {
@@ -93,105 +98,74 @@ fn some_controller(chance: &mut Chance) -> usize {
     }
 }
 
+/// A controller goes down, if it is up. Which it is.
 fn takes_down<P0: Ledger, P1: Ledger, P2: Ledger, P3: Ledger, D: Ledger, R: Wait>(
     rt: &R,
     line: &Line<P0, P1, P2, P3, D>,
-    driver: &mut Listed<Driver<P0, P1, P2, P3, D>>,
-    turnover: &mut Turnover,
-) {
-    let at = some_controller(&mut turnover.chance);
-    if at > 3 || turnover.down[at] {
-        return;
+    driving: &mut Driving<P0, P1, P2, P3, D>,
+) -> usize {
+    let at = some_controller(&mut driving.1.chance);
+    match line.down(rt, &mut driving.0.inner, at as u8) {
+        Ok(()) => driving.1.downs = driving.1.downs.saturating_add(1),
+        Err(Refusal::ControllerDown) => {}
+        Err(_) => driving.1.is_right = false,
     }
-    if line.down(rt, &mut driver.inner, at as u8).is_ok() {
-        turnover.down[at] = true;
-        turnover.downs = turnover.downs.saturating_add(1);
-    } else {
-        turnover.is_right = false;
-    }
+    at
 }
 
-/// Brings this controller up, if it may be. Whether it was.
+/// A controller comes up with these records. They are what its store reads now, or what it read when the session began
+/// (`is_old`): then they may be behind.
 fn brings_up<P0: Ledger, P1: Ledger, P2: Ledger, P3: Ledger, D: Ledger, R: Wait>(
     rt: &R,
     line: &Line<P0, P1, P2, P3, D>,
-    driver: &mut Listed<Driver<P0, P1, P2, P3, D>>,
-    turnover: &mut Turnover,
-    records: &[Kept],
+    driving: &mut Driving<P0, P1, P2, P3, D>,
     at: usize,
-) -> bool {
-    if at > 3 || at >= records.len() || !turnover.waiting[at] {
-        return false;
-    }
-    if line
-        .up(rt, &mut driver.inner, at as u8, &records[at])
-        .is_ok()
-    {
-        turnover.down[at] = false;
-        turnover.waiting[at] = false;
-        turnover.ups = turnover.ups.saturating_add(1);
-        true
-    } else {
-        turnover.is_right = false;
-        false
+    records: &Kept,
+    is_old: bool,
+) {
+    match line.up(rt, &mut driving.0.inner, at as u8, records) {
+        Ok(()) => driving.1.ups = driving.1.ups.saturating_add(1),
+        Err(UpRefusal::Site(Refusal::ControllerUp)) => {}
+        Err(UpRefusal::CommitOpen | UpRefusal::Site(Refusal::StoreDisagrees)) if is_old => {}
+        Err(_) => driving.1.is_right = false,
     }
 }
 
-/// Brings the first controller up that may be. Whether there was one.
-fn brings_one_up<P0: Ledger, P1: Ledger, P2: Ledger, P3: Ledger, D: Ledger, R: Wait>(
-    rt: &R,
-    line: &Line<P0, P1, P2, P3, D>,
-    driver: &mut Listed<Driver<P0, P1, P2, P3, D>>,
-    turnover: &mut Turnover,
-    records: &[Kept],
-) -> bool {
-    for at in 0..4usize {
-        if brings_up(rt, line, driver, turnover, records, at) {
-            return true;
-        }
-    }
-    false
-}
-
-/// A controller goes down now and then, or comes up.
+/// A controller goes down now and then, and half of the time it is to come up at once with old records.
 fn turns_over<P0: Ledger, P1: Ledger, P2: Ledger, P3: Ledger, D: Ledger, R: Wait>(
     rt: &R,
     line: &Line<P0, P1, P2, P3, D>,
-    driver: &mut Listed<Driver<P0, P1, P2, P3, D>>,
-    turnover: &mut Turnover,
+    driving: &mut Driving<P0, P1, P2, P3, D>,
     records: &[Kept],
 ) {
-    match turnover.chance.below(256) {
-        0 => takes_down(rt, line, driver, turnover),
-        1 | 2 | 3 => {
-            let at = some_controller(&mut turnover.chance);
-            brings_up(rt, line, driver, turnover, records, at);
-        }
-        _ => {}
+    if driving.1.chance.below(64) != 0 {
+        return;
+    }
+    let at = takes_down(rt, line, driving);
+    if at < records.len() && driving.1.chance.below(2) == 0 {
+        brings_up(rt, line, driving, at, &records[at], true);
     }
 }
 
-/// The bus's turn, if there is one. Where all controllers are done, one is brought up, or another taken down, and the
+/// The bus's turn, if there is one. Where all is over, and no controller is to be brought up, one goes down, and the
 /// session ends. Whether it goes on.
 fn goes_on<P0: Ledger, P1: Ledger, P2: Ledger, P3: Ledger, D: Ledger, R: Wait>(
     rt: &R,
     line: &Line<P0, P1, P2, P3, D>,
-    driver: &mut Listed<Driver<P0, P1, P2, P3, D>>,
-    turnover: &mut Turnover,
-    records: &[Kept],
+    driving: &mut Driving<P0, P1, P2, P3, D>,
 ) -> bool {
-    match line.ready(rt, &mut driver.inner) {
-        Ready::Stopped => false,
+    match line.ready(rt, &mut driving.0.inner) {
+        Ready::Stopped | Ready::Full => false,
         Ready::Over => {
-            let goes_on = brings_one_up(rt, line, driver, turnover, records);
+            let goes_on = driving.1.ended != [true; 4];
             if !goes_on {
-                takes_down(rt, line, driver, turnover);
+                takes_down(rt, line, driving);
             }
             goes_on
         }
         Ready::Next => {
             let bus = ListedBus { bus: line };
-            bus.pump(rt, driver, Trouble::None).is_ok()
+            bus.pump(rt, &mut driving.0, Trouble::None).is_ok()
         }
     }
 }
@@ -200,20 +174,30 @@ fn goes_on<P0: Ledger, P1: Ledger, P2: Ledger, P3: Ledger, D: Ledger, R: Wait>(
 fn drives<P0: Ledger, P1: Ledger, P2: Ledger, P3: Ledger, D: Ledger, R: Wait>(
     rt: &R,
     line: &Line<P0, P1, P2, P3, D>,
-    driver: Listed<Driver<P0, P1, P2, P3, D>>,
-    turnover: Turnover,
+    driving: &Mutex<Driving<P0, P1, P2, P3, D>>,
     records: &[Kept],
-) -> (Listed<Driver<P0, P1, P2, P3, D>>, Turnover) {
-    let mut driver = driver;
-    let mut turnover = turnover;
+) {
     for _ in 0..TURNS {
-        if !goes_on(rt, line, &mut driver, &mut turnover, records) {
+        if !drives_once(rt, line, driving, records) {
             break;
         }
-        turns_over(rt, line, &mut driver, &mut turnover, records);
+        yield_now();
     }
     line.stop(rt);
-    (driver, turnover)
+}
+
+fn drives_once<P0: Ledger, P1: Ledger, P2: Ledger, P3: Ledger, D: Ledger, R: Wait>(
+    rt: &R,
+    line: &Line<P0, P1, P2, P3, D>,
+    driving: &Mutex<Driving<P0, P1, P2, P3, D>>,
+    records: &[Kept],
+) -> bool {
+    let mut driving = driving.lock(rt);
+    let goes_on = goes_on(rt, line, &mut driving);
+    if goes_on {
+        turns_over(rt, line, &mut driving, records);
+    }
+    goes_on
 }
 
 /// What a worker leaves: how it ended, its port, and its store.
@@ -240,21 +224,68 @@ fn works<B: Bus, R: Wait>(
 
 type Listing<P0, P1, P2, P3, D> = Listed<Port<P0, P1, P2, P3, D>>;
 
-type Driving<P0, P1, P2, P3, D> = (Listed<Driver<P0, P1, P2, P3, D>>, Turnover);
+/// A controller's thread: workers run, one after the other, until one ends for another cause than that its controller is
+/// down. Each time the controller comes up with what the store reads.
+fn serves<P0: Ledger, P1: Ledger, P2: Ledger, P3: Ledger, D: Ledger, R: Wait>(
+    rt: &R,
+    alloc: Global,
+    line: &Line<P0, P1, P2, P3, D>,
+    directory: &Directory,
+    driving: &Mutex<Driving<P0, P1, P2, P3, D>>,
+    at: usize,
+    worker: Worker<Listing<P0, P1, P2, P3, D>, Database, OpenGate>,
+) -> Left<Listing<P0, P1, P2, P3, D>> {
+    let bus = ListedBus { bus: line };
+    let mut left = works(rt, alloc, &bus, directory, worker);
+    for _ in 0..RESTARTS {
+        if left.0 != Outcome::Down {
+            break;
+        }
+        let (_, port, mut keep) = left;
+        is_brought_up(rt, line, driving, at, &mut keep);
+        let worker = Worker::new(port, keep, OpenGate);
+        left = works(rt, alloc, &bus, directory, worker);
+    }
+    ends(rt, driving, at);
+    left
+}
 
-/// Four workers and the bus's thread run.
+fn is_brought_up<P0: Ledger, P1: Ledger, P2: Ledger, P3: Ledger, D: Ledger, R: Wait>(
+    rt: &R,
+    line: &Line<P0, P1, P2, P3, D>,
+    driving: &Mutex<Driving<P0, P1, P2, P3, D>>,
+    at: usize,
+    keep: &mut Database,
+) {
+    let read = keep.read();
+    let mut driving = driving.lock(rt);
+    match &read {
+        Ok(kept) => brings_up(rt, line, &mut driving, at, kept, false),
+        Err(_) => driving.1.is_right = false,
+    }
+}
+
+fn ends<P0: Ledger, P1: Ledger, P2: Ledger, P3: Ledger, D: Ledger, R: Wait>(
+    rt: &R,
+    driving: &Mutex<Driving<P0, P1, P2, P3, D>>,
+    at: usize,
+) {
+    let mut driving = driving.lock(rt);
+    if at < 4 {
+        driving.1.ended[at] = true;
+    }
+}
+
+/// The threads of four controllers and of the bus run.
 fn all_run<P0, P1, P2, P3, D, R>(
     rt: &R,
     alloc: Global,
     line: &Line<P0, P1, P2, P3, D>,
     directory: &Directory,
     workers: Four<Worker<Listing<P0, P1, P2, P3, D>, Database, OpenGate>>,
-    driving: Driving<P0, P1, P2, P3, D>,
+    driving: &Mutex<Driving<P0, P1, P2, P3, D>>,
     records: &[Kept],
-) -> (
-    Four<Left<Listing<P0, P1, P2, P3, D>>>,
-    Driving<P0, P1, P2, P3, D>,
-)
+) -> Four<Left<Listing<P0, P1, P2, P3, D>>>
 where
     P0: Ledger + Send + Sync,
     P1: Ledger + Send + Sync,
@@ -264,33 +295,30 @@ where
     R: Threads + Wait + Sync,
 {
     let (first, second, third, fourth) = workers;
-    let (driver, turnover) = driving;
-    let listing = ListedBus { bus: line };
-    let bus = &listing;
-    let ((one, two), (three, (four, drove))) = join(
+    let ((one, two), (three, (four, ()))) = join(
         rt,
         move || {
             join(
                 rt,
-                move || works(rt, alloc, bus, directory, first),
-                move || works(rt, alloc, bus, directory, second),
+                move || serves(rt, alloc, line, directory, driving, 0, first),
+                move || serves(rt, alloc, line, directory, driving, 1, second),
             )
         },
         move || {
             join(
                 rt,
-                move || works(rt, alloc, bus, directory, third),
+                move || serves(rt, alloc, line, directory, driving, 2, third),
                 move || {
                     join(
                         rt,
-                        move || works(rt, alloc, bus, directory, fourth),
-                        move || drives(rt, line, driver, turnover, records),
+                        move || serves(rt, alloc, line, directory, driving, 3, fourth),
+                        move || drives(rt, line, driving, records),
                     )
                 },
             )
         },
     );
-    ((one, two, three, four), drove)
+    (one, two, three, four)
 }
 
 /// The list is whole, and is what these events have of this kind.
@@ -384,9 +412,9 @@ where
         ports.next().unwrap_or_default(),
     );
     let workers = workers_of(alloc, ports, keeps);
-    let driving = (Listed::new(alloc, driver), turnover);
-    let (left, drove) = all_run(rt, alloc, &line, directory, workers, driving, records);
-    let (driver, turnover) = drove;
+    let driving = Mutex::new((Listed::new(alloc, driver), turnover));
+    let left = all_run(rt, alloc, &line, directory, workers, &driving, records);
+    let (driver, turnover) = driving.into_inner();
     let Listed { inner, list } = driver;
     let site = line.close(ArrayVec::new(), inner);
     let drove = Listed { inner: (), list };
@@ -544,8 +572,7 @@ fn goes_further<R: Threads + Wait + Sync>(
         return Err(Wrong("memory"));
     };
     let mut played = played;
-    let down = played.turnover.down;
-    played.turnover.waiting = down;
+    played.turnover.ended = [false; 4];
     let blanks = blanks();
     let mut played = session::<Brand, Brand, Brand, Brand, Brand, R>(
         rt, alloc, played, blanks, &directory, records,
@@ -594,8 +621,7 @@ fn begun(alloc: Global, seed: u64) -> Result<Played, Wrong> {
     let keeps = stores(alloc, site.plan().blocks())?;
     let turnover = Turnover {
         chance: Chance { state: seed },
-        down: [false; 4],
-        waiting: [false; 4],
+        ended: [false; 4],
         downs: 0,
         ups: 0,
         is_right: true,
@@ -608,16 +634,13 @@ fn begun(alloc: Global, seed: u64) -> Result<Played, Wrong> {
     })
 }
 
-/// In the end every controller comes up with what its store reads.
-fn comes_up(
-    site: &mut SiteState,
-    down: [bool; 4],
-    records: &[Kept],
-) -> Result<(), Wrong> {
+/// In the end every controller goes down, and comes up with what its store reads.
+fn comes_up(site: &mut SiteState, records: &[Kept]) -> Result<(), Wrong> {
     let mut c = 0u8;
-    for (stored, is_down) in records.iter().zip(down) {
-        if !is_down && site.down(c).is_err() {
-            return Err(Wrong("a controller does not go down in the end"));
+    for stored in records {
+        match site.down(c) {
+            Ok(()) | Err(Refusal::ControllerDown) => {}
+            Err(_) => return Err(Wrong("a controller does not go down in the end")),
         }
         if site.up(c, stored).is_err() {
             return Err(Wrong("a controller does not come up in the end"));
@@ -685,7 +708,7 @@ fn plays<R: Threads + Wait + Sync>(rt: &R, alloc: Global, seed: u64) -> Result<R
         events: site.log().len(),
         addressed: addressed(&site),
     };
-    comes_up(&mut site, turnover.down, &records)?;
+    comes_up(&mut site, &records)?;
     Ok(report)
 }
 

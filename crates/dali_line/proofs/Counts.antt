@@ -1,7 +1,7 @@
 use Rattle.std.proofs.Common.{◌≡◌, ℕ, ◌+◌, ◌<◌, ◌≤◌, Bool, true, false, List, [], ◌∷◌, ◌++◌, refl, sym, ap, ◌∙◌, arith, length}
-use Rattle.std.specs.Prelude.{◌==◌, if◌then◌else◌, zero, suc}
+use Rattle.std.specs.Prelude.{◌==◌, if◌then◌else◌, zero, suc, slice_set}
 use Rattle.std.proofs.lemmas.Bool.Decides.{nat_tests}
-use Rattle.std.proofs.lemmas.List.{length-map, get_or_past}
+use Rattle.std.proofs.lemmas.List.{length-map, get_or_past, set_past}
 use Rattle.dali_events.specs.declared.event.Event.{Event}
 use Rattle.dali_events.specs.declared.event.Event.TheVariants as event
 use Rattle.dali_events.specs.Plan.{Plan}
@@ -17,6 +17,9 @@ use Rattle.dali_world.specs.Site.{SiteState, is_step_of, share_of, site_logged, 
 use Rattle.dali_line.specs.Shares.{Tally, total_of, count_at, raised, raised_driver}
 use Rattle.dali_line.specs.Counts.{is_other, others_of, counts_of}
 use Rattle.dali_line.specs.Found.{events_in}
+use Rattle.dali_line.specs.Commits.{state_of}
+use Rattle.dali_line.specs.declared.commits.CommitState.{CommitState}
+use Rattle.dali_line.specs.declared.commits.CommitState.TheVariants.{Settled}
 
 -- A LOG GROWS BY ONE EVENT, and so does one of its five shares.
 
@@ -140,6 +143,14 @@ pump_counted old new t t' trouble (report.Collided c f d g) exact raised_is pump
 
 pub nobody_there : (w : World) (c : ℕ) → length w.controllers ≤ c → controller_at w c ≡ nobody
 nobody_there w c past = get_or_past w.controllers c nobody past
+
+-- ---------------------------------------------------------------- the commits of a controller that is not there
+
+pub no_state : (states : List CommitState) (c : ℕ) → length states ≡ 4 → 4 ≤ c → state_of states c ≡ Settled
+no_state states c four past = get_or_past states c Settled (omega arith)
+
+pub no_place : (states : List CommitState) (c : ℕ) (state : CommitState) → length states ≡ 4 → 4 ≤ c → states ≡ slice_set states c state
+no_place states c state four past = sym (set_past states c state (omega arith))
 
 pub few_events : (r : Report) → events_in r ≤ 1
 few_events report.Idle = omega arith

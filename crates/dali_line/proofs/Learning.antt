@@ -3,11 +3,12 @@ use Rattle.std.proofs.lemmas.List.{append_assoc}
 use Rattle.std.specs.declared.option.Option.{Option}
 use Rattle.std.specs.declared.option.Option.TheVariants.{None, Some}
 use Rattle.std.specs.Option.{IsSomeAnd, IfSome, IfNone}
+use Rattle.dali_script.specs.declared.block.Block.{Block}
 use Rattle.dali_script.specs.declared.records.Record.{Record}
 use Rattle.dali_script.specs.declared.records.Record.TheVariants.{Enrol}
 use Rattle.dali_script.specs.Records.{Has}
 use Rattle.dali_enrol.specs.Directory.{Pass, known_at}
-use Rattle.dali_line.specs.Leaves.{Leaves, Learns, Posts}
+use Rattle.dali_line.specs.Leaves.{IsStored, Leaves, Learns, Posts, Stores}
 use Rattle.dali_line.proofs.Leaving.{leaves_none, leaves_more}
 
 -- WHAT A WORKER'S PASS LEARNS, turn by turn.
@@ -16,10 +17,6 @@ has_left : {A : Type 0} (xs ys : List A) (x : A) → Has xs x → Has (xs ++ ys)
 has_left [] ys x has = elim has [ ]
 has_left (z ∷ xs) ys x (inl here) = inl here
 has_left (z ∷ xs) ys x (inr there) = inr (has_left xs ys x there)
-
-has_right : {A : Type 0} (xs ys : List A) (x : A) → Has ys x → Has (xs ++ ys) x
-has_right [] ys x has = has
-has_right (z ∷ xs) ys x has = inr (has_right xs ys x has)
 
 some_then : {X : Type 0} (o : Option X) (P Q : X → Type 0) → ((x : X) → P x → Q x) → IsSomeAnd o P → IsSomeAnd o Q
 some_then None P Q f p = elim p [ ]
@@ -38,6 +35,12 @@ learns_more was between is xs first second a = ⊎_elim
     (λ some. inr some)
     (second a)
 
+-- what was learned of one record that a list has
+learns_stored : (b : Block) (was is : Pass) (xs : List Record) (x : Record) → IsStored b xs x → Learns was is (x ∷ []) → Learns was is xs
+learns_stored b was is xs x stored learned a = ⊎_elim (λ same. inl same)
+    (λ some. inr (some_then (known_at is a) _ _ (λ e has. ⊎_elim (λ here. subst (IsStored b xs) here stored) (λ none. elim none [ ]) has) some))
+    (learned a)
+
 module _ {S : Type 0} (is_up is_sound : S → Type 0) (holds : S → List Record → Type 0) where
   -- where the pass is as it was
   pub posts_none : (old new : S) (p : Pass) → Leaves is_up is_sound holds old new → Posts is_up is_sound holds old new p p
@@ -49,23 +52,24 @@ module _ {S : Type 0} (is_up is_sound : S → Type 0) (holds : S → List Record
   posts_same old new new' was is left same it =
       subst (λ n. Posts is_up is_sound holds old n was is) (sym same) (subst (Posts is_up is_sound holds old new was) (sym it) (posts_none old new was left))
 
-  -- where it learned of one record that was added
-  pub posts_one : (old new : S) (was is : Pass) (x : Record)
-      → (is_sound old → is_up new → (xs : List Record) → holds old xs → holds new (xs ++ x ∷ []))
+  -- where it learned of one record that the store has
+  pub posts_one : (block : S → Block) (old new : S) (was is : Pass) (x : Record) → Stores is_up is_sound holds block old new x
       → Learns was is (x ∷ []) → Posts is_up is_sound holds old new was is
-  posts_one old new was is x added learned = record {
-    list = λ s u xs held. (x ∷ [], added s u xs held, learns_wider was is (x ∷ []) (xs ++ x ∷ []) (λ y has. has_right xs (x ∷ []) y has) learned);
+  posts_one block old new was is x stored learned = record {
+    list = λ s u xs held.
+        let has = stored s u xs held in
+        (has.0, has.1, learns_stored (block new) was is (xs ++ has.0) x has.2 learned);
   }
 
-  -- where it learned of the record that was added, if one was
-  pub posts_if : (old new new' : S) (was is is' : Pass) (kept : Option Record) → Leaves is_up is_sound holds old new
-      → IfSome kept (λ x. is_sound old → is_up new → (xs : List Record) → holds old xs → holds new (xs ++ x ∷ []))
+  -- where it learned of the record that the store has, if there is one
+  pub posts_if : (block : S → Block) (old new new' : S) (was is is' : Pass) (kept : Option Record) → Leaves is_up is_sound holds old new
+      → IfSome kept (Stores is_up is_sound holds block old new)
       → IfSome kept (λ x. Learns was is (x ∷ [])) → IfNone kept (is ≡ was) → new' ≡ new → is' ≡ is
       → Posts is_up is_sound holds old new' was is'
-  posts_if old new new' was is is' None left added learned none same it =
+  posts_if block old new new' was is is' None left stored learned none same it =
       subst (λ n. Posts is_up is_sound holds old n was is') (sym same) (subst (Posts is_up is_sound holds old new was) (sym (it ∙ none)) (posts_none old new was left))
-  posts_if old new new' was is is' (Some x) left added learned none same it =
-      subst (λ n. Posts is_up is_sound holds old n was is') (sym same) (subst (Posts is_up is_sound holds old new was) (sym it) (posts_one old new was is x added learned))
+  posts_if block old new new' was is is' (Some x) left stored learned none same it =
+      subst (λ n. Posts is_up is_sound holds old n was is') (sym same) (subst (Posts is_up is_sound holds old new was) (sym it) (posts_one block old new was is x stored learned))
 
   -- and then more
   pub posts_more : (old between new : S) (was then_ is : Pass)

@@ -1,4 +1,5 @@
 pub mod Counts
 pub mod Closing
 pub mod Leaving
+mod Storing
 mod Learning

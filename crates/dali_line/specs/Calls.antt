@@ -1,7 +1,8 @@
-use Rattle.std.specs.Prelude.{◌≡◌, ℕ, ◌<◌, Bool, Option, Result, IfOk, IfErr, OnOk, OnErr}
+use Rattle.std.specs.Prelude.{◌≡◌, ℕ, ◌<◌, Bool, false, Option, Result, IfOk, IfErr, OnOk, OnErr}
 use Rattle.dali_frame.specs.declared.frames.Forward.{Forward}
 use Rattle.dali_script.specs.Records.{Kept}
 use Rattle.dali_events.specs.declared.event.Event.TheVariants as event
+use Rattle.dali_events.specs.World.{controller_at}
 use Rattle.dali_standing.specs.declared.refusal.Refusal.{Refusal}
 use Rattle.dali_standing.specs.declared.refusal.Refusal.TheVariants as refusal
 use Rattle.dali_standing.specs.declared.trouble.Trouble.{Trouble}
@@ -9,6 +10,8 @@ use Rattle.dali_standing.specs.declared.trouble.Report.{Report}
 use Rattle.dali_world.specs.Site.{SiteState, world, Logs, LogsRequest, IsFull, Pumps, IsUpWith}
 use Rattle.dali_world.specs.Site.{IsArcRefused, IsPumpRefused, IsGearRefused, IsDownRefused}
 use Rattle.dali_world.specs.Site.{IsUpRefused}
+use Rattle.dali_line.specs.declared.up_refusal.UpRefusal.{UpRefusal}
+use Rattle.dali_line.specs.declared.up_refusal.UpRefusal.TheVariants as up
 
 -- WHAT THE CALLS OF A SITE ANSWER, in one closed relation each: the site before, the arguments, the
 -- answer, the site after. `Acts` of `dali_world` is the one of `act`. An accepted call adds its one
@@ -49,7 +52,13 @@ GoesDown s c result new =
     OnOk result (Logs s (event.Down c) new) × IfErr result (IsDownRefused s c)
     × OnErr result (new ≡ s)
 
-unfoldable pub ComesUp : SiteState → ℕ → Kept → Result (Unit {0}) Refusal → SiteState → Type 0
+-- why a controller does not come up at a line: the site refuses it; or it is down, with a commit
+-- open
+abbrev pub IsRefusedUp : SiteState → ℕ → Kept → UpRefusal → Type 0
+IsRefusedUp s c copy (up.Site e) = IsUpRefused s c copy e
+IsRefusedUp s c copy up.CommitOpen = (controller_at (world s) c).up ≡ false
+
+unfoldable pub ComesUp : SiteState → ℕ → Kept → Result (Unit {0}) UpRefusal → SiteState → Type 0
 ComesUp s c copy result new =
-    OnOk result (IsUpWith s c copy new) × IfErr result (IsUpRefused s c copy)
+    OnOk result (IsUpWith s c copy new) × IfErr result (IsRefusedUp s c copy)
     × OnErr result (new ≡ s)

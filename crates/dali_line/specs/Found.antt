@@ -1,11 +1,11 @@
-use Rattle.std.specs.Prelude.{◌≡◌, ◌⊎◌, ℕ, ◌<◌, length, None, IsSome}
+use Rattle.std.specs.Prelude.{◌≡◌, ◌⊎◌, ℕ, ◌<◌, length, false, None, IsSome}
 use Rattle.dali_script.specs.declared.orders.Due.TheVariants as due
 use Rattle.dali_events.specs.World.{controller_at}
 use Rattle.dali_events.specs.Promise.{KeepsPromise}
 use Rattle.dali_standing.specs.Seats.{due_of}
 use Rattle.dali_standing.specs.declared.trouble.Report.{Report}
 use Rattle.dali_standing.specs.declared.trouble.Report.TheVariants as report
-use Rattle.dali_world.specs.Site.{SiteState, world, share_of, next_request, IsSound}
+use Rattle.dali_world.specs.Site.{SiteState, world, share_of, next_request, IsSound, IsCrowded}
 use Rattle.dali_line.specs.Shares.{Seat}
 use Rattle.dali_line.specs.Counts.{others_of}
 use Rattle.dali_line.specs.declared.ready.Ready.{Ready}
@@ -43,6 +43,10 @@ abbrev pub HasDue : SiteState → ℕ → Type 0
 HasDue s c =
     IsSome (controller_at (world s) c).told ⊎ (due_of (controller_at (world s) c) ≡ due.Store)
 
+-- controller c is not refused for want of room: a request more may wait; or it is down
+abbrev pub MayOffer : SiteState → ℕ → Type 0
+MayOffer s c = (IsCrowded s → ⊥) ⊎ ((controller_at (world s) c).up ≡ false)
+
 -- nobody owns the bus, no request waits for it, and nothing is due for any controller: each has
 -- ended, has halted or is down
 pub record IsOver (s : SiteState) : Type 0 where
@@ -55,4 +59,5 @@ pub record IsOver (s : SiteState) : Type 0 where
 abbrev pub IsReady : SiteState → Ready → Type 0
 IsReady s ready.Stopped = Unit {0}
 IsReady s ready.Next = IsSome (next_request s)
+IsReady s ready.Full = (next_request s ≡ None) × IsCrowded s
 IsReady s ready.Over = IsOver s

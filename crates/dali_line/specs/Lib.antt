@@ -1,4 +1,5 @@
 pub mod Calls
+pub mod Commits
 pub mod Counts
 pub mod Found
 pub mod Leaves

@@ -6,7 +6,7 @@ use crate::driver::Driver;
 use crate::line::Line;
 use crate::port::Port;
 use crate::ready::Ready;
-use dali_script::{Due, Input};
+use dali_script::{Due, Input, Record};
 use dali_world::{Receipt, Refusal, Report, Trouble};
 use std::sync::Wait;
 use std::sync::ledger::Ledger;
@@ -48,8 +48,22 @@ pub trait Bus {
     fn due<R: Wait>(&self, rt: &R, port: &mut Self::Port) -> Due
         ensures { seat port.new ≡ seat port.old };
 
-    /// Waits until something is due for the port's controller (true), or all is stopped (false).
+    /// Waits until something is due for the port's controller (true); or all is stopped, or the controller is down
+    /// (false).
     fn wait<R: Wait>(&self, rt: &R, port: &mut Self::Port) -> bool
+        ensures { seat port.new ≡ seat port.old };
+
+    /// The port's holder begins the commit that is due, if one is: of the record that is answered. Until the controller
+    /// was told what became of it, or `end_commit`, nobody brings the controller up.
+    fn begin_commit<R: Wait>(&self, rt: &R, port: &mut Self::Port) -> Option<Record>
+        ensures { seat port.new ≡ seat port.old };
+
+    /// The port's holder makes no commit any more, and has made one whose outcome it could not tell (true), or not.
+    fn end_commit<R: Wait>(&self, rt: &R, port: &mut Self::Port, is_made: bool)
+        ensures { seat port.new ≡ seat port.old };
+
+    /// Waits until a request more may wait, or the port's controller is down (true); or all is stopped (false).
+    fn wait_for_room<R: Wait>(&self, rt: &R, port: &mut Self::Port) -> bool
         ensures { seat port.new ≡ seat port.old };
 
     /// The request that is next comes on the bus; Idle where none is.
@@ -62,12 +76,20 @@ pub trait Bus {
         ensures accepted { IfOk result (λ r. driven driver.new ≡ driven driver.old + events_in r) }
         ensures refused { OnErr result (driven driver.new ≡ driven driver.old) };
 
-    /// Waits until all is stopped, a request is next, or all is over.
+    /// The owner of the bus loses it. Answers who it was, if anybody.
+    fn lapse<R: Wait>(&self, rt: &R, driver: &mut Self::Driver) -> Result<Option<u8>, Refusal>
+        ensures accepted { OnOk result (driven driver.new ≡ driven driver.old + 1) }
+        ensures refused { OnErr result (driven driver.new ≡ driven driver.old) };
+
+    /// Waits until all is stopped, a request is next, nothing can be sent, or all is over.
     fn ready<R: Wait>(&self, rt: &R, driver: &mut Self::Driver) -> Ready
         ensures { driven driver.new ≡ driven driver.old };
 
     /// All is stopped, for good: who waits now or later is told so.
     fn stop<R: Wait>(&self, rt: &R);
+
+    /// Whether all is stopped.
+    fn is_stopped<R: Wait>(&self, rt: &R) -> bool;
 }
 
 impl<P0: Ledger, P1: Ledger, P2: Ledger, P3: Ledger, D: Ledger> Bus for Line<P0, P1, P2, P3, D> {
@@ -104,6 +126,18 @@ impl<P0: Ledger, P1: Ledger, P2: Ledger, P3: Ledger, D: Ledger> Bus for Line<P0,
         self.wait(rt, port)
     }
 
+    fn begin_commit<R: Wait>(&self, rt: &R, port: &mut Port<P0, P1, P2, P3, D>) -> Option<Record> {
+        self.begin_commit(rt, port)
+    }
+
+    fn end_commit<R: Wait>(&self, rt: &R, port: &mut Port<P0, P1, P2, P3, D>, is_made: bool) {
+        self.end_commit(rt, port, is_made)
+    }
+
+    fn wait_for_room<R: Wait>(&self, rt: &R, port: &mut Port<P0, P1, P2, P3, D>) -> bool {
+        self.wait_for_room(rt, port)
+    }
+
     fn pump<R: Wait>(
         &self,
         rt: &R,
@@ -113,11 +147,23 @@ impl<P0: Ledger, P1: Ledger, P2: Ledger, P3: Ledger, D: Ledger> Bus for Line<P0,
         self.pump(rt, driver, trouble)
     }
 
+    fn lapse<R: Wait>(
+        &self,
+        rt: &R,
+        driver: &mut Driver<P0, P1, P2, P3, D>,
+    ) -> Result<Option<u8>, Refusal> {
+        self.lapse(rt, driver)
+    }
+
     fn ready<R: Wait>(&self, rt: &R, driver: &mut Driver<P0, P1, P2, P3, D>) -> Ready {
         self.ready(rt, driver)
     }
 
     fn stop<R: Wait>(&self, rt: &R) {
         self.stop(rt)
+    }
+
+    fn is_stopped<R: Wait>(&self, rt: &R) -> bool {
+        self.is_stopped(rt)
     }
 }

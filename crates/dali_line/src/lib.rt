@@ -6,9 +6,11 @@
 //!
 //! A [`Worker`] runs a controller in a thread of its own, with a store of records (`Keep`), and posts what was enrolled
 //! in a directory (`dali_enrol`), which all threads read without waiting; a [`Pumper`] runs the bus. They know a line
-//! as a [`Bus`], which hands out no lock: a record is committed without it. A [`Gate`] is asked at some moments of a
-//! turn. A vendor may write a `Keep`, a `Bus` or a `Gate` of their own; `dali_line_tests` has a store that fails at a
-//! commit (`failing`), a bus that keeps lists (`listed`) and a gate that holds a commit (`threads`).
+//! as a [`Bus`], which hands out no lock: a record is committed without it. But the line knows that a worker is at a
+//! commit (`begin_commit`), and brings no controller up meanwhile ([`UpRefusal`]). A [`Gate`] is asked at some moments
+//! of a turn. A vendor may write a `Keep`, a `Bus` or a `Gate` of their own; `dali_line_tests` has a store that fails
+//! at a commit (`failing`), buses that keep lists and that drive themselves (`listed`, `driven`) and a gate that holds
+//! a commit (`threads`).
 //!
 //! What is proved of threads: a port knows how many steps its controller has taken (its share), the driver how many
 //! events are no controller's step, and whenever the lock is taken the log has just as many. No clause can name the
@@ -24,6 +26,8 @@
 #![tactic(auto)]
 
 mod bus;
+mod commits;
+mod committing;
 mod count;
 mod driver;
 mod gate;
@@ -36,6 +40,7 @@ mod posting;
 mod pumper;
 mod ready;
 mod tally;
+mod up_refusal;
 mod worker;
 
 pub use bus::Bus;
@@ -46,4 +51,5 @@ pub use outcome::Outcome;
 pub use port::Port;
 pub use pumper::Pumper;
 pub use ready::Ready;
+pub use up_refusal::UpRefusal;
 pub use worker::Worker;

@@ -1,11 +1,12 @@
-ghost use Rattle.std.specs.Prelude.{◌≡◌, ◌+◌, ◌<◌, ◌≤◌, ℕ, length, All, [], ◌∷◌, take, IfOk, OnOk, OnErr, IsTrue};
+ghost use Rattle.std.specs.Prelude.{◌≡◌, ◌+◌, ◌<◌, ◌≤◌, length, All, [], ◌∷◌, take, IfOk, OnOk, OnErr, IsTrue};
 ghost use Rattle.dali_events.specs.World.{controller_at};
+ghost use Rattle.dali_script.specs.Due.{record_ordered};
 ghost use Rattle.dali_standing.specs.Seats.{due_of};
 ghost use Rattle.dali_events.specs.Promise.{KeepsPromise};
 ghost use Rattle.dali_world.specs.Site.{SiteState, world, Acts, share_of, IsSound};
 ghost use Rattle.dali_line.specs.Counts.{seats_of, counts_of, others_of};
 ghost use Rattle.dali_line.specs.Shares.{raised_seat, seat, total_of};
-ghost use Rattle.dali_line.specs.Found.{FromSeat, FromDriver, HasDue, IsReady, events_in};
+ghost use Rattle.dali_line.specs.Found.{FromSeat, FromDriver, HasDue, MayOffer, IsReady, events_in};
 ghost use Rattle.dali_line.specs.Calls.{Offers, PumpsOnce, Lapses, FallsQuiet, Powers, Expires, GoesDown, ComesUp};
 
 use crate::count::{others, steps};
@@ -15,9 +16,10 @@ use crate::own::Own;
 use crate::port::{Kind, Port};
 use crate::ready::Ready;
 use crate::tally::Tally;
+use crate::up_refusal::UpRefusal;
 use arrayvec::ArrayVec;
 use dali_frame::Forward;
-use dali_script::{Due, Input, Kept};
+use dali_script::{Due, Input, Kept, Record};
 use dali_world::{Receipt, Refusal, Report, SiteState, Trouble};
 use std::sync::ledger::{Blank, Ledger};
 use std::sync::{Condvar, Mutex, Wait};
@@ -25,14 +27,15 @@ use std::sync::{Condvar, Mutex, Wait};
 /// A site under a lock, which threads share by reference.
 ///
 /// Its calls are those of `SiteState`, one at a time. Whoever calls has the right to it: a controller's `act`, `arc`,
-/// `next`, `due` and `wait` want its port, and all others the driver; `stop` is anybody's.
+/// `next`, `due`, `wait`, `begin_commit`, `end_commit` and `wait_for_room` want its port, and all others the driver;
+/// `stop` and `is_stopped` are anybody's.
 ///
 /// Each call says of its answer: there is a site (`FromSeat`, `FromDriver` in `specs/Found`) whose promise holds, whose
 /// log has as many of the caller's events as the caller's share says, and which answers so. An accepted call raises
 /// that share by one, a refused one leaves it.
 ///
 /// A line in use: a `Worker` for each port and a `Pumper` for the driver, each in a thread of its own. A call that
-/// waits (`wait`, `ready`) sleeps; nothing promises that it ends.
+/// waits (`wait`, `wait_for_room`, `ready`) sleeps; nothing promises that it ends.
 #[derive(Drop)]
 pub struct Line<P0: Ledger, P1: Ledger, P2: Ledger, P3: Ledger, D: Ledger> {
     locked: Mutex<Locked<P0, P1, P2, P3, D>>,
@@ -164,7 +167,8 @@ impl<P0: Ledger, P1: Ledger, P2: Ledger, P3: Ledger, D: Ledger> Line<P0, P1, P2,
         self.locked.lock(rt).due(port)
     }
 
-    /// Waits until something is due for the port's controller (true), or the line is stopped (false).
+    /// Waits until something is due for the port's controller (true); or the line is stopped, or the controller is
+    /// down (false). `is_stopped` tells these two apart: a line that is stopped stays so.
     ///
     /// Something is due where `next` says something, or where `due` is Store. It may wait forever, as with a port whose
     /// controller has ended.
@@ -177,6 +181,49 @@ impl<P0: Ledger, P1: Ledger, P2: Ledger, P3: Ledger, D: Ledger> Line<P0, P1, P2,
             .moved
             .wait_while(rt, self.locked.lock(rt), |l| !l.wakes(controller));
         locked.waits(port)
+    }
+
+    /// The port's holder begins the commit that is due, as `SiteState::ordered` says: of the record that is answered.
+    /// None where none is due.
+    ///
+    /// From now on `up` of this controller is refused with CommitOpen, until an `act` with this port is accepted, as
+    /// the one that tells the outcome, or until `end_commit`. So the store has what it will have before anybody goes on
+    /// from it. It may be called again, as by a new holder of the port.
+    pub fn begin_commit<R: Wait>(
+        &self,
+        rt: &R,
+        port: &mut Port<P0, P1, P2, P3, D>,
+    ) -> Option<Record>
+        ensures answer { FromSeat port.old
+            (λ s. result ≡ record_ordered (controller_at (world s) port.old.controller).last) }
+        ensures same { port.new ≡ port.old }
+    {
+        self.locked.lock(rt).begin_commit(port)
+    }
+
+    /// The port's holder makes no commit any more. It tells whether it has made one whose outcome it could not tell:
+    /// then `up` of this controller wants records with that one, and else those with it or without it.
+    ///
+    /// Where the holder has begun none, or has told the outcome, this does nothing.
+    pub fn end_commit<R: Wait>(&self, rt: &R, port: &mut Port<P0, P1, P2, P3, D>, is_made: bool)
+        ensures { port.new ≡ port.old }
+    {
+        self.locked.lock(rt).end_commit(port, is_made);
+    }
+
+    /// Waits until the port's controller is not refused for want of room: until a request more may wait, or the
+    /// controller is down (true); or until the line is stopped (false).
+    pub fn wait_for_room<R: Wait>(&self, rt: &R, port: &mut Port<P0, P1, P2, P3, D>) -> bool
+        ensures room { IsTrue result → FromSeat port.old (λ s. MayOffer s port.old.controller) }
+        ensures same { port.new ≡ port.old }
+    {
+        let controller = port.controller();
+        let mut locked = self.moved.wait_while(
+            rt,
+            self.locked.lock(rt),
+            |l| !l.wakes_for_room(controller),
+        );
+        locked.has_room(port)
     }
 
     /// The request that is next comes on the bus, as `SiteState::pump` says.
@@ -282,16 +329,17 @@ impl<P0: Ledger, P1: Ledger, P2: Ledger, P3: Ledger, D: Ledger> Line<P0, P1, P2,
     }
 
     /// Controller `c`, 0 to 3, comes up with a copy of its records: those that the site under the lock remembers, or
-    /// these with the one that was outstanding.
+    /// these with the one that was outstanding. Read the store once its worker has given it back.
     ///
-    /// Refusals, in this order: 1 UnknownController, 2 ControllerUp, 5 StoreDisagrees, 8 LogFull.
+    /// Refusals, in this order: 1 UnknownController, 2 ControllerUp, CommitOpen, 5 StoreDisagrees, 8 LogFull.
+    /// CommitOpen is the line's own (`UpRefusal`), and comes at once: nothing is waited for.
     pub fn up<R: Wait>(
         &self,
         rt: &R,
         driver: &mut Driver<P0, P1, P2, P3, D>,
         c: u8,
         copy: &Kept,
-    ) -> Result<(), Refusal>
+    ) -> Result<(), UpRefusal>
         ensures answer { FromDriver driver.old (λ s. (new : SiteState) × ComesUp s c copy.now result new) }
         ensures accepted { OnOk result (driver.new ≡ driver.old + 1) }
         ensures refused { OnErr result (driver.new ≡ driver.old) }
@@ -301,7 +349,8 @@ impl<P0: Ledger, P1: Ledger, P2: Ledger, P3: Ledger, D: Ledger> Line<P0, P1, P2,
         answer
     }
 
-    /// Waits until there is something to say to the driver: the line is stopped, a request is next, or all is over.
+    /// Waits until there is something to say to the driver: the line is stopped, a request is next, nothing can be sent
+    /// since the queue is full, or all is over.
     ///
     /// It may wait forever, as where a controller is due and nobody acts for it.
     pub fn ready<R: Wait>(&self, rt: &R, driver: &mut Driver<P0, P1, P2, P3, D>) -> Ready
@@ -323,6 +372,11 @@ impl<P0: Ledger, P1: Ledger, P2: Ledger, P3: Ledger, D: Ledger> Line<P0, P1, P2,
     pub fn stop<R: Wait>(&self, rt: &R) {
         self.locked.lock(rt).stop();
         self.moved.notify_all();
+    }
+
+    /// Whether the line is stopped.
+    pub fn is_stopped<R: Wait>(&self, rt: &R) -> bool {
+        self.locked.lock(rt).is_stopped()
     }
 }
 

@@ -1,33 +1,43 @@
-ghost use Rattle.std.specs.Prelude.{◌≡◌, ◌+◌, ◌<◌, ◌≤◌, ℕ, length, All, IfOk, IfErr, OnOk, OnErr, IfSome, IsTrue, true};
+ghost use Rattle.std.specs.Prelude.{◌≡◌, ◌+◌, ◌<◌, ◌≤◌, ℕ, length, All, IfOk, OnOk, OnErr, IfSome, IsTrue, true, false};
+ghost use Rattle.std.specs.Prelude.{slice_set, None, Err, ◌↔◌, if◌then◌else◌};
 ghost use Rattle.dali_events.specs.World.{controller_at};
+ghost use Rattle.dali_events.specs.Allowed.{IsDown};
+ghost use Rattle.dali_script.specs.Due.{record_ordered};
 ghost use Rattle.dali_standing.specs.Seats.{due_of};
 ghost use Rattle.dali_script.specs.declared.orders.Due.TheVariants as due;
 ghost use Rattle.dali_events.specs.Promise.{KeepsPromise};
 ghost use Rattle.dali_line.specs.Counts.{counts_of, others_of};
 
+use crate::commits::{CommitState, Commits};
 use crate::driver::Driver;
 use crate::port::Port;
 use crate::ready::Ready;
 use crate::tally::Tally;
+use crate::up_refusal::UpRefusal;
 use arrayvec::ArrayVec;
 use dali_frame::Forward;
-use dali_script::{Due, Input, Kept};
+use dali_script::{Due, Input, Kept, Record};
 use dali_world::{Receipt, Refusal, Report, SiteState, Trouble};
 use std::sync::ledger::Ledger;
 
-/// What lies under a line's lock: a site, how many events of its log are whose, and whether the line is stopped.
+/// What lies under a line's lock: a site, how many events of its log are whose, whose workers are at a commit, and
+/// whether the line is stopped.
 #[derive(Drop)]
 pub(crate) struct Locked<P0: Ledger, P1: Ledger, P2: Ledger, P3: Ledger, D: Ledger> {
     site: SiteState,
     tally: Tally<P0, P1, P2, P3, D>,
+    commits: Commits,
     stopped: bool,
     ghost exact: { tally ≡ counts_of site.log },
 }
 
 impl<P0: Ledger, P1: Ledger, P2: Ledger, P3: Ledger, D: Ledger> Locked<P0, P1, P2, P3, D> {
-    ghost use Rattle.dali_world.specs.Site.{Acts, world, next_request, share_of, IsSound};
+    ghost use Rattle.dali_world.specs.Site.{Acts, world, share_of, IsSound};
     ghost use Rattle.dali_line.specs.Shares.{raised_seat, total_of};
-    ghost use Rattle.dali_line.specs.Found.{IsFoundFrom, IsFoundByDriver, HasDue, IsReady, events_in};
+    ghost use Rattle.dali_line.specs.Found.{IsFoundFrom, IsFoundByDriver, HasDue, MayOffer, IsReady, events_in};
+    ghost use Rattle.dali_line.specs.Commits.{state_of, MayComeUp};
+    ghost use Rattle.dali_line.specs.declared.up_refusal.UpRefusal.TheVariants.{CommitOpen};
+    ghost use Rattle.dali_line.specs.declared.commits.CommitState.TheVariants as commit;
     ghost use Rattle.dali_line.specs.Calls.{Offers, PumpsOnce, Lapses, FallsQuiet, Powers, Expires, GoesDown, ComesUp};
 
     /// A site with the tally of its log.
@@ -38,6 +48,7 @@ impl<P0: Ledger, P1: Ledger, P2: Ledger, P3: Ledger, D: Ledger> Locked<P0, P1, P
         Locked {
             site,
             tally,
+            commits: Commits::settled(),
             stopped: false,
         }
     }
@@ -47,6 +58,7 @@ impl<P0: Ledger, P1: Ledger, P2: Ledger, P3: Ledger, D: Ledger> Locked<P0, P1, P
         ensures found { IsFoundFrom port.old self.old.site }
         ensures few { length (world self.new.site).controllers ≤ 4 }
         ensures site { self.new.site ≡ self.old.site }
+        ensures commits { self.new.commits ≡ self.old.commits }
         ensures port { port.new ≡ port.old }
     {
         self.site.is_safe();
@@ -54,7 +66,7 @@ impl<P0: Ledger, P1: Ledger, P2: Ledger, P3: Ledger, D: Ledger> Locked<P0, P1, P
         self.tally.audit(port);
     }
 
-    /// A controller acts.
+    /// A controller acts. Where it was accepted, its worker is at no commit any more.
     pub(crate) fn act(
         &mut self,
         port: &mut Port<P0, P1, P2, P3, D>,
@@ -66,10 +78,15 @@ impl<P0: Ledger, P1: Ledger, P2: Ledger, P3: Ledger, D: Ledger> Locked<P0, P1, P
         ensures refused { OnErr result (port.new ≡ port.old) }
         ensures receipt { IfOk result (λ r. (r.controller ≡ port.old.controller) × (r.input ≡ input)
             × (r.number ≡ port.new.share)) }
+        ensures told { OnOk result
+            (self.new.commits ≡ slice_set self.old.commits port.old.controller commit.Settled) }
+        ensures untold { OnErr result (self.new.commits ≡ self.old.commits) }
     {
         self.audit(port);
-        let receipt = self.site.act(port.controller(), input)?;
+        let c = port.controller();
+        let receipt = self.site.act(c, input)?;
         self.tally.raise(port);
+        self.commits.set(c, CommitState::Settled);
         Ok(receipt)
     }
 
@@ -84,6 +101,7 @@ impl<P0: Ledger, P1: Ledger, P2: Ledger, P3: Ledger, D: Ledger> Locked<P0, P1, P
         ensures answer { Offers self.old.site port.old.controller frame result self.new.site }
         ensures accepted { OnOk result (port.new ≡ raised_seat port.old) }
         ensures refused { OnErr result (port.new ≡ port.old) }
+        ensures commits { self.new.commits ≡ self.old.commits }
     {
         self.audit(port);
         self.site.arc(port.controller(), frame)?;
@@ -115,6 +133,30 @@ impl<P0: Ledger, P1: Ledger, P2: Ledger, P3: Ledger, D: Ledger> Locked<P0, P1, P
         self.site.due(c)
     }
 
+    /// The record whose commit is due for a controller. None, if it is not there.
+    #[tactic(auto, using(crate::proofs::Counts::nobody_there))]
+    fn ordered(&self, c: u8) -> Option<Record>
+        ensures { result ≡ record_ordered (controller_at (world self.now.site) c).last }
+    {
+        self.site.is_safe();
+        if (c as usize) >= self.site.plan().blocks().len() {
+            return None;
+        }
+        self.site.ordered(c)
+    }
+
+    /// Whether a controller is down, or not there.
+    #[tactic(auto, using(crate::proofs::Counts::nobody_there))]
+    fn is_down(&self, c: u8) -> bool
+        ensures { IsTrue result ↔ ((controller_at (world self.now.site) c).up ≡ false) }
+    {
+        self.site.is_safe();
+        if (c as usize) >= self.site.plan().blocks().len() {
+            return true;
+        }
+        self.site.table(c).is_none()
+    }
+
     /// What the port's controller may act on.
     pub(crate) fn next(&mut self, port: &mut Port<P0, P1, P2, P3, D>) -> Option<Input>
         ensures found { IsFoundFrom port.old self.old.site }
@@ -144,9 +186,9 @@ impl<P0: Ledger, P1: Ledger, P2: Ledger, P3: Ledger, D: Ledger> Locked<P0, P1, P
         self.told(c).is_some() || self.due_for(c) == Due::Store
     }
 
-    /// Whether a controller has no reason to wait: the line is stopped, or something is due for it.
+    /// Whether a controller has no reason to wait: the line is stopped, something is due for it, or it is down.
     pub(crate) fn wakes(&self, c: u8) -> bool {
-        self.stopped || self.has_due(c)
+        self.stopped || self.has_due(c) || self.is_down(c)
     }
 
     /// Whether something is due for the port's controller, and the line is not stopped.
@@ -160,11 +202,76 @@ impl<P0: Ledger, P1: Ledger, P2: Ledger, P3: Ledger, D: Ledger> Locked<P0, P1, P
         !self.stopped && self.has_due(port.controller())
     }
 
+    /// The port's holder begins the commit that is due, if one is.
+    pub(crate) fn begin_commit(&mut self, port: &mut Port<P0, P1, P2, P3, D>) -> Option<Record>
+        ensures found { IsFoundFrom port.old self.old.site }
+        ensures answer { result ≡ record_ordered (controller_at (world self.old.site) port.old.controller).last }
+        ensures same { port.new ≡ port.old }
+        ensures site { self.new.site ≡ self.old.site }
+        ensures begun { IfSome result
+            (λ _. self.new.commits ≡ slice_set self.old.commits port.old.controller commit.Begun) }
+        ensures none { result ≡ None → self.new.commits ≡ self.old.commits }
+    {
+        self.audit(port);
+        let c = port.controller();
+        let ordered = self.ordered(c);
+        if ordered.is_some() {
+            self.commits.set(c, CommitState::Begun);
+        }
+        ordered
+    }
+
+    /// The port's holder makes no commit any more. Where it had begun one, the store has the record (true), or maybe
+    /// not.
+    pub(crate) fn end_commit(&mut self, port: &Port<P0, P1, P2, P3, D>, is_made: bool)
+        ensures ended { state_of self.old.commits port.now.controller ≡ commit.Begun → self.new.commits
+            ≡ slice_set self.old.commits port.now.controller (if is_made then commit.Made else commit.Settled) }
+        ensures not_begun { (state_of self.old.commits port.now.controller ≡ commit.Begun → ⊥)
+            → self.new.commits ≡ self.old.commits }
+        ensures site { self.new.site ≡ self.old.site }
+    {
+        let c = port.controller();
+        if self.commits.state(c) == CommitState::Begun {
+            self.commits.set(
+                c,
+                if is_made {
+                    CommitState::Made
+                } else {
+                    CommitState::Settled
+                },
+            );
+        }
+    }
+
+    /// Whether a controller has no reason to wait for room: the line is stopped, or `may_offer` says so.
+    pub(crate) fn wakes_for_room(&self, c: u8) -> bool {
+        self.stopped || self.may_offer(c)
+    }
+
+    /// Whether a request more may wait, or the controller is down.
+    fn may_offer(&self, c: u8) -> bool
+        ensures { IsTrue result → MayOffer self.now.site c }
+    {
+        !self.site.is_crowded() || self.is_down(c)
+    }
+
+    /// Whether a request more may wait, or the port's controller is down, and the line is not stopped.
+    pub(crate) fn has_room(&mut self, port: &mut Port<P0, P1, P2, P3, D>) -> bool
+        ensures found { IsFoundFrom port.old self.old.site }
+        ensures answer { IsTrue result → MayOffer self.old.site port.old.controller }
+        ensures same { port.new ≡ port.old }
+        ensures site { self.new.site ≡ self.old.site }
+    {
+        self.audit(port);
+        !self.stopped && self.may_offer(port.controller())
+    }
+
     /// Says what the driver's holder knows of the site. It changes nothing.
     fn audit_driver(&mut self, driver: &mut Driver<P0, P1, P2, P3, D>)
         ensures found { IsFoundByDriver driver.old self.old.site }
         ensures whole { total_of (counts_of self.old.site.log) ≡ length self.old.site.log }
         ensures site { self.new.site ≡ self.old.site }
+        ensures commits { self.new.commits ≡ self.old.commits }
         ensures driver { driver.new ≡ driver.old }
     {
         self.site.is_safe();
@@ -183,6 +290,7 @@ impl<P0: Ledger, P1: Ledger, P2: Ledger, P3: Ledger, D: Ledger> Locked<P0, P1, P
         ensures answer { PumpsOnce self.old.site trouble result self.new.site }
         ensures accepted { IfOk result (λ r. driver.new ≡ driver.old + events_in r) }
         ensures refused { OnErr result (driver.new ≡ driver.old) }
+        ensures commits { self.new.commits ≡ self.old.commits }
     {
         self.audit_driver(driver);
         let report = self.site.pump(trouble)?;
@@ -202,6 +310,7 @@ impl<P0: Ledger, P1: Ledger, P2: Ledger, P3: Ledger, D: Ledger> Locked<P0, P1, P
         ensures answer { Lapses self.old.site result self.new.site }
         ensures accepted { OnOk result (driver.new ≡ driver.old + 1) }
         ensures refused { OnErr result (driver.new ≡ driver.old) }
+        ensures commits { self.new.commits ≡ self.old.commits }
     {
         self.audit_driver(driver);
         let owner = self.site.lapse()?;
@@ -216,6 +325,7 @@ impl<P0: Ledger, P1: Ledger, P2: Ledger, P3: Ledger, D: Ledger> Locked<P0, P1, P
         ensures answer { FallsQuiet self.old.site result self.new.site }
         ensures accepted { OnOk result (driver.new ≡ driver.old + 1) }
         ensures refused { OnErr result (driver.new ≡ driver.old) }
+        ensures commits { self.new.commits ≡ self.old.commits }
     {
         self.audit_driver(driver);
         self.site.quiet()?;
@@ -235,6 +345,7 @@ impl<P0: Ledger, P1: Ledger, P2: Ledger, P3: Ledger, D: Ledger> Locked<P0, P1, P
         ensures answer { Powers self.old.site number on result self.new.site }
         ensures accepted { OnOk result (driver.new ≡ driver.old + 1) }
         ensures refused { OnErr result (driver.new ≡ driver.old) }
+        ensures commits { self.new.commits ≡ self.old.commits }
     {
         self.audit_driver(driver);
         self.site.power(number, on)?;
@@ -253,6 +364,7 @@ impl<P0: Ledger, P1: Ledger, P2: Ledger, P3: Ledger, D: Ledger> Locked<P0, P1, P
         ensures answer { Expires self.old.site number result self.new.site }
         ensures accepted { OnOk result (driver.new ≡ driver.old + 1) }
         ensures refused { OnErr result (driver.new ≡ driver.old) }
+        ensures commits { self.new.commits ≡ self.old.commits }
     {
         self.audit_driver(driver);
         self.site.expire(number)?;
@@ -271,6 +383,7 @@ impl<P0: Ledger, P1: Ledger, P2: Ledger, P3: Ledger, D: Ledger> Locked<P0, P1, P
         ensures answer { GoesDown self.old.site c result self.new.site }
         ensures accepted { OnOk result (driver.new ≡ driver.old + 1) }
         ensures refused { OnErr result (driver.new ≡ driver.old) }
+        ensures commits { self.new.commits ≡ self.old.commits }
     {
         self.audit_driver(driver);
         self.site.down(c)?;
@@ -278,23 +391,54 @@ impl<P0: Ledger, P1: Ledger, P2: Ledger, P3: Ledger, D: Ledger> Locked<P0, P1, P
         Ok(())
     }
 
-    /// A controller comes up with a copy of its records.
+    /// Whether a controller that is down is not to come up with these records: they are behind its store, or may fall
+    /// behind it.
+    fn is_barred(&self, c: u8, copy: &Kept) -> bool
+        ensures barred { IsTrue result → ((controller_at (world self.now.site) c).up ≡ false)
+            × (MayComeUp (state_of self.now.commits c) (controller_at (world self.now.site) c).records copy.now → ⊥) }
+        ensures free { result ≡ false → IsDown (world self.now.site) c
+            → MayComeUp (state_of self.now.commits c) (controller_at (world self.now.site) c).records copy.now }
+    {
+        self.site.is_safe();
+        if (c as usize) >= self.site.plan().blocks().len() || self.site.table(c).is_some() {
+            return false;
+        }
+        match self.commits.state(c) {
+            CommitState::Settled => false,
+            CommitState::Begun => true,
+            CommitState::Made => copy.same(self.site.kept(c)),
+        }
+    }
+
+    /// A controller comes up with a copy of its records, unless a commit for it is open.
     #[tactic(auto, unfolding(crate::specs::Calls::ComesUp))]
     pub(crate) fn up(
         &mut self,
         driver: &mut Driver<P0, P1, P2, P3, D>,
         c: u8,
         copy: &Kept,
-    ) -> Result<(), Refusal>
+    ) -> Result<(), UpRefusal>
         ensures found { IsFoundByDriver driver.old self.old.site }
         ensures answer { ComesUp self.old.site c copy.now result self.new.site }
         ensures accepted { OnOk result (driver.new ≡ driver.old + 1) }
         ensures refused { OnErr result (driver.new ≡ driver.old) }
+        ensures commits { self.new.commits ≡ self.old.commits }
+        ensures settled { OnOk result (MayComeUp (state_of self.old.commits c)
+            (controller_at (world self.old.site) c).records copy.now) }
+        ensures open { result ≡ Err CommitOpen → MayComeUp (state_of self.old.commits c)
+            (controller_at (world self.old.site) c).records copy.now → ⊥ }
     {
         self.audit_driver(driver);
-        self.site.up(c, copy)?;
-        self.tally.raise_driver(driver);
-        Ok(())
+        if self.is_barred(c, copy) {
+            return Err(UpRefusal::CommitOpen);
+        }
+        match self.site.up(c, copy) {
+            Ok(()) => {
+                self.tally.raise_driver(driver);
+                Ok(())
+            }
+            Err(refusal) => Err(UpRefusal::Site(refusal)),
+        }
     }
 
     /// Whether nothing is due for any controller: each has ended, has halted or is down.
@@ -321,6 +465,9 @@ impl<P0: Ledger, P1: Ledger, P2: Ledger, P3: Ledger, D: Ledger> Locked<P0, P1, P
         if !self.site.idle() {
             return Some(Ready::Next);
         }
+        if self.site.is_crowded() {
+            return Some(Ready::Full);
+        }
         if self.site.owner().is_none() && self.have_ended() {
             return Some(Ready::Over);
         }
@@ -341,6 +488,11 @@ impl<P0: Ledger, P1: Ledger, P2: Ledger, P3: Ledger, D: Ledger> Locked<P0, P1, P
     {
         self.audit_driver(driver);
         self.may_do()
+    }
+
+    /// Whether nobody waits any more.
+    pub(crate) fn is_stopped(&self) -> bool {
+        self.stopped
     }
 
     /// Nobody waits any more.

@@ -1,13 +1,19 @@
 use dali_script::{End, Fault};
 use dali_world::Refusal;
 
-/// How a worker's run ends. All but the first two stop the line.
+/// How a worker's run ends. All but the first three stop the line.
+///
+/// After an end but `Ended` and `Halted` the store may have one record more than its controller was told: the record of
+/// a commit that was made, and could not be told. A worker that goes on with this store, and a restart with what the
+/// store reads, take it in.
 #[derive(Clone, Copy, Debug, PartialEq, Eq)]
 pub enum Outcome {
     /// Its controller ended.
     Ended(End),
     /// Its controller cannot go on.
     Halted(Fault),
+    /// Its controller is down. To go on, bring it up with what the store reads, and run a new worker.
+    Down,
     /// The line refused a call, as where its log is full.
     Refused(Refusal),
     /// It had all its turns.
@@ -19,10 +25,10 @@ pub enum Outcome {
 }
 
 impl Outcome {
-    /// Whether a run that ends so stops the line: unless its controller ended or halted.
+    /// Whether a run that ends so stops the line: unless its controller ended or halted, or is down.
     pub(crate) fn stops(self) -> bool {
         match self {
-            Outcome::Ended(_) | Outcome::Halted(_) => false,
+            Outcome::Ended(_) | Outcome::Halted(_) | Outcome::Down => false,
             Outcome::Refused(_) | Outcome::TurnsSpent | Outcome::Stopped | Outcome::NoMemory =>
                 true,
         }

@@ -31,8 +31,8 @@ impl<D, G: Gate> Pumper<D, G> {
     /// Takes turns until all is over, the line is stopped or refuses, or this many turns are taken; the last two stop
     /// the line. Gives the driver back, with the refusal, if there was one.
     ///
-    /// A turn waits until a request is next, and lets it come on the bus undisturbed.
-    #[tactic(auto, using(crate::proofs::Counts::few_events))]
+    /// A turn waits until a request is next, and lets it come on the bus undisturbed. Where no request more may wait
+    /// and the owner of the bus has none among them, it lets the bus lapse.
     pub fn run<B: Bus<Driver = D>, R: Wait>(
         self,
         rt: &R,
@@ -45,18 +45,36 @@ impl<D, G: Gate> Pumper<D, G> {
         let Pumper { driver, gate } = self;
         let mut driver = driver;
         for _ in 0..turns {
-            match bus.ready(rt, &mut driver) {
-                Ready::Stopped | Ready::Over => return (driver, None),
-                Ready::Next => {
-                    if let Err(refusal) = bus.pump(rt, &mut driver, Trouble::None) {
-                        bus.stop(rt);
-                        return (driver, Some(refusal));
-                    }
+            match take_turn(rt, bus, &mut driver) {
+                Ok(true) => {}
+                Ok(false) => return (driver, None),
+                Err(refusal) => {
+                    bus.stop(rt);
+                    return (driver, Some(refusal));
                 }
             }
             gate.at(rt, PUMPER, Moment::AfterTurn);
         }
         bus.stop(rt);
         (driver, None)
+    }
+}
+
+/// A turn of the bus, once there is one. Whether there was one: not where all is over, or the line is stopped.
+#[tactic(auto, using(crate::proofs::Counts::few_events))]
+fn take_turn<B: Bus, R: Wait>(rt: &R, bus: &B, driver: &mut B::Driver) -> Result<bool, Refusal>
+    ensures least { B.driven driver.old ≤ B.driven driver.new }
+    ensures most { B.driven driver.new ≤ B.driven driver.old + 1 }
+{
+    match bus.ready(rt, driver) {
+        Ready::Stopped | Ready::Over => Ok(false),
+        Ready::Next => match bus.pump(rt, driver, Trouble::None) {
+            Ok(_) => Ok(true),
+            Err(refusal) => Err(refusal),
+        },
+        Ready::Full => match bus.lapse(rt, driver) {
+            Ok(_) => Ok(true),
+            Err(refusal) => Err(refusal),
+        },
     }
 }

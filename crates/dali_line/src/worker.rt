@@ -1,41 +1,21 @@
-ghost use Rattle.std.specs.Prelude.{◌≡◌, ◌+◌, ◌≤◌, ◌⊎◌, List, [], ◌∷◌, ◌++◌, true, None, IsSomeAnd, IfSome};
+ghost use Rattle.std.specs.Prelude.{◌≡◌, ◌⊎◌, None, IfSome};
 ghost use Rattle.dali_script.specs.declared.orders.Input.TheVariants as input;
 ghost use Rattle.dali_script.specs.declared.records.Record.{Record};
-ghost use Rattle.dali_line.specs.Leaves.{Leaves, Posts};
+ghost use Rattle.dali_line.specs.Leaves.{Leaves, Posts, Stores};
 ghost use Rattle.dali_line.specs.Shares.{Follows};
 ghost use Rattle.dali_enrol.specs.Directory.{Keeps};
 
 use crate::bus::Bus;
+use crate::committing::try_commit;
 use crate::gate::{Gate, Moment};
 use crate::outcome::Outcome;
 use crate::posting::post;
 use dali_enrol::{Directory, Pass};
 use dali_reserve::Keep;
-use dali_script::{Due, Input, Order, Record};
-use dali_world::Refusal;
+use dali_script::{Input, Order, Record};
+use dali_world::{Receipt, Refusal};
 use std::alloc::Global;
 use std::sync::Wait;
-
-/// Commits a record, if the store answers its records and the record fits them. Whether it is kept.
-fn try_commit<K: Keep>(keep: &mut K, added: &Record) -> bool
-    ensures up { K.is_up keep.new → K.is_up keep.old }
-    ensures sound { K.is_sound keep.old → K.is_up keep.new → K.is_sound keep.new }
-    ensures list { K.is_sound keep.old → K.is_up keep.new → (xs : List Record) → K.holds keep.old xs
-        → K.holds keep.new xs ⊎ K.holds keep.new (xs ++ added.now ∷ []) }
-    ensures kept { result ≡ true → K.is_sound keep.old → K.is_up keep.new → (xs : List Record)
-        → K.holds keep.old xs → K.holds keep.new (xs ++ added.now ∷ []) }
-{
-    match keep.read() {
-        Ok(kept) => {
-            if kept.fits(added) {
-                keep.commit(*added).is_ok()
-            } else {
-                false
-            }
-        }
-        Err(_) => false,
-    }
-}
 
 /// A controller's thread: it acts on what is due, and commits the records that are ordered in its store.
 ///
@@ -60,16 +40,19 @@ impl<P, K: Keep, G: Gate> Worker<P, K, G> {
         Worker { port, keep, gate }
     }
 
-    /// Takes turns until the controller ends or halts, the line is stopped or refuses, or this many turns are taken.
-    /// All but the first two stop the line. Answers how it ended, and gives port and store back.
+    /// Takes turns until the controller ends, halts or is down, the line is stopped or refuses, or this many turns are
+    /// taken. All but the first three stop the line. Answers how it ended, and gives port and store back.
     ///
-    /// A turn waits until something is due, and acts on it at most once. Where that is the outcome of a commit, the
-    /// store is read and commits the record, between BeforeCommit and AfterCommit, and the controller is told:
-    /// Committed where the store answered Ok; else CommitFailed, also where the store did not answer its records, the
-    /// record does not fit them, or the run began with the commit due, so that its record is not known. Where the bus
-    /// lapsed meanwhile (NotDue), the turn ends. An enrolment that the controller was told to be committed is posted in
-    /// the directory; where there is no memory for its card, the run ends with NoMemory. The pass is given back, with
-    /// what the worker has learned.
+    /// A turn waits until something is due, and acts on it at most once; where no request more may wait, it waits for
+    /// room before. Where a commit is due, the worker tells the bus that it begins it, and learns which record it is:
+    /// the run may have begun with the commit due. Then the store is read and commits the record, between BeforeCommit
+    /// and AfterCommit, unless what is read shows the record already. The controller is told: Committed where the store
+    /// has the record then; else CommitFailed, also where the store did not answer its records, or the record does not
+    /// fit them. An enrolment that the controller was told to be committed is posted in the directory; where there is
+    /// no memory for its card, the run ends with NoMemory. The pass is given back, with what the worker has learned.
+    ///
+    /// Where the bus lapsed before the controller acted on what it was told (NotDue), the turn ends. The outcome of a
+    /// commit is told, or the run ends: with Down, Stopped or Refused.
     #[tactic(auto, using(crate::proofs::Learning::turns))]
     pub fn run<B: Bus<Port = P>, R: Wait>(
         self,
@@ -92,7 +75,6 @@ impl<P, K: Keep, G: Gate> Worker<P, K, G> {
             port,
             keep,
             gate,
-            ordered: None,
             kept: None,
         };
         let mut outcome = Outcome::TurnsSpent;
@@ -102,98 +84,117 @@ impl<P, K: Keep, G: Gate> Worker<P, K, G> {
                 break;
             }
         }
+        let Shift {
+            mut port,
+            keep,
+            gate,
+            kept,
+        } = shift;
+        bus.end_commit(rt, &mut port, kept.is_some());
         if outcome.stops() {
             bus.stop(rt);
         }
-        let Shift {
-            port,
-            keep,
-            gate,
-            ordered: _,
-            kept: _,
-        } = shift;
         drop(gate);
         (outcome, port, keep, pass)
     }
 }
 
-/// A worker in its run: its store, the record that its controller ordered and that is still to be committed, and the
-/// one that was committed in this turn.
+/// The controller of a port acts on an input. Where no request more may wait, it waits for room before.
+///
+/// QueueFull is answered only where the line was stopped meanwhile.
+fn act_on<B: Bus, R: Wait>(
+    rt: &R,
+    bus: &B,
+    port: &mut B::Port,
+    input: Input,
+) -> Result<Receipt, Refusal>
+    ensures { Follows (B.seat port.old) (B.seat port.new) 1 }
+{
+    for _ in rt.forever() {
+        match bus.act(rt, port, input) {
+            Err(Refusal::QueueFull) => {
+                if !bus.wait_for_room(rt, port) {
+                    return Err(Refusal::QueueFull);
+                }
+            }
+            answer => return answer,
+        }
+    }
+    unreachable!()
+}
+
+/// The end of a run at an order, if it is one.
+fn end_at(order: Order) -> Option<Outcome> {
+    match order {
+        Order::Put(..) | Order::Commit(_) => None,
+        Order::Done(end) => Some(Outcome::Ended(end)),
+        Order::Halt(fault) => Some(Outcome::Halted(fault)),
+    }
+}
+
+/// The end of a run whose controller was refused to act on this, if it is one: not where the bus lapsed meanwhile.
+fn end_refused(refusal: Refusal, input: Input) -> Option<Outcome> {
+    match (refusal, input) {
+        (Refusal::ControllerDown, _) => Some(Outcome::Down),
+        (Refusal::QueueFull, _) => Some(Outcome::Stopped),
+        (Refusal::NotDue, Input::Committed | Input::CommitFailed) => {
+            Some(Outcome::Refused(Refusal::NotDue))
+        }
+        (Refusal::NotDue, _) => None,
+        _ => Some(Outcome::Refused(refusal)),
+    }
+}
+
+/// A worker in its run: its store, and the record that the store is found to have in this turn, until its controller
+/// was told so.
 struct Shift<P, K, G> {
     port: P,
     keep: K,
     gate: G,
-    ordered: Option<Record>,
     kept: Option<Record>,
 }
 
 impl<P, K: Keep, G: Gate> Shift<P, K, G> {
-    /// What became of the commit that is due: the record that was ordered is committed, if there is one.
-    #[tactic(auto, using(crate::proofs::Leaving::leaves_none, crate::proofs::Leaving::leaves_one))]
-    fn commit(&mut self) -> Input
+    /// What becomes of the commit of this record: the store has it then, or not.
+    #[tactic(auto, using(crate::proofs::Leaving::leaves_one))]
+    fn commit(&mut self, added: &Record) -> Input
         requires { self.old.kept ≡ None }
         ensures keep { Leaves K.is_up K.is_sound K.holds self.old.keep self.new.keep }
         ensures told { (result ≡ input.Committed) ⊎ (result ≡ input.CommitFailed) }
         // Committed is told of a record that the store has.
-        ensures kept { result ≡ input.Committed → IsSomeAnd self.old.ordered
-            (λ added. K.is_sound self.old.keep → K.is_up self.new.keep → (xs : List Record) → K.holds self.old.keep xs
-            → K.holds self.new.keep (xs ++ added ∷ [])) }
-        ensures stored { IfSome self.new.kept
-            (λ added. K.is_sound self.old.keep → K.is_up self.new.keep → (xs : List Record) → K.holds self.old.keep xs
-            → K.holds self.new.keep (xs ++ added ∷ [])) }
+        ensures kept { result ≡ input.Committed
+            → Stores K.is_up K.is_sound K.holds K.block self.old.keep self.new.keep added.now }
+        ensures stored { IfSome self.new.kept (Stores K.is_up K.is_sound K.holds K.block self.old.keep self.new.keep) }
         ensures port { self.new.port ≡ self.old.port }
     {
-        match self.ordered.take() {
-            Some(added) => {
-                if try_commit(&mut self.keep, &added) {
-                    self.kept = Some(added);
-                    Input::Committed
-                } else {
-                    Input::CommitFailed
-                }
-            }
-            None => Input::CommitFailed,
+        if try_commit(&mut self.keep, added) {
+            self.kept = Some(*added);
+            Input::Committed
+        } else {
+            Input::CommitFailed
         }
     }
 
     /// What its controller is given to act on: what the bus has told it, or what became of its commit, which is made
     /// now. None where nothing is due.
-    #[tactic(auto, using(crate::proofs::Leaving::leaves_none, crate::proofs::Leaving::leaves_one))]
+    #[tactic(auto, using(crate::proofs::Leaving::leaves_none))]
     fn given<B: Bus<Port = P>, R: Wait>(&mut self, rt: &R, bus: &B) -> Option<Input>
         ensures keep { Leaves K.is_up K.is_sound K.holds self.old.keep self.new.keep }
-        ensures stored { IfSome self.new.kept
-            (λ added. K.is_sound self.old.keep → K.is_up self.new.keep → (xs : List Record) → K.holds self.old.keep xs
-            → K.holds self.new.keep (xs ++ added ∷ [])) }
+        ensures stored { IfSome self.new.kept (Stores K.is_up K.is_sound K.holds K.block self.old.keep self.new.keep) }
         ensures port { B.seat self.new.port ≡ B.seat self.old.port }
     {
         self.kept = None;
         if let Some(input) = bus.next(rt, &mut self.port) {
             return Some(input);
         }
-        if bus.due(rt, &mut self.port) != Due::Store {
+        let Some(added) = bus.begin_commit(rt, &mut self.port) else {
             return None;
-        }
+        };
         let controller = bus.controller(&self.port);
         self.gate.at(rt, controller, Moment::BeforeCommit);
-        let outcome = self.commit();
+        let outcome = self.commit(&added);
         self.gate.at(rt, controller, Moment::AfterCommit);
         Some(outcome)
-    }
-
-    /// The end that an order is, if it is one. A record that is ordered is to be committed.
-    fn obey(&mut self, order: Order) -> Option<Outcome>
-        ensures keep { self.new.keep ≡ self.old.keep }
-        ensures port { self.new.port ≡ self.old.port }
-    {
-        match order {
-            Order::Put(..) => None,
-            Order::Commit(record) => {
-                self.ordered = Some(record);
-                None
-            }
-            Order::Done(end) => Some(Outcome::Ended(end)),
-            Order::Halt(fault) => Some(Outcome::Halted(fault)),
-        }
     }
 
     /// A turn: at most one act, on what is due. None where the run goes on.
@@ -214,17 +215,24 @@ impl<P, K: Keep, G: Gate> Shift<P, K, G> {
         ensures posted { Posts K.is_up K.is_sound K.holds self.old.keep self.new.keep pass.old pass.new }
     {
         if !bus.wait(rt, &mut self.port) {
-            return Some(Outcome::Stopped);
+            // The line is stopped for good, or was not stopped when the controller was found to be down.
+            return Some(if bus.is_stopped(rt) {
+                Outcome::Stopped
+            } else {
+                Outcome::Down
+            });
         }
         let outcome = match self.given(rt, bus) {
             None => None,
-            Some(input) => match bus.act(rt, &mut self.port, input) {
-                Ok(receipt) => match post(alloc, directory, pass, &self.kept) {
-                    Ok(()) => self.obey(receipt.order()),
-                    Err(_) => Some(Outcome::NoMemory),
-                },
-                Err(Refusal::NotDue) => None,
-                Err(refusal) => Some(Outcome::Refused(refusal)),
+            Some(input) => match act_on(rt, bus, &mut self.port, input) {
+                Ok(receipt) => {
+                    let told = self.kept.take();
+                    match post(alloc, directory, pass, &told) {
+                        Ok(()) => end_at(receipt.order()),
+                        Err(_) => Some(Outcome::NoMemory),
+                    }
+                }
+                Err(refusal) => end_refused(refusal, input),
             },
         };
         self.gate

@@ -7,9 +7,9 @@ use super::threads::{Blanks, blanks, last_two, line_of};
 use super::values::Ordered::{Done, Enrol, Put, Reserve};
 use super::values::{Ordered, forward, one_reserved, same, site_of};
 use arrayvec::ArrayVec;
-use dali_line::{Bus, Driver, Line, Port, Ready};
+use dali_line::{Bus, Driver, Line, Port, Ready, UpRefusal};
 use dali_script::{Due, End, Input, Kept};
-use dali_world::{Receipt, Refusal, Report, SiteState, Trouble};
+use dali_world::{Receipt, Refusal, SiteState, Trouble};
 use std::alloc::Global;
 use std::marker::Brand;
 use std::process::Abort;
@@ -38,6 +38,7 @@ fn given<B: Bus, R: Abort + Wait>(
     same(rt, &bus.next(rt, port), &next);
     same(rt, &bus.due(rt, port), &due);
     if due == Due::Store {
+        same(rt, &bus.begin_commit(rt, port), &site.ordered(c));
         Some(Input::Committed)
     } else {
         next
@@ -144,6 +145,11 @@ fn does<R: Abort>(rt: &R, answer: Result<(), Refusal>, other: Result<(), Refusal
     same(rt, &other, &Ok(()));
 }
 
+/// What a line answered where a controller was to come up.
+pub fn comes_up<R: Abort>(rt: &R, was: Result<(), UpRefusal>, wanted: &Result<(), UpRefusal>) {
+    same(rt, &was, wanted);
+}
+
 /// The records with which a controller may come up again: those of its store, and others.
 type Records<'a> = (&'a Kept, &'a Kept);
 
@@ -158,10 +164,15 @@ fn restarts<P0: Ledger, P1: Ledger, P2: Ledger, P3: Ledger, D: Ledger, R: Abort 
     let (kept, wrong) = records;
     reserves(rt, line, port, driver, site);
     does(rt, line.down(rt, driver, 0), site.down(0));
-    let refused = Err(Refusal::StoreDisagrees);
-    same(rt, &line.up(rt, driver, 0, wrong), &refused);
-    same(rt, &site.up(0, wrong), &refused);
-    does(rt, line.up(rt, driver, 0, kept), site.up(0, kept));
+    let refused = Refusal::StoreDisagrees;
+    comes_up(
+        rt,
+        line.up(rt, driver, 0, wrong),
+        &Err(UpRefusal::Site(refused)),
+    );
+    same(rt, &site.up(0, wrong), &Err(refused));
+    comes_up(rt, line.up(rt, driver, 0, kept), &Ok(()));
+    same(rt, &site.up(0, kept), &Ok(()));
     ends(rt, line, port, driver, site, (7, 10));
 }
 
@@ -228,6 +239,7 @@ fn speaks_for_nobody<B: Bus, R: Abort + Wait>(rt: &R, bus: &B, spare: &mut B::Po
     same(rt, &bus.controller(spare), &255);
     same(rt, &bus.next(rt, spare), &None);
     same(rt, &bus.due(rt, spare), &Due::Nothing);
+    same(rt, &bus.begin_commit(rt, spare), &None);
     let refused = Err(Refusal::UnknownController);
     same(rt, &shown(bus.act(rt, spare, Input::Start)), &refused);
 }

@@ -6,6 +6,7 @@ ghost use Rattle.dali_script.specs.declared.records.Record.{Record};
 ghost use Rattle.dali_script.specs.Records.{Kept, Fits, with_record};
 ghost use Rattle.dali_reserve.specs.Store.{IsReplay, HasRecords};
 
+use super::calls::comes_up;
 use super::threads::{Blanks, TURNS, blanks, line_of, site_with, store_of};
 use super::values::{block, same};
 use dali_enrol::Directory;
@@ -181,7 +182,7 @@ fn restarts<P0: Ledger, P1: Ledger, P2: Ledger, P3: Ledger, D: Ledger, R: Abort 
         return;
     };
     same(rt, &(kept.reserved().len(), kept.enrolled().len()), &stored);
-    same(rt, &line.up(rt, driver, 0, kept), &Ok(()));
+    comes_up(rt, line.up(rt, driver, 0, kept), &Ok(()));
 }
 
 /// The table of the one controller has each of three gear, under the addresses that the gear has.

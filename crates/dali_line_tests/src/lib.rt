@@ -5,11 +5,15 @@
 #[cfg(test)]
 mod calls;
 #[cfg(test)]
+mod driven;
+#[cfg(test)]
 mod failing;
 #[cfg(test)]
 mod listed;
 #[cfg(test)]
 mod reading;
+#[cfg(test)]
+mod restarts;
 #[cfg(test)]
 mod runs;
 #[cfg(test)]

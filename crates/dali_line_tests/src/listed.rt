@@ -2,7 +2,7 @@
 //! what it asked and was answered, as events.
 
 use dali_line::{Bus, Ready};
-use dali_script::{Due, Input};
+use dali_script::{Due, Input, Record};
 use dali_world::{Event, Receipt, Refusal, Report, Trouble};
 use std::alloc::Global;
 use std::sync::Wait;
@@ -88,6 +88,18 @@ impl<B: Bus> Bus for ListedBus<'_, B> {
         self.bus.wait(rt, &mut port.inner)
     }
 
+    fn begin_commit<R: Wait>(&self, rt: &R, port: &mut Listed<B::Port>) -> Option<Record> {
+        self.bus.begin_commit(rt, &mut port.inner)
+    }
+
+    fn end_commit<R: Wait>(&self, rt: &R, port: &mut Listed<B::Port>, is_made: bool) {
+        self.bus.end_commit(rt, &mut port.inner, is_made)
+    }
+
+    fn wait_for_room<R: Wait>(&self, rt: &R, port: &mut Listed<B::Port>) -> bool {
+        self.bus.wait_for_room(rt, &mut port.inner)
+    }
+
     fn pump<R: Wait>(
         &self,
         rt: &R,
@@ -101,11 +113,25 @@ impl<B: Bus> Bus for ListedBus<'_, B> {
         Ok(report)
     }
 
+    fn lapse<R: Wait>(
+        &self,
+        rt: &R,
+        driver: &mut Listed<B::Driver>,
+    ) -> Result<Option<u8>, Refusal> {
+        let owner = self.bus.lapse(rt, &mut driver.inner)?;
+        driver.list.append(&Event::Lapsed);
+        Ok(owner)
+    }
+
     fn ready<R: Wait>(&self, rt: &R, driver: &mut Listed<B::Driver>) -> Ready {
         self.bus.ready(rt, &mut driver.inner)
     }
 
     fn stop<R: Wait>(&self, rt: &R) {
         self.bus.stop(rt)
+    }
+
+    fn is_stopped<R: Wait>(&self, rt: &R) -> bool {
+        self.bus.is_stopped(rt)
     }
 }

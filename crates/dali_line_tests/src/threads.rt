@@ -124,15 +124,15 @@ type Run<P, D> = (Left<P>, Left<P>, (D, Option<Refusal>), Option<Reading>);
 
 /// Two workers, a pumper and a reader of the directory. The second worker begins when the first one's gate has seen it
 /// before its first commit; the reader ends when both workers have.
-fn two_run<B, R>(
+fn two_run<B, K, R>(
     rt: &R,
     alloc: Global,
     bus: &B,
     directory: &Directory,
     gate: &Holding,
     workers: (
-        Worker<B::Port, Database, &Holding>,
-        Worker<B::Port, Database, &Holding>,
+        Worker<B::Port, K, &Holding>,
+        Worker<B::Port, K, &Holding>,
     ),
     pumper: Pumper<B::Driver, OpenGate>,
 ) -> Run<B::Port, B::Driver>
@@ -140,6 +140,7 @@ where
     B: Bus + Sync,
     B::Port: Send + Drop,
     B::Driver: Send + Drop,
+    K: Keep + Send + Drop,
     R: Threads + Wait + Sync,
     ensures one { IfSome result.0.3 (λ p. p.places ≡ directory.now) }
     ensures other { IfSome result.1.3 (λ p. p.places ≡ directory.now) }
@@ -294,21 +295,22 @@ pub fn last_two<P: Default + Drop>(ports: &mut ArrayVec<P, 4>) -> (P, P) {
     (ports.pop().unwrap_or_default(), other)
 }
 
-/// Two workers, each with a database, a pumper and a reader run over a bus, and the gate saw both workers before a
-/// commit of their own. What the workers leave, the driver, and what the reader has seen.
-fn run_apart<B, R>(
+/// Two workers, each with a store, a pumper and a reader run over a bus, and the gate saw both workers before a commit
+/// of their own. What the workers leave, the driver, and what the reader has seen.
+fn run_apart<B, K, R>(
     rt: &R,
     alloc: Global,
     bus: &B,
     directory: &Directory,
     ports: (B::Port, B::Port),
     driver: B::Driver,
-    keeps: (Database, Database),
+    keeps: (K, K),
 ) -> Run<B::Port, B::Driver>
 where
     B: Bus + Sync,
     B::Port: Send + Drop,
     B::Driver: Send + Drop,
+    K: Keep + Send + Drop,
     R: Threads + Wait + Abort + Sync,
     ensures one { IfSome result.0.3 (λ p. p.places ≡ directory.now) }
     ensures other { IfSome result.1.3 (λ p. p.places ≡ directory.now) }
@@ -331,15 +333,16 @@ where
     run
 }
 
-fn commits_apart<P0, P1, P2, P3, D, R>(
+fn commits_apart<P0, P1, P2, P3, D, K, R>(
     rt: &R,
     alloc: Global,
     site: SiteState,
     blanks: Blanks,
-    keeps: (Database, Database),
+    keeps: (K, K),
     directory: &Directory,
 )
 where
+    K: Keep + Send + Drop,
     P0: Ledger + Send + Sync,
     P1: Ledger + Send + Sync,
     P2: Ledger + Send + Sync,
@@ -362,37 +365,51 @@ where
     was_read(rt, directory, &site, (one.3, other.3), reading);
 }
 
-/// Two controllers, each with a database, are before a commit of their own at the same time, and what they post is read
+/// Two controllers, each with a store, are before a commit of their own at the same time, and what they post is read
 /// meanwhile.
-fn commit_apart<R: Threads + Wait + Abort + Sync + AllocGlobal>(
+fn commit_apart<K: Keep + Send + Drop, R: Threads + Wait + Abort + Sync>(
     rt: &R,
+    alloc: Global,
     directory: &Directory,
-    gear: u32,
-) -> Result<(), Fail> {
-    let alloc = rt.alloc();
-    let one = SqliteKeep::in_memory(alloc, block(0, 3)?)?;
-    let other = SqliteKeep::in_memory(alloc, block(4, 7)?)?;
-    let site = site_with(alloc, gear, &[(0, 3), (4, 7)])?;
+    site: SiteState,
+    keeps: (K, K),
+) {
     let blanks = blanks();
-    commits_apart::<Brand, Brand, Brand, Brand, Brand, R>(
-        rt,
-        alloc,
-        site,
-        blanks,
-        (one, other),
-        directory,
+    commits_apart::<Brand, Brand, Brand, Brand, Brand, K, R>(
+        rt, alloc, site, blanks, keeps, directory,
     );
-    Ok(())
+}
+
+const APART: [(u8, u8); 2] = [(0, 3), (4, 7)];
+
+/// Two stores in databases in memory, for two controllers.
+fn databases(alloc: Global) -> Result<(Database, Database), Fail> {
+    let one = SqliteKeep::in_memory(alloc, block(0, 3)?)?;
+    Ok((one, SqliteKeep::in_memory(alloc, block(4, 7)?)?))
 }
 
 #[test]
 fn commit_outside_lock(rt: HostRuntime) -> Result<(), Fail> {
-    commit_apart(&rt, &Directory::new(rt.alloc())?, 2)
+    let site = site_of(rt.alloc(), 2, &APART, &[1, 2, 3, 4])?;
+    let keeps = databases(rt.alloc())?;
+    commit_apart(&rt, rt.alloc(), &Directory::new(rt.alloc())?, site, keeps);
+    Ok(())
+}
+
+#[test]
+fn commit_outside_lock_in_memory(rt: HostRuntime) -> Result<(), Fail> {
+    let site = site_of(rt.alloc(), 2, &APART, &[1, 2, 3, 4])?;
+    let keeps = (store_of((0, 3))?, store_of((4, 7))?);
+    commit_apart(&rt, rt.alloc(), &Directory::new(rt.alloc())?, site, keeps);
+    Ok(())
 }
 
 #[test]
 fn look_while_running(rt: HostRuntime) -> Result<(), Fail> {
-    commit_apart(&rt, &Directory::new(rt.alloc())?, 4)
+    let site = site_with(rt.alloc(), 4, &APART)?;
+    let keeps = databases(rt.alloc())?;
+    commit_apart(&rt, rt.alloc(), &Directory::new(rt.alloc())?, site, keeps);
+    Ok(())
 }
 
 /// A worker runs, if there is one.

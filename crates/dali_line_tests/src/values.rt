@@ -1,7 +1,5 @@
 //! Values by their numbers, and the one assertion that compares two of them.
 
-ghost use Rattle.std.specs.Prelude.{IfOk};
-
 use dali_frame::{Forward, Random24, Short};
 use dali_script::{Block, End, Fault, Kept, Order, Record};
 use dali_world::{Plan, SiteState};

@@ -6,6 +6,8 @@
 #[cfg(test)]
 mod files;
 #[cfg(test)]
+mod sites;
+#[cfg(test)]
 mod stops;
 #[cfg(test)]
 mod stores;

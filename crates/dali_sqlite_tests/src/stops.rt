@@ -3,8 +3,10 @@
 //! A fused disk passes so many calls on and fails each one after. A store in such files makes its table, or commits a
 //! record, once for each number of calls, from 0 until nothing is stopped. What lies in the files then is looked at
 //! twice: with all that was written, as where a program is stopped, and without what was not flushed yet, as where the
-//! power fails. A store over either reads the records from before, with the new one or without it, and goes on.
+//! power fails. A store over either reads the records from before, with the new one or without it, and goes on; and the
+//! controller of a site that went down at the commit comes up with what is read.
 
+use super::sites::comes_up;
 use super::tables::TABLE;
 use super::values::{Pair, block, run};
 use dali_reserve::Keep;
@@ -73,6 +75,7 @@ enum Deed<'a> {
 /// A commit that was stopped.
 #[derive(Clone, Copy)]
 struct Stop<'a> {
+    alloc: Global,
     before: &'a Kept,
     added: &'a Record,
     /// Whether it answered Ok.
@@ -96,11 +99,14 @@ fn fills<K: Keep>(keep: &mut K, records: &[Record]) -> bool {
     true
 }
 
-/// Whether a read has the records from before with the new one, or without it; None where it has others.
+/// Whether a read has the records from before with the new one, or without it; None where it has others, or where a
+/// controller that went down at the commit would not come up with them.
 fn has_added<K: Keep>(keep: &mut K, stop: &Stop<'_>) -> Option<bool> {
     match keep.read() {
         Ok(kept) => {
-            if kept.is_with(stop.before, stop.added) {
+            if !comes_up(stop.alloc, stop.added, &kept) {
+                None
+            } else if kept.is_with(stop.before, stop.added) {
                 Some(true)
             } else if kept.same(stop.before) {
                 Some(false)
@@ -285,6 +291,7 @@ fn is_stopped(
             let is_stopped = is_blown(&mut left.log) || is_blown(&mut left.db);
             assert!(rt; is_done || is_stopped);
             let stop = Stop {
+                alloc,
                 before,
                 added,
                 is_done: is_done && matches!(deed, Deed::Commit(_)),

@@ -1,8 +1,8 @@
-ghost use Rattle.std.specs.Prelude.{◌≡◌, ◌++◌, ◌∷◌, [], Bool, true, false, ◌↔◌, Some, None, IfOk, OnOk, IfErr, OnErr};
+ghost use Rattle.std.specs.Prelude.{◌≡◌, ◌++◌, ◌∷◌, [], Bool, true, false, ◌↔◌, Some, None};
 ghost use Rattle.std.specs.Prelude.{IsTrue, MatchOption, option_map};
 ghost use Rattle.dali_special.specs.Command.{command_of};
 ghost use Rattle.dali_script.specs.Findings.{later};
-ghost use Rattle.dali_script.specs.Due.{due_after, accepts, frame_put};
+ghost use Rattle.dali_script.specs.Due.{due_after, frame_put, record_ordered};
 ghost use Rattle.dali_controller.specs.Machine.{table_of};
 ghost use Rattle.dali_script.specs.declared.orders.Due.TheVariants as due;
 ghost use Rattle.dali_script.specs.declared.orders.Input.TheVariants as input;
@@ -198,6 +198,16 @@ impl Seat {
                 Some(kept) => kept,
                 None => unreachable!(),
             },
+        }
+    }
+
+    /// The record that its machine ordered to be committed, until it is told what became of it.
+    pub(crate) fn ordered(&self) -> Option<Record>
+        ensures { result ≡ record_ordered self.now.controller.last }
+    {
+        match self.last() {
+            Some(Order::Commit(ordered)) => Some(ordered),
+            _ => None,
         }
     }
 

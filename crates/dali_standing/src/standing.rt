@@ -1,18 +1,16 @@
-ghost use Rattle.std.specs.Prelude.{◌≡◌, ◌↔◌, ◌++◌, ◌∷◌, [], ℕ, ◌<◌, ◌≤◌, List, length, map, true, false, Some, None};
-ghost use Rattle.std.specs.Prelude.{IfSome, IfOk, IfErr, OnOk, OnErr, IsTrue, Bool, MatchOption, if◌then◌else◌};
+ghost use Rattle.std.specs.Prelude.{◌≡◌, ◌↔◌, ◌++◌, [], ◌<◌, ◌≤◌, length, true, false, Some, None};
+ghost use Rattle.std.specs.Prelude.{IfSome, IfOk, IfErr, IsTrue, Bool, MatchOption, if◌then◌else◌};
 ghost use Rattle.dali_special.specs.Command.{command_of};
 ghost use Rattle.dali_gear.specs.declared.row.Reach.TheVariants.{Everyone, Only};
-ghost use Rattle.dali_gear.specs.Gear.{gear_expired, gear_quieted};
 ghost use Rattle.dali_gear.specs.Row.{draws_needed, answers_of, heard_of, stored_of};
-ghost use Rattle.dali_arbiter.specs.Arbiter.{next, owns, total, bus_lapsed, request_of, offer_refusal, collision};
-ghost use Rattle.dali_script.specs.Due.{frame_put};
+ghost use Rattle.dali_arbiter.specs.Arbiter.{next, owns, total, bus_lapsed, collision};
+ghost use Rattle.dali_script.specs.Due.{frame_put, record_ordered};
 ghost use Rattle.dali_controller.specs.Machine.{table_of};
 ghost use Rattle.dali_events.specs.declared.event.Event.TheVariants as event;
 ghost use Rattle.dali_events.specs.World.{start};
-ghost use Rattle.dali_events.specs.Happens.{entry, is_arc, keeps_bus, gives_up, put_after, gear_powered, told_sent};
+ghost use Rattle.dali_events.specs.Happens.{is_arc, keeps_bus, gives_up, put_after, told_sent};
 ghost use Rattle.dali_events.specs.Happens.{told_destroyed};
 ghost use Rattle.dali_events.specs.Allowed.{IsArc, IsDue};
-ghost use Rattle.dali_standing.specs.FittedGear.{changed_at};
 ghost use Rattle.dali_standing.specs.Standing.{seats_from};
 ghost use Rattle.dali_standing.specs.Seats.{MayAnswer, Agrees, trace_of, told_at, due_of};
 ghost use Rattle.dali_standing.specs.Troubles.{heard_under, nobody_at_all};
@@ -28,7 +26,7 @@ use dali_enrol::Table;
 use dali_events::Plan;
 use dali_frame::{Answer, Forward, Priority, Short};
 use dali_gear::{GearSet, Reach, Row};
-use dali_script::{Block, Due, Input, Kept, Order, Trace};
+use dali_script::{Block, Due, Input, Kept, Order, Record, Trace};
 use dali_special::Command;
 use std::alloc::Global;
 use std::marker::Model;
@@ -112,6 +110,14 @@ impl Standing {
         ensures { result ≡ due_of (controller_on self.now c) }
     {
         self.seats[c as usize].due()
+    }
+
+    /// The record whose commit is due for a controller: none while it is down.
+    pub fn ordered(&self, c: u8) -> Option<Record>
+        requires { c < length self.now.controllers }
+        ensures { result ≡ record_ordered (controller_on self.now c).last }
+    {
+        self.seats[c as usize].ordered()
     }
 
     /// The records that a controller keeps.

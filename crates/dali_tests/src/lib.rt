@@ -2,7 +2,7 @@
 //! what no contract says. They prove nothing of the parts, and stand in one crate so that no part is proved once
 //! more for its tests.
 //!
-//! Whole commissionings are told as scripts, in `dali_stories`.
+//! Most whole commissionings are told as scripts, in `dali_stories`.
 #![tactic(auto)]
 
 #[cfg(test)]
@@ -25,6 +25,8 @@ mod plan;
 mod records;
 #[cfg(test)]
 mod ring;
+#[cfg(test)]
+mod rounds;
 #[cfg(test)]
 mod search;
 #[cfg(test)]

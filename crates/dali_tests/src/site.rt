@@ -80,6 +80,7 @@ fn logged<R: Abort>(rt: &R, site: &SiteState, events: usize, last: Event) {
 /// A site with room for one request.
 fn small_queue<R: Abort>(rt: &R, site: &mut SiteState) {
     acts(rt, site, 0, Input::Start, Ok(Put(3, 0xA100)));
+    assert!(rt; site.is_crowded());
     acts(rt, site, 1, Input::Start, Err(Refusal::QueueFull));
     acts(rt, site, 1, SILENCE, Err(Refusal::NotDue));
     does(rt, site.arc(0, forward(0xFE80)), Err(Refusal::QueueFull));
@@ -133,6 +134,10 @@ fn small_log<R: Abort>(rt: &R, site: &mut SiteState) {
     acts(rt, site, 0, Input::Start, Err(Refusal::LogFull));
     pumps(rt, site, Trouble::None, Ok(Report::Idle));
     logged(rt, site, 1, Event::Quiet);
+    // A full log changes no reader.
+    reads(rt, site, (None, true, Some(Input::Start), Due::Start));
+    keeps(rt, site, &[], &[]);
+    assert!(rt; !site.is_crowded() && site.gifts().is_empty());
 }
 
 /// The bus lapses, and this controller owned it.
@@ -169,9 +174,11 @@ fn log_fills<R: Abort>(rt: &R, site: &mut SiteState, events: u16) {
     for _ in 0..events {
         does(rt, goes_on(site), Ok(()));
     }
+    let was = shown(site);
     for _ in 0..3 {
         does(rt, goes_on(site), Err(Refusal::LogFull));
         same(rt, &site.log().len(), &usize::from(events));
+        same(rt, &shown(site), &was);
     }
 }
 
@@ -395,11 +402,18 @@ fn a_commissioning_stands_in_the_log(rt: HostRuntime) -> Result<(), Fail> {
     Ok(())
 }
 
+/// The record whose commit is due for controller 0.
+fn has_ordered<R: Abort>(rt: &R, site: &SiteState, wanted: Pair) {
+    assert!(rt; !site.plan().blocks().is_empty());
+    same(rt, &site.ordered(0).map(Pair::of), &Some(wanted));
+}
+
 /// A site whose controller has ordered its first record, which is not committed.
 fn reserving<R: Abort + AllocGlobal>(rt: &R) -> Result<SiteState, Fail> {
     let mut site = site_of(rt.alloc(), &[(0, 3)], 4096, 16)?;
     let ordered = Commit(Reserve(0, 0x123456));
     same(rt, &run_until(&mut site, ordered), &Some(109));
+    has_ordered(rt, &site, Reserve(0, 0x123456));
     Ok(site)
 }
 
@@ -456,6 +470,7 @@ fn failed_record<R: Abort>(rt: &R, site: &mut SiteState) {
     acts(rt, site, 0, Input::CommitFailed, Ok(Halt(Fault::Store)));
     reads(rt, site, (None, true, None, Due::Nothing));
     keeps(rt, site, &[], &[]);
+    assert!(rt; !site.plan().blocks().is_empty() && site.ordered(0).is_none());
 }
 
 #[test]

@@ -13,6 +13,7 @@ fn outcome_name(outcome: Outcome) -> &'static str {
         Outcome::Ended(End::GaveUp) => "gave-up",
         Outcome::Halted(Fault::Conflict) => "halt conflict",
         Outcome::Halted(Fault::Store) => "halt store",
+        Outcome::Down => "down",
         Outcome::Refused(_) => "refused",
         Outcome::TurnsSpent => "turns-spent",
         Outcome::Stopped => "stopped",

@@ -1,10 +1,10 @@
-ghost use Rattle.std.specs.Prelude.{◌≡◌, ℕ, ◌+◌, ◌<◌, ◌≤◌, length, map, true, false, Some, None, OnOk, IfOk, OnErr};
+ghost use Rattle.std.specs.Prelude.{◌≡◌, ◌+◌, ◌<◌, ◌≤◌, length, map, true, false, Some, None, OnOk, IfOk, OnErr};
 ghost use Rattle.std.specs.Prelude.{IfErr, IfSome, IsTrue, ◌↔◌, ◌++◌, ◌∷◌, [], vec_len, MatchOption, slice_index_or};
 ghost use Rattle.std.specs.Prelude.{slice_set};
 ghost use Rattle.std.specs.Vec.{vec_capacity};
 ghost use Rattle.dali_events.specs.declared.event.Event.TheVariants as event;
 ghost use Rattle.dali_events.specs.World.{gear_at, controller_at};
-ghost use Rattle.dali_events.specs.Allowed.{IsUp, MaySend, IsArc};
+ghost use Rattle.dali_events.specs.Allowed.{IsUp, MaySend};
 ghost use Rattle.dali_events.specs.Runs.{IsRun};
 ghost use Rattle.dali_events.specs.Promise.{KeepsPromise, IsSafe, IsSafeHistory};
 ghost use Rattle.dali_events.specs.Laws.{TablesAgree, KeepsRecords};
@@ -23,7 +23,7 @@ use dali_enrol::Table;
 use dali_events::{Event, Plan};
 use dali_frame::{Forward, Short};
 use dali_gear::{Gear, GearSet};
-use dali_script::{Due, Input, Kept};
+use dali_script::{Due, Input, Kept, Record};
 use dali_standing::{Refusal, Report, Standing, Trouble, is_arc_power};
 use std::alloc::Global;
 use std::marker::Model;
@@ -31,9 +31,9 @@ use std::marker::Model;
 /// A site: its gear, its bus and its controllers, with a log of all that happened on it.
 ///
 /// Its calls are of four kinds. Controllers: `act`, `arc`, `down`, `up`. The bus: `pump`, `lapse`, `quiet`. Gear:
-/// `power`, `expire`. Readers change nothing: `next` and `due` say what a controller may act on, `idle` whether a
-/// request waits for `pump`; `log`, `gear`, `kept`, `table`, `gifts`, `owner` and `plan` show what there is; `is_safe`
-/// says what is promised.
+/// `power`, `expire`. Readers change nothing: `next`, `due` and `ordered` say what a controller may act on, `idle`
+/// whether a request waits for `pump`, `is_crowded` whether none more may wait; `log`, `gear`, `kept`, `table`,
+/// `gifts`, `owner` and `plan` show what there is; `is_safe` says what is promised.
 ///
 /// A site in use: each controller that has something due acts, then `pump`, and so on; where an act ordered a `Commit`,
 /// the record is stored and `Committed` acted on. Nothing promises that this ends: bound the loop.
@@ -324,6 +324,15 @@ impl SiteState {
         self.standing.due(c)
     }
 
+    /// The record whose commit is due for controller `c`, which must be there: the one that it ordered last. None where
+    /// `due` is not Store.
+    pub fn ordered(&self, c: u8) -> Option<Record>
+        requires { c < length self.now.plan.blocks }
+        ensures { result ≡ record_ordered (controller_at (world self.now) c).last }
+    {
+        self.standing.ordered(c)
+    }
+
     /// Gear `number`, which must be there.
     pub fn gear(&self, number: u32) -> Gear
         requires { number < self.now.plan.gear }
@@ -392,6 +401,15 @@ impl SiteState {
         ensures { IsTrue result ↔ (next_request self.now ≡ None) }
     {
         self.standing.next_request().is_none()
+    }
+
+    /// Whether no request more may wait: then each `act` and each `arc` that nothing else bars is refused with
+    /// QueueFull.
+    pub fn is_crowded(&self) -> bool
+        ensures crowded { result ≡ true → IsCrowded self.now }
+        ensures room { result ≡ false → IsCrowded self.now → ⊥ }
+    {
+        self.standing.is_crowded()
     }
 
     /// The request that is next is sent.

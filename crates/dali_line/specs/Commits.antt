@@ -1,0 +1,20 @@
+use Rattle.std.specs.Prelude.{◌≡◌, ℕ, List, [], ◌∷◌, slice_index_or}
+use Rattle.dali_script.specs.Records.{Kept}
+use Rattle.dali_line.specs.declared.commits.CommitState.{CommitState}
+use Rattle.dali_line.specs.declared.commits.CommitState.TheVariants.{Settled, Begun, Made}
+
+-- HOW FAR THE WORKERS ARE WITH THEIR COMMITS, a state for each of the four controllers.
+
+abbrev pub all_settled : List CommitState
+all_settled = Settled ∷ Settled ∷ Settled ∷ Settled ∷ []
+
+abbrev pub state_of : List CommitState → ℕ → CommitState
+state_of states c = slice_index_or states c Settled
+
+-- WHETHER A CONTROLLER MAY COME UP with a copy of records, where the site remembers `kept`: not
+-- while its worker is at a commit; and where the worker has made one and could not tell, not
+-- without its record.
+abbrev pub MayComeUp : CommitState → Kept → Kept → Type 0
+MayComeUp Settled kept copy = Unit {0}
+MayComeUp Begun kept copy = ⊥
+MayComeUp Made kept copy = copy ≡ kept → ⊥

@@ -1,0 +1,114 @@
+//! A bus of one's own: it drives itself, so that a worker runs alone. Where its controller has nothing due, or waits
+//! for room, the bus has a turn before.
+
+use dali_line::{Bus, Ready};
+use dali_script::{Due, Input, Record};
+use dali_world::{Receipt, Refusal, Report, Trouble};
+use std::sync::atomic::AtomicBool;
+use std::sync::atomic::Ordering::SeqCst;
+use std::sync::{Mutex, Wait};
+
+/// How many turns the bus has in a row before it gives up.
+const TURNS: u32 = 1000;
+
+/// A bus that drives itself by this driver.
+#[derive(Drop)]
+pub struct DrivenBus<'a, B: Bus> {
+    pub bus: &'a B,
+    pub driver: &'a Mutex<B::Driver>,
+    /// Whether a worker has waited for room.
+    pub has_waited: &'a AtomicBool,
+}
+
+impl<B: Bus> DrivenBus<'_, B> {
+    /// A frame comes on the bus; where none can, the bus lapses.
+    fn drive<R: Wait>(&self, rt: &R) {
+        let mut driver = self.driver.lock(rt);
+        let report = self.bus.pump(rt, &mut driver, Trouble::None);
+        if report == Ok(Report::Idle) {
+            let _ = self.bus.lapse(rt, &mut driver);
+        }
+    }
+
+    /// Whether nothing is due for the port's controller.
+    fn has_nothing<R: Wait>(&self, rt: &R, port: &mut B::Port) -> bool
+        ensures { B.seat port.new ≡ B.seat port.old }
+    {
+        self.bus.next(rt, port).is_none() && self.bus.due(rt, port) == Due::Bus
+    }
+}
+
+impl<B: Bus> Bus for DrivenBus<'_, B> {
+    type Port = B::Port;
+
+    type Driver = B::Driver;
+
+    ghost seat = { λ port. B.seat port };
+
+    ghost driven = { λ driver. B.driven driver };
+
+    fn controller(&self, port: &B::Port) -> u8 {
+        self.bus.controller(port)
+    }
+
+    fn act<R: Wait>(&self, rt: &R, port: &mut B::Port, input: Input) -> Result<Receipt, Refusal> {
+        self.bus.act(rt, port, input)
+    }
+
+    fn next<R: Wait>(&self, rt: &R, port: &mut B::Port) -> Option<Input> {
+        self.bus.next(rt, port)
+    }
+
+    fn due<R: Wait>(&self, rt: &R, port: &mut B::Port) -> Due {
+        self.bus.due(rt, port)
+    }
+
+    fn wait<R: Wait>(&self, rt: &R, port: &mut B::Port) -> bool {
+        for _ in 0..TURNS {
+            if !self.has_nothing(rt, port) {
+                break;
+            }
+            self.drive(rt);
+        }
+        self.bus.wait(rt, port)
+    }
+
+    fn begin_commit<R: Wait>(&self, rt: &R, port: &mut B::Port) -> Option<Record> {
+        self.bus.begin_commit(rt, port)
+    }
+
+    fn end_commit<R: Wait>(&self, rt: &R, port: &mut B::Port, is_made: bool) {
+        self.bus.end_commit(rt, port, is_made)
+    }
+
+    fn wait_for_room<R: Wait>(&self, rt: &R, port: &mut B::Port) -> bool {
+        self.has_waited.store(true, SeqCst);
+        self.drive(rt);
+        self.bus.wait_for_room(rt, port)
+    }
+
+    fn pump<R: Wait>(
+        &self,
+        rt: &R,
+        driver: &mut B::Driver,
+        trouble: Trouble,
+    ) -> Result<Report, Refusal> {
+        self.bus.pump(rt, driver, trouble)
+    }
+
+    fn lapse<R: Wait>(&self, rt: &R, driver: &mut B::Driver) -> Result<Option<u8>, Refusal> {
+        self.bus.lapse(rt, driver)
+    }
+
+    fn ready<R: Wait>(&self, rt: &R, driver: &mut B::Driver) -> Ready {
+        self.bus.ready(rt, driver)
+    }
+
+    fn stop<R: Wait>(&self, rt: &R) {
+        self.bus.stop(rt)
+    }
+
+    fn is_stopped<R: Wait>(&self, rt: &R) -> bool {
+        self.bus.is_stopped(rt)
+    }
+}

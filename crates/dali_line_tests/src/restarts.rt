@@ -1,0 +1,527 @@
+//! A worker alone, on a bus that drives itself: its controller is restarted while it is at a commit, its line's queue
+//! is full, and it ends with a commit that is not made, or not told.
+
+ghost use Rattle.std.specs.Prelude.{◌≡◌, ◌<◌};
+
+use super::calls::comes_up;
+use super::driven::DrivenBus;
+use super::threads::{Blanks, TURNS, blanks, last_two, line_of, site_with, store_of};
+use super::values::{block, forward, same};
+use dali_enrol::Directory;
+use dali_frame::Answer;
+use dali_line::{
+    Bus, Driver, Gate, Line, Moment, OpenGate, Outcome, Port, Pumper, Ready, UpRefusal, Worker,
+};
+use dali_reserve::{Keep, MemoryKeep};
+use dali_script::{Due, End, Input, Kept};
+use dali_world::{Event, Refusal, SiteState, Trouble};
+use std::alloc::Global;
+use std::marker::Brand;
+use std::process::Abort;
+use std::sync::atomic::AtomicBool;
+use std::sync::atomic::Ordering::SeqCst;
+use std::sync::ledger::Ledger;
+use std::sync::{Mutex, Wait};
+use std::test::Fail;
+
+/// What a gate has done.
+#[derive(Drop)]
+struct Done {
+    /// How many commits come before the one at which it acts.
+    before: u8,
+    /// How the line answered when the controller was to go down, and to come up with the records from before.
+    down: Option<Result<(), Refusal>>,
+    up: Option<Result<(), UpRefusal>>,
+}
+
+/// A gate that takes controller 0 down while its worker is at a commit, and tries to bring it up with records that were
+/// read before.
+#[derive(Drop)]
+struct Restarting<'a, P0: Ledger, P1: Ledger, P2: Ledger, P3: Ledger, D: Ledger> {
+    line: &'a Line<P0, P1, P2, P3, D>,
+    driver: &'a Mutex<Driver<P0, P1, P2, P3, D>>,
+    records: &'a Kept,
+    done: &'a Mutex<Done>,
+}
+
+impl<P0: Ledger, P1: Ledger, P2: Ledger, P3: Ledger, D: Ledger> Gate
+    for Restarting<'_, P0, P1, P2, P3, D> {
+    fn at<R: Wait>(&self, rt: &R, _controller: u8, moment: Moment) {
+        if moment != Moment::BeforeCommit {
+            return;
+        }
+        let mut done = self.done.lock(rt);
+        if done.before > 0 {
+            done.before -= 1;
+            return;
+        }
+        let mut driver = self.driver.lock(rt);
+        done.down = Some(self.line.down(rt, &mut driver, 0));
+        done.up = Some(self.line.up(rt, &mut driver, 0, self.records));
+    }
+}
+
+/// A gate that lets controller 1 offer arc power until no request more may wait: before each commit, and at the end of
+/// some turns. Before a commit it may stop the line.
+#[derive(Drop)]
+struct Flooding<'a, P0: Ledger, P1: Ledger, P2: Ledger, P3: Ledger, D: Ledger> {
+    line: &'a Line<P0, P1, P2, P3, D>,
+    port: &'a Mutex<Port<P0, P1, P2, P3, D>>,
+    /// At how many turns more it offers.
+    turns: &'a Mutex<u8>,
+    stops: bool,
+}
+
+impl<P0: Ledger, P1: Ledger, P2: Ledger, P3: Ledger, D: Ledger> Flooding<'_, P0, P1, P2, P3, D> {
+    /// Whether this is the end of a turn at which it offers.
+    fn is_turn<R: Wait>(&self, rt: &R) -> bool {
+        let mut turns = self.turns.lock(rt);
+        let is_turn = *turns > 0;
+        *turns = turns.saturating_sub(1);
+        is_turn
+    }
+
+    /// Controller 1 offers as much arc power as may wait.
+    fn flood<R: Wait>(&self, rt: &R) {
+        let mut port = self.port.lock(rt);
+        for _ in 0..100 {
+            if self.line.arc(rt, &mut port, forward(0xFE80)).is_err() {
+                break;
+            }
+        }
+    }
+}
+
+impl<P0: Ledger, P1: Ledger, P2: Ledger, P3: Ledger, D: Ledger> Gate
+    for Flooding<'_, P0, P1, P2, P3, D> {
+    fn at<R: Wait>(&self, rt: &R, _controller: u8, moment: Moment) {
+        match moment {
+            Moment::BeforeCommit => {
+                self.flood(rt);
+                if self.stops {
+                    self.line.stop(rt);
+                }
+            }
+            Moment::AfterCommit => {}
+            Moment::AfterTurn => {
+                if self.is_turn(rt) {
+                    self.flood(rt);
+                }
+            }
+        }
+    }
+}
+
+/// The end of a controller that found all gear.
+const FOUND: Outcome = Outcome::Ended(End::AllFound);
+
+/// A worker runs, and ends so. Its port and its store.
+fn works<B: Bus, G: Gate, R: Abort + Wait>(
+    rt: &R,
+    alloc: Global,
+    bus: &B,
+    worker: Worker<B::Port, MemoryKeep, G>,
+    turns: u32,
+    end: Outcome,
+) -> (B::Port, MemoryKeep) {
+    let directory = Directory::new(alloc);
+    let Ok(directory) = &directory else {
+        assert!(rt; false);
+        return (worker.port, worker.keep);
+    };
+    match directory.pass(alloc) {
+        Ok(pass) => {
+            let (outcome, port, keep, _pass) = worker.run(rt, alloc, bus, directory, pass, turns);
+            same(rt, &outcome, &end);
+            (port, keep)
+        }
+        Err(_) => {
+            assert!(rt; false);
+            (worker.port, worker.keep)
+        }
+    }
+}
+
+/// The ports of two controllers of a line, its driver, and the store of the first controller.
+#[derive(Drop)]
+struct Crew<P0: Ledger, P1: Ledger, P2: Ledger, P3: Ledger, D: Ledger> {
+    port: Port<P0, P1, P2, P3, D>,
+    other: Port<P0, P1, P2, P3, D>,
+    driver: Driver<P0, P1, P2, P3, D>,
+    keep: MemoryKeep,
+}
+
+/// Controller 0 comes up with what its store reads.
+fn goes_up<P0: Ledger, P1: Ledger, P2: Ledger, P3: Ledger, D: Ledger, R: Abort + Wait>(
+    rt: &R,
+    line: &Line<P0, P1, P2, P3, D>,
+    driver: &Mutex<Driver<P0, P1, P2, P3, D>>,
+    keep: &mut MemoryKeep,
+) {
+    match keep.read() {
+        Ok(kept) => {
+            let mut driver = driver.lock(rt);
+            comes_up(rt, line.up(rt, &mut driver, 0, &kept), &Ok(()));
+        }
+        Err(_) => assert!(rt; false),
+    }
+}
+
+/// Controller 0 does not come up with records from before the commit that its worker has made.
+fn stays_down<P0: Ledger, P1: Ledger, P2: Ledger, P3: Ledger, D: Ledger, R: Abort + Wait>(
+    rt: &R,
+    line: &Line<P0, P1, P2, P3, D>,
+    driver: &Mutex<Driver<P0, P1, P2, P3, D>>,
+    records: &Kept,
+) {
+    let mut driver = driver.lock(rt);
+    assert!(rt; line.up(rt, &mut driver, 0, records).is_err());
+}
+
+/// Controller 0 goes down, and its worker ends.
+fn goes_down<P0: Ledger, P1: Ledger, P2: Ledger, P3: Ledger, D: Ledger, R: Abort + Wait>(
+    rt: &R,
+    line: &Line<P0, P1, P2, P3, D>,
+    driver: &Mutex<Driver<P0, P1, P2, P3, D>>,
+) {
+    let mut driver = driver.lock(rt);
+    same(rt, &line.down(rt, &mut driver, 0), &Ok(()));
+}
+
+/// While its worker is at this commit controller 0 goes down, and is not brought up. The worker ends, and with what its
+/// store reads then the controller comes up, and another worker goes on to the end; and so it does once more.
+fn restarted<P0: Ledger, P1: Ledger, P2: Ledger, P3: Ledger, D: Ledger, R: Abort + Wait>(
+    rt: &R,
+    alloc: Global,
+    line: &Line<P0, P1, P2, P3, D>,
+    crew: Crew<P0, P1, P2, P3, D>,
+    records: &Kept,
+    commit: u8,
+) -> Crew<P0, P1, P2, P3, D> {
+    let Crew {
+        port,
+        other,
+        driver,
+        keep,
+    } = crew;
+    let driver = Mutex::new(driver);
+    let has_waited = AtomicBool::new(false);
+    let bus = DrivenBus {
+        bus: line,
+        driver: &driver,
+        has_waited: &has_waited,
+    };
+    let done = Mutex::new(Done {
+        before: commit,
+        down: None,
+        up: None,
+    });
+    let gate = Restarting {
+        line,
+        driver: &driver,
+        records,
+        done: &done,
+    };
+    let worker = Worker::new(port, keep, gate);
+    let (port, mut keep) = works(rt, alloc, &bus, worker, TURNS, Outcome::Down);
+    has_tried(rt, &done);
+    stays_down(rt, line, &driver, records);
+    goes_up(rt, line, &driver, &mut keep);
+    let worker = Worker::new(port, keep, OpenGate);
+    let (port, mut keep) = works(rt, alloc, &bus, worker, TURNS, FOUND);
+    goes_down(rt, line, &driver);
+    let worker = Worker::new(port, keep, OpenGate);
+    let (port, mut keep) = works(rt, alloc, &bus, worker, TURNS, Outcome::Down);
+    goes_up(rt, line, &driver, &mut keep);
+    let worker = Worker::new(port, keep, OpenGate);
+    let (port, keep) = works(rt, alloc, &bus, worker, TURNS, FOUND);
+    Crew {
+        port,
+        other,
+        driver: driver.into_inner(),
+        keep,
+    }
+}
+
+/// The gate took the controller down, and did not bring it up.
+fn has_tried<R: Abort + Wait>(rt: &R, done: &Mutex<Done>) {
+    let done = done.lock(rt);
+    same(rt, &done.down, &Some(Ok(())));
+    same(rt, &done.up, &Some(Err(UpRefusal::CommitOpen)));
+}
+
+/// The queue is full before each commit of controller 0, and after its first turns; the line may be stopped then. Its
+/// worker waits for room, and ends so.
+fn flooded<P0: Ledger, P1: Ledger, P2: Ledger, P3: Ledger, D: Ledger, R: Abort + Wait>(
+    rt: &R,
+    alloc: Global,
+    line: &Line<P0, P1, P2, P3, D>,
+    crew: Crew<P0, P1, P2, P3, D>,
+    turns: u8,
+    end: Outcome,
+) -> Crew<P0, P1, P2, P3, D> {
+    let Crew {
+        port,
+        other,
+        driver,
+        keep,
+    } = crew;
+    let driver = Mutex::new(driver);
+    let other = Mutex::new(other);
+    let turns = Mutex::new(turns);
+    let has_waited = AtomicBool::new(false);
+    let bus = DrivenBus {
+        bus: line,
+        driver: &driver,
+        has_waited: &has_waited,
+    };
+    let gate = Flooding {
+        line,
+        port: &other,
+        turns: &turns,
+        stops: end == Outcome::Stopped,
+    };
+    let worker = Worker::new(port, keep, gate);
+    let (port, keep) = works(rt, alloc, &bus, worker, TURNS, end);
+    assert!(rt; has_waited.load(SeqCst));
+    Crew {
+        port,
+        other: other.into_inner(),
+        driver: driver.into_inner(),
+        keep,
+    }
+}
+
+/// A worker runs for so many turns at most, and ends so.
+fn runs<P0: Ledger, P1: Ledger, P2: Ledger, P3: Ledger, D: Ledger, R: Abort + Wait>(
+    rt: &R,
+    alloc: Global,
+    line: &Line<P0, P1, P2, P3, D>,
+    crew: Crew<P0, P1, P2, P3, D>,
+    turns: u32,
+    end: Outcome,
+) -> Crew<P0, P1, P2, P3, D> {
+    let Crew {
+        port,
+        other,
+        driver,
+        keep,
+    } = crew;
+    let driver = Mutex::new(driver);
+    let has_waited = AtomicBool::new(false);
+    let bus = DrivenBus {
+        bus: line,
+        driver: &driver,
+        has_waited: &has_waited,
+    };
+    let worker = Worker::new(port, keep, OpenGate);
+    let (port, keep) = works(rt, alloc, &bus, worker, turns, end);
+    Crew {
+        port,
+        other,
+        driver: driver.into_inner(),
+        keep,
+    }
+}
+
+/// While controller 0 owns the bus, so much arc power waits that it is refused. A pumper lets the bus lapse and sends
+/// the first of the arc power, and the controller goes on.
+fn lapses<P0: Ledger, P1: Ledger, P2: Ledger, P3: Ledger, D: Ledger, R: Abort + Wait>(
+    rt: &R,
+    line: &Line<P0, P1, P2, P3, D>,
+    crew: Crew<P0, P1, P2, P3, D>,
+) -> Crew<P0, P1, P2, P3, D> {
+    let Crew {
+        mut port,
+        mut other,
+        mut driver,
+        keep,
+    } = crew;
+    assert!(rt; line.act(rt, &mut port, Input::Start).is_ok());
+    let _ = line.pump(rt, &mut driver, Trouble::None);
+    let mut offered = 0u8;
+    while offered < 100 && line.arc(rt, &mut other, forward(0xFE80)).is_ok() {
+        offered += 1;
+    }
+    same(rt, &offered, &64);
+    same(rt, &line.ready(rt, &mut driver), &Ready::Full);
+    let heard = Input::Heard(Answer::Silence);
+    same(rt, &line.act(rt, &mut port, heard).err(), &Some(Refusal::QueueFull));
+    let (driver, refusal) = Pumper::new(driver, OpenGate).run(rt, line, 2);
+    same(rt, &refusal, &None);
+    same(rt, &line.next(rt, &mut port), &Some(Input::Lapsed));
+    assert!(rt; line.act(rt, &mut port, Input::Lapsed).is_ok());
+    Crew {
+        port,
+        other,
+        driver,
+        keep,
+    }
+}
+
+/// What is played.
+#[derive(Clone, Copy)]
+enum Story {
+    /// A restart while the worker is at this commit, counted from 0.
+    Restart(u8),
+    /// The queue is full before each commit, and after the first three turns.
+    Full,
+    /// The queue is full before the first commit, and the line is stopped: it is made, and not told.
+    Untold,
+    /// The worker ends with the first commit due.
+    Unmade,
+    /// A worker goes on to the end.
+    Rest,
+    /// The queue is full in a transaction.
+    Lapse,
+}
+
+/// A story is played on a line round this site. The site and the store of controller 0 then.
+fn played<P0: Ledger, P1: Ledger, P2: Ledger, P3: Ledger, D: Ledger, R: Abort + Wait>(
+    rt: &R,
+    alloc: Global,
+    site: SiteState,
+    blanks: Blanks,
+    keep: MemoryKeep,
+    records: &Kept,
+    story: Story,
+) -> (SiteState, MemoryKeep)
+    requires first { (blanks.0.name ≡ P0.name) × (blanks.0.parts ≡ P0.parts) × (0 < P0.parts) }
+    requires second { (blanks.1.name ≡ P1.name) × (blanks.1.parts ≡ P1.parts) × (0 < P1.parts) }
+    requires third { (blanks.2.name ≡ P2.name) × (blanks.2.parts ≡ P2.parts) × (0 < P2.parts) }
+    requires fourth { (blanks.3.name ≡ P3.name) × (blanks.3.parts ≡ P3.parts) × (0 < P3.parts) }
+    requires driver { (blanks.4.name ≡ D.name) × (blanks.4.parts ≡ D.parts) × (0 < D.parts) }
+{
+    let (line, mut ports, driver) = line_of::<P0, P1, P2, P3, D>(site, blanks);
+    let (port, other) = last_two(&mut ports);
+    let crew = Crew {
+        port,
+        other,
+        driver,
+        keep,
+    };
+    let crew = match story {
+        Story::Restart(commit) => restarted(rt, alloc, &line, crew, records, commit),
+        Story::Full => flooded(rt, alloc, &line, crew, 3, FOUND),
+        Story::Untold => flooded(rt, alloc, &line, crew, 0, Outcome::Stopped),
+        Story::Unmade => runs(rt, alloc, &line, crew, 110, Outcome::TurnsSpent),
+        Story::Rest => runs(rt, alloc, &line, crew, TURNS, FOUND),
+        Story::Lapse => lapses(rt, &line, crew),
+    };
+    let Crew { driver, keep, .. } = crew;
+    (line.close(ports, driver), keep)
+}
+
+/// A story is played from the start of a site, or after another one.
+fn plays<R: Abort + Wait>(
+    rt: &R,
+    alloc: Global,
+    site: SiteState,
+    keep: MemoryKeep,
+    records: &Kept,
+    story: Story,
+) -> (SiteState, MemoryKeep) {
+    let blanks = blanks();
+    played::<Brand, Brand, Brand, Brand, Brand, R>(rt, alloc, site, blanks, keep, records, story)
+}
+
+/// Controller 0 has all gear in its table, and its store reads what the site remembers.
+fn has_all<R: Abort>(rt: &R, site: &SiteState, keep: &mut MemoryKeep) {
+    assert!(rt; site.plan().blocks().len() == 2);
+    let gear = site.plan().gear() as usize;
+    match site.table(0) {
+        Some(table) => same(rt, &table.entries().len(), &gear),
+        None => assert!(rt; false),
+    }
+    match keep.read() {
+        Ok(kept) => assert!(rt; kept.same(site.kept(0))),
+        Err(_) => assert!(rt; false),
+    }
+}
+
+/// What is due for controller 0, and whether its store has a record that it was not told of.
+fn is_left<R: Abort>(rt: &R, site: &SiteState, keep: &mut MemoryKeep, has_more: bool) {
+    assert!(rt; site.plan().blocks().len() == 2);
+    same(rt, &site.due(0), &Due::Store);
+    assert!(rt; site.ordered(0).is_some());
+    match keep.read() {
+        Ok(kept) => assert!(rt; kept.same(site.kept(0)) != has_more),
+        Err(_) => assert!(rt; false),
+    }
+}
+
+/// So many gear, two controllers, and an empty store for the first of them.
+fn begun(alloc: Global, gear: u32) -> Result<(SiteState, MemoryKeep), Fail> {
+    let keep = store_of((0, 3))?;
+    Ok((site_with(alloc, gear, &[(0, 3), (4, 7)])?, keep))
+}
+
+/// A story ends with all gear found.
+fn ends_well<R: Abort + Wait>(
+    rt: &R,
+    alloc: Global,
+    begun: (SiteState, MemoryKeep),
+    records: &Kept,
+    story: Story,
+) {
+    let (site, keep) = begun;
+    let (site, mut keep) = plays(rt, alloc, site, keep, records, story);
+    has_all(rt, &site, &mut keep);
+}
+
+/// A story ends with a commit due, and a worker goes on to the end.
+fn goes_on<R: Abort + Wait>(
+    rt: &R,
+    alloc: Global,
+    begun: (SiteState, MemoryKeep),
+    records: &Kept,
+    story: Story,
+    has_more: bool,
+) {
+    let (site, keep) = begun;
+    let (site, mut keep) = plays(rt, alloc, site, keep, records, story);
+    is_left(rt, &site, &mut keep, has_more);
+    ends_well(rt, alloc, (site, keep), records, Story::Rest);
+}
+
+/// Two gear take four commits: a reservation and an enrolment of each, in turn.
+#[test]
+fn a_restart_while_a_commit_is_made(rt: HostRuntime) -> Result<(), Fail> {
+    let records = Kept::new(block(0, 3)?);
+    for commit in 0..4 {
+        let site = begun(rt.alloc(), 2)?;
+        ends_well(&rt, rt.alloc(), site, &records, Story::Restart(commit));
+    }
+    Ok(())
+}
+
+#[test]
+fn a_full_queue_is_waited_for(rt: HostRuntime) -> Result<(), Fail> {
+    let records = Kept::new(block(0, 3)?);
+    let site = begun(rt.alloc(), 2)?;
+    ends_well(&rt, rt.alloc(), site, &records, Story::Full);
+    Ok(())
+}
+
+#[test]
+fn a_commit_that_is_due_is_gone_on_with(rt: HostRuntime) -> Result<(), Fail> {
+    let records = Kept::new(block(0, 3)?);
+    for (story, has_more) in [(Story::Untold, true), (Story::Unmade, false)] {
+        let site = begun(rt.alloc(), 2)?;
+        goes_on(&rt, rt.alloc(), site, &records, story, has_more);
+    }
+    Ok(())
+}
+
+#[test]
+fn a_full_queue_lets_the_bus_lapse(rt: HostRuntime) -> Result<(), Fail> {
+    let records = Kept::new(block(0, 3)?);
+    let (site, keep) = begun(rt.alloc(), 1)?;
+    let (site, _keep) = plays(&rt, rt.alloc(), site, keep, &records, Story::Lapse);
+    assert!(rt; site.log().iter().filter(is_lapse).count() == 1);
+    Ok(())
+}
+
+fn is_lapse(event: &&Event) -> bool {
+    matches!(event, Event::Lapsed)
+}
