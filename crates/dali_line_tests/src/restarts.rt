@@ -346,7 +346,11 @@ fn lapses<P0: Ledger, P1: Ledger, P2: Ledger, P3: Ledger, D: Ledger, R: Abort + 
     same(rt, &offered, &64);
     same(rt, &line.ready(rt, &mut driver), &Ready::Full);
     let heard = Input::Heard(Answer::Silence);
-    same(rt, &line.act(rt, &mut port, heard).err(), &Some(Refusal::QueueFull));
+    same(
+        rt,
+        &line.act(rt, &mut port, heard).err(),
+        &Some(Refusal::QueueFull),
+    );
     let (driver, refusal) = Pumper::new(driver, OpenGate).run(rt, line, 2);
     same(rt, &refusal, &None);
     same(rt, &line.next(rt, &mut port), &Some(Input::Lapsed));

@@ -130,10 +130,7 @@ fn two_run<B, K, R>(
     bus: &B,
     directory: &Directory,
     gate: &Holding,
-    workers: (
-        Worker<B::Port, K, &Holding>,
-        Worker<B::Port, K, &Holding>,
-    ),
+    workers: (Worker<B::Port, K, &Holding>, Worker<B::Port, K, &Holding>),
     pumper: Pumper<B::Driver, OpenGate>,
 ) -> Run<B::Port, B::Driver>
 where
