@@ -4,7 +4,8 @@
 //! record, once for each number of calls, from 0 until nothing is stopped. What lies in the files then is looked at
 //! twice: with all that was written, as where a program is stopped, and without what was not flushed yet, as where the
 //! power fails. A store over either reads the records from before, with the new one or without it, and goes on; and the
-//! controller of a site that went down at the commit comes up with what is read.
+//! controller of a site that went down at the commit comes up with both. With the record of the first gear it does so
+//! after each stop.
 
 use super::sites::comes_up;
 use super::tables::TABLE;
@@ -82,6 +83,21 @@ struct Stop<'a> {
     is_done: bool,
 }
 
+impl Stop<'_> {
+    /// Whether the record is of the first gear, so that a site orders it soon.
+    fn is_first(&self) -> bool {
+        self.added.address().number() == 0
+    }
+}
+
+/// A controller that went down at the commit of this record comes up without it and with it.
+fn comes_up_with_both(rt: &impl Abort, alloc: Global, before: &Kept, added: &Record) {
+    assert!(rt; comes_up(alloc, added, before));
+    let mut kept = before.copy();
+    let is_added = kept.fits(added) && kept.add(*added).is_ok();
+    assert!(rt; is_added && comes_up(alloc, added, &kept));
+}
+
 /// The record is committed, after a read.
 fn commits<K: Keep>(keep: &mut K, added: &Record) -> bool {
     match keep.read() {
@@ -99,12 +115,12 @@ fn fills<K: Keep>(keep: &mut K, records: &[Record]) -> bool {
     true
 }
 
-/// Whether a read has the records from before with the new one, or without it; None where it has others, or where a
-/// controller that went down at the commit would not come up with them.
+/// Whether a read has the records from before with the new one, or without it; None where it has others, or where it
+/// is of the first gear and a controller that went down at the commit would not come up with them.
 fn has_added<K: Keep>(keep: &mut K, stop: &Stop<'_>) -> Option<bool> {
     match keep.read() {
         Ok(kept) => {
-            if !comes_up(stop.alloc, stop.added, &kept) {
+            if stop.is_first() && !comes_up(stop.alloc, stop.added, &kept) {
                 None
             } else if kept.is_with(stop.before, stop.added) {
                 Some(true)
@@ -360,6 +376,7 @@ fn commits_over(
     added: &Record,
 ) -> Result<(), Fail> {
     adds_all(before, records)?;
+    comes_up_with_both(rt, alloc, before, added);
     match done_in(alloc, empty(alloc), before.block(), Deed::Fill(records)) {
         Some((begun, true)) => {
             let deed = Deed::Commit(added);

@@ -1,6 +1,5 @@
 //! Queues in slots that are linked by their numbers.
 
-
 use super::values::same;
 use dali_frame::Priority;
 use dali_ring::{NewError, Ring, Sent};

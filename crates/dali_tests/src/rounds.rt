@@ -204,11 +204,6 @@ fn leaves_one_behind<R: Abort>(rt: &R, site: &mut SiteState) -> Result<(), Fail>
 
 #[test]
 fn a_release_leaves_other_reservations(rt: HostRuntime) -> Result<(), Fail> {
-    let mut site = site_of(
-        rt.alloc(),
-        1,
-        &[(0, 3), (4, 7)],
-        &[0x123456, 0x0ABCDE],
-    )?;
+    let mut site = site_of(rt.alloc(), 1, &[(0, 3), (4, 7)], &[0x123456, 0x0ABCDE])?;
     leaves_one_behind(&rt, &mut site)
 }
