@@ -1,14 +1,14 @@
 //! Benches of gear, by the standard's rules and this project's profile.
 
-use super::story::{ends, played, plays, plays_parts};
+use super::story::{all_play, ends, played, plays, plays_parts};
 use dali_replay::ReplayFault;
 use std::process::Abort;
 use std::test::Fail;
 
-#[test]
-fn a_pair_is_broken_by_another_frame(rt: HostRuntime) -> Result<(), Fail> {
-    plays(
-        &rt,
+/// Stories with their names.
+const STORIES: [(&str, &str); 11] = [
+    (
+        "a pair is broken by another frame",
         "bench 1
          draws 123456
          frame A5FF > A5FF silence
@@ -19,7 +19,178 @@ fn a_pair_is_broken_by_another_frame(rt: HostRuntime) -> Result<(), Fail> {
          show > gear 0 on enabled FFFFFF FFFFFF -
          frame A700 > A700 silence
          show > gear 0 on enabled 123456 FFFFFF -",
-    )
+    ),
+    (
+        "a pair is forgotten when the bus is quiet",
+        "bench 1
+         draws
+         frame A5FF > A5FF silence
+         quiet > ok
+         frame A5FF > A5FF silence
+         show > gear 0 on disabled FFFFFF FFFFFF -
+         frame A5FF > A5FF silence
+         show > gear 0 on enabled FFFFFF FFFFFF -
+         expire 0 > ok
+         show > gear 0 on disabled FFFFFF FFFFFF -",
+    ),
+    (
+        // QUERY SHORT ADDRESS hears MASK before, the address after; VERIFY SHORT ADDRESS is YES for it alone.
+        "a short address is programmed by hand",
+        "bench 1
+         draws 123456
+         frame A5FF > A5FF silence
+         frame A5FF > A5FF silence
+         frame A700 > A700 silence
+         frame A700 > A700 silence
+         frame B112 > B112 silence
+         frame B334 > B334 silence
+         frame B556 > B556 silence
+         frame BB00 > BB00 byte FF
+         frame B70B > B70B silence
+         frame BB00 > BB00 byte 0B
+         frame B90B > B90B byte FF
+         frame B90D > B90D silence
+         frame B9FF > B9FF silence
+         frame AB00 > AB00 silence
+         frame A900 > A900 silence
+         frame BB00 > BB00 byte 0B
+         show > gear 0 on withdrawn 123456 123456 5",
+    ),
+    (
+        // It does so also after TERMINATE, where it answers no QUERY SHORT ADDRESS, and after it was off; no other does.
+        "an addressed gear tells its random address",
+        "bench 1
+         draws 123456
+         frame A5FF > A5FF silence
+         frame A5FF > A5FF silence
+         frame A700 > A700 silence
+         frame A700 > A700 silence
+         frame B112 > B112 silence
+         frame B334 > B334 silence
+         frame B556 > B556 silence
+         frame B701 > B701 silence
+         frame A100 > A100 silence
+         frame 01C2 > 01C2 byte 12
+         frame 01C3 > 01C3 byte 34
+         frame 01C4 > 01C4 byte 56
+         frame 03C2 > 03C2 silence
+         frame BB00 > BB00 silence
+         off 0 > ok
+         frame 01C2 > 01C2 silence
+         on 0 > ok
+         frame 01C2 > 01C2 byte 12",
+    ),
+    (
+        // While DISABLED: no search address, no number drawn, no address stored, no withdrawal, no answer.
+        "disabled gear ignore the initialisation",
+        "bench 1
+         draws 123456
+         frame B112 > B112 silence
+         frame B334 > B334 silence
+         frame B556 > B556 silence
+         frame A700 > A700 silence
+         frame A700 > A700 silence
+         frame B70B > B70B silence
+         frame AB00 > AB00 silence
+         frame A900 > A900 silence
+         frame BB00 > BB00 silence
+         frame B90B > B90B silence
+         show > gear 0 on disabled FFFFFF FFFFFF -",
+    ),
+    (
+        "terminate ends the initialisation",
+        "bench 1
+         draws
+         frame A5FF > A5FF silence
+         frame A5FF > A5FF silence
+         frame A101 > A101 silence
+         show > gear 0 on enabled FFFFFF FFFFFF -
+         frame A100 > A100 silence
+         show > gear 0 on disabled FFFFFF FFFFFF -",
+    ),
+    (
+        "a withdrawn gear is enabled again",
+        "bench 1
+         draws
+         frame A500 > A500 silence
+         frame A500 > A500 silence
+         frame AB00 > AB00 silence
+         show > gear 0 on withdrawn FFFFFF FFFFFF -
+         frame A500 > A500 silence
+         frame A500 > A500 silence
+         show > gear 0 on enabled FFFFFF FFFFFF -",
+    ),
+    (
+        // The third RANDOMISE is the first of a pair, so the fourth draws again.
+        "a third equal frame begins a new pair",
+        "bench 1
+         draws 000001 000002
+         frame A5FF > A5FF silence
+         frame A5FF > A5FF silence
+         frame A700 > A700 silence
+         frame A700 > A700 silence
+         frame A700 > A700 silence
+         show > gear 0 on enabled 000001 FFFFFF -
+         frame A700 > A700 silence
+         show > gear 0 on enabled 000002 FFFFFF -",
+    ),
+    (
+        "power brings back the addresses alone",
+        "bench 1
+         draws 123456
+         frame A5FF > A5FF silence
+         frame A5FF > A5FF silence
+         frame A700 > A700 silence
+         frame A700 > A700 silence
+         frame B112 > B112 silence
+         frame B334 > B334 silence
+         frame B556 > B556 silence
+         frame B70B > B70B silence
+         frame A700 > A700 silence
+         off 0 > ok
+         frame A700 > A700 silence
+         show > gear 0 off enabled 123456 123456 5
+         on 0 > ok
+         show > gear 0 on disabled 123456 FFFFFF 5
+         frame A5FF > A5FF silence
+         frame A700 > A700 silence
+         frame A5FF > A5FF silence
+         on 0 > ok
+         frame A5FF > A5FF silence
+         show > gear 0 on disabled 123456 FFFFFF 5",
+    ),
+    (
+        "unknown gear is refused",
+        "bench 1
+         draws
+         off 1 > refused 1 UnknownGear
+         on 1 > refused 1 UnknownGear
+         expire 128 > refused 1 UnknownGear
+         off 1000000 > refused 1 UnknownGear
+         show > gear 0 on disabled FFFFFF FFFFFF -",
+    ),
+    (
+        // Two gear, one number: no gear takes the frame, at each repeat.
+        "spent draws change nothing",
+        "bench 2
+         draws 123456
+         frame A5FF > A5FF silence
+         frame A5FF > A5FF silence
+         frame A700 > A700 silence
+         frame A700 > refused 6 DrawsSpent
+         frame A700 > refused 6 DrawsSpent
+         show > gear 0 on enabled FFFFFF FFFFFF -
+         > gear 1 on enabled FFFFFF FFFFFF -
+         off 1 > ok
+         frame A700 > A700 silence
+         show > gear 0 on enabled 123456 FFFFFF -
+         > gear 1 off enabled FFFFFF FFFFFF -",
+    ),
+];
+
+#[test]
+fn stories(rt: HostRuntime) -> Result<(), Fail> {
+    all_play(&rt, &STORIES)
 }
 
 #[test]
@@ -47,78 +218,6 @@ fn gear_that_never_drew_a_number_is_found_under_the_mask(rt: HostRuntime) -> Res
 }
 
 #[test]
-fn a_pair_is_forgotten_when_the_bus_is_quiet(rt: HostRuntime) -> Result<(), Fail> {
-    plays(
-        &rt,
-        "bench 1
-         draws
-         frame A5FF > A5FF silence
-         quiet > ok
-         frame A5FF > A5FF silence
-         show > gear 0 on disabled FFFFFF FFFFFF -
-         frame A5FF > A5FF silence
-         show > gear 0 on enabled FFFFFF FFFFFF -
-         expire 0 > ok
-         show > gear 0 on disabled FFFFFF FFFFFF -",
-    )
-}
-
-#[test]
-fn a_short_address_is_programmed_by_hand(rt: HostRuntime) -> Result<(), Fail> {
-    // QUERY SHORT ADDRESS hears MASK before, the address after; VERIFY SHORT ADDRESS is YES for it alone.
-    plays(
-        &rt,
-        "bench 1
-         draws 123456
-         frame A5FF > A5FF silence
-         frame A5FF > A5FF silence
-         frame A700 > A700 silence
-         frame A700 > A700 silence
-         frame B112 > B112 silence
-         frame B334 > B334 silence
-         frame B556 > B556 silence
-         frame BB00 > BB00 byte FF
-         frame B70B > B70B silence
-         frame BB00 > BB00 byte 0B
-         frame B90B > B90B byte FF
-         frame B90D > B90D silence
-         frame B9FF > B9FF silence
-         frame AB00 > AB00 silence
-         frame A900 > A900 silence
-         frame BB00 > BB00 byte 0B
-         show > gear 0 on withdrawn 123456 123456 5",
-    )
-}
-
-#[test]
-fn an_addressed_gear_tells_its_random_address(rt: HostRuntime) -> Result<(), Fail> {
-    // It does so also after TERMINATE, where it answers no QUERY SHORT ADDRESS, and after it was off; no other does.
-    plays(
-        &rt,
-        "bench 1
-         draws 123456
-         frame A5FF > A5FF silence
-         frame A5FF > A5FF silence
-         frame A700 > A700 silence
-         frame A700 > A700 silence
-         frame B112 > B112 silence
-         frame B334 > B334 silence
-         frame B556 > B556 silence
-         frame B701 > B701 silence
-         frame A100 > A100 silence
-         frame 01C2 > 01C2 byte 12
-         frame 01C3 > 01C3 byte 34
-         frame 01C4 > 01C4 byte 56
-         frame 03C2 > 03C2 silence
-         frame BB00 > BB00 silence
-         off 0 > ok
-         frame 01C2 > 01C2 silence
-         on 0 > ok
-         frame 01C2 > 01C2 byte 12",
-    )
-}
-
-#[test]
 fn an_erased_address_is_gone_and_a_malformed_byte_changes_nothing(
     rt: HostRuntime,
 ) -> Result<(), Fail> {
@@ -134,42 +233,6 @@ fn an_erased_address_is_gone_and_a_malformed_byte_changes_nothing(
          show > gear 0 on enabled FFFFFF FFFFFF 5
          frame B7FF > B7FF silence
          show > gear 0 on enabled FFFFFF FFFFFF -",
-    )
-}
-
-#[test]
-fn disabled_gear_ignore_the_initialisation(rt: HostRuntime) -> Result<(), Fail> {
-    // While DISABLED: no search address, no number drawn, no address stored, no withdrawal, no answer.
-    plays(
-        &rt,
-        "bench 1
-         draws 123456
-         frame B112 > B112 silence
-         frame B334 > B334 silence
-         frame B556 > B556 silence
-         frame A700 > A700 silence
-         frame A700 > A700 silence
-         frame B70B > B70B silence
-         frame AB00 > AB00 silence
-         frame A900 > A900 silence
-         frame BB00 > BB00 silence
-         frame B90B > B90B silence
-         show > gear 0 on disabled FFFFFF FFFFFF -",
-    )
-}
-
-#[test]
-fn terminate_ends_the_initialisation(rt: HostRuntime) -> Result<(), Fail> {
-    plays(
-        &rt,
-        "bench 1
-         draws
-         frame A5FF > A5FF silence
-         frame A5FF > A5FF silence
-         frame A101 > A101 silence
-         show > gear 0 on enabled FFFFFF FFFFFF -
-         frame A100 > A100 silence
-         show > gear 0 on disabled FFFFFF FFFFFF -",
     )
 }
 
@@ -215,104 +278,6 @@ fn initialise_speaks_to_some_gear(rt: HostRuntime) -> Result<(), Fail> {
         initialises(&rt, initialise, first, second)?;
     }
     Ok(())
-}
-
-#[test]
-fn a_withdrawn_gear_is_enabled_again(rt: HostRuntime) -> Result<(), Fail> {
-    plays(
-        &rt,
-        "bench 1
-         draws
-         frame A500 > A500 silence
-         frame A500 > A500 silence
-         frame AB00 > AB00 silence
-         show > gear 0 on withdrawn FFFFFF FFFFFF -
-         frame A500 > A500 silence
-         frame A500 > A500 silence
-         show > gear 0 on enabled FFFFFF FFFFFF -",
-    )
-}
-
-#[test]
-fn a_third_equal_frame_begins_a_new_pair(rt: HostRuntime) -> Result<(), Fail> {
-    // The third RANDOMISE is the first of a pair, so the fourth draws again.
-    plays(
-        &rt,
-        "bench 1
-         draws 000001 000002
-         frame A5FF > A5FF silence
-         frame A5FF > A5FF silence
-         frame A700 > A700 silence
-         frame A700 > A700 silence
-         frame A700 > A700 silence
-         show > gear 0 on enabled 000001 FFFFFF -
-         frame A700 > A700 silence
-         show > gear 0 on enabled 000002 FFFFFF -",
-    )
-}
-
-#[test]
-fn power_brings_back_the_addresses_alone(rt: HostRuntime) -> Result<(), Fail> {
-    plays(
-        &rt,
-        "bench 1
-         draws 123456
-         frame A5FF > A5FF silence
-         frame A5FF > A5FF silence
-         frame A700 > A700 silence
-         frame A700 > A700 silence
-         frame B112 > B112 silence
-         frame B334 > B334 silence
-         frame B556 > B556 silence
-         frame B70B > B70B silence
-         frame A700 > A700 silence
-         off 0 > ok
-         frame A700 > A700 silence
-         show > gear 0 off enabled 123456 123456 5
-         on 0 > ok
-         show > gear 0 on disabled 123456 FFFFFF 5
-         frame A5FF > A5FF silence
-         frame A700 > A700 silence
-         frame A5FF > A5FF silence
-         on 0 > ok
-         frame A5FF > A5FF silence
-         show > gear 0 on disabled 123456 FFFFFF 5",
-    )
-}
-
-#[test]
-fn unknown_gear_is_refused(rt: HostRuntime) -> Result<(), Fail> {
-    plays(
-        &rt,
-        "bench 1
-         draws
-         off 1 > refused 1 UnknownGear
-         on 1 > refused 1 UnknownGear
-         expire 128 > refused 1 UnknownGear
-         off 1000000 > refused 1 UnknownGear
-         show > gear 0 on disabled FFFFFF FFFFFF -",
-    )
-}
-
-#[test]
-fn spent_draws_change_nothing(rt: HostRuntime) -> Result<(), Fail> {
-    // Two gear, one number: no gear takes the frame, at each repeat.
-    plays(
-        &rt,
-        "bench 2
-         draws 123456
-         frame A5FF > A5FF silence
-         frame A5FF > A5FF silence
-         frame A700 > A700 silence
-         frame A700 > refused 6 DrawsSpent
-         frame A700 > refused 6 DrawsSpent
-         show > gear 0 on enabled FFFFFF FFFFFF -
-         > gear 1 on enabled FFFFFF FFFFFF -
-         off 1 > ok
-         frame A700 > A700 silence
-         show > gear 0 on enabled 123456 FFFFFF -
-         > gear 1 off enabled FFFFFF FFFFFF -",
-    )
 }
 
 /// The reports of a bench of 128 gear that are shown, and of a frame that none of them answers.

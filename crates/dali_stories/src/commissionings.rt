@@ -1,12 +1,12 @@
 //! Whole commissionings, undisturbed: of one controller, of several at once, and of several one after the other.
 
-use super::story::{plays, plays_parts};
+use super::story::{all_play, plays, plays_parts};
 use std::test::Fail;
 
-#[test]
-fn one_controller_gives_one_gear_an_address(rt: HostRuntime) -> Result<(), Fail> {
-    plays(
-        &rt,
+/// Stories with their names.
+const STORIES: [(&str, &str); 11] = [
+    (
+        "one controller gives one gear an address",
         "site 1 0-3
          draws 123456
          run 1000 > 0: commit reserve 0 123456
@@ -15,15 +15,11 @@ fn one_controller_gives_one_gear_an_address(rt: HostRuntime) -> Result<(), Fail>
          > ran 121
          show > gear 0 on disabled 123456 FFFFFE 0
          > table 0: 0=123456",
-    )
-}
-
-#[test]
-fn commissioning_opens_and_asks_for_the_largest_number_first(rt: HostRuntime) -> Result<(), Fail> {
-    // TERMINATE, INITIALISE and RANDOMISE twice, then COMPARE under FFFFFE. A transaction begins at 3 and goes
-    // on at 1.
-    plays(
-        &rt,
+    ),
+    (
+        // TERMINATE, INITIALISE and RANDOMISE twice, then COMPARE under FFFFFE. A transaction begins at 3 and goes
+        // on at 1.
+        "commissioning opens and asks for the largest number first",
         "site 1 0-3
          draws 123456
          go 0 > 0: put 3 A100
@@ -44,25 +40,17 @@ fn commissioning_opens_and_asks_for_the_largest_number_first(rt: HostRuntime) ->
          pump > 0: sent B5FE silence
          go 0 > 0: put 1 A900
          pump > 0: sent A900 byte FF",
-    )
-}
-
-#[test]
-fn an_empty_bus_is_all_found(rt: HostRuntime) -> Result<(), Fail> {
-    plays(
-        &rt,
+    ),
+    (
+        "an empty bus is all found",
         "site 1 0-3
          draws
          off 0 > ok
          run 1000 > 0: done all-found
          > ran 10",
-    )
-}
-
-#[test]
-fn both_ends_of_the_range_are_found(rt: HostRuntime) -> Result<(), Fail> {
-    plays(
-        &rt,
+    ),
+    (
+        "both ends of the range are found",
         "site 2 0-1
          draws 000000 FFFFFE
          run 1000 > 0: commit reserve 0 000000
@@ -74,13 +62,9 @@ fn both_ends_of_the_range_are_found(rt: HostRuntime) -> Result<(), Fail> {
          show > gear 0 on disabled 000000 FFFFFE 0
          > gear 1 on disabled FFFFFE FFFFFE 1
          > table 0: 0=000000 1=FFFFFE",
-    )
-}
-
-#[test]
-fn two_controllers_name_all_gear_alike(rt: HostRuntime) -> Result<(), Fail> {
-    plays(
-        &rt,
+    ),
+    (
+        "two controllers name all gear alike",
         "site 3 0-2 3-5
          draws 000001 000002 000003 300000 100000 200000
          run 1000 > 0: commit reserve 0 100000
@@ -106,15 +90,11 @@ fn two_controllers_name_all_gear_alike(rt: HostRuntime) -> Result<(), Fail> {
          > gear 2 on disabled 200000 FFFFFE 1
          > table 0: 0=100000 1=200000 2=300000
          > table 1: 0=100000 1=200000 2=300000",
-    )
-}
-
-#[test]
-fn an_opening_between_visits_leaves_a_reservation(rt: HostRuntime) -> Result<(), Fail> {
-    // Controller 1 opens after controller 0 has reserved address 0 for 123456: the gear draws 0ABCDE, and that
-    // reservation stays, since nobody finds who drew 123456. The one for 0ABCDE is released.
-    plays(
-        &rt,
+    ),
+    (
+        // Controller 1 opens after controller 0 has reserved address 0 for 123456: the gear draws 0ABCDE, and that
+        // reservation stays, since nobody finds who drew 123456. The one for 0ABCDE is released.
+        "an opening between visits leaves a reservation",
         "site 1 0-3 4-7
          draws 123456 0ABCDE
          down 1 > ok
@@ -130,13 +110,9 @@ fn an_opening_between_visits_leaves_a_reservation(rt: HostRuntime) -> Result<(),
          > 1: done all-found
          > 0: done all-found
          > ran 239",
-    )
-}
-
-#[test]
-fn a_block_that_is_too_small_leaves_gear(rt: HostRuntime) -> Result<(), Fail> {
-    plays(
-        &rt,
+    ),
+    (
+        "a block that is too small leaves gear",
         "site 2 7-7
          draws 100000 200000
          run 1000 > 0: commit reserve 7 100000
@@ -146,13 +122,9 @@ fn a_block_that_is_too_small_leaves_gear(rt: HostRuntime) -> Result<(), Fail> {
          show > gear 0 on disabled 100000 200000 7
          > gear 1 on disabled 200000 200000 -
          > table 0: 7=100000",
-    )
-}
-
-#[test]
-fn a_run_ends_where_no_number_is_left(rt: HostRuntime) -> Result<(), Fail> {
-    plays(
-        &rt,
+    ),
+    (
+        "a run ends where no number is left",
         "site 1 0-3
          draws
          run 1000 > refused 6 DrawsSpent
@@ -162,7 +134,80 @@ fn a_run_ends_where_no_number_is_left(rt: HostRuntime) -> Result<(), Fail> {
          pump > 0: sent A700 silence
          run 1000 > 0: done all-found
          > ran 5",
-    )
+    ),
+    (
+        // The gear is withdrawn and enrolled. A gear that answered all the same would be found again and again.
+        "compare is not answered by withdrawn gear",
+        "site 1 0-3
+         draws 123456
+         run 118 > 0: commit reserve 0 123456
+         > 0: commit enrol 0 123456
+         > ran 116
+         go 0 > 0: put 3 B1FF
+         pump > 0: sent B1FF silence
+         run 4 > ran 4
+         show > gear 0 on disabled 123456 FFFFFE 0
+         > table 0: 0=123456",
+    ),
+    (
+        // Controller 0 has one address and closes with TERMINATE, which disables all gear. Controller 1 then hears
+        // nobody and ends with all-found, though two gear have no address. Once more alone, it finds them; its address 1
+        // stays reserved for 200002, which nobody has any more.
+        "the first to close ends the initialisation for all",
+        "site 3 0-0 1-8
+         draws 100001 200001 300001 100002 200002 300002 100003 200003 300003
+         run 1000 > 0: commit reserve 0 100002
+         > 1: commit reserve 1 100002
+         > 0: commit enrol 0 100002
+         > 1: commit enrol 0 100002
+         > 1: commit release 1 100002
+         > 1: commit reserve 1 200002
+         > 0: done block-full
+         > 1: done all-found
+         > ran 448
+         show > gear 0 on disabled 100002 200002 0
+         > gear 1 on disabled 200002 200002 -
+         > gear 2 on disabled 300002 200002 -
+         > table 0: 0=100002
+         > table 1: 0=100002
+         down 1 > ok
+         up 1 > ok
+         run 1000 > 1: commit reserve 2 100003
+         > 1: commit enrol 2 100003
+         > 1: commit reserve 3 200003
+         > 1: commit enrol 3 200003
+         > 1: done all-found
+         > ran 239
+         show > gear 0 on disabled 100002 200002 0
+         > gear 1 on disabled 100003 FFFFFE 2
+         > gear 2 on disabled 200003 FFFFFE 3
+         > table 0: 0=100002
+         > table 1: 0=100002 2=100003 3=200003",
+    ),
+    (
+        // Nobody owns the bus before the first frame, so arc power at 2 goes before TERMINATE at 3; then the
+        // owner's frames go first.
+        "arc power goes between transactions",
+        "site 1 0-3
+         draws 123456
+         go 0 > 0: put 3 A100
+         arc 0 FE80 > 0: put 2 FE80
+         arc 0 0000 > 0: put 2 0000
+         pump > 0: sent FE80 silence
+         pump > 0: sent 0000 silence
+         pump > 0: sent A100 silence
+         go 0 > 0: put 1 A5FF
+         arc 0 FFFE > refused 4 NotArc
+         pump > 0: sent A5FF silence
+         arc 0 fe81 > 0: put 2 FE81
+         go 0 > 0: put 1 A5FF
+         pump > 0: sent A5FF silence",
+    ),
+];
+
+#[test]
+fn stories(rt: HostRuntime) -> Result<(), Fail> {
+    all_play(&rt, &STORIES)
 }
 
 #[test]
@@ -182,24 +227,6 @@ fn a_full_queue_takes_no_more_requests(rt: HostRuntime) -> Result<(), Fail> {
                 1,
             ),
         ],
-    )
-}
-
-#[test]
-fn compare_is_not_answered_by_withdrawn_gear(rt: HostRuntime) -> Result<(), Fail> {
-    // The gear is withdrawn and enrolled. A gear that answered all the same would be found again and again.
-    plays(
-        &rt,
-        "site 1 0-3
-         draws 123456
-         run 118 > 0: commit reserve 0 123456
-         > 0: commit enrol 0 123456
-         > ran 116
-         go 0 > 0: put 3 B1FF
-         pump > 0: sent B1FF silence
-         run 4 > ran 4
-         show > gear 0 on disabled 123456 FFFFFE 0
-         > table 0: 0=123456",
     )
 }
 
@@ -233,45 +260,6 @@ fn the_opening_of_another_controller_begins_a_commissioning_anew(
          > gear 1 on disabled 000004 FFFFFE 5
          > table 0: 4=000003 5=000004
          > table 1: 4=000003 5=000004",
-    )
-}
-
-#[test]
-fn the_first_to_close_ends_the_initialisation_for_all(rt: HostRuntime) -> Result<(), Fail> {
-    // Controller 0 has one address and closes with TERMINATE, which disables all gear. Controller 1 then hears
-    // nobody and ends with all-found, though two gear have no address. Once more alone, it finds them; its address 1
-    // stays reserved for 200002, which nobody has any more.
-    plays(
-        &rt,
-        "site 3 0-0 1-8
-         draws 100001 200001 300001 100002 200002 300002 100003 200003 300003
-         run 1000 > 0: commit reserve 0 100002
-         > 1: commit reserve 1 100002
-         > 0: commit enrol 0 100002
-         > 1: commit enrol 0 100002
-         > 1: commit release 1 100002
-         > 1: commit reserve 1 200002
-         > 0: done block-full
-         > 1: done all-found
-         > ran 448
-         show > gear 0 on disabled 100002 200002 0
-         > gear 1 on disabled 200002 200002 -
-         > gear 2 on disabled 300002 200002 -
-         > table 0: 0=100002
-         > table 1: 0=100002
-         down 1 > ok
-         up 1 > ok
-         run 1000 > 1: commit reserve 2 100003
-         > 1: commit enrol 2 100003
-         > 1: commit reserve 3 200003
-         > 1: commit enrol 3 200003
-         > 1: done all-found
-         > ran 239
-         show > gear 0 on disabled 100002 200002 0
-         > gear 1 on disabled 100003 FFFFFE 2
-         > gear 2 on disabled 200003 FFFFFE 3
-         > table 0: 0=100002
-         > table 1: 0=100002 2=100003 3=200003",
     )
 }
 
@@ -380,28 +368,5 @@ fn controllers_one_after_the_other_address_all_gear(rt: HostRuntime) -> Result<(
          > table 1: 2=612E76 3=7311D8
          > table 2: 4=18072E 5=35BF99
          > table 3: 6=0741C7 7=E4B06C",
-    )
-}
-
-#[test]
-fn arc_power_goes_between_transactions(rt: HostRuntime) -> Result<(), Fail> {
-    // Nobody owns the bus before the first frame, so arc power at 2 goes before TERMINATE at 3; then the
-    // owner's frames go first.
-    plays(
-        &rt,
-        "site 1 0-3
-         draws 123456
-         go 0 > 0: put 3 A100
-         arc 0 FE80 > 0: put 2 FE80
-         arc 0 0000 > 0: put 2 0000
-         pump > 0: sent FE80 silence
-         pump > 0: sent 0000 silence
-         pump > 0: sent A100 silence
-         go 0 > 0: put 1 A5FF
-         arc 0 FFFE > refused 4 NotArc
-         pump > 0: sent A5FF silence
-         arc 0 fe81 > 0: put 2 FE81
-         go 0 > 0: put 1 A5FF
-         pump > 0: sent A5FF silence",
     )
 }

@@ -1,12 +1,12 @@
 //! When a controller gives up: transactions that are lost and searches that lead to nobody, in a row.
 
-use super::story::{plays, plays_parts};
+use super::story::{all_play, plays_parts};
 use std::test::Fail;
 
-#[test]
-fn the_eighth_destroyed_frame_ends_the_commissioning(rt: HostRuntime) -> Result<(), Fail> {
-    plays(
-        &rt,
+/// Stories with their names.
+const STORIES: [(&str, &str); 3] = [
+    (
+        "the eighth destroyed frame ends the commissioning",
         "site 1 0-3
          draws
          go 0 > 0: put 3 A100
@@ -26,15 +26,11 @@ fn the_eighth_destroyed_frame_ends_the_commissioning(rt: HostRuntime) -> Result<
          go 0 > 0: put 3 A100
          pump destroyed - > 0: destroyed A100
          go 0 > 0: done gave-up",
-    )
-}
-
-#[test]
-fn an_answer_by_noise_sends_the_search_where_nobody_is(rt: HostRuntime) -> Result<(), Fail> {
-    // On an empty bus the damaged answer to the first COMPARE is YES: the search ends at FFFFFE, and the visit
-    // is silent.
-    plays(
-        &rt,
+    ),
+    (
+        // On an empty bus the damaged answer to the first COMPARE is YES: the search ends at FFFFFE, and the visit
+        // is silent.
+        "an answer by noise sends the search where nobody is",
         "site 1 0-3
          draws 123456
          off 0 > ok
@@ -43,14 +39,10 @@ fn an_answer_by_noise_sends_the_search_where_nobody_is(rt: HostRuntime) -> Resul
          pump noise > 0: sent A900 damaged
          run 1000 > 0: done all-found
          > ran 101",
-    )
-}
-
-#[test]
-fn a_second_query_without_answer_is_a_silent_search(rt: HostRuntime) -> Result<(), Fail> {
-    // The gear has its address, which the next visit hears.
-    plays(
-        &rt,
+    ),
+    (
+        // The gear has its address, which the next visit hears.
+        "a second query without answer is a silent search",
         "site 1 0-3
          draws 123456
          run 115 > 0: commit reserve 0 123456
@@ -61,7 +53,12 @@ fn a_second_query_without_answer_is_a_silent_search(rt: HostRuntime) -> Result<(
          run 1000 > 0: commit enrol 0 123456
          > 0: done all-found
          > ran 110",
-    )
+    ),
+];
+
+#[test]
+fn stories(rt: HostRuntime) -> Result<(), Fail> {
+    all_play(&rt, &STORIES)
 }
 
 /// A search where nobody is: noise answers its first COMPARE, and it ends at FFFFFE.

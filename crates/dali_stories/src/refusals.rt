@@ -1,13 +1,13 @@
 //! What a site refuses: each refusal that a line can report, which comes first where two causes hold, and what is
 //! left of it.
 
-use super::story::{plays, plays_parts};
+use super::story::{all_play, plays_parts};
 use std::test::Fail;
 
-#[test]
-fn a_controller_that_is_not_there_is_unknown(rt: HostRuntime) -> Result<(), Fail> {
-    plays(
-        &rt,
+/// Stories with their names.
+const STORIES: [(&str, &str); 8] = [
+    (
+        "a controller that is not there is unknown",
         "site 1 0-3 4-7
          draws
          go 2 > refused 1 UnknownController
@@ -25,13 +25,9 @@ fn a_controller_that_is_not_there_is_unknown(rt: HostRuntime) -> Result<(), Fail
          show > gear 0 on disabled FFFFFF FFFFFF -
          > table 0:
          > table 1:",
-    )
-}
-
-#[test]
-fn gear_that_is_not_there_is_unknown(rt: HostRuntime) -> Result<(), Fail> {
-    plays(
-        &rt,
+    ),
+    (
+        "gear that is not there is unknown",
         "site 2 0-3
          draws
          off 2 > refused 1 UnknownGear
@@ -45,13 +41,9 @@ fn gear_that_is_not_there_is_unknown(rt: HostRuntime) -> Result<(), Fail> {
          show > gear 0 on disabled FFFFFF FFFFFF -
          > gear 1 on disabled FFFFFF FFFFFF -
          > table 0:",
-    )
-}
-
-#[test]
-fn a_controller_that_is_down_does_nothing(rt: HostRuntime) -> Result<(), Fail> {
-    plays(
-        &rt,
+    ),
+    (
+        "a controller that is down does nothing",
         "site 1 0-3 4-7
          draws 123456
          down 0 > ok
@@ -65,13 +57,9 @@ fn a_controller_that_is_down_does_nothing(rt: HostRuntime) -> Result<(), Fail> {
          go 1 > 1: put 3 A100
          up 0 > ok
          go 0 > 0: put 3 A100",
-    )
-}
-
-#[test]
-fn a_controller_that_is_up_does_not_come_up(rt: HostRuntime) -> Result<(), Fail> {
-    plays(
-        &rt,
+    ),
+    (
+        "a controller that is up does not come up",
         "site 1 0-3
          draws 123456
          up 0 > refused 2 ControllerUp
@@ -81,15 +69,11 @@ fn a_controller_that_is_up_does_not_come_up(rt: HostRuntime) -> Result<(), Fail>
          up 0 > ok
          up 0 > refused 2 ControllerUp
          go 0 > 0: put 3 A100",
-    )
-}
-
-#[test]
-fn what_is_not_due_is_refused(rt: HostRuntime) -> Result<(), Fail> {
-    // At the start, while a frame is outstanding, when it was heard, at the commit of a record that the store has, and
-    // after the end.
-    plays(
-        &rt,
+    ),
+    (
+        // At the start, while a frame is outstanding, when it was heard, at the commit of a record that the store has, and
+        // after the end.
+        "what is not due is refused",
         "site 1 0-3
          draws 123456
          store 0 > refused 3 NotDue
@@ -116,14 +100,10 @@ fn what_is_not_due_is_refused(rt: HostRuntime) -> Result<(), Fail> {
          store 0 > refused 3 NotDue
          fail 0 > refused 3 NotDue
          pump > idle",
-    )
-}
-
-#[test]
-fn nothing_is_due_after_a_halt(rt: HostRuntime) -> Result<(), Fail> {
-    // A controller that has halted may still ask for arc power.
-    plays(
-        &rt,
+    ),
+    (
+        // A controller that has halted may still ask for arc power.
+        "nothing is due after a halt",
         "site 1 0-3
          draws 123456
          run 110 > 0: commit reserve 0 123456
@@ -137,13 +117,9 @@ fn nothing_is_due_after_a_halt(rt: HostRuntime) -> Result<(), Fail> {
          arc 0 FE80 > 0: put 2 FE80
          pump > 0: sent FE80 silence
          down 0 > ok",
-    )
-}
-
-#[test]
-fn after_a_lapse_its_owner_is_told_that_alone(rt: HostRuntime) -> Result<(), Fail> {
-    plays(
-        &rt,
+    ),
+    (
+        "after a lapse its owner is told that alone",
         "site 1 0-3
          draws 123456
          run 3 > ran 3
@@ -155,13 +131,9 @@ fn after_a_lapse_its_owner_is_told_that_alone(rt: HostRuntime) -> Result<(), Fai
          go 0 > refused 3 NotDue
          pump > 0: sent A100 silence
          go 0 > 0: put 1 A5FF",
-    )
-}
-
-#[test]
-fn only_arc_power_may_be_asked_for(rt: HostRuntime) -> Result<(), Fail> {
-    plays(
-        &rt,
+    ),
+    (
+        "only arc power may be asked for",
         "site 1 0-3
          draws
          arc 0 A100 > refused 4 NotArc
@@ -172,7 +144,12 @@ fn only_arc_power_may_be_asked_for(rt: HostRuntime) -> Result<(), Fail> {
          arc 0 FE80 > 0: put 2 FE80
          arc 0 0000 > 0: put 2 0000
          arc 0 AAAA > 0: put 2 AAAA",
-    )
+    ),
+];
+
+#[test]
+fn stories(rt: HostRuntime) -> Result<(), Fail> {
+    all_play(&rt, &STORIES)
 }
 
 #[test]

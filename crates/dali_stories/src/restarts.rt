@@ -1,13 +1,13 @@
 //! Controllers that go down and come up, and records that are kept, or not, before they do.
 
-use super::story::{plays, plays_parts};
+use super::story::{all_play, plays, plays_parts};
 use std::test::Fail;
 
-#[test]
-fn a_commit_before_a_restart_is_gone_on_from(rt: HostRuntime) -> Result<(), Fail> {
-    // The record is in the store, and the controller is not told before it goes down.
-    plays(
-        &rt,
+/// Stories with their names.
+const STORIES: [(&str, &str); 7] = [
+    (
+        // The record is in the store, and the controller is not told before it goes down.
+        "a commit before a restart is gone on from",
         "site 1 0-3
          draws 123456 654321
          run 110 > 0: commit reserve 0 123456
@@ -20,13 +20,9 @@ fn a_commit_before_a_restart_is_gone_on_from(rt: HostRuntime) -> Result<(), Fail
          > ran 17
          show > gear 0 on disabled 123456 123456 0
          > table 0: 0=123456",
-    )
-}
-
-#[test]
-fn a_controller_that_comes_up_is_at_its_start(rt: HostRuntime) -> Result<(), Fail> {
-    plays(
-        &rt,
+    ),
+    (
+        "a controller that comes up is at its start",
         "site 1 0-3
          draws 123456
          store 0 > refused 3 NotDue
@@ -35,14 +31,10 @@ fn a_controller_that_comes_up_is_at_its_start(rt: HostRuntime) -> Result<(), Fai
          go 0 > refused 2 ControllerDown
          up 0 > ok
          go 0 > 0: put 3 A100",
-    )
-}
-
-#[test]
-fn a_failed_commit_halts_and_a_restart_begins_anew(rt: HostRuntime) -> Result<(), Fail> {
-    // The gear, which has no address yet, draws 654321 at the second opening.
-    plays(
-        &rt,
+    ),
+    (
+        // The gear, which has no address yet, draws 654321 at the second opening.
+        "a failed commit halts and a restart begins anew",
         "site 1 0-3
          draws 123456 654321
          run 110 > 0: commit reserve 0 123456
@@ -54,13 +46,9 @@ fn a_failed_commit_halts_and_a_restart_begins_anew(rt: HostRuntime) -> Result<()
          > 0: commit enrol 0 654321
          > 0: done all-found
          > ran 121",
-    )
-}
-
-#[test]
-fn a_record_that_was_kept_is_gone_on_from_after_a_halt(rt: HostRuntime) -> Result<(), Fail> {
-    plays(
-        &rt,
+    ),
+    (
+        "a record that was kept is gone on from after a halt",
         "site 1 0-3
          draws 123456
          run 110 > 0: commit reserve 0 123456
@@ -72,14 +60,10 @@ fn a_record_that_was_kept_is_gone_on_from_after_a_halt(rt: HostRuntime) -> Resul
          run 1000 > 0: commit enrol 0 123456
          > 0: done all-found
          > ran 17",
-    )
-}
-
-#[test]
-fn a_table_has_an_entry_once_its_controller_is_told(rt: HostRuntime) -> Result<(), Fail> {
-    // The enrolment is in the store before the controller goes down, and in the table when it comes up.
-    plays(
-        &rt,
+    ),
+    (
+        // The enrolment is in the store before the controller goes down, and in the table when it comes up.
+        "a table has an entry once its controller is told",
         "site 1 0-3
          draws 123456
          run 118 > 0: commit reserve 0 123456
@@ -100,7 +84,57 @@ fn a_table_has_an_entry_once_its_controller_is_told(rt: HostRuntime) -> Result<(
          > ran 10
          show > gear 0 on disabled 123456 123456 0
          > table 0: 0=123456",
-    )
+    ),
+    (
+        "a controller that goes down gives up the bus",
+        "site 1 0-3 4-7
+         draws 123456 654321
+         go 0 > 0: put 3 A100
+         pump > 0: sent A100 silence
+         go 1 > 1: put 3 A100
+         pump > idle
+         go 0 > 0: put 1 A5FF
+         down 0 > ok
+         pump > 1: sent A100 silence
+         lapse > lapse 1
+         up 0 > ok
+         lapse > lapse -",
+    ),
+    (
+        "a controller comes up with as many records as it has",
+        "site 3 0-3
+         draws 100000 200000 300000 110000 210000 310000 120000 220000 320000 130000 230000 330000
+         down 0 > ok
+         up 0 > ok
+         run 110 > 0: commit reserve 0 100000
+         > ran 109
+         down 0 > ok
+         up 0 > ok
+         run 130 > 0: commit reserve 0 110000
+         > 0: commit enrol 0 110000
+         > ran 128
+         down 0 > ok
+         up 0 > ok
+         run 1000 > 0: commit reserve 1 120000
+         > 0: commit enrol 1 120000
+         > 0: commit reserve 2 220000
+         > 0: commit enrol 2 220000
+         > 0: done all-found
+         > ran 232
+         down 0 > ok
+         up 0 > ok
+         run 1000 > 0: done all-found
+         > ran 10
+         show > gear 0 on disabled 110000 3FFFFF 0
+         > gear 1 on disabled 120000 FFFFFE 1
+         > gear 2 on disabled 220000 FFFFFE 2
+         > table 0: 0=110000 1=120000 2=220000",
+    ),
+];
+
+#[test]
+fn stories(rt: HostRuntime) -> Result<(), Fail> {
+    all_play(&rt, &STORIES)
 }
 
 #[test]
@@ -129,60 +163,7 @@ fn a_frame_that_waits_when_its_controller_goes_down_is_never_sent(
     )
 }
 
-#[test]
-fn a_controller_that_goes_down_gives_up_the_bus(rt: HostRuntime) -> Result<(), Fail> {
-    plays(
-        &rt,
-        "site 1 0-3 4-7
-         draws 123456 654321
-         go 0 > 0: put 3 A100
-         pump > 0: sent A100 silence
-         go 1 > 1: put 3 A100
-         pump > idle
-         go 0 > 0: put 1 A5FF
-         down 0 > ok
-         pump > 1: sent A100 silence
-         lapse > lapse 1
-         up 0 > ok
-         lapse > lapse -",
-    )
-}
-
 /// No memory is refused to a controller that comes up, however many records it has: none, one pair, and three.
-#[test]
-fn a_controller_comes_up_with_as_many_records_as_it_has(rt: HostRuntime) -> Result<(), Fail> {
-    plays(
-        &rt,
-        "site 3 0-3
-         draws 100000 200000 300000 110000 210000 310000 120000 220000 320000 130000 230000 330000
-         down 0 > ok
-         up 0 > ok
-         run 110 > 0: commit reserve 0 100000
-         > ran 109
-         down 0 > ok
-         up 0 > ok
-         run 130 > 0: commit reserve 0 110000
-         > 0: commit enrol 0 110000
-         > ran 128
-         down 0 > ok
-         up 0 > ok
-         run 1000 > 0: commit reserve 1 120000
-         > 0: commit enrol 1 120000
-         > 0: commit reserve 2 220000
-         > 0: commit enrol 2 220000
-         > 0: done all-found
-         > ran 232
-         down 0 > ok
-         up 0 > ok
-         run 1000 > 0: done all-found
-         > ran 10
-         show > gear 0 on disabled 110000 3FFFFF 0
-         > gear 1 on disabled 120000 FFFFFE 1
-         > gear 2 on disabled 220000 FFFFFE 2
-         > table 0: 0=110000 1=120000 2=220000",
-    )
-}
-
 #[test]
 fn a_controller_that_goes_down_before_its_release_keeps_the_reservation(
     rt: HostRuntime,

@@ -99,6 +99,25 @@ pub fn plays<R: Abort + AllocGlobal>(rt: &R, story: &str) -> Result<(), Fail> {
     plays_parts(rt, &[(story, 1)])
 }
 
+/// Plays a story that has a name.
+fn named<R: Abort + AllocGlobal>(rt: &R, name: &str, story: &str) -> Result<(), Fail> {
+    let mut script = String::new(rt.alloc());
+    let mut reports = String::new(rt.alloc());
+    push_part(story, &mut script, &mut reports)?;
+    let (end, text) = played(rt.alloc(), script.as_bytes())?;
+    assert_eq!(rt; text.as_str(), reports.as_str(), "{name}");
+    assert_eq!(rt; end, Ok(()), "{name}");
+    Ok(())
+}
+
+/// Plays stories, each of which has a name. One test plays many: a story more costs no proof.
+pub fn all_play<R: Abort + AllocGlobal>(rt: &R, stories: &[(&str, &str)]) -> Result<(), Fail> {
+    for (name, story) in stories {
+        named(rt, name, story)?;
+    }
+    Ok(())
+}
+
 /// Each of these is a bad line behind those before it, whose reports are written, and no line after it is played.
 pub fn are_bad<R: Abort + AllocGlobal>(
     rt: &R,

@@ -1,14 +1,14 @@
 //! One trouble in a commissioning: answers that are lost or damaged, frames that are destroyed or collide, lapses,
 //! gear that lose their power or their initialisation.
 
-use super::story::{plays, plays_parts};
+use super::story::{all_play, plays_parts};
 use std::process::Abort;
 use std::test::Fail;
 
-#[test]
-fn an_answer_lost_before_program_begins_a_new_search(rt: HostRuntime) -> Result<(), Fail> {
-    plays(
-        &rt,
+/// Stories with their names.
+const STORIES: [(&str, &str); 18] = [
+    (
+        "an answer lost before program begins a new search",
         "site 1 0-3
          draws 123456
          run 113 > 0: commit reserve 0 123456
@@ -19,14 +19,10 @@ fn an_answer_lost_before_program_begins_a_new_search(rt: HostRuntime) -> Result<
          run 1000 > 0: commit enrol 0 123456
          > 0: done all-found
          > ran 112",
-    )
-}
-
-#[test]
-fn a_destroyed_program_may_have_been_taken(rt: HostRuntime) -> Result<(), Fail> {
-    // The gear took the destroyed PROGRAM SHORT ADDRESS, so the visit that begins again finds it with its address.
-    plays(
-        &rt,
+    ),
+    (
+        // The gear took the destroyed PROGRAM SHORT ADDRESS, so the visit that begins again finds it with its address.
+        "a destroyed program may have been taken",
         "site 1 0-3
          draws 123456
          run 114 > 0: commit reserve 0 123456
@@ -37,13 +33,9 @@ fn a_destroyed_program_may_have_been_taken(rt: HostRuntime) -> Result<(), Fail> 
          run 1000 > 0: commit enrol 0 123456
          > 0: done all-found
          > ran 10",
-    )
-}
-
-#[test]
-fn a_lapse_empties_the_owner_s_queue(rt: HostRuntime) -> Result<(), Fail> {
-    plays(
-        &rt,
+    ),
+    (
+        "a lapse empties the queue of the owner",
         "site 1 0-3
          draws 123456
          run 114 > 0: commit reserve 0 123456
@@ -55,15 +47,11 @@ fn a_lapse_empties_the_owner_s_queue(rt: HostRuntime) -> Result<(), Fail> {
          run 1000 > 0: commit enrol 0 123456
          > 0: done all-found
          > ran 12",
-    )
-}
-
-#[test]
-fn gear_that_lose_power_after_program_are_found_by_a_restart(rt: HostRuntime) -> Result<(), Fail> {
-    // The gear keeps address 0 and is disabled, so neither the search nor the visit of the restart is answered; the
-    // queries of its random address are.
-    plays(
-        &rt,
+    ),
+    (
+        // The gear keeps address 0 and is disabled, so neither the search nor the visit of the restart is answered; the
+        // queries of its random address are.
+        "gear that lose power after program are found by a restart",
         "site 1 0-3
          draws 123456
          run 115 > 0: commit reserve 0 123456
@@ -79,7 +67,252 @@ fn gear_that_lose_power_after_program_are_found_by_a_restart(rt: HostRuntime) ->
          run 1000 > 0: commit enrol 0 123456
          > 0: done all-found
          > ran 17",
-    )
+    ),
+    (
+        // Each lost its power just after it was programmed. The one that is off is found by a later restart.
+        "of two gear that lost power one is still off",
+        "site 2 0-3
+         draws 123456 654321
+         run 115 > 0: commit reserve 0 123456
+         > ran 114
+         off 0 > ok
+         run 111 > 0: commit reserve 1 654321
+         > ran 110
+         off 1 > ok
+         run 1000 > 0: done all-found
+         > ran 6
+         on 1 > ok
+         down 0 > ok
+         up 0 > ok
+         run 1000 > 0: commit enrol 1 654321
+         > 0: done all-found
+         > ran 24
+         on 0 > ok
+         down 0 > ok
+         up 0 > ok
+         run 1000 > 0: commit enrol 0 123456
+         > 0: done all-found
+         > ran 17
+         show > gear 0 on disabled 123456 FFFFFF 0
+         > gear 1 on disabled 654321 FFFFFF 1
+         > table 0: 1=654321 0=123456",
+    ),
+    (
+        "a collision destroys both and arc power goes first",
+        "site 1 0-1 2-3
+         draws 123456
+         go 0 > 0: put 3 A100
+         go 1 > 1: put 3 A100
+         pump collision > 0: destroyed A100, 1: destroyed A100
+         go 0 > 0: put 3 A100
+         go 1 > 1: put 3 A100
+         arc 1 FE80 > 1: put 2 FE80
+         pump > 1: sent FE80 silence",
+    ),
+    (
+        // The gear is disabled between QUERY SHORT ADDRESS and PROGRAM SHORT ADDRESS. A gear that took the program
+        // all the same would show address 0.
+        "a disabled gear takes no program",
+        "site 1 0-3
+         draws 123456
+         run 114 > 0: commit reserve 0 123456
+         > ran 113
+         expire 0 > ok
+         go 0 > 0: put 1 B701
+         pump > 0: sent B701 silence
+         show > gear 0 on disabled 123456 123456 -
+         > table 0:
+         run 1000 > 0: done all-found
+         > ran 6
+         show > gear 0 on disabled 123456 123456 -
+         > table 0:",
+    ),
+    (
+        // A gear that executed WITHDRAW all the same would show `withdrawn`.
+        "a disabled gear is not withdrawn",
+        "site 1 0-3
+         draws 123456
+         run 116 > 0: commit reserve 0 123456
+         > ran 115
+         show > gear 0 on enabled 123456 123456 0
+         > table 0:
+         expire 0 > ok
+         go 0 > 0: put 1 AB00
+         pump > 0: sent AB00 silence
+         show > gear 0 on disabled 123456 123456 0
+         > table 0:
+         run 1000 > 0: commit enrol 0 123456
+         > 0: done all-found
+         > ran 5
+         show > gear 0 on disabled 123456 123456 0
+         > table 0: 0=123456",
+    ),
+    (
+        // The lost answer is that to COMPARE under 123456, the last of the search, which then finds 123457 and
+        // hears nobody there. The next search ends at 123456. A gear that answered only where its number is less
+        // would not answer that COMPARE: the same reports up to here, then again 123457, sixteen times, and
+        // `gave-up`.
+        "compare is answered at the very number",
+        "site 1 0-3
+         draws 123456
+         run 104 > ran 104
+         go 0 > 0: put 1 A900
+         pump lost > 0: sent A900 silence
+         run 1000 > 0: commit reserve 0 123456
+         > 0: commit enrol 0 123456
+         > 0: done all-found
+         > ran 120
+         show > gear 0 on disabled 123456 FFFFFE 0
+         > table 0: 0=123456",
+    ),
+    (
+        "a lapse without an owner is told to nobody",
+        "site 1 0-3
+         draws 123456
+         lapse > lapse -
+         go 0 > 0: put 3 A100
+         lapse > lapse -
+         pump > 0: sent A100 silence
+         lapse > lapse 0
+         lapse > lapse -
+         go 0 > 0: put 3 A100
+         run 0 > ran 0",
+    ),
+    (
+        // Gear 1 alone takes the destroyed second RANDOMISE, and draws one number.
+        "a set of gear counts each once",
+        "site 2 0-3
+         draws 123456 654321
+         run 4 > ran 4
+         go 0 > 0: put 1 A700
+         pump destroyed 1,1,1 > 0: destroyed A700
+         show > gear 0 on enabled FFFFFF FFFFFF -
+         > gear 1 on enabled 123456 FFFFFF -
+         > table 0:
+         go 0 > 0: put 3 A100",
+    ),
+    (
+        "a set names gear that are not there or off",
+        "site 2 0-3
+         draws 123456
+         off 1 > ok
+         run 4 > ran 4
+         go 0 > 0: put 1 A700
+         pump destroyed 0,1,2,127 > 0: destroyed A700
+         show > gear 0 on enabled 123456 FFFFFF -
+         > gear 1 off disabled FFFFFF FFFFFF -
+         > table 0:
+         go 0 > 0: put 3 A100",
+    ),
+    (
+        // Off, a gear keeps its state and its search address, and the timer still ends; on again, it is disabled
+        // and its search address FFFFFF.
+        "power and timer of gear that are off",
+        "site 1 0-3
+         draws 123456
+         run 110 > 0: commit reserve 0 123456
+         > ran 109
+         off 0 > ok
+         show > gear 0 off enabled 123456 123456 -
+         > table 0:
+         off 0 > ok
+         expire 0 > ok
+         show > gear 0 off disabled 123456 123456 -
+         > table 0:
+         on 0 > ok
+         show > gear 0 on disabled 123456 FFFFFF -
+         > table 0:
+         on 0 > ok
+         expire 0 > ok
+         show > gear 0 on disabled 123456 FFFFFF -
+         > table 0:",
+    ),
+    (
+        // The half pair stands: the second RANDOMISE draws.
+        "power of a gear that is on changes nothing",
+        "site 1 0-3
+         draws 123456
+         run 4 > ran 4
+         on 0 > ok
+         go 0 > 0: put 1 A700
+         pump > 0: sent A700 silence
+         show > gear 0 on enabled 123456 FFFFFF -
+         > table 0:",
+    ),
+    (
+        // The gear has drawn no number, and FFFFFF is above FFFFFE: nobody is found.
+        "a quiet bus breaks the pair of an opening",
+        "site 1 0-3
+         draws 123456
+         run 4 > ran 4
+         quiet > ok
+         go 0 > 0: put 1 A700
+         pump > 0: sent A700 silence
+         run 1000 > 0: done all-found
+         > ran 5
+         show > gear 0 on disabled FFFFFF FFFFFE -
+         > table 0:",
+    ),
+    (
+        // One gear, no number. The second RANDOMISE is refused wherever the gear would take it.
+        "destroyed frames that no gear takes need no number",
+        "site 1 0-3
+         draws
+         run 1000 > refused 6 DrawsSpent
+         > ran 4
+         pump > refused 6 DrawsSpent
+         pump lost > refused 6 DrawsSpent
+         pump noise > refused 6 DrawsSpent
+         pump destroyed 0 > refused 6 DrawsSpent
+         pump destroyed - > 0: destroyed A700
+         go 0 > 0: put 3 A100
+         run 1000 > refused 6 DrawsSpent
+         > ran 4
+         pump collision > 0: destroyed A700
+         go 0 > 0: put 3 A100",
+    ),
+    (
+        // Another list, the same sender and the owner's list 1 have no second frame.
+        "a collision is one with the next of the same list",
+        "site 1 0-1 2-3
+         draws 123456
+         arc 0 FE80 > 0: put 2 FE80
+         go 1 > 1: put 3 A100
+         pump collision > 0: destroyed FE80
+         arc 0 FE80 > 0: put 2 FE80
+         arc 0 FE81 > 0: put 2 FE81
+         pump collision > 0: destroyed FE80
+         arc 1 0000 > 1: put 2 0000
+         pump collision > 0: destroyed FE81, 1: destroyed 0000
+         pump collision > 1: destroyed A100
+         go 1 > 1: put 3 A100
+         pump > 1: sent A100 silence
+         go 1 > 1: put 1 A5FF
+         go 0 > 0: put 3 A100
+         pump collision > 1: destroyed A5FF
+         go 0 > refused 3 NotDue
+         go 1 > 1: put 3 A100",
+    ),
+    (
+        "damaged answers are yes to compare and nothing to a query",
+        "site 1 0-3
+         draws 123456
+         run 8 > ran 8
+         go 0 > 0: put 1 A900
+         pump noise > 0: sent A900 damaged
+         run 103 > 0: commit reserve 0 123456
+         > ran 102
+         go 0 > 0: put 1 B556
+         pump noise > 0: sent B556 damaged
+         run 1000 > 0: commit enrol 0 123456
+         > 0: done all-found
+         > ran 9",
+    ),
+];
+
+#[test]
+fn stories(rt: HostRuntime) -> Result<(), Fail> {
+    all_play(&rt, &STORIES)
 }
 
 /// A gear that went off just after PROGRAM SHORT ADDRESS, and whose controller was restarted since.
@@ -177,300 +410,4 @@ fn the_bus_lapses_among_queries_of_a_random_address(rt: HostRuntime) -> Result<(
     let after_middle = "run 6 > ran 6
                         lapse > lapse 0";
     resolves(&rt, after_middle, FOUND)
-}
-
-#[test]
-fn of_two_gear_that_lost_power_one_is_still_off(rt: HostRuntime) -> Result<(), Fail> {
-    // Each lost its power just after it was programmed. The one that is off is found by a later restart.
-    plays(
-        &rt,
-        "site 2 0-3
-         draws 123456 654321
-         run 115 > 0: commit reserve 0 123456
-         > ran 114
-         off 0 > ok
-         run 111 > 0: commit reserve 1 654321
-         > ran 110
-         off 1 > ok
-         run 1000 > 0: done all-found
-         > ran 6
-         on 1 > ok
-         down 0 > ok
-         up 0 > ok
-         run 1000 > 0: commit enrol 1 654321
-         > 0: done all-found
-         > ran 24
-         on 0 > ok
-         down 0 > ok
-         up 0 > ok
-         run 1000 > 0: commit enrol 0 123456
-         > 0: done all-found
-         > ran 17
-         show > gear 0 on disabled 123456 FFFFFF 0
-         > gear 1 on disabled 654321 FFFFFF 1
-         > table 0: 1=654321 0=123456",
-    )
-}
-
-#[test]
-fn a_collision_destroys_both_and_arc_power_goes_first(rt: HostRuntime) -> Result<(), Fail> {
-    plays(
-        &rt,
-        "site 1 0-1 2-3
-         draws 123456
-         go 0 > 0: put 3 A100
-         go 1 > 1: put 3 A100
-         pump collision > 0: destroyed A100, 1: destroyed A100
-         go 0 > 0: put 3 A100
-         go 1 > 1: put 3 A100
-         arc 1 FE80 > 1: put 2 FE80
-         pump > 1: sent FE80 silence",
-    )
-}
-
-#[test]
-fn a_disabled_gear_takes_no_program(rt: HostRuntime) -> Result<(), Fail> {
-    // The gear is disabled between QUERY SHORT ADDRESS and PROGRAM SHORT ADDRESS. A gear that took the program
-    // all the same would show address 0.
-    plays(
-        &rt,
-        "site 1 0-3
-         draws 123456
-         run 114 > 0: commit reserve 0 123456
-         > ran 113
-         expire 0 > ok
-         go 0 > 0: put 1 B701
-         pump > 0: sent B701 silence
-         show > gear 0 on disabled 123456 123456 -
-         > table 0:
-         run 1000 > 0: done all-found
-         > ran 6
-         show > gear 0 on disabled 123456 123456 -
-         > table 0:",
-    )
-}
-
-#[test]
-fn a_disabled_gear_is_not_withdrawn(rt: HostRuntime) -> Result<(), Fail> {
-    // A gear that executed WITHDRAW all the same would show `withdrawn`.
-    plays(
-        &rt,
-        "site 1 0-3
-         draws 123456
-         run 116 > 0: commit reserve 0 123456
-         > ran 115
-         show > gear 0 on enabled 123456 123456 0
-         > table 0:
-         expire 0 > ok
-         go 0 > 0: put 1 AB00
-         pump > 0: sent AB00 silence
-         show > gear 0 on disabled 123456 123456 0
-         > table 0:
-         run 1000 > 0: commit enrol 0 123456
-         > 0: done all-found
-         > ran 5
-         show > gear 0 on disabled 123456 123456 0
-         > table 0: 0=123456",
-    )
-}
-
-#[test]
-fn compare_is_answered_at_the_very_number(rt: HostRuntime) -> Result<(), Fail> {
-    // The lost answer is that to COMPARE under 123456, the last of the search, which then finds 123457 and
-    // hears nobody there. The next search ends at 123456. A gear that answered only where its number is less
-    // would not answer that COMPARE: the same reports up to here, then again 123457, sixteen times, and
-    // `gave-up`.
-    plays(
-        &rt,
-        "site 1 0-3
-         draws 123456
-         run 104 > ran 104
-         go 0 > 0: put 1 A900
-         pump lost > 0: sent A900 silence
-         run 1000 > 0: commit reserve 0 123456
-         > 0: commit enrol 0 123456
-         > 0: done all-found
-         > ran 120
-         show > gear 0 on disabled 123456 FFFFFE 0
-         > table 0: 0=123456",
-    )
-}
-
-#[test]
-fn a_lapse_without_an_owner_is_told_to_nobody(rt: HostRuntime) -> Result<(), Fail> {
-    plays(
-        &rt,
-        "site 1 0-3
-         draws 123456
-         lapse > lapse -
-         go 0 > 0: put 3 A100
-         lapse > lapse -
-         pump > 0: sent A100 silence
-         lapse > lapse 0
-         lapse > lapse -
-         go 0 > 0: put 3 A100
-         run 0 > ran 0",
-    )
-}
-
-#[test]
-fn a_set_of_gear_counts_each_once(rt: HostRuntime) -> Result<(), Fail> {
-    // Gear 1 alone takes the destroyed second RANDOMISE, and draws one number.
-    plays(
-        &rt,
-        "site 2 0-3
-         draws 123456 654321
-         run 4 > ran 4
-         go 0 > 0: put 1 A700
-         pump destroyed 1,1,1 > 0: destroyed A700
-         show > gear 0 on enabled FFFFFF FFFFFF -
-         > gear 1 on enabled 123456 FFFFFF -
-         > table 0:
-         go 0 > 0: put 3 A100",
-    )
-}
-
-#[test]
-fn a_set_names_gear_that_are_not_there_or_off(rt: HostRuntime) -> Result<(), Fail> {
-    plays(
-        &rt,
-        "site 2 0-3
-         draws 123456
-         off 1 > ok
-         run 4 > ran 4
-         go 0 > 0: put 1 A700
-         pump destroyed 0,1,2,127 > 0: destroyed A700
-         show > gear 0 on enabled 123456 FFFFFF -
-         > gear 1 off disabled FFFFFF FFFFFF -
-         > table 0:
-         go 0 > 0: put 3 A100",
-    )
-}
-
-#[test]
-fn power_and_timer_of_gear_that_are_off(rt: HostRuntime) -> Result<(), Fail> {
-    // Off, a gear keeps its state and its search address, and the timer still ends; on again, it is disabled
-    // and its search address FFFFFF.
-    plays(
-        &rt,
-        "site 1 0-3
-         draws 123456
-         run 110 > 0: commit reserve 0 123456
-         > ran 109
-         off 0 > ok
-         show > gear 0 off enabled 123456 123456 -
-         > table 0:
-         off 0 > ok
-         expire 0 > ok
-         show > gear 0 off disabled 123456 123456 -
-         > table 0:
-         on 0 > ok
-         show > gear 0 on disabled 123456 FFFFFF -
-         > table 0:
-         on 0 > ok
-         expire 0 > ok
-         show > gear 0 on disabled 123456 FFFFFF -
-         > table 0:",
-    )
-}
-
-#[test]
-fn power_of_a_gear_that_is_on_changes_nothing(rt: HostRuntime) -> Result<(), Fail> {
-    // The half pair stands: the second RANDOMISE draws.
-    plays(
-        &rt,
-        "site 1 0-3
-         draws 123456
-         run 4 > ran 4
-         on 0 > ok
-         go 0 > 0: put 1 A700
-         pump > 0: sent A700 silence
-         show > gear 0 on enabled 123456 FFFFFF -
-         > table 0:",
-    )
-}
-
-#[test]
-fn a_quiet_bus_breaks_the_pair_of_an_opening(rt: HostRuntime) -> Result<(), Fail> {
-    // The gear has drawn no number, and FFFFFF is above FFFFFE: nobody is found.
-    plays(
-        &rt,
-        "site 1 0-3
-         draws 123456
-         run 4 > ran 4
-         quiet > ok
-         go 0 > 0: put 1 A700
-         pump > 0: sent A700 silence
-         run 1000 > 0: done all-found
-         > ran 5
-         show > gear 0 on disabled FFFFFF FFFFFE -
-         > table 0:",
-    )
-}
-
-#[test]
-fn destroyed_frames_that_no_gear_takes_need_no_number(rt: HostRuntime) -> Result<(), Fail> {
-    // One gear, no number. The second RANDOMISE is refused wherever the gear would take it.
-    plays(
-        &rt,
-        "site 1 0-3
-         draws
-         run 1000 > refused 6 DrawsSpent
-         > ran 4
-         pump > refused 6 DrawsSpent
-         pump lost > refused 6 DrawsSpent
-         pump noise > refused 6 DrawsSpent
-         pump destroyed 0 > refused 6 DrawsSpent
-         pump destroyed - > 0: destroyed A700
-         go 0 > 0: put 3 A100
-         run 1000 > refused 6 DrawsSpent
-         > ran 4
-         pump collision > 0: destroyed A700
-         go 0 > 0: put 3 A100",
-    )
-}
-
-#[test]
-fn a_collision_is_one_with_the_next_of_the_same_list(rt: HostRuntime) -> Result<(), Fail> {
-    // Another list, the same sender and the owner's list 1 have no second frame.
-    plays(
-        &rt,
-        "site 1 0-1 2-3
-         draws 123456
-         arc 0 FE80 > 0: put 2 FE80
-         go 1 > 1: put 3 A100
-         pump collision > 0: destroyed FE80
-         arc 0 FE80 > 0: put 2 FE80
-         arc 0 FE81 > 0: put 2 FE81
-         pump collision > 0: destroyed FE80
-         arc 1 0000 > 1: put 2 0000
-         pump collision > 0: destroyed FE81, 1: destroyed 0000
-         pump collision > 1: destroyed A100
-         go 1 > 1: put 3 A100
-         pump > 1: sent A100 silence
-         go 1 > 1: put 1 A5FF
-         go 0 > 0: put 3 A100
-         pump collision > 1: destroyed A5FF
-         go 0 > refused 3 NotDue
-         go 1 > 1: put 3 A100",
-    )
-}
-
-#[test]
-fn damaged_answers_are_yes_to_compare_and_nothing_to_a_query(rt: HostRuntime) -> Result<(), Fail> {
-    plays(
-        &rt,
-        "site 1 0-3
-         draws 123456
-         run 8 > ran 8
-         go 0 > 0: put 1 A900
-         pump noise > 0: sent A900 damaged
-         run 103 > 0: commit reserve 0 123456
-         > ran 102
-         go 0 > 0: put 1 B556
-         pump noise > 0: sent B556 damaged
-         run 1000 > 0: commit enrol 0 123456
-         > 0: done all-found
-         > ran 9",
-    )
 }
