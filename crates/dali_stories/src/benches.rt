@@ -57,7 +57,8 @@ const STORIES: [(&str, &str); 11] = [
          show > gear 0 on withdrawn 123456 123456 5",
     ),
     (
-        // It does so also after TERMINATE, where it answers no QUERY SHORT ADDRESS, and after it was off; no other does.
+        // It does so also after TERMINATE, where it answers no QUERY SHORT ADDRESS, and after it was off; no other
+        // does.
         "an addressed gear tells its random address",
         "bench 1
          draws 123456

@@ -151,8 +151,8 @@ const STORIES: [(&str, &str); 11] = [
     ),
     (
         // Controller 0 has one address and closes with TERMINATE, which disables all gear. Controller 1 then hears
-        // nobody and ends with all-found, though two gear have no address. Once more alone, it finds them; its address 1
-        // stays reserved for 200002, which nobody has any more.
+        // nobody and ends with all-found, though two gear have no address. Once more alone, it finds them; its address
+        // 1 stays reserved for 200002, which nobody has any more.
         "the first to close ends the initialisation for all",
         "site 3 0-0 1-8
          draws 100001 200001 300001 100002 200002 300002 100003 200003 300003

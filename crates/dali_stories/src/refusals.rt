@@ -71,8 +71,8 @@ const STORIES: [(&str, &str); 8] = [
          go 0 > 0: put 3 A100",
     ),
     (
-        // At the start, while a frame is outstanding, when it was heard, at the commit of a record that the store has, and
-        // after the end.
+        // At the start, while a frame is outstanding, when it was heard, at the commit of a record that the store has,
+        // and after the end.
         "what is not due is refused",
         "site 1 0-3
          draws 123456
