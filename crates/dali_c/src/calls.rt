@@ -29,7 +29,7 @@ pub extern "C" fn dali_records_new(records: &mut PlainRecords, first: u8, last: 
     ensures refused { (result ≡ OK) ⊎ (result ≡ BAD_ARGUMENT) }
     ensures records { result ≡ OK → AreRecords records.new
         × (kept_of records.new
-            ≡ record { block = record { first = first; last = last }; reserved = []; enrolled = [] }) }
+        ≡ record { block = record { first = first; last = last }; reserved = []; enrolled = [] }) }
     ensures untouched { (result ≡ OK → ⊥) → records.new ≡ records.old }
 {
     let (Some(first), Some(last)) = (Short::of(first), Short::of(last)) else {

@@ -40,7 +40,7 @@ pub record Holds {X : Type 0} (s : List (Slot X)) (n : ℕ) (tails : List ℕ)
   pub ends : length tails ≡ 6
   pub lists : (p : ℕ) → p < 6
       → IsList (link_at s) (item_at s) n (n + p) (slice_index_or tails p 0) (n + p)
-          (slice_index_or ls p [])
+      (slice_index_or ls p [])
   pub whole : sum_by length ls ≡ n
 
 -- the items of list p
