@@ -89,7 +89,7 @@ struct Turnover {
 type Driving<P0, P1, P2, P3, D> = (Listed<Driver<P0, P1, P2, P3, D>>, Turnover);
 
 /// A controller of these at random, as a number from 0 to 3.
-fn some_controller(chance: &mut Chance) -> usize {
+fn some_controller(chance: &mut Chance) -> u8 {
     match chance.below(4) {
         0 => 0,
         1 => 1,
@@ -103,9 +103,9 @@ fn takes_down<P0: Ledger, P1: Ledger, P2: Ledger, P3: Ledger, D: Ledger, R: Wait
     rt: &R,
     line: &Line<P0, P1, P2, P3, D>,
     driving: &mut Driving<P0, P1, P2, P3, D>,
-) -> usize {
+) -> u8 {
     let at = some_controller(&mut driving.1.chance);
-    match line.down(rt, &mut driving.0.inner, at as u8) {
+    match line.down(rt, &mut driving.0.inner, at) {
         Ok(()) => driving.1.downs = driving.1.downs.saturating_add(1),
         Err(Refusal::ControllerDown) => {}
         Err(_) => driving.1.is_right = false,
@@ -119,11 +119,11 @@ fn brings_up<P0: Ledger, P1: Ledger, P2: Ledger, P3: Ledger, D: Ledger, R: Wait>
     rt: &R,
     line: &Line<P0, P1, P2, P3, D>,
     driving: &mut Driving<P0, P1, P2, P3, D>,
-    at: usize,
+    at: u8,
     records: &Kept,
     is_old: bool,
 ) {
-    match line.up(rt, &mut driving.0.inner, at as u8, records) {
+    match line.up(rt, &mut driving.0.inner, at, records) {
         Ok(()) => driving.1.ups = driving.1.ups.saturating_add(1),
         Err(UpRefusal::Site(Refusal::ControllerUp)) => {}
         Err(UpRefusal::CommitOpen | UpRefusal::Site(Refusal::StoreDisagrees)) if is_old => {}
@@ -142,8 +142,8 @@ fn turns_over<P0: Ledger, P1: Ledger, P2: Ledger, P3: Ledger, D: Ledger, R: Wait
         return;
     }
     let at = takes_down(rt, line, driving);
-    if at < records.len() && driving.1.chance.below(2) == 0 {
-        brings_up(rt, line, driving, at, &records[at], true);
+    if usize::from(at) < records.len() && driving.1.chance.below(2) == 0 {
+        brings_up(rt, line, driving, at, &records[usize::from(at)], true);
     }
 }
 
@@ -232,7 +232,7 @@ fn serves<P0: Ledger, P1: Ledger, P2: Ledger, P3: Ledger, D: Ledger, R: Wait>(
     line: &Line<P0, P1, P2, P3, D>,
     directory: &Directory,
     driving: &Mutex<Driving<P0, P1, P2, P3, D>>,
-    at: usize,
+    at: u8,
     worker: Worker<Listing<P0, P1, P2, P3, D>, Database, OpenGate>,
 ) -> Left<Listing<P0, P1, P2, P3, D>> {
     let bus = ListedBus { bus: line };
@@ -254,7 +254,7 @@ fn is_brought_up<P0: Ledger, P1: Ledger, P2: Ledger, P3: Ledger, D: Ledger, R: W
     rt: &R,
     line: &Line<P0, P1, P2, P3, D>,
     driving: &Mutex<Driving<P0, P1, P2, P3, D>>,
-    at: usize,
+    at: u8,
     keep: &mut Database,
 ) {
     let read = keep.read();
@@ -268,11 +268,13 @@ fn is_brought_up<P0: Ledger, P1: Ledger, P2: Ledger, P3: Ledger, D: Ledger, R: W
 fn ends<P0: Ledger, P1: Ledger, P2: Ledger, P3: Ledger, D: Ledger, R: Wait>(
     rt: &R,
     driving: &Mutex<Driving<P0, P1, P2, P3, D>>,
-    at: usize,
+    at: u8,
 ) {
     let mut driving = driving.lock(rt);
     if at < 4 {
-        driving.1.ended[at] = true;
+        let mut ended = driving.1.ended;
+        ended[usize::from(at)] = true;
+        driving.1.ended = ended;
     }
 }
 
@@ -572,7 +574,8 @@ fn goes_further<R: Threads + Wait + Sync>(
         return Err(Wrong("memory"));
     };
     let mut played = played;
-    played.turnover.ended = [false; 4];
+    let none = [false; 4];
+    played.turnover.ended = none;
     let blanks = blanks();
     let mut played = session::<Brand, Brand, Brand, Brand, Brand, R>(
         rt, alloc, played, blanks, &directory, records,
