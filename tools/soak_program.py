@@ -4,10 +4,10 @@ FILES = {
     "src/main.rt": r"""//! Four controllers commission gear, while the bus's thread takes them down and up at random.
 //!
 //! The program is given a seed, plays one site in sessions, and looks at it after each of them.
-//! In a session each controller has a thread, over a line round the site. The bus's thread takes controllers down at any
-//! moment, also while their workers are at a commit, and half of the time it tries at once to bring one up with what its
-//! store read when the session began. A worker whose controller is down ends; its thread brings the controller up with
-//! what the store reads then, and goes on with another worker.
+//! In a session each controller has a thread, over a line round the site. The bus's thread takes controllers down now
+//! and then, and so do the workers' gates, before and after a commit; half of the time the controller is to come up at
+//! once with what its store read when the session began. A worker whose controller is down ends; its thread brings the
+//! controller up with what the store reads then, and goes on with another worker.
 #![tactic(auto)]
 
 ghost use Rattle.std.specs.Prelude.{◌≡◌, ◌<◌};
@@ -16,7 +16,9 @@ mod listed;
 
 use arrayvec::ArrayVec;
 use dali_enrol::Directory;
-use dali_line::{Bus, Driver, Line, OpenGate, Outcome, Port, Ready, UpRefusal, Worker};
+use dali_line::{
+    Bus, Driver, Gate, Line, Moment, Outcome, Port, Ready, UpRefusal, Worker,
+};
 use dali_reserve::Keep;
 use dali_script::{Block, Kept};
 use dali_sqlite::SqliteKeep;
@@ -77,6 +79,8 @@ struct Turnover {
     chance: Chance,
     /// Which controllers' threads have ended.
     ended: [bool; 4],
+    /// The bus is refused a frame: the numbers that gear draw are spent, or the log is full.
+    is_spent: bool,
     downs: usize,
     ups: usize,
     /// No controller was refused to go down or to come up, unless for a cause that there may be.
@@ -98,19 +102,18 @@ fn some_controller(chance: &mut Chance) -> u8 {
     }
 }
 
-/// A controller goes down, if it is up. Which it is.
+/// A controller goes down, if it is up.
 fn takes_down<P0: Ledger, P1: Ledger, P2: Ledger, P3: Ledger, D: Ledger, R: Wait>(
     rt: &R,
     line: &Line<P0, P1, P2, P3, D>,
     driving: &mut Driving<P0, P1, P2, P3, D>,
-) -> u8 {
-    let at = some_controller(&mut driving.1.chance);
+    at: u8,
+) {
     match line.down(rt, &mut driving.0.inner, at) {
         Ok(()) => driving.1.downs = driving.1.downs.saturating_add(1),
         Err(Refusal::ControllerDown) => {}
         Err(_) => driving.1.is_right = false,
     }
-    at
 }
 
 /// A controller comes up with these records. They are what its store reads now, or what it read when the session began
@@ -131,19 +134,53 @@ fn brings_up<P0: Ledger, P1: Ledger, P2: Ledger, P3: Ledger, D: Ledger, R: Wait>
     }
 }
 
-/// A controller goes down now and then, and half of the time it is to come up at once with old records.
+/// A controller goes down, and half of the time it is to come up at once with old records.
+fn strikes<P0: Ledger, P1: Ledger, P2: Ledger, P3: Ledger, D: Ledger, R: Wait>(
+    rt: &R,
+    line: &Line<P0, P1, P2, P3, D>,
+    driving: &mut Driving<P0, P1, P2, P3, D>,
+    at: u8,
+    records: &[Kept],
+) {
+    takes_down(rt, line, driving, at);
+    if usize::from(at) < records.len() && driving.1.chance.below(2) == 0 {
+        brings_up(rt, line, driving, at, &records[usize::from(at)], true);
+    }
+}
+
+/// A controller goes down now and then.
 fn turns_over<P0: Ledger, P1: Ledger, P2: Ledger, P3: Ledger, D: Ledger, R: Wait>(
     rt: &R,
     line: &Line<P0, P1, P2, P3, D>,
     driving: &mut Driving<P0, P1, P2, P3, D>,
     records: &[Kept],
 ) {
-    if driving.1.chance.below(64) != 0 {
-        return;
+    if driving.1.chance.below(1024) == 0 {
+        let at = some_controller(&mut driving.1.chance);
+        strikes(rt, line, driving, at, records);
     }
-    let at = takes_down(rt, line, driving);
-    if usize::from(at) < records.len() && driving.1.chance.below(2) == 0 {
-        brings_up(rt, line, driving, at, &records[usize::from(at)], true);
+}
+
+/// A worker's gate, which takes the worker's controller down before and after some commits.
+#[derive(Drop)]
+struct Striking<'a, P0: Ledger, P1: Ledger, P2: Ledger, P3: Ledger, D: Ledger> {
+    line: &'a Line<P0, P1, P2, P3, D>,
+    driving: &'a Mutex<Driving<P0, P1, P2, P3, D>>,
+    records: &'a [Kept],
+}
+
+impl<P0: Ledger, P1: Ledger, P2: Ledger, P3: Ledger, D: Ledger> Gate
+    for Striking<'_, P0, P1, P2, P3, D> {
+    fn at<R: Wait>(&self, rt: &R, controller: u8, moment: Moment) {
+        if moment == Moment::AfterTurn {
+            return;
+        }
+        // The bus's thread may wait for this worker while it has the driver.
+        if let Ok(mut driving) = self.driving.try_lock() {
+            if driving.1.chance.below(32) == 0 {
+                strikes(rt, self.line, &mut driving, controller, self.records);
+            }
+        }
     }
 }
 
@@ -159,13 +196,16 @@ fn goes_on<P0: Ledger, P1: Ledger, P2: Ledger, P3: Ledger, D: Ledger, R: Wait>(
         Ready::Over => {
             let goes_on = driving.1.ended != [true; 4];
             if !goes_on {
-                takes_down(rt, line, driving);
+                let at = some_controller(&mut driving.1.chance);
+                takes_down(rt, line, driving, at);
             }
             goes_on
         }
         Ready::Next => {
             let bus = ListedBus { bus: line };
-            bus.pump(rt, &mut driving.0, Trouble::None).is_ok()
+            let is_spent = bus.pump(rt, &mut driving.0, Trouble::None).is_err();
+            driving.1.is_spent = is_spent;
+            !is_spent
         }
     }
 }
@@ -203,12 +243,12 @@ fn drives_once<P0: Ledger, P1: Ledger, P2: Ledger, P3: Ledger, D: Ledger, R: Wai
 /// What a worker leaves: how it ended, its port, and its store.
 type Left<P> = (Outcome, P, Database);
 
-fn works<B: Bus, R: Wait>(
+fn works<B: Bus, G: Gate, R: Wait>(
     rt: &R,
     alloc: Global,
     bus: &B,
     directory: &Directory,
-    worker: Worker<B::Port, Database, OpenGate>,
+    worker: Worker<B::Port, Database, G>,
 ) -> Left<B::Port> {
     match directory.pass(alloc) {
         Ok(pass) => {
@@ -224,6 +264,9 @@ fn works<B: Bus, R: Wait>(
 
 type Listing<P0, P1, P2, P3, D> = Listed<Port<P0, P1, P2, P3, D>>;
 
+/// A port and the store of its controller.
+type Manned<P> = (P, Database);
+
 /// A controller's thread: workers run, one after the other, until one ends for another cause than that its controller is
 /// down. Each time the controller comes up with what the store reads.
 fn serves<P0: Ledger, P1: Ledger, P2: Ledger, P3: Ledger, D: Ledger, R: Wait>(
@@ -232,10 +275,17 @@ fn serves<P0: Ledger, P1: Ledger, P2: Ledger, P3: Ledger, D: Ledger, R: Wait>(
     line: &Line<P0, P1, P2, P3, D>,
     directory: &Directory,
     driving: &Mutex<Driving<P0, P1, P2, P3, D>>,
+    records: &[Kept],
     at: u8,
-    worker: Worker<Listing<P0, P1, P2, P3, D>, Database, OpenGate>,
+    manned: Manned<Listing<P0, P1, P2, P3, D>>,
 ) -> Left<Listing<P0, P1, P2, P3, D>> {
     let bus = ListedBus { bus: line };
+    let gate = Striking {
+        line,
+        driving,
+        records,
+    };
+    let worker = Worker::new(manned.0, manned.1, gate);
     let mut left = works(rt, alloc, &bus, directory, worker);
     for _ in 0..RESTARTS {
         if left.0 != Outcome::Down {
@@ -243,7 +293,12 @@ fn serves<P0: Ledger, P1: Ledger, P2: Ledger, P3: Ledger, D: Ledger, R: Wait>(
         }
         let (_, port, mut keep) = left;
         is_brought_up(rt, line, driving, at, &mut keep);
-        let worker = Worker::new(port, keep, OpenGate);
+        let gate = Striking {
+            line,
+            driving,
+            records,
+        };
+        let worker = Worker::new(port, keep, gate);
         left = works(rt, alloc, &bus, directory, worker);
     }
     ends(rt, driving, at);
@@ -284,7 +339,7 @@ fn all_run<P0, P1, P2, P3, D, R>(
     alloc: Global,
     line: &Line<P0, P1, P2, P3, D>,
     directory: &Directory,
-    workers: Four<Worker<Listing<P0, P1, P2, P3, D>, Database, OpenGate>>,
+    workers: Four<Manned<Listing<P0, P1, P2, P3, D>>>,
     driving: &Mutex<Driving<P0, P1, P2, P3, D>>,
     records: &[Kept],
 ) -> Four<Left<Listing<P0, P1, P2, P3, D>>>
@@ -302,18 +357,18 @@ where
         move || {
             join(
                 rt,
-                move || serves(rt, alloc, line, directory, driving, 0, first),
-                move || serves(rt, alloc, line, directory, driving, 1, second),
+                move || serves(rt, alloc, line, directory, driving, records, 0, first),
+                move || serves(rt, alloc, line, directory, driving, records, 1, second),
             )
         },
         move || {
             join(
                 rt,
-                move || serves(rt, alloc, line, directory, driving, 2, third),
+                move || serves(rt, alloc, line, directory, driving, records, 2, third),
                 move || {
                     join(
                         rt,
-                        move || serves(rt, alloc, line, directory, driving, 3, fourth),
+                        move || serves(rt, alloc, line, directory, driving, records, 3, fourth),
                         move || drives(rt, line, driving, records),
                     )
                 },
@@ -413,7 +468,7 @@ where
         ports.next().unwrap_or_default(),
         ports.next().unwrap_or_default(),
     );
-    let workers = workers_of(alloc, ports, keeps);
+    let workers = manned(alloc, ports, keeps);
     let driving = Mutex::new((Listed::new(alloc, driver), turnover));
     let left = all_run(rt, alloc, &line, directory, workers, &driving, records);
     let (driver, turnover) = driving.into_inner();
@@ -432,17 +487,13 @@ where
     }
 }
 
-/// A worker for each port and store.
-fn workers_of<P: Drop>(
-    alloc: Global,
-    ports: Four<P>,
-    keeps: Four<Database>,
-) -> Four<Worker<Listed<P>, Database, OpenGate>> {
+/// Each port, which lists, with its store.
+fn manned<P: Drop>(alloc: Global, ports: Four<P>, keeps: Four<Database>) -> Four<Manned<Listed<P>>> {
     (
-        Worker::new(Listed::new(alloc, ports.0), keeps.0, OpenGate),
-        Worker::new(Listed::new(alloc, ports.1), keeps.1, OpenGate),
-        Worker::new(Listed::new(alloc, ports.2), keeps.2, OpenGate),
-        Worker::new(Listed::new(alloc, ports.3), keeps.3, OpenGate),
+        (Listed::new(alloc, ports.0), keeps.0),
+        (Listed::new(alloc, ports.1), keeps.1),
+        (Listed::new(alloc, ports.2), keeps.2),
+        (Listed::new(alloc, ports.3), keeps.3),
     )
 }
 
@@ -606,9 +657,9 @@ fn stores(alloc: Global, blocks: &[Block]) -> Result<Four<Database>, Wrong> {
 
 /// A site whose gear draw different numbers, far apart.
 fn new_site(alloc: Global) -> Result<SiteState, Wrong> {
-    let mut draws = [0u32; 512];
+    let mut draws = [0u32; 1024];
     for (index, draw) in draws.iter_mut().enumerate() {
-        *draw = index as u32 * 32_719;
+        *draw = index as u32 * 16_363;
     }
     let Ok(plan) = Plan::new(alloc, GEAR, &BLOCKS, &draws) else {
         return Err(Wrong("the plan is refused"));
@@ -625,6 +676,7 @@ fn begun(alloc: Global, seed: u64) -> Result<Played, Wrong> {
     let turnover = Turnover {
         chance: Chance { state: seed },
         ended: [false; 4],
+        is_spent: false,
         downs: 0,
         ups: 0,
         is_right: true,
@@ -688,7 +740,7 @@ fn sessions<R: Threads + Wait + Sync>(
             Err(wrong) => return Err(wrong),
         }
         count = count.saturating_add(1);
-        if played.site.log().len() > LONG {
+        if played.turnover.is_spent || played.site.log().len() > LONG {
             break;
         }
     }
