@@ -176,7 +176,7 @@ impl<P0: Ledger, P1: Ledger, P2: Ledger, P3: Ledger, D: Ledger> Gate
             return;
         }
         // The bus's thread may wait for this worker while it has the driver.
-        if let Ok(mut driving) = self.driving.try_lock() {
+        if let Some(mut driving) = self.driving.try_lock() {
             if driving.1.chance.below(32) == 0 {
                 strikes(rt, self.line, &mut driving, controller, self.records);
             }

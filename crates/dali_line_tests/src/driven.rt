@@ -1,6 +1,8 @@
 //! A bus of one's own: it drives itself, so that a worker runs alone. Where its controller has nothing due, or waits
 //! for room, the bus has a turn before.
 
+ghost use Rattle.std.specs.Prelude.{◌≡◌};
+
 use dali_line::{Bus, Ready};
 use dali_script::{Due, Input, Record};
 use dali_world::{Receipt, Refusal, Report, Trouble};
