@@ -324,6 +324,20 @@ fn runs<P0: Ledger, P1: Ledger, P2: Ledger, P3: Ledger, D: Ledger, R: Abort + Wa
     }
 }
 
+/// As much arc power is offered as may wait. How many frames.
+fn offered<P0: Ledger, P1: Ledger, P2: Ledger, P3: Ledger, D: Ledger, R: Wait>(
+    rt: &R,
+    line: &Line<P0, P1, P2, P3, D>,
+    port: &mut Port<P0, P1, P2, P3, D>,
+) -> u8 {
+    for count in 0..100 {
+        if line.arc(rt, port, forward(0xFE80)).is_err() {
+            return count;
+        }
+    }
+    100
+}
+
 /// While controller 0 owns the bus, so much arc power waits that it is refused. A pumper lets the bus lapse and sends
 /// the first of the arc power, and the controller goes on.
 fn lapses<P0: Ledger, P1: Ledger, P2: Ledger, P3: Ledger, D: Ledger, R: Abort + Wait>(
@@ -339,11 +353,7 @@ fn lapses<P0: Ledger, P1: Ledger, P2: Ledger, P3: Ledger, D: Ledger, R: Abort + 
     } = crew;
     assert!(rt; line.act(rt, &mut port, Input::Start).is_ok());
     let _ = line.pump(rt, &mut driver, Trouble::None);
-    let mut offered = 0u8;
-    while offered < 100 && line.arc(rt, &mut other, forward(0xFE80)).is_ok() {
-        offered += 1;
-    }
-    same(rt, &offered, &64);
+    same(rt, &offered(rt, line, &mut other), &64);
     same(rt, &line.ready(rt, &mut driver), &Ready::Full);
     let heard = Input::Heard(Answer::Silence);
     same(
