@@ -5,9 +5,9 @@ FILES = {
 //!
 //! The program is given a seed, plays one site in sessions, and looks at it after each of them.
 //! In a session each controller has a thread, over a line round the site. The bus's thread takes controllers down now
-//! and then, and so do the workers' gates, before and after a commit; half of the time the controller is to come up at
-//! once with what its store read when the session began. A worker whose controller is down ends; its thread brings the
-//! controller up with what the store reads then, and goes on with another worker.
+//! and then, and so do the workers' gates, before and after a commit; then the controller is half of the time to come up
+//! at once with what its store read when the session began. A worker whose controller is down ends; its thread brings
+//! the controller up with what the store reads then, and goes on with another worker.
 #![tactic(auto)]
 
 ghost use Rattle.std.specs.Prelude.{◌≡◌, ◌<◌};
@@ -134,7 +134,8 @@ fn brings_up<P0: Ledger, P1: Ledger, P2: Ledger, P3: Ledger, D: Ledger, R: Wait>
     }
 }
 
-/// A controller goes down, and half of the time it is to come up at once with old records.
+/// A controller goes down while its worker is at a commit, and half of the time it is to come up at once with old
+/// records.
 fn strikes<P0: Ledger, P1: Ledger, P2: Ledger, P3: Ledger, D: Ledger, R: Wait>(
     rt: &R,
     line: &Line<P0, P1, P2, P3, D>,
@@ -153,11 +154,10 @@ fn turns_over<P0: Ledger, P1: Ledger, P2: Ledger, P3: Ledger, D: Ledger, R: Wait
     rt: &R,
     line: &Line<P0, P1, P2, P3, D>,
     driving: &mut Driving<P0, P1, P2, P3, D>,
-    records: &[Kept],
 ) {
     if driving.1.chance.below(1024) == 0 {
         let at = some_controller(&mut driving.1.chance);
-        strikes(rt, line, driving, at, records);
+        takes_down(rt, line, driving, at);
     }
 }
 
@@ -215,10 +215,9 @@ fn drives<P0: Ledger, P1: Ledger, P2: Ledger, P3: Ledger, D: Ledger, R: Wait>(
     rt: &R,
     line: &Line<P0, P1, P2, P3, D>,
     driving: &Mutex<Driving<P0, P1, P2, P3, D>>,
-    records: &[Kept],
 ) {
     for _ in 0..TURNS {
-        if !drives_once(rt, line, driving, records) {
+        if !drives_once(rt, line, driving) {
             break;
         }
         yield_now();
@@ -230,12 +229,11 @@ fn drives_once<P0: Ledger, P1: Ledger, P2: Ledger, P3: Ledger, D: Ledger, R: Wai
     rt: &R,
     line: &Line<P0, P1, P2, P3, D>,
     driving: &Mutex<Driving<P0, P1, P2, P3, D>>,
-    records: &[Kept],
 ) -> bool {
     let mut driving = driving.lock(rt);
     let goes_on = goes_on(rt, line, &mut driving);
     if goes_on {
-        turns_over(rt, line, &mut driving, records);
+        turns_over(rt, line, &mut driving);
     }
     goes_on
 }
@@ -369,7 +367,7 @@ where
                     join(
                         rt,
                         move || serves(rt, alloc, line, directory, driving, records, 3, fourth),
-                        move || drives(rt, line, driving, records),
+                        move || drives(rt, line, driving),
                     )
                 },
             )
