@@ -9,9 +9,9 @@ const ROUNDS: u32 = 16_384;
 
 /// A site of 64 gear, which draw the numbers from 400000 on in the order of their own numbers, and one controller.
 fn begun(alloc: Global) -> Option<SiteState> {
-    let mut draws = [0x400000u32; 64];
+    let mut draws = [0u32; 64];
     for (number, draw) in draws.iter_mut().enumerate() {
-        *draw += number as u32;
+        *draw = 0x400000 + number as u32;
     }
     match Plan::new(alloc, 64, &[(0, 63)], &draws) {
         Ok(plan) => SiteState::new(alloc, plan, 65_536, 4).ok(),
