@@ -50,7 +50,7 @@ fn goes<R: Abort>(rt: &R, site: &mut SiteState, c: u8) -> Option<Ordered> {
 fn round<R: Abort>(
     rt: &R,
     site: &mut SiteState,
-    trouble: Trouble,
+    trouble: &Trouble,
     wanted: &[Told],
     told: &mut usize,
 ) -> bool {
@@ -63,11 +63,11 @@ fn round<R: Abort>(
             *told = told.saturating_add(1);
         }
     }
-    *told < wanted.len() && matches!(site.pump(trouble), Ok(Report::Sent(..)))
+    *told < wanted.len() && matches!(site.pump(*trouble), Ok(Report::Sent(..)))
 }
 
 /// Rounds until all of this was ordered, in this order, but for frames. How many frames were sent.
-fn runs<R: Abort>(rt: &R, site: &mut SiteState, trouble: Trouble, wanted: &[Told]) -> u32 {
+fn runs<R: Abort>(rt: &R, site: &mut SiteState, trouble: &Trouble, wanted: &[Told]) -> u32 {
     let (mut told, mut frames) = (0, 0u32);
     for _ in 0..1000 {
         if round(rt, site, trouble, wanted, &mut told) {
@@ -127,7 +127,7 @@ const BOTH_END: [Told; 17] = [
 ];
 
 fn both_end<R: Abort>(rt: &R, site: &mut SiteState) {
-    same(rt, &runs(rt, site, Trouble::None, &BOTH_END), &680);
+    same(rt, &runs(rt, site, &Trouble::None, &BOTH_END), &680);
     let all = [(0, 0x100000), (1, 0x200000), (2, 0x300000)];
     keeps(rt, site, 0, &all, &all);
     keeps(rt, site, 1, &[], &all);
@@ -149,7 +149,7 @@ const SMALL_BLOCK: [Told; 3] = [
 ];
 
 fn block_fills<R: Abort>(rt: &R, site: &mut SiteState) {
-    same(rt, &runs(rt, site, Trouble::None, &SMALL_BLOCK), &221);
+    same(rt, &runs(rt, site, &Trouble::None, &SMALL_BLOCK), &221);
     have(rt, site, &[Some(7), None]);
 }
 
@@ -164,7 +164,7 @@ fn gives_up<R: Abort>(rt: &R, site: &mut SiteState) {
     let destroyed = Trouble::Destroyed(GearSet::NONE);
     same(
         rt,
-        &runs(rt, site, destroyed, &[(0, Done(End::GaveUp))]),
+        &runs(rt, site, &destroyed, &[(0, Done(End::GaveUp))]),
         &0,
     );
     // An act and a destroyed frame, eight times, and the act that gives up.
@@ -192,11 +192,11 @@ const LEFT_BEHIND: [Told; 7] = [
 fn leaves_one_behind<R: Abort>(rt: &R, site: &mut SiteState) -> Result<(), Fail> {
     same(rt, &site.down(1), &Ok(()));
     let first = [(0, Commit(Reserve(0, 0x123456)))];
-    same(rt, &runs(rt, site, Trouble::None, &first), &109);
+    same(rt, &runs(rt, site, &Trouble::None, &first), &109);
     let kept = kept_of((4, 7), &[])?;
     same(rt, &site.up(1, &kept), &Ok(()));
     assert!(rt; goes(rt, site, 1).is_some());
-    same(rt, &runs(rt, site, Trouble::None, &LEFT_BEHIND), &239);
+    same(rt, &runs(rt, site, &Trouble::None, &LEFT_BEHIND), &239);
     keeps(rt, site, 0, &[(0, 0x123456)], &[(4, 0x0ABCDE)]);
     keeps(rt, site, 1, &[(4, 0x0ABCDE)], &[(4, 0x0ABCDE)]);
     Ok(())
