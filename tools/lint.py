@@ -8,12 +8,19 @@ import re
 
 WIDTHS = {"src": (".rt", 120), "specs": (".antt", 100)}
 LONGEST = 800
+ROOMS = ("crates", "extra")
 TESTS = ("dali_tests", "dali_stories", "dali_line_tests", "dali_sqlite_tests")
 
 
 def files(root, pattern):
-    """The files of the repository that match, none of those that are built."""
-    return sorted(file for file in root.glob(pattern) if "out" not in file.relative_to(root).parts)
+    """The files of the repository that match, none of those that are built, and each where it stands itself."""
+    found = (file for file in root.glob(pattern) if not file.is_symlink())
+    return sorted(file for file in found if "out" not in file.relative_to(root).parts)
+
+
+def code(root, pattern):
+    """The files of crates that match, in crates/ and in extra/."""
+    return [file for room in ROOMS for file in files(root, f"{room}/{pattern}")]
 
 
 def named(root, file):
@@ -23,7 +30,7 @@ def named(root, file):
 def widths(root):
     """Lines of code are at most 120 columns wide, of definitions 100."""
     for part, (suffix, most) in WIDTHS.items():
-        for file in files(root, f"crates/*/{part}/**/*{suffix}"):
+        for file in code(root, f"*/{part}/**/*{suffix}"):
             for at, line in enumerate(file.read_text().splitlines(), 1):
                 if len(line) > most:
                     yield f"{named(root, file)}:{at}: {len(line)} columns, and {most} at most"
@@ -31,8 +38,8 @@ def widths(root):
 
 def lengths(root):
     """Files of code, definitions and proofs have fewer than 800 lines."""
-    for pattern in ("crates/**/*.rt", "crates/**/*.antt"):
-        for file in files(root, pattern):
+    for pattern in ("**/*.rt", "**/*.antt"):
+        for file in code(root, pattern):
             count = len(file.read_text().splitlines())
             if count >= LONGEST:
                 yield f"{named(root, file)}: {count} lines, and fewer than {LONGEST} wanted"
@@ -60,7 +67,7 @@ def is_used(name, text):
 def imports(root):
     """Each name that a file of code imports stands in it; or it is a trait, and the file calls one of its methods."""
     methods = methods_of_traits(root)
-    for file in files(root, "crates/*/src/**/*.rt"):
+    for file in code(root, "*/src/**/*.rt"):
         text = file.read_text()
         rest = re.sub(r"^[ \t]*(?:pub )?(?:ghost )?use [^;]+;", "", without_comments(text), flags=re.M)
         for name, item in imported(text):
@@ -83,7 +90,7 @@ TRAIT = re.compile(r"^([ \t]*)pub trait (\w+)[^{]*\{\n(.*?)^\1\}", re.M | re.S)
 def methods_of_traits(root):
     """The methods of the traits in `METHODS`, and of those that crates of the repository declare."""
     them = dict(METHODS)
-    for file in files(root, "crates/*/src/**/*.rt"):
+    for file in code(root, "*/src/**/*.rt"):
         for it in TRAIT.finditer(without_comments(file.read_text())):
             them[it[2]] = (*them.get(it[2], ()), *re.findall(r"\bfn (\w+)", it[3]))
     return them
@@ -101,7 +108,7 @@ def without_comments(text):
 
 def docs(root):
     """Each public function of a library has a doc, unless it is of a trait's impl, where the trait has it."""
-    for file in files(root, "crates/*/src/**/*.rt"):
+    for file in code(root, "*/src/**/*.rt"):
         if file.relative_to(root).parts[1] in TESTS:
             continue
         lines = file.read_text().splitlines()
@@ -122,17 +129,18 @@ def documented(lines, at):
 
 
 def crates(root):
-    """Each crate that crates.txt names below another is named by a file of that one, in code and not in a comment."""
-    for line in (root / "crates.txt").read_text().splitlines():
-        head, _, below = line.partition("#")[0].partition(":")
-        if not head.strip():
-            continue
-        name = head.split()[0]
-        code = "".join(without_comments(file.read_text()) for file in files(root, f"crates/{name}/**/*.rt"))
-        logic = "".join(re.sub("--.*", "", file.read_text()) for file in files(root, f"crates/{name}/**/*.antt"))
-        for it in below.split():
-            if not re.search(rf"\b{it}::|\buse {it};|\bRattle\.{it}\.", code + logic):
-                yield f"crates.txt: {name} names {it}, and no file of {name} does"
+    """Each crate that a crates.txt names below another is named by a file of that one, in code and not in a comment."""
+    for listing in (root / "crates.txt", root / "extra/crates.txt"):
+        for line in listing.read_text().splitlines() if listing.exists() else ():
+            head, _, below = line.partition("#")[0].partition(":")
+            if not head.strip():
+                continue
+            name = head.split()[0]
+            text = "".join(without_comments(file.read_text()) for file in code(root, f"{name}/**/*.rt"))
+            text += "".join(re.sub("--.*", "", file.read_text()) for file in code(root, f"{name}/**/*.antt"))
+            for it in below.split():
+                if not re.search(rf"\b{it}::|\buse {it};|\bRattle\.{it}\.", text):
+                    yield f"{named(root, listing)}: {name} names {it}, and no file of {name} does"
 
 
 def heading(line):
@@ -166,7 +174,7 @@ def headings(file):
 
 def paths(root):
     """Paths of the repository that documents name, as `docs/FORMAT.md` or `tools/launch`, are there."""
-    tops = ("crates", "docs", "tools", "bench", "examples", "include")
+    tops = ("crates", "extra", "docs", "tools", "bench", "examples", "include")
     for file in files(root, "**/*.md"):
         if file.name == "CHANGELOG.md":
             continue
@@ -177,7 +185,7 @@ def paths(root):
 
 def clauses(root):
     """Each clause that docs/PROOFS.md names stands in a contract of some crate."""
-    contracts = "".join(file.read_text() for file in files(root, "crates/*/src/**/*.rt"))
+    contracts = "".join(file.read_text() for file in code(root, "*/src/**/*.rt"))
     known = set(re.findall(r"\b(?:ensures|requires) (\w+)", contracts))
     file = root / "docs/PROOFS.md"
     for words in re.findall(r"clauses? ((?:`\w+`(?:, | and )?)+)", file.read_text() if file.exists() else ""):

@@ -1,7 +1,7 @@
-"""Proves and builds programs of this workspace, each with the crates below it, side by side on all processors.
+"""Proves and builds programs of crates/ and extra/, each with the crates below it, side by side on all processors.
 
-What is proved stays in crates/NAME/out, so a build that is interrupted goes on where it was. What the prover says of a
-crate stands in crates/NAME/out/build.log.
+What is proved stays in out/ of each crate, so a build that is interrupted goes on where it was. What the prover says of a
+crate stands in its out/build.log.
 """
 
 import fcntl
@@ -17,6 +17,8 @@ import time
 
 ROOT = pathlib.Path(__file__).resolve().parent.parent
 CRATES = ROOT / "crates"
+# What the gate proves, and the programs beside it. Each has a crates.txt.
+WORKSPACES = ((ROOT / "crates.txt", CRATES), (ROOT / "extra/crates.txt", ROOT / "extra"))
 PARTS = ("src", "specs", "proofs")
 # What one check takes at most, in bytes of memory.
 MEMORY = 2_500_000_000
@@ -32,10 +34,10 @@ class Interrupted(Exception):
 
 
 class Crate:
-    """A crate of crates.txt: its line there, the workspace's crates below it, and how many lines there are to prove."""
+    """A crate: its line in its crates.txt, its folder, the crates below it, and how many lines there are to prove."""
 
-    def __init__(self, name, line, direct):
-        self.name, self.line, self.folder = name, line, CRATES / name
+    def __init__(self, name, line, folder, direct):
+        self.name, self.line, self.folder = name, line, folder
         self.below = list(dict.fromkeys(it for crate in direct for it in [*crate.below, crate]))
         self.is_program = (self.folder / "src/main.rt").is_file()
         self.made = self.folder / "out" / (name if self.is_program else "rlib/stamp")
@@ -49,20 +51,29 @@ class Crate:
         """Whether it is built, and nothing that it is made of is newer."""
         if not self.made.is_file():
             return False
-        parts = [ROOT / "crates.txt", *self.sources(), *(crate.made for crate in self.below)]
+        lists = [file for file, folder in WORKSPACES if folder == self.folder.parent]
+        parts = [*lists, *self.sources(), *(crate.made for crate in self.below)]
         made = self.made.stat().st_mtime
         return all(part.is_file() and part.stat().st_mtime <= made for part in parts)
 
 
 def workspace():
-    """The crates of crates.txt by name."""
+    """The crates by name, those of crates/ before those of extra/, and in each folder the lowest first."""
     found = {}
-    for line in (ROOT / "crates.txt").read_text().splitlines():
-        head, _, below = line.partition("#")[0].partition(":")
-        if head.strip():
-            name = head.split()[0]
-            found[name] = Crate(name, line, [found[it] for it in below.split() if it in found])
+    for file, folder in WORKSPACES:
+        for line in file.read_text().splitlines():
+            head, _, below = line.partition("#")[0].partition(":")
+            if head.strip():
+                name = head.split()[0]
+                found[name] = Crate(name, line, folder / name, [found[it] for it in below.split() if it in found])
     return found
+
+
+def built(name):
+    """The program of this name, proved and built where it is missing or older than its sources."""
+    if subprocess.run([ROOT / "tools/build", name], stdout=subprocess.DEVNULL).returncode != 0:
+        sys.exit(f"{name} is not built")
+    return workspace()[name].made
 
 
 def free_memory():
@@ -183,6 +194,11 @@ def input_of(crate, place):
     return open(given if given.is_file() else os.devnull, "rb")
 
 
+def link(file, name):
+    """One more name for a file: for what a symbolic link leads to, not for the link."""
+    os.link(os.path.realpath(file), name)
+
+
 def lay_out(crate, place):
     """Makes a workspace of the crate and those below it, whose libraries are linked in.
 
@@ -198,7 +214,7 @@ def lay_out(crate, place):
         folder.mkdir(parents=True)
         for part in (*PARTS, "out/rlib"):
             if (it.folder / part).is_dir():
-                shutil.copytree(it.folder / part, folder / part, copy_function=os.link)
+                shutil.copytree(it.folder / part, folder / part, copy_function=link)
         for file in it.folder.iterdir():
             if file.is_file():
                 shutil.copy(file, folder)
@@ -254,7 +270,7 @@ def prove(title, programs):
         run.run()
         return 0
     except Refused as refused:
-        log = CRATES / str(refused) / "out/build.log"
+        log = workspace()[str(refused)].log
         say(f"{title}: {refused} is refused; the end of {log}:")
         say("\n".join(log.read_text(errors="replace").splitlines()[-20:]))
         return REFUSED

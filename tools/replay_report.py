@@ -3,10 +3,9 @@
 import collections
 import re
 
-from threads_report import GEAR, TABLE, check
+from threads_report import GEAR, RANDOM, TABLE, check
 
 FRAME = "[0-9A-F]{4}"
-RANDOM = "[0-9A-F]{6}"
 ANSWER = "(?:silence|damaged|byte [0-9A-F]{2})"
 ENDS = "(?:done (?:all-found|block-full|gave-up))"
 COMMIT = rf"(?:commit (?:reserve|enrol|release) \d+ {RANDOM})"

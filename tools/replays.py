@@ -1,23 +1,18 @@
 """Plays scripts with `dali_sim replay`."""
 
-import pathlib
 import resource
 import subprocess
 import typing
 
+import proving
 from threads_report import Disagreement
 
-ROOT = pathlib.Path(__file__).resolve().parent.parent
-PROGRAM = ROOT / "crates" / "dali_sim" / "out" / "dali_sim"
 TRIES = 3
 
 
 def built(program):
     """The program to play with: the one that is named, or the one that tools/build makes."""
-    if program is None:
-        subprocess.run([ROOT / "tools" / "build", "dali_sim"], check=True, stdout=subprocess.DEVNULL)
-        program = PROGRAM
-    return str(program)
+    return str(program or proving.built("dali_sim"))
 
 
 class Played(typing.NamedTuple):

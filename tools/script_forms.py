@@ -1,16 +1,23 @@
-"""What a script of `dali_sim replay` says, as docs/FORMAT.md has it: its plan, its lines, and the fault it ends in."""
+"""Scripts of `dali_sim replay`, as docs/FORMAT.md has them: their limits, how their first two lines are written, and what a
+script says: its plan, its lines, and the fault it ends in."""
 
 import dataclasses
 import re
 
 MOST_BYTES = 1_048_576
+MOST_GEAR = 128
+MOST_CONTROLLERS = 4
+MOST_DRAWS = 1_024
+LAST_ADDRESS = 63
+NO_RANDOM = 0xFFFFFF
 TOO_LONG = "replay: the input cannot be read, or is longer than 1,048,576 bytes\n"
 NUMBER = "(?:0|[1-9][0-9]{0,5}|1000000)"
 ADDRESS = "(?:0|[1-9][0-9]?|1[0-9][0-9]|2[0-4][0-9]|25[0-5])"
 TAKER = "(?:0|[1-9][0-9]?|1[01][0-9]|12[0-7])"
 FRAME = "[0-9A-Fa-f]{4}"
 HEADING = re.compile(f"bench ({NUMBER})|site ({NUMBER})((?: {ADDRESS}-{ADDRESS})*)")
-DRAWS = re.compile("draws((?: [0-9A-Fa-f]{6}){0,1024})")
+BLOCK = re.compile(f"({ADDRESS})-({ADDRESS})")
+DRAWS = re.compile(f"draws((?: [0-9A-Fa-f]{{6}}){{0,{MOST_DRAWS}}})")
 BOTH = f"(?:off|on|expire) {NUMBER}|quiet|show"
 BENCH_LINE = re.compile(f"frame {FRAME}|{BOTH}")
 SITE_LINE = re.compile(
@@ -32,6 +39,33 @@ class Reading:
     lines: list = dataclasses.field(default_factory=list)
 
 
+def block_of(word):
+    """The first and the last address of a block `a-b`."""
+    form = BLOCK.fullmatch(word)
+    if not form:
+        raise ValueError(f"'{word}' is no block: two addresses with - between them, as in 0-15")
+    first, last = map(int, form.groups())
+    if not first <= last <= LAST_ADDRESS:
+        raise ValueError(f"'{word}' is no block: the last address is at least the first, and at most {LAST_ADDRESS}")
+    return first, last
+
+
+def draws_line(numbers):
+    """The line of the random addresses that the gear draw in turn."""
+    return "".join(["draws", *(f" {number:06X}" for number in numbers)])
+
+
+def bench_of(gear, numbers, lines):
+    """The script of a bench of so many gear."""
+    return "".join(f"{line}\n" for line in (f"bench {gear}", draws_line(numbers), *lines))
+
+
+def site_of(gear, blocks, numbers, lines):
+    """The script of a site of so many gear, with a controller for each block."""
+    named = "".join(f" {first}-{last}" for first, last in blocks)
+    return "".join(f"{line}\n" for line in (f"site {gear}{named}", draws_line(numbers), *lines))
+
+
 def plan_fault(gear, blocks, draws):
     """The first cause for which a plan is refused, or nothing."""
     taken = set()
@@ -41,11 +75,11 @@ def plan_fault(gear, blocks, draws):
         overlap = overlap or bool(taken & addresses)
         taken |= addresses
     causes = (
-        ("GearCount", not 1 <= gear <= 128),
-        ("ControllerCount", not 1 <= len(blocks) <= 4),
-        ("BlockOrder", any(first > last or last > 63 for first, last in blocks)),
+        ("GearCount", not 1 <= gear <= MOST_GEAR),
+        ("ControllerCount", not 1 <= len(blocks) <= MOST_CONTROLLERS),
+        ("BlockOrder", any(first > last or last > LAST_ADDRESS for first, last in blocks)),
         ("BlockOverlap", overlap),
-        ("DrawTooLarge", "FFFFFF" in draws),
+        ("DrawTooLarge", f"{NO_RANDOM:06X}" in draws),
         ("DrawTwice", len(set(draws)) < len(draws)),
     )
     return next((name for name, holds in causes if holds), "")

@@ -1,5 +1,6 @@
 """Scripts for `dali_sim replay` that are made at random, and what may be changed in one."""
 
+import script_forms
 import site_script
 
 NUMBERS = "0 1 2 3 4 5 62 63 64 65 126 127 128 129 255 256 999999 1000000 1000001 00 01 -1 +1 4294967296".split()
@@ -78,18 +79,17 @@ def drawn_site(draw):
 def drawn_lines(draw):
     """A script of a bench or a site whose lines are drawn one by one."""
     gear = draw.choice((1, 2, 3, 8))
-    numbers = draw.sample(range(0xFFFFFF), draw.choice((0, 1, 8, 64)))
-    draws = "draws" + "".join(f" {number:06X}" for number in numbers)
+    numbers = draw.sample(range(script_forms.NO_RANDOM), draw.choice((0, 1, 8, 64)))
     count = draw.randrange(200)
     if draw.random() < 0.3:
         body = [bench_line(draw, gear) for _ in range(count)]
-        return "\n".join([f"bench {gear}", draws, *body]) + "\n"
+        return script_forms.bench_of(gear, numbers, body)
     controllers = draw.randrange(1, 5)
-    named = "".join(f" {first}-{last}" for first, last in blocks(draw, controllers))
+    named = blocks(draw, controllers)
     body = [site_line(draw, gear, controllers) for _ in range(count)]
     if draw.random() < 0.005:
         body = ["quiet"] * (EVENTS - draw.randrange(2 * count + 1)) + body
-    return "\n".join([f"site {gear}{named}", draws, *body]) + "\n"
+    return script_forms.site_of(gear, named, numbers, body)
 
 
 def change_line(draw, lines):

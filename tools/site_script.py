@@ -2,15 +2,10 @@
 
 import dataclasses
 import random
-import re
 
-from script_forms import MOST_BYTES
+import script_forms
 
-MOST_GEAR = 128
-MOST_CONTROLLERS = 4
-MOST_DRAWS = 1_024
 MOST_ROUNDS = 30_000
-LAST_ADDRESS = 63
 LAST_RUN = 100_000
 LONGEST_ABSENCE = 20
 
@@ -59,18 +54,7 @@ def usual_rounds(gear, controllers):
 
 
 def usual_draws(gear):
-    return min(MOST_DRAWS, 64 * gear)
-
-
-def block_of(word):
-    """The first and the last address of a block `a-b`."""
-    form = re.fullmatch(r"(0|[1-9][0-9]?)-(0|[1-9][0-9]?)", word)
-    if not form:
-        raise ValueError(f"'{word}' is no block: two addresses with - between them, as in 0-15")
-    first, last = map(int, form.groups())
-    if not first <= last <= LAST_ADDRESS:
-        raise ValueError(f"'{word}' is no block: the last address is at least the first, and at most {LAST_ADDRESS}")
-    return first, last
+    return min(script_forms.MOST_DRAWS, 64 * gear)
 
 
 class Rounds:
@@ -191,8 +175,6 @@ class Rounds:
 
 def script_of(site):
     """The whole script, with a last run that nothing disturbs."""
-    numbers = random.Random(f"draws {site.seed}").sample(range(0xFFFFFF), site.draws)
-    blocks = "".join(f" {first}-{last}" for first, last in site.blocks)
-    draws = "".join(f" {number:06X}" for number in numbers)
-    lines = [f"site {site.gear}{blocks}", f"draws{draws}", *Rounds(site).all(), f"run {LAST_RUN}", "show"]
-    return "\n".join(lines) + "\n"
+    numbers = random.Random(f"draws {site.seed}").sample(range(script_forms.NO_RANDOM), site.draws)
+    lines = [*Rounds(site).all(), f"run {LAST_RUN}", "show"]
+    return script_forms.site_of(site.gear, site.blocks, numbers, lines)

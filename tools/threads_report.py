@@ -12,12 +12,12 @@ ENDS = {
     "turns-spent",
     "stopped",
     "no-memory",
+    "down",
 }
+RANDOM = "[0-9A-F]{6}"
 CONTROLLER = re.compile(r"controller (\d+): (.+)")
-GEAR = re.compile(
-    r"gear (\d+) (on|off) (disabled|enabled|withdrawn) ([0-9A-F]{6}) ([0-9A-F]{6}) (-|\d+)"
-)
-TABLE = re.compile(r"table (\d+):((?: \d+=[0-9A-F]{6})*)")
+GEAR = re.compile(rf"gear (\d+) (on|off) (disabled|enabled|withdrawn) ({RANDOM}) ({RANDOM}) (-|\d+)")
+TABLE = re.compile(rf"table (\d+):((?: \d+={RANDOM})*)")
 ADDRESSED = re.compile(r"addressed (\d+) of (\d+)")
 
 

@@ -1,13 +1,10 @@
-"""The program of tools/soak, as text."""
-
-FILES = {
-    "src/main.rt": r"""//! Four controllers commission gear, while the bus's thread takes them down and up at random.
+//! Four controllers commission gear, while the bus's thread takes them down and up at random.
 //!
 //! The program is given a seed, plays one site in sessions, and looks at it after each of them.
 //! In a session each controller has a thread, over a line round the site. The bus's thread takes controllers down now
-//! and then, and so do the workers' gates, before and after a commit; then the controller is half of the time to come up
-//! at once with what its store read when the session began. A worker whose controller is down ends; its thread brings
-//! the controller up with what the store reads then, and goes on with another worker.
+//! and then, and so do the workers' gates, before and after a commit; then the controller is half of the time to come
+//! up at once with what its store read when the session began. A worker whose controller is down ends; its thread
+//! brings the controller up with what the store reads then, and goes on with another worker.
 #![tactic(auto)]
 
 ghost use Rattle.std.specs.Prelude.{◌≡◌, ◌<◌};
@@ -16,9 +13,7 @@ mod listed;
 
 use arrayvec::ArrayVec;
 use dali_enrol::Directory;
-use dali_line::{
-    Bus, Driver, Gate, Line, Moment, Outcome, Port, Ready, UpRefusal, Worker,
-};
+use dali_line::{Bus, Driver, Gate, Line, Moment, Outcome, Port, Ready, UpRefusal, Worker};
 use dali_reserve::Keep;
 use dali_script::{Block, Kept};
 use dali_sqlite::SqliteKeep;
@@ -265,8 +260,8 @@ type Listing<P0, P1, P2, P3, D> = Listed<Port<P0, P1, P2, P3, D>>;
 /// A port and the store of its controller.
 type Manned<P> = (P, Database);
 
-/// A controller's thread: workers run, one after the other, until one ends for another cause than that its controller is
-/// down. Each time the controller comes up with what the store reads.
+/// A controller's thread: workers run, one after the other, until one ends for another cause than that its controller
+/// is down. Each time the controller comes up with what the store reads.
 fn serves<P0: Ledger, P1: Ledger, P2: Ledger, P3: Ledger, D: Ledger, R: Wait>(
     rt: &R,
     alloc: Global,
@@ -486,7 +481,11 @@ where
 }
 
 /// Each port, which lists, with its store.
-fn manned<P: Drop>(alloc: Global, ports: Four<P>, keeps: Four<Database>) -> Four<Manned<Listed<P>>> {
+fn manned<P: Drop>(
+    alloc: Global,
+    ports: Four<P>,
+    keeps: Four<Database>,
+) -> Four<Manned<Listed<P>>> {
     (
         (Listed::new(alloc, ports.0), keeps.0),
         (Listed::new(alloc, ports.1), keeps.1),
@@ -793,23 +792,4 @@ fn main(rt: HostRuntime) -> ExitCode {
             ExitCode::FAILURE
         }
     }
-}
-""",
-    "proofs/goes_further/Invariants.antt": r"""use Rattle.soaking.proofs.goes_further.Given as goal
-
-abbrev pub ghosts-session-P0-Ledger : goal.ghosts-session-P0-Ledger
-ghosts-session-P0-Ledger g a = record { name = a.blanks.0.name; parts = a.blanks.0.parts }
-
-abbrev pub ghosts-session-P1-Ledger : goal.ghosts-session-P1-Ledger
-ghosts-session-P1-Ledger g a = record { name = a.blanks.1.name; parts = a.blanks.1.parts }
-
-abbrev pub ghosts-session-P2-Ledger : goal.ghosts-session-P2-Ledger
-ghosts-session-P2-Ledger g a = record { name = a.blanks.2.name; parts = a.blanks.2.parts }
-
-abbrev pub ghosts-session-P3-Ledger : goal.ghosts-session-P3-Ledger
-ghosts-session-P3-Ledger g a = record { name = a.blanks.3.name; parts = a.blanks.3.parts }
-
-abbrev pub ghosts-session-D-Ledger : goal.ghosts-session-D-Ledger
-ghosts-session-D-Ledger g a = record { name = a.blanks.4.name; parts = a.blanks.4.parts }
-""",
 }

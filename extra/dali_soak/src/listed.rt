@@ -1,0 +1,1 @@
+../../../crates/dali_line_tests/src/listed.rt
