@@ -3,6 +3,7 @@
 Each rule takes the folder of a repository and gives its offences, one line of text each.
 """
 
+import os
 import pathlib
 import re
 
@@ -16,6 +17,15 @@ def files(root, pattern):
     """The files of the repository that match, none of those that are built, and each where it stands itself."""
     found = (file for file in root.glob(pattern) if not file.is_symlink())
     return sorted(file for file in found if "out" not in file.relative_to(root).parts)
+
+
+def everywhere(root, suffix):
+    """The files of the repository with this suffix, but not what git and builds keep."""
+    found = []
+    for folder, folders, names in os.walk(root):
+        folders[:] = [it for it in folders if it not in (".git", ".proving", "out")]
+        found += [pathlib.Path(folder, name) for name in names if name.endswith(suffix)]
+    return sorted(file for file in found if not file.is_symlink())
 
 
 def code(root, pattern):
@@ -155,7 +165,7 @@ def prose(text):
 
 def links(root):
     """Links in documents lead to files and headings that are there."""
-    for file in files(root, "**/*.md"):
+    for file in everywhere(root, ".md"):
         text = prose(file.read_text())
         for target in re.findall(r"\]\(([^)\s]+)\)", text):
             if re.match(r"\w+:", target):
@@ -175,7 +185,7 @@ def headings(file):
 def paths(root):
     """Paths of the repository that documents name, as `docs/FORMAT.md` or `tools/launch`, are there."""
     tops = ("crates", "extra", "docs", "tools", "bench", "examples", "include")
-    for file in files(root, "**/*.md"):
+    for file in everywhere(root, ".md"):
         if file.name == "CHANGELOG.md":
             continue
         for path in re.findall(rf"`((?:{'|'.join(tops)})/[\w./-]+)", prose(file.read_text())):
@@ -197,10 +207,11 @@ def clauses(root):
 def kit(root):
     """The kit's name stands in the file KIT alone."""
     name = (root / "KIT").read_text().split()[0]
-    for pattern in ("**/*.md", "**/*.rt", "**/*.py", "tools/*", "bench/*", ".ci/*", "*"):
-        for file in files(root, pattern):
-            if file.is_file() and file != root / "KIT" and name in file.read_text(errors="replace"):
-                yield f"{named(root, file)}: the kit's name stands here, and in KIT"
+    found = [file for suffix in (".md", ".rt", ".py") for file in everywhere(root, suffix)]
+    found += [file for pattern in ("tools/*", "bench/*", ".ci/*", "*") for file in files(root, pattern)]
+    for file in found:
+        if file.is_file() and file != root / "KIT" and name in file.read_text(errors="replace"):
+            yield f"{named(root, file)}: the kit's name stands here, and in KIT"
 
 
 RULES = (widths, lengths, imports, docs, crates, links, paths, clauses, kit)

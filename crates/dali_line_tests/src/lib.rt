@@ -15,8 +15,6 @@ mod reading;
 #[cfg(test)]
 mod restarts;
 #[cfg(test)]
-mod runs;
-#[cfg(test)]
 mod threads;
 #[cfg(test)]
 mod values;

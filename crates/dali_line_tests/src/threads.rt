@@ -10,9 +10,7 @@ use dali_enrol::{Directory, Pass};
 use dali_line::{Bus, Driver, Gate, Line, Moment, OpenGate, Outcome, Port, Pumper, Worker};
 use dali_reserve::{Keep, MemoryKeep};
 use dali_script::{End, Kept};
-use dali_sqlite::SqliteKeep;
 use dali_world::{Event, Refusal, SiteState};
-use sqlite::MemStore;
 use std::alloc::Global;
 use std::marker::Brand;
 use std::process::Abort;
@@ -89,9 +87,6 @@ impl Gate for &Holding {
     }
 }
 
-/// A store in a database in memory.
-type Database = SqliteKeep<MemStore>;
-
 /// What a worker leaves: how it ended, its port, what its store reads, and its pass.
 pub type Left<P> = (Outcome, P, Option<Kept>, Option<Pass>);
 
@@ -131,8 +126,8 @@ fn two_run<B, R>(
     directory: &Directory,
     gate: &Holding,
     workers: (
-        Worker<B::Port, Database, &Holding>,
-        Worker<B::Port, Database, &Holding>,
+        Worker<B::Port, MemoryKeep, &Holding>,
+        Worker<B::Port, MemoryKeep, &Holding>,
     ),
     pumper: Pumper<B::Driver, OpenGate>,
 ) -> Run<B::Port, B::Driver>
@@ -271,31 +266,14 @@ fn was_read<R: Abort>(
     see_table(rt, directory, &mut one, &mut other, second);
 }
 
-/// Both workers found all gear, as `has_found` says of each, and what the reader saw is true, as `was_read` says.
-fn have_found<P: Drop, R: Abort>(
-    rt: &R,
-    directory: &Directory,
-    site: &SiteState,
-    left: (Left<P>, Left<P>),
-    reading: Option<Reading>,
-)
-    requires one { IfSome left.0.3 (λ p. p.places ≡ directory.now) }
-    requires other { IfSome left.1.3 (λ p. p.places ≡ directory.now) }
-{
-    let (one, other) = left;
-    has_found(rt, site, 0, &one);
-    has_found(rt, site, 1, &other);
-    was_read(rt, directory, site, (one.3, other.3), reading);
-}
-
 /// The last two ports, in order of their controllers.
 pub fn last_two<P: Default + Drop>(ports: &mut ArrayVec<P, 4>) -> (P, P) {
     let other = ports.pop().unwrap_or_default();
     (ports.pop().unwrap_or_default(), other)
 }
 
-/// Two workers, each with a database, a pumper and a reader run over a bus, and the gate saw both workers before a
-/// commit of their own. What the workers leave, the driver, and what the reader has seen.
+/// Two workers, a pumper and a reader run over a bus, and the gate saw both workers before a commit of their own. What
+/// the workers leave, the driver, and what the reader has seen.
 fn run_apart<B, R>(
     rt: &R,
     alloc: Global,
@@ -303,7 +281,7 @@ fn run_apart<B, R>(
     directory: &Directory,
     ports: (B::Port, B::Port),
     driver: B::Driver,
-    keeps: (Database, Database),
+    keeps: (MemoryKeep, MemoryKeep),
 ) -> Run<B::Port, B::Driver>
 where
     B: Bus + Sync,
@@ -336,7 +314,7 @@ fn commits_apart<P0, P1, P2, P3, D, R>(
     alloc: Global,
     site: SiteState,
     blanks: Blanks,
-    keeps: (Database, Database),
+    keeps: (MemoryKeep, MemoryKeep),
     directory: &Directory,
 )
 where
@@ -364,123 +342,9 @@ where
 
 const APART: [(u8, u8); 2] = [(0, 3), (4, 7)];
 
-/// Two controllers, each with a database, are before a commit of their own at the same time, and what they post is read
+/// Two controllers, each with a store, are before a commit of their own at the same time, and what they post is read
 /// meanwhile.
-fn commit_apart<R: Threads + Wait + Abort + Sync + AllocGlobal>(
-    rt: &R,
-    directory: &Directory,
-    site: SiteState,
-) -> Result<(), Fail> {
-    let alloc = rt.alloc();
-    let one = SqliteKeep::in_memory(alloc, block(0, 3)?)?;
-    let other = SqliteKeep::in_memory(alloc, block(4, 7)?)?;
-    let blanks = blanks();
-    commits_apart::<Brand, Brand, Brand, Brand, Brand, R>(
-        rt,
-        alloc,
-        site,
-        blanks,
-        (one, other),
-        directory,
-    );
-    Ok(())
-}
-
-#[test]
-fn commit_outside_lock(rt: HostRuntime) -> Result<(), Fail> {
-    let site = site_of(rt.alloc(), 2, &APART, &[1, 2, 3, 4])?;
-    commit_apart(&rt, &Directory::new(rt.alloc())?, site)
-}
-
-#[test]
-fn look_while_running(rt: HostRuntime) -> Result<(), Fail> {
-    let site = site_with(rt.alloc(), 4, &APART)?;
-    commit_apart(&rt, &Directory::new(rt.alloc())?, site)
-}
-
-/// Two workers over stores in memory, and a pumper. The second worker begins when the first one's gate has seen it
-/// before its first commit.
-fn two_in_memory<B, R>(
-    rt: &R,
-    alloc: Global,
-    bus: &B,
-    directory: &Directory,
-    gate: &Holding,
-    workers: (
-        Worker<B::Port, MemoryKeep, &Holding>,
-        Worker<B::Port, MemoryKeep, &Holding>,
-    ),
-    pumper: Pumper<B::Driver, OpenGate>,
-) -> (Left<B::Port>, Left<B::Port>, (B::Driver, Option<Refusal>))
-where
-    B: Bus + Sync,
-    B::Port: Send + Drop,
-    B::Driver: Send + Drop,
-    R: Threads + Wait + Sync,
-{
-    let (first, second) = workers;
-    let (one, (other, pumped)) = join(
-        rt,
-        move || works(rt, alloc, bus, directory, first),
-        move || {
-            join(
-                rt,
-                move || {
-                    gate.await_first(rt);
-                    works(rt, alloc, bus, directory, second)
-                },
-                move || pumper.run(rt, bus, TURNS),
-            )
-        },
-    );
-    (one, other, pumped)
-}
-
-/// Both workers are before a commit of their own at the same time, and find all gear.
-fn commits_in_memory<P0, P1, P2, P3, D, R>(
-    rt: &R,
-    alloc: Global,
-    site: SiteState,
-    blanks: Blanks,
-    keeps: (MemoryKeep, MemoryKeep),
-    directory: &Directory,
-)
-where
-    P0: Ledger + Send + Sync,
-    P1: Ledger + Send + Sync,
-    P2: Ledger + Send + Sync,
-    P3: Ledger + Send + Sync,
-    D: Ledger + Send + Sync,
-    R: Threads + Wait + Abort + Sync,
-    requires first { (blanks.0.name ≡ P0.name) × (blanks.0.parts ≡ P0.parts) × (0 < P0.parts) }
-    requires second { (blanks.1.name ≡ P1.name) × (blanks.1.parts ≡ P1.parts) × (0 < P1.parts) }
-    requires third { (blanks.2.name ≡ P2.name) × (blanks.2.parts ≡ P2.parts) × (0 < P2.parts) }
-    requires fourth { (blanks.3.name ≡ P3.name) × (blanks.3.parts ≡ P3.parts) × (0 < P3.parts) }
-    requires driver { (blanks.4.name ≡ D.name) × (blanks.4.parts ≡ D.parts) × (0 < D.parts) }
-{
-    let (line, mut ports, driver) = line_of::<P0, P1, P2, P3, D>(site, blanks);
-    let pair = last_two(&mut ports);
-    let gate = Holding {
-        seen: Mutex::new(Seen {
-            first: false,
-            second: false,
-            has_failed: false,
-        }),
-    };
-    let workers = (
-        Worker::new(pair.0, keeps.0, &gate),
-        Worker::new(pair.1, keeps.1, &gate),
-    );
-    let pumper = Pumper::new(driver, OpenGate);
-    let (one, other, pumped) = two_in_memory(rt, alloc, &line, directory, &gate, workers, pumper);
-    assert!(rt; !gate.seen.lock(rt).has_failed);
-    same(rt, &pumped.1, &None);
-    let site = line.close(ports, pumped.0);
-    has_found(rt, &site, 0, &one);
-    has_found(rt, &site, 1, &other);
-}
-
-fn commit_in_memory<R: Threads + Wait + Abort + Sync>(
+fn commit_apart<R: Threads + Wait + Abort + Sync>(
     rt: &R,
     alloc: Global,
     site: SiteState,
@@ -488,17 +352,29 @@ fn commit_in_memory<R: Threads + Wait + Abort + Sync>(
     directory: &Directory,
 ) {
     let blanks = blanks();
-    commits_in_memory::<Brand, Brand, Brand, Brand, Brand, R>(
+    commits_apart::<Brand, Brand, Brand, Brand, Brand, R>(
         rt, alloc, site, blanks, keeps, directory,
     );
 }
 
+/// Empty stores for the two controllers.
+fn stores_apart() -> Result<(MemoryKeep, MemoryKeep), Fail> {
+    Ok((store_of(APART[0])?, store_of(APART[1])?))
+}
+
 #[test]
-fn commit_outside_lock_in_memory(rt: HostRuntime) -> Result<(), Fail> {
+fn commit_outside_lock(rt: HostRuntime) -> Result<(), Fail> {
     let site = site_of(rt.alloc(), 2, &APART, &[1, 2, 3, 4])?;
-    let keeps = (store_of((0, 3))?, store_of((4, 7))?);
     let directory = Directory::new(rt.alloc())?;
-    commit_in_memory(&rt, rt.alloc(), site, keeps, &directory);
+    commit_apart(&rt, rt.alloc(), site, stores_apart()?, &directory);
+    Ok(())
+}
+
+#[test]
+fn look_while_running(rt: HostRuntime) -> Result<(), Fail> {
+    let site = site_with(rt.alloc(), 4, &APART)?;
+    let directory = Directory::new(rt.alloc())?;
+    commit_apart(&rt, rt.alloc(), site, stores_apart()?, &directory);
     Ok(())
 }
 

@@ -3,15 +3,7 @@
 //! and reports what became of the gear.
 #![tactic(auto)]
 
-mod command_line;
-mod failure;
-mod program;
-#[cfg(test)]
-mod tests;
-mod threads_words;
-
-use failure::exit_code;
-use program::run_and_say;
+use dali_command_line::{exit_code, run_and_say};
 use std::process::ExitCode;
 
 fn main(rt: HostRuntime) -> ExitCode {

@@ -1,10 +1,14 @@
-//! Tests of the store over SQLite, through its public calls: worked examples, what other programs may leave in its
-//! table, and databases in files. They prove nothing of the store, and stand in a crate of their own so that the
-//! tests of the other parts don't load SQLite.
+//! Tests of the store over SQLite and of what stands on it, through public calls. Of the store: worked examples, what
+//! other programs may leave in its table, and databases in files. Of the rest: whole runs of threads, and the program
+//! by its command line. They stand in a crate of their own so that no other tests load SQLite.
 #![tactic(auto)]
 
 #[cfg(test)]
+mod command_lines;
+#[cfg(test)]
 mod files;
+#[cfg(test)]
+mod runs;
 #[cfg(test)]
 mod sites;
 #[cfg(test)]

@@ -13,11 +13,17 @@ pub fn same<T: PartialEq + Debug>(rt: &impl Abort, was: &T, wanted: &T) {
 }
 
 pub fn short(number: u8) -> Result<Short, Fail> {
-    Ok(Short::of(number).ok_or("a short address")?)
+    match Short::of(number) {
+        Some(short) => Ok(short),
+        None => Err(Fail::from("a short address")),
+    }
 }
 
 pub fn random(number: u32) -> Result<Random24, Fail> {
-    Ok(Random24::of(number).ok_or("a random address")?)
+    match Random24::of(number) {
+        Some(random) => Ok(random),
+        None => Err(Fail::from("a random address")),
+    }
 }
 
 pub fn block(first: u8, last: u8) -> Result<Block, Fail> {

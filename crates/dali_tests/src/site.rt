@@ -1,13 +1,13 @@
 //! The calls of a site: what a script of `replay` cannot say. Those are small queues and logs, receipts, the log
 //! itself, gifts, and a controller that comes up with other records than its own.
 //!
-//! What a test does with its site stands in a function of its own, which only borrows the site: that is proved in a
-//! tenth of the time.
+//! Most tests are lists of steps, which one function plays. What another test does with its site stands in a function
+//! of its own, which only borrows the site: that is proved in a tenth of the time.
 
 use super::values::Ordered::{Commit, Done, Halt, Put};
 use super::values::Pair::{Enrol, Reserve};
 use super::values::{Ordered, Pair, are_pairs, forward, kept_of, same};
-use dali_frame::Answer;
+use dali_frame::{Answer, Forward, Random24, Short};
 use dali_script::{Due, End, Fault, Input};
 use dali_world::{Event, GearSet, Plan, Receipt, Refusal, Report, SiteState, Trouble};
 use std::alloc::Global;
@@ -77,25 +77,6 @@ fn logged<R: Abort>(rt: &R, site: &SiteState, events: usize, last: Event) {
     }
 }
 
-/// A site with room for one request.
-fn small_queue<R: Abort>(rt: &R, site: &mut SiteState) {
-    acts(rt, site, 0, Input::Start, Ok(Put(3, 0xA100)));
-    assert!(rt; site.is_crowded());
-    acts(rt, site, 1, Input::Start, Err(Refusal::QueueFull));
-    acts(rt, site, 1, SILENCE, Err(Refusal::NotDue));
-    does(rt, site.arc(0, forward(0xFE80)), Err(Refusal::QueueFull));
-    does(rt, site.arc(0, forward(0xA100)), Err(Refusal::NotArc));
-    sends(rt, site, 0xA100);
-    acts(rt, site, 1, Input::Start, Ok(Put(3, 0xA100)));
-}
-
-#[test]
-fn a_full_queue_refuses(rt: HostRuntime) -> Result<(), Fail> {
-    let mut site = site_of(rt.alloc(), &[(0, 1), (2, 3)], 16, 1)?;
-    small_queue(&rt, &mut site);
-    Ok(())
-}
-
 /// So many frames of direct arc power are offered, and wait.
 fn offers<R: Abort>(rt: &R, site: &mut SiteState, many: u16) {
     for _ in 0..many {
@@ -109,7 +90,7 @@ fn wide_queue<R: Abort>(rt: &R, site: &mut SiteState) -> Result<(), Fail> {
     does(rt, site.arc(0, forward(0xFE80)), Err(Refusal::QueueFull));
     does(rt, site.down(0), Ok(()));
     pumps(rt, site, Trouble::None, Ok(Report::Idle));
-    comes_up(rt, site, &[], Ok(()))?;
+    comes_up(rt, site, None, Ok(()))?;
     offers(rt, site, 1024);
     logged(rt, site, 2050, Event::Offered(0, forward(0xFE80)));
     Ok(())
@@ -121,35 +102,9 @@ fn a_wide_queue_is_empty_when_its_controller_went_down(rt: HostRuntime) -> Resul
     wide_queue(&rt, &mut site)
 }
 
-/// A site with room for one event, which has come.
-fn small_log<R: Abort>(rt: &R, site: &mut SiteState) {
-    does(rt, site.quiet(), Ok(()));
-    logged(rt, site, 1, Event::Quiet);
-    does(rt, site.quiet(), Err(Refusal::LogFull));
-    does(rt, site.arc(0, forward(0xFE80)), Err(Refusal::LogFull));
-    does(rt, site.power(0, false), Err(Refusal::LogFull));
-    does(rt, site.expire(0), Err(Refusal::LogFull));
-    does(rt, site.down(0), Err(Refusal::LogFull));
-    lapses(rt, site, Err(Refusal::LogFull));
-    acts(rt, site, 0, Input::Start, Err(Refusal::LogFull));
-    pumps(rt, site, Trouble::None, Ok(Report::Idle));
-    logged(rt, site, 1, Event::Quiet);
-    // A full log changes no reader.
-    reads(rt, site, (None, true, Some(Input::Start), Due::Start));
-    keeps(rt, site, &[], &[]);
-    assert!(rt; !site.is_crowded() && site.gifts().is_empty());
-}
-
 /// The bus lapses, and this controller owned it.
 fn lapses<R: Abort>(rt: &R, site: &mut SiteState, wanted: Result<Option<u8>, Refusal>) {
     same(rt, &site.lapse(), &wanted);
-}
-
-#[test]
-fn a_full_log_refuses(rt: HostRuntime) -> Result<(), Fail> {
-    let mut site = site_of(rt.alloc(), &[(0, 3)], 1, 1)?;
-    small_log(&rt, &mut site);
-    Ok(())
 }
 
 /// Controller 0 acts on what it was told, or else the bus has its turn.
@@ -191,68 +146,19 @@ fn a_log_of_any_size_fills(rt: HostRuntime) -> Result<(), Fail> {
     Ok(())
 }
 
-/// A site with room for one event and one request, both of which have come.
-fn small_both<R: Abort>(rt: &R, site: &mut SiteState) {
-    acts(rt, site, 0, Input::Start, Ok(Put(3, 0xA100)));
-    pumps(rt, site, Trouble::None, Err(Refusal::LogFull));
-    pumps(rt, site, Trouble::Noise, Err(Refusal::LogFull));
-    pumps(rt, site, Trouble::Collision, Err(Refusal::LogFull));
-    does(rt, site.arc(0, forward(0xFE80)), Err(Refusal::QueueFull));
-}
-
-#[test]
-fn a_full_log_refuses_frames(rt: HostRuntime) -> Result<(), Fail> {
-    let mut site = site_of(rt.alloc(), &[(0, 3)], 1, 1)?;
-    small_both(&rt, &mut site);
-    Ok(())
-}
-
-/// Controller 0 goes down, and comes up with these records or is refused so.
+/// Controller 0 comes up with this record or none, or is refused so.
 fn comes_up<R: Abort>(
     rt: &R,
     site: &mut SiteState,
-    records: &[Pair],
+    record: Option<Pair>,
     wanted: Result<(), Refusal>,
 ) -> Result<(), Fail> {
-    let kept = kept_of((0, 3), records)?;
+    let kept = match record {
+        Some(record) => kept_of((0, 3), &[record])?,
+        None => kept_of((0, 3), &[])?,
+    };
     does(rt, site.up(0, &kept), wanted);
     Ok(())
-}
-
-#[test]
-fn a_full_log_refuses_those_who_come_up(rt: HostRuntime) -> Result<(), Fail> {
-    let mut site = site_of(rt.alloc(), &[(0, 3)], 1, 1)?;
-    does(&rt, site.down(0), Ok(()));
-    comes_up(&rt, &mut site, &[], Err(Refusal::LogFull))
-}
-
-/// Each event of gear, bus and controllers stands in the log as it was called.
-fn all_logged<R: Abort>(rt: &R, site: &mut SiteState) -> Result<(), Fail> {
-    does(rt, site.power(0, false), Ok(()));
-    logged(rt, site, 1, Event::Power(0, false));
-    does(rt, site.power(0, true), Ok(()));
-    logged(rt, site, 2, Event::Power(0, true));
-    does(rt, site.expire(0), Ok(()));
-    logged(rt, site, 3, Event::Expired(0));
-    lapses(rt, site, Ok(None));
-    logged(rt, site, 4, Event::Lapsed);
-    does(rt, site.down(0), Ok(()));
-    logged(rt, site, 5, Event::Down(0));
-    comes_up(rt, site, &[], Ok(()))?;
-    logged(rt, site, 6, Event::Up(0, false));
-    let arc = forward(0xFE80);
-    does(rt, site.arc(0, arc), Ok(()));
-    logged(rt, site, 7, Event::Offered(0, arc));
-    let none = Trouble::Destroyed(GearSet::NONE);
-    pumps(rt, site, none, Ok(Report::Destroyed(0, arc)));
-    logged(rt, site, 8, Event::Destroyed(0, arc, GearSet::NONE));
-    Ok(())
-}
-
-#[test]
-fn calls_stand_in_the_log(rt: HostRuntime) -> Result<(), Fail> {
-    let mut site = site_of(rt.alloc(), &[(0, 3)], 16, 16)?;
-    all_logged(&rt, &mut site)
 }
 
 /// What a receipt shows of its controller, its input, its order, and its number.
@@ -315,27 +221,6 @@ fn reads<R: Abort>(rt: &R, site: &SiteState, wanted: Shown) {
     same(rt, &shown(site), &Some(wanted));
 }
 
-fn all_read<R: Abort>(rt: &R, site: &mut SiteState) {
-    reads(rt, site, (None, true, Some(Input::Start), Due::Start));
-    acts(rt, site, 0, Input::Start, Ok(Put(3, 0xA100)));
-    reads(rt, site, (None, false, None, Due::Bus));
-    sends(rt, site, 0xA100);
-    reads(rt, site, (Some(0), true, Some(SILENCE), Due::Bus));
-    lapses(rt, site, Ok(Some(0)));
-    reads(rt, site, (None, true, Some(Input::Lapsed), Due::Bus));
-    lapses(rt, site, Ok(None));
-    reads(rt, site, (None, true, Some(Input::Lapsed), Due::Bus));
-    does(rt, site.down(0), Ok(()));
-    reads(rt, site, (None, true, None, Due::Nothing));
-}
-
-#[test]
-fn readers_follow_the_bus(rt: HostRuntime) -> Result<(), Fail> {
-    let mut site = site_of(rt.alloc(), &[(0, 3)], 16, 16)?;
-    all_read(&rt, &mut site);
-    Ok(())
-}
-
 /// What controller 0 may act on. A record that it ordered is committed.
 fn due_of(site: &SiteState) -> Option<Input> {
     let (_, _, next, due) = shown(site)?;
@@ -365,12 +250,25 @@ fn run_until(site: &mut SiteState, wanted: Ordered) -> Option<u32> {
 }
 
 /// What controller 0 keeps: its reservations, and what it has enrolled.
-fn keeps<R: Abort>(rt: &R, site: &SiteState, reserved: &[(u8, u32)], enrolled: &[(u8, u32)]) {
+fn keeps<R: Abort>(
+    rt: &R,
+    site: &SiteState,
+    reserved: Option<(u8, u32)>,
+    enrolled: Option<(u8, u32)>,
+) {
     assert!(rt; !site.plan().blocks().is_empty());
-    are_pairs(rt, site.kept(0).reserved(), reserved);
-    are_pairs(rt, site.kept(0).enrolled(), enrolled);
+    is_pair(rt, site.kept(0).reserved(), reserved);
+    is_pair(rt, site.kept(0).enrolled(), enrolled);
     if let Some(table) = site.table(0) {
-        are_pairs(rt, table.entries(), enrolled);
+        is_pair(rt, table.entries(), enrolled);
+    }
+}
+
+/// There is this pair alone, or none.
+fn is_pair<R: Abort>(rt: &R, pairs: &[(Short, Random24)], wanted: Option<(u8, u32)>) {
+    match wanted {
+        Some(pair) => are_pairs(rt, pairs, &[pair]),
+        None => are_pairs(rt, pairs, &[]),
     }
 }
 
@@ -391,7 +289,7 @@ fn commissioned<R: Abort>(rt: &R, site: &mut SiteState) {
         same(rt, &run_until(site, ordered), &Some(frames));
     }
     assert!(rt; site.log().len() == 245);
-    keeps(rt, site, &[(0, 0x123456)], &[(0, 0x123456)]);
+    keeps(rt, site, Some((0, 0x123456)), Some((0, 0x123456)));
     has_given(rt, site, 0x123456, 0);
 }
 
@@ -403,80 +301,258 @@ fn a_commissioning_stands_in_the_log(rt: HostRuntime) -> Result<(), Fail> {
 }
 
 /// The record whose commit is due for controller 0.
-fn has_ordered<R: Abort>(rt: &R, site: &SiteState, wanted: Pair) {
+fn has_ordered<R: Abort>(rt: &R, site: &SiteState, wanted: Option<Pair>) {
     assert!(rt; !site.plan().blocks().is_empty());
-    same(rt, &site.ordered(0).map(Pair::of), &Some(wanted));
+    same(rt, &site.ordered(0).map(Pair::of), &wanted);
 }
+
+/// Controller 0 goes on to its first record, which is not committed.
+fn reserves<R: Abort>(rt: &R, site: &mut SiteState) {
+    let reserved = Reserve(0, 0x123456);
+    same(rt, &run_until(site, Commit(reserved)), &Some(109));
+    has_ordered(rt, site, Some(reserved));
+}
+
+/// A step of a test: a call and what it answers, or what the site shows.
+enum Step {
+    Acts(u8, Input, Result<Ordered, Refusal>),
+    Pumps(Trouble, Result<Report, Refusal>),
+    /// The frame of these bytes, of controller 0, is sent.
+    Sends(u16),
+    Lapses(Result<Option<u8>, Refusal>),
+    /// Controller 0 offers the frame of these bytes.
+    Offers(u16, Result<(), Refusal>),
+    /// Gear 0 loses its power, or has it again.
+    Powers(bool, Result<(), Refusal>),
+    /// The initialisation of gear 0 ends.
+    Expires(Result<(), Refusal>),
+    Quiet(Result<(), Refusal>),
+    /// Controller 0 goes down, and comes up with this record or none.
+    Down(Result<(), Refusal>),
+    Up(Option<Pair>, Result<(), Refusal>),
+    /// So many events are in the log, and this is the last of them.
+    Logged(usize, Event),
+    Reads(Shown),
+    /// What controller 0 has reserved, and what it has enrolled.
+    Keeps(Option<(u8, u32)>, Option<(u8, u32)>),
+    /// Whether the queue is full.
+    Crowded(bool),
+    /// The record whose commit is due for controller 0.
+    Ordered(Option<Pair>),
+}
+
+/// A step that calls the site and answers no more than that it was accepted.
+fn calls<R: Abort>(rt: &R, site: &mut SiteState, step: &Step) {
+    match *step {
+        Step::Offers(bytes, wanted) => does(rt, site.arc(0, forward(bytes)), wanted),
+        Step::Powers(on, wanted) => does(rt, site.power(0, on), wanted),
+        Step::Expires(wanted) => does(rt, site.expire(0), wanted),
+        Step::Quiet(wanted) => does(rt, site.quiet(), wanted),
+        Step::Down(wanted) => does(rt, site.down(0), wanted),
+        _ => assert!(rt; false),
+    }
+}
+
+/// A step that changes nothing.
+fn looks<R: Abort>(rt: &R, site: &SiteState, step: &Step) {
+    match *step {
+        Step::Logged(events, last) => logged(rt, site, events, last),
+        Step::Reads(wanted) => reads(rt, site, wanted),
+        Step::Keeps(reserved, enrolled) => keeps(rt, site, reserved, enrolled),
+        Step::Crowded(wanted) => same(rt, &site.is_crowded(), &wanted),
+        Step::Ordered(wanted) => has_ordered(rt, site, wanted),
+        _ => assert!(rt; false),
+    }
+}
+
+/// The steps are as they say.
+fn plays<R: Abort>(rt: &R, site: &mut SiteState, steps: &[Step]) -> Result<(), Fail> {
+    for step in steps {
+        match *step {
+            Step::Acts(c, input, wanted) => acts(rt, site, c, input, wanted),
+            Step::Pumps(trouble, wanted) => pumps(rt, site, trouble, wanted),
+            Step::Sends(bytes) => sends(rt, site, bytes),
+            Step::Lapses(wanted) => lapses(rt, site, wanted),
+            Step::Up(record, wanted) => comes_up(rt, site, record, wanted)?,
+            Step::Logged(..)
+            | Step::Reads(_)
+            | Step::Keeps(..)
+            | Step::Crowded(_)
+            | Step::Ordered(_) => looks(rt, site, step),
+            _ => calls(rt, site, step),
+        }
+    }
+    Ok(())
+}
+
+/// Direct arc power to all gear.
+const ARC: Forward = Forward {
+    address_byte: 0xFE,
+    opcode_byte: 0x80,
+};
+
+const FULL_QUEUE: Result<(), Refusal> = Err(Refusal::QueueFull);
+
+const FULL_LOG: Result<(), Refusal> = Err(Refusal::LogFull);
+
+const DISAGREES: Result<(), Refusal> = Err(Refusal::StoreDisagrees);
+
+/// A site with room for one request.
+const SMALL_QUEUE: [Step; 8] = [
+    Step::Acts(0, Input::Start, Ok(Put(3, 0xA100))),
+    Step::Crowded(true),
+    Step::Acts(1, Input::Start, Err(Refusal::QueueFull)),
+    Step::Acts(1, SILENCE, Err(Refusal::NotDue)),
+    Step::Offers(0xFE80, FULL_QUEUE),
+    Step::Offers(0xA100, Err(Refusal::NotArc)),
+    Step::Sends(0xA100),
+    Step::Acts(1, Input::Start, Ok(Put(3, 0xA100))),
+];
+
+#[test]
+fn a_full_queue_refuses(rt: HostRuntime) -> Result<(), Fail> {
+    let mut site = site_of(rt.alloc(), &[(0, 1), (2, 3)], 16, 1)?;
+    plays(&rt, &mut site, &SMALL_QUEUE)
+}
+
+/// A site with room for one event, which has come. A full log changes no reader.
+const SMALL_LOG: [Step; 14] = [
+    Step::Quiet(Ok(())),
+    Step::Logged(1, Event::Quiet),
+    Step::Quiet(FULL_LOG),
+    Step::Offers(0xFE80, FULL_LOG),
+    Step::Powers(false, FULL_LOG),
+    Step::Expires(FULL_LOG),
+    Step::Down(FULL_LOG),
+    Step::Lapses(Err(Refusal::LogFull)),
+    Step::Acts(0, Input::Start, Err(Refusal::LogFull)),
+    Step::Pumps(Trouble::None, Ok(Report::Idle)),
+    Step::Logged(1, Event::Quiet),
+    Step::Reads((None, true, Some(Input::Start), Due::Start)),
+    Step::Keeps(None, None),
+    Step::Crowded(false),
+];
+
+/// A site with room for one event and one request, both of which have come.
+const SMALL_BOTH: [Step; 5] = [
+    Step::Acts(0, Input::Start, Ok(Put(3, 0xA100))),
+    Step::Pumps(Trouble::None, Err(Refusal::LogFull)),
+    Step::Pumps(Trouble::Noise, Err(Refusal::LogFull)),
+    Step::Pumps(Trouble::Collision, Err(Refusal::LogFull)),
+    Step::Offers(0xFE80, FULL_QUEUE),
+];
+
+/// A site with room for one event, whose controller is down.
+const SMALL_DOWN: [Step; 2] = [Step::Down(Ok(())), Step::Up(None, FULL_LOG)];
+
+#[test]
+fn a_full_log_refuses(rt: HostRuntime) -> Result<(), Fail> {
+    let stories: [&[Step]; 3] = [&SMALL_LOG, &SMALL_BOTH, &SMALL_DOWN];
+    for steps in stories {
+        let mut site = site_of(rt.alloc(), &[(0, 3)], 1, 1)?;
+        plays(&rt, &mut site, steps)?;
+    }
+    Ok(())
+}
+
+/// Each event of gear, bus and controllers stands in the log as it was called.
+const ALL_LOGGED: [Step; 16] = [
+    Step::Powers(false, Ok(())),
+    Step::Logged(1, Event::Power(0, false)),
+    Step::Powers(true, Ok(())),
+    Step::Logged(2, Event::Power(0, true)),
+    Step::Expires(Ok(())),
+    Step::Logged(3, Event::Expired(0)),
+    Step::Lapses(Ok(None)),
+    Step::Logged(4, Event::Lapsed),
+    Step::Down(Ok(())),
+    Step::Logged(5, Event::Down(0)),
+    Step::Up(None, Ok(())),
+    Step::Logged(6, Event::Up(0, false)),
+    Step::Offers(0xFE80, Ok(())),
+    Step::Logged(7, Event::Offered(0, ARC)),
+    Step::Pumps(
+        Trouble::Destroyed(GearSet::NONE),
+        Ok(Report::Destroyed(0, ARC)),
+    ),
+    Step::Logged(8, Event::Destroyed(0, ARC, GearSet::NONE)),
+];
+
+/// The readers follow the bus.
+const ALL_READ: [Step; 11] = [
+    Step::Reads((None, true, Some(Input::Start), Due::Start)),
+    Step::Acts(0, Input::Start, Ok(Put(3, 0xA100))),
+    Step::Reads((None, false, None, Due::Bus)),
+    Step::Sends(0xA100),
+    Step::Reads((Some(0), true, Some(SILENCE), Due::Bus)),
+    Step::Lapses(Ok(Some(0))),
+    Step::Reads((None, true, Some(Input::Lapsed), Due::Bus)),
+    Step::Lapses(Ok(None)),
+    Step::Reads((None, true, Some(Input::Lapsed), Due::Bus)),
+    Step::Down(Ok(())),
+    Step::Reads((None, true, None, Due::Nothing)),
+];
+
+#[test]
+fn calls_stand_in_the_log_and_readers_follow(rt: HostRuntime) -> Result<(), Fail> {
+    let stories: [&[Step]; 2] = [&ALL_LOGGED, &ALL_READ];
+    for steps in stories {
+        let mut site = site_of(rt.alloc(), &[(0, 3)], 16, 16)?;
+        plays(&rt, &mut site, steps)?;
+    }
+    Ok(())
+}
+
+/// While the record is outstanding a controller may come up without it, and with no other.
+const WITHOUT_RECORD: [Step; 6] = [
+    Step::Down(Ok(())),
+    Step::Up(Some(Reserve(1, 0x123456)), DISAGREES),
+    Step::Up(Some(Enrol(0, 0x123456)), DISAGREES),
+    Step::Up(None, Ok(())),
+    Step::Logged(221, Event::Up(0, false)),
+    Step::Keeps(None, None),
+];
+
+/// Or with it.
+const WITH_RECORD: [Step; 4] = [
+    Step::Down(Ok(())),
+    Step::Up(Some(Reserve(0, 0x123456)), Ok(())),
+    Step::Logged(221, Event::Up(0, true)),
+    Step::Keeps(Some((0, 0x123456)), None),
+];
+
+/// A record that is committed must be there.
+const COMMITTED_RECORD: [Step; 6] = [
+    Step::Acts(0, Input::Committed, Ok(Put(3, 0xB112))),
+    Step::Down(Ok(())),
+    Step::Up(None, DISAGREES),
+    Step::Up(Some(Reserve(0, 0x654321)), DISAGREES),
+    Step::Up(Some(Reserve(0, 0x123456)), Ok(())),
+    Step::Logged(222, Event::Up(0, false)),
+];
+
+/// A record that failed is not kept.
+const FAILED_RECORD: [Step; 4] = [
+    Step::Acts(0, Input::CommitFailed, Ok(Halt(Fault::Store))),
+    Step::Reads((None, true, None, Due::Nothing)),
+    Step::Keeps(None, None),
+    Step::Ordered(None),
+];
 
 /// A site whose controller has ordered its first record, which is not committed.
-fn reserving<R: Abort + AllocGlobal>(rt: &R) -> Result<SiteState, Fail> {
-    let mut site = site_of(rt.alloc(), &[(0, 3)], 4096, 16)?;
-    let ordered = Commit(Reserve(0, 0x123456));
-    same(rt, &run_until(&mut site, ordered), &Some(109));
-    has_ordered(rt, &site, Reserve(0, 0x123456));
-    Ok(site)
-}
-
-/// While the record is outstanding a controller may come up without it or with it, and with no other.
-fn without_record<R: Abort>(rt: &R, site: &mut SiteState) -> Result<(), Fail> {
-    let disagrees = Err(Refusal::StoreDisagrees);
-    does(rt, site.down(0), Ok(()));
-    comes_up(rt, site, &[Reserve(1, 0x123456)], disagrees)?;
-    comes_up(rt, site, &[Enrol(0, 0x123456)], disagrees)?;
-    comes_up(rt, site, &[], Ok(()))?;
-    logged(rt, site, 221, Event::Up(0, false));
-    keeps(rt, site, &[], &[]);
-    Ok(())
-}
-
 #[test]
-fn an_outstanding_record_may_be_missing(rt: HostRuntime) -> Result<(), Fail> {
-    let mut site = reserving(&rt)?;
-    without_record(&rt, &mut site)
-}
-
-fn with_record<R: Abort>(rt: &R, site: &mut SiteState) -> Result<(), Fail> {
-    does(rt, site.down(0), Ok(()));
-    comes_up(rt, site, &[Reserve(0, 0x123456)], Ok(()))?;
-    logged(rt, site, 221, Event::Up(0, true));
-    keeps(rt, site, &[(0, 0x123456)], &[]);
-    Ok(())
-}
-
-#[test]
-fn an_outstanding_record_may_be_there(rt: HostRuntime) -> Result<(), Fail> {
-    let mut site = reserving(&rt)?;
-    with_record(&rt, &mut site)
-}
-
-fn committed_record<R: Abort>(rt: &R, site: &mut SiteState) -> Result<(), Fail> {
-    let disagrees = Err(Refusal::StoreDisagrees);
-    acts(rt, site, 0, Input::Committed, Ok(Put(3, 0xB112)));
-    does(rt, site.down(0), Ok(()));
-    comes_up(rt, site, &[], disagrees)?;
-    comes_up(rt, site, &[Reserve(0, 0x654321)], disagrees)?;
-    comes_up(rt, site, &[Reserve(0, 0x123456)], Ok(()))?;
-    logged(rt, site, 222, Event::Up(0, false));
-    Ok(())
-}
-
-#[test]
-fn a_committed_record_must_be_there(rt: HostRuntime) -> Result<(), Fail> {
-    let mut site = reserving(&rt)?;
-    committed_record(&rt, &mut site)
-}
-
-fn failed_record<R: Abort>(rt: &R, site: &mut SiteState) {
-    acts(rt, site, 0, Input::CommitFailed, Ok(Halt(Fault::Store)));
-    reads(rt, site, (None, true, None, Due::Nothing));
-    keeps(rt, site, &[], &[]);
-    assert!(rt; !site.plan().blocks().is_empty() && site.ordered(0).is_none());
-}
-
-#[test]
-fn a_record_that_failed_is_not_kept(rt: HostRuntime) -> Result<(), Fail> {
-    let mut site = reserving(&rt)?;
-    failed_record(&rt, &mut site);
+fn a_record_is_outstanding(rt: HostRuntime) -> Result<(), Fail> {
+    let stories: [&[Step]; 4] = [
+        &WITHOUT_RECORD,
+        &WITH_RECORD,
+        &COMMITTED_RECORD,
+        &FAILED_RECORD,
+    ];
+    for steps in stories {
+        let mut site = site_of(rt.alloc(), &[(0, 3)], 4096, 16)?;
+        reserves(&rt, &mut site);
+        plays(&rt, &mut site, steps)?;
+    }
     Ok(())
 }
 

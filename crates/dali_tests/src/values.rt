@@ -15,19 +15,24 @@ pub fn same<T: PartialEq + Debug>(rt: &impl Abort, was: &T, wanted: &T) {
 }
 
 pub fn short(number: u8) -> Result<Short, Fail> {
-    Ok(Short::of(number).ok_or("a short address")?)
+    match Short::of(number) {
+        Some(short) => Ok(short),
+        None => Err(Fail::from("a short address")),
+    }
 }
 
 pub fn random(number: u32) -> Result<Random24, Fail> {
-    Ok(Random24::of(number).ok_or("a random address")?)
+    match Random24::of(number) {
+        Some(random) => Ok(random),
+        None => Err(Fail::from("a random address")),
+    }
 }
 
 /// The frame of these two bytes.
 pub fn forward(bytes: u16) -> Forward {
-    let [address_byte, opcode_byte] = bytes.to_be_bytes();
     Forward {
-        address_byte,
-        opcode_byte,
+        address_byte: (bytes >> 8) as u8,
+        opcode_byte: bytes as u8,
     }
 }
 

@@ -1,7 +1,7 @@
 //! The command line, and what it asks for.
 
 ghost use Rattle.std.specs.Prelude.{◌≡◌};
-ghost use Rattle.dali_sim.specs.Failure.{answered};
+ghost use Rattle.dali_command_line.specs.Failure.{answered};
 
 use crate::failure::Failure;
 use crate::threads_words::{setup, threads_command};

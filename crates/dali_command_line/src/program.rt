@@ -2,10 +2,10 @@
 
 ghost use Rattle.std.specs.Prelude.{◌≡◌, [], IfSome};
 ghost use Rattle.dali_events.specs.Plan.{refusal_of};
-ghost use Rattle.dali_sim.specs.Failure.{status_after};
+ghost use Rattle.dali_command_line.specs.Failure.{status_after};
 
-use crate::command_line::{Task, asked};
 use crate::failure::Failure;
+use crate::words::{Task, asked};
 use dali_replay::replay_streams;
 use dali_threads::{Setup, run_threads};
 use std::env::Env;

@@ -1,6 +1,6 @@
-//! The program, played whole by its command line.
+//! `dali_sim`, played whole by its command line.
 
-use crate::program::run_and_say;
+use dali_command_line::run_and_say;
 use std::alloc::{Alloc, Allocator, Global};
 use std::cell::RefCell;
 use std::env::{Env, FillError};

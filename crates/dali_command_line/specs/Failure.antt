@@ -4,11 +4,12 @@ use Rattle.clap.specs.declared.error.kind.ErrorKind.TheVariants.{DisplayHelp, Di
 use Rattle.clap.specs.declared.error.kind.ErrorKind.TheVariants.{OutOfMemory}
 use Rattle.dali_replay.specs.ReplayFault as replay
 use Rattle.dali_threads.specs.Setup as threads
-use Rattle.dali_sim.specs.declared.failure.Failure.{Failure}
-use Rattle.dali_sim.specs.declared.failure.Failure.TheVariants.{Replay, Threads}
-use Rattle.dali_sim.specs.declared.failure.Failure.TheVariants.{BadCommandLine, NotText, Refused}
-use Rattle.dali_sim.specs.declared.command_line.Task.{Task}
-use Rattle.dali_sim.specs.declared.command_line.Task.TheVariants.{Help}
+use Rattle.dali_command_line.specs.declared.failure.Failure.{Failure}
+use Rattle.dali_command_line.specs.declared.failure.Failure.TheVariants.{Replay, Threads}
+use Rattle.dali_command_line.specs.declared.failure.Failure.TheVariants.{BadCommandLine, NotText}
+use Rattle.dali_command_line.specs.declared.failure.Failure.TheVariants.{Refused}
+use Rattle.dali_command_line.specs.declared.words.Task.{Task}
+use Rattle.dali_command_line.specs.declared.words.Task.TheVariants.{Help}
 
 -- THE EXIT STATUSES of the program
 abbrev pub status_of : Failure → ℕ

@@ -2,7 +2,7 @@
 
 ghost use Rattle.std.specs.Prelude.{◌≡◌};
 ghost use Rattle.std.specs.Process.{exit_status};
-ghost use Rattle.dali_sim.specs.Failure.{status_of, status_after};
+ghost use Rattle.dali_command_line.specs.Failure.{status_of, status_after};
 
 use dali_replay::ReplayFault;
 use dali_threads::ThreadsFault;

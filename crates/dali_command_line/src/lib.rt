@@ -1,0 +1,10 @@
+//! The command line of `dali_sim`: what its words ask for, what is done and said, and why it ends with which status.
+#![tactic(auto)]
+
+mod failure;
+mod program;
+mod threads_words;
+mod words;
+
+pub use failure::{Failure, exit_code};
+pub use program::run_and_say;
