@@ -1,40 +1,45 @@
 //! Whose frame is next.
 
-use super::values::{frame, same};
+use super::values::{forward, same};
 use dali_arbiter::{Arbiter, NewError, OfferError, Request};
 use dali_frame::Priority;
 use std::process::Abort;
 use std::test::Fail;
 
 fn priority(number: u8) -> Result<Priority, Fail> {
-    Ok(Priority::of(number).ok_or("a priority")?)
+    match Priority::of(number) {
+        Some(priority) => Ok(priority),
+        None => Err(Fail::from("a priority")),
+    }
 }
 
 /// A request is offered, and taken or refused so.
 fn offers<R: Abort>(
     rt: &R,
     arbiter: &mut Arbiter,
-    request: (u8, u8, &[u8; 4]),
+    request: (u8, u8, u16),
     wanted: Result<(), OfferError>,
 ) -> Result<(), Fail> {
-    let (sender, level, text) = request;
-    let answer = arbiter.offer(sender, priority(level)?, frame(text)?);
+    let (sender, level, bytes) = request;
+    let answer = arbiter.offer(sender, priority(level)?, forward(bytes));
     same(rt, &answer, &wanted);
     Ok(())
 }
 
 /// A request, by its sender, its priority and its frame.
-fn request(sender: u8, level: u8, text: &[u8; 4]) -> Result<Request, Fail> {
+fn request(sender: u8, level: u8, bytes: u16) -> Result<Request, Fail> {
     Ok(Request {
         sender,
         priority: priority(level)?,
-        frame: frame(text)?,
+        frame: forward(bytes),
     })
 }
 
 /// This request is next and is sent; with more to come, its sender owns the bus.
 fn sends<R: Abort>(rt: &R, arbiter: &mut Arbiter, wanted: Request, more: bool) -> Result<(), Fail> {
-    let next = arbiter.pick().ok_or("a request")?;
+    let Some(next) = arbiter.pick() else {
+        return Err(Fail::from("a request"));
+    };
     same(rt, &next, &wanted);
     arbiter.sent(more);
     Ok(())
@@ -42,7 +47,9 @@ fn sends<R: Abort>(rt: &R, arbiter: &mut Arbiter, wanted: Request, more: bool) -
 
 /// The next request collides, with this one or with none.
 fn collides<R: Abort>(rt: &R, arbiter: &mut Arbiter, wanted: Option<Request>) -> Result<(), Fail> {
-    arbiter.pick().ok_or("a request")?;
+    if arbiter.pick().is_none() {
+        return Err(Fail::from("a request"));
+    }
     same(rt, &arbiter.collided(), &wanted);
     Ok(())
 }
@@ -53,20 +60,20 @@ fn waits<R: Abort>(rt: &R, arbiter: &Arbiter, many: usize, owner: Option<u8>) {
 }
 
 fn owner_first<R: Abort>(rt: &R, arbiter: &mut Arbiter) -> Result<(), Fail> {
-    offers(rt, arbiter, (0, 3, b"A100"), Ok(()))?;
-    offers(rt, arbiter, (1, 3, b"B1FF"), Ok(()))?;
-    offers(rt, arbiter, (0, 2, b"FE80"), Ok(()))?;
-    sends(rt, arbiter, request(0, 2, b"FE80")?, false)?;
-    sends(rt, arbiter, request(0, 3, b"A100")?, true)?;
+    offers(rt, arbiter, (0, 3, 0xA100), Ok(()))?;
+    offers(rt, arbiter, (1, 3, 0xB1FF), Ok(()))?;
+    offers(rt, arbiter, (0, 2, 0xFE80), Ok(()))?;
+    sends(rt, arbiter, request(0, 2, 0xFE80)?, false)?;
+    sends(rt, arbiter, request(0, 3, 0xA100)?, true)?;
     waits(rt, arbiter, 1, Some(0));
     same(rt, &arbiter.pick(), &None);
     let barred = Err(OfferError::NotOwner);
-    offers(rt, arbiter, (1, 1, b"A5FF"), barred)?;
-    offers(rt, arbiter, (0, 1, b"A5FF"), Ok(()))?;
-    same(rt, &arbiter.pick(), &Some(request(0, 1, b"A5FF")?));
+    offers(rt, arbiter, (1, 1, 0xA5FF), barred)?;
+    offers(rt, arbiter, (0, 1, 0xA5FF), Ok(()))?;
+    same(rt, &arbiter.pick(), &Some(request(0, 1, 0xA5FF)?));
     same(rt, &arbiter.lapse(), &Some(0));
     waits(rt, arbiter, 1, None);
-    same(rt, &arbiter.pick(), &Some(request(1, 3, b"B1FF")?));
+    same(rt, &arbiter.pick(), &Some(request(1, 3, 0xB1FF)?));
     same(rt, &arbiter.lists().best(), &Some(priority(3)?));
     arbiter.silence(1);
     same(rt, &arbiter.is_empty(), &true);
@@ -80,15 +87,17 @@ fn the_owner_goes_first(rt: HostRuntime) -> Result<(), Fail> {
 }
 
 fn collisions<R: Abort>(rt: &R, arbiter: &mut Arbiter) -> Result<(), Fail> {
-    offers(rt, arbiter, (0, 3, b"A100"), Ok(()))?;
-    offers(rt, arbiter, (1, 3, b"A100"), Ok(()))?;
-    collides(rt, arbiter, Some(request(1, 3, b"A100")?))?;
+    offers(rt, arbiter, (0, 3, 0xA100), Ok(()))?;
+    offers(rt, arbiter, (1, 3, 0xA100), Ok(()))?;
+    collides(rt, arbiter, Some(request(1, 3, 0xA100)?))?;
     waits(rt, arbiter, 0, None);
-    offers(rt, arbiter, (0, 3, b"A100"), Ok(()))?;
-    offers(rt, arbiter, (0, 3, b"A100"), Ok(()))?;
+    offers(rt, arbiter, (0, 3, 0xA100), Ok(()))?;
+    offers(rt, arbiter, (0, 3, 0xA100), Ok(()))?;
     collides(rt, arbiter, None)?;
     waits(rt, arbiter, 1, None);
-    arbiter.pick().ok_or("a request")?;
+    if arbiter.pick().is_none() {
+        return Err(Fail::from("a request"));
+    }
     arbiter.destroyed();
     waits(rt, arbiter, 0, None);
     Ok(())
@@ -103,14 +112,14 @@ fn only_another_sender_collides(rt: HostRuntime) -> Result<(), Fail> {
 fn full_queue<R: Abort>(rt: &R, arbiter: &mut Arbiter) -> Result<(), Fail> {
     let full = Err(OfferError::QueueFull);
     let barred = Err(OfferError::NotOwner);
-    offers(rt, arbiter, (1, 1, b"A5FF"), barred)?;
-    offers(rt, arbiter, (0, 3, b"A5FF"), Ok(()))?;
+    offers(rt, arbiter, (1, 1, 0xA5FF), barred)?;
+    offers(rt, arbiter, (0, 3, 0xA5FF), Ok(()))?;
     same(rt, &arbiter.is_full(), &true);
-    offers(rt, arbiter, (1, 3, b"A5FF"), full)?;
-    offers(rt, arbiter, (1, 1, b"A5FF"), barred)?;
+    offers(rt, arbiter, (1, 3, 0xA5FF), full)?;
+    offers(rt, arbiter, (1, 1, 0xA5FF), barred)?;
     waits(rt, arbiter, 1, None);
     arbiter.silence(0);
-    offers(rt, arbiter, (1, 3, b"A5FF"), Ok(()))
+    offers(rt, arbiter, (1, 3, 0xA5FF), Ok(()))
 }
 
 #[test]

@@ -27,7 +27,10 @@ const fn by(sender: u8, name: u8) -> Item {
 }
 
 fn priority(number: u8) -> Result<Priority, Fail> {
-    Ok(Priority::of(number).ok_or("a priority")?)
+    match Priority::of(number) {
+        Some(priority) => Ok(priority),
+        None => Err(Fail::from("a priority")),
+    }
 }
 
 /// An item comes last in a list, or is handed back.

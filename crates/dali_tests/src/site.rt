@@ -391,6 +391,18 @@ const ARC: Forward = Forward {
     opcode_byte: 0x80,
 };
 
+/// The steps, on a site of one gear with these blocks and room for so many events and requests.
+fn tells<R: Abort + AllocGlobal>(
+    rt: &R,
+    blocks: &[(u8, u8)],
+    events: u16,
+    requests: u16,
+    steps: &[Step],
+) -> Result<(), Fail> {
+    let mut site = site_of(rt.alloc(), blocks, events, requests)?;
+    plays(rt, &mut site, steps)
+}
+
 const FULL_QUEUE: Result<(), Refusal> = Err(Refusal::QueueFull);
 
 const FULL_LOG: Result<(), Refusal> = Err(Refusal::LogFull);
@@ -411,8 +423,7 @@ const SMALL_QUEUE: [Step; 8] = [
 
 #[test]
 fn a_full_queue_refuses(rt: HostRuntime) -> Result<(), Fail> {
-    let mut site = site_of(rt.alloc(), &[(0, 1), (2, 3)], 16, 1)?;
-    plays(&rt, &mut site, &SMALL_QUEUE)
+    tells(&rt, &[(0, 1), (2, 3)], 16, 1, &SMALL_QUEUE)
 }
 
 /// A site with room for one event, which has come. A full log changes no reader.
@@ -447,12 +458,9 @@ const SMALL_DOWN: [Step; 2] = [Step::Down(Ok(())), Step::Up(None, FULL_LOG)];
 
 #[test]
 fn a_full_log_refuses(rt: HostRuntime) -> Result<(), Fail> {
-    let stories: [&[Step]; 3] = [&SMALL_LOG, &SMALL_BOTH, &SMALL_DOWN];
-    for steps in stories {
-        let mut site = site_of(rt.alloc(), &[(0, 3)], 1, 1)?;
-        plays(&rt, &mut site, steps)?;
-    }
-    Ok(())
+    tells(&rt, &[(0, 3)], 1, 1, &SMALL_LOG)?;
+    tells(&rt, &[(0, 3)], 1, 1, &SMALL_BOTH)?;
+    tells(&rt, &[(0, 3)], 1, 1, &SMALL_DOWN)
 }
 
 /// Each event of gear, bus and controllers stands in the log as it was called.
@@ -495,12 +503,8 @@ const ALL_READ: [Step; 11] = [
 
 #[test]
 fn calls_stand_in_the_log_and_readers_follow(rt: HostRuntime) -> Result<(), Fail> {
-    let stories: [&[Step]; 2] = [&ALL_LOGGED, &ALL_READ];
-    for steps in stories {
-        let mut site = site_of(rt.alloc(), &[(0, 3)], 16, 16)?;
-        plays(&rt, &mut site, steps)?;
-    }
-    Ok(())
+    tells(&rt, &[(0, 3)], 16, 16, &ALL_LOGGED)?;
+    tells(&rt, &[(0, 3)], 16, 16, &ALL_READ)
 }
 
 /// While the record is outstanding a controller may come up without it, and with no other.
@@ -539,21 +543,19 @@ const FAILED_RECORD: [Step; 4] = [
     Step::Ordered(None),
 ];
 
-/// A site whose controller has ordered its first record, which is not committed.
+/// The steps, on a site whose controller has ordered its first record, which is not committed.
+fn tells_behind_a_record<R: Abort + AllocGlobal>(rt: &R, steps: &[Step]) -> Result<(), Fail> {
+    let mut site = site_of(rt.alloc(), &[(0, 3)], 4096, 16)?;
+    reserves(rt, &mut site);
+    plays(rt, &mut site, steps)
+}
+
 #[test]
 fn a_record_is_outstanding(rt: HostRuntime) -> Result<(), Fail> {
-    let stories: [&[Step]; 4] = [
-        &WITHOUT_RECORD,
-        &WITH_RECORD,
-        &COMMITTED_RECORD,
-        &FAILED_RECORD,
-    ];
-    for steps in stories {
-        let mut site = site_of(rt.alloc(), &[(0, 3)], 4096, 16)?;
-        reserves(&rt, &mut site);
-        plays(&rt, &mut site, steps)?;
-    }
-    Ok(())
+    tells_behind_a_record(&rt, &WITHOUT_RECORD)?;
+    tells_behind_a_record(&rt, &WITH_RECORD)?;
+    tells_behind_a_record(&rt, &COMMITTED_RECORD)?;
+    tells_behind_a_record(&rt, &FAILED_RECORD)
 }
 
 #[test]

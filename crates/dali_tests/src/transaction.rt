@@ -282,34 +282,41 @@ fn a_confirmed_address_needs_its_reservation(rt: HostRuntime) -> Result<(), Fail
 /// The trace of its entries allows the same frames, and has the same finding.
 fn is_made_again<R: Abort>(rt: &R, kept: &Kept, frames: &str) -> Result<(), Fail> {
     let trace = trace_of(kept, frames)?;
-    let again = Trace::of(trace.entries()).ok_or("a trace")?;
+    match Trace::of(trace.entries()) {
+        Some(again) => are_alike(rt, kept, frames, &again, &trace),
+        None => Err(Fail::from("a trace")),
+    }
+}
+
+/// Two traces allow the same frames, and have the same finding.
+fn are_alike<R: Abort>(
+    rt: &R,
+    kept: &Kept,
+    frames: &str,
+    one: &Trace,
+    other: &Trace,
+) -> Result<(), Fail> {
     for text in FRAMES.split_ascii_whitespace() {
         let frame = frame(text.as_bytes())?;
-        same(
-            rt,
-            &(frames, text, again.allows(kept, frame)),
-            &(frames, text, trace.allows(kept, frame)),
-        );
+        let (was, wanted) = (one.allows(kept, frame), other.allows(kept, frame));
+        same(rt, &(frames, text, was), &(frames, text, wanted));
     }
-    same(rt, &again.finding(), &trace.finding());
+    same(rt, &one.finding(), &other.finding());
     Ok(())
 }
 
 /// No controller sends these frames.
-fn is_no_trace<R: Abort>(rt: &R, frames: &str) -> Result<(), Fail> {
-    let mut entries = [Entry::default(); 8];
-    let mut count = 0;
+fn is_no_trace<R: Abort + AllocGlobal>(rt: &R, frames: &str) -> Result<(), Fail> {
+    let mut entries = Vec::new(rt.alloc());
     for word in frames.split_ascii_whitespace() {
-        let entry = entries.get_mut(count).ok_or("room for a frame")?;
-        *entry = entry_of(word)?;
-        count = count + 1;
+        entries.push(entry_of(word)?)?;
     }
-    let sent = entries.get(..count).ok_or("the frames")?;
-    same(rt, &(frames, Trace::of(sent).is_some()), &(frames, false));
+    let is_trace = entries.len() <= 8 && Trace::of(entries.as_slice()).is_some();
+    same(rt, &(frames, is_trace), &(frames, false));
     Ok(())
 }
 
-fn made_again<R: Abort>(rt: &R, kept: &Kept) -> Result<(), Fail> {
+fn made_again<R: Abort + AllocGlobal>(rt: &R, kept: &Kept) -> Result<(), Fail> {
     let traces = [
         "",
         "A100 A5FF A5FF A700",

@@ -31,8 +31,8 @@ pub fn random(number: u32) -> Result<Random24, Fail> {
 /// The frame of these two bytes.
 pub fn forward(bytes: u16) -> Forward {
     Forward {
-        address_byte: (bytes >> 8) as u8,
-        opcode_byte: bytes as u8,
+        address_byte: (bytes / 256) as u8,
+        opcode_byte: (bytes % 256) as u8,
     }
 }
 
