@@ -14,9 +14,8 @@ TESTS = ("dali_tests", "dali_stories", "dali_line_tests", "dali_sqlite_tests")
 
 
 def files(root, pattern):
-    """The files of the repository that match, none of those that are built, and each where it stands itself."""
-    found = (file for file in root.glob(pattern) if not file.is_symlink())
-    return sorted(file for file in found if "out" not in file.relative_to(root).parts)
+    """The files of the repository that match, and none of those that are built."""
+    return sorted(file for file in root.glob(pattern) if "out" not in file.relative_to(root).parts)
 
 
 def everywhere(root, suffix):
@@ -25,7 +24,7 @@ def everywhere(root, suffix):
     for folder, folders, names in os.walk(root):
         folders[:] = [it for it in folders if it not in (".git", ".proving", "out")]
         found += [pathlib.Path(folder, name) for name in names if name.endswith(suffix)]
-    return sorted(file for file in found if not file.is_symlink())
+    return sorted(found)
 
 
 def code(root, pattern):
@@ -139,10 +138,10 @@ def documented(lines, at):
 
 
 def crates(root):
-    """Each crate that a crates.txt names below another is named by a file of that one, in code and not in a comment."""
-    for listing in (root / "crates.txt", root / "extra/crates.txt"):
+    """Each crate that a list names below another is named by a file of that one, in code and not in a comment."""
+    for listing in (root / "crates.txt", root / "extra/programs.txt"):
         for line in listing.read_text().splitlines() if listing.exists() else ():
-            head, _, below = line.partition("#")[0].partition(":")
+            head, _, below = re.split("[#+]", line)[0].partition(":")
             if not head.strip():
                 continue
             name = head.split()[0]

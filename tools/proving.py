@@ -17,8 +17,8 @@ import time
 
 ROOT = pathlib.Path(__file__).resolve().parent.parent
 CRATES = ROOT / "crates"
-# What the gate proves, and the programs beside it. Each has a crates.txt.
-WORKSPACES = ((ROOT / "crates.txt", CRATES), (ROOT / "extra/crates.txt", ROOT / "extra"))
+# What the gate proves, and the programs beside it. Each has a list of its crates.
+WORKSPACES = ((ROOT / "crates.txt", CRATES), (ROOT / "extra/programs.txt", ROOT / "extra"))
 PARTS = ("src", "specs", "proofs")
 # What one check takes at most, in bytes of memory.
 MEMORY = 2_500_000_000
@@ -34,10 +34,11 @@ class Interrupted(Exception):
 
 
 class Crate:
-    """A crate: its line in its crates.txt, its folder, the crates below it, and how many lines there are to prove."""
+    """A crate: its line in its list, its folder, the crates below it, the files of other crates that it has among its
+    sources, and how many lines there are to prove."""
 
-    def __init__(self, name, line, folder, direct):
-        self.name, self.line, self.folder = name, line, folder
+    def __init__(self, name, line, folder, direct, borrowed):
+        self.name, self.line, self.folder, self.borrowed = name, line, folder, borrowed
         self.below = list(dict.fromkeys(it for crate in direct for it in [*crate.below, crate]))
         self.is_program = (self.folder / "src/main.rt").is_file()
         self.made = self.folder / "out" / (name if self.is_program else "rlib/stamp")
@@ -45,7 +46,8 @@ class Crate:
         self.lines = sum(file.read_bytes().count(b"\n") for file in self.sources())
 
     def sources(self):
-        return [file for part in PARTS for file in (self.folder / part).rglob("*") if file.is_file()]
+        own = [file for part in PARTS for file in (self.folder / part).rglob("*") if file.is_file()]
+        return own + self.borrowed
 
     def is_newest(self):
         """Whether it is built, and nothing that it is made of is newer."""
@@ -62,10 +64,11 @@ def workspace():
     found = {}
     for file, folder in WORKSPACES:
         for line in file.read_text().splitlines():
-            head, _, below = line.partition("#")[0].partition(":")
+            line, _, borrowed = line.partition("#")[0].partition("+")
+            head, _, below = line.partition(":")
             if head.strip():
-                name = head.split()[0]
-                found[name] = Crate(name, line, folder / name, [found[it] for it in below.split() if it in found])
+                name, direct = head.split()[0], [found[it] for it in below.split() if it in found]
+                found[name] = Crate(name, line, folder / name, direct, [ROOT / it for it in borrowed.split()])
     return found
 
 
@@ -194,11 +197,6 @@ def input_of(crate, place):
     return open(given if given.is_file() else os.devnull, "rb")
 
 
-def link(file, name):
-    """One more name for a file: for what a symbolic link leads to, not for the link."""
-    os.link(os.path.realpath(file), name)
-
-
 def lay_out(crate, place):
     """Makes a workspace of the crate and those below it, whose libraries are linked in.
 
@@ -214,7 +212,9 @@ def lay_out(crate, place):
         folder.mkdir(parents=True)
         for part in (*PARTS, "out/rlib"):
             if (it.folder / part).is_dir():
-                shutil.copytree(it.folder / part, folder / part, copy_function=link)
+                shutil.copytree(it.folder / part, folder / part, copy_function=os.link)
+        for file in it.borrowed:
+            os.link(file, folder / "src" / file.name)
         for file in it.folder.iterdir():
             if file.is_file():
                 shutil.copy(file, folder)

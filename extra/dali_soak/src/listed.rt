@@ -1,1 +1,0 @@
-../../../crates/dali_line_tests/src/listed.rt
