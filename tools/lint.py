@@ -9,7 +9,6 @@ import re
 
 WIDTHS = {"src": (".rt", 120), "specs": (".antt", 100)}
 LONGEST = 800
-ROOMS = ("crates", "extra")
 TESTS = ("dali_tests", "dali_stories", "dali_line_tests", "dali_sqlite_tests")
 
 
@@ -28,8 +27,8 @@ def everywhere(root, suffix):
 
 
 def code(root, pattern):
-    """The files of crates that match, in crates/ and in extra/."""
-    return [file for room in ROOMS for file in files(root, f"{room}/{pattern}")]
+    """The files of crates that match, in crates/, and in extra/ with .txt behind their names."""
+    return files(root, f"crates/{pattern}") + files(root, f"extra/{pattern}.txt")
 
 
 def named(root, file):

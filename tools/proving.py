@@ -40,7 +40,7 @@ class Crate:
     def __init__(self, name, line, folder, direct, borrowed):
         self.name, self.line, self.folder, self.borrowed = name, line, folder, borrowed
         self.below = list(dict.fromkeys(it for crate in direct for it in [*crate.below, crate]))
-        self.is_program = (self.folder / "src/main.rt").is_file()
+        self.is_program = any((self.folder / "src" / name).is_file() for name in ("main.rt", "main.rt.txt"))
         self.made = self.folder / "out" / (name if self.is_program else "rlib/stamp")
         self.log = self.folder / "out/build.log"
         self.lines = sum(file.read_bytes().count(b"\n") for file in self.sources())
@@ -197,6 +197,11 @@ def input_of(crate, place):
     return open(given if given.is_file() else os.devnull, "rb")
 
 
+def link(file, name):
+    """One more name for a file. Sources in extra/ have .txt behind their names, since rt takes no others than its crates'."""
+    os.link(file, str(name).removesuffix(".txt"))
+
+
 def lay_out(crate, place):
     """Makes a workspace of the crate and those below it, whose libraries are linked in.
 
@@ -212,9 +217,9 @@ def lay_out(crate, place):
         folder.mkdir(parents=True)
         for part in (*PARTS, "out/rlib"):
             if (it.folder / part).is_dir():
-                shutil.copytree(it.folder / part, folder / part, copy_function=os.link)
+                shutil.copytree(it.folder / part, folder / part, copy_function=link)
         for file in it.borrowed:
-            os.link(file, folder / "src" / file.name)
+            link(file, folder / "src" / file.name)
         for file in it.folder.iterdir():
             if file.is_file():
                 shutil.copy(file, folder)
