@@ -140,7 +140,7 @@ def crates(root):
     """Each crate that a list names below another is named by a file of that one, in code and not in a comment."""
     for listing in (root / "crates.txt", root / "extra/programs.txt"):
         for line in listing.read_text().splitlines() if listing.exists() else ():
-            head, _, below = re.split("[#+]", line)[0].partition(":")
+            head, _, below = re.split("#| [+] ", line)[0].partition(":")
             if not head.strip():
                 continue
             name = head.split()[0]

@@ -64,7 +64,7 @@ def workspace():
     found = {}
     for file, folder in WORKSPACES:
         for line in file.read_text().splitlines():
-            line, _, borrowed = line.partition("#")[0].partition("+")
+            line, _, borrowed = line.partition("#")[0].partition(" + ")
             head, _, below = line.partition(":")
             if head.strip():
                 name, direct = head.split()[0], [found[it] for it in below.split() if it in found]
