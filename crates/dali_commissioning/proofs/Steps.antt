@@ -1,0 +1,161 @@
+use Rattle.std.proofs.Common.{◌≡◌, ◌⊎◌, ⊎_elim, arith, ℕ, ◌≤◌, length, List, [], ◌∷◌, ◌++◌, true, Option, Some, None, refl, ◌∙◌, ap, sym, subst}
+use Rattle.std.proofs.lemmas.Bool.{false≢true}
+use Rattle.dali_script.specs.Due.{accepts}
+use Rattle.dali_script.specs.declared.orders.Due.TheVariants as due
+use Rattle.dali_script.specs.declared.orders.Input.{Input}
+use Rattle.dali_script.specs.declared.orders.Input.TheVariants.{Start, Heard, Destroyed, Lapsed, Committed, CommitFailed}
+use Rattle.dali_commissioning.specs.Lines.{Tells}
+use Rattle.dali_commissioning.specs.Conducted.{Hears, Conducted, Commits, MayCommit, Stays, IsAt, IsLeft}
+use Rattle.dali_commissioning.specs.Steps.{Step, IsStep, last_order, open_after, order_line, written_by, opened_by, if_heard, record_told, committed_by}
+use Rattle.dali_controller.specs.Machine.{Machine}
+use Rattle.dali_script.specs.declared.orders.Order.{Order}
+use Rattle.dali_script.specs.declared.records.Record.{Record}
+use Rattle.std.specs.Io.KnownBytes.{Appends}
+use Rattle.std.proofs.KnownBytes.{Appends-trans, Appends-nil, Consumes-trans, Consumes-nil}
+use Rattle.std.proofs.lemmas.List.{append_assoc, append-nil}
+use Rattle.dali_frame.specs.declared.frames.Forward.{Forward}
+use Rattle.dali_script.specs.Due.{record_ordered}
+
+-- a line that was read, by what it tells
+pub line_told : (left rest : Option (List ℕ)) (told : Input) → accepts due.Bus told ≡ true
+    → Tells left rest told → Hears left rest told
+line_told left rest (Heard h) bus (line, read, says) = (line ++ 10 ∷ [], read, (line, refl, says))
+line_told left rest Destroyed bus (line, read, says) = (line ++ 10 ∷ [], read, (line, refl, says))
+line_told left rest Lapsed bus (line, read, says) = (line ++ 10 ∷ [], read, (line, refl, says))
+line_told left rest Start bus t = absurd (false≢true bus)
+line_told left rest Committed bus t = absurd (false≢true bus)
+line_told left rest CommitFailed bus t = absurd (false≢true bus)
+
+-- one step more
+pub further : (m mid n : Machine) (steps : List Step) (order next : Order) (told : Input)
+    (a b c l r s : Option (List ℕ)) → Conducted m mid steps a b l r → last_order steps ≡ Some order
+    → IsStep mid (record { told = told; order = next }) n
+    → Appends b c (order_line (open_after steps) (Some order)) → Hears r s told
+    → Conducted m n (record { told = told; order = next } ∷ steps) a c l s
+further m mid n steps order next told a b c l r s so_far last step wrote (bytes, read, tells) = record {
+  taken = (mid, so_far.taken, step);
+  wrote = Appends-trans a b c (written_by steps) (order_line (open_after steps) (last_order steps)) so_far.wrote
+      (subst (λ o. Appends b c (order_line (open_after steps) o)) (sym last) wrote);
+  bytes = so_far.bytes ++ bytes;
+  read = Consumes-trans l r s so_far.bytes bytes so_far.read read;
+  told = (so_far.bytes, bytes, refl, so_far.told, tells);
+}
+
+-- some records more
+pub commits_further : {S : Type 0} (is_up is_sound : S → Type 0) (holds : S → List Record → Type 0)
+    (old mid new : S) (xs ys : List Record) → Commits is_up is_sound holds old mid xs
+    → Stays is_up is_sound old mid → Stays is_up is_sound mid new
+    → Commits is_up is_sound holds mid new ys → Commits is_up is_sound holds old new (xs ++ ys)
+commits_further is_up is_sound holds old mid new xs ys one first second two = λ sound up list held.
+    subst (holds new) (append_assoc list xs ys)
+    (two (first.sound sound (second.up up)) up (list ++ xs) (one sound (second.up up) list held))
+
+pub stays_further : {S : Type 0} (is_up is_sound : S → Type 0) (old mid new : S)
+    → Stays is_up is_sound old mid → Stays is_up is_sound mid new → Stays is_up is_sound old new
+stays_further is_up is_sound old mid new first second = record {
+  up = λ up. first.up (second.up up);
+  sound = λ sound up. second.sound (first.sound sound (second.up up)) up;
+}
+
+-- before the first order is done
+pub at_begun : {S : Type 0} (is_up is_sound : S → Type 0) (holds : S → List Record → Type 0)
+    (keep : S) (m n : Machine) (a l : Option (List ℕ)) (order : Order)
+    → IsStep m (record { told = Start; order = order }) n → n.last ≡ Some order
+    → IsAt is_up is_sound holds keep keep m n a a l l None order
+at_begun is_up is_sound holds keep m n a l order step ordered = record {
+  steps = record { told = Start; order = order } ∷ [];
+  conducted = record {
+    taken = (m, refl, step);
+    wrote = Appends-nil a;
+    bytes = [];
+    read = Consumes-nil l;
+    told = ([], [], refl, refl, refl);
+  };
+  last = refl;
+  ordered = ordered;
+  stands = refl;
+  commits = λ sound up list held. subst (holds keep) (sym (append-nil list)) held;
+  stays = record { up = λ up. up; sound = λ sound up. sound };
+}
+
+-- after one order more
+pub at_further : {S : Type 0} (is_up is_sound : S → Type 0) (holds : S → List Record → Type 0)
+    (was mid keep : S) (m between n : Machine) (a b c l r s : Option (List ℕ))
+    (waiting later : Option Forward) (order next : Order) (told : Input)
+    → IsAt is_up is_sound holds was mid m between a b l r waiting order
+    → IsStep between (record { told = told; order = next }) n → n.last ≡ Some next
+    → Appends b c (order_line waiting (Some order)) → Hears r s told
+    → later ≡ if_heard told (opened_by waiting (Some order))
+    → Stays is_up is_sound mid keep
+    → Commits is_up is_sound holds mid keep (record_told told (record_ordered (Some order)))
+    → IsAt is_up is_sound holds was keep m n a c l s later next
+at_further is_up is_sound holds was mid keep m between n a b c l r s waiting later order next told so_far step ordered wrote hears opened stays commits = record {
+  steps = record { told = told; order = next } ∷ so_far.steps;
+  conducted = further m between n so_far.steps order next told a b c l r s so_far.conducted so_far.last step
+      (subst (λ o. Appends b c (order_line o (Some order))) so_far.stands wrote) hears;
+  last = refl;
+  ordered = ordered;
+  stands = opened ∙ ap (λ o. if_heard told (opened_by o (Some order))) so_far.stands
+      ∙ ap (λ o. if_heard told (opened_by (open_after so_far.steps) o)) (sym so_far.last);
+  commits = commits_further is_up is_sound holds was mid keep (committed_by so_far.steps) _ so_far.commits so_far.stays stays
+      (subst (λ o. Commits is_up is_sound holds mid keep (record_told told (record_ordered o))) (sym so_far.last) commits);
+  stays = stays_further is_up is_sound was mid keep so_far.stays stays;
+}
+
+-- where nothing is written or read
+pub no_line : (a : Option (List ℕ)) → Appends a a []
+no_line = Appends-nil
+
+pub unheard : (l : Option (List ℕ)) → Hears l l Committed
+unheard l = ([], Consumes-nil l, refl)
+
+few : length {A = Record} [] ≤ 1
+few = omega (arith)
+
+one : (x : Record) → length (x ∷ []) ≤ 1
+one x = omega (arith)
+
+-- a store as it was
+pub same : {S : Type 0} (is_up is_sound : S → Type 0) (holds : S → List Record → Type 0) (keep : S)
+    → MayCommit is_up is_sound holds keep keep []
+same is_up is_sound holds keep = λ sound up list held.
+    ([], few, subst (holds keep) (sym (append-nil list)) held)
+
+-- a store with one record more or none
+pub one_more : {S : Type 0} (is_up is_sound : S → Type 0) (holds : S → List Record → Type 0)
+    (old new : S) (x : Record)
+    → (is_sound old → is_up new → (xs : List Record) → holds old xs → holds new xs ⊎ holds new (xs ++ x ∷ []))
+    → MayCommit is_up is_sound holds old new []
+one_more is_up is_sound holds old new x list = λ sound up xs held.
+    ⊎_elim (λ it. ([], few, subst (holds new) (sym (append-nil xs)) it)) (λ more. (x ∷ [], one x, more)) (list sound up xs held)
+
+-- after all steps that it may take
+pub left_at : {S : Type 0} (is_up is_sound : S → Type 0) (holds : S → List Record → Type 0)
+    (was keep : S) (m n : Machine) (a b l r : Option (List ℕ)) (waiting : Option Forward) (order : Order)
+    → IsAt is_up is_sound holds was keep m n a b l r waiting order
+    → IsLeft is_up is_sound holds was keep m n
+left_at is_up is_sound holds was keep m n a b l r waiting order so_far = (
+  so_far.steps,
+  so_far.conducted.taken,
+  λ sound up list held. (
+    [],
+    few,
+    subst (λ ys. holds keep (list ++ ys)) (sym (append-nil (committed_by so_far.steps)))
+        (so_far.commits sound up list held),
+  ),
+)
+
+-- where its last order is not done
+pub left_at_fault : {S : Type 0} (is_up is_sound : S → Type 0) (holds : S → List Record → Type 0)
+    (was mid keep : S) (m n : Machine) (a b l r : Option (List ℕ)) (waiting : Option Forward) (order : Order)
+    → IsAt is_up is_sound holds was mid m n a b l r waiting order
+    → Stays is_up is_sound mid keep → MayCommit is_up is_sound holds mid keep []
+    → IsLeft is_up is_sound holds was keep m n
+left_at_fault is_up is_sound holds was mid keep m n a b l r waiting order so_far stays last = (
+  so_far.steps,
+  so_far.conducted.taken,
+  λ sound up list held.
+      let (more, few_more, has) = last (so_far.stays.sound sound (stays.up up)) up (list ++ committed_by so_far.steps)
+      (so_far.commits sound (stays.up up) list held) in
+      (more, few_more, subst (holds keep) (append_assoc list (committed_by so_far.steps) more) has),
+)

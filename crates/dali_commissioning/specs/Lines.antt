@@ -1,0 +1,65 @@
+use Rattle.std.specs.Prelude.{◌≡◌, ℕ, List, [], ◌∷◌, ◌++◌, Bool, true, false, Option, Some, None}
+use Rattle.std.specs.Prelude.{bytes_eq, if◌then◌else◌, option_map, codes, decimal}
+use Rattle.std.specs.Io.KnownBytes.{Consumes}
+use Rattle.dali_frame.specs.declared.frames.Forward.{Forward}
+use Rattle.dali_frame.specs.declared.frames.Answer.TheVariants.{Silence, Byte, Damaged}
+use Rattle.dali_frame.specs.Hex.{forward_text, byte_of}
+use Rattle.dali_special.specs.declared.command.Command.{Command}
+use Rattle.dali_special.specs.declared.command.Command.TheVariants.{Compare, Verify, QueryShort}
+use Rattle.dali_special.specs.declared.command.Command.TheVariants.{RandomByte}
+use Rattle.dali_special.specs.Command.{command_of}
+use Rattle.dali_script.specs.declared.orders.Input.{Input}
+use Rattle.dali_script.specs.declared.orders.Input.TheVariants.{Heard, Destroyed, Lapsed}
+use Rattle.dali_commissioning.specs.declared.lines.Half.{Half}
+use Rattle.dali_commissioning.specs.declared.lines.Half.TheVariants.{Whole, First, Second}
+
+-- THE LINES between the program and its driver, each with a line feed at its end.
+
+-- whether a backward frame is awaited after a frame
+abbrev pub is_question : Command → Bool
+is_question Compare = true
+is_question (Verify a) = true
+is_question QueryShort = true
+is_question (RandomByte a part) = true
+is_question _ = false
+
+abbrev pub asked_text : Bool → List ℕ
+asked_text true = codes " ask"
+asked_text false = codes " tell"
+
+-- which frame of a pair it is, of a frame that is executed only where it is sent twice
+abbrev pub half_text : Half → List ℕ
+half_text Whole = []
+half_text First = codes " pair 1"
+half_text Second = codes " pair 2"
+
+-- `put P HHHH ask|tell [pair 1|2]`
+abbrev pub put_text : ℕ → Forward → Half → List ℕ
+put_text p f half =
+    codes "put "
+    ++ (decimal p
+    ++ (codes " "
+    ++ (forward_text f
+    ++ (asked_text (is_question (command_of f)) ++ (half_text half ++ codes "\n")))))
+
+-- a byte that was heard, as `byte HH` in upper or lower case
+abbrev pub told_byte : List ℕ → Option Input
+told_byte (b ∷ y ∷ t ∷ e ∷ space ∷ high ∷ low ∷ []) =
+    if bytes_eq (b ∷ y ∷ t ∷ e ∷ space ∷ []) (codes "byte ")
+    then option_map (λ byte. Heard (Byte byte)) (byte_of high low)
+    else None
+told_byte _ = None
+
+-- what a driver's line says, without its line feed
+abbrev pub told_of : List ℕ → Option Input
+told_of line =
+    if bytes_eq line (codes "silence") then Some (Heard Silence)
+    else if bytes_eq line (codes "damaged") then Some (Heard Damaged)
+    else if bytes_eq line (codes "destroyed") then Some Destroyed
+    else if bytes_eq line (codes "lapsed") then Some Lapsed
+    else told_byte line
+
+-- a line was read that tells this
+abbrev pub Tells : Option (List ℕ) → Option (List ℕ) → Input → Type 0
+Tells old new told =
+    (line : List ℕ) × Consumes old new (line ++ 10 ∷ []) × (told_of line ≡ Some told)

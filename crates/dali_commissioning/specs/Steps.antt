@@ -1,0 +1,110 @@
+use Rattle.std.specs.Prelude.{◌≡◌, ℕ, List, [], ◌∷◌, ◌++◌, Bool, true, false, Option, Some, None}
+use Rattle.std.specs.Prelude.{◌==◌, ◌&&◌, if◌then◌else◌}
+use Rattle.dali_frame.specs.declared.frames.Forward.{Forward}
+use Rattle.dali_special.specs.Command.{command_of, is_send_twice}
+use Rattle.dali_script.specs.declared.records.Record.{Record}
+use Rattle.dali_script.specs.declared.orders.Input.{Input}
+use Rattle.dali_script.specs.declared.orders.Input.TheVariants.{Start, Heard}
+use Rattle.dali_script.specs.declared.orders.Input.TheVariants.{Committed, CommitFailed}
+use Rattle.dali_script.specs.declared.orders.Order.{Order}
+use Rattle.dali_script.specs.declared.orders.Order.TheVariants.{Put}
+use Rattle.dali_script.specs.Due.{due_after, accepts, record_ordered}
+use Rattle.dali_controller.specs.Machine.{Machine}
+use Rattle.dali_controller.specs.Orders.{IsAnswered, machine_after}
+use Rattle.dali_commissioning.specs.declared.lines.Half.{Half}
+use Rattle.dali_commissioning.specs.declared.lines.Half.TheVariants.{Whole, First, Second}
+use Rattle.dali_commissioning.specs.Lines.{put_text, told_of}
+
+-- THE STEPS of a machine: what it was told, and what it ordered then. The last step stands first.
+pub record Step : Type 0 where
+  pub told : Input
+  pub order : Order
+
+-- a machine steps so
+abbrev pub IsStep : Machine → Step → Machine → Type 0
+IsStep m s n =
+    (accepts (due_after m.last) s.told ≡ true)
+    × IsAnswered m s.told s.order
+    × (n ≡ machine_after m s.told s.order)
+
+-- a machine takes these steps, to this one
+abbrev pub AreSteps : Machine → List Step → Machine → Type 0
+AreSteps m [] n = n ≡ m
+AreSteps m (s ∷ before) n = (mid : Machine) × AreSteps m before mid × IsStep mid s n
+
+-- the last order
+abbrev pub last_order : List Step → Option Order
+last_order [] = None
+last_order (s ∷ before) = Some s.order
+
+-- ---------------------------------------------------------------- pairs
+
+-- whether this frame is the one that waits for its second one
+abbrev pub is_open : Option Forward → Forward → Bool
+is_open (Some g) f = (g.address_byte == f.address_byte) && (g.opcode_byte == f.opcode_byte)
+is_open None f = false
+
+-- which frame of a pair a frame is, where this first one of a pair was heard right before it
+abbrev pub half_of : Option Forward → Forward → Half
+half_of waiting f =
+    if is_send_twice (command_of f)
+    then if is_open waiting f then Second else First
+    else Whole
+
+-- the first frame of a pair that waits behind a frame, once it is heard
+abbrev pub opens : Half → Forward → Option Forward
+opens First f = Some f
+opens _ f = None
+
+abbrev pub opened_by : Option Forward → Option Order → Option Forward
+opened_by waiting (Some (Put p f)) = opens (half_of waiting f) f
+opened_by waiting _ = None
+
+-- a pair is broken where its first frame was not heard
+abbrev pub if_heard : Input → Option Forward → Option Forward
+if_heard (Heard h) waiting = waiting
+if_heard _ waiting = None
+
+-- the first frame of a pair that waits when the last order is done
+abbrev pub open_after : List Step → Option Forward
+open_after [] = None
+open_after (s ∷ before) = if_heard s.told (opened_by (open_after before) (last_order before))
+
+-- ---------------------------------------------------------------- lines and records
+
+-- the line of an order, where it puts a frame
+abbrev pub order_line : Option Forward → Option Order → List ℕ
+order_line waiting (Some (Put p f)) = put_text p f (half_of waiting f)
+order_line waiting _ = []
+
+-- the lines of all orders but the last
+abbrev pub written_by : List Step → List ℕ
+written_by [] = []
+written_by (s ∷ before) = written_by before ++ order_line (open_after before) (last_order before)
+
+-- these bytes are the line that tells this; nothing, where it is not of the bus
+abbrev pub AreTold : Input → List ℕ → Type 0
+AreTold Start bytes = bytes ≡ []
+AreTold Committed bytes = bytes ≡ []
+AreTold CommitFailed bytes = bytes ≡ []
+AreTold told bytes = (line : List ℕ) × (bytes ≡ line ++ 10 ∷ []) × (told_of line ≡ Some told)
+
+-- these bytes are the lines by which the steps were told
+abbrev pub HaveRead : List Step → List ℕ → Type 0
+HaveRead [] bytes = bytes ≡ []
+HaveRead (s ∷ before) bytes =
+    (first : List ℕ)
+    × (last : List ℕ)
+    × (bytes ≡ first ++ last)
+    × HaveRead before first
+    × AreTold s.told last
+
+-- the records that the steps were told to be kept, oldest first
+abbrev pub record_told : Input → Option Record → List Record
+record_told Committed (Some x) = x ∷ []
+record_told _ _ = []
+
+abbrev pub committed_by : List Step → List Record
+committed_by [] = []
+committed_by (s ∷ before) =
+    committed_by before ++ record_told s.told (record_ordered (last_order before))

@@ -1,0 +1,123 @@
+//! The lines between the program and its driver.
+#![tactic(auto, using(std::proofs::lemmas::List::append_assoc))]
+
+ghost use Rattle.std.specs.Prelude.{◌≡◌, ◌++◌, true, OnOk, IfSome, string_bytes};
+ghost use Rattle.dali_script.specs.Due.{accepts};
+ghost use Rattle.dali_script.specs.declared.orders.Due.TheVariants as due;
+ghost use Rattle.dali_frame.specs.Hex.{forward_text, byte_of};
+ghost use Rattle.dali_commissioning.specs.Lines.{is_question, asked_text, half_text, put_text, told_byte, told_of};
+
+use dali_frame::{Answer, Forward, Priority};
+use dali_script::Input;
+use dali_special::Command;
+use std::alloc::AllocError;
+use std::str;
+
+/// Which frame of a pair a frame is. INITIALISE and RANDOMISE are executed only where they are sent twice within
+/// 100 ms.
+#[derive(Clone, Copy, Debug, PartialEq, Eq)]
+pub enum Half {
+    /// A frame that is sent once.
+    Whole,
+    /// The first of two equal frames.
+    First,
+    /// The second, which is to end at most 100 ms after the first.
+    Second,
+}
+
+/// Whether a backward frame is awaited after a frame of this command.
+fn is_question(command: Command) -> bool
+    ensures { result ≡ is_question command }
+{
+    matches!(
+        command,
+        Command::Compare | Command::Verify(_) | Command::QueryShort | Command::RandomByte(..)
+    )
+}
+
+/// The four digits of a frame.
+fn push_frame(text: &mut String, frame: Forward) -> Result<(), AllocError>
+    ensures { OnOk result (string_bytes text.new ≡ string_bytes text.old ++ forward_text frame) }
+{
+    let mut digits = [0; 4];
+    frame.write_hex(&mut digits);
+    match str::from_utf8(&digits) {
+        Ok(digits) => text.push_str(digits),
+        // Never so, since digits are text; the frame spells itself all the same.
+        Err(_) => write!(text, "{frame}"),
+    }
+}
+
+fn asked_name(asks: bool) -> &'static str
+    ensures { result.now ≡ asked_text asks }
+{
+    if asks { " ask" } else { " tell" }
+}
+
+fn half_name(half: Half) -> &'static str
+    ensures { result.now ≡ half_text half }
+{
+    match half {
+        Half::Whole => "",
+        Half::First => " pair 1",
+        Half::Second => " pair 2",
+    }
+}
+
+/// The line of a frame that is put: `put P HHHH ask|tell [pair 1|2]`.
+pub fn push_put(
+    text: &mut String,
+    priority: Priority,
+    frame: Forward,
+    half: Half,
+) -> Result<(), AllocError>
+    ensures { OnOk result (string_bytes text.new ≡ string_bytes text.old ++ put_text priority frame half) }
+{
+    let level = priority.number();
+    write!(text, "put {level} ")?;
+    push_frame(text, frame)?;
+    text.push_str(asked_name(is_question(Command::read(frame))))?;
+    text.push_str(half_name(half))?;
+    text.push_str("\n")
+}
+
+/// The byte that two hexadecimal digits write.
+fn byte(high: u8, low: u8) -> Option<u8>
+    ensures { result ≡ byte_of high low }
+{
+    let frame = Forward::read_hex(&[b'0', b'0', high, low]).ok()?;
+    Some(frame.opcode_byte)
+}
+
+fn told_byte(line: &[u8]) -> Option<Input>
+    ensures value { result ≡ told_byte line.now }
+    ensures of_bus { IfSome result (λ told. accepts due.Bus told ≡ true) }
+{
+    let [b, y, t, e, space, high, low] = line else {
+        return None;
+    };
+    let name = [*b, *y, *t, *e, *space];
+    if name.as_slice() == b"byte ".as_slice() {
+        Some(Input::Heard(Answer::Byte(byte(*high, *low)?)))
+    } else {
+        None
+    }
+}
+
+/// What a driver's line says, without its line feed; `None` where it is a bad line.
+pub fn told_of(line: &[u8]) -> Option<Input>
+    ensures value { result ≡ told_of line.now }
+    ensures of_bus { IfSome result (λ told. accepts due.Bus told ≡ true) }
+{
+    if line == b"silence".as_slice() {
+        Some(Input::Heard(Answer::Silence))
+    } else if line == b"damaged".as_slice() {
+        Some(Input::Heard(Answer::Damaged))
+    } else if line == b"destroyed".as_slice() {
+        Some(Input::Destroyed)
+    } else if line == b"lapsed".as_slice() {
+        Some(Input::Lapsed)
+    } else {
+        told_byte(line)
+    }
+}
