@@ -1,11 +1,11 @@
-use Rattle.std.proofs.Common.{◌≡◌, ◌⊎◌, ⊎_elim, arith, ℕ, ◌≤◌, length, List, [], ◌∷◌, ◌++◌, true, Option, Some, None, refl, ◌∙◌, ap, sym, subst}
+use Rattle.std.proofs.Common.{◌≡◌, ◌⊎◌, ⊎_elim, arith, ℕ, ◌+◌, ◌≤◌, length, List, [], ◌∷◌, ◌++◌, true, Option, Some, None, refl, ◌∙◌, ap, sym, subst}
 use Rattle.std.proofs.lemmas.Bool.{false≢true}
 use Rattle.dali_script.specs.Due.{accepts}
 use Rattle.dali_script.specs.declared.orders.Due.TheVariants as due
 use Rattle.dali_script.specs.declared.orders.Input.{Input}
 use Rattle.dali_script.specs.declared.orders.Input.TheVariants.{Start, Heard, Destroyed, Lapsed, Committed, CommitFailed}
 use Rattle.dali_commissioning.specs.Lines.{Tells}
-use Rattle.dali_commissioning.specs.Conducted.{Hears, Conducted, Commits, MayCommit, Stays, IsAt, IsLeft}
+use Rattle.dali_commissioning.specs.Conducted.{Hears, Conducted, Commits, MayCommit, Stays, IsAt, IsLeft, HasTaken}
 use Rattle.dali_commissioning.specs.Steps.{Step, IsStep, last_order, open_after, order_line, written_by, opened_by, if_heard, record_told, committed_by}
 use Rattle.dali_controller.specs.Machine.{Machine}
 use Rattle.dali_script.specs.declared.orders.Order.{Order}
@@ -61,7 +61,7 @@ stays_further is_up is_sound old mid new first second = record {
 pub at_begun : {S : Type 0} (is_up is_sound : S → Type 0) (holds : S → List Record → Type 0)
     (keep : S) (m n : Machine) (a l : Option (List ℕ)) (order : Order)
     → IsStep m (record { told = Start; order = order }) n → n.last ≡ Some order
-    → IsAt is_up is_sound holds keep keep m n a a l l None order
+    → IsAt is_up is_sound holds keep keep m n a a l l None order 0
 at_begun is_up is_sound holds keep m n a l order step ordered = record {
   steps = record { told = Start; order = order } ∷ [];
   conducted = record {
@@ -71,6 +71,7 @@ at_begun is_up is_sound holds keep m n a l order step ordered = record {
     read = Consumes-nil l;
     told = ([], [], refl, refl, refl);
   };
+  counted = refl;
   last = refl;
   ordered = ordered;
   stands = refl;
@@ -81,18 +82,19 @@ at_begun is_up is_sound holds keep m n a l order step ordered = record {
 -- after one order more
 pub at_further : {S : Type 0} (is_up is_sound : S → Type 0) (holds : S → List Record → Type 0)
     (was mid keep : S) (m between n : Machine) (a b c l r s : Option (List ℕ))
-    (waiting later : Option Forward) (order next : Order) (told : Input)
-    → IsAt is_up is_sound holds was mid m between a b l r waiting order
+    (waiting later : Option Forward) (order next : Order) (told : Input) (count : ℕ)
+    → IsAt is_up is_sound holds was mid m between a b l r waiting order count
     → IsStep between (record { told = told; order = next }) n → n.last ≡ Some next
     → Appends b c (order_line waiting (Some order)) → Hears r s told
     → later ≡ if_heard told (opened_by waiting (Some order))
     → Stays is_up is_sound mid keep
     → Commits is_up is_sound holds mid keep (record_told told (record_ordered (Some order)))
-    → IsAt is_up is_sound holds was keep m n a c l s later next
-at_further is_up is_sound holds was mid keep m between n a b c l r s waiting later order next told so_far step ordered wrote hears opened stays commits = record {
+    → IsAt is_up is_sound holds was keep m n a c l s later next (count + 1)
+at_further is_up is_sound holds was mid keep m between n a b c l r s waiting later order next told count so_far step ordered wrote hears opened stays commits = record {
   steps = record { told = told; order = next } ∷ so_far.steps;
   conducted = further m between n so_far.steps order next told a b c l r s so_far.conducted so_far.last step
       (subst (λ o. Appends b c (order_line o (Some order))) so_far.stands wrote) hears;
+  counted = omega (arith, so_far.counted);
   last = refl;
   ordered = ordered;
   stands = opened ∙ ap (λ o. if_heard told (opened_by o (Some order))) so_far.stands
@@ -131,10 +133,10 @@ one_more is_up is_sound holds old new x list = λ sound up xs held.
 
 -- after all steps that it may take
 pub left_at : {S : Type 0} (is_up is_sound : S → Type 0) (holds : S → List Record → Type 0)
-    (was keep : S) (m n : Machine) (a b l r : Option (List ℕ)) (waiting : Option Forward) (order : Order)
-    → IsAt is_up is_sound holds was keep m n a b l r waiting order
+    (was keep : S) (m n : Machine) (a b l r : Option (List ℕ)) (waiting : Option Forward) (order : Order) (count : ℕ)
+    → IsAt is_up is_sound holds was keep m n a b l r waiting order count
     → IsLeft is_up is_sound holds was keep m n
-left_at is_up is_sound holds was keep m n a b l r waiting order so_far = (
+left_at is_up is_sound holds was keep m n a b l r waiting order count so_far = (
   so_far.steps,
   so_far.conducted.taken,
   λ sound up list held. (
@@ -147,11 +149,11 @@ left_at is_up is_sound holds was keep m n a b l r waiting order so_far = (
 
 -- where its last order is not done
 pub left_at_fault : {S : Type 0} (is_up is_sound : S → Type 0) (holds : S → List Record → Type 0)
-    (was mid keep : S) (m n : Machine) (a b l r : Option (List ℕ)) (waiting : Option Forward) (order : Order)
-    → IsAt is_up is_sound holds was mid m n a b l r waiting order
+    (was mid keep : S) (m n : Machine) (a b l r : Option (List ℕ)) (waiting : Option Forward) (order : Order) (count : ℕ)
+    → IsAt is_up is_sound holds was mid m n a b l r waiting order count
     → Stays is_up is_sound mid keep → MayCommit is_up is_sound holds mid keep []
     → IsLeft is_up is_sound holds was keep m n
-left_at_fault is_up is_sound holds was mid keep m n a b l r waiting order so_far stays last = (
+left_at_fault is_up is_sound holds was mid keep m n a b l r waiting order count so_far stays last = (
   so_far.steps,
   so_far.conducted.taken,
   λ sound up list held.
@@ -159,3 +161,10 @@ left_at_fault is_up is_sound holds was mid keep m n a b l r waiting order so_far
       (so_far.commits sound (stays.up up) list held) in
       (more, few_more, subst (holds keep) (append_assoc list (committed_by so_far.steps) more) has),
 )
+
+-- as many as were counted
+pub taken_at : {S : Type 0} (is_up is_sound : S → Type 0) (holds : S → List Record → Type 0)
+    (was keep : S) (m n : Machine) (a b l r : Option (List ℕ)) (waiting : Option Forward) (order : Order) (count : ℕ)
+    → IsAt is_up is_sound holds was keep m n a b l r waiting order count → HasTaken m n (count + 1)
+taken_at is_up is_sound holds was keep m n a b l r waiting order count so_far =
+    (so_far.steps, so_far.conducted.taken, so_far.counted)

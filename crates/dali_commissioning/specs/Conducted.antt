@@ -1,4 +1,4 @@
-use Rattle.std.specs.Prelude.{◌≡◌, ◌≤◌, ℕ, List, ◌++◌, length, Option, Some}
+use Rattle.std.specs.Prelude.{◌≡◌, ◌≤◌, ℕ, ◌+◌, List, ◌++◌, length, Option, Some}
 use Rattle.std.specs.Io.KnownBytes.{Appends, Consumes}
 use Rattle.dali_frame.specs.declared.frames.Forward.{Forward}
 use Rattle.dali_script.specs.declared.records.Record.{Record}
@@ -48,12 +48,13 @@ order_of (ended.Done end) = Done end
 order_of (ended.Halted fault) = Halt fault
 
 -- A MACHINE IS CONDUCTED up to its last order, which is not done yet. `waiting` is the first frame
--- of a pair that waits for its second one.
+-- of a pair that waits for its second one, `count` how many orders were done.
 pub record IsAt {S : Type 0} (is_up is_sound : S → Type 0) (holds : S → List Record → Type 0)
     (was keep : S) (m n : Machine) (held now left rest : Option (List ℕ)) (waiting : Option Forward)
-    (order : Order) : Type 0 where
+    (order : Order) (count : ℕ) : Type 0 where
   pub steps : List Step
   pub conducted : Conducted m n steps held now left rest
+  pub counted : length steps ≡ count + 1
   pub last : last_order steps ≡ Some order
   pub ordered : n.last ≡ Some order
   pub stands : waiting ≡ open_after steps
@@ -68,3 +69,7 @@ IsLeft is_up is_sound holds was keep m n =
     (steps : List Step)
     × AreSteps m steps n
     × MayCommit is_up is_sound holds was keep (committed_by steps)
+
+-- a machine took so many steps
+abbrev pub HasTaken : Machine → Machine → ℕ → Type 0
+HasTaken m n count = (steps : List Step) × AreSteps m steps n × (length steps ≡ count)

@@ -1,6 +1,6 @@
 //! What a machine orders is done: frames are put by lines to the driver, and records are committed.
 
-ghost use Rattle.std.specs.Prelude.{◌≡◌, ◌≢◌, [], ◌∷◌, true, None, Some, Option, IfOk, IfErr, OnOk};
+ghost use Rattle.std.specs.Prelude.{◌≡◌, ◌≢◌, ℕ, ◌+◌, [], ◌∷◌, true, None, Some, Err, Option, IfOk, IfErr, OnOk};
 ghost use Rattle.std.specs.Prelude.{IfSome, MatchOption};
 ghost use Rattle.std.specs.Io.KnownBytes.{Appends};
 ghost use Rattle.dali_frame.specs.declared.frames.Forward.{Forward};
@@ -10,7 +10,8 @@ ghost use Rattle.dali_script.specs.declared.orders.Due.TheVariants as due;
 ghost use Rattle.dali_script.specs.declared.orders.Order.TheVariants.{Put};
 ghost use Rattle.dali_commissioning.specs.Steps.{IsStep, half_of, is_open, opens, if_heard, opened_by};
 ghost use Rattle.dali_commissioning.specs.Steps.{order_line, record_told};
-ghost use Rattle.dali_commissioning.specs.Conducted.{Hears, Commits, MayCommit, Stays, IsAt, IsLeft, order_of};
+ghost use Rattle.dali_commissioning.specs.Conducted.{Hears, Commits, MayCommit, Stays, IsAt, IsLeft, HasTaken};
+ghost use Rattle.dali_commissioning.specs.Conducted.{order_of};
 
 use crate::lines::Half;
 use crate::wire::{WireFault, exchange};
@@ -132,6 +133,7 @@ fn answer<K: Keep, R: Read, W: Write>(
     ensures adds { IfOk result (λ told. Commits K.is_up K.is_sound K.holds keep.old keep.new
         (record_told told (record_ordered (Some order.now)))) }
     ensures left { IfErr result (λ _. MayCommit K.is_up K.is_sound K.holds keep.old keep.new []) }
+    ensures not_spent { result ≢ Err ConductFault.StepsSpent }
 {
     match *order {
         Order::Put(priority, frame) => {
@@ -180,9 +182,9 @@ fn end_at(order: &Order) -> Option<Ended>
 /// Takes a machine from its start to its end: each frame that it puts is a line to the driver, and each record that it
 /// orders is committed in the store.
 ///
-/// The machine is told Committed only of a record that the store has then. It takes at most so many steps. Where a
+/// The machine is told Committed only of a record that the store has then. It does at most so many orders. Where a
 /// record cannot be committed, it is told nothing: what the store reads then decides.
-#[tactic(auto, using(crate::proofs::Steps::left_at))]
+#[tactic(auto, using(crate::proofs::Steps::left_at, crate::proofs::Steps::taken_at))]
 pub fn conduct<K: Keep, R: Read, W: Write>(
     alloc: Global,
     machine: &mut Machine,
@@ -193,9 +195,10 @@ pub fn conduct<K: Keep, R: Read, W: Write>(
 ) -> Result<Ended, ConductFault>
     requires start { machine.old.last ≡ None }
     requires block { K.block keep.old ≡ machine.old.kept.block }
-    ensures ended { IfOk result (λ end. (waiting : Option Forward) × IsAt K.is_up K.is_sound K.holds keep.old keep.new
-        machine.old machine.new (W.contents writer.old) (W.contents writer.new)
-        (R.remaining reader.old) (R.remaining reader.new) waiting (order_of end)) }
+    ensures ended { IfOk result (λ end. (waiting : Option Forward) × (count : ℕ) × IsAt K.is_up K.is_sound K.holds
+        keep.old keep.new machine.old machine.new (W.contents writer.old) (W.contents writer.new)
+        (R.remaining reader.old) (R.remaining reader.new) waiting (order_of end) count) }
+    ensures spent { result ≡ Err ConductFault.StepsSpent → HasTaken machine.old machine.new (steps + 1) }
     ensures fault { IfErr result (λ _. IsLeft K.is_up K.is_sound K.holds keep.old keep.new machine.old machine.new) }
     ensures block { K.block keep.new ≡ K.block keep.old }
 {

@@ -12,7 +12,7 @@ loop-init g c = record {
 
 pub loop-preserved : goal.loop-preserved
 loop-preserved g c = record {
-  at = at_further g.K.Keep.is_up g.K.Keep.is_sound g.K.Keep.holds _ _ _ _ _ _ _ _ _ _ _ _ _ _ _ _ c.in-Ok.told c.loop.invariant.at
+  at = at_further g.K.Keep.is_up g.K.Keep.is_sound g.K.Keep.holds _ _ _ _ _ _ _ _ _ _ _ _ _ _ _ _ c.in-Ok.told _ c.loop.invariant.at
       c.step-order-in-Ok.ensures.step c.step-order-in-Ok.ensures.ordered c.in-Ok.ensures.wrote c.in-Ok.ensures.read
       c.in-Ok.ensures.waiting c.in-Ok.ensures.stays c.in-Ok.ensures.adds;
   block = c.in-Ok.ensures.block ∙ c.loop.invariant.block;
@@ -21,5 +21,5 @@ loop-preserved g c = record {
 }
 
 pub returns-in-Err-clause-fault : goal.returns-in-Err-clause-fault
-returns-in-Err-clause-fault g c = left_at_fault g.K.Keep.is_up g.K.Keep.is_sound g.K.Keep.holds _ _ _ _ _ _ _ _ _ _ _ c.loop.invariant.at
+returns-in-Err-clause-fault g c = left_at_fault g.K.Keep.is_up g.K.Keep.is_sound g.K.Keep.holds _ _ _ _ _ _ _ _ _ _ _ _ c.loop.invariant.at
     c.in-Err.ensures.stays c.in-Err.ensures.left

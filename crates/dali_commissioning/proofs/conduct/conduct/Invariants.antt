@@ -9,7 +9,7 @@ abbrev pub invariant-loop : goal.invariant-loop
 invariant-loop g l = record {
   at : IsAt g.K.Keep.is_up g.K.Keep.is_sound g.K.Keep.holds l.fn.keep l.keep l.fn.machine l.machine
       (g.W.Write.contents l.fn.writer) (g.W.Write.contents l.writer)
-      (g.R.Read.remaining l.fn.reader) (g.R.Read.remaining l.reader) l.waiting l.order;
+      (g.R.Read.remaining l.fn.reader) (g.R.Read.remaining l.reader) l.waiting l.order l.counter;
   block : g.K.Keep.block l.keep ≡ g.K.Keep.block l.fn.keep;
   same : g.K.Keep.block l.keep ≡ l.machine.kept.block;
   fits : IfSome (record_ordered (Some l.order)) (Fits l.machine.kept.block);
