@@ -5,6 +5,6 @@ mod conduct;
 mod lines;
 mod wire;
 
-pub use conduct::{ConductFault, Ended};
+pub use conduct::{ConductFault, Ended, conduct};
 pub use lines::{Half, told_of};
 pub use wire::{WireFault, exchange};
