@@ -5,8 +5,8 @@ use Rattle.dali_script.specs.declared.records.Record.{Record}
 use Rattle.dali_script.specs.declared.orders.Input.{Input}
 use Rattle.dali_script.specs.declared.orders.Order.{Order}
 use Rattle.dali_script.specs.declared.orders.Order.TheVariants.{Done, Halt}
-use Rattle.dali_commissioning.specs.declared.conduct.Ended.{Ended}
-use Rattle.dali_commissioning.specs.declared.conduct.Ended.TheVariants as ended
+use Rattle.dali_commissioning.specs.declared.conducting.Ended.{Ended}
+use Rattle.dali_commissioning.specs.declared.conducting.Ended.TheVariants as ended
 use Rattle.dali_controller.specs.Machine.{Machine}
 use Rattle.dali_commissioning.specs.Steps.{Step, AreSteps, last_order, written_by, HaveRead}
 use Rattle.dali_commissioning.specs.Steps.{AreTold, open_after, committed_by}

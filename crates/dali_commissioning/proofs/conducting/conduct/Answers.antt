@@ -1,6 +1,6 @@
 use Rattle.std.proofs.Common.{◌∙◌, sym, refl}
 use Rattle.dali_commissioning.proofs.Steps.{at_begun, at_further, left_at_fault}
-use Rattle.dali_commissioning.proofs.conduct.conduct.Goals as goal
+use Rattle.dali_commissioning.proofs.conducting.conduct.Goals as goal
 
 pub loop-init : goal.loop-init
 loop-init g c = record {

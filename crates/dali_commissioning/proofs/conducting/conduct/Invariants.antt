@@ -3,7 +3,7 @@ use Rattle.std.specs.Prelude.{IfSome}
 use Rattle.dali_script.specs.Due.{record_ordered}
 use Rattle.dali_script.specs.Records.{Fits}
 use Rattle.dali_commissioning.specs.Conducted.{IsAt}
-use Rattle.dali_commissioning.proofs.conduct.conduct.Given as goal
+use Rattle.dali_commissioning.proofs.conducting.conduct.Given as goal
 
 abbrev pub invariant-loop : goal.invariant-loop
 invariant-loop g l = record {
