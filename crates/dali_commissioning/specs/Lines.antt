@@ -6,7 +6,10 @@ use Rattle.dali_frame.specs.declared.frames.Answer.TheVariants.{Silence, Byte, D
 use Rattle.dali_frame.specs.Hex.{forward_text, byte_of}
 use Rattle.dali_special.specs.declared.command.Command.{Command}
 use Rattle.dali_special.specs.declared.command.Command.TheVariants.{Compare, Verify, QueryShort}
-use Rattle.dali_special.specs.declared.command.Command.TheVariants.{RandomByte}
+use Rattle.dali_special.specs.declared.command.Command.TheVariants.{RandomByte, Terminate}
+use Rattle.dali_special.specs.declared.command.Command.TheVariants.{Initialise, Randomise, Withdraw}
+use Rattle.dali_special.specs.declared.command.Command.TheVariants.{SearchHigh, SearchMiddle}
+use Rattle.dali_special.specs.declared.command.Command.TheVariants.{SearchLow, Program, Arc, Other}
 use Rattle.dali_special.specs.Command.{command_of}
 use Rattle.dali_script.specs.declared.orders.Input.{Input}
 use Rattle.dali_script.specs.declared.orders.Input.TheVariants.{Heard, Destroyed, Lapsed}
@@ -21,7 +24,16 @@ is_question Compare = true
 is_question (Verify a) = true
 is_question QueryShort = true
 is_question (RandomByte a part) = true
-is_question _ = false
+is_question Terminate = false
+is_question (Initialise target) = false
+is_question Randomise = false
+is_question Withdraw = false
+is_question (SearchHigh byte) = false
+is_question (SearchMiddle byte) = false
+is_question (SearchLow byte) = false
+is_question (Program a) = false
+is_question (Arc f) = false
+is_question (Other f) = false
 
 abbrev pub asked_text : Bool → List ℕ
 asked_text true = codes " ask"

@@ -66,13 +66,13 @@ fn is_open(waiting: Option<Forward>, frame: Forward) -> bool
     }
 }
 
-/// The first frame of a pair that stands waiting behind a frame, by what was told of it.
-fn open_behind(half: Half, frame: Forward, told: Input) -> Option<Forward>
+/// The first frame of a pair that waits behind a frame, by what was told of it.
+fn waits_behind(half: Half, frame: Forward, told: Input) -> Option<Forward>
     ensures { result ≡ if_heard told (opens half frame) }
 {
     match (half, told) {
         (Half::First, Input::Heard(_)) => Some(frame),
-        _ => None,
+        (Half::Whole | Half::First | Half::Second, _) => None,
     }
 }
 
@@ -95,7 +95,7 @@ fn put<R: Read, W: Write>(
 {
     let half = half_of(*waiting, frame);
     let told = exchange(text, reader, writer, priority, frame, half)?;
-    *waiting = open_behind(half, frame, told);
+    *waiting = waits_behind(half, frame, told);
     Ok(told)
 }
 

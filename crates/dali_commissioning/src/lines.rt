@@ -29,10 +29,21 @@ pub enum Half {
 fn is_question(command: Command) -> bool
     ensures { result ≡ is_question command }
 {
-    matches!(
-        command,
-        Command::Compare | Command::Verify(_) | Command::QueryShort | Command::RandomByte(..)
-    )
+    match command {
+        Command::Compare | Command::Verify(_) | Command::QueryShort | Command::RandomByte(..) => {
+            true
+        }
+        Command::Terminate
+        | Command::Initialise(_)
+        | Command::Randomise
+        | Command::Withdraw
+        | Command::SearchHigh(_)
+        | Command::SearchMiddle(_)
+        | Command::SearchLow(_)
+        | Command::Program(_)
+        | Command::Arc(_)
+        | Command::Other(_) => false,
+    }
 }
 
 /// The four digits of a frame.
