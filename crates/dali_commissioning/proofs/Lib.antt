@@ -1,2 +1,6 @@
 pub mod Steps
 pub mod Written
+pub mod Asked
+pub mod Lawfully
+pub mod Larger
+pub mod Ran

@@ -1,4 +1,4 @@
-use Rattle.std.proofs.Common.{◌≡◌, ◌⊎◌, ⊎_elim, arith, ℕ, ◌+◌, ◌≤◌, length, List, [], ◌∷◌, ◌++◌, true, Option, Some, None, refl, ◌∙◌, ap, sym, subst}
+use Rattle.std.proofs.Common.{◌≡◌, ◌⊎◌, ⊎_elim, arith, ℕ, ◌+◌, ◌≤◌, length, List, [], ◌∷◌, ◌++◌, Bool, true, false, ◌||◌, Option, Some, None, refl, ◌∙◌, ap, sym, subst}
 use Rattle.std.proofs.lemmas.Bool.{false≢true}
 use Rattle.dali_script.specs.Due.{accepts}
 use Rattle.dali_script.specs.declared.orders.Due.TheVariants as due
@@ -6,11 +6,12 @@ use Rattle.dali_script.specs.declared.orders.Input.{Input}
 use Rattle.dali_script.specs.declared.orders.Input.TheVariants.{Start, Heard, Destroyed, Lapsed, Committed, CommitFailed}
 use Rattle.dali_commissioning.specs.Lines.{Tells}
 use Rattle.dali_commissioning.specs.Conducted.{Hears, Conducted, Commits, MayCommit, Stays, IsAt, IsLeft, HasTaken}
-use Rattle.dali_commissioning.specs.Steps.{Step, IsStep, last_order, open_after, order_line, written_by, opened_by, if_heard, record_told, committed_by}
+use Rattle.dali_commissioning.specs.Steps.{Step, IsStep, last_order, open_after, order_line, written_by, opened_by, if_heard, record_told, committed_by, is_kept, AreTold}
+use Rattle.dali_commissioning.specs.Drivers.{Talk}
 use Rattle.dali_controller.specs.Machine.{Machine}
 use Rattle.dali_script.specs.declared.orders.Order.{Order}
 use Rattle.dali_script.specs.declared.records.Record.{Record}
-use Rattle.std.specs.Io.KnownBytes.{Appends}
+use Rattle.std.specs.Io.KnownBytes.{Appends, Consumes}
 use Rattle.std.proofs.KnownBytes.{Appends-trans, Appends-nil, Consumes-trans, Consumes-nil}
 use Rattle.std.proofs.lemmas.List.{append_assoc, append-nil}
 use Rattle.dali_frame.specs.declared.frames.Forward.{Forward}
@@ -18,7 +19,7 @@ use Rattle.dali_script.specs.Due.{record_ordered}
 
 -- a line that was read, by what it tells
 pub line_told : (left rest : Option (List ℕ)) (told : Input) → accepts due.Bus told ≡ true
-    → Tells left rest told → Hears left rest told
+    → Tells left rest told → (bytes : List ℕ) × Consumes left rest bytes × AreTold told bytes
 line_told left rest (Heard h) bus (line, read, says) = (line ++ 10 ∷ [], read, (line, refl, says))
 line_told left rest Destroyed bus (line, read, says) = (line ++ 10 ∷ [], read, (line, refl, says))
 line_told left rest Lapsed bus (line, read, says) = (line ++ 10 ∷ [], read, (line, refl, says))
@@ -28,16 +29,16 @@ line_told left rest CommitFailed bus t = absurd (false≢true bus)
 
 -- one step more
 pub further : (m mid n : Machine) (steps : List Step) (order next : Order) (told : Input)
-    (a b c l r s : Option (List ℕ)) → Conducted m mid steps a b l r → last_order steps ≡ Some order
+    (x y z : Talk) → Conducted m mid steps x y → last_order steps ≡ Some order
     → IsStep mid (record { told = told; order = next }) n
-    → Appends b c (order_line (open_after steps) (Some order)) → Hears r s told
-    → Conducted m n (record { told = told; order = next } ∷ steps) a c l s
-further m mid n steps order next told a b c l r s so_far last step wrote (bytes, read, tells) = record {
+    → Appends y.written z.written (order_line (open_after steps) (Some order)) → Hears y z told
+    → Conducted m n (record { told = told; order = next } ∷ steps) x z
+further m mid n steps order next told x y z so_far last step wrote (bytes, read, tells) = record {
   taken = (mid, so_far.taken, step);
-  wrote = Appends-trans a b c (written_by steps) (order_line (open_after steps) (last_order steps)) so_far.wrote
-      (subst (λ o. Appends b c (order_line (open_after steps) o)) (sym last) wrote);
+  wrote = Appends-trans x.written y.written z.written (written_by steps) (order_line (open_after steps) (last_order steps)) so_far.wrote
+      (subst (λ o. Appends y.written z.written (order_line (open_after steps) o)) (sym last) wrote);
   bytes = so_far.bytes ++ bytes;
-  read = Consumes-trans l r s so_far.bytes bytes so_far.read read;
+  read = Consumes-trans x.left y.left z.left so_far.bytes bytes so_far.read read;
   told = (so_far.bytes, bytes, refl, so_far.told, tells);
 }
 
@@ -59,16 +60,16 @@ stays_further is_up is_sound old mid new first second = record {
 
 -- before the first order is done
 pub at_begun : {S : Type 0} (is_up is_sound : S → Type 0) (holds : S → List Record → Type 0)
-    (keep : S) (m n : Machine) (a l : Option (List ℕ)) (order : Order)
+    (keep : S) (m n : Machine) (x : Talk) (order : Order)
     → IsStep m (record { told = Start; order = order }) n → n.last ≡ Some order
-    → IsAt is_up is_sound holds keep keep m n a a l l None order 0
-at_begun is_up is_sound holds keep m n a l order step ordered = record {
+    → IsAt is_up is_sound holds keep keep m n x x None order false 0
+at_begun is_up is_sound holds keep m n x order step ordered = record {
   steps = record { told = Start; order = order } ∷ [];
   conducted = record {
     taken = (m, refl, step);
-    wrote = Appends-nil a;
+    wrote = Appends-nil x.written;
     bytes = [];
-    read = Consumes-nil l;
+    read = Consumes-nil x.left;
     told = ([], [], refl, refl, refl);
   };
   counted = refl;
@@ -76,24 +77,25 @@ at_begun is_up is_sound holds keep m n a l order step ordered = record {
   ordered = ordered;
   stands = refl;
   commits = λ sound up list held. subst (holds keep) (sym (append-nil list)) held;
+  has = refl;
   stays = record { up = λ up. up; sound = λ sound up. sound };
 }
 
 -- after one order more
 pub at_further : {S : Type 0} (is_up is_sound : S → Type 0) (holds : S → List Record → Type 0)
-    (was mid keep : S) (m between n : Machine) (a b c l r s : Option (List ℕ))
-    (waiting later : Option Forward) (order next : Order) (told : Input) (count : ℕ)
-    → IsAt is_up is_sound holds was mid m between a b l r waiting order count
+    (was mid keep : S) (m between n : Machine) (x y z : Talk)
+    (waiting later : Option Forward) (order next : Order) (told : Input) (committed more : Bool) (count : ℕ)
+    → IsAt is_up is_sound holds was mid m between x y waiting order committed count
     → IsStep between (record { told = told; order = next }) n → n.last ≡ Some next
-    → Appends b c (order_line waiting (Some order)) → Hears r s told
-    → later ≡ if_heard told (opened_by waiting (Some order))
+    → Appends y.written z.written (order_line waiting (Some order)) → Hears y z told
+    → later ≡ if_heard told (opened_by waiting (Some order)) → more ≡ (committed || is_kept told)
     → Stays is_up is_sound mid keep
     → Commits is_up is_sound holds mid keep (record_told told (record_ordered (Some order)))
-    → IsAt is_up is_sound holds was keep m n a c l s later next (count + 1)
-at_further is_up is_sound holds was mid keep m between n a b c l r s waiting later order next told count so_far step ordered wrote hears opened stays commits = record {
+    → IsAt is_up is_sound holds was keep m n x z later next more (count + 1)
+at_further is_up is_sound holds was mid keep m between n x y z waiting later order next told committed more count so_far step ordered wrote hears opened joined stays commits = record {
   steps = record { told = told; order = next } ∷ so_far.steps;
-  conducted = further m between n so_far.steps order next told a b c l r s so_far.conducted so_far.last step
-      (subst (λ o. Appends b c (order_line o (Some order))) so_far.stands wrote) hears;
+  conducted = further m between n so_far.steps order next told x y z so_far.conducted so_far.last step
+      (subst (λ o. Appends y.written z.written (order_line o (Some order))) so_far.stands wrote) hears;
   counted = omega (arith, so_far.counted);
   last = refl;
   ordered = ordered;
@@ -101,6 +103,7 @@ at_further is_up is_sound holds was mid keep m between n a b c l r s waiting lat
       ∙ ap (λ o. if_heard told (opened_by (open_after so_far.steps) o)) (sym so_far.last);
   commits = commits_further is_up is_sound holds was mid keep (committed_by so_far.steps) _ so_far.commits so_far.stays stays
       (subst (λ o. Commits is_up is_sound holds mid keep (record_told told (record_ordered o))) (sym so_far.last) commits);
+  has = joined ∙ ap (λ c. c || is_kept told) so_far.has;
   stays = stays_further is_up is_sound was mid keep so_far.stays stays;
 }
 
@@ -108,7 +111,7 @@ at_further is_up is_sound holds was mid keep m between n a b c l r s waiting lat
 pub no_line : (a : Option (List ℕ)) → Appends a a []
 no_line = Appends-nil
 
-pub unheard : (l : Option (List ℕ)) → Hears l l Committed
+pub unheard : (l : Option (List ℕ)) → (bytes : List ℕ) × Consumes l l bytes × AreTold Committed bytes
 unheard l = ([], Consumes-nil l, refl)
 
 few : length {A = Record} [] ≤ 1
@@ -133,10 +136,10 @@ one_more is_up is_sound holds old new x list = λ sound up xs held.
 
 -- after all steps that it may take
 pub left_at : {S : Type 0} (is_up is_sound : S → Type 0) (holds : S → List Record → Type 0)
-    (was keep : S) (m n : Machine) (a b l r : Option (List ℕ)) (waiting : Option Forward) (order : Order) (count : ℕ)
-    → IsAt is_up is_sound holds was keep m n a b l r waiting order count
+    (was keep : S) (m n : Machine) (x y : Talk) (waiting : Option Forward) (order : Order) (committed : Bool) (count : ℕ)
+    → IsAt is_up is_sound holds was keep m n x y waiting order committed count
     → IsLeft is_up is_sound holds was keep m n
-left_at is_up is_sound holds was keep m n a b l r waiting order count so_far = (
+left_at is_up is_sound holds was keep m n x y waiting order committed count so_far = (
   so_far.steps,
   so_far.conducted.taken,
   λ sound up list held. (
@@ -149,11 +152,11 @@ left_at is_up is_sound holds was keep m n a b l r waiting order count so_far = (
 
 -- where its last order is not done
 pub left_at_fault : {S : Type 0} (is_up is_sound : S → Type 0) (holds : S → List Record → Type 0)
-    (was mid keep : S) (m n : Machine) (a b l r : Option (List ℕ)) (waiting : Option Forward) (order : Order) (count : ℕ)
-    → IsAt is_up is_sound holds was mid m n a b l r waiting order count
+    (was mid keep : S) (m n : Machine) (x y : Talk) (waiting : Option Forward) (order : Order) (committed : Bool) (count : ℕ)
+    → IsAt is_up is_sound holds was mid m n x y waiting order committed count
     → Stays is_up is_sound mid keep → MayCommit is_up is_sound holds mid keep []
     → IsLeft is_up is_sound holds was keep m n
-left_at_fault is_up is_sound holds was mid keep m n a b l r waiting order count so_far stays last = (
+left_at_fault is_up is_sound holds was mid keep m n x y waiting order committed count so_far stays last = (
   so_far.steps,
   so_far.conducted.taken,
   λ sound up list held.
@@ -164,7 +167,7 @@ left_at_fault is_up is_sound holds was mid keep m n a b l r waiting order count 
 
 -- as many as were counted
 pub taken_at : {S : Type 0} (is_up is_sound : S → Type 0) (holds : S → List Record → Type 0)
-    (was keep : S) (m n : Machine) (a b l r : Option (List ℕ)) (waiting : Option Forward) (order : Order) (count : ℕ)
-    → IsAt is_up is_sound holds was keep m n a b l r waiting order count → HasTaken m n (count + 1)
-taken_at is_up is_sound holds was keep m n a b l r waiting order count so_far =
+    (was keep : S) (m n : Machine) (x y : Talk) (waiting : Option Forward) (order : Order) (committed : Bool) (count : ℕ)
+    → IsAt is_up is_sound holds was keep m n x y waiting order committed count → HasTaken m n (count + 1)
+taken_at is_up is_sound holds was keep m n x y waiting order committed count so_far =
     (so_far.steps, so_far.conducted.taken, so_far.counted)

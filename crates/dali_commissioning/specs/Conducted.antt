@@ -1,4 +1,4 @@
-use Rattle.std.specs.Prelude.{◌≡◌, ◌≤◌, ℕ, ◌+◌, List, ◌++◌, length, Option, Some}
+use Rattle.std.specs.Prelude.{◌≡◌, ◌≤◌, ℕ, ◌+◌, Bool, List, ◌++◌, length, Some, Option}
 use Rattle.std.specs.Io.KnownBytes.{Appends, Consumes}
 use Rattle.dali_frame.specs.declared.frames.Forward.{Forward}
 use Rattle.dali_script.specs.declared.records.Record.{Record}
@@ -8,21 +8,21 @@ use Rattle.dali_script.specs.declared.orders.Order.TheVariants.{Done, Halt}
 use Rattle.dali_commissioning.specs.declared.conducting.Ended.{Ended}
 use Rattle.dali_commissioning.specs.declared.conducting.Ended.TheVariants as ended
 use Rattle.dali_controller.specs.Machine.{Machine}
+use Rattle.dali_commissioning.specs.Drivers.{Talk}
 use Rattle.dali_commissioning.specs.Steps.{Step, AreSteps, last_order, written_by, HaveRead}
-use Rattle.dali_commissioning.specs.Steps.{AreTold, open_after, committed_by}
+use Rattle.dali_commissioning.specs.Steps.{AreTold, open_after, committed_by, has_committed}
 
--- a machine took these steps, by these lines: what was written, and what is left to be read
-pub record Conducted (m n : Machine) (steps : List Step) (held now left rest : Option (List ℕ))
-    : Type 0 where
+-- a machine took these steps, by these lines
+pub record Conducted (m n : Machine) (steps : List Step) (x y : Talk) : Type 0 where
   pub taken : AreSteps m steps n
-  pub wrote : Appends held now (written_by steps)
+  pub wrote : Appends x.written y.written (written_by steps)
   pub bytes : List ℕ
-  pub read : Consumes left rest bytes
+  pub read : Consumes x.left y.left bytes
   pub told : HaveRead steps bytes
 
 -- lines were read that tell this, or none where it is not of the bus
-abbrev pub Hears : Option (List ℕ) → Option (List ℕ) → Input → Type 0
-Hears left rest told = (bytes : List ℕ) × Consumes left rest bytes × AreTold told bytes
+abbrev pub Hears : Talk → Talk → Input → Type 0
+Hears x y told = (bytes : List ℕ) × Consumes x.left y.left bytes × AreTold told bytes
 
 -- A STORE TAKES RECORDS: it holds the list that it held, and then these.
 abbrev pub Commits : {S : Type 0} (is_up is_sound : S → Type 0)
@@ -48,17 +48,19 @@ order_of (ended.Done end) = Done end
 order_of (ended.Halted fault) = Halt fault
 
 -- A MACHINE IS CONDUCTED up to its last order, which is not done yet. `waiting` is the first frame
--- of a pair that waits for its second one, `count` how many orders were done.
+-- of a pair that waits for its second one, `committed` whether a record was committed, `count` how
+-- many orders were done.
 pub record IsAt {S : Type 0} (is_up is_sound : S → Type 0) (holds : S → List Record → Type 0)
-    (was keep : S) (m n : Machine) (held now left rest : Option (List ℕ)) (waiting : Option Forward)
-    (order : Order) (count : ℕ) : Type 0 where
+    (was keep : S) (m n : Machine) (x y : Talk) (waiting : Option Forward) (order : Order)
+    (committed : Bool) (count : ℕ) : Type 0 where
   pub steps : List Step
-  pub conducted : Conducted m n steps held now left rest
+  pub conducted : Conducted m n steps x y
   pub counted : length steps ≡ count + 1
   pub last : last_order steps ≡ Some order
   pub ordered : n.last ≡ Some order
   pub stands : waiting ≡ open_after steps
   pub commits : Commits is_up is_sound holds was keep (committed_by steps)
+  pub has : committed ≡ has_committed steps
   pub stays : Stays is_up is_sound was keep
 
 -- A MACHINE IS LEFT before its end. The store has the records of which it was told, and maybe the

@@ -1,3 +1,6 @@
 pub mod Lines
+pub mod Drivers
 pub mod Steps
 pub mod Conducted
+pub mod Census
+pub mod Runs

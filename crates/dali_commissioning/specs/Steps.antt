@@ -1,5 +1,5 @@
 use Rattle.std.specs.Prelude.{◌≡◌, ℕ, List, [], ◌∷◌, ◌++◌, Bool, true, false, Option, Some, None}
-use Rattle.std.specs.Prelude.{◌==◌, ◌&&◌, if◌then◌else◌}
+use Rattle.std.specs.Prelude.{◌==◌, ◌&&◌, ◌||◌, if◌then◌else◌}
 use Rattle.dali_frame.specs.declared.frames.Forward.{Forward}
 use Rattle.dali_special.specs.Command.{command_of, is_send_twice}
 use Rattle.dali_script.specs.declared.records.Record.{Record}
@@ -108,3 +108,12 @@ abbrev pub committed_by : List Step → List Record
 committed_by [] = []
 committed_by (s ∷ before) =
     committed_by before ++ record_told s.told (record_ordered (last_order before))
+
+-- whether a step was told that a record is kept
+abbrev pub is_kept : Input → Bool
+is_kept Committed = true
+is_kept _ = false
+
+abbrev pub has_committed : List Step → Bool
+has_committed [] = false
+has_committed (s ∷ before) = has_committed before || is_kept s.told

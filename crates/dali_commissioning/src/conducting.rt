@@ -9,18 +9,20 @@ ghost use Rattle.dali_script.specs.Due.{due_after, accepts, record_ordered};
 ghost use Rattle.dali_script.specs.declared.orders.Due.TheVariants as due;
 ghost use Rattle.dali_script.specs.declared.orders.Order.TheVariants.{Put};
 ghost use Rattle.dali_commissioning.specs.Steps.{IsStep, half_of, is_open, opens, if_heard, opened_by};
-ghost use Rattle.dali_commissioning.specs.Steps.{order_line, record_told};
+ghost use Rattle.dali_commissioning.specs.Drivers.{writer_of, talk_of};
+ghost use Rattle.dali_commissioning.specs.Steps.{order_line, record_told, is_kept};
 ghost use Rattle.dali_commissioning.specs.Conducted.{Hears, Commits, MayCommit, Stays, IsAt, IsLeft, HasTaken};
 ghost use Rattle.dali_commissioning.specs.Conducted.{order_of};
 
+use crate::driver::{Driver, DriverFault};
+use crate::fault::CommissionFault;
 use crate::lines::Half;
-use crate::wire::{WireFault, exchange};
+use crate::watch::Watch;
 use dali_controller::Machine;
 use dali_frame::{Forward, Priority};
 use dali_reserve::{Keep, KeepError};
 use dali_script::{End, Fault, Input, Order, Record};
 use dali_special::Command;
-use std::alloc::Global;
 use std::io::{Read, Write};
 
 /// How a machine ended that was conducted.
@@ -30,15 +32,12 @@ pub enum Ended {
     Halted(Fault),
 }
 
-/// Why a machine was not conducted to its end.
+/// What came of a machine that was conducted to its end.
 #[derive(Clone, Copy, Debug, PartialEq, Eq)]
-pub enum ConductFault {
-    /// A line could not be exchanged with the driver.
-    Wire(WireFault),
-    /// A record could not be committed. The store has it or not: what it reads then decides.
-    Store(KeepError),
-    /// The machine has taken as many steps as it may.
-    StepsSpent,
+pub struct Outcome {
+    pub ended: Ended,
+    /// Whether a record was committed.
+    pub committed: bool,
 }
 
 /// Which frame of a pair a frame is, where this first one of a pair was heard right before it.
@@ -79,22 +78,20 @@ fn waits_behind(half: Half, frame: Forward, told: Input) -> Option<Forward>
 /// Puts a frame, and answers what came of it.
 #[tactic(auto, using(crate::proofs::Steps::line_told))]
 fn put<R: Read, W: Write>(
-    text: &mut String,
-    reader: &mut R,
-    writer: &mut W,
+    driver: &mut Driver<R, W>,
     waiting: &mut Option<Forward>,
     priority: Priority,
     frame: Forward,
-) -> Result<Input, WireFault>
+) -> Result<Input, DriverFault>
     ensures due { IfOk result (λ told. accepts due.Bus told ≡ true) }
-    ensures wrote { IfOk result (λ _. Appends (W.contents writer.old) (W.contents writer.new)
+    ensures wrote { IfOk result (λ _. Appends (W.contents (writer_of driver.old)) (W.contents (writer_of driver.new))
         (order_line waiting.old (Some (Put priority frame)))) }
-    ensures read { IfOk result (Hears (R.remaining reader.old) (R.remaining reader.new)) }
+    ensures read { IfOk result (Hears (talk_of R.remaining W.contents driver.old) (talk_of R.remaining W.contents driver.new)) }
     ensures waiting { IfOk result (λ told. waiting.new
         ≡ if_heard told (opened_by waiting.old (Some (Put priority frame)))) }
 {
     let half = half_of(*waiting, frame);
-    let told = exchange(text, reader, writer, priority, frame, half)?;
+    let told = driver.exchange(priority, frame, half)?;
     *waiting = waits_behind(half, frame, told);
     Ok(told)
 }
@@ -111,35 +108,44 @@ fn commit<K: Keep>(keep: &mut K, added: Record) -> Result<(), KeepError>
     keep.commit(added)
 }
 
+/// Whether this tells that a record is kept.
+fn is_kept(told: Input) -> bool
+    ensures { result ≡ is_kept told }
+{
+    match told {
+        Input::Committed => true,
+        Input::Start | Input::Heard(_) | Input::Destroyed | Input::Lapsed | Input::CommitFailed =>
+            false,
+    }
+}
+
 /// Does an order, and answers what the machine is to be told then.
 #[tactic(auto, using(crate::proofs::Steps::no_line, crate::proofs::Steps::unheard, crate::proofs::Steps::same))]
 fn answer<K: Keep, R: Read, W: Write>(
-    text: &mut String,
     keep: &mut K,
-    reader: &mut R,
-    writer: &mut W,
+    driver: &mut Driver<R, W>,
     waiting: &mut Option<Forward>,
     order: &Order,
-) -> Result<Input, ConductFault>
+) -> Result<Input, CommissionFault>
     requires due { due_after (Some order.now) ≢ due.Nothing }
     requires fits { IfSome (record_ordered (Some order.now)) (Fits (K.block keep.old)) }
     ensures due { IfOk result (λ told. accepts (due_after (Some order.now)) told ≡ true) }
-    ensures wrote { IfOk result (λ told. Appends (W.contents writer.old) (W.contents writer.new)
+    ensures wrote { IfOk result (λ told. Appends (W.contents (writer_of driver.old)) (W.contents (writer_of driver.new))
         (order_line waiting.old (Some order.now))) }
-    ensures read { IfOk result (Hears (R.remaining reader.old) (R.remaining reader.new)) }
+    ensures read { IfOk result (Hears (talk_of R.remaining W.contents driver.old) (talk_of R.remaining W.contents driver.new)) }
     ensures waiting { IfOk result (λ told. waiting.new ≡ if_heard told (opened_by waiting.old (Some order.now))) }
     ensures stays { Stays K.is_up K.is_sound keep.old keep.new }
     ensures block { K.block keep.new ≡ K.block keep.old }
     ensures adds { IfOk result (λ told. Commits K.is_up K.is_sound K.holds keep.old keep.new
         (record_told told (record_ordered (Some order.now)))) }
     ensures left { IfErr result (λ _. MayCommit K.is_up K.is_sound K.holds keep.old keep.new []) }
-    ensures not_spent { result ≢ Err ConductFault.StepsSpent }
+    ensures not_spent { result ≢ Err CommissionFault.StepsSpent }
 {
     match *order {
         Order::Put(priority, frame) => {
-            match put(text, reader, writer, waiting, priority, frame) {
+            match put(driver, waiting, priority, frame) {
                 Ok(told) => Ok(told),
-                Err(fault) => Err(ConductFault::Wire(fault)),
+                Err(fault) => Err(CommissionFault::Driver(fault)),
             }
         }
         Order::Commit(added) => match commit(keep, added) {
@@ -147,7 +153,7 @@ fn answer<K: Keep, R: Read, W: Write>(
                 *waiting = None;
                 Ok(Input::Committed)
             }
-            Err(error) => Err(ConductFault::Store(error)),
+            Err(error) => Err(CommissionFault::Store(error)),
         },
         Order::Done(_) | Order::Halt(_) => unreachable!(),
     }
@@ -183,36 +189,42 @@ fn end_at(order: &Order) -> Option<Ended>
 /// orders is committed in the store.
 ///
 /// The machine is told Committed only of a record that the store has then. It does at most so many orders. Where a
-/// record cannot be committed, it is told nothing: what the store reads then decides.
+/// record cannot be committed, it is told nothing: what the store reads then decides. `watch` sees each order before it
+/// is done.
 #[tactic(auto, using(crate::proofs::Steps::left_at, crate::proofs::Steps::taken_at))]
-pub fn conduct<K: Keep, R: Read, W: Write>(
-    alloc: Global,
+pub fn conduct<K: Keep, R: Read, W: Write, P: Watch>(
     machine: &mut Machine,
     keep: &mut K,
-    reader: &mut R,
-    writer: &mut W,
+    driver: &mut Driver<R, W>,
+    watch: &mut P,
     steps: u32,
-) -> Result<Ended, ConductFault>
+) -> Result<Outcome, CommissionFault>
     requires start { machine.old.last ≡ None }
     requires block { K.block keep.old ≡ machine.old.kept.block }
-    ensures ended { IfOk result (λ end. (waiting : Option Forward) × (count : ℕ) × IsAt K.is_up K.is_sound K.holds
-        keep.old keep.new machine.old machine.new (W.contents writer.old) (W.contents writer.new)
-        (R.remaining reader.old) (R.remaining reader.new) waiting (order_of end) count) }
-    ensures spent { result ≡ Err ConductFault.StepsSpent → HasTaken machine.old machine.new (steps + 1) }
+    ensures ended { IfOk result (λ outcome. (waiting : Option Forward) × (count : ℕ) × IsAt K.is_up K.is_sound K.holds
+        keep.old keep.new machine.old machine.new
+        (talk_of R.remaining W.contents driver.old) (talk_of R.remaining W.contents driver.new)
+        waiting (order_of outcome.ended) outcome.committed count) }
+    ensures spent { result ≡ Err CommissionFault.StepsSpent → HasTaken machine.old machine.new (steps + 1) }
     ensures fault { IfErr result (λ _. IsLeft K.is_up K.is_sound K.holds keep.old keep.new machine.old machine.new) }
+    ensures stays { Stays K.is_up K.is_sound keep.old keep.new }
     ensures block { K.block keep.new ≡ K.block keep.old }
 {
-    let mut text = String::new(alloc);
     let mut waiting = None;
+    let mut committed = false;
     let mut order = step(machine, Input::Start);
     for _ in 0..steps {
-        if let Some(end) = end_at(&order) {
-            return Ok(end);
+        watch.ordered(&order);
+        if let Some(ended) = end_at(&order) {
+            return Ok(Outcome { ended, committed });
         }
-        match answer(&mut text, keep, reader, writer, &mut waiting, &order) {
-            Ok(told) => order = step(machine, told),
+        match answer(keep, driver, &mut waiting, &order) {
+            Ok(told) => {
+                committed |= is_kept(told);
+                order = step(machine, told);
+            }
             Err(fault) => return Err(fault),
         }
     }
-    Err(ConductFault::StepsSpent)
+    Err(CommissionFault::StepsSpent)
 }

@@ -1,10 +1,10 @@
-use Rattle.std.proofs.Common.{◌∙◌, sym, refl}
+use Rattle.std.proofs.Common.{◌∙◌, sym, refl, rules}
 use Rattle.dali_commissioning.proofs.Steps.{at_begun, at_further, left_at_fault}
 use Rattle.dali_commissioning.proofs.conducting.conduct.Goals as goal
 
 pub loop-init : goal.loop-init
 loop-init g c = record {
-  at = at_begun _ _ _ _ _ _ _ _ _ c.step-order.ensures.step c.step-order.ensures.ordered;
+  at = at_begun _ _ _ _ _ _ _ _ c.step-order.ensures.step c.step-order.ensures.ordered;
   block = refl;
   same = c.requires.block ∙ sym c.step-order.ensures.block;
   fits = c.step-order.ensures.fits;
@@ -12,14 +12,14 @@ loop-init g c = record {
 
 pub loop-preserved : goal.loop-preserved
 loop-preserved g c = record {
-  at = at_further g.K.Keep.is_up g.K.Keep.is_sound g.K.Keep.holds _ _ _ _ _ _ _ _ _ _ _ _ _ _ _ _ c.in-Ok.told _ c.loop.invariant.at
+  at = at_further g.K.Keep.is_up g.K.Keep.is_sound g.K.Keep.holds _ _ _ _ _ _ _ _ _ _ _ _ _ c.in-Ok.told _ _ _ c.loop.invariant.at
       c.step-order-in-Ok.ensures.step c.step-order-in-Ok.ensures.ordered c.in-Ok.ensures.wrote c.in-Ok.ensures.read
-      c.in-Ok.ensures.waiting c.in-Ok.ensures.stays c.in-Ok.ensures.adds;
+      c.in-Ok.ensures.waiting (search rules) c.in-Ok.ensures.stays c.in-Ok.ensures.adds;
   block = c.in-Ok.ensures.block ∙ c.loop.invariant.block;
   same = c.in-Ok.ensures.block ∙ c.loop.invariant.same ∙ sym c.step-order-in-Ok.ensures.block;
   fits = c.step-order-in-Ok.ensures.fits;
 }
 
 pub returns-in-Err-clause-fault : goal.returns-in-Err-clause-fault
-returns-in-Err-clause-fault g c = left_at_fault g.K.Keep.is_up g.K.Keep.is_sound g.K.Keep.holds _ _ _ _ _ _ _ _ _ _ _ _ c.loop.invariant.at
+returns-in-Err-clause-fault g c = left_at_fault g.K.Keep.is_up g.K.Keep.is_sound g.K.Keep.holds _ _ _ _ _ _ _ _ _ _ _ c.loop.invariant.at
     c.in-Err.ensures.stays c.in-Err.ensures.left

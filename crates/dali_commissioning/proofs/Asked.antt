@@ -1,0 +1,70 @@
+use Rattle.std.proofs.Common.{◌≡◌, arith, ℕ, ◌+◌, List, [], ◌∷◌, ◌++◌, length, true, Option, Some, None, is_some, refl, ◌∙◌, ap, sym, subst}
+use Rattle.dali_frame.specs.declared.frames.Answer.{Answer}
+use Rattle.dali_script.specs.declared.orders.Input.{Input}
+use Rattle.dali_script.specs.Records.{Kept}
+use Rattle.dali_commissioning.specs.declared.census.Reply.{Reply}
+use Rattle.dali_commissioning.specs.declared.census.Reply.TheVariants as reply
+use Rattle.dali_commissioning.specs.Drivers.{Talk}
+use Rattle.dali_commissioning.specs.Census.{query_at, answer_told, IsPut, IsAsked, reply_of, reply_heard, reply_told, joined_if, one_if, AreAsked, reply_after, whole_of, IsAnswered, IsCounted, AreCounted}
+
+-- a frame that was heard
+pub is_heard : (heard : Option Answer) (told : Input) (h : Answer) → heard ≡ answer_told told → heard ≡ Some h
+    → is_some (answer_told told) ≡ true
+is_heard heard told h told_so is = ap is_some (sym told_so ∙ is)
+
+-- the three frames of a question, one after the other
+pub first : (a : ℕ) (i : Input) (x y : Talk) → IsPut 3 (query_at a 0) i x y → IsAsked a (i ∷ []) x y
+first a i x y put = (x, refl, tt, omega arith, put)
+
+pub second : (a : ℕ) (h i : Input) (x y z : Talk) → IsPut 3 (query_at a 0) h x y → is_some (answer_told h) ≡ true
+    → IsPut 1 (query_at a 1) i y z → IsAsked a (i ∷ h ∷ []) x z
+second a h i x y z put heard more = (y, first a h x y put, (heard, tt), omega arith, more)
+
+pub third : (a : ℕ) (h m i : Input) (w x y z : Talk) → IsPut 3 (query_at a 0) h w x → is_some (answer_told h) ≡ true
+    → IsPut 1 (query_at a 1) m x y → is_some (answer_told m) ≡ true
+    → IsPut 1 (query_at a 2) i y z → IsAsked a (i ∷ m ∷ h ∷ []) w z
+third a h m i w x y z put heard more heard_too last = (y, second a h m w x y put heard more, (heard_too, (heard, tt)), omega arith, last)
+
+-- what is spelled where all three are heard, or the last one is not
+pub spelled : (o p q : Option Answer) (h m l : Answer) → o ≡ Some h → p ≡ Some m → q ≡ Some l
+    → Some (reply_of h m l) ≡ reply_heard o p q
+spelled o p q h m l high middle low =
+    sym (ap (λ x. reply_heard x p q) high ∙ ap (λ x. reply_heard (Some h) x q) middle ∙ ap (λ x. reply_heard (Some h) (Some m) x) low)
+
+pub unspelled : (o p q : Option Answer) (h m : Answer) → o ≡ Some h → p ≡ Some m → q ≡ None
+    → None ≡ reply_heard o p q
+unspelled o p q h m high middle low =
+    sym (ap (λ x. reply_heard x p q) high ∙ ap (λ x. reply_heard (Some h) x q) middle ∙ ap (λ x. reply_heard (Some h) (Some m) x) low)
+
+-- the questions of one short address, one more
+pub record HasAsked (a : ℕ) (x y : Talk) (it : Reply) (asked : ℕ) : Type 0 where
+  pub questions : List (List Input)
+  pub are : AreAsked a questions x y
+  pub counted : asked ≡ whole_of questions
+  pub told : it ≡ reply_after questions
+
+pub none_asked : (a : ℕ) (x : Talk) → HasAsked a x x reply.Silence 0
+none_asked a x = record { questions = []; are = refl; counted = refl; told = refl }
+
+pub asked_more : (a : ℕ) (x y z : Talk) (old new : Reply) (asked more : ℕ) (told : Option Reply)
+    → HasAsked a x y old asked
+    → (inputs : List Input) × IsAsked a inputs y z × (told ≡ reply_told inputs)
+    → new ≡ joined_if old told → more ≡ asked + one_if told → HasAsked a x z new more
+asked_more a x y z old new asked more told so_far (inputs, is_asked, says) joined added = record {
+  questions = inputs ∷ so_far.questions;
+  are = (y, so_far.are, is_asked);
+  counted = added ∙ ap (λ n. n + one_if told) so_far.counted ∙ ap (λ t. whole_of so_far.questions + one_if t) says;
+  told = joined ∙ ap (λ r. joined_if r told) so_far.told ∙ ap (λ t. joined_if (reply_after so_far.questions) t) says;
+}
+
+pub answered : (a : ℕ) (x y : Talk) (it : Reply) (asked : ℕ) → HasAsked a x y it asked → asked ≡ 3
+    → IsAnswered a it x y
+answered a x y it asked so_far is = (so_far.questions, so_far.are, sym so_far.counted ∙ is, so_far.told)
+
+-- one short address more
+pub counted_more : (k : Kept) (a n : ℕ) (rs : List Reply) (r : Reply) (x y z : Talk) → AreCounted k a rs x y
+    → length rs + a ≡ n → IsCounted k n r y z → AreCounted k a (rs ++ r ∷ []) x z
+counted_more k a n [] r x y z so_far at one =
+    (z, subst (λ b. IsCounted k b r x z) (omega (arith, at)) (subst (λ t. IsCounted k n r t z) so_far one), refl)
+counted_more k a n (s ∷ rs) r x y z (mid, first_one, rest) at one =
+    (mid, first_one, counted_more k (a + 1) n rs r mid y z rest (omega (arith, at)) one)

@@ -1,0 +1,32 @@
+use Rattle.std.proofs.Common.{◌≡◌, ◌<◌, arith, ℕ, List, [], ◌∷◌, length}
+use Rattle.std.proofs.lemmas.Bool.{false≢true}
+use Rattle.dali_special.specs.declared.command.Command.TheVariants.{RandomByte}
+use Rattle.dali_special.specs.Command.{command_of}
+use Rattle.dali_special.proofs.Table.{read_written}
+use Rattle.dali_script.specs.declared.block.Block.{Block}
+use Rattle.dali_script.specs.declared.orders.Input.{Input}
+use Rattle.dali_script.specs.declared.orders.Input.TheVariants.{Start, Heard, Destroyed, Lapsed, Committed, CommitFailed}
+use Rattle.dali_script.specs.Records.{Assignment}
+use Rattle.dali_script.specs.Scripts.{Lawful, Resolve}
+use Rattle.dali_commissioning.specs.Census.{AreHeard, entries_of, query_at, part_at}
+
+queried : (a n : ℕ) → a < 64 → command_of (query_at a n) ≡ RandomByte a (part_at n)
+queried a n short = read_written (RandomByte a (part_at n)) short
+
+pub lawful : (b : Block) (reserved : List Assignment) (a : ℕ) (told : List Input) → a < 64 → AreHeard told
+    → length told < 3 → Lawful b reserved (entries_of a told) (query_at a (length told))
+lawful b reserved a [] short heard few = (Resolve a, tt, queried a 0 short)
+lawful b reserved a (Heard h ∷ []) short heard few = (Resolve a, tt, (queried a 0 short, tt, queried a 1 short))
+lawful b reserved a (Heard m ∷ Heard h ∷ []) short heard few =
+    (Resolve a, tt, (queried a 0 short, tt, (queried a 1 short, tt, queried a 2 short)))
+lawful b reserved a (_ ∷ _ ∷ _ ∷ more) short heard few = absurd (omega (arith, few))
+lawful b reserved a (Start ∷ more) short heard few = absurd (false≢true heard.0)
+lawful b reserved a (Destroyed ∷ more) short heard few = absurd (false≢true heard.0)
+lawful b reserved a (Lapsed ∷ more) short heard few = absurd (false≢true heard.0)
+lawful b reserved a (Committed ∷ more) short heard few = absurd (false≢true heard.0)
+lawful b reserved a (CommitFailed ∷ more) short heard few = absurd (false≢true heard.0)
+lawful b reserved a (Heard m ∷ Start ∷ more) short heard few = absurd (false≢true heard.1.0)
+lawful b reserved a (Heard m ∷ Destroyed ∷ more) short heard few = absurd (false≢true heard.1.0)
+lawful b reserved a (Heard m ∷ Lapsed ∷ more) short heard few = absurd (false≢true heard.1.0)
+lawful b reserved a (Heard m ∷ Committed ∷ more) short heard few = absurd (false≢true heard.1.0)
+lawful b reserved a (Heard m ∷ CommitFailed ∷ more) short heard few = absurd (false≢true heard.1.0)

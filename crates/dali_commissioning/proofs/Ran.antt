@@ -1,0 +1,166 @@
+use Rattle.std.proofs.Common.{◌≡◌, arith, ℕ, ◌+◌, suc, List, [], ◌∷◌, ◌++◌, Bool, true, false, ◌||◌, Option, refl, ◌∙◌, ap, sym, subst}
+use Rattle.std.proofs.lemmas.Bool.{false≢true}
+use Rattle.std.proofs.lemmas.List.{append_assoc, append-nil}
+use Rattle.dali_script.specs.declared.block.Block.{Block}
+use Rattle.dali_script.specs.declared.records.Record.{Record}
+use Rattle.dali_script.specs.declared.orders.Input.{Input}
+use Rattle.dali_script.specs.declared.orders.Input.TheVariants.{Start, Heard, Destroyed, Lapsed, Committed, CommitFailed}
+use Rattle.dali_script.specs.declared.orders.End.TheVariants.{AllFound}
+use Rattle.dali_script.specs.Due.{record_ordered}
+use Rattle.dali_script.specs.Records.{Kept}
+use Rattle.dali_reserve.specs.Store.{IsReplay}
+use Rattle.dali_frame.specs.declared.frames.Forward.{Forward}
+use Rattle.dali_controller.specs.Machine.{Machine, at_first}
+use Rattle.dali_commissioning.specs.declared.conducting.Ended.{Ended}
+use Rattle.dali_commissioning.specs.declared.conducting.Ended.TheVariants.{Done}
+use Rattle.dali_commissioning.specs.Drivers.{Talk}
+use Rattle.dali_commissioning.specs.Steps.{Step, last_order, record_told, committed_by, is_kept, has_committed}
+use Rattle.dali_commissioning.specs.Conducted.{Conducted, Commits, Stays, IsAt, order_of}
+use Rattle.dali_commissioning.specs.Runs.{Run, IsRun, AreRuns, AreAllFound, EndWith, AreQuiet, quiet_after, Grows}
+use Rattle.dali_commissioning.proofs.Steps.{stays_further}
+
+-- steps that were told of no record have committed none
+neither : (a b : Bool) → (a || b) ≡ false → (a ≡ false) × (b ≡ false)
+neither true b e = absurd (false≢true (sym e))
+neither false b e = (refl, e)
+
+unkept : (told : Input) (x : Option Record) → is_kept told ≡ false → record_told told x ≡ []
+unkept Committed x e = absurd (false≢true (sym e))
+unkept Start x e = refl
+unkept (Heard h) x e = refl
+unkept Destroyed x e = refl
+unkept Lapsed x e = refl
+unkept CommitFailed x e = refl
+
+pub uncommitted : (steps : List Step) → has_committed steps ≡ false → committed_by steps ≡ []
+uncommitted [] e = refl
+uncommitted (s ∷ before) e =
+    let both = neither (has_committed before) (is_kept s.told) e in
+    let added = record_told s.told (record_ordered (last_order before)) in
+    ap (λ xs. xs ++ added) (uncommitted before both.0) ∙ unkept s.told (record_ordered (last_order before)) both.1
+
+-- a store that grows, and grows again
+pub grows_further : {S : Type 0} (is_up is_sound : S → Type 0) (holds : S → List Record → Type 0)
+    (old mid new : S) → Stays is_up is_sound old mid → Stays is_up is_sound mid new
+    → Grows is_up is_sound holds old mid → Grows is_up is_sound holds mid new → Grows is_up is_sound holds old new
+grows_further is_up is_sound holds old mid new first second one two = λ sound up xs held.
+    let (more, has) = one sound (second.up up) xs held in
+    let (again, has_too) = two (first.sound sound (second.up up)) up (xs ++ more) has in
+    (more ++ again, subst (holds new) (append_assoc xs more again) has_too)
+
+pub commits_grow : {S : Type 0} (is_up is_sound : S → Type 0) (holds : S → List Record → Type 0)
+    (old new : S) (records : List Record) → Commits is_up is_sound holds old new records → Grows is_up is_sound holds old new
+commits_grow is_up is_sound holds old new records commits = λ sound up xs held. (records, commits sound up xs held)
+
+-- one run, from one moment of the store and of the talk to another
+abbrev pub OneRun : {S : Type 0} (is_up is_sound : S → Type 0) (holds : S → List Record → Type 0) → Block
+    → S → S → Talk → Talk → Ended → Bool → Type 0
+OneRun is_up is_sound holds block was keep x y ended committed =
+    (run : Run) × IsRun is_up is_sound holds block was keep x y run × (run.ended ≡ ended)
+    × (committed ≡ has_committed run.steps)
+
+pub of_block : {S : Type 0} (is_up is_sound : S → Type 0) (holds : S → List Record → Type 0) (a b : Block)
+    (was keep : S) (x y : Talk) (ended : Ended) (committed : Bool) → a ≡ b
+    → OneRun is_up is_sound holds a was keep x y ended committed
+    → OneRun is_up is_sound holds b was keep x y ended committed
+of_block is_up is_sound holds a b was keep x y ended committed same =
+    subst (λ c. OneRun is_up is_sound holds c was keep x y ended committed) same
+
+-- all runs so far
+pub record HasRun {S : Type 0} (is_up is_sound : S → Type 0) (holds : S → List Record → Type 0) (block : Block)
+    (was keep : S) (x y : Talk) (quiet : ℕ) : Type 0 where
+  pub runs : List Run
+  pub are : AreRuns is_up is_sound holds block was keep x y runs
+  pub found : AreAllFound runs
+  pub quiet_runs : AreQuiet quiet runs
+  pub grows : Grows is_up is_sound holds was keep
+  pub stays : Stays is_up is_sound was keep
+
+pub none_ran : {S : Type 0} (is_up is_sound : S → Type 0) (holds : S → List Record → Type 0) (block : Block)
+    (keep : S) (x : Talk) → HasRun is_up is_sound holds block keep keep x x 0
+none_ran is_up is_sound holds block keep x = record {
+  runs = [];
+  are = (refl, refl);
+  found = tt;
+  quiet_runs = tt;
+  grows = λ sound up xs held. ([], subst (holds keep) (sym (append-nil xs)) held);
+  stays = record { up = λ up. up; sound = λ sound up. sound };
+}
+
+quiet_more : (quiet : ℕ) (committed : Bool) (run : Run) (before : List Run) → committed ≡ has_committed run.steps
+    → AreQuiet quiet before → AreQuiet (quiet_after quiet committed) (run ∷ before)
+quiet_more quiet true run before is so_far = tt
+quiet_more quiet false run before is so_far =
+    let suc_quiet : suc quiet ≡ quiet + 1 = omega arith in
+    subst (λ n. AreQuiet n (run ∷ before)) suc_quiet (uncommitted run.steps (sym is), so_far)
+
+-- one run more, that found no gear any more
+pub ran_more : {S : Type 0} (is_up is_sound : S → Type 0) (holds : S → List Record → Type 0) (block : Block)
+    (was mid keep : S) (x y z : Talk) (quiet more : ℕ) (ended : Ended) (committed : Bool)
+    → HasRun is_up is_sound holds block was mid x y quiet
+    → OneRun is_up is_sound holds block mid keep y z ended committed
+    → ended ≡ Done AllFound → more ≡ quiet_after quiet committed
+    → HasRun is_up is_sound holds block was keep x z more
+ran_more is_up is_sound holds block was mid keep x y z quiet more ended committed so_far (run, is, ends, has) all_found counted = record {
+  runs = run ∷ so_far.runs;
+  are = (mid, y, so_far.are, is);
+  found = (ends ∙ all_found, so_far.found);
+  quiet_runs = subst (λ n. AreQuiet n (run ∷ so_far.runs)) (sym counted) (quiet_more quiet committed run so_far.runs has so_far.quiet_runs);
+  grows = grows_further is_up is_sound holds was mid keep so_far.stays is.stays so_far.grows
+      (commits_grow is_up is_sound holds mid keep (committed_by run.steps) is.commits);
+  stays = stays_further is_up is_sound was mid keep so_far.stays is.stays;
+}
+
+-- the last run, which ended otherwise
+pub ended_otherwise : {S : Type 0} (is_up is_sound : S → Type 0) (holds : S → List Record → Type 0) (block : Block)
+    (was mid keep : S) (x y z : Talk) (quiet wanted : ℕ) (ended : Ended) (committed : Bool)
+    → HasRun is_up is_sound holds block was mid x y quiet
+    → OneRun is_up is_sound holds block mid keep y z ended committed
+    → (ended ≡ Done AllFound → ⊥)
+    → (runs : List Run) × AreRuns is_up is_sound holds block was keep x z runs × EndWith ended runs
+    × (ended ≡ Done AllFound → AreQuiet wanted runs)
+ended_otherwise is_up is_sound holds block was mid keep x y z quiet wanted ended committed so_far (run, is, ends, has) otherwise =
+    (run ∷ so_far.runs, (mid, y, so_far.are, is), (ends, so_far.found), λ found. absurd (otherwise found))
+
+-- the last run, after which as many as are wanted were quiet
+pub ended_quiet : {S : Type 0} (is_up is_sound : S → Type 0) (holds : S → List Record → Type 0) (block : Block)
+    (was mid keep : S) (x y z : Talk) (quiet wanted : ℕ) (ended : Ended) (committed : Bool)
+    → HasRun is_up is_sound holds block was mid x y quiet
+    → OneRun is_up is_sound holds block mid keep y z ended committed
+    → quiet_after quiet committed ≡ wanted
+    → (runs : List Run) × AreRuns is_up is_sound holds block was keep x z runs × EndWith ended runs
+    × (ended ≡ Done AllFound → AreQuiet wanted runs)
+ended_quiet is_up is_sound holds block was mid keep x y z quiet wanted ended committed so_far (run, is, ends, has) enough = (
+  run ∷ so_far.runs,
+  (mid, y, so_far.are, is),
+  (ends, so_far.found),
+  λ found.
+      subst (λ n. AreQuiet n (run ∷ so_far.runs)) enough (quiet_more quiet committed run so_far.runs has so_far.quiet_runs),
+)
+
+-- A run of a machine that began with what its store gave it: the store as it was, after it was read, and at the end.
+pub run_of : {S : Type 0} (is_up is_sound : S → Type 0) (holds : S → List Record → Type 0) (kept_of : S → Kept)
+    (must_read : S → Bool) (block_of : S → Block)
+    → ((s : S) (xs : List Record) → is_sound s → must_read s ≡ false → holds s xs → IsReplay (block_of s) xs (kept_of s))
+    → (was mid keep : S) (m n : Machine) (x y : Talk) (k : Kept) (waiting : Option Forward) (ended : Ended)
+    (committed : Bool) (count : ℕ)
+    → k ≡ kept_of mid → must_read mid ≡ false → block_of mid ≡ block_of was → Stays is_up is_sound was mid
+    → (is_sound was → is_up mid → (xs : List Record) → holds was xs → holds mid xs)
+    → m ≡ at_first 0 k → IsAt is_up is_sound holds mid keep m n x y waiting (order_of ended) committed count
+    → (run : Run) × IsRun is_up is_sound holds (block_of was) was keep x y run × (run.ended ≡ ended)
+    × (committed ≡ has_committed run.steps)
+run_of is_up is_sound holds kept_of must_read block_of replay was mid keep m n x y k waiting ended committed count answer is_read block stays same begins at = (
+  record { start = k; steps = at.steps; ended = ended },
+  record {
+    machine = n;
+    conducted = subst (λ b. Conducted b n at.steps x y) begins at.conducted;
+    last = at.last;
+    read = λ sound up xs held.
+        subst (λ b. IsReplay b xs k) block (subst (IsReplay (block_of mid) xs) (sym answer)
+        (replay mid xs (stays.sound sound (at.stays.up up)) is_read (same sound (at.stays.up up) xs held)));
+    commits = λ sound up xs held. at.commits (stays.sound sound (at.stays.up up)) up xs (same sound (at.stays.up up) xs held);
+    stays = stays_further is_up is_sound was mid keep stays at.stays;
+  },
+  refl,
+  at.has,
+)

@@ -1,0 +1,12 @@
+use Rattle.std.proofs.Common.{◌<◌}
+use Rattle.dali_commissioning.specs.Drivers.{talk_of}
+use Rattle.dali_commissioning.proofs.Asked.{HasAsked}
+use Rattle.dali_commissioning.proofs.census.ask.Given as goal
+
+abbrev pub invariant-loop : goal.invariant-loop
+invariant-loop g l = record {
+  asked : HasAsked l.short (talk_of g.R.Read.remaining g.W.Write.contents l.fn.driver)
+      (talk_of g.R.Read.remaining g.W.Write.contents l.driver) l.reply l.asked;
+  few : l.asked < 3;
+  fewer : l.lost < 8;
+}

@@ -1,0 +1,106 @@
+use Rattle.std.specs.Prelude.{◌≡◌, ℕ, zero, suc, ◌+◌, Bool, true, false, List, [], ◌∷◌, ◌++◌, Option, Some, None, if◌then◌else◌}
+use Rattle.dali_script.specs.declared.block.Block.{Block}
+use Rattle.dali_script.specs.declared.records.Record.{Record}
+use Rattle.dali_script.specs.declared.orders.End.TheVariants.{AllFound}
+use Rattle.dali_script.specs.Records.{Kept, Assignment}
+use Rattle.dali_script.specs.Stages.{in_block}
+use Rattle.dali_reserve.specs.Store.{IsReplay}
+use Rattle.dali_controller.specs.Machine.{Machine, at_first}
+use Rattle.dali_commissioning.specs.declared.conducting.Ended.{Ended}
+use Rattle.dali_commissioning.specs.declared.conducting.Ended.TheVariants.{Done}
+use Rattle.dali_commissioning.specs.declared.census.Reply.{Reply}
+use Rattle.dali_commissioning.specs.declared.beginning.Begun.{Begun}
+use Rattle.dali_commissioning.specs.declared.beginning.Begun.TheVariants as begun
+use Rattle.dali_commissioning.specs.Drivers.{Talk}
+use Rattle.dali_commissioning.specs.Census.{AreCounted, is_addressed}
+use Rattle.dali_commissioning.specs.Steps.{Step, last_order, committed_by}
+use Rattle.dali_commissioning.specs.Conducted.{Conducted, Commits, Stays, order_of}
+
+-- A RUN of a machine: the records that its store gave it, its steps, and how it ended.
+pub record Run : Type 0 where
+  pub start : Kept
+  pub steps : List Step
+  pub ended : Ended
+
+-- a run, from one moment of its store and of the talk with its driver to another
+pub record IsRun {S : Type 0} (is_up is_sound : S → Type 0) (holds : S → List Record → Type 0)
+    (block : Block) (was keep : S) (x y : Talk) (run : Run) : Type 0 where
+  pub machine : Machine
+  pub conducted : Conducted (at_first 0 run.start) machine run.steps x y
+  pub last : last_order run.steps ≡ Some (order_of run.ended)
+  pub read : is_sound was → is_up keep → (xs : List Record) → holds was xs
+      → IsReplay block xs run.start
+  pub commits : Commits is_up is_sound holds was keep (committed_by run.steps)
+  pub stays : Stays is_up is_sound was keep
+
+-- RUNS, one after the other, last first
+abbrev pub AreRuns : {S : Type 0} (is_up is_sound : S → Type 0)
+    (holds : S → List Record → Type 0) → Block → S → S → Talk → Talk → List Run → Type 0
+AreRuns is_up is_sound holds block was keep x y [] = (keep ≡ was) × (y ≡ x)
+AreRuns {S = S} is_up is_sound holds block was keep x y (run ∷ before) =
+    (mid : S)
+    × (at : Talk)
+    × AreRuns is_up is_sound holds block was mid x at before
+    × IsRun is_up is_sound holds block mid keep at y run
+
+-- each run found no gear any more
+abbrev pub AreAllFound : List Run → Type 0
+AreAllFound [] = Unit {0}
+AreAllFound (run ∷ before) = (run.ended ≡ Done AllFound) × AreAllFound before
+
+-- the last run ended so, and each before it found no gear any more
+abbrev pub EndWith : Ended → List Run → Type 0
+EndWith ended [] = ⊥
+EndWith ended (run ∷ before) = (run.ended ≡ ended) × AreAllFound before
+
+-- so many runs in a row, the last one among them, committed nothing
+abbrev pub AreQuiet : ℕ → List Run → Type 0
+AreQuiet zero runs = Unit {0}
+AreQuiet (suc n) [] = ⊥
+AreQuiet (suc n) (run ∷ before) = (committed_by run.steps ≡ []) × AreQuiet n before
+
+abbrev pub quiet_after : ℕ → Bool → ℕ
+quiet_after n true = 0
+quiet_after n false = n + 1
+
+-- a store has what it had, and maybe more
+abbrev pub Grows : {S : Type 0} (is_up is_sound : S → Type 0) (holds : S → List Record → Type 0)
+    → S → S → Type 0
+Grows is_up is_sound holds old new =
+    is_sound old → is_up new → (xs : List Record) → holds old xs
+    → (more : List Record) × holds new (xs ++ more)
+
+-- A store was read, and has what it had: these are its records.
+pub record IsRead {S : Type 0} (is_up is_sound : S → Type 0) (holds : S → List Record → Type 0)
+    (block : Block) (was keep : S) (k : Kept) : Type 0 where
+  pub replay : is_sound was → is_up keep → (xs : List Record) → holds was xs → IsReplay block xs k
+  pub same : is_sound was → is_up keep → (xs : List Record) → holds was xs → holds keep xs
+  pub stays : Stays is_up is_sound was keep
+
+-- WHAT CAME OF A BEGINNING. Where a gear answers to a short address that no record names, nothing
+-- is begun: the questions are all that was put, and the store has what it had. Else machines run.
+abbrev pub IsBegun : {S : Type 0} (is_up is_sound : S → Type 0)
+    (holds : S → List Record → Type 0) → Block → ℕ → S → S → Talk → Talk → Begun → Type 0
+IsBegun is_up is_sound holds block wanted was keep x y (begun.Addressed replies) =
+    (k : Kept)
+    × IsRead is_up is_sound holds block was keep k
+    × AreCounted k 0 replies.items x y
+    × (is_addressed replies.items ≡ true)
+IsBegun {S = S} is_up is_sound holds block wanted was keep x y (begun.Commissioned ended) =
+    (k : Kept)
+    × (mid : S)
+    × (at : Talk)
+    × (replies : List Reply)
+    × (runs : List Run)
+    × IsRead is_up is_sound holds block was mid k
+    × AreCounted k 0 replies x at
+    × (is_addressed replies ≡ false)
+    × AreRuns is_up is_sound holds block mid keep at y runs
+    × EndWith ended runs
+    × (ended ≡ Done AllFound → AreQuiet wanted runs)
+
+-- the first reserved short address outside of a block
+abbrev pub outside : Block → List Assignment → Option ℕ
+outside block [] = None
+outside block (pair ∷ more) =
+    if in_block block pair.0 then outside block more else Some pair.0

@@ -1,0 +1,96 @@
+//! What comes first: the records are read, and the gear are asked that no record names.
+
+ghost use Rattle.std.specs.Prelude.{◌≡◌, ◌<◌, IfOk, IfErr, MatchOption};
+ghost use Rattle.dali_script.specs.Records.{without_records};
+ghost use Rattle.dali_commissioning.specs.Drivers.{talk_of};
+ghost use Rattle.dali_commissioning.specs.Census.{AreCounted};
+ghost use Rattle.dali_commissioning.specs.Conducted.{Stays};
+ghost use Rattle.dali_commissioning.specs.Runs.{IsRead, IsBegun, Grows, outside};
+
+use crate::census::{Reply, is_addressed, take_census};
+use crate::conducting::Ended;
+use crate::driver::Driver;
+use crate::fault::CommissionFault;
+use crate::runs::commission;
+use crate::watch::Watch;
+use arrayvec::ArrayVec;
+use dali_frame::Short;
+use dali_reserve::Keep;
+use dali_script::{Block, Kept};
+use std::io::{Read, Write};
+
+/// What came of a beginning.
+#[derive(Drop)]
+pub enum Begun {
+    /// Gear answer to short addresses that no record names, so nothing was begun. This was heard of each short address,
+    /// from 0 on; those that the records name were not asked.
+    Addressed(ArrayVec<Reply, 64>),
+    /// Machines ran, and the last one ended so.
+    Commissioned(Ended),
+}
+
+/// The records of a store.
+fn records<K: Keep>(keep: &mut K) -> Result<Kept, CommissionFault>
+    ensures read { IfOk result (IsRead K.is_up K.is_sound K.holds (K.block keep.old) keep.old keep.new) }
+    ensures of_block { IfOk result (λ k. k.block ≡ K.block keep.old) }
+    ensures left { IfErr result (λ _. Grows K.is_up K.is_sound K.holds keep.old keep.new) }
+    ensures stays { Stays K.is_up K.is_sound keep.old keep.new }
+    ensures block { K.block keep.new ≡ K.block keep.old }
+{
+    match keep.read() {
+        Ok(kept) => Ok(kept),
+        Err(error) => Err(CommissionFault::Store(error)),
+    }
+}
+
+/// Asks each short address that the records do not name, and where nothing is heard, commissions.
+///
+/// Gear that were addressed before, by another controller or by hand, are not searched, and their addresses might be
+/// given to others. So where anything is heard, nothing is begun.
+pub fn begin<K: Keep, R: Read, W: Write, P: Watch>(
+    keep: &mut K,
+    driver: &mut Driver<R, W>,
+    watch: &mut P,
+    quiet_runs: u8,
+) -> Result<Begun, CommissionFault>
+    requires some { 0 < quiet_runs }
+    ensures begun { IfOk result (IsBegun K.is_up K.is_sound K.holds (K.block keep.old) quiet_runs keep.old keep.new
+        (talk_of R.remaining W.contents driver.old) (talk_of R.remaining W.contents driver.new)) }
+    ensures left { IfErr result (λ _. Grows K.is_up K.is_sound K.holds keep.old keep.new) }
+    ensures block { K.block keep.new ≡ K.block keep.old }
+{
+    let kept = records(keep)?;
+    let replies = take_census(driver, &kept)?;
+    if is_addressed(&replies) {
+        return Ok(Begun::Addressed(replies));
+    }
+    let ended = commission(keep, driver, watch, quiet_runs)?;
+    Ok(Begun::Commissioned(ended))
+}
+
+/// The records, and what is heard of each short address, from 0 on. Nothing is committed, and no address given.
+pub fn check<K: Keep, R: Read, W: Write>(
+    keep: &mut K,
+    driver: &mut Driver<R, W>,
+) -> Result<(Kept, ArrayVec<Reply, 64>), CommissionFault>
+    ensures read { IfOk result (λ found. IsRead K.is_up K.is_sound K.holds (K.block keep.old) keep.old keep.new found.0) }
+    ensures counted { IfOk result (λ found. AreCounted (without_records (K.block keep.old)) 0 found.1.items
+        (talk_of R.remaining W.contents driver.old) (talk_of R.remaining W.contents driver.new)) }
+    ensures left { IfErr result (λ _. Grows K.is_up K.is_sound K.holds keep.old keep.new) }
+{
+    let kept = records(keep)?;
+    let replies = take_census(driver, &Kept::new(kept.block()))?;
+    Ok((kept, replies))
+}
+
+/// The first short address that is reserved and lies outside of a block.
+pub fn outside(kept: &Kept, block: Block) -> Option<Short>
+    ensures { result ≡ outside block kept.now.reserved }
+{
+    for pair in kept.reserved() {
+        if pair.0 < block.first || block.last < pair.0 {
+            return Some(pair.0);
+        }
+    }
+    None
+}

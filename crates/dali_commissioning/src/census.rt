@@ -1,0 +1,265 @@
+//! The census of the short addresses: which gear answer to addresses that no record names, before any is given.
+
+ghost use Rattle.std.specs.Prelude.{◌≡◌, ◌==◌, length, List, IfOk};
+ghost use Rattle.std.specs.List.{list_any};
+ghost use Rattle.dali_script.specs.declared.orders.Input.{Input};
+ghost use Rattle.dali_special.specs.declared.command.Command.TheVariants.{RandomByte};
+ghost use Rattle.dali_special.specs.Command.{frame_of};
+ghost use Rattle.dali_commissioning.specs.Drivers.{talk_of};
+ghost use Rattle.dali_commissioning.specs.Census.{IsPut, answer_told, IsAsked, reply_of, reply_told, joined, joined_if, one_if};
+ghost use Rattle.dali_commissioning.specs.Census.{IsAnswered, is_named, IsCounted, AreCounted};
+ghost use Rattle.dali_commissioning.specs.Census.{is_silent, is_addressed, standing_of};
+
+use crate::driver::{Driver, DriverFault};
+use crate::fault::CommissionFault;
+use crate::lines::Half;
+use arrayvec::ArrayVec;
+use dali_frame::{Answer, Priority, Random24, Short};
+use dali_script::{Input, Kept};
+use dali_special::{Command, Part};
+use std::io::{Read, Write};
+
+/// How often a short address is asked for its random address.
+const QUESTIONS: u8 = 3;
+
+/// How often in a row a question may be lost.
+const LOST: u8 = 8;
+
+/// What was heard of a short address.
+#[derive(Clone, Copy, Debug, Default, PartialEq, Eq)]
+pub enum Reply {
+    /// Nothing was heard.
+    #[default]
+    Silence,
+    /// Something was heard that spells no random address: several gear answer together, or the bus is disturbed.
+    Unclear,
+    /// This random address was heard, and no other.
+    Random(Random24),
+    /// Two different random addresses were heard: several gear have the short address.
+    Several,
+}
+
+/// Where a gear stands that records name.
+#[derive(Clone, Copy, Debug, PartialEq, Eq)]
+pub enum Standing {
+    /// It answers.
+    There,
+    /// Nobody answers to its short address.
+    Missing,
+    /// A gear with this random address answers to its short address.
+    Another(Random24),
+    /// Something answers that spells no random address: several gear together, or the bus is disturbed.
+    Unclear,
+    /// Several gear answer.
+    Several,
+}
+
+/// What three answers spell.
+fn reply_of(high: Answer, middle: Answer, low: Answer) -> Reply
+    ensures { result ≡ reply_of high middle low }
+{
+    match (high, middle, low) {
+        (Answer::Byte(high), Answer::Byte(middle), Answer::Byte(low)) => {
+            Reply::Random(Random24::from_bytes(high, middle, low))
+        }
+        (Answer::Silence, Answer::Silence, Answer::Silence) => Reply::Silence,
+        _ => Reply::Unclear,
+    }
+}
+
+/// What two questions tell together.
+fn joined(one: Reply, other: Reply) -> Reply
+    ensures { result ≡ joined one other }
+{
+    match one {
+        Reply::Silence => other,
+        Reply::Unclear => match other {
+            Reply::Silence => Reply::Unclear,
+            Reply::Unclear | Reply::Random(_) | Reply::Several => other,
+        },
+        Reply::Random(random) => match other {
+            Reply::Silence | Reply::Unclear => Reply::Random(random),
+            Reply::Random(number) => {
+                if random == number {
+                    Reply::Random(random)
+                } else {
+                    Reply::Several
+                }
+            }
+            Reply::Several => Reply::Several,
+        },
+        Reply::Several => Reply::Several,
+    }
+}
+
+fn joined_if(reply: Reply, told: Option<Reply>) -> Reply
+    ensures { result ≡ joined_if reply told }
+{
+    match told {
+        Some(told) => joined(reply, told),
+        None => reply,
+    }
+}
+
+fn one_if(told: Option<Reply>) -> u8
+    ensures { result ≡ one_if told }
+{
+    match told {
+        Some(_) => 1,
+        None => 0,
+    }
+}
+
+/// Asks for one byte of a random address. None where the frame was lost.
+fn byte<R: Read, W: Write>(
+    driver: &mut Driver<R, W>,
+    priority: Priority,
+    short: Short,
+    part: Part,
+) -> Result<Option<Answer>, DriverFault>
+    ensures { IfOk result (λ heard. (told : Input) × IsPut priority (frame_of (RandomByte short part)) told
+        (talk_of R.remaining W.contents driver.old) (talk_of R.remaining W.contents driver.new)
+        × (heard ≡ answer_told told)) }
+{
+    let frame = Command::RandomByte(short, part).write();
+    match driver.exchange(priority, frame, Half::Whole)? {
+        Input::Heard(heard) => Ok(Some(heard)),
+        Input::Start | Input::Destroyed | Input::Lapsed | Input::Committed | Input::CommitFailed =>
+            Ok(None),
+    }
+}
+
+/// Asks the gear with a short address for its random address. None where one of the three frames was lost.
+fn question<R: Read, W: Write>(
+    driver: &mut Driver<R, W>,
+    short: Short,
+) -> Result<Option<Reply>, DriverFault>
+    ensures { IfOk result (λ reply. (told : List Input) × IsAsked short told
+        (talk_of R.remaining W.contents driver.old) (talk_of R.remaining W.contents driver.new)
+        × (reply ≡ reply_told told)) }
+{
+    let Some(high) = byte(driver, Priority::FIRST, short, Part::High)? else {
+        return Ok(None);
+    };
+    let Some(middle) = byte(driver, Priority::LATER, short, Part::Middle)? else {
+        return Ok(None);
+    };
+    let Some(low) = byte(driver, Priority::LATER, short, Part::Low)? else {
+        return Ok(None);
+    };
+    Ok(Some(reply_of(high, middle, low)))
+}
+
+/// Asks the gear with a short address for its random address, until three questions were answered.
+pub fn ask<R: Read, W: Write>(
+    driver: &mut Driver<R, W>,
+    short: Short,
+) -> Result<Reply, CommissionFault>
+    ensures { IfOk result (λ reply. IsAnswered short reply
+        (talk_of R.remaining W.contents driver.old) (talk_of R.remaining W.contents driver.new)) }
+{
+    let mut reply = Reply::Silence;
+    let mut asked = 0;
+    let mut lost = 0;
+    for _ in 0..QUESTIONS * LOST {
+        let told = match question(driver, short) {
+            Ok(told) => told,
+            Err(fault) => return Err(CommissionFault::Driver(fault)),
+        };
+        reply = joined_if(reply, told);
+        asked += one_if(told);
+        lost = if told.is_some() { 0 } else { lost + 1 };
+        if asked == QUESTIONS {
+            return Ok(reply);
+        }
+        if lost == LOST {
+            return Err(CommissionFault::QuestionLost);
+        }
+    }
+    Err(CommissionFault::QuestionLost)
+}
+
+fn has_address(pairs: &[(Short, Random24)], short: Short) -> bool
+    ensures { result ≡ list_any (λ p. p.0 == short) pairs.now }
+{
+    pairs.iter().any(|pair| pair.0 == short)
+}
+
+/// Whether a record names a short address.
+pub fn is_named(kept: &Kept, short: Short) -> bool
+    ensures { result ≡ is_named kept.now short }
+{
+    has_address(kept.reserved(), short) || has_address(kept.enrolled(), short)
+}
+
+/// What is heard of a short address, where no record names it.
+fn count<R: Read, W: Write>(
+    driver: &mut Driver<R, W>,
+    kept: &Kept,
+    short: Short,
+) -> Result<Reply, CommissionFault>
+    ensures { IfOk result (λ reply. IsCounted kept.now short reply
+        (talk_of R.remaining W.contents driver.old) (talk_of R.remaining W.contents driver.new)) }
+{
+    if is_named(kept, short) {
+        Ok(Reply::Silence)
+    } else {
+        ask(driver, short)
+    }
+}
+
+/// What is heard of each short address that no record names, from address 0 on; the others are passed over, as silent.
+///
+/// Each is asked for its random address three times, by the three queries of one transaction. Nothing is given.
+#[tactic(auto, using(crate::proofs::Asked::counted_more))]
+pub fn take_census<R: Read, W: Write>(
+    driver: &mut Driver<R, W>,
+    kept: &Kept,
+) -> Result<ArrayVec<Reply, 64>, CommissionFault>
+    ensures all { IfOk result (λ replies. length replies.items ≡ 64) }
+    ensures counted { IfOk result (λ replies. AreCounted kept.now 0 replies.items
+        (talk_of R.remaining W.contents driver.old) (talk_of R.remaining W.contents driver.new)) }
+{
+    let mut replies = ArrayVec::new();
+    for number in 0..64u8 {
+        let Some(short) = Short::of(number) else {
+            unreachable!();
+        };
+        replies.push(count(driver, kept, short)?);
+    }
+    Ok(replies)
+}
+
+fn is_silent(reply: Reply) -> bool
+    ensures { result ≡ is_silent reply }
+{
+    match reply {
+        Reply::Silence => true,
+        Reply::Unclear | Reply::Random(_) | Reply::Several => false,
+    }
+}
+
+/// Whether something was heard of a short address.
+pub fn is_addressed(replies: &[Reply]) -> bool
+    ensures { result ≡ is_addressed replies.now }
+{
+    replies.iter().any(|reply| !is_silent(*reply))
+}
+
+/// Where a gear stands that records name with this random address, by what was heard of its short address.
+pub fn stands(random: Random24, reply: Reply) -> Standing
+    ensures { result ≡ standing_of random reply }
+{
+    match reply {
+        Reply::Silence => Standing::Missing,
+        Reply::Unclear => Standing::Unclear,
+        Reply::Random(heard) => {
+            if heard == random {
+                Standing::There
+            } else {
+                Standing::Another(heard)
+            }
+        }
+        Reply::Several => Standing::Several,
+    }
+}

@@ -1,0 +1,98 @@
+//! Commissioning until it is done: one machine after the other, each from the records of the store.
+
+ghost use Rattle.std.specs.Prelude.{◌≡◌, ◌<◌, ◌↔◌, List, IsTrue, IfOk, IfErr};
+ghost use Rattle.dali_script.specs.declared.orders.End.TheVariants as ends;
+ghost use Rattle.dali_commissioning.specs.Drivers.{talk_of};
+ghost use Rattle.dali_commissioning.specs.Steps.{has_committed};
+ghost use Rattle.dali_commissioning.specs.Conducted.{Stays};
+ghost use Rattle.dali_commissioning.specs.Runs.{Run, IsRun, AreRuns, AreQuiet, EndWith, Grows, quiet_after};
+
+use crate::conducting::{Ended, Outcome, conduct};
+use crate::driver::Driver;
+use crate::fault::CommissionFault;
+use crate::watch::Watch;
+use dali_controller::Machine;
+use dali_reserve::Keep;
+use dali_script::End;
+use std::io::{Read, Write};
+
+/// How many steps a machine may take: at twenty milliseconds a frame, some five hours.
+const MOST_STEPS: u32 = 1_000_000;
+
+/// How many machines may run.
+const MOST_RUNS: u32 = 1_000;
+
+fn is_all_found(ended: Ended) -> bool
+    ensures { IsTrue result ↔ (ended ≡ Ended.Done ends.AllFound) }
+{
+    match ended {
+        Ended::Done(End::AllFound) => true,
+        Ended::Done(End::BlockFull | End::GaveUp) | Ended::Halted(_) => false,
+    }
+}
+
+/// How many runs in a row have committed nothing, with one more.
+fn quiet_after(quiet: u8, committed: bool) -> u8
+    requires { quiet < 255 }
+    ensures { result ≡ quiet_after quiet committed }
+{
+    if committed { 0 } else { quiet + 1 }
+}
+
+/// Runs one machine, from the records of the store.
+fn run<K: Keep, R: Read, W: Write, P: Watch>(
+    keep: &mut K,
+    driver: &mut Driver<R, W>,
+    watch: &mut P,
+) -> Result<Outcome, CommissionFault>
+    ensures ran { IfOk result (λ outcome. (run : Run) × IsRun K.is_up K.is_sound K.holds (K.block keep.old)
+        keep.old keep.new (talk_of R.remaining W.contents driver.old) (talk_of R.remaining W.contents driver.new) run
+        × (run.ended ≡ outcome.ended) × (outcome.committed ≡ has_committed run.steps)) }
+    ensures left { IfErr result (λ _. Grows K.is_up K.is_sound K.holds keep.old keep.new) }
+    ensures stays { Stays K.is_up K.is_sound keep.old keep.new }
+    ensures block { K.block keep.new ≡ K.block keep.old }
+{
+    let kept = match keep.read() {
+        Ok(kept) => kept,
+        Err(error) => return Err(CommissionFault::Store(error)),
+    };
+    let mut machine = Machine::new(0, &kept);
+    let outcome = conduct(&mut machine, keep, driver, watch, MOST_STEPS)?;
+    Ok(outcome)
+}
+
+/// Runs machines, until one ended otherwise than that no gear answers any more, or so many in a row have committed
+/// nothing.
+///
+/// One run may leave gear where an answer was lost. The store has all that was committed, however it ends.
+#[tactic(auto, using(crate::proofs::Ran::none_ran))]
+pub fn commission<K: Keep, R: Read, W: Write, P: Watch>(
+    keep: &mut K,
+    driver: &mut Driver<R, W>,
+    watch: &mut P,
+    quiet_runs: u8,
+) -> Result<Ended, CommissionFault>
+    requires some { 0 < quiet_runs }
+    ensures ran { IfOk result (λ ended. (runs : List Run) × AreRuns K.is_up K.is_sound K.holds (K.block keep.old)
+        keep.old keep.new (talk_of R.remaining W.contents driver.old) (talk_of R.remaining W.contents driver.new) runs
+        × EndWith ended runs × (ended ≡ Ended.Done ends.AllFound → AreQuiet quiet_runs runs)) }
+    ensures left { IfErr result (λ _. Grows K.is_up K.is_sound K.holds keep.old keep.new) }
+    ensures stays { Stays K.is_up K.is_sound keep.old keep.new }
+    ensures block { K.block keep.new ≡ K.block keep.old }
+{
+    let mut quiet = 0;
+    for _ in 0..MOST_RUNS {
+        let outcome = match run(keep, driver, watch) {
+            Ok(outcome) => outcome,
+            Err(fault) => return Err(fault),
+        };
+        if !is_all_found(outcome.ended) {
+            return Ok(outcome.ended);
+        }
+        quiet = quiet_after(quiet, outcome.committed);
+        if quiet == quiet_runs {
+            return Ok(outcome.ended);
+        }
+    }
+    Err(CommissionFault::RunsSpent)
+}
