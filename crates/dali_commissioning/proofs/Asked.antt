@@ -1,6 +1,7 @@
 use Rattle.std.proofs.Common.{◌≡◌, arith, ℕ, ◌+◌, List, [], ◌∷◌, ◌++◌, length, true, Option, Some, None, is_some, refl, ◌∙◌, ap, sym, subst}
 use Rattle.dali_frame.specs.declared.frames.Answer.{Answer}
 use Rattle.dali_script.specs.declared.orders.Input.{Input}
+use Rattle.dali_script.specs.declared.block.Block.{Block}
 use Rattle.dali_script.specs.Records.{Kept}
 use Rattle.dali_commissioning.specs.declared.census.Reply.{Reply}
 use Rattle.dali_commissioning.specs.declared.census.Reply.TheVariants as reply
@@ -62,9 +63,10 @@ pub answered : (a : ℕ) (x y : Talk) (it : Reply) (asked : ℕ) → HasAsked a 
 answered a x y it asked so_far is = (so_far.questions, so_far.are, sym so_far.counted ∙ is, so_far.told)
 
 -- one short address more
-pub counted_more : (k : Kept) (a n : ℕ) (rs : List Reply) (r : Reply) (x y z : Talk) → AreCounted k a rs x y
-    → length rs + a ≡ n → IsCounted k n r y z → AreCounted k a (rs ++ r ∷ []) x z
-counted_more k a n [] r x y z so_far at one =
-    (z, subst (λ b. IsCounted k b r x z) (omega (arith, at)) (subst (λ t. IsCounted k n r t z) so_far one), refl)
-counted_more k a n (s ∷ rs) r x y z (mid, first_one, rest) at one =
-    (mid, first_one, counted_more k (a + 1) n rs r mid y z rest (omega (arith, at)) one)
+pub counted_more : (k : Kept) (others : List Block) (a n : ℕ) (rs : List Reply) (r : Reply) (x y z : Talk)
+    → AreCounted k others a rs x y → length rs + a ≡ n → IsCounted k others n r y z
+    → AreCounted k others a (rs ++ r ∷ []) x z
+counted_more k others a n [] r x y z so_far at one =
+    (z, subst (λ b. IsCounted k others b r x z) (omega (arith, at)) (subst (λ t. IsCounted k others n r t z) so_far one), refl)
+counted_more k others a n (s ∷ rs) r x y z (mid, first_one, rest) at one =
+    (mid, first_one, counted_more k others (a + 1) n rs r mid y z rest (omega (arith, at)) one)

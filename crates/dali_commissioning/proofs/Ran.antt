@@ -16,7 +16,7 @@ use Rattle.dali_commissioning.specs.declared.conducting.Ended.TheVariants.{Done}
 use Rattle.dali_commissioning.specs.Drivers.{Talk}
 use Rattle.dali_commissioning.specs.Steps.{Step, last_order, record_told, committed_by, is_kept, has_committed}
 use Rattle.dali_commissioning.specs.Conducted.{Conducted, Commits, Stays, IsAt, order_of}
-use Rattle.dali_commissioning.specs.Runs.{Run, IsRun, AreRuns, AreAllFound, EndWith, AreQuiet, quiet_after, Grows}
+use Rattle.dali_commissioning.specs.Runs.{Run, IsRun, AreRuns, AreAllFound, EndWith, AreQuiet, quiet_after, Grows, IsRead}
 use Rattle.dali_commissioning.proofs.Steps.{stays_further}
 
 -- steps that were told of no record have committed none
@@ -164,3 +164,10 @@ run_of is_up is_sound holds kept_of must_read block_of replay was mid keep m n x
   refl,
   at.has,
 )
+
+-- a store that was read, and grew then
+pub read_grows : {S : Type 0} (is_up is_sound : S → Type 0) (holds : S → List Record → Type 0) (block : Block)
+    (was mid keep : S) (k : Kept) → IsRead is_up is_sound holds block was mid k → Stays is_up is_sound mid keep
+    → Grows is_up is_sound holds mid keep → Grows is_up is_sound holds was keep
+read_grows is_up is_sound holds block was mid keep k read stays more = λ sound up xs held.
+    more (read.stays.sound sound (stays.up up)) up xs (read.same sound (stays.up up) xs held)

@@ -13,7 +13,9 @@ use Rattle.dali_special.specs.Command.{frame_of}
 use Rattle.dali_script.specs.declared.orders.Input.{Input}
 use Rattle.dali_script.specs.declared.orders.Input.TheVariants.{Heard}
 use Rattle.dali_script.specs.declared.trace.Entry.{Entry}
+use Rattle.dali_script.specs.declared.block.Block.{Block}
 use Rattle.dali_script.specs.Records.{Kept}
+use Rattle.dali_script.specs.Stages.{in_block}
 use Rattle.dali_commissioning.specs.declared.lines.Half.TheVariants.{Whole}
 use Rattle.dali_commissioning.specs.declared.census.Reply.{Reply}
 use Rattle.dali_commissioning.specs.declared.census.Reply.TheVariants as reply
@@ -43,6 +45,9 @@ priority_at _ = 1
 abbrev pub answer_told : Input → Option Answer
 answer_told (Heard h) = Some h
 answer_told _ = None
+
+abbrev pub is_sent : Input → Bool
+is_sent told = is_some (answer_told told)
 
 abbrev pub AreHeard : List Input → Type 0
 AreHeard [] = Unit {0}
@@ -136,17 +141,22 @@ IsAnswered a r x y =
 abbrev pub is_named : Kept → ℕ → Bool
 is_named k a = list_any (λ p. p.0 == a) k.reserved || list_any (λ p. p.0 == a) k.enrolled
 
--- THE CENSUS: the short addresses from this one on, which are asked where the records do not name
--- them, and passed over as silent where they do.
-abbrev pub IsCounted : Kept → ℕ → Reply → Talk → Talk → Type 0
-IsCounted k a r x y =
-    ((is_named k a ≡ true) × (r ≡ reply.Silence) × (y ≡ x))
-    ⊎ ((is_named k a ≡ false) × IsAnswered a r x y)
+-- whether a short address is accounted for: the records name it, or it lies in a block of another
+-- controller
+abbrev pub is_known : Kept → List Block → ℕ → Bool
+is_known k others a = is_named k a || list_any (λ b. in_block b a) others
 
-abbrev pub AreCounted : Kept → ℕ → List Reply → Talk → Talk → Type 0
-AreCounted k a [] x y = y ≡ x
-AreCounted k a (r ∷ more) x y =
-    (mid : Talk) × IsCounted k a r x mid × AreCounted k (a + 1) more mid y
+-- THE CENSUS: the short addresses from this one on, which are asked where they are not accounted
+-- for, and passed over as silent where they are.
+abbrev pub IsCounted : Kept → List Block → ℕ → Reply → Talk → Talk → Type 0
+IsCounted k others a r x y =
+    ((is_known k others a ≡ true) × (r ≡ reply.Silence) × (y ≡ x))
+    ⊎ ((is_known k others a ≡ false) × IsAnswered a r x y)
+
+abbrev pub AreCounted : Kept → List Block → ℕ → List Reply → Talk → Talk → Type 0
+AreCounted k others a [] x y = y ≡ x
+AreCounted k others a (r ∷ more) x y =
+    (mid : Talk) × IsCounted k others a r x mid × AreCounted k others (a + 1) more mid y
 
 -- whether something was heard of a short address
 abbrev pub is_silent : Reply → Bool

@@ -80,20 +80,21 @@ pub record IsRead {S : Type 0} (is_up is_sound : S → Type 0) (holds : S → Li
 -- WHAT CAME OF A BEGINNING. Where a gear answers to a short address that no record names, nothing
 -- is begun: the questions are all that was put, and the store has what it had. Else machines run.
 abbrev pub IsBegun : {S : Type 0} (is_up is_sound : S → Type 0)
-    (holds : S → List Record → Type 0) → Block → ℕ → S → S → Talk → Talk → Begun → Type 0
-IsBegun is_up is_sound holds block wanted was keep x y (begun.Addressed replies) =
+    (holds : S → List Record → Type 0) → Block → List Block → ℕ → S → S → Talk → Talk → Begun
+    → Type 0
+IsBegun is_up is_sound holds block others wanted was keep x y (begun.Addressed replies) =
     (k : Kept)
     × IsRead is_up is_sound holds block was keep k
-    × AreCounted k 0 replies.items x y
+    × AreCounted k others 0 replies.items x y
     × (is_addressed replies.items ≡ true)
-IsBegun {S = S} is_up is_sound holds block wanted was keep x y (begun.Commissioned ended) =
+IsBegun {S = S} is_up is_sound holds block others wanted was keep x y (begun.Commissioned ended) =
     (k : Kept)
     × (mid : S)
     × (at : Talk)
     × (replies : List Reply)
     × (runs : List Run)
     × IsRead is_up is_sound holds block was mid k
-    × AreCounted k 0 replies x at
+    × AreCounted k others 0 replies x at
     × (is_addressed replies ≡ false)
     × AreRuns is_up is_sound holds block mid keep at y runs
     × EndWith ended runs

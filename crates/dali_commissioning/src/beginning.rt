@@ -22,8 +22,8 @@ use std::io::{Read, Write};
 /// What came of a beginning.
 #[derive(Drop)]
 pub enum Begun {
-    /// Gear answer to short addresses that no record names, so nothing was begun. This was heard of each short address,
-    /// from 0 on; those that the records name were not asked.
+    /// Gear answer to short addresses that are not accounted for, so nothing was begun. This was heard of each short
+    /// address, from 0 on; those that are accounted for were not asked.
     Addressed(ArrayVec<Reply, 64>),
     /// Machines ran, and the last one ended so.
     Commissioned(Ended),
@@ -43,43 +43,50 @@ fn records<K: Keep>(keep: &mut K) -> Result<Kept, CommissionFault>
     }
 }
 
-/// Asks each short address that the records do not name, and where nothing is heard, commissions.
+/// Asks each short address that the records do not name and that lies in no block of another controller, and where
+/// nothing is heard, commissions.
 ///
 /// Gear that were addressed before, by another controller or by hand, are not searched, and their addresses might be
 /// given to others. So where anything is heard, nothing is begun.
+#[tactic(auto, using(crate::proofs::Ran::read_grows))]
 pub fn begin<K: Keep, R: Read, W: Write, P: Watch>(
     keep: &mut K,
     driver: &mut Driver<R, W>,
     watch: &mut P,
+    others: &[Block],
     quiet_runs: u8,
 ) -> Result<Begun, CommissionFault>
     requires some { 0 < quiet_runs }
-    ensures begun { IfOk result (IsBegun K.is_up K.is_sound K.holds (K.block keep.old) quiet_runs keep.old keep.new
+    ensures begun { IfOk result (IsBegun K.is_up K.is_sound K.holds (K.block keep.old) others.now quiet_runs keep.old keep.new
         (talk_of R.remaining W.contents driver.old) (talk_of R.remaining W.contents driver.new)) }
     ensures left { IfErr result (λ _. Grows K.is_up K.is_sound K.holds keep.old keep.new) }
     ensures block { K.block keep.new ≡ K.block keep.old }
 {
     let kept = records(keep)?;
-    let replies = take_census(driver, &kept)?;
+    let replies = take_census(driver, &kept, others)?;
     if is_addressed(&replies) {
         return Ok(Begun::Addressed(replies));
     }
-    let ended = commission(keep, driver, watch, quiet_runs)?;
-    Ok(Begun::Commissioned(ended))
+    match commission(keep, driver, watch, quiet_runs) {
+        Ok(ended) => Ok(Begun::Commissioned(ended)),
+        Err(fault) => Err(fault),
+    }
 }
 
-/// The records, and what is heard of each short address, from 0 on. Nothing is committed, and no address given.
+/// The records, and what is heard of each short address outside of the blocks of other controllers, from 0 on. Nothing
+/// is committed, and no address given.
 pub fn check<K: Keep, R: Read, W: Write>(
     keep: &mut K,
     driver: &mut Driver<R, W>,
+    others: &[Block],
 ) -> Result<(Kept, ArrayVec<Reply, 64>), CommissionFault>
     ensures read { IfOk result (λ found. IsRead K.is_up K.is_sound K.holds (K.block keep.old) keep.old keep.new found.0) }
-    ensures counted { IfOk result (λ found. AreCounted (without_records (K.block keep.old)) 0 found.1.items
+    ensures counted { IfOk result (λ found. AreCounted (without_records (K.block keep.old)) others.now 0 found.1.items
         (talk_of R.remaining W.contents driver.old) (talk_of R.remaining W.contents driver.new)) }
     ensures left { IfErr result (λ _. Grows K.is_up K.is_sound K.holds keep.old keep.new) }
 {
     let kept = records(keep)?;
-    let replies = take_census(driver, &Kept::new(kept.block()))?;
+    let replies = take_census(driver, &Kept::new(kept.block()), others)?;
     Ok((kept, replies))
 }
 

@@ -8,14 +8,15 @@ ghost use Rattle.dali_special.specs.Command.{frame_of};
 ghost use Rattle.dali_commissioning.specs.Drivers.{talk_of};
 ghost use Rattle.dali_commissioning.specs.Census.{IsPut, answer_told, IsAsked, reply_of, reply_told, joined, joined_if, one_if};
 ghost use Rattle.dali_commissioning.specs.Census.{IsAnswered, is_named, IsCounted, AreCounted};
-ghost use Rattle.dali_commissioning.specs.Census.{is_silent, is_addressed, standing_of};
+ghost use Rattle.dali_commissioning.specs.Census.{is_known, is_silent, is_addressed, standing_of};
+ghost use Rattle.dali_script.specs.Stages.{in_block};
 
 use crate::driver::{Driver, DriverFault};
 use crate::fault::CommissionFault;
 use crate::lines::Half;
 use arrayvec::ArrayVec;
 use dali_frame::{Answer, Priority, Random24, Short};
-use dali_script::{Input, Kept};
+use dali_script::{Block, Input, Kept};
 use dali_special::{Command, Part};
 use std::io::{Read, Write};
 
@@ -186,38 +187,60 @@ fn has_address(pairs: &[(Short, Random24)], short: Short) -> bool
 }
 
 /// Whether a record names a short address.
-pub fn is_named(kept: &Kept, short: Short) -> bool
+fn is_named(kept: &Kept, short: Short) -> bool
     ensures { result ≡ is_named kept.now short }
 {
     has_address(kept.reserved(), short) || has_address(kept.enrolled(), short)
 }
 
-/// What is heard of a short address, where no record names it.
+fn is_in(block: Block, short: Short) -> bool
+    ensures { result ≡ in_block block short }
+{
+    block.first <= short && short <= block.last
+}
+
+fn has_block(blocks: &[Block], short: Short) -> bool
+    ensures { result ≡ list_any (λ b. in_block b short) blocks.now }
+{
+    blocks.iter().any(|block| is_in(*block, short))
+}
+
+/// Whether a short address is accounted for: a record names it, or it lies in a block of another controller.
+pub fn is_known(kept: &Kept, others: &[Block], short: Short) -> bool
+    ensures { result ≡ is_known kept.now others.now short }
+{
+    is_named(kept, short) || has_block(others, short)
+}
+
+/// What is heard of a short address, where it is not accounted for.
 fn count<R: Read, W: Write>(
     driver: &mut Driver<R, W>,
     kept: &Kept,
+    others: &[Block],
     short: Short,
 ) -> Result<Reply, CommissionFault>
-    ensures { IfOk result (λ reply. IsCounted kept.now short reply
+    ensures { IfOk result (λ reply. IsCounted kept.now others.now short reply
         (talk_of R.remaining W.contents driver.old) (talk_of R.remaining W.contents driver.new)) }
 {
-    if is_named(kept, short) {
+    if is_known(kept, others, short) {
         Ok(Reply::Silence)
     } else {
         ask(driver, short)
     }
 }
 
-/// What is heard of each short address that no record names, from address 0 on; the others are passed over, as silent.
+/// What is heard of each short address, from address 0 on. Those that the records name and those in the blocks of other
+/// controllers are passed over, as silent.
 ///
 /// Each is asked for its random address three times, by the three queries of one transaction. Nothing is given.
 #[tactic(auto, using(crate::proofs::Asked::counted_more))]
 pub fn take_census<R: Read, W: Write>(
     driver: &mut Driver<R, W>,
     kept: &Kept,
+    others: &[Block],
 ) -> Result<ArrayVec<Reply, 64>, CommissionFault>
     ensures all { IfOk result (λ replies. length replies.items ≡ 64) }
-    ensures counted { IfOk result (λ replies. AreCounted kept.now 0 replies.items
+    ensures counted { IfOk result (λ replies. AreCounted kept.now others.now 0 replies.items
         (talk_of R.remaining W.contents driver.old) (talk_of R.remaining W.contents driver.new)) }
 {
     let mut replies = ArrayVec::new();
@@ -225,7 +248,7 @@ pub fn take_census<R: Read, W: Write>(
         let Some(short) = Short::of(number) else {
             unreachable!();
         };
-        replies.push(count(driver, kept, short)?);
+        replies.push(count(driver, kept, others, short)?);
     }
     Ok(replies)
 }

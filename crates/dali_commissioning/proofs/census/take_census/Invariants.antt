@@ -5,7 +5,7 @@ use Rattle.dali_commissioning.proofs.census.take_census.Given as goal
 
 abbrev pub invariant-loop-number : goal.invariant-loop-number
 invariant-loop-number g l = record {
-  counted : AreCounted l.kept 0 l.replies.items (talk_of g.R.Read.remaining g.W.Write.contents l.fn.driver)
+  counted : AreCounted l.kept l.others 0 l.replies.items (talk_of g.R.Read.remaining g.W.Write.contents l.fn.driver)
       (talk_of g.R.Read.remaining g.W.Write.contents l.driver);
   all : length l.replies.items ≡ l.number;
 }

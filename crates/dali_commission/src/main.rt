@@ -1,0 +1,12 @@
+//! `dali_commission` gives short addresses to the DALI control gear on a bus, over a driver that stands beside it, and
+//! keeps its records in a file.
+#![tactic(auto)]
+
+use dali_commission_program::{Files, exit_code, run_and_say};
+use std::io::IsTerminal;
+use std::process::ExitCode;
+
+fn main(rt: HostRuntime) -> ExitCode {
+    let is_terminal = rt.stderr().is_terminal();
+    exit_code(run_and_say(&rt, &Files::of(&rt), is_terminal))
+}

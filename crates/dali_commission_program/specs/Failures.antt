@@ -1,0 +1,55 @@
+use Rattle.std.specs.Prelude.{ℕ, Result, Ok, Err}
+use Rattle.dali_script.specs.declared.orders.End.TheVariants as ends
+use Rattle.dali_script.specs.declared.orders.Fault.TheVariants as faults
+use Rattle.dali_reserve.specs.declared.error.KeepError.TheVariants.{StoreFailed}
+use Rattle.dali_commissioning.specs.declared.conducting.Ended.{Ended}
+use Rattle.dali_commissioning.specs.declared.conducting.Ended.TheVariants.{Done, Halted}
+use Rattle.dali_commissioning.specs.declared.driver.DriverFault.TheVariants.{Memory}
+use Rattle.dali_commissioning.specs.declared.fault.CommissionFault.{CommissionFault}
+use Rattle.dali_commissioning.specs.declared.fault.CommissionFault.TheVariants as commission
+use Rattle.dali_commission_program.specs.declared.failure.Failure.{Failure}
+use Rattle.dali_commission_program.specs.declared.failure.Failure.TheVariants.{AddressedBefore}
+use Rattle.dali_commission_program.specs.declared.failure.Failure.TheVariants.{NotAsRecorded}
+use Rattle.dali_commission_program.specs.declared.failure.Failure.TheVariants.{BadCommandLine}
+use Rattle.dali_commission_program.specs.declared.failure.Failure.TheVariants.{NotText, Refused}
+use Rattle.dali_commission_program.specs.declared.failure.Failure.TheVariants.{Driver, Store}
+use Rattle.dali_commission_program.specs.declared.failure.Failure.TheVariants.{Outside, BlockFull}
+use Rattle.dali_commission_program.specs.declared.failure.Failure.TheVariants.{GaveUp, Conflict}
+use Rattle.dali_commission_program.specs.declared.failure.Failure.TheVariants.{Spent}
+use Rattle.dali_commission_program.specs.declared.stores.StoreFault.TheVariants as store
+
+-- THE EXIT STATUSES of the program
+abbrev pub status_of : Failure → ℕ
+status_of AddressedBefore = 1
+status_of NotAsRecorded = 1
+status_of BadCommandLine = 2
+status_of NotText = 2
+status_of Refused = 3
+status_of (Driver line fault) = 4
+status_of (Store fault) = 5
+status_of (Outside a) = 5
+status_of BlockFull = 6
+status_of GaveUp = 7
+status_of Conflict = 8
+status_of Spent = 9
+
+abbrev pub status_after : {A : Type 0} → Result A Failure → ℕ
+status_after (Ok done) = 0
+status_after (Err failure) = status_of failure
+
+-- what the end of the last machine is to the program
+abbrev pub ended_as : Ended → Result (Unit {0}) Failure
+ended_as (Done ends.AllFound) = Ok tt
+ended_as (Done ends.BlockFull) = Err BlockFull
+ended_as (Done ends.GaveUp) = Err GaveUp
+ended_as (Halted faults.Conflict) = Err Conflict
+ended_as (Halted faults.Store) = Err (Store (store.Store StoreFailed))
+
+-- what a fault is to the program, at a line of the driver
+abbrev pub failure_of : CommissionFault → ℕ → Failure
+failure_of (commission.Driver Memory) line = Refused
+failure_of (commission.Driver fault) line = Driver line fault
+failure_of (commission.Store error) line = Store (store.Store error)
+failure_of commission.QuestionLost line = GaveUp
+failure_of commission.StepsSpent line = Spent
+failure_of commission.RunsSpent line = Spent

@@ -1,0 +1,52 @@
+use Rattle.std.specs.Prelude.{◌≡◌, ℕ, zero, suc, ◌==◌, if◌then◌else◌, Bool, true, false, List, []}
+use Rattle.std.specs.Prelude.{◌∷◌, ◌++◌, Option, Some, None, codes, decimal}
+use Rattle.dali_frame.specs.Hex.{random_text}
+use Rattle.dali_script.specs.Records.{Assignment}
+use Rattle.dali_commission_program.specs.declared.table.Form.{Form}
+use Rattle.dali_commission_program.specs.declared.table.Form.TheVariants.{Text, Csv, Json}
+
+-- THE ROWS of a table: what is enrolled, by short address from 0 on.
+abbrev pub random_at : List Assignment → ℕ → Option ℕ
+random_at [] a = None
+random_at (p ∷ more) a = if p.0 == a then Some p.1 else random_at more a
+
+abbrev pub at_if : ℕ → Option ℕ → List Assignment
+at_if a None = []
+at_if a (Some r) = (a, r) ∷ []
+
+abbrev pub rows_below : ℕ → List Assignment → List Assignment
+rows_below zero xs = []
+rows_below (suc n) xs = rows_below n xs ++ at_if n (random_at xs n)
+
+abbrev pub rows : List Assignment → List Assignment
+rows xs = rows_below 64 xs
+
+-- ITS TEXT
+abbrev pub head : Form → List ℕ
+head Text = []
+head Csv = codes "address,random\n"
+head Json = codes "["
+
+abbrev pub separator : Form → Bool → List ℕ
+separator Json true = codes "\n"
+separator Json false = codes ",\n"
+separator form is_first = []
+
+abbrev pub tail : Form → List ℕ
+tail Json = codes "\n]\n"
+tail form = []
+
+abbrev pub row_text : Form → Assignment → List ℕ
+row_text Text p = decimal p.0 ++ (codes " " ++ (random_text p.1 ++ codes "\n"))
+row_text Csv p = decimal p.0 ++ (codes "," ++ (random_text p.1 ++ codes "\n"))
+row_text Json p =
+    codes "{\"address\":"
+    ++ (decimal p.0 ++ (codes ",\"random\":\"" ++ (random_text p.1 ++ codes "\"}")))
+
+abbrev pub rows_text : Form → Bool → List Assignment → List ℕ
+rows_text form is_first [] = []
+rows_text form is_first (p ∷ more) =
+    separator form is_first ++ (row_text form p ++ rows_text form false more)
+
+abbrev pub table_text : Form → List Assignment → List ℕ
+table_text form xs = head form ++ (rows_text form true (rows xs) ++ tail form)

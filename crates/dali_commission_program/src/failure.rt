@@ -1,0 +1,132 @@
+//! Why the program ends without having done what was asked for, and its exit statuses.
+
+ghost use Rattle.std.specs.Prelude.{◌≡◌};
+ghost use Rattle.std.specs.Process.{exit_status};
+ghost use Rattle.dali_commission_program.specs.Failures.{status_of, status_after, ended_as, failure_of};
+
+use crate::stores::StoreFault;
+use dali_commissioning::{CommissionFault, DriverFault, Ended};
+use dali_frame::Short;
+use dali_reserve::KeepError;
+use dali_script::{End, Fault};
+use std::fmt;
+use std::process::ExitCode;
+
+/// Why the program ends without having done what was asked for.
+#[derive(Clone, Copy, Debug, PartialEq, Eq)]
+pub enum Failure {
+    /// Status 1: gear answer to short addresses that no record names, so nothing was begun.
+    AddressedBefore,
+    /// Status 1: the gear are not as the records have them.
+    NotAsRecorded,
+    /// Status 2: the command line asks for nothing that this program does. `clap` says why.
+    BadCommandLine,
+    /// Status 2: a word of the command line is not UTF-8.
+    NotText,
+    /// Status 3: there is too little memory, or the command line cannot be read, or the output cannot be written.
+    Refused,
+    /// Status 4: at this line of the driver.
+    Driver(u64, DriverFault),
+    /// Status 5: the records.
+    Store(StoreFault),
+    /// Status 5: this short address is reserved, and lies outside of the block.
+    Outside(Short),
+    /// Status 6: gear without short address was found, and each address of the block is reserved.
+    BlockFull,
+    /// Status 7: the frames were lost, or searches led to no gear.
+    GaveUp,
+    /// Status 8: a gear was found that contradicts the records.
+    Conflict,
+    /// Status 9: the machines took as many steps, or were as many, as they may.
+    Spent,
+}
+
+/// What is said of it on standard error.
+impl fmt::Display for Failure {
+    fn fmt<W: fmt::Write>(&self, f: &mut fmt::Formatter<W>) -> fmt::Result {
+        match self {
+            Failure::AddressedBefore => {
+                f.write_str(
+                    "not begun: gear answer to short addresses that the records do not name",
+                )
+            }
+            Failure::NotAsRecorded => f.write_str("the gear are not as recorded"),
+            Failure::BadCommandLine => f.write_str("error: bad command line"),
+            Failure::NotText => f.write_str("error: an argument is not UTF-8"),
+            Failure::Refused => {
+                f.write_str("error: memory, the command line or the output is refused")
+            }
+            Failure::Driver(line, fault) => write!(f, "error: line {line} of the driver: {fault}"),
+            Failure::Store(fault) => write!(f, "error: {fault}"),
+            Failure::Outside(short) => {
+                let number = short.number();
+                write!(
+                    f,
+                    "error: short address {number} is reserved, and lies outside of the block"
+                )
+            }
+            Failure::BlockFull => f.write_str("ended: block-full"),
+            Failure::GaveUp => f.write_str("ended: gave-up"),
+            Failure::Conflict => f.write_str("ended: conflict"),
+            Failure::Spent => f.write_str("ended: too many steps"),
+        }
+    }
+}
+
+impl Failure {
+    /// The exit status of the program.
+    pub fn status(self) -> u8
+        ensures { result ≡ status_of self }
+    {
+        match self {
+            Failure::AddressedBefore | Failure::NotAsRecorded => 1,
+            Failure::BadCommandLine | Failure::NotText => 2,
+            Failure::Refused => 3,
+            Failure::Driver(..) => 4,
+            Failure::Store(_) | Failure::Outside(_) => 5,
+            Failure::BlockFull => 6,
+            Failure::GaveUp => 7,
+            Failure::Conflict => 8,
+            Failure::Spent => 9,
+        }
+    }
+}
+
+/// What the end of the last machine is to the program.
+pub fn ended_as(ended: Ended) -> Result<(), Failure>
+    ensures { result ≡ ended_as ended }
+{
+    match ended {
+        Ended::Done(End::AllFound) => Ok(()),
+        Ended::Done(End::BlockFull) => Err(Failure::BlockFull),
+        Ended::Done(End::GaveUp) => Err(Failure::GaveUp),
+        Ended::Halted(Fault::Conflict) => Err(Failure::Conflict),
+        // Never so: no machine is told that a commit failed.
+        Ended::Halted(Fault::Store) => {
+            Err(Failure::Store(StoreFault::Store(KeepError::StoreFailed)))
+        }
+    }
+}
+
+/// What a fault is to the program, at this line of the driver.
+pub fn failure_of(fault: CommissionFault, line: u64) -> Failure
+    ensures { result ≡ failure_of fault line }
+{
+    match fault {
+        CommissionFault::Driver(DriverFault::Memory) => Failure::Refused,
+        CommissionFault::Driver(fault) => Failure::Driver(line, fault),
+        CommissionFault::Store(error) => Failure::Store(StoreFault::Store(error)),
+        CommissionFault::QuestionLost => Failure::GaveUp,
+        CommissionFault::StepsSpent | CommissionFault::RunsSpent => Failure::Spent,
+    }
+}
+
+/// The exit status of a program that ends so.
+pub fn exit_code(ended: Result<(), Failure>) -> ExitCode
+    ensures { exit_status result ≡ status_after ended }
+{
+    match ended {
+        Ok(()) => ExitCode::SUCCESS,
+        Err(failure) => ExitCode::from(failure.status()),
+    }
+}

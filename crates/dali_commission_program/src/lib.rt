@@ -1,0 +1,16 @@
+//! The program `dali_commission`: what its words ask for, its records in a file, and what it says.
+#![tactic(auto)]
+
+mod failure;
+mod program;
+mod progress;
+mod reports;
+mod stores;
+mod table;
+mod tasks;
+mod words;
+
+pub use failure::{Failure, exit_code};
+pub use program::run_and_say;
+pub use stores::{Files, StoreFault, Stores};
+pub use table::{Form, push_table};

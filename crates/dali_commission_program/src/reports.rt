@@ -1,0 +1,112 @@
+//! What is said on standard error of what came of a task.
+
+use dali_commissioning::{Reply, Standing, is_known, stands};
+use dali_frame::{Random24, Short};
+use dali_script::{Block, Kept};
+use std::io::Eprint;
+
+const ADVICE: &str = "\
+What can be done:
+- they belong to another controller of this kind: name its block, as --others 16-31
+- they were used before: bring them to the factory's state (docs/INSTALLER.md says how), and run again
+- they are this controller's: take the file of its records";
+
+/// What is heard of a short address that is not accounted for.
+fn say_stranger<S: Eprint>(system: &S, number: usize, reply: Reply) {
+    let _ = match reply {
+        Reply::Silence => Ok(()),
+        Reply::Random(random) => eprintln!(system; "{number} {random} stranger"),
+        Reply::Unclear => eprintln!(system; "{number} - several strangers, or a disturbed bus"),
+        Reply::Several => eprintln!(system; "{number} - several strangers"),
+    };
+}
+
+/// Each short address that is not accounted for, and that a gear answers to. How many there are.
+fn say_strangers<S: Eprint>(system: &S, kept: &Kept, others: &[Block], replies: &[Reply]) -> usize {
+    let mut strangers = 0usize;
+    for (number, reply) in replies.iter().enumerate() {
+        if is_stranger(kept, others, number, *reply) {
+            strangers = strangers.saturating_add(1);
+            say_stranger(system, number, *reply);
+        }
+    }
+    strangers
+}
+
+fn is_stranger(kept: &Kept, others: &[Block], number: usize, reply: Reply) -> bool {
+    if reply == Reply::Silence {
+        return false;
+    }
+    match short_of(number) {
+        Some(short) => !is_known(kept, others, short),
+        None => false,
+    }
+}
+
+fn short_of(number: usize) -> Option<Short> {
+    Short::of(u8::try_from(number).ok()?)
+}
+
+/// Which gear answer that no record names, and what can be done.
+pub fn say_addressed<S: Eprint>(system: &S, kept: &Kept, others: &[Block], replies: &[Reply]) {
+    say_strangers(system, kept, others, replies);
+    let _ = eprintln!(system; "{ADVICE}");
+}
+
+/// What came of a run: how many gear were given an address, and how many stand in the table.
+pub fn say_commissioned<S: Eprint>(system: &S, given: usize, enrolled: usize, frames: u64) {
+    let _ = eprintln!(system;
+        "{given} gear were given an address, {enrolled} are in the table; {frames} frames"
+    );
+}
+
+fn say_standing<S: Eprint>(system: &S, short: Short, random: Random24, standing: Standing) {
+    let number = short.number();
+    let _ = match standing {
+        Standing::There => eprintln!(system; "{number} {random} there"),
+        Standing::Missing => eprintln!(system; "{number} {random} missing"),
+        Standing::Another(heard) => eprintln!(system;
+            "{number} {random} another gear answers: {heard}"
+        ),
+        Standing::Unclear => {
+            eprintln!(system; "{number} {random} several gear answer, or the bus is disturbed")
+        }
+        Standing::Several => eprintln!(system; "{number} {random} several gear answer"),
+    };
+}
+
+fn reply_of(replies: &[Reply], short: Short) -> Reply {
+    match replies.get(short.number() as usize) {
+        Some(reply) => *reply,
+        None => Reply::Silence,
+    }
+}
+
+/// Each gear that is enrolled, and where it stands. How many are not there.
+fn say_enrolled<S: Eprint>(system: &S, kept: &Kept, replies: &[Reply]) -> usize {
+    let mut wrong = 0usize;
+    for pair in kept.enrolled() {
+        let standing = stands(pair.1, reply_of(replies, pair.0));
+        if standing != Standing::There {
+            wrong = wrong.saturating_add(1);
+        }
+        say_standing(system, pair.0, pair.1, standing);
+    }
+    wrong
+}
+
+/// Where all gear stand, beside the records: each that is enrolled, and each stranger. Whether they are as recorded.
+pub fn say_checked<S: Eprint>(
+    system: &S,
+    kept: &Kept,
+    others: &[Block],
+    replies: &[Reply],
+) -> bool {
+    let wrong = say_enrolled(system, kept, replies);
+    let strangers = say_strangers(system, kept, others, replies);
+    let (enrolled, reserved) = (kept.enrolled().len(), kept.reserved().len());
+    let _ = eprintln!(system;
+        "{enrolled} in the table, {wrong} of them not there; {strangers} strangers; {reserved} addresses reserved"
+    );
+    wrong == 0 && strangers == 0
+}

@@ -1,0 +1,41 @@
+use crate::table::Form;
+use dali_frame::Short;
+use dali_script::Block;
+
+/// What a command line asks for.
+#[derive(Drop)]
+pub enum Task {
+    /// The gear are to be given short addresses.
+    Run(Setup),
+    /// What is heard of each short address is to be said beside the records.
+    Check(Bounds),
+    /// The gear with a short address is to show itself.
+    Identify(Short),
+    /// The table of the records of this name is to be written.
+    Table(String, Form),
+    /// Help or the version, which is printed.
+    Help,
+}
+
+/// How gear are to be given short addresses.
+#[derive(Drop)]
+pub struct Setup {
+    /// The name of the records.
+    pub records: String,
+    pub block: Block,
+    /// The blocks of other controllers.
+    pub others: Vec<Block>,
+    /// How many machines in a row are to have committed nothing, at least 1.
+    pub quiet_runs: u8,
+    /// Whether nothing is said of how far it is.
+    pub is_quiet: bool,
+}
+
+/// What is to be checked.
+#[derive(Drop)]
+pub struct Bounds {
+    /// The name of the records, if there are any.
+    pub records: Option<String>,
+    /// The blocks of other controllers.
+    pub others: Vec<Block>,
+}
