@@ -11,6 +11,7 @@ import time
 import lines
 
 HERE = pathlib.Path(__file__).resolve().parent
+MOST_FRAMES = 20000
 OPENING = (("A100", 0), ("A5FF", 1), ("A5FF", 2), ("A700", 1), ("A700", 2))
 
 
@@ -57,13 +58,16 @@ class Controller:
     """Gives gear short addresses, by `put(frame, asked, priority, half)`."""
 
     def __init__(self, put):
-        self.put, self.reserved, self.table = put, {}, {}
+        self.put, self.reserved, self.table, self.frames = put, {}, {}, 0
 
     def transact(self, *frames):
         """What is told of the frames of a transaction. It begins again where one was destroyed or lapsed."""
         while True:
             told = []
             for frame, asked, half in frames:
+                self.frames += 1
+                if self.frames > MOST_FRAMES:
+                    raise RuntimeError("the commissioning has no end")
                 told.append(self.put(frame, asked, 1 if told else 3, half))
                 if told[-1] in ("destroyed", "lapsed"):
                     break
