@@ -1,5 +1,6 @@
 """Joins a program and its driver by two pipes: tools/drive says how."""
 
+import contextlib
 import math
 import os
 import signal
@@ -14,7 +15,9 @@ NOT_STARTED = 127
 
 
 def say(text):
-    print(text, file=sys.stderr, flush=True)
+    """Says something on standard error. Where that is gone, as with a closed terminal, the run goes on all the same."""
+    with contextlib.suppress(OSError):
+        os.write(sys.stderr.fileno(), os.fsencode(f"{text}\n"))
 
 
 class Passing:
