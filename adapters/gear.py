@@ -205,31 +205,38 @@ class SiteFile:
     def __init__(self, path):
         self.path, self.file = pathlib.Path(path), None
 
+    def lock(self, file, path):
+        """Locks an open file, which is still to be the one at this path then."""
+        try:
+            fcntl.flock(file, fcntl.LOCK_EX | fcntl.LOCK_NB)
+            is_there = os.path.samestat(os.fstat(file.fileno()), os.stat(path))
+        except (BlockingIOError, FileNotFoundError):
+            is_there = False
+        self.check_free(is_there)
+
+    def check_free(self, is_free):
+        check(is_free, f"{self.path} is in use by another simulated bus")
+
     def read(self):
         """The text of the file, or None where it is missing."""
         try:
             self.file = open(self.path, encoding="utf-8")
         except FileNotFoundError:
             return None
-        self.lock()
+        self.lock(self.file, self.path)
         try:
             return self.file.read()
         except ValueError as why:
             raise lines.Fault(f"{self.path} is not JSON: {why}") from why
 
-    def lock(self):
-        try:
-            fcntl.flock(self.file, fcntl.LOCK_EX | fcntl.LOCK_NB)
-            is_there = os.path.samestat(os.fstat(self.file.fileno()), os.stat(self.path))
-        except BlockingIOError:
-            is_there = False
-        check(is_there, f"{self.path} is in use by another simulated bus")
-
     def write(self, text):
-        """Writes a file beside it and renames that, so that the file is whole at any moment; the new one is locked before."""
+        """Writes a file beside it, locked before, and renames that, so that the file is whole at any moment."""
         new = self.path.with_name(f"{self.path.name}.new")
-        file = open(new, "w", encoding="utf-8")
-        fcntl.flock(file, fcntl.LOCK_EX)
+        file = open(new, "a", encoding="utf-8")
+        self.lock(file, new)
+        # Somebody else made the file since it was found missing.
+        self.check_free(self.file or not self.path.exists())
+        file.truncate(0)
         file.write(text)
         file.flush()
         os.replace(new, self.path)
