@@ -1,5 +1,6 @@
 """What the tests of the drivers are made of: a driver that runs, a small controller, and a server that plays lines."""
 
+import os
 import pathlib
 import select
 import socket
@@ -20,7 +21,9 @@ class Driver:
 
     def __init__(self, name, *words):
         pipes = {"stdin": subprocess.PIPE, "stdout": subprocess.PIPE, "stderr": subprocess.PIPE}
-        self.ran = subprocess.Popen([HERE / name, *map(str, words)], bufsize=0, **pipes)
+        # A driver flushes its answers by itself, not because its environment says so.
+        env = {name: value for name, value in os.environ.items() if name != "PYTHONUNBUFFERED"}
+        self.ran = subprocess.Popen([HERE / name, *map(str, words)], bufsize=0, env=env, **pipes)
 
     def __enter__(self):
         return self
