@@ -1,0 +1,338 @@
+"""Simulated control gear on a bus. They behave as docs/RULES.md says; a file keeps what gear keep over a loss of power."""
+
+import argparse
+import fcntl
+import json
+import math
+import os
+import pathlib
+import random
+import re
+import time
+
+import lines
+
+MASK, MASK24, YES = 0xFF, 0xFFFFFF, 0xFF
+MOST_GEAR = 128
+FULL = 254
+DISABLED, ENABLED, WITHDRAWN = "disabled", "enabled", "withdrawn"
+INITIALISE, RANDOMISE, COMPARE, VERIFY, QUERY_SHORT = 0xA5, 0xA7, 0xA9, 0xB9, 0xBB
+# QUERY RANDOM ADDRESS (H), (M) and (L), with the place of the byte that they ask for.
+RANDOM_BYTES = {0xC2: 16, 0xC3: 8, 0xC4: 0}
+
+
+def short_of(byte):
+    """The short address that a byte `0AAAAAA1` writes, or None."""
+    return byte >> 1 if byte & 0x81 == 1 else None
+
+
+def is_send_twice(frame):
+    address_byte, data = frame
+    if address_byte == INITIALISE:
+        return data in (0, MASK) or short_of(data) is not None
+    return address_byte == RANDOMISE and data == 0
+
+
+def is_question(frame):
+    """Whether a backward frame is awaited after a frame."""
+    address_byte, data = frame
+    if address_byte in (COMPARE, QUERY_SHORT):
+        return data == 0
+    if address_byte == VERIFY:
+        return short_of(data) is not None
+    return short_of(address_byte) is not None and data in RANDOM_BYTES
+
+
+class Gear:
+    """One control gear. What it forgets at a loss of power begins anew with it."""
+
+    def __init__(self, short, random_address, level):
+        self.short, self.random, self.level = short, random_address, level
+        self.state, self.search, self.half = DISABLED, MASK24, None
+
+    def kept(self):
+        return self.short, self.random, self.level
+
+    def short_byte(self):
+        return MASK if self.short is None else 2 * self.short + 1
+
+    def is_active(self):
+        return self.state != DISABLED
+
+    def is_found(self):
+        return self.is_active() and self.random == self.search
+
+    def take(self, frame, draw):
+        """Takes a frame, and returns the byte that it answers, or None. `draw` gives the next random address.
+
+        Any frame that is taken makes an end of a half pair, and a send-twice command is executed at its second frame.
+        """
+        first, self.half = self.half, None
+        if is_send_twice(frame) and first != frame:
+            self.half = frame
+            return None
+        address_byte, data = frame
+        if address_byte % 2 == 0:
+            return self.take_level(address_byte, data)
+        if address_byte in COMMANDS:
+            return COMMANDS[address_byte](self, data, draw)
+        if self.short is not None and short_of(address_byte) == self.short and data in RANDOM_BYTES:
+            return self.random >> RANDOM_BYTES[data] & 0xFF
+        return None
+
+    def take_level(self, address_byte, level):
+        """Direct arc power, to one short address, to all (`FE`) or to those without short address (`FC`)."""
+        is_meant = address_byte == 0xFE or address_byte == (0xFC if self.short is None else 2 * self.short)
+        if is_meant and level != MASK:
+            self.level = level
+
+    def terminate(self, data, _draw):
+        if data == 0:
+            self.state = DISABLED
+
+    def initialise(self, data, _draw):
+        if data in (0, self.short_byte()):
+            self.state = ENABLED
+
+    def randomise(self, data, draw):
+        if data == 0 and self.is_active():
+            self.random = draw()
+
+    def compare(self, data, _draw):
+        return YES if data == 0 and self.state == ENABLED and self.random <= self.search else None
+
+    def withdraw(self, data, _draw):
+        if data == 0 and self.state == ENABLED and self.is_found():
+            self.state = WITHDRAWN
+
+    def search_high(self, data, _draw):
+        self.take_search(16, data)
+
+    def search_middle(self, data, _draw):
+        self.take_search(8, data)
+
+    def search_low(self, data, _draw):
+        self.take_search(0, data)
+
+    def take_search(self, place, data):
+        if self.is_active():
+            self.search = self.search & ~(0xFF << place) | data << place
+
+    def program(self, data, _draw):
+        if self.is_found() and (data == MASK or short_of(data) is not None):
+            self.short = short_of(data)
+
+    def verify(self, data, _draw):
+        return YES if self.is_active() and short_of(data) is not None and short_of(data) == self.short else None
+
+    def query_short(self, data, _draw):
+        return self.short_byte() if data == 0 and self.is_found() else None
+
+
+COMMANDS = {
+    0xA1: Gear.terminate,
+    INITIALISE: Gear.initialise,
+    RANDOMISE: Gear.randomise,
+    COMPARE: Gear.compare,
+    0xAB: Gear.withdraw,
+    0xB1: Gear.search_high,
+    0xB3: Gear.search_middle,
+    0xB5: Gear.search_low,
+    0xB7: Gear.program,
+    VERIFY: Gear.verify,
+    QUERY_SHORT: Gear.query_short,
+}
+
+
+def check(holds, what):
+    if not holds:
+        raise lines.Fault(what)
+
+
+def number_of(text, what):
+    check(isinstance(text, str) and re.fullmatch("[0-9A-Fa-f]{6}", text), f"{what} is not six hexadecimal digits in quotes")
+    return int(text, 16)
+
+
+def is_whole(value, most):
+    """Whether a value of a file is a whole number from 0 to the most; true and false are none."""
+    return type(value) is int and 0 <= value <= most
+
+
+def has_keys(value, *keys):
+    return isinstance(value, dict) and set(value) == set(keys)
+
+
+def gear_of(value, what):
+    """A gear as its file has it."""
+    keys = ("short_address", "random_address", "level")
+    check(has_keys(value, *keys), f"{what} is not {{{', '.join(keys)}}}")
+    short, level = value["short_address"], value["level"]
+    check(short is None or is_whole(short, 63), f"{what}: short_address is neither null nor a number from 0 to 63")
+    check(is_whole(level, FULL), f"{what}: level is not a number from 0 to {FULL}")
+    return Gear(short, number_of(value["random_address"], f"{what}: random_address"), level)
+
+
+def read_site(text, what):
+    """The gear that the text of a file has, and the number that was drawn last."""
+    try:
+        value = json.loads(text)
+    except (ValueError, RecursionError) as why:
+        raise lines.Fault(f"{what} is not JSON: {why}") from why
+    check(has_keys(value, "last_drawn", "gear"), f"{what}: it is not {{last_drawn, gear}}")
+    last_drawn = number_of(value["last_drawn"], f"{what}: last_drawn")
+    check(isinstance(value["gear"], list), f"{what}: gear is not a list")
+    check(len(value["gear"]) <= MOST_GEAR, f"{what}: more than {MOST_GEAR} gear")
+    gear = [gear_of(it, f"{what}: gear {at}") for at, it in enumerate(value["gear"])]
+    holders = {}
+    for at, it in enumerate(gear):
+        other = holders.setdefault(it.random, at)
+        is_one = other != at and it.random != MASK24
+        check(not is_one, f"{what}: gear {other} and gear {at} have one random_address, {it.random:06X}")
+    return gear, last_drawn
+
+
+def site_text(gear, last_drawn):
+    """The text of a file, a line for each gear."""
+    rows = [{"short_address": it.short, "random_address": f"{it.random:06X}", "level": it.level} for it in gear]
+    them = ",\n".join(f"  {json.dumps(it)}" for it in rows)
+    return f'{{\n "last_drawn": "{last_drawn:06X}",\n "gear": [\n{them}\n ]\n}}\n'
+
+
+class SiteFile:
+    """The file of a site. It is locked as long as a simulated bus has it, since that writes what it has in memory."""
+
+    def __init__(self, path):
+        self.path, self.file = pathlib.Path(path), None
+
+    def lock(self, file, path):
+        """Locks an open file, which is still to be the one at this path then."""
+        try:
+            fcntl.flock(file, fcntl.LOCK_EX | fcntl.LOCK_NB)
+            is_there = os.path.samestat(os.fstat(file.fileno()), os.stat(path))
+        except (BlockingIOError, FileNotFoundError):
+            is_there = False
+        self.check_free(is_there)
+
+    def check_free(self, is_free):
+        check(is_free, f"{self.path} is in use by another simulated bus")
+
+    def read(self):
+        """The text of the file, or None where it is missing."""
+        try:
+            self.file = open(self.path, encoding="utf-8")
+        except FileNotFoundError:
+            return None
+        self.lock(self.file, self.path)
+        try:
+            return self.file.read()
+        except ValueError as why:
+            raise lines.Fault(f"{self.path} is not JSON: {why}") from why
+
+    def write(self, text):
+        """Writes a file beside it, locked before, and renames that, so that the file is whole at any moment."""
+        new = self.path.with_name(f"{self.path.name}.new")
+        file = open(new, "a", encoding="utf-8")
+        self.lock(file, new)
+        # Somebody else made the file since it was found missing.
+        self.check_free(self.file or not self.path.exists())
+        file.truncate(0)
+        file.write(text)
+        file.flush()
+        os.replace(new, self.path)
+        if self.file:
+            self.file.close()
+        self.file = file
+
+
+class Bus:
+    """A bus with gear, and what goes wrong on it by chance."""
+
+    def __init__(self, chosen):
+        self.chosen, self.chance, self.file = chosen, random.Random(chosen.seed), SiteFile(chosen.file)
+        text = self.file.read()
+        if text is None:
+            self.gear = [Gear(None, MASK24, FULL) for _ in range(chosen.gear)]
+            self.last_drawn = self.chance.randrange(MASK24)
+            self.kept = None
+        else:
+            self.gear, self.last_drawn = read_site(text, chosen.file)
+            self.kept = self.keeps()
+        self.keep()
+
+    def keeps(self):
+        return [it.kept() for it in self.gear]
+
+    def keep(self):
+        """Writes the file, where gear keep anything else than it has."""
+        if self.keeps() != self.kept:
+            self.kept = self.keeps()
+            self.file.write(site_text(self.gear, self.last_drawn))
+
+    def draw(self):
+        """The next random address. A congruential generator of full period gives each number of 24 bits once."""
+        taken = {MASK24, *(it.random for it in self.gear)}
+        self.last_drawn = self.next_drawn()
+        while self.last_drawn in taken:
+            self.last_drawn = self.next_drawn()
+        return self.last_drawn
+
+    def next_drawn(self):
+        return (self.last_drawn * 1140671485 + 12820163) & MASK24
+
+    def happens(self, chance):
+        return self.chance.random() < chance
+
+    def put(self, frame, awaits):
+        """What a driver tells of a frame, after which it awaits a backward frame or none.
+
+        Where it lapsed, it was not sent, so no gear takes it and half pairs stay. A gear that takes a destroyed frame takes it
+        like any other.
+        """
+        time.sleep(self.chosen.slow)
+        if self.happens(self.chosen.lapse):
+            return lines.LAPSED
+        is_destroyed = self.happens(self.chosen.destroy)
+        takers = [it for it in self.gear if not is_destroyed or self.happens(0.5)]
+        answers = [byte for it in takers if (byte := it.take(frame, self.draw)) is not None]
+        self.keep()
+        if is_destroyed:
+            return lines.DESTROYED
+        return self.heard(answers) if awaits else lines.SILENCE
+
+    def heard(self, answers):
+        """What is heard of the backward frames. Several equal ones are one byte or damaged, others together are damaged."""
+        told = lines.SILENCE
+        if answers and not self.happens(self.chosen.lose):
+            is_clear = len(answers) == 1 or len(set(answers)) == 1 and self.happens(0.5)
+            told = lines.byte(answers[0]) if is_clear else lines.DAMAGED
+        return lines.DAMAGED if self.happens(self.chosen.damage) else told
+
+
+def measure(most):
+    """Reads a word that is a number from 0 to the most, with a point or not."""
+
+    def read(word):
+        try:
+            value = float(word)
+        except ValueError:
+            value = math.nan
+        if not 0 <= value <= most:
+            raise argparse.ArgumentTypeError(f"'{word}' is no number from 0 to {most}")
+        return value
+
+    return read
+
+
+def add_words(options):
+    """The words of a simulated bus on a command line."""
+    chance = {"type": measure(1), "default": 0, "metavar": "P"}
+    count = lines.whole(0, MOST_GEAR)
+    options.add_argument("file", metavar="FILE", help="the gear and what they keep, as JSON; made where it is missing")
+    options.add_argument("--gear", type=count, default=5, metavar="N", help="how many gear a new FILE has (5)")
+    options.add_argument("--seed", type=int, metavar="S", help="where chances and a new FILE's random addresses come from")
+    options.add_argument("--lose", **chance, help="the chance of each frame that what gear answer is lost, from 0 to 1")
+    options.add_argument("--damage", **chance, help="that something damaged is heard where an answer is awaited")
+    options.add_argument("--destroy", **chance, help="that it is destroyed; each gear takes it all the same, or not at all")
+    options.add_argument("--lapse", **chance, help="that it is not sent")
+    options.add_argument("--slow", type=measure(60), default=0, metavar="SECONDS", help="how long each frame takes")

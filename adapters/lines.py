@@ -1,0 +1,73 @@
+"""The lines between the program and a driver, as docs/ADAPTERS.md has them.
+
+A driver hands `serve` a function `send(priority, frame, is_question, half)`, which sends one frame and returns what it tells.
+"""
+
+import argparse
+import os
+import re
+import sys
+
+SILENCE, DAMAGED, DESTROYED, LAPSED = "silence", "damaged", "destroyed", "lapsed"
+PUT = re.compile(rb"put ([1-5]) ([0-9A-Fa-f]{4}) (ask|tell)(?: pair ([12]))?\n")
+# The longest line is read so far that a message can show where it went wrong.
+LONGEST = 64
+
+
+class Fault(Exception):
+    """What ends a driver."""
+
+
+def byte(value):
+    """What is told of a backward frame."""
+    return f"byte {value:02X}"
+
+
+def read_put():
+    """The words of the next line for `send`, or None where the input ended."""
+    line = sys.stdin.buffer.readline(LONGEST)
+    if not line:
+        return None
+    form = PUT.fullmatch(line)
+    if not form:
+        raise Fault(f"no line of the form 'put P HHHH ask|tell [pair 1|2]': {line.decode(errors='backslashreplace')!r}")
+    priority, frame, asked, half = form.groups()
+    return int(priority), bytes.fromhex(frame.decode()), asked == b"ask", int(half or 0)
+
+
+def tell(told):
+    """Writes an answer, past all buffers."""
+    try:
+        os.write(sys.stdout.fileno(), f"{told}\n".encode())
+    except OSError as why:
+        raise Fault(f"the answer '{told}' cannot be written: {why.strerror}") from why
+
+
+def serve(send):
+    """Answers each line with what `send` tells of its frame, until the input ends."""
+    while words := read_put():
+        tell(send(*words))
+
+
+def whole(least, most):
+    """Reads a word of the command line that is a whole number from the least to the most."""
+
+    def read(word):
+        if not re.fullmatch("[0-9]{1,9}", word) or not least <= int(word) <= most:
+            raise argparse.ArgumentTypeError(f"'{word}' is no number from {least} to {most}")
+        return int(word)
+
+    return read
+
+
+def run(main):
+    """Runs a driver. A fault ends it with status 1 and a message on standard error."""
+    name = os.path.basename(sys.argv[0])
+    try:
+        main()
+    except Fault as fault:
+        sys.exit(f"{name}: {fault}")
+    except OSError as why:
+        sys.exit(f"{name}: {why.filename}: {why.strerror}" if why.filename else f"{name}: {why}")
+    except KeyboardInterrupt:
+        sys.exit(130)
