@@ -1,16 +1,34 @@
-"""The help and the version of `dali_sim`: tools/help has them, so that they are there before the program is built."""
+"""The help and the version of the programs: tools/help has them, so that they are there before a program is built."""
 
 import pathlib
 import subprocess
 
+import proving
+
 FOLDER = pathlib.Path(__file__).resolve().parent / "help"
-# The file of each, and the words that ask the program for it.
+# Of each program the file of each text, and the words that ask for it.
 WORDS = {
-    "dali_sim.txt": ["--help"],
-    "dali_sim-replay.txt": ["replay", "--help"],
-    "dali_sim-threads.txt": ["threads", "--help"],
-    "dali_sim-version.txt": ["--version"],
+    "dali_sim": {
+        "dali_sim.txt": ["--help"],
+        "dali_sim-replay.txt": ["replay", "--help"],
+        "dali_sim-threads.txt": ["threads", "--help"],
+        "dali_sim-version.txt": ["--version"],
+    },
+    "dali_commission": {
+        "dali_commission.txt": ["--help"],
+        "dali_commission-run.txt": ["run", "--help"],
+        "dali_commission-check.txt": ["check", "--help"],
+        "dali_commission-identify.txt": ["identify", "--help"],
+        "dali_commission-table.txt": ["table", "--help"],
+        "dali_commission-version.txt": ["--version"],
+    },
 }
+
+
+def texts(name, program):
+    """What each file is to have by a program of this name, which stands at this place."""
+    program = program or proving.CRATES / name / "out" / name
+    return {FOLDER / file: said(program, words) for file, words in WORDS[name].items()}
 
 
 def said(program, words):
@@ -18,13 +36,12 @@ def said(program, words):
     return subprocess.run([program, *words], capture_output=True, stdin=subprocess.DEVNULL, check=True).stdout
 
 
-def stale(program):
+def stale(name, program=None):
     """The files that have something else than the program says."""
-    kept = ((FOLDER / name, said(program, words)) for name, words in WORDS.items())
-    return [file for file, text in kept if not file.is_file() or file.read_bytes() != text]
+    return [file for file, text in texts(name, program).items() if not file.is_file() or file.read_bytes() != text]
 
 
-def write(program):
+def write(name, program=None):
     FOLDER.mkdir(exist_ok=True)
-    for name, words in WORDS.items():
-        (FOLDER / name).write_bytes(said(program, words))
+    for file, text in texts(name, program).items():
+        file.write_bytes(text)

@@ -182,7 +182,7 @@ def headings(file):
 
 def paths(root):
     """Paths of the repository that documents name, as `docs/FORMAT.md` or `tools/launch`, are there."""
-    tops = ("crates", "extra", "docs", "tools", "bench", "examples", "include")
+    tops = ("crates", "extra", "adapters", "docs", "tools", "bench", "examples", "include")
     for file in everywhere(root, ".md"):
         if file.name == "CHANGELOG.md":
             continue

@@ -7,6 +7,6 @@ use std::io::IsTerminal;
 use std::process::ExitCode;
 
 fn main(rt: HostRuntime) -> ExitCode {
-    let is_terminal = rt.stderr().is_terminal();
+    let is_terminal = IsTerminal::is_terminal(&rt.stderr());
     exit_code(run_and_say(&rt, &Files::of(&rt), is_terminal))
 }

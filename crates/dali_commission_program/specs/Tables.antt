@@ -1,4 +1,4 @@
-use Rattle.std.specs.Prelude.{◌≡◌, ℕ, zero, suc, ◌==◌, if◌then◌else◌, Bool, true, false, List, []}
+use Rattle.std.specs.Prelude.{ℕ, zero, suc, ◌==◌, if◌then◌else◌, Bool, true, false, List, []}
 use Rattle.std.specs.Prelude.{◌∷◌, ◌++◌, Option, Some, None, codes, decimal}
 use Rattle.dali_frame.specs.Hex.{random_text}
 use Rattle.dali_script.specs.Records.{Assignment}
@@ -14,7 +14,7 @@ abbrev pub at_if : ℕ → Option ℕ → List Assignment
 at_if a None = []
 at_if a (Some r) = (a, r) ∷ []
 
-abbrev pub rows_below : ℕ → List Assignment → List Assignment
+unfoldable pub rows_below : ℕ → List Assignment → List Assignment
 rows_below zero xs = []
 rows_below (suc n) xs = rows_below n xs ++ at_if n (random_at xs n)
 

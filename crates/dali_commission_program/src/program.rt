@@ -1,6 +1,6 @@
 //! The program: what it reads of the system, does, and says.
 
-ghost use Rattle.std.specs.Prelude.{◌≡◌, OnOk};
+ghost use Rattle.std.specs.Prelude.{OnOk};
 ghost use Rattle.std.specs.Io.KnownBytes.{Appends};
 ghost use Rattle.dali_commission_program.specs.Tables.{table_text};
 
@@ -21,7 +21,7 @@ use std::io::{Eprint, Read, Write};
 use std::time::{Clock, Duration};
 use std::{io, thread};
 
-/// How often a gear goes bright and dark, how long it stays so in milliseconds, and how often in a row a frame is tried.
+/// How often a gear goes bright and dark, for how many milliseconds, and how often in a row a frame is tried.
 const BLINKS: u8 = 5;
 
 const STAYS: u64 = 1_000;
@@ -55,10 +55,10 @@ fn all_addresses() -> Block {
 }
 
 /// Why records are none of a block, if one of all addresses takes them.
-fn refused<F: Stores>(stores: &F, name: &str, block: Block) -> Failure {
+fn refused<F: Stores>(stores: &F, name: &str, block: &Block) -> Failure {
     match stores.open(name, all_addresses()) {
         Ok(mut store) => match store.read() {
-            Ok(kept) => match outside(&kept, block) {
+            Ok(kept) => match outside(&kept, *block) {
                 Some(short) => Failure::Outside(short),
                 None => Failure::Store(StoreFault::Store(KeepError::BadStore)),
             },
@@ -70,11 +70,14 @@ fn refused<F: Stores>(stores: &F, name: &str, block: Block) -> Failure {
 
 /// The records of a name, for a controller with this block.
 fn opened<F: Stores>(stores: &F, name: &str, block: Block) -> Result<F::Store, Failure> {
-    match stores.open(name, block) {
-        Ok(store) => Ok(store),
-        Err(StoreFault::Store(KeepError::BadStore)) => Err(refused(stores, name, block)),
-        Err(fault) => Err(Failure::Store(fault)),
+    let fault = match stores.open(name, block) {
+        Ok(store) => return Ok(store),
+        Err(fault) => fault,
+    };
+    if fault == StoreFault::Store(KeepError::BadStore) {
+        return Err(refused(stores, name, &block));
     }
+    Err(Failure::Store(fault))
 }
 
 /// The records of a name that are there.
@@ -309,19 +312,24 @@ where
     }
 }
 
-/// Does what the words of the command line ask for, and says on standard error why it ended before its end. What is
-/// said there changes nothing, also where it cannot be said. The driver is the system's input and output.
+/// Says on standard error why the program ended, where `clap` has not said it. What is said changes nothing, also where
+/// it cannot be said.
+fn say_why<S: Eprint>(system: &S, failure: &Failure) {
+    if *failure != Failure::BadCommandLine {
+        let _ = eprintln!(system; "{failure}");
+    }
+}
+
+/// Does what the words of the command line ask for, and says on standard error why it ended before its end. The driver
+/// is the system's input and output.
 pub fn run_and_say<S, F>(system: &S, stores: &F, is_terminal: bool) -> Result<(), Failure>
 where
     S: Env + Input + Print + Eprint + AllocGlobal + Clock,
     F: Stores,
 {
     let ended = does(system, stores, is_terminal);
-    match ended {
-        Ok(()) | Err(Failure::BadCommandLine) => {}
-        Err(failure) => {
-            let _ = eprintln!(system; "{failure}");
-        }
+    if let Err(failure) = &ended {
+        say_why(system, failure);
     }
     ended
 }

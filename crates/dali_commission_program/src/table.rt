@@ -42,7 +42,7 @@ fn add_if(rows: &mut ArrayVec<(Short, Random24), 64>, short: Short, random: Opti
 }
 
 /// The gear that are enrolled, by their short addresses.
-#[tactic(auto, using(crate::proofs::Rows::one_more))]
+#[tactic(auto, using(crate::proofs::Rows::none, crate::proofs::Rows::one_more))]
 fn rows(kept: &Kept) -> ArrayVec<(Short, Random24), 64>
     ensures { result.items ≡ rows kept.now.enrolled }
 {

@@ -12,7 +12,6 @@ use dali_frame::Short;
 use dali_script::Block;
 use std::alloc::{AllocError, Global};
 use std::io::Eprint;
-use std::str::FromStr;
 
 const LONG_ABOUT: &str = "\
 Gives short addresses to the DALI control gear on a bus, and keeps its records in a file.
@@ -155,8 +154,8 @@ fn fault(alloc: Global, kind: ErrorKind, message: &str) -> Result<Error, AllocEr
 /// A block of short addresses, as `0-63`.
 fn block_of(word: &str) -> Option<Block> {
     let (first, last) = word.split_once("-")?;
-    let first = Short::of(u8::from_str(first).ok()?)?;
-    let last = Short::of(u8::from_str(last).ok()?)?;
+    let first = Short::of(first.parse().ok()?)?;
+    let last = Short::of(last.parse().ok()?)?;
     if first <= last {
         Some(Block { first, last })
     } else {

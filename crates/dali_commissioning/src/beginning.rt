@@ -1,6 +1,6 @@
 //! What comes first: the records are read, and the gear are asked that no record names.
 
-ghost use Rattle.std.specs.Prelude.{◌≡◌, ◌<◌, IfOk, IfErr, MatchOption};
+ghost use Rattle.std.specs.Prelude.{◌≡◌, ◌<◌, IfOk, IfErr};
 ghost use Rattle.dali_script.specs.Records.{without_records};
 ghost use Rattle.dali_commissioning.specs.Drivers.{talk_of};
 ghost use Rattle.dali_commissioning.specs.Census.{AreCounted};
@@ -57,8 +57,8 @@ pub fn begin<K: Keep, R: Read, W: Write, P: Watch>(
     quiet_runs: u8,
 ) -> Result<Begun, CommissionFault>
     requires some { 0 < quiet_runs }
-    ensures begun { IfOk result (IsBegun K.is_up K.is_sound K.holds (K.block keep.old) others.now quiet_runs keep.old keep.new
-        (talk_of R.remaining W.contents driver.old) (talk_of R.remaining W.contents driver.new)) }
+    ensures begun { IfOk result (IsBegun K.is_up K.is_sound K.holds (K.block keep.old) others.now quiet_runs
+        keep.old keep.new (talk_of R.remaining W.contents driver.old) (talk_of R.remaining W.contents driver.new)) }
     ensures left { IfErr result (λ _. Grows K.is_up K.is_sound K.holds keep.old keep.new) }
     ensures block { K.block keep.new ≡ K.block keep.old }
 {
@@ -80,7 +80,8 @@ pub fn check<K: Keep, R: Read, W: Write>(
     driver: &mut Driver<R, W>,
     others: &[Block],
 ) -> Result<(Kept, ArrayVec<Reply, 64>), CommissionFault>
-    ensures read { IfOk result (λ found. IsRead K.is_up K.is_sound K.holds (K.block keep.old) keep.old keep.new found.0) }
+    ensures read { IfOk result (λ found. IsRead K.is_up K.is_sound K.holds (K.block keep.old) keep.old keep.new
+        found.0) }
     ensures counted { IfOk result (λ found. AreCounted (without_records (K.block keep.old)) others.now 0 found.1.items
         (talk_of R.remaining W.contents driver.old) (talk_of R.remaining W.contents driver.new)) }
     ensures left { IfErr result (λ _. Grows K.is_up K.is_sound K.holds keep.old keep.new) }

@@ -86,7 +86,8 @@ fn put<R: Read, W: Write>(
     ensures due { IfOk result (λ told. accepts due.Bus told ≡ true) }
     ensures wrote { IfOk result (λ _. Appends (W.contents (writer_of driver.old)) (W.contents (writer_of driver.new))
         (order_line waiting.old (Some (Put priority frame)))) }
-    ensures read { IfOk result (Hears (talk_of R.remaining W.contents driver.old) (talk_of R.remaining W.contents driver.new)) }
+    ensures read { IfOk result (Hears (talk_of R.remaining W.contents driver.old)
+        (talk_of R.remaining W.contents driver.new)) }
     ensures waiting { IfOk result (λ told. waiting.new
         ≡ if_heard told (opened_by waiting.old (Some (Put priority frame)))) }
 {
@@ -132,7 +133,8 @@ fn answer<K: Keep, R: Read, W: Write>(
     ensures due { IfOk result (λ told. accepts (due_after (Some order.now)) told ≡ true) }
     ensures wrote { IfOk result (λ told. Appends (W.contents (writer_of driver.old)) (W.contents (writer_of driver.new))
         (order_line waiting.old (Some order.now))) }
-    ensures read { IfOk result (Hears (talk_of R.remaining W.contents driver.old) (talk_of R.remaining W.contents driver.new)) }
+    ensures read { IfOk result (Hears (talk_of R.remaining W.contents driver.old)
+        (talk_of R.remaining W.contents driver.new)) }
     ensures waiting { IfOk result (λ told. waiting.new ≡ if_heard told (opened_by waiting.old (Some order.now))) }
     ensures stays { Stays K.is_up K.is_sound keep.old keep.new }
     ensures block { K.block keep.new ≡ K.block keep.old }

@@ -101,8 +101,8 @@ impl<R: Read, W: Write> Driver<R, W> {
 
     /// A line of the driver, without its line feed. It is read a byte at a time, so that nothing behind it is taken.
     fn read_line(&mut self) -> Result<ArrayVec<u8, 16>, DriverFault>
-        ensures line { IfOk result (λ line. Consumes (R.remaining (reader_of self.old)) (R.remaining (reader_of self.new))
-            (line.items ++ 10 ∷ [])) }
+        ensures line { IfOk result (λ line. Consumes (R.remaining (reader_of self.old))
+            (R.remaining (reader_of self.new)) (line.items ++ 10 ∷ [])) }
         ensures writer { writer_of self.new ≡ writer_of self.old }
         ensures lines { lines_of self.new ≡ next_line (lines_of self.old) }
     {

@@ -1,132 +1,10 @@
 //! `dali_sim`, played whole by its command line.
 
 use dali_command_line::run_and_say;
-use std::alloc::{Alloc, Allocator, Global};
-use std::cell::RefCell;
-use std::env::{Env, FillError};
-use std::fmt::Display;
-use std::io::{BufRead, Eprint, ErrorKind, Lines, Write};
+use dali_desk::Desk;
 use std::process::Abort;
 use std::sync::Wait;
 use std::thread::Threads;
-use std::{io, str};
-
-/// A system with a command line and an input, which keeps what is written and what is said beside it. Where its output
-/// is full, that takes nothing.
-#[derive(Drop)]
-struct Desk<'a> {
-    alloc: Global,
-    words: &'a [u8],
-    input: &'a str,
-    is_full: bool,
-    written: RefCell<Vec<u8>>,
-    said: RefCell<Vec<u8>>,
-}
-
-/// One more text at the end of what is kept.
-fn keep<D: Display + Drop>(kept: &RefCell<Vec<u8>>, value: D, end: &str) -> io::Result<()> {
-    match kept.try_borrow_mut() {
-        Ok(mut bytes) => write!(bytes, "{value}{end}"),
-        Err(_) => Err(io::Error::from(ErrorKind::Other)),
-    }
-}
-
-impl Desk<'_> {
-    /// Whether the output takes anything.
-    fn room(&self) -> io::Result<()> {
-        if self.is_full {
-            Err(io::Error::from(ErrorKind::StorageFull))
-        } else {
-            Ok(())
-        }
-    }
-}
-
-impl Alloc for Desk<'_> {
-    type A = Global;
-
-    fn alloc(&self) -> Global {
-        self.alloc
-    }
-}
-
-impl Env for Desk<'_> {
-    fn arg(&self, i: usize, buf: &mut [u8]) -> Result<usize, FillError> {
-        let Some(bytes) = self.words.split(|byte| *byte == b' ').nth(i) else {
-            return Err(FillError::NotPresent);
-        };
-        if buf.len() < bytes.len() {
-            return Err(FillError::TooLong);
-        }
-        buf[..bytes.len()].copy_from_slice(bytes);
-        Ok(bytes.len())
-    }
-
-    fn var(&self, _name: &str, _buf: &mut [u8]) -> Result<usize, FillError> {
-        Err(FillError::NotPresent)
-    }
-
-    fn var_at(&self, _i: usize, _buf: &mut [u8]) -> Result<usize, FillError> {
-        Err(FillError::NotPresent)
-    }
-}
-
-impl<'a> Input for Desk<'a> {
-    type Reader = &'a [u8];
-
-    fn read_line<A: Allocator + Clone>(&self, _buf: &mut String<A>) -> io::Result<usize> {
-        Err(io::Error::from(ErrorKind::Unsupported))
-    }
-
-    fn lines<A: Allocator>(&self, alloc: A) -> Lines<&'a [u8], A> {
-        self.reader().lines(alloc)
-    }
-
-    fn reader(&self) -> &'a [u8] {
-        self.input.as_bytes()
-    }
-}
-
-impl Print for Desk<'_> {
-    fn print<D: Display + Drop>(&self, value: D) -> io::Result<()> {
-        self.room()?;
-        keep(&self.written, value, "")
-    }
-
-    fn println<D: Display + Drop>(&self, value: D) -> io::Result<()> {
-        self.room()?;
-        keep(&self.written, value, "\n")
-    }
-
-    fn write_all(&self, bytes: &[u8]) -> io::Result<()> {
-        self.room()?;
-        match self.written.try_borrow_mut() {
-            Ok(mut written) => written.write_all(bytes),
-            Err(_) => Err(io::Error::from(ErrorKind::Other)),
-        }
-    }
-}
-
-impl Eprint for Desk<'_> {
-    fn eprint<D: Display + Drop>(&self, value: D) -> io::Result<()> {
-        keep(&self.said, value, "")
-    }
-
-    fn eprintln<D: Display + Drop>(&self, value: D) -> io::Result<()> {
-        keep(&self.said, value, "\n")
-    }
-}
-
-/// Whether what is kept has this text, or is empty where the text is.
-fn has(kept: &RefCell<Vec<u8>>, text: &str) -> bool {
-    let Ok(bytes) = kept.try_borrow() else {
-        return false;
-    };
-    match str::from_utf8(bytes.as_slice()) {
-        Ok(kept) => kept.contains(text) && kept.is_empty() == text.is_empty(),
-        Err(_) => false,
-    }
-}
 
 /// What the program is to end with: its status, what it has written and what it has said.
 type End<'a> = (u8, &'a str, &'a str);
@@ -138,20 +16,8 @@ fn ends_at<R: Abort + Threads + Wait + Sync>(rt: &R, desk: &Desk<'_>, end: End<'
         Err(failure) => failure.status(),
     };
     assert!(rt; status == end.0);
-    assert!(rt; has(&desk.written, end.1));
-    assert!(rt; has(&desk.said, end.2));
-}
-
-/// A system with this command line and this input, and an empty output.
-fn empty_desk<'a>(alloc: Global, words: &'a [u8], input: &'a str) -> Desk<'a> {
-    Desk {
-        alloc,
-        words,
-        input,
-        is_full: false,
-        written: RefCell::new(Vec::new(alloc)),
-        said: RefCell::new(Vec::new(alloc)),
-    }
+    assert!(rt; desk.has_written(end.1));
+    assert!(rt; desk.has_said(end.2));
 }
 
 /// The program with this command line and this input ends so.
@@ -161,7 +27,7 @@ fn ends<R: Abort + AllocGlobal + Threads + Wait + Sync>(
     input: &str,
     end: End<'_>,
 ) {
-    ends_at(rt, &empty_desk(rt.alloc(), words, input), end);
+    ends_at(rt, &Desk::new(rt.alloc(), words, input), end);
 }
 
 /// The program with this command line and this input ends with status 3 where its output takes nothing.
@@ -171,9 +37,7 @@ fn is_refused<R: Abort + AllocGlobal + Threads + Wait + Sync>(
     input: &str,
     said: &str,
 ) {
-    let mut desk = empty_desk(rt.alloc(), words, input);
-    desk.is_full = true;
-    ends_at(rt, &desk, (3, "", said));
+    ends_at(rt, &Desk::full(rt.alloc(), words, input), (3, "", said));
 }
 
 #[test]

@@ -1,0 +1,155 @@
+//! The loop over lines in memory, with each fault of reader, writer and store.
+
+use super::broken::Broken;
+use dali_commissioning::{
+    CommissionFault, Driver, DriverFault, Ended, Unwatched, commission, told_of,
+};
+use dali_frame::{Answer, Short};
+use dali_reserve::{Keep, KeepError, MemoryKeep};
+use dali_script::{Block, End, Input, Kept};
+use std::io::Write;
+use std::process::Abort;
+
+/// The block of all short addresses.
+pub fn all_addresses() -> Option<Block> {
+    let first = Short::of(0)?;
+    let last = Short::of(63)?;
+    Some(Block { first, last })
+}
+
+/// What machines come to over a driver that answers this, and at which of its lines.
+fn ends_as<R: Abort + AllocGlobal, K: Keep + Drop, W: Write + Drop>(
+    rt: &R,
+    keep: K,
+    answers: &[u8],
+    writer: W,
+    ended: Result<Ended, CommissionFault>,
+    line: u64,
+) {
+    let mut keep = keep;
+    let mut driver = Driver::new(rt.alloc(), answers, writer);
+    let found = commission(&mut keep, &mut driver, &mut Unwatched, 1);
+    assert!(rt; found == ended);
+    assert!(rt; driver.lines() == line);
+}
+
+/// A store in memory with no records.
+fn none_kept<R: Abort>(rt: &R) -> MemoryKeep {
+    match all_addresses() {
+        Some(block) => MemoryKeep::new(block),
+        None => panic!(rt; "no block"),
+    }
+}
+
+/// A writer that takes nothing.
+#[derive(Drop)]
+struct Full;
+
+impl Write for Full {
+    fn write(&mut self, _buf: &[u8]) -> std::io::Result<usize> {
+        Err(std::io::Error::from(std::io::ErrorKind::StorageFull))
+    }
+
+    fn flush(&mut self) -> std::io::Result<()> {
+        Ok(())
+    }
+}
+
+/// A driver's answers to an opening, and to a search that ends at the gear with random address 000000, which has no
+/// short address.
+fn found<R: Abort + AllocGlobal>(rt: &R) -> String {
+    let mut text = String::new(rt.alloc());
+    let mut is_made = text
+        .push_str("silence\nsilence\nsilence\nsilence\nsilence\n")
+        .is_ok();
+    for _ in 0..SEARCHES {
+        is_made = is_made
+            && text
+                .push_str("silence\nsilence\nsilence\nbyte FF\n")
+                .is_ok();
+    }
+    assert!(rt; is_made);
+    text
+}
+
+/// How many searches there are with the question for the short address behind them.
+const SEARCHES: u8 = 26;
+
+/// What it answers then, where the gear is programmed with short address 0 and withdrawn, and no other is left; and to
+/// one run more.
+const GIVEN: &str = "\
+silence\nsilence\nsilence\nbyte FF\nsilence\nbyte 01\nsilence\n\
+silence\nsilence\nsilence\nsilence\nsilence\n\
+silence\nsilence\nsilence\nsilence\nsilence\nsilence\nsilence\nsilence\nsilence\nsilence\n";
+
+#[test]
+fn a_gear_is_given_an_address(rt: HostRuntime) {
+    let mut answers = found(&rt);
+    assert!(rt; answers.push_str(GIVEN).is_ok());
+    let mut keep = none_kept(&rt);
+    let mut driver = Driver::new(rt.alloc(), answers.as_bytes(), std::io::sink());
+    let ended = commission(&mut keep, &mut driver, &mut Unwatched, 1);
+    assert!(rt; ended == Ok(Ended::Done(End::AllFound)));
+    assert!(rt; driver.lines() == 131);
+    match keep.read() {
+        Ok(kept) => assert!(rt; kept.enrolled().len() == 1 && kept.reserved().len() == 1),
+        Err(_) => panic!(rt; "not read"),
+    }
+}
+
+#[test]
+fn a_store_that_fails_ends_the_run(rt: HostRuntime) {
+    let answers = found(&rt);
+    let ended = Err(CommissionFault::Store(KeepError::StoreFailed));
+    match all_addresses() {
+        Some(block) => {
+            let broken = Broken::of(Kept::new(block));
+            ends_as(&rt, broken, answers.as_bytes(), std::io::sink(), ended, 109);
+        }
+        None => panic!(rt; "no block"),
+    }
+}
+
+#[test]
+fn a_line_tells_what_became_of_a_frame(rt: HostRuntime) {
+    for (line, told) in [
+        (b"silence".as_slice(), Some(Input::Heard(Answer::Silence))),
+        (b"damaged".as_slice(), Some(Input::Heard(Answer::Damaged))),
+        (b"byte 0a".as_slice(), Some(Input::Heard(Answer::Byte(10)))),
+        (b"byte FF".as_slice(), Some(Input::Heard(Answer::Byte(255)))),
+        (b"destroyed".as_slice(), Some(Input::Destroyed)),
+        (b"lapsed".as_slice(), Some(Input::Lapsed)),
+        (b"".as_slice(), None),
+        (b"byte".as_slice(), None),
+        (b"byte 0".as_slice(), None),
+        (b"byte 0g".as_slice(), None),
+        (b"byte 000".as_slice(), None),
+        (b"Silence".as_slice(), None),
+        (b"silence\r".as_slice(), None),
+        (b"committed".as_slice(), None),
+    ] {
+        assert!(rt; told_of(line) == told);
+    }
+}
+
+#[test]
+fn a_driver_that_fails_ends_the_run_by_name_and_line(rt: HostRuntime) {
+    for (answers, fault, line) in [
+        (b"".as_slice(), DriverFault::Ended, 1),
+        (b"silence\n".as_slice(), DriverFault::Ended, 2),
+        (b"silence\nsil".as_slice(), DriverFault::TornLine, 2),
+        (b"silence\nnothing\n".as_slice(), DriverFault::BadLine, 2),
+        (b"silence\n\n".as_slice(), DriverFault::BadLine, 2),
+        (b"silence silence\n".as_slice(), DriverFault::BadLine, 1),
+        (b"silence silence s\n".as_slice(), DriverFault::LongLine, 1),
+    ] {
+        let ended = Err(CommissionFault::Driver(fault));
+        ends_as(&rt, none_kept(&rt), answers, std::io::sink(), ended, line);
+    }
+}
+
+#[test]
+fn a_driver_that_takes_no_line_ends_the_run(rt: HostRuntime) {
+    let ended = Err(CommissionFault::Driver(DriverFault::Write));
+    ends_as(&rt, none_kept(&rt), b"silence\n", Full, ended, 0);
+}

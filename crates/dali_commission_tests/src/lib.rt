@@ -1,0 +1,11 @@
+//! Tests of `dali_commission`: lines of a driver, faults of reader, writer and store, and whole runs by command lines.
+#![tactic(auto)]
+
+#[cfg(test)]
+mod broken;
+#[cfg(test)]
+mod conversations;
+#[cfg(test)]
+mod programs;
+#[cfg(test)]
+mod shelf;

@@ -1,0 +1,276 @@
+//! `dali_commission`, played whole by its command line.
+
+use super::shelf::Shelf;
+use dali_commission_program::{StoreFault, run_and_say};
+use dali_desk::Desk;
+use std::process::Abort;
+
+/// What the program is to end with: its status, how many lines it has written, and what it has said.
+type End<'a> = (u8, usize, &'a str);
+
+/// The program with this command line, these records and these answers of the driver ends so.
+fn ends<R: Abort + AllocGlobal>(
+    rt: &R,
+    words: &[u8],
+    shelf: &Shelf<'_>,
+    answers: &str,
+    end: End<'_>,
+) {
+    let desk = Desk::new(rt.alloc(), words, answers);
+    let status = match run_and_say(&desk, shelf, false) {
+        Ok(()) => 0,
+        Err(failure) => failure.status(),
+    };
+    assert!(rt; status == end.0);
+    assert!(rt; desk.lines_written() == end.1);
+    assert!(rt; desk.has_said(end.2));
+}
+
+/// So many lines of silence, behind these answers.
+fn answers<R: Abort + AllocGlobal>(rt: &R, first: &str, silent: u32) -> String {
+    let mut text = String::new(rt.alloc());
+    let mut is_made = text.push_str(first).is_ok();
+    for _ in 0..silent {
+        is_made = is_made && text.push_str("silence\n").is_ok();
+    }
+    assert!(rt; is_made);
+    text
+}
+
+const RUN: &[u8] = b"dali_commission run --records site.db 0-63";
+
+const CHECK: &[u8] = b"dali_commission check --records site.db";
+
+const FIVE: [(u8, u8, u32); 4] = [
+    (1, 5, 0x123456),
+    (2, 5, 0x123456),
+    (1, 7, 0xABCDEF),
+    (2, 7, 0xABCDEF),
+];
+
+#[test]
+fn words_that_ask_for_nothing_are_refused(rt: HostRuntime) {
+    for (words, said) in [
+        (
+            b"dali_commission".as_slice(),
+            "Usage: dali_commission <COMMAND>",
+        ),
+        (b"dali_commission walk".as_slice(), "'walk'"),
+        (b"dali_commission run 0-63".as_slice(), "--records <FILE>"),
+        (
+            b"dali_commission run --records site.db".as_slice(),
+            "<BLOCK>",
+        ),
+        (
+            b"dali_commission run --records site.db 0-64".as_slice(),
+            "'0-64'",
+        ),
+        (b"dali_commission run --records site.db 7".as_slice(), "'7'"),
+        (
+            b"dali_commission run --records site.db 9-3".as_slice(),
+            "'9-3'",
+        ),
+        (
+            b"dali_commission run --records site.db --quiet-runs 0 0-63".as_slice(),
+            "'0'",
+        ),
+        (
+            b"dali_commission run --records site.db --others 9-20 0-15".as_slice(),
+            "in common",
+        ),
+        (
+            b"dali_commission run --records site.db --driver x 0-15".as_slice(),
+            "launcher",
+        ),
+        (b"dali_commission identify 64".as_slice(), "'64'"),
+        (
+            b"dali_commission table --records site.db --csv --json".as_slice(),
+            "--csv",
+        ),
+        (
+            b"dali_commission \xFF".as_slice(),
+            "error: an argument is not UTF-8\n",
+        ),
+    ] {
+        ends(&rt, words, &Shelf::of(&[]), "", (2, 0, said));
+    }
+}
+
+#[test]
+fn an_empty_bus_is_done_after_three_runs(rt: HostRuntime) {
+    let silent = answers(&rt, "", 606);
+    let said = "0 gear were given an address, 0 are in the table; 30 frames\n";
+    ends(&rt, RUN, &Shelf::of(&[]), &silent, (0, 606, said));
+    let words = b"dali_commission run --records site.db --quiet-runs 1 --others 16-63 --quiet 0-15";
+    ends(&rt, words, &Shelf::of(&[]), &silent, (0, 154, said_once()));
+}
+
+/// What is said of one run that found no gear.
+fn said_once() -> &'static str {
+    "0 gear were given an address, 0 are in the table; 10 frames\n"
+}
+
+#[test]
+fn nothing_is_begun_where_a_stranger_answers(rt: HostRuntime) {
+    let stranger = answers(&rt, "byte 12\nbyte 34\nbyte 56\n", 573);
+    ends(
+        &rt,
+        RUN,
+        &Shelf::of(&[]),
+        &stranger,
+        (1, 576, "0 123456 stranger\nWhat can be done:\n"),
+    );
+    let several = answers(&rt, "damaged\n", 575);
+    ends(
+        &rt,
+        RUN,
+        &Shelf::of(&[]),
+        &several,
+        (1, 576, "0 - several strangers, or a disturbed bus\n"),
+    );
+    let two = answers(
+        &rt,
+        "byte 12\nbyte 34\nbyte 56\nbyte 12\nbyte 34\nbyte 57\n",
+        570,
+    );
+    ends(
+        &rt,
+        RUN,
+        &Shelf::of(&[]),
+        &two,
+        (1, 576, "0 - several strangers\n"),
+    );
+}
+
+#[test]
+fn a_bus_that_loses_all_is_given_up(rt: HostRuntime) {
+    let lost = "lapsed\nlapsed\ndestroyed\nlapsed\nlapsed\nlapsed\nlapsed\nlapsed\n";
+    ends(&rt, RUN, &Shelf::of(&[]), lost, (7, 8, "ended: gave-up\n"));
+}
+
+#[test]
+fn a_driver_that_fails_is_said_with_its_line(rt: HostRuntime) {
+    ends(
+        &rt,
+        RUN,
+        &Shelf::of(&[]),
+        "silence\nhello\n",
+        (4, 2, "error: line 2 of the driver: bad line\n"),
+    );
+    ends(
+        &rt,
+        RUN,
+        &Shelf::of(&[]),
+        "silence\n",
+        (4, 2, "error: line 2 of the driver: end of input\n"),
+    );
+}
+
+#[test]
+fn records_that_cannot_be_had_are_said(rt: HostRuntime) {
+    for (fault, said) in [
+        (StoreFault::Locked, "error: the records are locked"),
+        (
+            StoreFault::CannotOpen,
+            "error: the file of the records cannot be opened\n",
+        ),
+    ] {
+        ends(&rt, RUN, &Shelf::refused(fault), "", (5, 0, said));
+    }
+    let outside = b"dali_commission run --records site.db 0-6";
+    let said = "error: short address 7 is reserved, and lies outside of the block\n";
+    ends(&rt, outside, &Shelf::of(&FIVE), "", (5, 0, said));
+    let missing = b"dali_commission table --records other.db";
+    ends(
+        &rt,
+        missing,
+        &Shelf::of(&FIVE),
+        "",
+        (5, 0, "error: there is no such file of records\n"),
+    );
+    let twice = Shelf::of(&[(1, 5, 1), (1, 5, 2)]);
+    ends(
+        &rt,
+        RUN,
+        &twice,
+        "",
+        (
+            5,
+            0,
+            "error: the records: the store holds no list of records\n",
+        ),
+    );
+}
+
+#[test]
+fn a_check_says_where_each_gear_stands(rt: HostRuntime) {
+    let silent = answers(&rt, "", 576);
+    let said =
+        "5 123456 missing\n7 ABCDEF missing\n2 in the table, 2 of them not there; 0 strangers";
+    ends(&rt, CHECK, &Shelf::of(&FIVE), &silent, (1, 576, said));
+    let alone = b"dali_commission check";
+    ends(
+        &rt,
+        alone,
+        &Shelf::of(&FIVE),
+        &silent,
+        (0, 576, "0 in the table"),
+    );
+    let first = answers(&rt, "byte 12\nbyte 34\nbyte 57\n", 573);
+    let five = [(1, 0, 0x123456), (2, 0, 0x123456)];
+    let said = "0 123456 another gear answers: 123457\n";
+    ends(&rt, CHECK, &Shelf::of(&five), &first, (1, 576, said));
+    let there = answers(&rt, "byte 12\nbyte 34\nbyte 56\n", 573);
+    ends(
+        &rt,
+        CHECK,
+        &Shelf::of(&five),
+        &there,
+        (0, 576, "0 123456 there\n1 in the table, 0 of them"),
+    );
+}
+
+#[test]
+fn a_table_has_what_is_enrolled(rt: HostRuntime) {
+    for (words, written) in [
+        (
+            b"dali_commission table --records site.db".as_slice(),
+            "5 123456\n7 ABCDEF\n",
+        ),
+        (
+            b"dali_commission table --records site.db --csv".as_slice(),
+            "address,random\n5,123456\n7,ABCDEF\n",
+        ),
+        (
+            b"dali_commission table --records site.db --json".as_slice(),
+            "[\n{\"address\":5,\"random\":\"123456\"},\n{\"address\":7,\"random\":\"ABCDEF\"}\n]\n",
+        ),
+    ] {
+        let desk = Desk::new(rt.alloc(), words, "");
+        let shelf = Shelf::of(&FIVE);
+        assert!(rt; run_and_say(&desk, &shelf, false).is_ok());
+        assert!(rt; desk.has_written(written));
+        assert!(rt; shelf.enrolled() == Some(2));
+    }
+}
+
+#[test]
+fn a_gear_shows_itself(rt: HostRuntime) {
+    let desk = Desk::new(
+        rt.alloc(),
+        b"dali_commission identify 5",
+        "silence\nlapsed\nsilence\n",
+    );
+    assert!(rt; run_and_say(&desk, &Shelf::of(&[]), false).is_err());
+    assert!(rt;
+        desk.has_written("put 2 0AFE tell\nput 2 0A00 tell\nput 2 0A00 tell\nput 2 0AFE tell\n")
+    );
+    let words = b"dali_commission identify 5";
+    ends(
+        &rt,
+        words,
+        &Shelf::of(&[]),
+        &answers(&rt, "", 11),
+        (0, 11, ""),
+    );
+}

@@ -1,0 +1,97 @@
+//! Records in memory under a name, for the program.
+
+use dali_commission_program::{StoreFault, Stores};
+use dali_frame::{Random24, Short};
+use dali_reserve::{Keep, KeepError, MemoryKeep};
+use dali_script::{Block, Record};
+use std::cell::RefCell;
+
+/// The records `site.db`, which hold these when they are opened; or why they cannot be opened. How many gear were
+/// enrolled when they were closed last.
+#[derive(Drop)]
+pub struct Shelf<'a> {
+    pub records: &'a [(u8, u8, u32)],
+    pub fault: Option<StoreFault>,
+    pub enrolled: RefCell<usize>,
+}
+
+impl<'a> Shelf<'a> {
+    /// With these records: 1 for a reservation, 2 for an enrolment, 3 for a release, with short and random address.
+    pub fn of(records: &'a [(u8, u8, u32)]) -> Shelf<'a> {
+        Shelf {
+            records,
+            fault: None,
+            enrolled: RefCell::new(0),
+        }
+    }
+
+    /// That cannot be opened.
+    pub fn refused(fault: StoreFault) -> Shelf<'a> {
+        Shelf {
+            records: &[],
+            fault: Some(fault),
+            enrolled: RefCell::new(0),
+        }
+    }
+
+    /// How many gear were enrolled when it was closed.
+    pub fn enrolled(&self) -> Option<usize> {
+        match self.enrolled.try_borrow() {
+            Ok(enrolled) => Some(*enrolled),
+            Err(_) => None,
+        }
+    }
+}
+
+fn record(kind: u8, address: u8, random: u32) -> Option<Record> {
+    let (short, random) = (Short::of(address)?, Random24::of(random)?);
+    match kind {
+        1 => Some(Record::Reserve(short, random)),
+        2 => Some(Record::Enrol(short, random)),
+        3 => Some(Record::Release(short, random)),
+        _ => None,
+    }
+}
+
+fn is_kept(store: &mut MemoryKeep, block: Block, record: &Record) -> bool {
+    match store.read() {
+        Ok(kept) => { store.is_of(block) && kept.fits(record) && store.commit(*record).is_ok() }
+        Err(_) => false,
+    }
+}
+
+impl Stores for Shelf<'_> {
+    type Store = MemoryKeep;
+
+    fn has(&self, name: &str) -> bool {
+        name == "site.db"
+    }
+
+    fn open(&self, _name: &str, block: Block) -> Result<MemoryKeep, StoreFault> {
+        if let Some(fault) = self.fault {
+            return Err(fault);
+        }
+        let mut store = MemoryKeep::new(block);
+        for (kind, address, random) in self.records {
+            let is_added = match record(*kind, *address, *random) {
+                Some(record) => is_kept(&mut store, block, &record),
+                None => false,
+            };
+            if !is_added {
+                return Err(StoreFault::Store(KeepError::BadStore));
+            }
+        }
+        Ok(store)
+    }
+
+    fn close(&self, store: MemoryKeep) -> Result<(), StoreFault> {
+        let mut store = store;
+        match (store.read(), self.enrolled.try_borrow_mut()) {
+            (Ok(kept), Ok(mut enrolled)) => {
+                *enrolled = kept.enrolled().len();
+                Ok(())
+            }
+            _ => Err(StoreFault::Store(KeepError::StoreFailed)),
+        }
+    }
+}
