@@ -162,6 +162,7 @@ where
     let before = kept(store)?;
     let mut driver = Driver::new(system.alloc(), system.reader(), io::writer(system));
     let mut progress = Progress::new(system, manner(setup, is_terminal), left_of(&before));
+    progress.begin();
     let begun = begin(
         store,
         &mut driver,

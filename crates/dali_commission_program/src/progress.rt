@@ -40,6 +40,13 @@ impl<'a, S: Eprint> Progress<'a, S> {
         }
     }
 
+    /// What comes first is said.
+    pub fn begin(&self) {
+        if self.manner != Manner::Quiet {
+            let _ = eprintln!(self.system; "asking the short addresses that are not accounted for");
+        }
+    }
+
     /// What is said. Where it cannot be said, nothing else changes.
     fn say(&self) {
         let (found, frames, left) = (self.found, self.frames, self.left);

@@ -1,5 +1,6 @@
 //! What is said on standard error of what came of a task.
 
+use crate::table::random_at;
 use dali_commissioning::{Reply, Standing, is_known, stands};
 use dali_frame::{Random24, Short};
 use dali_script::{Block, Kept};
@@ -95,6 +96,22 @@ fn say_enrolled<S: Eprint>(system: &S, kept: &Kept, replies: &[Reply]) -> usize 
     wrong
 }
 
+/// Each gear that answers to an address that is reserved, and that is not enrolled. How many there are.
+fn say_reserved<S: Eprint>(system: &S, kept: &Kept, replies: &[Reply]) -> usize {
+    let mut unfinished = 0usize;
+    for pair in kept.reserved() {
+        let reply = reply_of(replies, pair.0);
+        if reply != Reply::Silence && random_at(kept.enrolled(), pair.0).is_none() {
+            unfinished = unfinished.saturating_add(1);
+            let (number, random) = (pair.0.number(), pair.1);
+            let _ = eprintln!(system;
+                "{number} {random} is reserved, and not in the table; a gear answers"
+            );
+        }
+    }
+    unfinished
+}
+
 /// Where all gear stand, beside the records: each that is enrolled, and each stranger. Whether they are as recorded.
 pub fn say_checked<S: Eprint>(
     system: &S,
@@ -103,10 +120,11 @@ pub fn say_checked<S: Eprint>(
     replies: &[Reply],
 ) -> bool {
     let wrong = say_enrolled(system, kept, replies);
+    let unfinished = say_reserved(system, kept, replies);
     let strangers = say_strangers(system, kept, others, replies);
     let (enrolled, reserved) = (kept.enrolled().len(), kept.reserved().len());
     let _ = eprintln!(system;
         "{enrolled} in the table, {wrong} of them not there; {strangers} strangers; {reserved} addresses reserved"
     );
-    wrong == 0 && strangers == 0
+    wrong == 0 && unfinished == 0 && strangers == 0
 }

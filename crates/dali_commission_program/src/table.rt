@@ -21,7 +21,7 @@ pub enum Form {
 }
 
 /// The random address of the first pair with a short address.
-fn random_at(pairs: &[(Short, Random24)], short: Short) -> Option<Random24>
+pub(crate) fn random_at(pairs: &[(Short, Random24)], short: Short) -> Option<Random24>
     ensures { result ≡ random_at pairs.now short }
 {
     for pair in pairs {

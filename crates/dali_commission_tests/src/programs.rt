@@ -228,6 +228,9 @@ fn a_check_says_where_each_gear_stands(rt: HostRuntime) {
         &there,
         (0, 576, "0 123456 there\n1 in the table, 0 of them"),
     );
+    let said = "0 123456 is reserved, and not in the table; a gear answers\n0 in the table";
+    let unfinished = [(1, 0, 0x123456)];
+    ends(&rt, CHECK, &Shelf::of(&unfinished), &there, (1, 576, said));
 }
 
 #[test]
