@@ -4,3 +4,4 @@ pub mod Asked
 pub mod Lawfully
 pub mod Larger
 pub mod Ran
+pub mod Spelled

@@ -1,9 +1,10 @@
-use Rattle.std.specs.Prelude.{◌≡◌, ℕ, List, [], ◌∷◌, ◌++◌, Bool, true, false, Option, Some, None}
+use Rattle.std.specs.Prelude.{◌≡◌, ℕ, ◌+◌, ◌<◌, List, [], ◌∷◌, ◌++◌, Bool, true, false}
+use Rattle.std.specs.Prelude.{Option, Some, None, Ok, slice_index_or, take, drop}
 use Rattle.std.specs.Prelude.{bytes_eq, if◌then◌else◌, option_map, codes, decimal}
 use Rattle.std.specs.Io.KnownBytes.{Consumes}
 use Rattle.dali_frame.specs.declared.frames.Forward.{Forward}
 use Rattle.dali_frame.specs.declared.frames.Answer.TheVariants.{Silence, Byte, Damaged}
-use Rattle.dali_frame.specs.Hex.{forward_text, byte_of}
+use Rattle.dali_frame.specs.Hex.{forward_text, forward_of, byte_text, byte_of}
 use Rattle.dali_special.specs.declared.command.Command.{Command}
 use Rattle.dali_special.specs.declared.command.Command.TheVariants.{Compare, Verify, QueryShort}
 use Rattle.dali_special.specs.declared.command.Command.TheVariants.{RandomByte, Terminate}
@@ -70,6 +71,34 @@ told_of line =
     else if bytes_eq line (codes "destroyed") then Some Destroyed
     else if bytes_eq line (codes "lapsed") then Some Lapsed
     else told_byte line
+
+-- the line that tells something, without its line feed; nothing, where it is not of the bus
+abbrev pub told_text : Input → List ℕ
+told_text (Heard Silence) = codes "silence"
+told_text (Heard (Byte byte)) = codes "byte " ++ byte_text byte
+told_text (Heard Damaged) = codes "damaged"
+told_text Destroyed = codes "destroyed"
+told_text Lapsed = codes "lapsed"
+told_text _ = []
+
+-- a byte that is heard is one
+abbrev pub IsByte : Input → Type 0
+IsByte (Heard (Byte byte)) = byte < 256
+IsByte _ = Unit {0}
+
+-- what a line of the program says, by its fifth byte, its seventh to tenth, and the rest
+abbrev pub half_in : List ℕ → Half
+half_in rest =
+    if bytes_eq rest (codes " ask pair 1\n") then First
+    else if bytes_eq rest (codes " tell pair 1\n") then First
+    else if bytes_eq rest (codes " ask pair 2\n") then Second
+    else if bytes_eq rest (codes " tell pair 2\n") then Second
+    else Whole
+
+pub record Says (line : List ℕ) (p : ℕ) (f : Forward) (half : Half) : Type 0 where
+  pub priority : slice_index_or line 4 0 ≡ 48 + p
+  pub frame : forward_of (take 4 (drop 6 line)) ≡ Ok f
+  pub half_so : half_in (drop 10 line) ≡ half
 
 -- a line was read that tells this
 abbrev pub Tells : Option (List ℕ) → Option (List ℕ) → Input → Type 0

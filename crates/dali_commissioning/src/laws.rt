@@ -1,13 +1,20 @@
 //! What follows from the contracts of this crate, in its words. Programs don't call these.
 
-ghost use Rattle.std.specs.Prelude.{ℕ, ◌<◌, ◌≤◌, List, length};
+ghost use Rattle.std.specs.Prelude.{◌≡◌, ℕ, ◌<◌, ◌≤◌, true, Some, List, length};
+ghost use Rattle.dali_frame.specs.declared.frames.Forward.{Forward};
+ghost use Rattle.dali_script.specs.Due.{accepts};
+ghost use Rattle.dali_script.specs.declared.orders.Due.TheVariants as due;
 ghost use Rattle.dali_script.specs.declared.block.Block.{Block};
 ghost use Rattle.dali_script.specs.declared.orders.Input.{Input};
 ghost use Rattle.dali_script.specs.declared.records.Record.{Record};
 ghost use Rattle.dali_script.specs.Records.{Assignment, Kept};
 ghost use Rattle.dali_script.specs.Scripts.{Lawful};
 ghost use Rattle.dali_reserve.specs.Store.{IsReplay};
+ghost use Rattle.dali_commissioning.specs.declared.lines.Half.{Half};
+ghost use Rattle.dali_commissioning.specs.Lines.{put_text, Says, told_text, told_of, IsByte};
 ghost use Rattle.dali_commissioning.specs.Census.{AreHeard, entries_of, query_at};
+
+use dali_frame::laws::frames_are_spelled;
 
 /// The frames of a question are transactions that every controller may send, whatever its block and its reservations
 /// are, and whatever was heard: so a census gives no address, and what is promised of a site stands over it.
@@ -23,3 +30,19 @@ pub fn records_are_those_of_a_larger_block()
     ensures { (b wide : Block) (xs : List Record) (k : Kept) → wide.first ≤ b.first → b.last ≤ wide.last
         → IsReplay b xs k → IsReplay wide xs (record k { block = wide }) }
 {}
+
+/// What a driver may tell is read back from the line that tells it, so two lines of a driver tell different things.
+pub fn answers_are_read_back()
+    ensures { (told : Input) → accepts due.Bus told ≡ true → IsByte told → told_of (told_text told) ≡ Some told }
+{
+    frames_are_spelled();
+}
+
+/// Priority, frame and half are read back from the line that puts a frame, so two lines of the program put different
+/// frames.
+pub fn frames_are_read_back()
+    ensures { (p : ℕ) (f : Forward) (half : Half) → p ≤ 5 → f.address_byte < 256 → f.opcode_byte < 256
+        → Says (put_text p f half) p f half }
+{
+    frames_are_spelled();
+}
