@@ -2,7 +2,10 @@
 //! keeps its records in a file.
 #![tactic(auto)]
 
-use dali_commission_program::{Files, exit_code, run_and_say};
+mod files;
+
+use dali_commission_program::{exit_code, run_and_say};
+use files::Files;
 use std::io::IsTerminal;
 use std::process::ExitCode;
 

@@ -1,4 +1,4 @@
-//! The program `dali_commission`: what its words ask for, its records in a file, and what it says.
+//! The program `dali_commission`: what its words ask for, and what it does and says.
 #![tactic(auto)]
 
 mod failure;
@@ -12,5 +12,5 @@ mod words;
 
 pub use failure::{Failure, exit_code};
 pub use program::run_and_say;
-pub use stores::{Files, StoreFault, Stores};
+pub use stores::{StoreFault, Stores};
 pub use table::{Form, push_table};
