@@ -53,9 +53,9 @@ fn record(kind: u8, address: u8, random: u32) -> Option<Record> {
     }
 }
 
-fn is_kept(store: &mut MemoryKeep, block: Block, record: &Record) -> bool {
+fn is_kept(store: &mut MemoryKeep, block: &Block, record: &Record) -> bool {
     match store.read() {
-        Ok(kept) => { store.is_of(block) && kept.fits(record) && store.commit(*record).is_ok() }
+        Ok(kept) => { store.is_of(*block) && kept.fits(record) && store.commit(*record).is_ok() }
         Err(_) => false,
     }
 }
@@ -74,7 +74,7 @@ impl Stores for Shelf<'_> {
         let mut store = MemoryKeep::new(block);
         for (kind, address, random) in self.records {
             let is_added = match record(*kind, *address, *random) {
-                Some(record) => is_kept(&mut store, block, &record),
+                Some(record) => is_kept(&mut store, &block, &record),
                 None => false,
             };
             if !is_added {
