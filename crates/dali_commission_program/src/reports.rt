@@ -17,7 +17,8 @@ fn say_stranger<S: Eprint>(system: &S, number: usize, reply: Reply) {
     let _ = match reply {
         Reply::Silence => Ok(()),
         Reply::Random(random) => eprintln!(system; "{number} {random} stranger"),
-        Reply::Unclear => eprintln!(system; "{number} - several strangers, or a disturbed bus"),
+        Reply::Noise => eprintln!(system; "{number} - several strangers, or a disturbed bus"),
+        Reply::Unclear => eprintln!(system; "{number} - strangers that were not understood"),
         Reply::Several => eprintln!(system; "{number} - several strangers"),
     };
 }

@@ -120,14 +120,25 @@ fn nothing_is_begun_where_a_stranger_answers(rt: HostRuntime) {
         &stranger,
         (1, 576, "0 123456 stranger\nWhat can be done:\n"),
     );
-    let several = answers(&rt, "damaged\n", 575);
+    let noise = "damaged\nsilence\nsilence\n";
+    let once = answers(&rt, noise, 603);
     ends(
         &rt,
         RUN,
         &Shelf::of(&[]),
-        &several,
-        (1, 576, "0 - several strangers, or a disturbed bus\n"),
+        &once,
+        (0, 606, "0 gear were given"),
     );
+    let thrice = answers(
+        &rt,
+        "damaged\nsilence\nsilence\ndamaged\nsilence\nsilence\nsilence\nsilence\ndamaged\n",
+        567,
+    );
+    let said = "0 - several strangers, or a disturbed bus\n";
+    ends(&rt, RUN, &Shelf::of(&[]), &thrice, (1, 576, said));
+    let unclear = answers(&rt, "byte 12\n", 575);
+    let said = "0 - strangers that were not understood\n";
+    ends(&rt, RUN, &Shelf::of(&[]), &unclear, (1, 576, said));
     let two = answers(
         &rt,
         "byte 12\nbyte 34\nbyte 56\nbyte 12\nbyte 34\nbyte 57\n",

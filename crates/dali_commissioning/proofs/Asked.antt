@@ -44,7 +44,7 @@ pub record HasAsked (a : ℕ) (x y : Talk) (it : Reply) (asked : ℕ) : Type 0 w
   pub counted : asked ≡ whole_of questions
   pub told : it ≡ reply_after questions
 
-pub none_asked : (a : ℕ) (x : Talk) → HasAsked a x x reply.Silence 0
+pub none_asked : (a : ℕ) (x : Talk) → HasAsked a x x reply.Noise 0
 none_asked a x = record { questions = []; are = refl; counted = refl; told = refl }
 
 pub asked_more : (a : ℕ) (x y z : Talk) (old new : Reply) (asked more : ℕ) (told : Option Reply)

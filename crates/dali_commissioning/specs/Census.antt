@@ -1,4 +1,4 @@
-use Rattle.std.specs.Prelude.{◌≡◌, ◌⊎◌, ℕ, zero, suc, ◌+◌, ◌<◌, ◌==◌, ◌||◌, if◌then◌else◌}
+use Rattle.std.specs.Prelude.{◌≡◌, ◌⊎◌, ℕ, zero, suc, ◌+◌, ◌<◌, ◌==◌, ◌||◌, ◌&&◌, if◌then◌else◌}
 use Rattle.std.specs.Prelude.{List, [], ◌∷◌, ◌++◌}
 use Rattle.std.specs.Prelude.{Bool, true, false, not, Option, Some, None, is_some, length}
 use Rattle.std.specs.List.{list_any}
@@ -78,11 +78,24 @@ entries_of a (_ ∷ before) = entries_of a before
 
 -- ---------------------------------------------------------------- what it tells
 
--- what three answers spell
+-- what three answers spell: without any byte nobody may have answered
+abbrev pub is_byte : Answer → Bool
+is_byte (Byte b) = true
+is_byte _ = false
+
+abbrev pub is_silence : Answer → Bool
+is_silence Silence = true
+is_silence _ = false
+
+abbrev pub without_number : Answer → Answer → Answer → Reply
+without_number h m l =
+    if is_byte h || (is_byte m || is_byte l)
+    then reply.Unclear
+    else if is_silence h && (is_silence m && is_silence l) then reply.Silence else reply.Noise
+
 abbrev pub reply_of : Answer → Answer → Answer → Reply
 reply_of (Byte h) (Byte m) (Byte l) = reply.Random (number_of h m l)
-reply_of Silence Silence Silence = reply.Silence
-reply_of _ _ _ = reply.Unclear
+reply_of h m l = without_number h m l
 
 -- what a question tells; none where one of its frames was lost
 abbrev pub reply_heard : Option Answer → Option Answer → Option Answer → Option Reply
@@ -93,9 +106,12 @@ abbrev pub reply_told : List Input → Option Reply
 reply_told (l ∷ m ∷ h ∷ []) = reply_heard (answer_told h) (answer_told m) (answer_told l)
 reply_told _ = None
 
--- What two questions tell together: a random address says more than what spells none, and two
--- different ones say that there are several gear.
+-- What two questions tell together: silence says more than noise, since noise may come from nobody;
+-- a byte says more than silence, since an answer may be lost; a random address says more than what
+-- spells none; and two different ones say that there are several gear.
 abbrev pub joined : Reply → Reply → Reply
+joined reply.Noise r = r
+joined r reply.Noise = r
 joined reply.Silence r = r
 joined r reply.Silence = r
 joined reply.Unclear r = r
@@ -116,7 +132,7 @@ AreAsked a (told ∷ before) x y =
     (mid : Talk) × AreAsked a before x mid × IsAsked a told mid y
 
 abbrev pub reply_after : List (List Input) → Reply
-reply_after [] = reply.Silence
+reply_after [] = reply.Noise
 reply_after (told ∷ before) = joined_if (reply_after before) (reply_told told)
 
 -- how many of them were told whole
@@ -171,6 +187,7 @@ is_addressed replies = list_any (λ r. not (is_silent r)) replies
 -- address
 abbrev pub standing_of : ℕ → Reply → Standing
 standing_of random reply.Silence = standing.Missing
+standing_of random reply.Noise = standing.Unclear
 standing_of random reply.Unclear = standing.Unclear
 standing_of random (reply.Random heard) =
     if heard == random then standing.There else standing.Another heard

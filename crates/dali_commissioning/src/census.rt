@@ -7,6 +7,7 @@ ghost use Rattle.dali_special.specs.declared.command.Command.TheVariants.{Random
 ghost use Rattle.dali_special.specs.Command.{frame_of};
 ghost use Rattle.dali_commissioning.specs.Drivers.{talk_of};
 ghost use Rattle.dali_commissioning.specs.Census.{IsPut, answer_told, IsAsked, reply_of, reply_told};
+ghost use Rattle.dali_commissioning.specs.Census.{is_byte, is_silence, without_number};
 ghost use Rattle.dali_commissioning.specs.Census.{joined, joined_if, one_if};
 ghost use Rattle.dali_commissioning.specs.Census.{IsAnswered, is_named, IsCounted, AreCounted};
 ghost use Rattle.dali_commissioning.specs.Census.{is_known, is_silent, is_addressed, standing_of};
@@ -33,7 +34,9 @@ pub enum Reply {
     /// Nothing was heard.
     #[default]
     Silence,
-    /// Something was heard that spells no random address: several gear answer together, or the bus is disturbed.
+    /// Something was heard each time, and never a byte: several gear answer together, or the bus is disturbed.
+    Noise,
+    /// Some bytes were heard that spell no random address: a gear answers, or several together.
     Unclear,
     /// This random address was heard, and no other.
     Random(Random24),
@@ -56,6 +59,37 @@ pub enum Standing {
     Several,
 }
 
+fn is_byte(answer: Answer) -> bool
+    ensures { result ≡ is_byte answer }
+{
+    match answer {
+        Answer::Byte(_) => true,
+        Answer::Silence | Answer::Damaged => false,
+    }
+}
+
+fn is_silence(answer: Answer) -> bool
+    ensures { result ≡ is_silence answer }
+{
+    match answer {
+        Answer::Silence => true,
+        Answer::Byte(_) | Answer::Damaged => false,
+    }
+}
+
+/// What three answers tell that are not all bytes.
+fn without_number(high: Answer, middle: Answer, low: Answer) -> Reply
+    ensures { result ≡ without_number high middle low }
+{
+    if is_byte(high) || is_byte(middle) || is_byte(low) {
+        Reply::Unclear
+    } else if is_silence(high) && is_silence(middle) && is_silence(low) {
+        Reply::Silence
+    } else {
+        Reply::Noise
+    }
+}
+
 /// What three answers spell.
 fn reply_of(high: Answer, middle: Answer, low: Answer) -> Reply
     ensures { result ≡ reply_of high middle low }
@@ -64,8 +98,7 @@ fn reply_of(high: Answer, middle: Answer, low: Answer) -> Reply
         (Answer::Byte(high), Answer::Byte(middle), Answer::Byte(low)) => {
             Reply::Random(Random24::from_bytes(high, middle, low))
         }
-        (Answer::Silence, Answer::Silence, Answer::Silence) => Reply::Silence,
-        _ => Reply::Unclear,
+        _ => without_number(high, middle, low),
     }
 }
 
@@ -74,13 +107,17 @@ fn joined(one: Reply, other: Reply) -> Reply
     ensures { result ≡ joined one other }
 {
     match one {
-        Reply::Silence => other,
+        Reply::Noise => other,
+        Reply::Silence => match other {
+            Reply::Noise => Reply::Silence,
+            Reply::Silence | Reply::Unclear | Reply::Random(_) | Reply::Several => other,
+        },
         Reply::Unclear => match other {
-            Reply::Silence => Reply::Unclear,
+            Reply::Noise | Reply::Silence => Reply::Unclear,
             Reply::Unclear | Reply::Random(_) | Reply::Several => other,
         },
         Reply::Random(random) => match other {
-            Reply::Silence | Reply::Unclear => Reply::Random(random),
+            Reply::Noise | Reply::Silence | Reply::Unclear => Reply::Random(random),
             Reply::Random(number) => {
                 if random == number {
                     Reply::Random(random)
@@ -160,7 +197,7 @@ pub fn ask<R: Read, W: Write>(
     ensures { IfOk result (λ reply. IsAnswered short reply
         (talk_of R.remaining W.contents driver.old) (talk_of R.remaining W.contents driver.new)) }
 {
-    let mut reply = Reply::Silence;
+    let mut reply = Reply::Noise;
     let mut asked = 0;
     let mut lost = 0;
     for _ in 0..QUESTIONS * LOST {
@@ -259,7 +296,7 @@ fn is_silent(reply: Reply) -> bool
 {
     match reply {
         Reply::Silence => true,
-        Reply::Unclear | Reply::Random(_) | Reply::Several => false,
+        Reply::Noise | Reply::Unclear | Reply::Random(_) | Reply::Several => false,
     }
 }
 
@@ -276,7 +313,7 @@ pub fn stands(random: Random24, reply: Reply) -> Standing
 {
     match reply {
         Reply::Silence => Standing::Missing,
-        Reply::Unclear => Standing::Unclear,
+        Reply::Noise | Reply::Unclear => Standing::Unclear,
         Reply::Random(heard) => {
             if heard == random {
                 Standing::There
