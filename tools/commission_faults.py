@@ -3,6 +3,7 @@
 import contextlib
 import os
 import pathlib
+import re
 import resource
 import signal
 import sqlite3
@@ -52,6 +53,11 @@ def check_store(place, name, ran, said, is_written=False):
     """The program ended since the records are not to be had, and said so; before any line for the driver, or later."""
     right = ran.status == STORE and said in ran.said and (is_written or not ran.lines and not ran.wrote)
     place.check(f"{name} ends with status 5, and is named", right, ran)
+
+
+def count_end(place, name, ran):
+    last = (ran.said.splitlines() or ["nothing"])[-1]
+    place.checks.count(f"runs {name}: status {ran.status}, {re.sub('[0-9]+', 'N', last)}")
 
 
 # Records.
@@ -130,7 +136,7 @@ def spoilt(place, chance):
         ran = place.run(run_words(place), place.simulated())
         if name in ("another table", "a column more"):
             # A file without a table of records has none yet: then gear answer that it does not name. A column more is open.
-            place.checks.count(f"runs over records with {name} that ended with status {ran.status}")
+            count_end(place, f"over records with {name}", ran)
             continue
         place.check(f"records with {name} are refused by run", ran.status == STORE and not ran.lines, ran)
         ran = place.alone("table", "--records", place.records)
@@ -171,7 +177,8 @@ def full_disk(place, chance):
     """Runs over disks with less and less room that are full at some moment, and that have room again."""
     folder = place.folder / "disk"
     folder.mkdir()
-    if os.geteuid() or subprocess.run(["mount", "-t", "tmpfs", "-o", "size=4m", "none", folder], capture_output=True).returncode:
+    mount = ["mount", "-t", "tmpfs", "-o", "size=4m", "none", folder]
+    if os.geteuid() or subprocess.run(mount, capture_output=True).returncode:
         print("not checked: a full disk; it needs root, and leave to mount", flush=True)
         return
     try:
@@ -184,7 +191,7 @@ def full_disk(place, chance):
             rows = place.rows()
             filled(place, folder, room)
             ran = place.run(run_words(place), place.simulated("--gear", 8))
-            place.checks.count(f"runs over a full disk that ended with status {ran.status}")
+            count_end(place, "over a full disk", ran)
             is_so = ran.status in (DONE, STORE)
             place.check("a full disk ends a run with status 5, or it had room", is_so, f"{room}: {ran}")
             (folder / "filler").unlink()
@@ -205,7 +212,7 @@ def longest_file(place, chance):
         program, between = place.begin(run_words(place), place.simulated("--gear", 8))
         resource.prlimit(program.pid, resource.RLIMIT_FSIZE, (most, most))
         ran = place.ended(program, between)
-        place.checks.count(f"runs with a limit of files that ended with status {ran.status}")
+        count_end(place, "with a limit of files", ran)
         is_so = ran.status in (DONE, STORE)
         place.check("a limit of files ends a run with status 5, or it had room", is_so, f"{most}: {ran}")
         check_sound(place)
@@ -276,8 +283,8 @@ def gives_up(place, _chance):
 
 def signals(place, chance):
     for number in (signal.SIGTERM, signal.SIGHUP, signal.SIGINT, signal.SIGTERM, signal.SIGTERM):
-        program, between = place.begin(run_words(place), place.simulated("--gear", 12, "--slow", 0.0005))
-        time.sleep(chance.uniform(0.1, 2))
+        program, between = place.begin(run_words(place), place.simulated("--gear", 40, "--slow", 0.002))
+        time.sleep(chance.uniform(0.05, 1.5))
         program.send_signal(number)
         ran = place.ended(program, between)
         place.check("a signal ends a run", ran.status == -number, ran)

@@ -23,8 +23,8 @@ DONE, NOT_SO, DRIVER, STORE, BLOCK_FULL, GAVE_UP, KILLED = 0, 1, 4, 5, 6, 7, -si
 ENDS = {KILLED: "killed", DONE: "all-found", NOT_SO: "not begun", BLOCK_FULL: "block-full", GAVE_UP: "gave-up"}
 TABLE = """CREATE TABLE record(seq INTEGER PRIMARY KEY, kind INTEGER NOT NULL,
 address INTEGER NOT NULL CHECK(address BETWEEN 0 AND 63), random INTEGER NOT NULL CHECK(random BETWEEN 0 AND 16777214))"""
-# How many seconds a run may take.
-PATIENCE = 300
+# How many seconds a run may take, and how much is said of what is wrong.
+PATIENCE, LONGEST = 300, 1500
 
 
 class Wrong(Exception):
@@ -42,13 +42,9 @@ class Checks:
         with self.lock:
             self.seen[name] += times
 
-    def check(self, name, is_so, title, detail=""):
-        """A line for a check that is wrong: what failed, where, and how that is run alone."""
+    def check(self, name, is_so):
         with self.lock:
             (self.right if is_so else self.wrong)[name] += 1
-            if not is_so:
-                print(f"wrong: {title}: {name}: {detail}", flush=True)
-        return is_so
 
     def report(self):
         for name in sorted({*self.right, *self.wrong}):
@@ -92,7 +88,11 @@ class Place:
         return isinstance(why, Exception)
 
     def check(self, name, is_so, detail=""):
-        self.is_right &= self.checks.check(name, is_so, self.title, f"{detail} (see {self.folder})")
+        """The first check of a place that is wrong is a line, which says how the place is made again, and what it left."""
+        self.checks.check(name, is_so)
+        if not is_so and self.is_right:
+            self.is_right = False
+            print(f"wrong: {self.title}: {name}, see {self.folder}: {str(detail)[:LONGEST]}", flush=True)
         return is_so
 
     # The program and its driver.
