@@ -13,6 +13,8 @@ import time
 from commission_site import DONE, DRIVER, ENROL, GAVE_UP, RESERVE, STORE
 
 ALL = (0, 63)
+# Six gear: a run that finds them all in its table has at least so many lines.
+GEAR, LEAST = 6, 3 * 3 * (64 - 6) + 3 * 10
 LOCKED = "locked: another program has the file open"
 # What a driver may tell that is none of its answers, each with what the program says of it.
 BAD = {
@@ -158,7 +160,8 @@ def blocks(place, chance):
         ran = place.run(run_words(place, block=f"{first}-{last}"), place.simulated())
         said = f"error: short address {out} is reserved, and lies outside of the block\n"
         check_store(place, "a block without an address that is reserved", ran, said)
-    place.check("a block that is refused changes nothing", place.rows() == rows and place.gear_file.read_bytes() == unchanged)
+    is_so = place.rows() == rows and place.gear_file.read_bytes() == unchanged
+    place.check("a block that is refused changes nothing", is_so)
     place.write_gear([*place.gear(), (None, 0xFFFFFF)])
     check_goes_on(place, "a larger block is given")
 
@@ -166,7 +169,13 @@ def blocks(place, chance):
 # The disk.
 
 
-def filled(place, folder, room):
+# So many gear take more than one part of the log, 256 KiB, that the program asks the disk for.
+MANY = 40
+# How many pages of 4 KiB a disk has left, or a file may have.
+ROOMS = (0, 1, 2, 3, 16, 40, *range(63, 69), 70, 72, 80, 100, 120, *range(127, 135), 136, 140, 150)
+
+
+def filled(folder, room):
     """A small disk with so many bytes left."""
     with open(folder / "filler", "wb") as filler:
         free = os.statvfs(folder).f_bavail * os.statvfs(folder).f_frsize
@@ -182,22 +191,23 @@ def full_disk(place, chance):
         print("not checked: a full disk; it needs root, and leave to mount", flush=True)
         return
     try:
-        for room in range(0, 200 * 1024, 8 * 1024):
+        for pages in ROOMS:
+            room = 4096 * pages
             place.records = folder / f"{room}.db"
             place.gear_file.unlink(missing_ok=True)
             kill = {"byte": 0xAB, "count": chance.randint(1, 3), "moment": "before", "delay": 0, "is_cut": True}
-            if room % (16 * 1024):
-                place.run(run_words(place), place.simulated("--gear", 8), kill=kill)
+            if chance.random() < 0.5:
+                place.run(run_words(place), place.simulated("--gear", MANY), kill=kill)
             rows = place.rows()
-            filled(place, folder, room)
-            ran = place.run(run_words(place), place.simulated("--gear", 8))
+            filled(folder, room)
+            ran = place.run(run_words(place), place.simulated("--gear", MANY))
             count_end(place, "over a full disk", ran)
             is_so = ran.status in (DONE, STORE)
             place.check("a full disk ends a run with status 5, or it had room", is_so, f"{room}: {ran}")
             (folder / "filler").unlink()
             place.check("a full disk loses no row", place.rows()[: len(rows)] == rows, f"{room}: {rows}")
             check_sound(place)
-            check_goes_on(place, "a full disk", "--gear", 8)
+            check_goes_on(place, "a full disk", "--gear", MANY)
             for it in folder.iterdir():
                 it.unlink()
     finally:
@@ -207,18 +217,34 @@ def full_disk(place, chance):
 
 def longest_file(place, chance):
     """A limit of the length of files, which a write meets at some moment."""
-    for most in (1, 4096, 8192, 20_000, 50_000, 100_000, chance.randint(1, 200_000)):
+    for most in (1, *(4096 * pages + chance.randint(0, 200) for pages in chance.sample(ROOMS, 12))):
         place.gear_file.unlink(missing_ok=True)
-        program, between = place.begin(run_words(place), place.simulated("--gear", 8))
+        program, between = place.begin(run_words(place, "--quiet"), place.simulated("--gear", MANY))
         resource.prlimit(program.pid, resource.RLIMIT_FSIZE, (most, most))
         ran = place.ended(program, between)
         count_end(place, "with a limit of files", ran)
         is_so = ran.status in (DONE, STORE)
         place.check("a limit of files ends a run with status 5, or it had room", is_so, f"{most}: {ran}")
         check_sound(place)
-        check_goes_on(place, "a limit of files")
+        check_goes_on(place, "a limit of files", "--gear", MANY)
         for end in ("", "-wal"):
             pathlib.Path(f"{place.records}{end}").unlink(missing_ok=True)
+
+
+def opening(place, chance):
+    """The program is killed within its first milliseconds, when it opens its records: new ones, or some with a log."""
+    for turn in range(60):
+        if turn % 3 == 0:
+            kill = {"byte": 0xAB, "count": 1, "moment": "before", "delay": 0, "is_cut": True}
+            place.run(run_words(place), place.simulated("--gear", 30), kill=kill)
+        rows = place.rows()
+        program, between = place.begin(run_words(place), place.simulated("--gear", 30))
+        time.sleep(chance.uniform(0, 0.01))
+        program.kill()
+        place.ended(program, between)
+        place.check("a program that is killed when it opens its records loses none", place.rows() == rows, rows)
+    check_sound(place)
+    check_goes_on(place, "kills at the opening")
 
 
 # The driver.
@@ -226,7 +252,7 @@ def longest_file(place, chance):
 
 def check_driver_fault(place, at, fault, said):
     rows = place.rows()
-    ran = place.run(run_words(place), place.simulated("--gear", 6), fault={"at": at, **fault})
+    ran = place.run(run_words(place), place.simulated("--gear", GEAR), fault={"at": at, **fault})
     right = ran.status == DRIVER and ran.said.endswith(f"error: line {at} of the driver: {said}\n")
     place.check(f"a driver's fault ends with status 4, and is named: {said}", right, f"{fault} at {at}: {ran}")
     place.check("a driver's fault loses no row", place.rows()[: len(rows)] == rows, rows)
@@ -237,24 +263,24 @@ def bad_lines(place, chance):
     for said, texts in BAD.items():
         for text in texts:
             fault = {"kind": "ends", "text": text.hex()}
-            check_driver_fault(place, chance.choice([1, 2, 3, chance.randint(4, 900)]), fault, said)
+            check_driver_fault(place, chance.choice([1, 2, 3, chance.randint(4, LEAST)]), fault, said)
     fault = {"kind": "goes on", "text": b"silent\nsilence\n".hex()}
-    check_driver_fault(place, chance.randint(1, 500), fault, "bad line")
+    check_driver_fault(place, chance.randint(1, LEAST - 1), fault, "bad line")
     check_goes_on(place, "bad lines")
 
 
 def dies(place, chance):
     for _ in range(25):
-        check_driver_fault(place, chance.randint(1, 700), {"kind": "ends", "text": ""}, "end of input")
+        check_driver_fault(place, chance.randint(1, LEAST), {"kind": "ends", "text": ""}, "end of input")
     check_goes_on(place, "drivers that died")
 
 
 def closes(place, chance):
     """The driver reads no more: the program cannot write its next line, or reads the end of the driver's answers."""
     for _ in range(3):
-        at = chance.randint(1, 700)
+        at = chance.randint(1, LEAST - 1)
         fault = {"at": at, "kind": "closed", "text": b"silence\n".hex()}
-        ran = place.run(run_words(place), place.simulated("--gear", 6), fault=fault)
+        ran = place.run(run_words(place), place.simulated("--gear", GEAR), fault=fault)
         right = ran.status == DRIVER and ran.said.endswith(f"error: line {at} of the driver: the output cannot be written\n")
         place.check("a driver that reads no more ends with status 4, and is named", right, f"at {at}: {ran}")
         check_sound(place)
@@ -305,9 +331,7 @@ def no_output(place, _chance):
         place.check("where nothing can be said the status is the same", done.returncode == STORE, done)
 
 
-FAULTS = {
-    it.__name__: it
-    for it in (
-        full_disk, bad_lines, longest_file, signals, dies, spoilt, closes, locked, missing, blocks, slow, gives_up, no_output,
-    )
-}
+FAULTS = (
+    full_disk, bad_lines, longest_file, opening, signals, dies, spoilt, closes, locked, missing, blocks, slow, gives_up,
+    no_output,
+)

@@ -173,6 +173,9 @@ class Place:
             for end in ("", "-wal") if not in_place else ():
                 with contextlib.suppress(FileNotFoundError):
                     shutil.copyfile(f"{records}{end}", f"{copy}{end}")
+            if is_unmade(copy):
+                self.checks.count("files of records that were not made to the end, which SQLite does not read")
+                return []
             return rows_of(copy)
 
     def check_rows(self, block, records=None, in_place=False):
@@ -226,6 +229,12 @@ class Place:
             is_so = not why and (short, number) in kept[RESERVE]
             self.check("a reservation is in the file before its PROGRAM SHORT ADDRESS", is_so, f"{copy.name}: {why} {kept}")
         shutil.rmtree(folder)
+
+
+def is_unmade(database):
+    """Whether the first page of a file was not written to its end: its first byte comes last."""
+    raw = database.read_bytes()
+    return 0 < len(raw) <= 4096 and raw[0] == 0
 
 
 def rows_of(database):
