@@ -6,8 +6,6 @@ PLAN is JSON:
 
     driver      the words of the driver
     report      a file in which stands at the end how many lines of the program were seen, and whether it was killed
-    is_clear    whether the bus is undisturbed as long as nothing but questions for random addresses was asked: where `damaged`
-                is told of one, it is put again, up to eight times
     watch       a file of records, and a folder: at each PROGRAM SHORT ADDRESS the file and its log are copied there, before the
                 driver has the frame. The copy's name has the number of the line, the short address and the search address
     kill        {pid, byte, count, moment, delay, is_cut}: the program is killed at the count-th frame with this address byte
@@ -25,11 +23,9 @@ import subprocess
 import sys
 import time
 
-RANDOM_BYTES = (0xC2, 0xC3, 0xC4)
 PROGRAM_SHORT = 0xB7
 # The bits of the search address that SEARCHADDRH, SEARCHADDRM and SEARCHADDRL set begin here.
 PLACES = {0xB1: 16, 0xB3: 8, 0xB5: 0}
-TRIES = 8
 
 
 class End(Exception):
@@ -40,7 +36,6 @@ class Between:
     def __init__(self, plan):
         self.plan, self.lines, self.counted, self.search = plan, 0, 0, 0xFFFFFF
         self.kill, self.fault, self.was_killed = plan.get("kill"), plan.get("fault"), False
-        self.is_clear = plan.get("is_clear", False)
         self.driver = subprocess.Popen(plan["driver"], stdin=subprocess.PIPE, stdout=subprocess.PIPE)
 
     def put(self, line):
@@ -53,13 +48,6 @@ class Between:
         told = self.driver.stdout.readline()
         if not told:
             raise End
-        return told
-
-    def put_clear(self, line):
-        for _ in range(TRIES):
-            told = self.put(line)
-            if told != b"damaged\n":
-                break
         return told
 
     def do_kill(self):
@@ -97,7 +85,7 @@ class Between:
     def take(self, line):
         """Passes a line of the program, and the answer to it."""
         self.lines += 1
-        address_byte, opcode_byte = frame = bytes.fromhex(line.split()[2].decode())
+        address_byte, opcode_byte = bytes.fromhex(line.split()[2].decode())
         if address_byte in PLACES:
             self.search = self.search & ~(0xFF << PLACES[address_byte]) | opcode_byte << PLACES[address_byte]
         if address_byte == PROGRAM_SHORT and self.plan.get("watch"):
@@ -108,8 +96,7 @@ class Between:
         moment = self.kill["moment"] if self.is_time(address_byte) else None
         if moment == "before":
             self.do_kill()
-        self.is_clear = self.is_clear and frame[1] in RANDOM_BYTES and frame[0] % 2 == 1
-        told = self.put_clear(line) if self.is_clear else self.put(line)
+        told = self.put(line)
         if moment == "unheard":
             self.do_kill()
         os.write(1, told)
