@@ -1,13 +1,15 @@
 """Proves and builds programs of crates/ and extra/, each with the crates below it, side by side on all processors.
 
-What is proved stays in out/ of each crate, so a build that is interrupted goes on where it was. What the prover says of a
-crate stands in its out/build.log.
+Each crate is proved by `rattle build`, as `rt ci` calls it: the crates above a library read what it states, and not its proofs
+again, which took half of the time. What is proved stays in out/ of each crate, so a build that is interrupted goes on where it
+was. What the prover says of a crate stands in its out/build.log.
 """
 
 import fcntl
 import os
 import pathlib
 import re
+import shlex
 import shutil
 import signal
 import subprocess
@@ -34,14 +36,17 @@ class Interrupted(Exception):
 
 
 class Crate:
-    """A crate: its line in its list, its folder, the crates below it, the files of other crates that it has among its
-    sources, and how many lines there are to prove."""
+    """A crate: its line in its list, its folder, the crates that it names and all below it, the libraries of the kit that it
+    names, the files of other crates that it has among its sources, by which back end a program is compiled, and how many
+    lines there are to prove."""
 
-    def __init__(self, name, line, folder, direct, borrowed):
+    def __init__(self, name, line, folder, direct, of_kit, borrowed):
         self.name, self.line, self.folder, self.borrowed = name, line, folder, borrowed
+        self.direct, self.of_kit = direct, of_kit
         self.below = list(dict.fromkeys(it for crate in direct for it in [*crate.below, crate]))
         self.is_program = any((self.folder / "src" / name).is_file() for name in ("main.rt", "main.rt.txt"))
-        self.made = self.folder / "out" / (name if self.is_program else "rlib/stamp")
+        self.made = self.folder / "out" / (name if self.is_program else f"stated/{name}.rlib/format")
+        self.backend = "rattle" if " backend=rattle" in line.partition(":")[0] else "llvm"
         self.log = self.folder / "out/build.log"
         self.lines = sum(file.read_bytes().count(b"\n") for file in self.sources())
 
@@ -68,7 +73,8 @@ def workspace():
             head, _, below = line.partition(":")
             if head.strip():
                 name, direct = head.split()[0], [found[it] for it in below.split() if it in found]
-                found[name] = Crate(name, line, folder / name, direct, [ROOT / it for it in borrowed.split()])
+                of_kit = [it for it in below.split() if it not in found]
+                found[name] = Crate(name, line, folder / name, direct, of_kit, [ROOT / it for it in borrowed.split()])
     return found
 
 
@@ -136,9 +142,9 @@ class Build:
         place = room() / crate.name
         lay_out(crate, place)
         (crate.folder / "out").mkdir(exist_ok=True)
-        with crate.log.open("wb") as log, input_of(crate, place) as given:
-            words, where = self.words_of(crate, is_longest), place / "crates" / crate.name
-            ran = subprocess.Popen(words, cwd=where, stdin=given, stdout=log, stderr=log, start_new_session=True)
+        with crate.log.open("wb") as log:
+            how = {"stdin": subprocess.DEVNULL, "stdout": log, "stderr": log, "start_new_session": True}
+            ran = subprocess.Popen(self.words_of(crate, is_longest), cwd=place, **how)
         self.running[crate], self.begun[crate] = ran, time.monotonic()
         threading.Thread(target=self.wait_for, args=(crate, ran), daemon=True).start()
 
@@ -147,12 +153,9 @@ class Build:
 
         All make way for the one with the longest chain behind it, which they wait for in the end.
         """
-        jobs = ["--jobs", str(max(min(self.processors, 4, free_memory() // MEMORY), 1))]
+        jobs = max(min(self.processors, 4, free_memory() // MEMORY), 1)
         first = [] if is_longest else ["nice"]
-        if not crate.is_program:
-            return [*first, "rt", "lib", *jobs]
-        args = crate.folder / "args"
-        return [*first, "rt", "run", *jobs, "--", *(args.read_text().splitlines() if args.is_file() else [])]
+        return [*first, "sh", "-c", " && ".join(map(shlex.join, commands(crate, jobs)))]
 
     def wait_for(self, crate, ran):
         status = ran.wait()
@@ -162,10 +165,9 @@ class Build:
 
     def end(self, crate, status):
         del self.running[crate]
-        made = room() / crate.name / "crates" / crate.name / "out" / crate.made.relative_to(crate.folder / "out")
-        if status or not made.is_file():
+        if status or not (room() / crate.name / crate.made.relative_to(crate.folder)).is_file():
             raise Refused(crate.name)
-        keep(crate, made)
+        keep(crate)
         self.begun[crate] = time.monotonic() - self.begun[crate]
         count = len(self.crates) - len(self.left) - len(self.running)
         passed = int(time.monotonic() - self.first)
@@ -192,9 +194,24 @@ class Build:
             ran.wait()
 
 
-def input_of(crate, place):
-    given = place / "crates" / crate.name / "stdin"
-    return open(given if given.is_file() else os.devnull, "rb")
+def commands(crate, jobs):
+    """The calls of the kit that prove a crate in its place, and make its library or its program."""
+    kit, out = kit_folder(), f"out/{crate.name}"
+    named = {it: f"{kit}/rlibs/{it}.rlib" for it in ("std", *crate.of_kit)}
+    named |= {it.name: it.made.parent for it in crate.direct}
+    folders = [f"{kit}/rlibs", *(it.made.parent.parent for it in crate.below)]
+    words = [f"{kit}/bin/rattle", "build", "--crate-name", crate.name, f"src/{'main' if crate.is_program else 'lib'}.rt"]
+    words += [word for name, file in named.items() for word in ("--extern", f"{name}={file}")]
+    words += [word for folder in folders for word in ("-L", f"dependency={folder}")]
+    words += ["--antt-project", f"{kit}/rattle/logic/antt-project.json", "--logic-built", f"{kit}/logic_built"]
+    words += ["--links", f"{crate.name}=", "--jobs", str(jobs)]
+    if not crate.is_program:
+        return [[*words, "--statements", "-o", str(crate.made.parent.relative_to(crate.folder))]]
+    link = [f"{kit}/bin/rattle-link", "--target", "x86_64-unknown-linux-gnu", "--toolchain", f"{kit}/toolchain", "-o", out]
+    return [
+        [*words, "--toolchain", f"{kit}/toolchain", "--backend", crate.backend, "-o", f"{out}.o"],
+        [*link, f"{out}.o", f"{kit}/c/libos_c.a", f"{kit}/c/liblibc_c.a"],
+    ]
 
 
 def link(file, name):
@@ -203,36 +220,25 @@ def link(file, name):
 
 
 def lay_out(crate, place):
-    """Makes a workspace of the crate and those below it, whose libraries are linked in.
-
-    In one workspace rt lets one crate wait for another.
-    """
+    """Makes a copy of the crate's sources, by links: what is built there is taken over when it is whole."""
     shutil.rmtree(place, ignore_errors=True)
     place.mkdir(parents=True)
-    parts = [*crate.below, crate]
-    (place / "crates.txt").write_text("".join(f"{it.line}\n" for it in parts))
-    shutil.copy(ROOT / "HANDLES", place)
-    for it in parts:
-        folder = place / "crates" / it.name
-        folder.mkdir(parents=True)
-        for part in (*PARTS, "out/rlib"):
-            if (it.folder / part).is_dir():
-                shutil.copytree(it.folder / part, folder / part, copy_function=link)
-        for file in it.borrowed:
-            link(file, folder / "src" / file.name)
-        for file in it.folder.iterdir():
-            if file.is_file():
-                shutil.copy(file, folder)
+    for part in PARTS:
+        if (crate.folder / part).is_dir():
+            shutil.copytree(crate.folder / part, place / part, copy_function=link)
+    for file in crate.borrowed:
+        link(file, place / "src" / file.name)
+    (place / "out/stated").mkdir(parents=True)
 
 
-def keep(crate, made):
+def keep(crate):
     """Takes what was built into the checkout."""
-    place, out = room() / crate.name, crate.folder / "out"
-    if crate.is_program:
-        shutil.move(made, crate.made)
-    else:
-        shutil.rmtree(out / "rlib", ignore_errors=True)
-        os.rename(made.parent, out / "rlib")
+    place = room() / crate.name
+    made = crate.made if crate.is_program else crate.made.parent
+    if made.is_dir():
+        shutil.rmtree(made)
+    made.parent.mkdir(parents=True, exist_ok=True)
+    os.replace(place / made.relative_to(crate.folder), made)
     os.utime(crate.made)
     shutil.rmtree(place, ignore_errors=True)
 
@@ -247,6 +253,11 @@ def wanted(programs):
         if needed and not (crate.is_newest() and not any(it in found for it in crate.below)):
             found.append(crate)
     return found
+
+
+def kit_folder():
+    """The folder of the kit, whose bin/ has the command rt."""
+    return pathlib.Path(shutil.which("rt")).resolve().parent.parent
 
 
 def kit():

@@ -27,39 +27,46 @@ Example: dali_sim threads --gear 8 --seed 1 --turns 100000 0-15 16-31
 README.md of the repository shows what it writes, docs/FORMAT.md has each line and the exit statuses.";
 
 /// A required option with a value.
-fn option<'a>(alloc: Global, name: &'a str, value: &'a str) -> Arg<'a> {
+fn option<'a>(alloc: Global, name: &'a str, value: &'a str, help: &'a str) -> Arg<'a> {
     Arg::new(alloc, name)
         .long(name)
         .value_name(value)
         .required(true)
         .action(ArgAction::Set)
+        .help(help)
 }
 
-/// The words of `threads`, in a command of this name.
-pub fn threads_command<'a>(alloc: Global, name: &'a str) -> Result<Command<'a>, AllocError> {
-    let gear = option(alloc, "gear", "N")
-        .value_parser(value_parser!(u32))
-        .help("How many gear there are, 1 to 128");
-    let seed = option(alloc, "seed", "S")
-        .value_parser(value_parser!(u64))
-        .help("Where the random addresses come from: a seed always gives the same ones");
-    let turns = option(alloc, "turns", "T")
-        .value_parser(value_parser!(u32))
-        .help("How many turns each controller may take, and how many the bus");
-    let blocks = Arg::new(alloc, "blocks")
+fn gear<'a>(alloc: Global) -> Arg<'a> {
+    option(alloc, "gear", "N", "How many gear there are, 1 to 128").value_parser(value_parser!(u32))
+}
+
+fn seed<'a>(alloc: Global) -> Arg<'a> {
+    let help = "Where the random addresses come from: a seed always gives the same ones";
+    option(alloc, "seed", "S", help).value_parser(value_parser!(u64))
+}
+
+fn turns<'a>(alloc: Global) -> Arg<'a> {
+    let help = "How many turns each controller may take, and how many the bus";
+    option(alloc, "turns", "T", help).value_parser(value_parser!(u32))
+}
+
+fn block_words<'a>(alloc: Global) -> Arg<'a> {
+    Arg::new(alloc, "blocks")
         .value_name("BLOCK")
         .required(true)
         .num_args(1..)
         .action(ArgAction::Append)
-        .help("A controller each, 1 to 4: the first and the last address of its block, as 0-15");
+        .help("A controller each, 1 to 4: the first and the last address of its block, as 0-15")
+}
+
+/// The words of `threads`, in a command of this name.
+pub fn threads_command<'a>(alloc: Global, name: &'a str) -> Result<Command<'a>, AllocError> {
+    let words = vec![in alloc; gear(alloc), seed(alloc), turns(alloc), block_words(alloc)]?;
     Command::new(alloc, name)
         .about(ABOUT)
         .long_about(LONG_ABOUT)
         .after_help(AFTER_HELP)
-        .arg(gear)?
-        .arg(seed)?
-        .arg(turns)?
-        .arg(blocks)
+        .args(words)
 }
 
 /// What is wrong with the words of `threads`, with its usage.

@@ -6,7 +6,7 @@ ghost use Rattle.dali_command_line.specs.Failure.{answered};
 use crate::failure::Failure;
 use crate::threads_words::{setup, threads_command};
 use clap::error::ErrorKind;
-use clap::{Command, Error};
+use clap::{ArgMatches, Command, Error};
 use dali_threads::Setup;
 use std::alloc::{AllocError, Global};
 use std::io::Eprint;
@@ -40,28 +40,46 @@ Examples:
 
 The manual is README.md of the repository, and docs/FORMAT.md for each line that is read or written.";
 
-/// The words that the program knows.
-fn command<'a>(alloc: Global) -> Result<Command<'a>, AllocError> {
-    let replay = Command::new(alloc, "replay")
+fn replay_command<'a>(alloc: Global) -> Command<'a> {
+    Command::new(alloc, "replay")
         .about("Reads a script of events from standard input and reports each")
         .long_about(REPLAY)
-        .after_help(AFTER_REPLAY);
+        .after_help(AFTER_REPLAY)
+}
+
+/// The words that the program knows.
+fn command<'a>(alloc: Global) -> Result<Command<'a>, AllocError> {
+    let threads = threads_command(alloc, "threads")?;
+    let tasks = vec![in alloc; replay_command(alloc), threads]?;
     Command::new(alloc, "dali_sim")
         .version("0.1.0")
         .about("Short address commissioning of DALI control gear, simulated")
         .after_help(AFTER_HELP)
         .subcommand_required(true)
-        .subcommand(replay)?
-        .subcommand(threads_command(alloc, "threads")?)
+        .subcommands(tasks)
+}
+
+fn matches<'a>(alloc: Global, words: &'a [String]) -> Result<ArgMatches<'a>, Error> {
+    command(alloc)?.try_get_matches_from(words)
+}
+
+/// A subcommand that the program does not know, or none. `clap` refuses both before.
+fn no_task(alloc: Global) -> Result<Task, Error> {
+    let mut command = command(alloc)?;
+    Err(command.error(ErrorKind::InvalidSubcommand, "no such subcommand")?)
+}
+
+fn asked_for(alloc: Global, found: &ArgMatches<'_>) -> Result<Task, Error> {
+    match found.subcommand() {
+        Some(("replay", _)) => Ok(Task::Replay),
+        Some(("threads", found)) => Ok(Task::Threads(setup(alloc, found)?)),
+        _ => no_task(alloc),
+    }
 }
 
 /// Reads the words of a command line, the program's name first.
 fn read(alloc: Global, words: &[String]) -> Result<Task, Error> {
-    let found = command(alloc)?.try_get_matches_from(words)?;
-    match found.subcommand_matches("threads") {
-        Some(found) => Ok(Task::Threads(setup(alloc, found)?)),
-        None => Ok(Task::Replay),
-    }
+    asked_for(alloc, &matches(alloc, words)?)
 }
 
 /// What a command line comes to that `clap` answered, with its answer printed or not.

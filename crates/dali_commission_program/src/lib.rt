@@ -12,5 +12,5 @@ mod words;
 
 pub use failure::{Failure, exit_code};
 pub use program::run_and_say;
-pub use stores::{StoreFault, Stores};
+pub use stores::{Borrower, StoreFault, Stores};
 pub use table::{Form, push_table};

@@ -7,7 +7,7 @@ ghost use Rattle.dali_commission_program.specs.Tables.{table_text};
 use crate::failure::{Failure, ended_as, failure_of};
 use crate::progress::{Manner, Progress};
 use crate::reports::{say_addressed, say_checked, say_commissioned};
-use crate::stores::{StoreFault, Stores};
+use crate::stores::{Borrower, StoreFault, Stores};
 use crate::table::{Form, push_table};
 use crate::tasks::{Bounds, Setup, Task};
 use crate::words::asked;
@@ -54,59 +54,53 @@ fn all_addresses() -> Block {
     }
 }
 
-/// Why records are none of a block, if one of all addresses takes them.
-fn refused<F: Stores>(stores: &F, name: &str, block: &Block) -> Failure {
-    match stores.open(name, all_addresses()) {
-        Ok(mut store) => match store.read() {
-            Ok(kept) => match outside(&kept, *block) {
-                Some(short) => Failure::Outside(short),
-                None => Failure::Store(StoreFault::Store(KeepError::BadStore)),
-            },
-            Err(error) => Failure::Store(StoreFault::Store(error)),
-        },
-        Err(fault) => Failure::Store(fault),
+/// Who says why records are none of a block, if one of all addresses takes them.
+#[derive(Drop)]
+struct Refusing {
+    block: Block,
+}
+
+impl Borrower for Refusing {
+    fn take<K: Keep>(&self, store: &mut K) -> Result<(), Failure> {
+        match outside(&kept(store)?, self.block) {
+            Some(short) => Err(Failure::Outside(short)),
+            None => Err(Failure::Store(StoreFault::Store(KeepError::BadStore))),
+        }
     }
 }
 
-/// The records of a name, for a controller with this block.
-fn opened<F: Stores>(stores: &F, name: &str, block: Block) -> Result<F::Store, Failure> {
-    let fault = match stores.open(name, block) {
-        Ok(store) => return Ok(store),
-        Err(fault) => fault,
-    };
-    if fault == StoreFault::Store(KeepError::BadStore) {
-        return Err(refused(stores, name, &block));
-    }
-    Err(Failure::Store(fault))
+/// Why the records of a name are none of a block.
+fn refused<F: Stores>(stores: &F, name: &str, block: &Block) -> Result<(), Failure> {
+    let refusing = Refusing { block: *block };
+    stores.lend(name, all_addresses(), &refusing)
 }
 
-/// The records of a name that are there.
-fn found<F: Stores>(stores: &F, name: &str) -> Result<F::Store, Failure> {
-    if !stores.has(name) {
-        return Err(Failure::Store(StoreFault::Missing));
+/// Lends the records of a name, for a controller with this block.
+fn lend<F: Stores, B: Borrower>(
+    stores: &F,
+    name: &str,
+    block: &Block,
+    borrower: &B,
+) -> Result<(), Failure> {
+    match stores.lend(name, *block, borrower) {
+        Err(Failure::Store(StoreFault::Store(KeepError::BadStore))) => refused(stores, name, block),
+        done => done,
     }
-    opened(stores, name, all_addresses())
+}
+
+/// Lends the records of a name, if they are there.
+fn lend_found<F: Stores, B: Borrower>(stores: &F, name: &str, borrower: &B) -> Result<(), Failure> {
+    if stores.has(name) {
+        lend(stores, name, &all_addresses(), borrower)
+    } else {
+        Err(Failure::Store(StoreFault::Missing))
+    }
 }
 
 fn kept<K: Keep>(store: &mut K) -> Result<Kept, Failure> {
     match store.read() {
         Ok(kept) => Ok(kept),
         Err(error) => Err(Failure::Store(StoreFault::Store(error))),
-    }
-}
-
-/// Ends with the records, after what was done with them.
-fn closed<F: Stores>(
-    stores: &F,
-    store: F::Store,
-    done: Result<(), Failure>,
-) -> Result<(), Failure> {
-    match stores.close(store) {
-        Ok(()) => done,
-        Err(fault) => {
-            done?;
-            Err(Failure::Store(fault))
-        }
     }
 }
 
@@ -189,15 +183,18 @@ where
     }
 }
 
-/// Gives short addresses to gear.
-fn run<S, F>(system: &S, stores: &F, setup: &Setup, is_terminal: bool) -> Result<(), Failure>
-where
-    S: Input + Print + Eprint + AllocGlobal,
-    F: Stores,
-{
-    let mut store = opened(stores, &setup.records, setup.block)?;
-    let done = run_with(system, &mut store, setup, is_terminal);
-    closed(stores, store, done)
+/// Who gives short addresses to gear.
+#[derive(Drop)]
+struct Running<'a, S> {
+    system: &'a S,
+    setup: &'a Setup,
+    is_terminal: bool,
+}
+
+impl<S: Input + Print + Eprint + AllocGlobal> Borrower for Running<'_, S> {
+    fn take<K: Keep>(&self, store: &mut K) -> Result<(), Failure> {
+        run_with(self.system, store, self.setup, self.is_terminal)
+    }
 }
 
 /// Says which gear answer, beside these records.
@@ -219,6 +216,19 @@ where
     }
 }
 
+/// Who says which gear answer.
+#[derive(Drop)]
+struct Checking<'a, S> {
+    system: &'a S,
+    bounds: &'a Bounds,
+}
+
+impl<S: Input + Print + Eprint + AllocGlobal> Borrower for Checking<'_, S> {
+    fn take<K: Keep>(&self, store: &mut K) -> Result<(), Failure> {
+        check_with(self.system, store, self.bounds)
+    }
+}
+
 /// Says which gear answer, beside the records, if there are any.
 fn checks<S, F>(system: &S, stores: &F, bounds: &Bounds) -> Result<(), Failure>
 where
@@ -226,11 +236,7 @@ where
     F: Stores,
 {
     match &bounds.records {
-        Some(name) => {
-            let mut store = found(stores, name)?;
-            let done = check_with(system, &mut store, bounds);
-            closed(stores, store, done)
-        }
+        Some(name) => lend_found(stores, name, &Checking { system, bounds }),
         None => check_with(system, &mut MemoryKeep::new(all_addresses()), bounds),
     }
 }
@@ -283,18 +289,18 @@ fn write_table<W: Write>(
     Ok(())
 }
 
-/// Writes the table of the records of a name.
-fn table<S, F>(system: &S, stores: &F, name: &str, form: Form) -> Result<(), Failure>
-where
-    S: Print + AllocGlobal,
-    F: Stores,
-{
-    let mut store = found(stores, name)?;
-    let done = match kept(&mut store) {
-        Ok(kept) => write_table(system.alloc(), &mut io::writer(system), form, &kept),
-        Err(failure) => Err(failure),
-    };
-    closed(stores, store, done)
+/// Who writes the table of the records.
+#[derive(Drop)]
+struct Writing<'a, S> {
+    system: &'a S,
+    form: Form,
+}
+
+impl<S: Print + AllocGlobal> Borrower for Writing<'_, S> {
+    fn take<K: Keep>(&self, store: &mut K) -> Result<(), Failure> {
+        let (alloc, mut writer) = (self.system.alloc(), io::writer(self.system));
+        write_table(alloc, &mut writer, self.form, &kept(store)?)
+    }
 }
 
 /// Does what the words of the command line ask for.
@@ -306,10 +312,17 @@ where
     let words = words(system)?;
     match asked(system, &words)? {
         Task::Help => Ok(()),
-        Task::Run(setup) => run(system, stores, &setup, is_terminal),
+        Task::Run(setup) => {
+            let running = Running {
+                system,
+                setup: &setup,
+                is_terminal,
+            };
+            lend(stores, &setup.records, &setup.block, &running)
+        }
         Task::Check(bounds) => checks(system, stores, &bounds),
         Task::Identify(short) => identify(system, short),
-        Task::Table(name, form) => table(system, stores, &name, form),
+        Task::Table(name, form) => lend_found(stores, &name, &Writing { system, form }),
     }
 }
 

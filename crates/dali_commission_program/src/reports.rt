@@ -14,13 +14,17 @@ What can be done:
 
 /// What is heard of a short address that is not accounted for.
 fn say_stranger<S: Eprint>(system: &S, number: usize, reply: Reply) {
-    let _ = match reply {
-        Reply::Silence => Ok(()),
-        Reply::Random(random) => eprintln!(system; "{number} {random} stranger"),
-        Reply::Noise => eprintln!(system; "{number} - several strangers, or a disturbed bus"),
-        Reply::Unclear => eprintln!(system; "{number} - strangers that were not understood"),
-        Reply::Several => eprintln!(system; "{number} - several strangers"),
+    let what = match reply {
+        Reply::Silence => return,
+        Reply::Random(random) => {
+            let _ = eprintln!(system; "{number} {random} stranger");
+            return;
+        }
+        Reply::Noise => "several strangers, or a disturbed bus",
+        Reply::Unclear => "strangers that were not understood",
+        Reply::Several => "several strangers",
     };
+    let _ = eprintln!(system; "{number} - {what}");
 }
 
 /// Each short address that is not accounted for, and that a gear answers to. How many there are.
@@ -64,17 +68,17 @@ pub fn say_commissioned<S: Eprint>(system: &S, given: usize, enrolled: usize, fr
 
 fn say_standing<S: Eprint>(system: &S, short: Short, random: Random24, standing: Standing) {
     let number = short.number();
-    let _ = match standing {
-        Standing::There => eprintln!(system; "{number} {random} there"),
-        Standing::Missing => eprintln!(system; "{number} {random} missing"),
-        Standing::Another(heard) => eprintln!(system;
-            "{number} {random} another gear answers: {heard}"
-        ),
-        Standing::Unclear => {
-            eprintln!(system; "{number} {random} several gear answer, or the bus is disturbed")
+    let what = match standing {
+        Standing::There => "there",
+        Standing::Missing => "missing",
+        Standing::Another(heard) => {
+            let _ = eprintln!(system; "{number} {random} another gear answers: {heard}");
+            return;
         }
-        Standing::Several => eprintln!(system; "{number} {random} several gear answer"),
+        Standing::Unclear => "several gear answer, or the bus is disturbed",
+        Standing::Several => "several gear answer",
     };
+    let _ = eprintln!(system; "{number} {random} {what}");
 }
 
 fn reply_of(replies: &[Reply], short: Short) -> Reply {

@@ -1,5 +1,6 @@
 //! Where records are kept: by a name, as in a file.
 
+use crate::failure::Failure;
 use dali_reserve::{Keep, KeepError};
 use dali_script::Block;
 use thiserror::Error;
@@ -21,16 +22,20 @@ pub enum StoreFault {
     Store(KeepError),
 }
 
-/// Places where records are kept.
-pub trait Stores {
-    type Store: Keep + Drop;
+/// Who does something with records while they are open.
+pub trait Borrower {
+    /// Does it.
+    fn take<K: Keep>(&self, store: &mut K) -> Result<(), Failure>;
+}
 
+/// Places where records are kept.
+///
+/// Records are lent and not handed out, so that nothing else has to know what they are kept in.
+pub trait Stores {
     /// Whether there are records of this name.
     fn has(&self, name: &str) -> bool;
 
-    /// The records of this name, for a controller with this block. They are made where there are none.
-    fn open(&self, name: &str, block: Block) -> Result<Self::Store, StoreFault>;
-
-    /// Ends with the records.
-    fn close(&self, store: Self::Store) -> Result<(), StoreFault>;
+    /// Opens the records of this name for a controller with this block, lends them, and closes them. They are made
+    /// where there are none. What the borrower ends with goes before why they could not be closed.
+    fn lend<B: Borrower>(&self, name: &str, block: Block, borrower: &B) -> Result<(), Failure>;
 }

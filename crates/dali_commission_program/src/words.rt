@@ -38,113 +38,158 @@ const CHECK: &str = "\
 Asks each short address three times for the random address of its gear, and says beside the records: who answers, who is
 missing, which gear are strangers, and where several have one address. It gives no address and writes no record.";
 
-fn records<'a>(alloc: Global) -> Arg<'a> {
-    Arg::new(alloc, "records")
-        .long("records")
-        .value_name("FILE")
+/// An option that takes a value.
+fn option<'a>(alloc: Global, name: &'a str, value: &'a str, help: &'a str) -> Arg<'a> {
+    Arg::new(alloc, name)
+        .long(name)
+        .value_name(value)
         .action(ArgAction::Set)
-        .help("The file of the records: one controller, one file")
+        .help(help)
+}
+
+/// An option that is there or not.
+fn flag<'a>(alloc: Global, name: &'a str, help: &'a str) -> Arg<'a> {
+    Arg::new(alloc, name)
+        .long(name)
+        .action(ArgAction::SetTrue)
+        .help(help)
+}
+
+/// A word that has to be there.
+fn word<'a>(alloc: Global, name: &'a str, value: &'a str, help: &'a str) -> Arg<'a> {
+    Arg::new(alloc, name)
+        .value_name(value)
+        .required(true)
+        .action(ArgAction::Set)
+        .help(help)
+}
+
+fn records<'a>(alloc: Global) -> Arg<'a> {
+    option(
+        alloc,
+        "records",
+        "FILE",
+        "The file of the records: one controller, one file",
+    )
 }
 
 fn driver<'a>(alloc: Global) -> Arg<'a> {
-    Arg::new(alloc, "driver")
-        .long("driver")
-        .value_name("COMMAND")
-        .action(ArgAction::Set)
-        .help("The driver of the bus, which the launcher starts; without it the lines are yours")
+    let help = "The driver of the bus, which the launcher starts; without it the lines are yours";
+    option(alloc, "driver", "COMMAND", help)
 }
 
 fn others<'a>(alloc: Global) -> Arg<'a> {
-    Arg::new(alloc, "others")
-        .long("others")
-        .value_name("BLOCK")
-        .action(ArgAction::Append)
-        .help("The block of another controller, whose addresses are not asked; may be given again")
+    let help = "The block of another controller, whose addresses are not asked; may be given again";
+    option(alloc, "others", "BLOCK", help).action(ArgAction::Append)
 }
 
-/// The words of `run`.
+fn quiet_runs<'a>(alloc: Global) -> Arg<'a> {
+    option(
+        alloc,
+        "quiet-runs",
+        "N",
+        "How many runs in a row must have found nothing",
+    )
+    .value_parser(value_parser!(u8).range(1..))
+    .default_value("3")
+}
+
+fn address<'a>(alloc: Global) -> Arg<'a> {
+    word(
+        alloc,
+        "address",
+        "ADDRESS",
+        "The short address of the gear, 0 to 63",
+    )
+    .value_parser(value_parser!(u8).range(0..64))
+}
+
+fn json<'a>(alloc: Global) -> Result<Arg<'a>, AllocError> {
+    flag(alloc, "json", "As an array with an object for each gear").conflicts_with("csv")
+}
+
+/// A subcommand with these words.
+fn subcommand<'a>(
+    alloc: Global,
+    name: &'a str,
+    about: &'a str,
+    more: &'a str,
+    words: Vec<Arg<'a>>,
+) -> Result<Command<'a>, AllocError> {
+    Command::new(alloc, name)
+        .about(about)
+        .long_about(more)
+        .args(words)
+}
+
 fn run<'a>(alloc: Global) -> Result<Command<'a>, AllocError> {
-    let quiet_runs = Arg::new(alloc, "quiet-runs")
-        .long("quiet-runs")
-        .value_name("N")
-        .action(ArgAction::Set)
-        .value_parser(value_parser!(u8).range(1..))
-        .default_value("3")
-        .help("How many runs in a row must have found nothing");
-    let quiet = Arg::new(alloc, "quiet")
-        .long("quiet")
-        .action(ArgAction::SetTrue)
-        .help("Say nothing of how far it is");
-    let block = Arg::new(alloc, "block")
-        .value_name("BLOCK")
-        .required(true)
-        .action(ArgAction::Set)
-        .help("The short addresses that may be given, as 0-63");
-    Command::new(alloc, "run")
-        .about("Gives short addresses to the gear")
-        .long_about(RUN)
-        .arg(records(alloc).required(true))?
-        .arg(driver(alloc))?
-        .arg(others(alloc))?
-        .arg(quiet_runs)?
-        .arg(quiet)?
-        .arg(block)
+    let quiet = flag(alloc, "quiet", "Say nothing of how far it is");
+    let help = "The short addresses that may be given, as 0-63";
+    let words = vec![in alloc;
+        records(alloc).required(true),
+        driver(alloc),
+        others(alloc),
+        quiet_runs(alloc),
+        quiet,
+        word(alloc, "block", "BLOCK", help),
+    ]?;
+    subcommand(
+        alloc,
+        "run",
+        "Gives short addresses to the gear",
+        RUN,
+        words,
+    )
 }
 
-/// The words of `check`.
 fn check<'a>(alloc: Global) -> Result<Command<'a>, AllocError> {
-    Command::new(alloc, "check")
-        .about("Says which gear answer, beside the records")
-        .long_about(CHECK)
-        .arg(records(alloc))?
-        .arg(driver(alloc))?
-        .arg(others(alloc))
+    let about = "Says which gear answer, beside the records";
+    let words = vec![in alloc; records(alloc), driver(alloc), others(alloc)]?;
+    subcommand(alloc, "check", about, CHECK, words)
 }
 
-/// The words of `identify`.
 fn identify<'a>(alloc: Global) -> Result<Command<'a>, AllocError> {
-    let address = Arg::new(alloc, "address")
-        .value_name("ADDRESS")
-        .required(true)
-        .action(ArgAction::Set)
-        .value_parser(value_parser!(u8).range(0..64))
-        .help("The short address of the gear, 0 to 63");
-    Command::new(alloc, "identify")
-        .about("Makes the gear with a short address go bright and dark")
-        .arg(driver(alloc))?
-        .arg(address)
+    let about = "Makes the gear with a short address go bright and dark";
+    let words = vec![in alloc; driver(alloc), address(alloc)]?;
+    subcommand(alloc, "identify", about, about, words)
 }
 
-/// The words of `table`.
 fn table<'a>(alloc: Global) -> Result<Command<'a>, AllocError> {
-    let csv = Arg::new(alloc, "csv")
-        .long("csv")
-        .action(ArgAction::SetTrue)
-        .help("As comma-separated values, with a heading");
-    let json = Arg::new(alloc, "json")
-        .long("json")
-        .action(ArgAction::SetTrue)
-        .conflicts_with("csv")?
-        .help("As an array with an object for each gear");
-    Command::new(alloc, "table")
-        .about("Writes which gear has which short address")
-        .arg(records(alloc).required(true))?
-        .arg(csv)?
-        .arg(json)
+    let about = "Writes which gear has which short address";
+    let json = json(alloc)?;
+    let csv = flag(alloc, "csv", "As comma-separated values, with a heading");
+    let words = vec![in alloc; records(alloc).required(true), csv, json]?;
+    subcommand(alloc, "table", about, about, words)
+}
+
+/// Adds a subcommand, if there was memory for it.
+fn add<'a>(
+    commands: &mut Vec<Command<'a>>,
+    made: Result<Command<'a>, AllocError>,
+) -> Result<(), AllocError> {
+    commands.push(made?)?;
+    Ok(())
+}
+
+fn subcommands<'a>(alloc: Global) -> Result<Vec<Command<'a>>, AllocError> {
+    let mut commands = Vec::new(alloc);
+    add(&mut commands, run(alloc))?;
+    add(&mut commands, check(alloc))?;
+    add(&mut commands, identify(alloc))?;
+    add(&mut commands, table(alloc))?;
+    Ok(commands)
 }
 
 /// The words that the program knows.
 fn command<'a>(alloc: Global) -> Result<Command<'a>, AllocError> {
+    let commands = subcommands(alloc)?;
     Command::new(alloc, "dali_commission")
         .version("0.1.0")
         .about("Short address commissioning of DALI control gear")
         .long_about(LONG_ABOUT)
         .after_help(AFTER_HELP)
         .subcommand_required(true)
-        .subcommand(run(alloc)?)?
-        .subcommand(check(alloc)?)?
-        .subcommand(identify(alloc)?)?
-        .subcommand(table(alloc)?)
+        .subcommands(commands)
 }
 
 fn fault(alloc: Global, kind: ErrorKind, message: &str) -> Result<Error, AllocError> {
@@ -173,10 +218,6 @@ fn block(alloc: Global, word: &str) -> Result<Block, Error> {
     }
 }
 
-fn meet(one: Block, other: Block) -> bool {
-    one.first <= other.last && other.first <= one.last
-}
-
 /// The blocks of other controllers.
 fn blocks(alloc: Global, found: &ArgMatches<'_>) -> Result<Vec<Block>, Error> {
     let mut blocks = Vec::new(alloc);
@@ -184,6 +225,22 @@ fn blocks(alloc: Global, found: &ArgMatches<'_>) -> Result<Vec<Block>, Error> {
         blocks.push(block(alloc, word)?)?;
     }
     Ok(blocks)
+}
+
+fn meets_any(own: Block, others: &[Block]) -> bool {
+    others
+        .iter()
+        .any(|other| own.first <= other.last && other.first <= own.last)
+}
+
+/// The blocks of other controllers, none of which may have an address in common with the own one.
+fn other_blocks(alloc: Global, found: &ArgMatches<'_>, own: Block) -> Result<Vec<Block>, Error> {
+    let others = blocks(alloc, found)?;
+    if meets_any(own, &others) {
+        let message = "the block and that of another controller have an address in common";
+        return Err(fault(alloc, ErrorKind::ArgumentConflict, message)?);
+    }
+    Ok(others)
 }
 
 /// A driver that was not started.
@@ -201,17 +258,11 @@ fn text(alloc: Global, found: &ArgMatches<'_>, name: &str) -> Result<String, Err
 
 /// What is asked for by `run`.
 fn setup(alloc: Global, found: &ArgMatches<'_>) -> Result<Setup, Error> {
-    let own = block(alloc, found.get_str("block").unwrap_or_default())?;
-    let others = blocks(alloc, found)?;
-    for other in &others {
-        if meet(own, *other) {
-            let message = "the block and that of another controller have an address in common";
-            return Err(fault(alloc, ErrorKind::ArgumentConflict, message)?);
-        }
-    }
+    let block = block(alloc, found.get_str("block").unwrap_or_default())?;
+    let others = other_blocks(alloc, found, block)?;
     Ok(Setup {
         records: text(alloc, found, "records")?,
-        block: own,
+        block,
         others,
         quiet_runs: found.get_one("quiet-runs").unwrap_or(3),
         is_quiet: found.get_flag("quiet"),
@@ -220,18 +271,16 @@ fn setup(alloc: Global, found: &ArgMatches<'_>) -> Result<Setup, Error> {
 
 /// What is asked for by `check`.
 fn bounds(alloc: Global, found: &ArgMatches<'_>) -> Result<Bounds, Error> {
+    let others = blocks(alloc, found)?;
     let records = match found.get_str("records") {
         Some(name) => Some(String::from_str(alloc, name)?),
         None => None,
     };
-    Ok(Bounds {
-        records,
-        others: blocks(alloc, found)?,
-    })
+    Ok(Bounds { records, others })
 }
 
 /// The short address that is asked for by `identify`.
-fn address(alloc: Global, found: &ArgMatches<'_>) -> Result<Short, Error> {
+fn short(alloc: Global, found: &ArgMatches<'_>) -> Result<Short, Error> {
     match Short::of(found.get_one("address").unwrap_or(64)) {
         Some(short) => Ok(short),
         None => Err(fault(alloc, ErrorKind::ValueValidation, "not a short address")?),
@@ -248,36 +297,55 @@ fn form(found: &ArgMatches<'_>) -> Form {
     }
 }
 
+fn run_task(alloc: Global, found: &ArgMatches<'_>) -> Result<Task, Error> {
+    no_driver(alloc, found)?;
+    Ok(Task::Run(setup(alloc, found)?))
+}
+
+fn check_task(alloc: Global, found: &ArgMatches<'_>) -> Result<Task, Error> {
+    no_driver(alloc, found)?;
+    Ok(Task::Check(bounds(alloc, found)?))
+}
+
+fn identify_task(alloc: Global, found: &ArgMatches<'_>) -> Result<Task, Error> {
+    no_driver(alloc, found)?;
+    Ok(Task::Identify(short(alloc, found)?))
+}
+
+fn table_task(alloc: Global, found: &ArgMatches<'_>) -> Result<Task, Error> {
+    Ok(Task::Table(text(alloc, found, "records")?, form(found)))
+}
+
+/// A subcommand that the program does not know, or none. `clap` refuses both before.
+fn no_task(alloc: Global) -> Result<Task, Error> {
+    Err(fault(alloc, ErrorKind::InvalidSubcommand, "no such subcommand")?)
+}
+
 /// What the words of one subcommand ask for.
 fn task(alloc: Global, name: &str, found: &ArgMatches<'_>) -> Result<Task, Error> {
     match name {
-        "run" => {
-            no_driver(alloc, found)?;
-            Ok(Task::Run(setup(alloc, found)?))
-        }
-        "check" => {
-            no_driver(alloc, found)?;
-            Ok(Task::Check(bounds(alloc, found)?))
-        }
-        "identify" => {
-            no_driver(alloc, found)?;
-            Ok(Task::Identify(address(alloc, found)?))
-        }
-        _ => Ok(Task::Table(text(alloc, found, "records")?, form(found))),
+        "run" => run_task(alloc, found),
+        "check" => check_task(alloc, found),
+        "identify" => identify_task(alloc, found),
+        "table" => table_task(alloc, found),
+        _ => no_task(alloc),
     }
+}
+
+fn subcommand_task(alloc: Global, found: &ArgMatches<'_>) -> Result<Task, Error> {
+    match found.subcommand() {
+        Some((name, found)) => task(alloc, name, found),
+        None => no_task(alloc),
+    }
+}
+
+fn matches<'a>(alloc: Global, words: &'a [String]) -> Result<ArgMatches<'a>, Error> {
+    command(alloc)?.try_get_matches_from(words)
 }
 
 /// Reads the words of a command line, the program's name first.
 fn read(alloc: Global, words: &[String]) -> Result<Task, Error> {
-    let found = command(alloc)?.try_get_matches_from(words)?;
-    match found.subcommand() {
-        Some((name, found)) => task(alloc, name, found),
-        None => Err(fault(
-            alloc,
-            ErrorKind::MissingSubcommand,
-            "a subcommand is required",
-        )?),
-    }
+    subcommand_task(alloc, &matches(alloc, words)?)
 }
 
 /// What a command line comes to that `clap` answered, with its answer printed or not.

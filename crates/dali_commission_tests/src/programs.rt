@@ -84,6 +84,10 @@ fn words_that_ask_for_nothing_are_refused(rt: HostRuntime) {
         ),
         (b"dali_commission identify 64".as_slice(), "'64'"),
         (
+            b"dali_commission identify 5 --driver x".as_slice(),
+            "launcher",
+        ),
+        (
             b"dali_commission table --records site.db --csv --json".as_slice(),
             "--csv",
         ),

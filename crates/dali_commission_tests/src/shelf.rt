@@ -1,6 +1,6 @@
 //! Records in memory under a name, for the program.
 
-use dali_commission_program::{StoreFault, Stores};
+use dali_commission_program::{Borrower, Failure, StoreFault, Stores};
 use dali_frame::{Random24, Short};
 use dali_reserve::{Keep, KeepError, MemoryKeep};
 use dali_script::{Block, Record};
@@ -60,38 +60,42 @@ fn is_kept(store: &mut MemoryKeep, block: &Block, record: &Record) -> bool {
     }
 }
 
-impl Stores for Shelf<'_> {
-    type Store = MemoryKeep;
+/// These records, for a controller with this block.
+fn store_of(records: &[(u8, u8, u32)], block: Block) -> Option<MemoryKeep> {
+    let mut store = MemoryKeep::new(block);
+    for (kind, address, random) in records {
+        if !is_kept(&mut store, &block, &record(*kind, *address, *random)?) {
+            return None;
+        }
+    }
+    Some(store)
+}
 
+impl Shelf<'_> {
+    /// Notes how many gear are enrolled.
+    fn close(&self, store: &mut MemoryKeep) {
+        if let (Ok(kept), Ok(mut enrolled)) = (store.read(), self.enrolled.try_borrow_mut()) {
+            *enrolled = kept.enrolled().len();
+        }
+    }
+}
+
+impl Stores for Shelf<'_> {
     fn has(&self, name: &str) -> bool {
         name == "site.db"
     }
 
-    fn open(&self, _name: &str, block: Block) -> Result<MemoryKeep, StoreFault> {
+    fn lend<B: Borrower>(&self, _name: &str, block: Block, borrower: &B) -> Result<(), Failure> {
         if let Some(fault) = self.fault {
-            return Err(fault);
+            return Err(Failure::Store(fault));
         }
-        let mut store = MemoryKeep::new(block);
-        for (kind, address, random) in self.records {
-            let is_added = match record(*kind, *address, *random) {
-                Some(record) => is_kept(&mut store, &block, &record),
-                None => false,
-            };
-            if !is_added {
-                return Err(StoreFault::Store(KeepError::BadStore));
+        match store_of(self.records, block) {
+            Some(mut store) => {
+                let done = borrower.take(&mut store);
+                self.close(&mut store);
+                done
             }
-        }
-        Ok(store)
-    }
-
-    fn close(&self, store: MemoryKeep) -> Result<(), StoreFault> {
-        let mut store = store;
-        match (store.read(), self.enrolled.try_borrow_mut()) {
-            (Ok(kept), Ok(mut enrolled)) => {
-                *enrolled = kept.enrolled().len();
-                Ok(())
-            }
-            _ => Err(StoreFault::Store(KeepError::StoreFailed)),
+            None => Err(Failure::Store(StoreFault::Store(KeepError::BadStore))),
         }
     }
 }
