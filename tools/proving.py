@@ -55,13 +55,13 @@ class Crate:
         return own + self.borrowed
 
     def is_newest(self):
-        """Whether it is built, and nothing that it is made of is newer."""
+        """Whether it is built, and no source of it or of the crates below it is newer."""
         if not self.made.is_file():
             return False
         lists = [file for file, folder in WORKSPACES if folder == self.folder.parent]
-        parts = [*lists, *self.sources(), *(crate.made for crate in self.below)]
+        sources = [*lists, *(file for crate in [*self.below, self] for file in crate.sources())]
         made = self.made.stat().st_mtime
-        return all(part.is_file() and part.stat().st_mtime <= made for part in parts)
+        return all(file.stat().st_mtime <= made for file in sources)
 
 
 def workspace():
@@ -244,9 +244,12 @@ def keep(crate):
 
 
 def wanted(programs):
-    """The crates that these programs are made of and that are not built yet, lowest first."""
+    """The crates that these programs are made of and that are not built yet, lowest first.
+
+    A program that is newer than all its sources needs no library, whoever built it.
+    """
     crates = workspace()
-    tops = [crates[it] for it in programs]
+    tops = [crates[it] for it in programs if not crates[it].is_newest()]
     found = []
     for crate in crates.values():
         needed = any(crate is top or crate in top.below for top in tops)

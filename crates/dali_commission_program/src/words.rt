@@ -108,18 +108,19 @@ fn json<'a>(alloc: Global) -> Result<Arg<'a>, AllocError> {
     flag(alloc, "json", "As an array with an object for each gear").conflicts_with("csv")
 }
 
-/// A subcommand with these words.
+/// A subcommand with these words, and what its long help has in place of its short one.
 fn subcommand<'a>(
     alloc: Global,
     name: &'a str,
     about: &'a str,
-    more: &'a str,
+    long_about: Option<&'a str>,
     words: Vec<Arg<'a>>,
 ) -> Result<Command<'a>, AllocError> {
-    Command::new(alloc, name)
-        .about(about)
-        .long_about(more)
-        .args(words)
+    let command = Command::new(alloc, name).about(about);
+    match long_about {
+        Some(text) => command.long_about(text).args(words),
+        None => command.args(words),
+    }
 }
 
 fn run<'a>(alloc: Global) -> Result<Command<'a>, AllocError> {
@@ -145,13 +146,13 @@ fn run<'a>(alloc: Global) -> Result<Command<'a>, AllocError> {
 fn check<'a>(alloc: Global) -> Result<Command<'a>, AllocError> {
     let about = "Says which gear answer, beside the records";
     let words = vec![in alloc; records(alloc), driver(alloc), others(alloc)]?;
-    subcommand(alloc, "check", about, CHECK, words)
+    subcommand(alloc, "check", about, Some(CHECK), words)
 }
 
 fn identify<'a>(alloc: Global) -> Result<Command<'a>, AllocError> {
     let about = "Makes the gear with a short address go bright and dark";
     let words = vec![in alloc; driver(alloc), address(alloc)]?;
-    subcommand(alloc, "identify", about, about, words)
+    subcommand(alloc, "identify", about, None, words)
 }
 
 fn table<'a>(alloc: Global) -> Result<Command<'a>, AllocError> {
@@ -159,7 +160,7 @@ fn table<'a>(alloc: Global) -> Result<Command<'a>, AllocError> {
     let json = json(alloc)?;
     let csv = flag(alloc, "csv", "As comma-separated values, with a heading");
     let words = vec![in alloc; records(alloc).required(true), csv, json]?;
-    subcommand(alloc, "table", about, about, words)
+    subcommand(alloc, "table", about, None, words)
 }
 
 /// Adds a subcommand, if there was memory for it.
