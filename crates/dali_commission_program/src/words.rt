@@ -138,7 +138,7 @@ fn run<'a>(alloc: Global) -> Result<Command<'a>, AllocError> {
         alloc,
         "run",
         "Gives short addresses to the gear",
-        RUN,
+        Some(RUN),
         words,
     )
 }
