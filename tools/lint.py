@@ -212,7 +212,68 @@ def kit(root):
             yield f"{named(root, file)}: the kit's name stands here, and in KIT"
 
 
-RULES = (widths, lengths, imports, docs, crates, links, paths, clauses, kit)
+# Enums of the code whose variants are spelled once more where the code cannot be read: the file that has the enum, the file
+# that has its codes if it has some, and how each further file spells a variant.
+ORDERS, CODES, HEADER, FORMAT = (
+    "crates/dali_script/src/orders.rt",
+    "crates/dali_c/src/codes.rt",
+    "include/dali_c.h",
+    "docs/FORMAT.md",
+)
+REPLAY, THREADS = "tools/replay_report.py", "tools/threads_report.py"
+SPELLINGS = {
+    "Input": (ORDERS, None, {HEADER: "DALI_{UPPER}"}),
+    "Order": (ORDERS, None, {HEADER: "DALI_{UPPER} ="}),
+    "End": (
+        ORDERS,
+        CODES,
+        {HEADER: "DALI_{UPPER} = {code}", FORMAT: "`c: done {kebab}`", REPLAY: "{kebab}", THREADS: '"{kebab}"'},
+    ),
+    "Fault": (
+        ORDERS,
+        CODES,
+        {HEADER: "DALI_{UPPER} = {code}", FORMAT: "`c: halt {kebab}`", THREADS: '"halt {kebab}"'},
+    ),
+    "Due": (ORDERS, CODES, {HEADER: "DALI_DUE_{UPPER} = {code}"}),
+    "Record": (
+        "crates/dali_script/src/records.rt",
+        "crates/dali_c/src/orders.rt",
+        {HEADER: "DALI_{UPPER} = {code}", FORMAT: "{code} {Name}:", REPLAY: "{kebab}"},
+    ),
+    "KeepError": ("crates/dali_reserve/src/error.rt", "crates/dali_reserve/src/error.rt", {FORMAT: "| {code} | {Name} |"}),
+}
+
+
+def variants(text, name):
+    """The variants of an enum in a file of code."""
+    found = re.search(rf"^pub enum {name} \{{\n(.*?)^\}}", without_comments(text), re.M | re.S)
+    return re.findall(r"^    (\w+)", found[1], re.M) if found else []
+
+
+def code_of(text, name, variant):
+    """The number that a file of code has for a variant, or None."""
+    found = re.search(rf"\b{name}::{variant}\b(?:\([^)]*\))? => \(?(\d+)", text)
+    return found and found[1]
+
+
+def spellings(root):
+    """What cannot read the code spells each variant of an enum as the code has it, and with its number."""
+    for name, (file, codes, spelled) in SPELLINGS.items():
+        found = variants((root / file).read_text(), name) if (root / file).exists() else []
+        if not found:
+            yield f"{file}: there is no enum {name}"
+        for variant in found:
+            snake = re.sub(r"(?<!^)([A-Z])", r"_\1", variant).lower()
+            forms = {"Name": variant, "UPPER": snake.upper(), "kebab": snake.replace("_", "-")}
+            if codes:
+                forms["code"] = code_of((root / codes).read_text(), name, variant)
+            for other, form in spelled.items():
+                wanted = form.format(**forms)
+                if not re.search(rf"(?<![\w-]){re.escape(wanted)}(?!\d)", (root / other).read_text()):
+                    yield f"{other}: '{wanted}' is missing, which {name}::{variant} is"
+
+
+RULES = (widths, lengths, imports, docs, crates, links, paths, clauses, kit, spellings)
 
 
 def offences(root):
