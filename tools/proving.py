@@ -1,8 +1,8 @@
 """Proves and builds programs of crates/ and extra/, each with the crates below it, side by side on all processors.
 
-Each crate is proved by `rattle build`, as `rt ci` calls it: the crates above a library read what it states, and not its proofs
-again, which took half of the time. What is proved stays in out/ of each crate, so a build that is interrupted goes on where it
-was. What the prover says of a crate stands in its out/build.log.
+Each crate is proved by `rattle build`, as `rt ci` calls it: the crates above a library read what it states, and not its proofs.
+What is proved stays in out/ of each crate, so a build that is interrupted goes on where it was. What the prover says of a crate
+stands in its out/build.log.
 """
 
 import fcntl
@@ -264,24 +264,35 @@ def kit_folder():
 
 
 def kit():
-    """Whether the kit is there. Says so where it is not, or is not the one that the repository was proved with."""
+    """The name of the kit that is there, or None. Says so where there is none, or another than the repository was proved with."""
     named = (ROOT / "KIT").read_text().strip()
     if not shutil.which("rt"):
         say(f"the Rattle kit is missing: README.md says what is needed; the repository was last proved with {named}")
-        return False
+        return None
     found = subprocess.run(["rt", "version"], capture_output=True, text=True, stdin=subprocess.DEVNULL).stdout.strip()
     if found != named:
         say(f"note: this is {found}; the repository was last proved with {named}")
-    return True
+    return found
+
+
+def forget_others(kit_name):
+    """Forgets the libraries that another kit proved, which this one cannot read."""
+    last = pathlib.Path(f"{room()}.kit")
+    if last.is_file() and last.read_text() != kit_name:
+        for crate in workspace().values():
+            shutil.rmtree(crate.folder / "out/stated", ignore_errors=True)
+    last.write_text(kit_name)
 
 
 def prove(title, programs):
     """Proves and builds programs, and returns an exit status."""
-    crates = wanted(programs)
-    if not crates:
+    if not wanted(programs):
         return 0
-    if not kit():
+    found = kit()
+    if found is None:
         return MISSING
+    forget_others(found)
+    crates = wanted(programs)
     run = Build(title, crates)
     begun = f"proving {len(crates)} crates on {run.processors} processors"
     say(f"{title}: {begun}; the prover's words go to crates/NAME/out/build.log")
