@@ -31,6 +31,10 @@ class Refused(Exception):
     """A crate that is not proved."""
 
 
+class Changed(Exception):
+    """A crate that was edited while it was proved, or one above it."""
+
+
 class Interrupted(Exception):
     """A signal that ends the build."""
 
@@ -53,6 +57,10 @@ class Crate:
     def sources(self):
         own = [file for part in PARTS for file in (self.folder / part).rglob("*") if file.is_file()]
         return own + self.borrowed
+
+    def is_edited(self, since):
+        """Whether one of its sources is newer than this moment."""
+        return any(file.stat().st_mtime > since for file in self.sources())
 
     def is_newest(self):
         """Whether it is built, and no source of it or of the crates below it is newer."""
@@ -112,7 +120,7 @@ class Build:
 
     def __init__(self, title, crates):
         self.title, self.crates, self.left = title, crates, list(crates)
-        self.running, self.ended, self.begun = {}, {}, {}
+        self.running, self.ended, self.begun, self.read = {}, {}, {}, {}
         self.processors, self.changed, self.first = processors(), threading.Condition(), time.monotonic()
 
     def behind(self, crate):
@@ -139,7 +147,7 @@ class Build:
     def start(self, crate):
         is_longest = self.behind(crate) >= max(map(self.behind, [*self.left, *self.running]))
         self.left.remove(crate)
-        place = room() / crate.name
+        place, self.read[crate] = room() / crate.name, time.time()
         lay_out(crate, place)
         (crate.folder / "out").mkdir(exist_ok=True)
         with crate.log.open("wb") as log:
@@ -167,7 +175,10 @@ class Build:
         del self.running[crate]
         if status or not (room() / crate.name / crate.made.relative_to(crate.folder)).is_file():
             raise Refused(crate.name)
-        keep(crate)
+        for it in [*crate.below, crate]:
+            if it.is_edited(self.read[crate] if it is crate else it.made.stat().st_mtime):
+                raise Changed(it.name)
+        keep(crate, self.read[crate])
         self.begun[crate] = time.monotonic() - self.begun[crate]
         count = len(self.crates) - len(self.left) - len(self.running)
         passed = int(time.monotonic() - self.first)
@@ -231,15 +242,15 @@ def lay_out(crate, place):
     (place / "out/stated").mkdir(parents=True)
 
 
-def keep(crate):
-    """Takes what was built into the checkout."""
+def keep(crate, read):
+    """Takes what was built into the checkout. It is as old as the reading of its sources: what was edited since is newer."""
     place = room() / crate.name
     made = crate.made if crate.is_program else crate.made.parent
     if made.is_dir():
         shutil.rmtree(made)
     made.parent.mkdir(parents=True, exist_ok=True)
     os.replace(place / made.relative_to(crate.folder), made)
-    os.utime(crate.made)
+    os.utime(crate.made, (read, read))
     shutil.rmtree(place, ignore_errors=True)
 
 
@@ -303,6 +314,9 @@ def prove(title, programs):
         log = workspace()[str(refused)].log
         say(f"{title}: {refused} is refused; the end of {log}:")
         say("\n".join(log.read_text(errors="replace").splitlines()[-20:]))
+        return REFUSED
+    except Changed as changed:
+        say(f"{title}: {changed} was edited while it was proved, or one above it: run this again")
         return REFUSED
     finally:
         run.stop()
