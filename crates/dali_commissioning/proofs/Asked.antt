@@ -1,4 +1,4 @@
-use Rattle.std.proofs.Common.{◌≡◌, arith, ℕ, ◌+◌, List, [], ◌∷◌, ◌++◌, length, true, Option, Some, None, is_some, refl, ◌∙◌, ap, sym, subst}
+use Rattle.std.proofs.Common.{◌≡◌, ◌<◌, ◌≤◌, arith, ℕ, suc, ◌+◌, ◌*◌, List, [], ◌∷◌, ◌++◌, length, true, Option, Some, None, is_some, refl, ◌∙◌, ap, sym, subst}
 use Rattle.dali_frame.specs.declared.frames.Answer.{Answer}
 use Rattle.dali_script.specs.declared.orders.Input.{Input}
 use Rattle.dali_script.specs.declared.block.Block.{Block}
@@ -6,7 +6,7 @@ use Rattle.dali_script.specs.Records.{Kept}
 use Rattle.dali_commissioning.specs.declared.census.Reply.{Reply}
 use Rattle.dali_commissioning.specs.declared.census.Reply.TheVariants as reply
 use Rattle.dali_commissioning.specs.Drivers.{Talk}
-use Rattle.dali_commissioning.specs.Census.{query_at, answer_told, IsPut, IsAsked, reply_of, reply_heard, reply_told, joined_if, one_if, AreAsked, reply_after, whole_of, IsAnswered, IsCounted, AreCounted}
+use Rattle.dali_commissioning.specs.Census.{query_at, answer_told, IsPut, IsAsked, reply_of, reply_heard, reply_told, joined_if, one_if, AreAsked, reply_after, whole_of, IsAnswered, AreLost, lost_after, IsGivenUp, IsCounted, AreCounted}
 
 -- a frame that was heard
 pub is_heard : (heard : Option Answer) (told : Input) (h : Answer) → heard ≡ answer_told told → heard ≡ Some h
@@ -38,29 +38,53 @@ unspelled o p q h m high middle low =
     sym (ap (λ x. reply_heard x p q) high ∙ ap (λ x. reply_heard (Some h) x q) middle ∙ ap (λ x. reply_heard (Some h) (Some m) x) low)
 
 -- the questions of one short address, one more
-pub record HasAsked (a : ℕ) (x y : Talk) (it : Reply) (asked : ℕ) : Type 0 where
+pub record HasAsked (a : ℕ) (x y : Talk) (it : Reply) (asked lost : ℕ) : Type 0 where
   pub questions : List (List Input)
   pub are : AreAsked a questions x y
   pub counted : asked ≡ whole_of questions
   pub told : it ≡ reply_after questions
+  pub are_lost : AreLost lost questions
 
-pub none_asked : (a : ℕ) (x : Talk) → HasAsked a x x reply.Noise 0
-none_asked a x = record { questions = []; are = refl; counted = refl; told = refl }
+pub none_asked : (a : ℕ) (x : Talk) → HasAsked a x x reply.Noise 0 0
+none_asked a x = record { questions = []; are = refl; counted = refl; told = refl; are_lost = tt }
 
-pub asked_more : (a : ℕ) (x y z : Talk) (old new : Reply) (asked more : ℕ) (told : Option Reply)
-    → HasAsked a x y old asked
+lost_more : (lost : ℕ) (told : Option Reply) (inputs : List Input) (before : List (List Input)) → told ≡ reply_told inputs
+    → AreLost lost before → AreLost (lost_after lost told) (inputs ∷ before)
+lost_more lost (Some r) inputs before says so_far = tt
+lost_more lost None inputs before says so_far =
+    let suc_lost : suc lost ≡ lost + 1 = omega arith in
+    subst (λ n. AreLost n (inputs ∷ before)) suc_lost (sym says, so_far)
+
+pub asked_more : (a : ℕ) (x y z : Talk) (old new : Reply) (asked more lost later : ℕ) (told : Option Reply)
+    → HasAsked a x y old asked lost
     → (inputs : List Input) × IsAsked a inputs y z × (told ≡ reply_told inputs)
-    → new ≡ joined_if old told → more ≡ asked + one_if told → HasAsked a x z new more
-asked_more a x y z old new asked more told so_far (inputs, is_asked, says) joined added = record {
+    → new ≡ joined_if old told → more ≡ asked + one_if told → later ≡ lost_after lost told → HasAsked a x z new more later
+asked_more a x y z old new asked more lost later told so_far (inputs, is_asked, says) joined added counted = record {
   questions = inputs ∷ so_far.questions;
   are = (y, so_far.are, is_asked);
   counted = added ∙ ap (λ n. n + one_if told) so_far.counted ∙ ap (λ t. whole_of so_far.questions + one_if t) says;
   told = joined ∙ ap (λ r. joined_if r told) so_far.told ∙ ap (λ t. joined_if (reply_after so_far.questions) t) says;
+  are_lost = subst (λ n. AreLost n (inputs ∷ so_far.questions)) (sym counted) (lost_more lost told inputs so_far.questions says so_far.are_lost);
 }
 
-pub answered : (a : ℕ) (x y : Talk) (it : Reply) (asked : ℕ) → HasAsked a x y it asked → asked ≡ 3
+pub answered : (a : ℕ) (x y : Talk) (it : Reply) (asked lost : ℕ) → HasAsked a x y it asked lost → asked ≡ 3
     → IsAnswered a it x y
-answered a x y it asked so_far is = (so_far.questions, so_far.are, sym so_far.counted ∙ is, so_far.told)
+answered a x y it asked lost so_far is = (so_far.questions, so_far.are, sym so_far.counted ∙ is, so_far.told)
+
+pub given_up : (a : ℕ) (x y : Talk) (it : Reply) (asked lost : ℕ) → HasAsked a x y it asked lost → asked < 3 → lost ≡ 8
+    → IsGivenUp a x y
+given_up a x y it asked lost so_far few is = (
+  so_far.questions,
+  so_far.are,
+  subst (λ n. n < 3) so_far.counted few,
+  subst (λ n. AreLost n so_far.questions) is so_far.are_lost,
+)
+
+-- each question that is told whole comes behind seven lost ones at most
+pub tried_more : (count asked more lost later : ℕ) (told : Option Reply) → count ≤ 8 * asked + lost → lost < 8
+    → more ≡ asked + one_if told → later ≡ lost_after lost told → count + 1 ≤ 8 * more + later
+tried_more count asked more lost later (Some r) tried few added counted = omega (arith, tried, few, added, counted)
+tried_more count asked more lost later None tried few added counted = omega (arith, tried, few, added, counted)
 
 -- one short address more
 pub counted_more : (k : Kept) (others : List Block) (a n : ℕ) (rs : List Reply) (r : Reply) (x y z : Talk)

@@ -1,4 +1,4 @@
-use Rattle.std.proofs.Common.{◌≡◌, arith, ℕ, ◌+◌, suc, List, [], ◌∷◌, ◌++◌, Bool, true, false, ◌||◌, Option, refl, ◌∙◌, ap, sym, subst}
+use Rattle.std.proofs.Common.{◌≡◌, arith, ℕ, ◌+◌, suc, List, [], ◌∷◌, ◌++◌, length, Bool, true, false, ◌||◌, Option, refl, ◌∙◌, ap, sym, subst}
 use Rattle.std.proofs.lemmas.Bool.{false≢true}
 use Rattle.std.proofs.lemmas.List.{append_assoc, append-nil}
 use Rattle.dali_script.specs.declared.block.Block.{Block}
@@ -16,7 +16,7 @@ use Rattle.dali_commissioning.specs.declared.conducting.Ended.TheVariants.{Done}
 use Rattle.dali_commissioning.specs.Drivers.{Talk}
 use Rattle.dali_commissioning.specs.Steps.{Step, last_order, record_told, committed_by, is_kept, has_committed}
 use Rattle.dali_commissioning.specs.Conducted.{Conducted, Commits, Stays, IsAt, order_of}
-use Rattle.dali_commissioning.specs.Runs.{Run, IsRun, AreRuns, AreAllFound, EndWith, AreQuiet, quiet_after, Grows, IsRead}
+use Rattle.dali_commissioning.specs.Runs.{Run, IsRun, AreRuns, HaveRun, AreAllFound, EndWith, AreQuiet, quiet_after, Grows, IsRead}
 use Rattle.dali_commissioning.proofs.Steps.{stays_further}
 
 -- steps that were told of no record have committed none
@@ -68,8 +68,9 @@ of_block is_up is_sound holds a b was keep x y ended committed same =
 
 -- all runs so far
 pub record HasRun {S : Type 0} (is_up is_sound : S → Type 0) (holds : S → List Record → Type 0) (block : Block)
-    (was keep : S) (x y : Talk) (quiet : ℕ) : Type 0 where
+    (was keep : S) (x y : Talk) (quiet count : ℕ) : Type 0 where
   pub runs : List Run
+  pub counted : length runs ≡ count
   pub are : AreRuns is_up is_sound holds block was keep x y runs
   pub found : AreAllFound runs
   pub quiet_runs : AreQuiet quiet runs
@@ -77,9 +78,10 @@ pub record HasRun {S : Type 0} (is_up is_sound : S → Type 0) (holds : S → Li
   pub stays : Stays is_up is_sound was keep
 
 pub none_ran : {S : Type 0} (is_up is_sound : S → Type 0) (holds : S → List Record → Type 0) (block : Block)
-    (keep : S) (x : Talk) → HasRun is_up is_sound holds block keep keep x x 0
+    (keep : S) (x : Talk) → HasRun is_up is_sound holds block keep keep x x 0 0
 none_ran is_up is_sound holds block keep x = record {
   runs = [];
+  counted = refl;
   are = (refl, refl);
   found = tt;
   quiet_runs = tt;
@@ -96,16 +98,17 @@ quiet_more quiet false run before is so_far =
 
 -- one run more, that found no gear any more
 pub ran_more : {S : Type 0} (is_up is_sound : S → Type 0) (holds : S → List Record → Type 0) (block : Block)
-    (was mid keep : S) (x y z : Talk) (quiet more : ℕ) (ended : Ended) (committed : Bool)
-    → HasRun is_up is_sound holds block was mid x y quiet
+    (was mid keep : S) (x y z : Talk) (quiet more count : ℕ) (ended : Ended) (committed : Bool)
+    → HasRun is_up is_sound holds block was mid x y quiet count
     → OneRun is_up is_sound holds block mid keep y z ended committed
     → ended ≡ Done AllFound → more ≡ quiet_after quiet committed
-    → HasRun is_up is_sound holds block was keep x z more
-ran_more is_up is_sound holds block was mid keep x y z quiet more ended committed so_far (run, is, ends, has) all_found counted = record {
+    → HasRun is_up is_sound holds block was keep x z more (count + 1)
+ran_more is_up is_sound holds block was mid keep x y z quiet more count ended committed so_far (run, is, ends, has) all_found added = record {
   runs = run ∷ so_far.runs;
+  counted = omega (arith, so_far.counted);
   are = (mid, y, so_far.are, is);
   found = (ends ∙ all_found, so_far.found);
-  quiet_runs = subst (λ n. AreQuiet n (run ∷ so_far.runs)) (sym counted) (quiet_more quiet committed run so_far.runs has so_far.quiet_runs);
+  quiet_runs = subst (λ n. AreQuiet n (run ∷ so_far.runs)) (sym added) (quiet_more quiet committed run so_far.runs has so_far.quiet_runs);
   grows = grows_further is_up is_sound holds was mid keep so_far.stays is.stays so_far.grows
       (commits_grow is_up is_sound holds mid keep (committed_by run.steps) is.commits);
   stays = stays_further is_up is_sound was mid keep so_far.stays is.stays;
@@ -113,30 +116,36 @@ ran_more is_up is_sound holds block was mid keep x y z quiet more ended committe
 
 -- the last run, which ended otherwise
 pub ended_otherwise : {S : Type 0} (is_up is_sound : S → Type 0) (holds : S → List Record → Type 0) (block : Block)
-    (was mid keep : S) (x y z : Talk) (quiet wanted : ℕ) (ended : Ended) (committed : Bool)
-    → HasRun is_up is_sound holds block was mid x y quiet
+    (was mid keep : S) (x y z : Talk) (quiet wanted count : ℕ) (ended : Ended) (committed : Bool)
+    → HasRun is_up is_sound holds block was mid x y quiet count
     → OneRun is_up is_sound holds block mid keep y z ended committed
     → (ended ≡ Done AllFound → ⊥)
     → (runs : List Run) × AreRuns is_up is_sound holds block was keep x z runs × EndWith ended runs
     × (ended ≡ Done AllFound → AreQuiet wanted runs)
-ended_otherwise is_up is_sound holds block was mid keep x y z quiet wanted ended committed so_far (run, is, ends, has) otherwise =
+ended_otherwise is_up is_sound holds block was mid keep x y z quiet wanted count ended committed so_far (run, is, ends, has) otherwise =
     (run ∷ so_far.runs, (mid, y, so_far.are, is), (ends, so_far.found), λ found. absurd (otherwise found))
 
 -- the last run, after which as many as are wanted were quiet
 pub ended_quiet : {S : Type 0} (is_up is_sound : S → Type 0) (holds : S → List Record → Type 0) (block : Block)
-    (was mid keep : S) (x y z : Talk) (quiet wanted : ℕ) (ended : Ended) (committed : Bool)
-    → HasRun is_up is_sound holds block was mid x y quiet
+    (was mid keep : S) (x y z : Talk) (quiet wanted count : ℕ) (ended : Ended) (committed : Bool)
+    → HasRun is_up is_sound holds block was mid x y quiet count
     → OneRun is_up is_sound holds block mid keep y z ended committed
     → quiet_after quiet committed ≡ wanted
     → (runs : List Run) × AreRuns is_up is_sound holds block was keep x z runs × EndWith ended runs
     × (ended ≡ Done AllFound → AreQuiet wanted runs)
-ended_quiet is_up is_sound holds block was mid keep x y z quiet wanted ended committed so_far (run, is, ends, has) enough = (
+ended_quiet is_up is_sound holds block was mid keep x y z quiet wanted count ended committed so_far (run, is, ends, has) enough = (
   run ∷ so_far.runs,
   (mid, y, so_far.are, is),
   (ends, so_far.found),
   λ found.
       subst (λ n. AreQuiet n (run ∷ so_far.runs)) enough (quiet_more quiet committed run so_far.runs has so_far.quiet_runs),
 )
+
+-- all runs, as many as were counted
+pub all_ran : {S : Type 0} (is_up is_sound : S → Type 0) (holds : S → List Record → Type 0) (block : Block)
+    (was keep : S) (x y : Talk) (quiet count : ℕ) → HasRun is_up is_sound holds block was keep x y quiet count
+    → HaveRun is_up is_sound holds block was keep x y count
+all_ran is_up is_sound holds block was keep x y quiet count so_far = (so_far.runs, so_far.are, so_far.found, so_far.counted)
 
 -- A run of a machine that began with what its store gave it: the store as it was, after it was read, and at the end.
 pub run_of : {S : Type 0} (is_up is_sound : S → Type 0) (holds : S → List Record → Type 0) (kept_of : S → Kept)

@@ -144,6 +144,16 @@ abbrev pub whole_of : List (List Input) → ℕ
 whole_of [] = 0
 whole_of (told ∷ before) = whole_of before + one_if (reply_told told)
 
+-- so many questions in a row were lost, the last one among them
+abbrev pub AreLost : ℕ → List (List Input) → Type 0
+AreLost zero questions = Unit {0}
+AreLost (suc n) [] = ⊥
+AreLost (suc n) (told ∷ before) = (reply_told told ≡ None) × AreLost n before
+
+abbrev pub lost_after : ℕ → Option Reply → ℕ
+lost_after n (Some r) = 0
+lost_after n None = n + 1
+
 -- A SHORT ADDRESS IS ASKED until three questions were told whole.
 abbrev pub IsAnswered : ℕ → Reply → Talk → Talk → Type 0
 IsAnswered a r x y =
@@ -151,6 +161,14 @@ IsAnswered a r x y =
     × AreAsked a questions x y
     × (whole_of questions ≡ 3)
     × (r ≡ reply_after questions)
+
+-- A SHORT ADDRESS IS GIVEN UP where eight questions in a row were lost before that.
+abbrev pub IsGivenUp : ℕ → Talk → Talk → Type 0
+IsGivenUp a x y =
+    (questions : List (List Input))
+    × AreAsked a questions x y
+    × (whole_of questions < 3)
+    × AreLost 8 questions
 
 -- ---------------------------------------------------------------- the census
 

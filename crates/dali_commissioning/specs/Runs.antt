@@ -1,5 +1,5 @@
 use Rattle.std.specs.Prelude.{◌≡◌, ℕ, zero, suc, ◌+◌, Bool, true, false, List, [], ◌∷◌}
-use Rattle.std.specs.Prelude.{◌++◌, Option, Some, None, if◌then◌else◌}
+use Rattle.std.specs.Prelude.{◌++◌, length, Option, Some, None, if◌then◌else◌}
 use Rattle.dali_script.specs.declared.block.Block.{Block}
 use Rattle.dali_script.specs.declared.records.Record.{Record}
 use Rattle.dali_script.specs.declared.orders.End.TheVariants.{AllFound}
@@ -53,6 +53,15 @@ AreAllFound (run ∷ before) = (run.ended ≡ Done AllFound) × AreAllFound befo
 abbrev pub EndWith : Ended → List Run → Type 0
 EndWith ended [] = ⊥
 EndWith ended (run ∷ before) = (run.ended ≡ ended) × AreAllFound before
+
+-- SO MANY RUNS, one after the other, and none of them found any gear more
+abbrev pub HaveRun : {S : Type 0} (is_up is_sound : S → Type 0)
+    (holds : S → List Record → Type 0) → Block → S → S → Talk → Talk → ℕ → Type 0
+HaveRun is_up is_sound holds block was keep x y count =
+    (runs : List Run)
+    × AreRuns is_up is_sound holds block was keep x y runs
+    × AreAllFound runs
+    × (length runs ≡ count)
 
 -- so many runs in a row, the last one among them, committed nothing
 abbrev pub AreQuiet : ℕ → List Run → Type 0

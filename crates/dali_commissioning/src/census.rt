@@ -1,6 +1,6 @@
 //! The census of the short addresses: which gear answer to addresses that no record names, before any is given.
 
-ghost use Rattle.std.specs.Prelude.{◌≡◌, ◌==◌, length, List, IfOk};
+ghost use Rattle.std.specs.Prelude.{◌≡◌, ◌<◌, ◌==◌, length, List, Err, IfOk};
 ghost use Rattle.std.specs.List.{list_any};
 ghost use Rattle.dali_script.specs.declared.orders.Input.{Input};
 ghost use Rattle.dali_special.specs.declared.command.Command.TheVariants.{RandomByte};
@@ -8,8 +8,8 @@ ghost use Rattle.dali_special.specs.Command.{frame_of};
 ghost use Rattle.dali_commissioning.specs.Drivers.{talk_of};
 ghost use Rattle.dali_commissioning.specs.Census.{IsPut, answer_told, IsAsked, reply_of, reply_told};
 ghost use Rattle.dali_commissioning.specs.Census.{is_byte, is_silence, without_number};
-ghost use Rattle.dali_commissioning.specs.Census.{joined, joined_if, one_if};
-ghost use Rattle.dali_commissioning.specs.Census.{IsAnswered, is_named, IsCounted, AreCounted};
+ghost use Rattle.dali_commissioning.specs.Census.{joined, joined_if, one_if, lost_after};
+ghost use Rattle.dali_commissioning.specs.Census.{IsAnswered, IsGivenUp, is_named, IsCounted, AreCounted};
 ghost use Rattle.dali_commissioning.specs.Census.{is_known, is_silent, is_addressed, standing_of};
 ghost use Rattle.dali_script.specs.Stages.{in_block};
 
@@ -149,6 +149,17 @@ fn one_if(told: Option<Reply>) -> u8
     }
 }
 
+/// How many questions in a row were lost, with one more.
+fn lost_after(lost: u8, told: &Option<Reply>) -> u8
+    requires { lost < 255 }
+    ensures { result ≡ lost_after lost told.now }
+{
+    match *told {
+        Some(_) => 0,
+        None => lost + 1,
+    }
+}
+
 /// Asks for one byte of a random address. None where the frame was lost.
 fn byte<R: Read, W: Write>(
     driver: &mut Driver<R, W>,
@@ -194,8 +205,10 @@ pub fn ask<R: Read, W: Write>(
     driver: &mut Driver<R, W>,
     short: Short,
 ) -> Result<Reply, CommissionFault>
-    ensures { IfOk result (λ reply. IsAnswered short reply
+    ensures answered { IfOk result (λ reply. IsAnswered short reply
         (talk_of R.remaining W.contents driver.old) (talk_of R.remaining W.contents driver.new)) }
+    ensures lost { result ≡ Err CommissionFault.QuestionLost → IsGivenUp short
+        (talk_of R.remaining W.contents driver.old) (talk_of R.remaining W.contents driver.new) }
 {
     let mut reply = Reply::Noise;
     let mut asked = 0;
@@ -207,7 +220,7 @@ pub fn ask<R: Read, W: Write>(
         };
         reply = joined_if(reply, told);
         asked += one_if(told);
-        lost = if told.is_some() { 0 } else { lost + 1 };
+        lost = lost_after(lost, &told);
         if asked == QUESTIONS {
             return Ok(reply);
         }
@@ -215,6 +228,7 @@ pub fn ask<R: Read, W: Write>(
             return Err(CommissionFault::QuestionLost);
         }
     }
+    // Never so: at most seven questions are lost before each that is answered.
     Err(CommissionFault::QuestionLost)
 }
 

@@ -142,6 +142,7 @@ fn answer<K: Keep, R: Read, W: Write>(
         (record_told told (record_ordered (Some order.now)))) }
     ensures left { IfErr result (λ _. MayCommit K.is_up K.is_sound K.holds keep.old keep.new []) }
     ensures not_spent { result ≢ Err CommissionFault.StepsSpent }
+    ensures one_run { result ≢ Err CommissionFault.RunsSpent }
 {
     match *order {
         Order::Put(priority, frame) => {
@@ -209,6 +210,7 @@ pub fn conduct<K: Keep, R: Read, W: Write, P: Watch>(
         waiting (order_of outcome.ended) outcome.committed count) }
     ensures spent { result ≡ Err CommissionFault.StepsSpent → HasTaken machine.old machine.new (steps + 1) }
     ensures fault { IfErr result (λ _. IsLeft K.is_up K.is_sound K.holds keep.old keep.new machine.old machine.new) }
+    ensures one_run { result ≢ Err CommissionFault.RunsSpent }
     ensures stays { Stays K.is_up K.is_sound keep.old keep.new }
     ensures block { K.block keep.new ≡ K.block keep.old }
 {

@@ -1,11 +1,11 @@
 //! Commissioning until it is done: one machine after the other, each from the records of the store.
 
-ghost use Rattle.std.specs.Prelude.{◌≡◌, ◌<◌, ◌↔◌, List, IsTrue, IfOk, IfErr};
+ghost use Rattle.std.specs.Prelude.{◌≡◌, ◌≢◌, ◌<◌, ◌↔◌, List, IsTrue, Err, IfOk, IfErr};
 ghost use Rattle.dali_script.specs.declared.orders.End.TheVariants as ends;
 ghost use Rattle.dali_commissioning.specs.Drivers.{talk_of};
 ghost use Rattle.dali_commissioning.specs.Steps.{has_committed};
 ghost use Rattle.dali_commissioning.specs.Conducted.{Stays};
-ghost use Rattle.dali_commissioning.specs.Runs.{Run, IsRun, AreRuns, AreQuiet, EndWith, Grows, quiet_after};
+ghost use Rattle.dali_commissioning.specs.Runs.{Run, IsRun, AreRuns, HaveRun, AreQuiet, EndWith, Grows, quiet_after};
 
 use crate::conducting::{Ended, Outcome, conduct};
 use crate::driver::Driver;
@@ -51,6 +51,7 @@ fn run<K: Keep, R: Read, W: Write, P: Watch>(
     ensures left { IfErr result (λ _. Grows K.is_up K.is_sound K.holds keep.old keep.new) }
     ensures stays { Stays K.is_up K.is_sound keep.old keep.new }
     ensures block { K.block keep.new ≡ K.block keep.old }
+    ensures one_run { result ≢ Err CommissionFault.RunsSpent }
 {
     let kept = match keep.read() {
         Ok(kept) => kept,
@@ -65,7 +66,7 @@ fn run<K: Keep, R: Read, W: Write, P: Watch>(
 /// nothing.
 ///
 /// One run may leave gear where an answer was lost. The store has all that was committed, however it ends.
-#[tactic(auto, using(crate::proofs::Ran::none_ran))]
+#[tactic(auto, using(crate::proofs::Ran::none_ran, crate::proofs::Ran::all_ran))]
 pub fn commission<K: Keep, R: Read, W: Write, P: Watch>(
     keep: &mut K,
     driver: &mut Driver<R, W>,
@@ -76,6 +77,8 @@ pub fn commission<K: Keep, R: Read, W: Write, P: Watch>(
     ensures ran { IfOk result (λ ended. (runs : List Run) × AreRuns K.is_up K.is_sound K.holds (K.block keep.old)
         keep.old keep.new (talk_of R.remaining W.contents driver.old) (talk_of R.remaining W.contents driver.new) runs
         × EndWith ended runs × (ended ≡ Ended.Done ends.AllFound → AreQuiet quiet_runs runs)) }
+    ensures spent { result ≡ Err CommissionFault.RunsSpent → HaveRun K.is_up K.is_sound K.holds (K.block keep.old)
+        keep.old keep.new (talk_of R.remaining W.contents driver.old) (talk_of R.remaining W.contents driver.new) 1000 }
     ensures left { IfErr result (λ _. Grows K.is_up K.is_sound K.holds keep.old keep.new) }
     ensures stays { Stays K.is_up K.is_sound keep.old keep.new }
     ensures block { K.block keep.new ≡ K.block keep.old }

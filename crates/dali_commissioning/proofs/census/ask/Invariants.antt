@@ -1,4 +1,4 @@
-use Rattle.std.proofs.Common.{◌<◌}
+use Rattle.std.proofs.Common.{◌<◌, ◌≤◌, ◌+◌, ◌*◌}
 use Rattle.dali_commissioning.specs.Drivers.{talk_of}
 use Rattle.dali_commissioning.proofs.Asked.{HasAsked}
 use Rattle.dali_commissioning.proofs.census.ask.Given as goal
@@ -6,7 +6,8 @@ use Rattle.dali_commissioning.proofs.census.ask.Given as goal
 abbrev pub invariant-loop : goal.invariant-loop
 invariant-loop g l = record {
   asked : HasAsked l.short (talk_of g.R.Read.remaining g.W.Write.contents l.fn.driver)
-      (talk_of g.R.Read.remaining g.W.Write.contents l.driver) l.reply l.asked;
+      (talk_of g.R.Read.remaining g.W.Write.contents l.driver) l.reply l.asked l.lost;
   few : l.asked < 3;
   fewer : l.lost < 8;
+  tried : l.counter ≤ 8 * l.asked + l.lost;
 }

@@ -4,19 +4,19 @@ use Rattle.dali_commissioning.proofs.runs.commission.Goals as goal
 
 pub returns-then-not-is_all_found-clause-ran : goal.returns-then-not-is_all_found-clause-ran
 returns-then-not-is_all_found-clause-ran g c =
-    ended_otherwise g.K.Keep.is_up g.K.Keep.is_sound g.K.Keep.holds _ _ _ _ _ _ _ _ _ _ _ c.loop.invariant.ran
+    ended_otherwise g.K.Keep.is_up g.K.Keep.is_sound g.K.Keep.holds _ _ _ _ _ _ _ _ _ _ _ _ c.loop.invariant.ran
     (of_block g.K.Keep.is_up g.K.Keep.is_sound g.K.Keep.holds _ _ _ _ _ _ _ _ c.loop.invariant.block c.in-Ok.ensures.ran)
     (search rules)
 
 pub returns-then-quiet-quiet_runs-clause-ran : goal.returns-then-quiet-quiet_runs-clause-ran
 returns-then-quiet-quiet_runs-clause-ran g c =
-    ended_quiet g.K.Keep.is_up g.K.Keep.is_sound g.K.Keep.holds _ _ _ _ _ _ _ _ _ _ _ c.loop.invariant.ran
+    ended_quiet g.K.Keep.is_up g.K.Keep.is_sound g.K.Keep.holds _ _ _ _ _ _ _ _ _ _ _ _ c.loop.invariant.ran
     (of_block g.K.Keep.is_up g.K.Keep.is_sound g.K.Keep.holds _ _ _ _ _ _ _ _ c.loop.invariant.block c.in-Ok.ensures.ran)
     (sym c.quiet_after-quiet.ensures ∙ c.if-quiet-quiet_runs.true)
 
 pub loop-preserved : goal.loop-preserved
 loop-preserved g c = record {
-  ran = ran_more g.K.Keep.is_up g.K.Keep.is_sound g.K.Keep.holds _ _ _ _ _ _ _ _ _ c.in-Ok.outcome.ended _ c.loop.invariant.ran
+  ran = ran_more g.K.Keep.is_up g.K.Keep.is_sound g.K.Keep.holds _ _ _ _ _ _ _ _ _ _ c.in-Ok.outcome.ended _ c.loop.invariant.ran
       (of_block g.K.Keep.is_up g.K.Keep.is_sound g.K.Keep.holds _ _ _ _ _ _ _ _ c.loop.invariant.block c.in-Ok.ensures.ran)
       (search rules) c.quiet_after-quiet.ensures;
   few = search rules;
