@@ -38,146 +38,216 @@ const CHECK: &str = "\
 Asks each short address three times for the random address of its gear, and says beside the records: who answers, who is
 missing, which gear are strangers, and where several have one address. It gives no address and writes no record.";
 
-/// An option that takes a value.
-fn option<'a>(alloc: Global, name: &'a str, value: &'a str, help: &'a str) -> Arg<'a> {
-    Arg::new(alloc, name)
-        .long(name)
-        .value_name(value)
-        .action(ArgAction::Set)
-        .help(help)
+/// What a word of the command line is.
+#[derive(Clone, Copy)]
+enum Kind {
+    /// An option that is there or not.
+    Flag,
+    /// The same, but never beside another one.
+    NotBeside(&'static str),
+    /// An option with a value.
+    Option,
+    /// An option with a value that has to be there.
+    Needed,
+    /// An option with a value that may be given again.
+    Again,
+    /// An option with a number from 1 on, and 3 where it is not there.
+    Number,
+    /// A word at its place, which has to be there.
+    Place,
+    /// The same, a short address.
+    Address,
 }
 
-/// An option that is there or not.
-fn flag<'a>(alloc: Global, name: &'a str, help: &'a str) -> Arg<'a> {
-    Arg::new(alloc, name)
-        .long(name)
+/// A word of the command line: its name, what stands in the help for its value, and what the help says of it.
+struct Word {
+    name: &'static str,
+    value: &'static str,
+    help: &'static str,
+    kind: Kind,
+}
+
+/// A subcommand: its name, what the short help and the long one say of it, and its words.
+struct Subcommand {
+    name: &'static str,
+    about: &'static str,
+    long_about: Option<&'static str>,
+    words: &'static [Word],
+}
+
+const DRIVER: Word = Word {
+    name: "driver",
+    value: "COMMAND",
+    help: "The driver of the bus, which the launcher starts; without it the lines are yours",
+    kind: Kind::Option,
+};
+
+const OTHERS: Word = Word {
+    name: "others",
+    value: "BLOCK",
+    help: "The block of another controller, whose addresses are not asked; may be given again",
+    kind: Kind::Again,
+};
+
+const RECORDS: &str = "The file of the records: one controller, one file";
+
+const NEEDED_RECORDS: Word = Word {
+    name: "records",
+    value: "FILE",
+    help: RECORDS,
+    kind: Kind::Needed,
+};
+
+const RUN_WORDS: &[Word] = &[
+    NEEDED_RECORDS,
+    DRIVER,
+    OTHERS,
+    Word {
+        name: "quiet-runs",
+        value: "N",
+        help: "How many runs in a row must have found nothing",
+        kind: Kind::Number,
+    },
+    Word {
+        name: "quiet",
+        value: "",
+        help: "Say nothing of how far it is",
+        kind: Kind::Flag,
+    },
+    Word {
+        name: "block",
+        value: "BLOCK",
+        help: "The short addresses that may be given, as 0-63",
+        kind: Kind::Place,
+    },
+];
+
+const CHECK_WORDS: &[Word] = &[
+    Word {
+        name: "records",
+        value: "FILE",
+        help: RECORDS,
+        kind: Kind::Option,
+    },
+    DRIVER,
+    OTHERS,
+];
+
+const IDENTIFY_WORDS: &[Word] = &[
+    DRIVER,
+    Word {
+        name: "address",
+        value: "ADDRESS",
+        help: "The short address of the gear, 0 to 63",
+        kind: Kind::Address,
+    },
+];
+
+const TABLE_WORDS: &[Word] = &[
+    NEEDED_RECORDS,
+    Word {
+        name: "csv",
+        value: "",
+        help: "As comma-separated values, with a heading",
+        kind: Kind::Flag,
+    },
+    Word {
+        name: "json",
+        value: "",
+        help: "As an array with an object for each gear",
+        kind: Kind::NotBeside("csv"),
+    },
+];
+
+const SUBCOMMANDS: &[Subcommand] = &[
+    Subcommand {
+        name: "run",
+        about: "Gives short addresses to the gear",
+        long_about: Some(RUN),
+        words: RUN_WORDS,
+    },
+    Subcommand {
+        name: "check",
+        about: "Says which gear answer, beside the records",
+        long_about: Some(CHECK),
+        words: CHECK_WORDS,
+    },
+    Subcommand {
+        name: "identify",
+        about: "Makes the gear with a short address go bright and dark",
+        long_about: None,
+        words: IDENTIFY_WORDS,
+    },
+    Subcommand {
+        name: "table",
+        about: "Writes which gear has which short address",
+        long_about: None,
+        words: TABLE_WORDS,
+    },
+];
+
+fn flag<'a>(alloc: Global, word: &Word) -> Arg<'a> {
+    Arg::new(alloc, word.name)
+        .long(word.name)
         .action(ArgAction::SetTrue)
-        .help(help)
+        .help(word.help)
 }
 
-/// A word that has to be there.
-fn word<'a>(alloc: Global, name: &'a str, value: &'a str, help: &'a str) -> Arg<'a> {
-    Arg::new(alloc, name)
-        .value_name(value)
+fn option<'a>(alloc: Global, word: &Word) -> Arg<'a> {
+    Arg::new(alloc, word.name)
+        .long(word.name)
+        .value_name(word.value)
+        .action(ArgAction::Set)
+        .help(word.help)
+}
+
+fn place<'a>(alloc: Global, word: &Word) -> Arg<'a> {
+    Arg::new(alloc, word.name)
+        .value_name(word.value)
         .required(true)
         .action(ArgAction::Set)
-        .help(help)
+        .help(word.help)
 }
 
-fn records<'a>(alloc: Global) -> Arg<'a> {
-    option(
-        alloc,
-        "records",
-        "FILE",
-        "The file of the records: one controller, one file",
-    )
-}
-
-fn driver<'a>(alloc: Global) -> Arg<'a> {
-    let help = "The driver of the bus, which the launcher starts; without it the lines are yours";
-    option(alloc, "driver", "COMMAND", help)
-}
-
-fn others<'a>(alloc: Global) -> Arg<'a> {
-    let help = "The block of another controller, whose addresses are not asked; may be given again";
-    option(alloc, "others", "BLOCK", help).action(ArgAction::Append)
-}
-
-fn quiet_runs<'a>(alloc: Global) -> Arg<'a> {
-    option(
-        alloc,
-        "quiet-runs",
-        "N",
-        "How many runs in a row must have found nothing",
-    )
-    .value_parser(value_parser!(u8).range(1..))
-    .default_value("3")
-}
-
-fn address<'a>(alloc: Global) -> Arg<'a> {
-    word(
-        alloc,
-        "address",
-        "ADDRESS",
-        "The short address of the gear, 0 to 63",
-    )
-    .value_parser(value_parser!(u8).range(0..64))
-}
-
-fn json<'a>(alloc: Global) -> Result<Arg<'a>, AllocError> {
-    flag(alloc, "json", "As an array with an object for each gear").conflicts_with("csv")
-}
-
-/// A subcommand with these words, and what its long help has in place of its short one.
-fn subcommand<'a>(
-    alloc: Global,
-    name: &'a str,
-    about: &'a str,
-    long_about: Option<&'a str>,
-    words: Vec<Arg<'a>>,
-) -> Result<Command<'a>, AllocError> {
-    let command = Command::new(alloc, name).about(about);
-    match long_about {
-        Some(text) => command.long_about(text).args(words),
-        None => command.args(words),
+/// The argument of `clap` that a word is.
+fn arg<'a>(alloc: Global, word: &Word) -> Result<Arg<'a>, AllocError> {
+    match word.kind {
+        Kind::Flag => Ok(flag(alloc, word)),
+        Kind::NotBeside(other) => flag(alloc, word).conflicts_with(other),
+        Kind::Option => Ok(option(alloc, word)),
+        Kind::Needed => Ok(option(alloc, word).required(true)),
+        Kind::Again => Ok(option(alloc, word).action(ArgAction::Append)),
+        Kind::Number => {
+            let numbers = value_parser!(u8).range(1..);
+            Ok(option(alloc, word).value_parser(numbers).default_value("3"))
+        }
+        Kind::Place => Ok(place(alloc, word)),
+        Kind::Address => Ok(place(alloc, word).value_parser(value_parser!(u8).range(0..64))),
     }
 }
 
-fn run<'a>(alloc: Global) -> Result<Command<'a>, AllocError> {
-    let quiet = flag(alloc, "quiet", "Say nothing of how far it is");
-    let help = "The short addresses that may be given, as 0-63";
-    let words = vec![in alloc;
-        records(alloc).required(true),
-        driver(alloc),
-        others(alloc),
-        quiet_runs(alloc),
-        quiet,
-        word(alloc, "block", "BLOCK", help),
-    ]?;
-    subcommand(
-        alloc,
-        "run",
-        "Gives short addresses to the gear",
-        Some(RUN),
-        words,
-    )
+fn args<'a>(alloc: Global, words: &[Word]) -> Result<Vec<Arg<'a>>, AllocError> {
+    let mut args = Vec::new(alloc);
+    for word in words {
+        args.push(arg(alloc, word)?)?;
+    }
+    Ok(args)
 }
 
-fn check<'a>(alloc: Global) -> Result<Command<'a>, AllocError> {
-    let about = "Says which gear answer, beside the records";
-    let words = vec![in alloc; records(alloc), driver(alloc), others(alloc)]?;
-    subcommand(alloc, "check", about, Some(CHECK), words)
-}
-
-fn identify<'a>(alloc: Global) -> Result<Command<'a>, AllocError> {
-    let about = "Makes the gear with a short address go bright and dark";
-    let words = vec![in alloc; driver(alloc), address(alloc)]?;
-    subcommand(alloc, "identify", about, None, words)
-}
-
-fn table<'a>(alloc: Global) -> Result<Command<'a>, AllocError> {
-    let about = "Writes which gear has which short address";
-    let json = json(alloc)?;
-    let csv = flag(alloc, "csv", "As comma-separated values, with a heading");
-    let words = vec![in alloc; records(alloc).required(true), csv, json]?;
-    subcommand(alloc, "table", about, None, words)
-}
-
-/// Adds a subcommand, if there was memory for it.
-fn add<'a>(
-    commands: &mut Vec<Command<'a>>,
-    made: Result<Command<'a>, AllocError>,
-) -> Result<(), AllocError> {
-    commands.push(made?)?;
-    Ok(())
+fn command_of<'a>(alloc: Global, from: &Subcommand) -> Result<Command<'a>, AllocError> {
+    let args = args(alloc, from.words)?;
+    let command = Command::new(alloc, from.name).about(from.about);
+    match from.long_about {
+        Some(text) => command.long_about(text).args(args),
+        None => command.args(args),
+    }
 }
 
 fn subcommands<'a>(alloc: Global) -> Result<Vec<Command<'a>>, AllocError> {
     let mut commands = Vec::new(alloc);
-    add(&mut commands, run(alloc))?;
-    add(&mut commands, check(alloc))?;
-    add(&mut commands, identify(alloc))?;
-    add(&mut commands, table(alloc))?;
+    for from in SUBCOMMANDS {
+        commands.push(command_of(alloc, from)?)?;
+    }
     Ok(commands)
 }
 
