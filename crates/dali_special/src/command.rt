@@ -140,11 +140,19 @@ impl Command {
     ghost use Rattle.dali_special.specs.Command.{command_of, special_of, frame_of, is_send_twice, IsSpelled};
 
     /// The command of a frame.
-    #[tactic(auto, using(crate::proofs::Table::written_read), unfolding(crate::specs::Command::command_of))]
+    #[tactic(auto, using(crate::proofs::Table::written_read))]
     #[inline(always)]
     pub fn read(frame: Forward) -> Command
         ensures table { result ≡ command_of frame }
         ensures written { frame_of result ≡ frame }
+    {
+        Command::of(frame)
+    }
+
+    #[tactic(auto, unfolding(crate::specs::Command::command_of))]
+    #[inline(always)]
+    fn of(frame: Forward) -> Command
+        ensures { result ≡ command_of frame }
     {
         if frame.address_byte % 2 == 0 {
             return Command::Arc(frame);
