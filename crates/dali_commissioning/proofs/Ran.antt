@@ -15,7 +15,7 @@ use Rattle.dali_commissioning.specs.declared.conducting.Ended.{Ended}
 use Rattle.dali_commissioning.specs.declared.conducting.Ended.TheVariants.{Done}
 use Rattle.dali_commissioning.specs.Drivers.{Talk}
 use Rattle.dali_commissioning.specs.Steps.{Step, last_order, record_told, committed_by, is_kept, has_committed}
-use Rattle.dali_commissioning.specs.Conducted.{Conducted, Commits, Stays, IsAt, order_of}
+use Rattle.dali_commissioning.specs.Conducted.{Conducted, Commits, Stays, IsAt, IsLeft, order_of}
 use Rattle.dali_commissioning.specs.Runs.{Run, IsRun, AreRuns, HaveRun, AreAllFound, EndWith, AreQuiet, quiet_after, Grows, IsRead}
 use Rattle.dali_commissioning.proofs.Steps.{stays_further}
 
@@ -173,6 +173,21 @@ run_of is_up is_sound holds kept_of must_read block_of replay was mid keep m n x
   refl,
   at.has,
 )
+
+-- a store that has what it had when it was read
+pub same_grows : {S : Type 0} (is_up is_sound : S → Type 0) (holds : S → List Record → Type 0) (was mid : S)
+    → (is_sound was → is_up mid → (xs : List Record) → holds was xs → holds mid xs) → Grows is_up is_sound holds was mid
+same_grows is_up is_sound holds was mid same = λ sound up xs held.
+    ([], subst (holds mid) (sym (append-nil xs)) (same sound up xs held))
+
+-- and after a machine that was left before its end
+pub left_grows : {S : Type 0} (is_up is_sound : S → Type 0) (holds : S → List Record → Type 0) (was mid keep : S)
+    (m n : Machine) → Stays is_up is_sound was mid → Stays is_up is_sound mid keep
+    → (is_sound was → is_up mid → (xs : List Record) → holds was xs → holds mid xs)
+    → IsLeft is_up is_sound holds mid keep m n → Grows is_up is_sound holds was keep
+left_grows is_up is_sound holds was mid keep m n first second same (steps, taken, may) = λ sound up xs held.
+    let (more, few, has) = may (first.sound sound (second.up up)) up xs (same sound (second.up up) xs held) in
+    (committed_by steps ++ more, has)
 
 -- a store that was read, and grew then
 pub read_grows : {S : Type 0} (is_up is_sound : S → Type 0) (holds : S → List Record → Type 0) (block : Block)

@@ -29,7 +29,7 @@ const QUESTIONS: u8 = 3;
 const LOST: u8 = 8;
 
 /// What was heard of a short address.
-#[derive(Clone, Copy, Debug, Default, PartialEq, Eq)]
+#[derive(Clone, Copy, Default, PartialEq, Eq)]
 pub enum Reply {
     /// Nothing was heard.
     #[default]
@@ -45,7 +45,7 @@ pub enum Reply {
 }
 
 /// Where a gear stands that records name.
-#[derive(Clone, Copy, Debug, PartialEq, Eq)]
+#[derive(Clone, Copy, PartialEq, Eq)]
 pub enum Standing {
     /// It answers.
     There,

@@ -26,14 +26,14 @@ use dali_special::Command;
 use std::io::{Read, Write};
 
 /// How a machine ended that was conducted.
-#[derive(Clone, Copy, Debug, PartialEq, Eq)]
+#[derive(Clone, Copy, PartialEq, Eq)]
 pub enum Ended {
     Done(End),
     Halted(Fault),
 }
 
 /// What came of a machine that was conducted to its end.
-#[derive(Clone, Copy, Debug, PartialEq, Eq)]
+#[derive(Clone, Copy)]
 pub struct Outcome {
     pub ended: Ended,
     /// Whether a record was committed.
@@ -76,7 +76,6 @@ fn waits_behind(half: Half, frame: Forward, told: Input) -> Option<Forward>
 }
 
 /// Puts a frame, and answers what came of it.
-#[tactic(auto, using(crate::proofs::Steps::line_told))]
 fn put<R: Read, W: Write>(
     driver: &mut Driver<R, W>,
     waiting: &mut Option<Forward>,
@@ -121,7 +120,7 @@ fn is_kept(told: Input) -> bool
 }
 
 /// Does an order, and answers what the machine is to be told then.
-#[tactic(auto, using(crate::proofs::Steps::no_line, crate::proofs::Steps::unheard, crate::proofs::Steps::same))]
+#[tactic(auto, using(crate::proofs::Steps::no_line))]
 fn answer<K: Keep, R: Read, W: Write>(
     keep: &mut K,
     driver: &mut Driver<R, W>,

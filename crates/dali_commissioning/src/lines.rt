@@ -15,7 +15,7 @@ use std::str;
 
 /// Which frame of a pair a frame is. INITIALISE and RANDOMISE are executed only where they are sent twice within
 /// 100 ms.
-#[derive(Clone, Copy, Debug, PartialEq, Eq)]
+#[derive(Clone, Copy)]
 pub enum Half {
     /// A frame that is sent once.
     Whole,

@@ -58,8 +58,10 @@ fn run<K: Keep, R: Read, W: Write, P: Watch>(
         Err(error) => return Err(CommissionFault::Store(error)),
     };
     let mut machine = Machine::new(0, &kept);
-    let outcome = conduct(&mut machine, keep, driver, watch, MOST_STEPS)?;
-    Ok(outcome)
+    match conduct(&mut machine, keep, driver, watch, MOST_STEPS) {
+        Ok(outcome) => Ok(outcome),
+        Err(fault) => Err(fault),
+    }
 }
 
 /// Runs machines, until one ended otherwise than that no gear answers any more, or so many in a row have committed

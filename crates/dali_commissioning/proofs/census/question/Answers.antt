@@ -1,4 +1,4 @@
-use Rattle.std.proofs.Common.{rules, [], ◌∷◌, refl, sym, ◌∙◌, ap, Some}
+use Rattle.std.proofs.Common.{[], ◌∷◌, refl, sym, ◌∙◌, ap, Some}
 use Rattle.dali_commissioning.proofs.Asked.{is_heard, first, second, third, spelled, unspelled}
 use Rattle.dali_commissioning.proofs.census.question.Goals as goal
 
@@ -18,7 +18,7 @@ returns-in_default-3 g c = (
   third _ _ _ _ _ _ _ _ c.in_ok-high.ensures.1 (is_heard _ _ _ c.in_ok-high.ensures.2 c.in-Some.is)
       c.in_ok-middle.ensures.1 (is_heard _ _ _ c.in_ok-middle.ensures.2 c.in-Some-2.is) c.in_ok-low.ensures.1,
   unspelled _ _ _ _ _ (sym c.in_ok-high.ensures.2 ∙ c.in-Some.is) (sym c.in_ok-middle.ensures.2 ∙ c.in-Some-2.is)
-      (search rules),
+      (sym c.in_ok-low.ensures.2 ∙ c.in_default-3.is),
 )
 
 pub returns : goal.returns

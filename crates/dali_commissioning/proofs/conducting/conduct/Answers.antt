@@ -1,5 +1,5 @@
 use Rattle.std.proofs.Common.{◌∙◌, sym, refl, rules}
-use Rattle.dali_commissioning.proofs.Steps.{at_begun, at_further, left_at_fault}
+use Rattle.dali_commissioning.proofs.Steps.{at_begun, at_further, left_at, left_at_fault, stays_further}
 use Rattle.dali_commissioning.proofs.conducting.conduct.Goals as goal
 
 pub loop-init : goal.loop-init
@@ -23,3 +23,16 @@ loop-preserved g c = record {
 pub returns-in-Err-clause-fault : goal.returns-in-Err-clause-fault
 returns-in-Err-clause-fault g c = left_at_fault g.K.Keep.is_up g.K.Keep.is_sound g.K.Keep.holds _ _ _ _ _ _ _ _ _ _ _ c.loop.invariant.at
     c.in-Err.ensures.stays c.in-Err.ensures.left
+
+pub returns-in-Err-clause-stays : goal.returns-in-Err-clause-stays
+returns-in-Err-clause-stays g c =
+    stays_further g.K.Keep.is_up g.K.Keep.is_sound _ _ _ c.loop.invariant.at.stays c.in-Err.ensures.stays
+
+pub returns-in-Some-clause-stays : goal.returns-in-Some-clause-stays
+returns-in-Some-clause-stays g c = c.loop.invariant.at.stays
+
+pub returns-clause-fault : goal.returns-clause-fault
+returns-clause-fault g c = left_at g.K.Keep.is_up g.K.Keep.is_sound g.K.Keep.holds _ _ _ _ _ _ _ _ _ _ c.loop.invariant.at
+
+pub returns-clause-stays : goal.returns-clause-stays
+returns-clause-stays g c = c.loop.invariant.at.stays

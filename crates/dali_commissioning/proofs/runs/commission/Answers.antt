@@ -1,6 +1,29 @@
 use Rattle.std.proofs.Common.{rules, sym, ◌∙◌}
-use Rattle.dali_commissioning.proofs.Ran.{of_block, ran_more, ended_otherwise, ended_quiet}
+use Rattle.dali_commissioning.proofs.Steps.{stays_further}
+use Rattle.dali_commissioning.proofs.Ran.{of_block, ran_more, ended_otherwise, ended_quiet, grows_further}
 use Rattle.dali_commissioning.proofs.runs.commission.Goals as goal
+
+pub returns-in-Err-clause-left : goal.returns-in-Err-clause-left
+returns-in-Err-clause-left g c = grows_further g.K.Keep.is_up g.K.Keep.is_sound g.K.Keep.holds _ _ _
+    c.loop.invariant.ran.stays c.run.ensures.stays c.loop.invariant.ran.grows c.in-Err.ensures.left
+
+pub returns-in-Err-clause-stays : goal.returns-in-Err-clause-stays
+returns-in-Err-clause-stays g c =
+    stays_further g.K.Keep.is_up g.K.Keep.is_sound _ _ _ c.loop.invariant.ran.stays c.run.ensures.stays
+
+pub returns-then-not-is_all_found-clause-stays : goal.returns-then-not-is_all_found-clause-stays
+returns-then-not-is_all_found-clause-stays g c =
+    stays_further g.K.Keep.is_up g.K.Keep.is_sound _ _ _ c.loop.invariant.ran.stays c.run.ensures.stays
+
+pub returns-then-quiet-quiet_runs-clause-stays : goal.returns-then-quiet-quiet_runs-clause-stays
+returns-then-quiet-quiet_runs-clause-stays g c =
+    stays_further g.K.Keep.is_up g.K.Keep.is_sound _ _ _ c.loop.invariant.ran.stays c.run.ensures.stays
+
+pub returns-clause-left : goal.returns-clause-left
+returns-clause-left g c = c.loop.invariant.ran.grows
+
+pub returns-clause-stays : goal.returns-clause-stays
+returns-clause-stays g c = c.loop.invariant.ran.stays
 
 pub returns-then-not-is_all_found-clause-ran : goal.returns-then-not-is_all_found-clause-ran
 returns-then-not-is_all_found-clause-ran g c =

@@ -1,9 +1,29 @@
-use Rattle.dali_commissioning.proofs.Ran.{run_of}
+use Rattle.dali_commissioning.proofs.Steps.{stays_further}
+use Rattle.dali_commissioning.proofs.Ran.{run_of, same_grows, left_grows}
 use Rattle.dali_commissioning.proofs.runs.run.Goals as goal
 
-pub returns-clause-ran : goal.returns-clause-ran
-returns-clause-ran g c =
-    let (waiting, count, at) = c.in_ok-outcome.ensures.ended in
+pub returns-in-Err-clause-left : goal.returns-in-Err-clause-left
+returns-in-Err-clause-left g c = same_grows g.K.Keep.is_up g.K.Keep.is_sound g.K.Keep.holds _ _ c.read.ensures.same
+
+pub returns-in-Err-clause-stays : goal.returns-in-Err-clause-stays
+returns-in-Err-clause-stays g c = record { up = c.read.ensures.up; sound = c.read.ensures.sound }
+
+pub returns-in-Err-conduct-clause-left : goal.returns-in-Err-conduct-clause-left
+returns-in-Err-conduct-clause-left g c = left_grows g.K.Keep.is_up g.K.Keep.is_sound g.K.Keep.holds _ _ _ _ _
+    (record { up = c.read.ensures.up; sound = c.read.ensures.sound }) c.conduct.ensures.stays c.read.ensures.same
+    c.in-Err-conduct.ensures.fault
+
+pub returns-in-Err-conduct-clause-stays : goal.returns-in-Err-conduct-clause-stays
+returns-in-Err-conduct-clause-stays g c = stays_further g.K.Keep.is_up g.K.Keep.is_sound _ _ _
+    (record { up = c.read.ensures.up; sound = c.read.ensures.sound }) c.conduct.ensures.stays
+
+pub returns-in-Ok-conduct-clause-ran : goal.returns-in-Ok-conduct-clause-ran
+returns-in-Ok-conduct-clause-ran g c =
+    let (waiting, count, at) = c.in-Ok-conduct.ensures.ended in
     run_of g.K.Keep.is_up g.K.Keep.is_sound g.K.Keep.holds g.K.Keep.kept g.K.Keep.must_read g.K.Keep.block g.met.K.Keep.replay
     _ _ _ _ _ _ _ c.in-Ok.kept waiting _ _ count c.in-Ok.ensures.answer c.in-Ok.ensures.is_read c.read.ensures.block
     (record { up = c.read.ensures.up; sound = c.read.ensures.sound }) c.read.ensures.same c.new-machine.ensures at
+
+pub returns-in-Ok-conduct-clause-stays : goal.returns-in-Ok-conduct-clause-stays
+returns-in-Ok-conduct-clause-stays g c = stays_further g.K.Keep.is_up g.K.Keep.is_sound _ _ _
+    (record { up = c.read.ensures.up; sound = c.read.ensures.sound }) c.conduct.ensures.stays
