@@ -24,6 +24,8 @@ WORKSPACES = ((ROOT / "crates.txt", CRATES), (ROOT / "extra/programs.txt", ROOT 
 PARTS = ("src", "specs", "proofs")
 # What one check takes at most, in bytes of memory.
 MEMORY = 2_500_000_000
+# Libraries of the kit that take each job 10 seconds or more to load.
+DEAR = {"clap", "sqlite"}
 REFUSED, MISSING, INTERRUPTED = 126, 127, 130
 
 
@@ -41,8 +43,8 @@ class Interrupted(Exception):
 
 class Crate:
     """A crate: its line in its list, its folder, the crates that it names and all below it, the libraries of the kit that it
-    names, the files of other crates that it has among its sources, by which back end a program is compiled, and how many
-    lines there are to prove."""
+    names, the files of other crates that it has among its sources, how a program is compiled, and how many lines there are to
+    prove."""
 
     def __init__(self, name, line, folder, direct, of_kit, borrowed):
         self.name, self.line, self.folder, self.borrowed = name, line, folder, borrowed
@@ -50,7 +52,9 @@ class Crate:
         self.below = list(dict.fromkeys(it for crate in direct for it in [*crate.below, crate]))
         self.is_program = any((self.folder / "src" / name).is_file() for name in ("main.rt", "main.rt.txt"))
         self.made = self.folder / "out" / (name if self.is_program else f"stated/{name}.rlib/format")
-        self.backend = "rattle" if " backend=rattle" in line.partition(":")[0] else "llvm"
+        head = line.partition(":")[0]
+        self.backend = ["--backend", "rattle" if " backend=rattle" in head else "llvm"]
+        self.backend += ["--opt-level", *level] if (level := re.findall(r" opt_level=(\d)", head)) else []
         self.log = self.folder / "out/build.log"
         self.lines = sum(file.read_bytes().count(b"\n") for file in self.sources())
 
@@ -157,13 +161,20 @@ class Build:
         threading.Thread(target=self.wait_for, args=(crate, ran), daemon=True).start()
 
     def words_of(self, crate, is_longest):
-        """What proves a crate, with as many jobs as processors and memory allow: it may soon run alone.
-
-        All make way for the one with the longest chain behind it, which they wait for in the end.
-        """
-        jobs = max(min(self.processors, 4, free_memory() // MEMORY), 1)
+        """What proves a crate. All make way for the one with the longest chain behind it, which they wait for in the end."""
         first = [] if is_longest else ["nice"]
-        return [*first, "sh", "-c", " && ".join(map(shlex.join, commands(crate, jobs)))]
+        return [*first, "sh", "-c", " && ".join(map(shlex.join, commands(crate, self.jobs(crate, is_longest))))]
+
+    def jobs(self, crate, is_longest):
+        """How many jobs prove a crate. Each loads the libraries for itself, so four of them cost more than one.
+
+        The crate with the longest chain behind it has as many as processors and memory allow, since it may soon run alone, and
+        two where it names a library that is dear to load. Each other crate has one.
+        """
+        if not is_longest:
+            return 1
+        most = 2 if DEAR & {*crate.of_kit} else 4
+        return max(min(self.processors, most, free_memory() // MEMORY), 1)
 
     def wait_for(self, crate, ran):
         status = ran.wait()
@@ -220,7 +231,7 @@ def commands(crate, jobs):
         return [[*words, "--statements", "-o", str(crate.made.parent.relative_to(crate.folder))]]
     link = [f"{kit}/bin/rattle-link", "--target", "x86_64-unknown-linux-gnu", "--toolchain", f"{kit}/toolchain", "-o", out]
     return [
-        [*words, "--toolchain", f"{kit}/toolchain", "--backend", crate.backend, "-o", f"{out}.o"],
+        [*words, "--toolchain", f"{kit}/toolchain", *crate.backend, "-o", f"{out}.o"],
         [*link, f"{out}.o", f"{kit}/c/libos_c.a", f"{kit}/c/liblibc_c.a"],
     ]
 

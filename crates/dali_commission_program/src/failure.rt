@@ -13,7 +13,7 @@ use std::fmt;
 use std::process::ExitCode;
 
 /// Why the program ends without having done what was asked for.
-#[derive(Clone, Copy, Debug, PartialEq, Eq)]
+#[derive(Clone, Copy, PartialEq, Eq)]
 pub enum Failure {
     /// Status 1: gear answer to short addresses that no record names, so nothing was begun.
     AddressedBefore,

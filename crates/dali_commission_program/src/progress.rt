@@ -5,7 +5,7 @@ use dali_script::{Order, Record};
 use std::io::Eprint;
 
 /// How it is said how far the machines are.
-#[derive(Clone, Copy, Debug, PartialEq, Eq)]
+#[derive(Clone, Copy, PartialEq, Eq)]
 pub enum Manner {
     /// Not at all.
     Quiet,

@@ -10,7 +10,7 @@ use dali_script::Kept;
 use std::alloc::AllocError;
 
 /// How a table is spelled.
-#[derive(Clone, Copy, Debug, PartialEq, Eq)]
+#[derive(Clone, Copy)]
 pub enum Form {
     /// A line for each gear: its short address, a space, and its random address.
     Text,

@@ -8,34 +8,50 @@ use arrayvec::ArrayVec;
 use dali_frame::{Forward, Priority};
 use dali_script::Input;
 use std::alloc::{AllocError, Global};
+use std::error::Error;
+use std::fmt;
 use std::io::{Read, Write};
-use thiserror::Error;
 
 /// Why a line cannot be written, or none can be read that tells what came of a frame.
-#[derive(Clone, Copy, Debug, PartialEq, Eq, Error)]
+#[derive(Clone, Copy, Debug, PartialEq, Eq)]
 pub enum DriverFault {
     /// A line of the driver is none that this program knows.
-    #[error("bad line")]
     BadLine,
     /// A line of the driver has more than 16 bytes.
-    #[error("line too long")]
     LongLine,
     /// The input ended within a line.
-    #[error("line without line feed")]
     TornLine,
     /// The input ended: the driver is gone.
-    #[error("end of input")]
     Ended,
     /// The input cannot be read.
-    #[error("the input cannot be read")]
     Read,
     /// The output cannot be written.
-    #[error("the output cannot be written")]
     Write,
     /// There is too little memory.
-    #[error("out of memory")]
     Memory,
 }
+
+impl DriverFault {
+    fn text(self) -> &'static str {
+        match self {
+            DriverFault::BadLine => "bad line",
+            DriverFault::LongLine => "line too long",
+            DriverFault::TornLine => "line without line feed",
+            DriverFault::Ended => "end of input",
+            DriverFault::Read => "the input cannot be read",
+            DriverFault::Write => "the output cannot be written",
+            DriverFault::Memory => "out of memory",
+        }
+    }
+}
+
+impl fmt::Display for DriverFault {
+    fn fmt<W: fmt::Write>(&self, f: &mut fmt::Formatter<W>) -> fmt::Result {
+        f.write_str(self.text())
+    }
+}
+
+impl Error for DriverFault {}
 
 impl From<AllocError> for DriverFault {
     ghost use Rattle.dali_commissioning.specs.declared.driver.DriverFault.TheVariants.{Memory};
