@@ -24,8 +24,8 @@ WORKSPACES = ((ROOT / "crates.txt", CRATES), (ROOT / "extra/programs.txt", ROOT 
 PARTS = ("src", "specs", "proofs")
 # What one check takes at most, in bytes of memory.
 MEMORY = 2_500_000_000
-# Libraries of the kit that take each job 10 seconds or more to load.
-DEAR = {"clap", "sqlite"}
+# How many lines of a crate are worth a job.
+JOB = 1_000
 REFUSED, MISSING, INTERRUPTED = 126, 127, 130
 
 
@@ -166,15 +166,13 @@ class Build:
         return [*first, "sh", "-c", " && ".join(map(shlex.join, commands(crate, self.jobs(crate, is_longest))))]
 
     def jobs(self, crate, is_longest):
-        """How many jobs prove a crate. Each loads the libraries for itself, so four of them cost more than one.
+        """How many jobs prove a crate. Each loads the libraries for itself, so two of them cost more than one.
 
-        The crate with the longest chain behind it has as many as processors and memory allow, since it may soon run alone, and
-        two where it names a library that is dear to load. Each other crate has one.
+        The crate with the longest chain behind it may soon run alone: it has one for each thousand lines, as far as processors
+        and memory allow. Each other crate has one.
         """
-        if not is_longest:
-            return 1
-        most = 2 if DEAR & {*crate.of_kit} else 4
-        return max(min(self.processors, most, free_memory() // MEMORY), 1)
+        wanted = min(-(-crate.lines // JOB), 4) if is_longest else 1
+        return max(min(self.processors, wanted, free_memory() // MEMORY), 1)
 
     def wait_for(self, crate, ran):
         status = ran.wait()
