@@ -1,10 +1,12 @@
-ghost use Rattle.std.specs.Prelude.{◌≡◌, List, [], false, IfOk, IfErr, Err};
+ghost use Rattle.std.specs.Prelude.{◌≡◌, ◌↔◌, List, [], false, IfOk, IfErr, Err};
 ghost use Rattle.sqlite.specs.State.{HasCleanDisk};
 ghost use Rattle.sqlite.specs.Held.{Held, state};
 ghost use Rattle.dali_script.specs.declared.records.Record.{Record};
+ghost use Rattle.dali_script.specs.declared.records.AddError.TheVariants as add;
 ghost use Rattle.dali_script.specs.Records.{without_records};
 ghost use Rattle.dali_reserve.specs.declared.error.KeepError.TheVariants.{BadStore};
-ghost use Rattle.dali_reserve.specs.Refusals.{RefusesRead};
+ghost use Rattle.dali_reserve.specs.declared.error.KeepError.TheVariants.{AddressTaken, RandomTaken, NotReserved};
+ghost use Rattle.dali_reserve.specs.Refusals.{RefusesRead, RefusesCommit};
 ghost use Rattle.dali_reserve.specs.Store.{AreGood};
 ghost use Rattle.dali_sqlite.specs.Table.{no_schema};
 ghost use Rattle.dali_sqlite.specs.Stored.{Holds, IsUp, IsOurs};
@@ -145,13 +147,25 @@ impl<S: Alter + Drop> Keep for SqliteKeep<S> {
         }
         match self.kept.add(added) {
             Ok(()) => {}
-            Err(AddError::AddressTaken) => return Err(KeepError::AddressTaken),
-            Err(AddError::RandomTaken) => return Err(KeepError::RandomTaken),
-            Err(AddError::NotReserved) => return Err(KeepError::NotReserved),
+            Err(error) => return Err(refused(error)),
         }
         self.must_read = true;
         self.count = write(&mut self.conn, self.count, &added)?;
         self.must_read = false;
         Ok(())
+    }
+}
+
+/// What a record that is refused is to a store.
+fn refused(error: AddError) -> KeepError
+    ensures address_taken { (result ≡ AddressTaken) ↔ (error ≡ add.AddressTaken) }
+    ensures random_taken { (result ≡ RandomTaken) ↔ (error ≡ add.RandomTaken) }
+    ensures not_reserved { (result ≡ NotReserved) ↔ (error ≡ add.NotReserved) }
+    ensures refusal { RefusesCommit result }
+{
+    match error {
+        AddError::AddressTaken => KeepError::AddressTaken,
+        AddError::RandomTaken => KeepError::RandomTaken,
+        AddError::NotReserved => KeepError::NotReserved,
     }
 }
