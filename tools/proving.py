@@ -214,17 +214,27 @@ class Build:
             ran.wait()
 
 
-def commands(crate, jobs):
-    """The calls of the kit that prove a crate in its place, and make its library or its program."""
-    kit, out = kit_folder(), f"out/{crate.name}"
+def read_words(crate):
+    """The words that tell the kit what a crate is read from, as it stands in its folder."""
+    kit = kit_folder()
     named = {it: f"{kit}/rlibs/{it}.rlib" for it in ("std", *crate.of_kit)}
     named |= {it.name: it.made.parent for it in crate.direct}
     folders = [f"{kit}/rlibs", *(it.made.parent.parent for it in crate.below)]
-    words = [f"{kit}/bin/rattle", "build", "--crate-name", crate.name, f"src/{'main' if crate.is_program else 'lib'}.rt"]
+    words = ["--crate-name", crate.name, f"src/{'main' if crate.is_program else 'lib'}.rt"]
     words += [word for name, file in named.items() for word in ("--extern", f"{name}={file}")]
     words += [word for folder in folders for word in ("-L", f"dependency={folder}")]
-    words += ["--antt-project", f"{kit}/rattle/logic/antt-project.json", "--logic-built", f"{kit}/logic_built"]
-    words += ["--links", f"{crate.name}=", "--jobs", str(jobs)]
+    return [*words, "--antt-project", f"{kit}/rattle/logic/antt-project.json"]
+
+
+def proof_words(crate, jobs):
+    """The words that tell the kit how a crate is proved."""
+    return ["--logic-built", f"{kit_folder()}/logic_built", "--links", f"{crate.name}=", "--jobs", str(jobs)]
+
+
+def commands(crate, jobs):
+    """The calls of the kit that prove a crate in its place, and make its library or its program."""
+    kit, out = kit_folder(), f"out/{crate.name}"
+    words = [f"{kit}/bin/rattle", "build", *read_words(crate), *proof_words(crate, jobs)]
     if not crate.is_program:
         return [[*words, "--statements", "-o", str(crate.made.parent.relative_to(crate.folder))]]
     link = [f"{kit}/bin/rattle-link", "--target", "x86_64-unknown-linux-gnu", "--toolchain", f"{kit}/toolchain", "-o", out]
