@@ -7,8 +7,8 @@
  * bytes, and two threads may call at the same time for two machines. Give no call two pointers to
  * the same thing, and none a null pointer.
  *
- * Every call takes any bytes: it answers DALI_OK, or says by another status why it did nothing. What
- * is handed to it to be written is then as it was.
+ * Every call but dali_machine_go takes any bytes: it answers DALI_OK, or says by another status why
+ * it did nothing. What is handed to it to be written is then as it was.
  *
  * docs/VENDOR.md says how to drive a machine on a real bus and with a real store.
  */
@@ -142,15 +142,19 @@ struct dali_record {
     struct dali_pair pair;
 };
 
+/* A list of pairs, oldest first: the first `count` are those that there are. */
+struct dali_pairs {
+    uint8_t count;
+    struct dali_pair pairs[DALI_ADDRESSES];
+};
+
 /* The records of one controller: the block of short addresses that it may give, both ends within it, and the pairs that
  * are reserved and that are enrolled. Make one with dali_records_new, and add to it with dali_records_add. */
 struct dali_records {
     uint8_t first;
     uint8_t last;
-    uint8_t reserved_count;
-    uint8_t enrolled_count;
-    struct dali_pair reserved[DALI_ADDRESSES];
-    struct dali_pair enrolled[DALI_ADDRESSES];
+    struct dali_pairs reserved;
+    struct dali_pairs enrolled;
 };
 
 /* One order. Its kind is of enum dali_order_kind. What the kind does not name is 0. */
@@ -233,7 +237,19 @@ uint8_t dali_machine_new(struct dali_machine *machine, uint8_t id, const struct 
  * something else. */
 uint8_t dali_machine_step(struct dali_machine *machine, uint8_t input, uint8_t byte, struct dali_order *order);
 
-/* What a machine waits for, of enum dali_due. DALI_NO_MACHINE: `machine` is no machine's. */
+/* Whether `machine` is a machine's. It reads the whole struct once. DALI_NO_MACHINE: it is none.
+ *
+ * dali_machine_step is dali_machine_check, and then dali_machine_go. */
+uint8_t dali_machine_check(const struct dali_machine *machine);
+
+/* The same as dali_machine_step, without the test of the struct: for firmware that has no time for it between two frames.
+ *
+ * THE ONE CALL WITH A CONDITION: `machine` is as a call of this library left it and answered DALI_OK, or dali_machine_check
+ * answers DALI_OK of it. Of other bytes nothing is promised. */
+uint8_t dali_machine_go(struct dali_machine *machine, uint8_t input, uint8_t byte, struct dali_order *order);
+
+/* What a machine waits for, of enum dali_due. It reads nothing of the machine but the order that it gave last.
+ * DALI_NO_MACHINE: that is no order. */
 uint8_t dali_machine_due(const struct dali_machine *machine, uint8_t *due);
 
 /* What a machine ordered last. DALI_NO_MACHINE: `machine` is no machine's. */

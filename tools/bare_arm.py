@@ -62,7 +62,7 @@ def built_module(title):
     """The library as the kit hands it to its clang, and the kit's own bound of the stack; proved and made where it is
     missing or older than its sources."""
     crate, kit = proving.workspace()["dali_c"], proving.kit()
-    place = crate.folder / "out" / "firmware"
+    place = proving.ROOT / "out" / "firmware"
     module, kept = place / "module.bc", place / "kept"
     if not (kept.is_file() and kept.read_text().startswith(f"{kit}\n") and is_newest(crate, kept)):
         if proving.build(title, [it.name for it in crate.below]) != 0:

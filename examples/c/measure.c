@@ -91,9 +91,9 @@ static void call_table(struct course *course)
 /* Takes the last record back first, so that it can be added. */
 static void call_records_add(struct course *course)
 {
-    struct dali_record last = {DALI_ENROL, course->records.enrolled[DALI_ADDRESSES - 1]};
+    struct dali_record last = {DALI_ENROL, course->records.enrolled.pairs[DALI_ADDRESSES - 1]};
 
-    course->records.enrolled_count = DALI_ADDRESSES - 1;
+    course->records.enrolled.count = DALI_ADDRESSES - 1;
     dali_records_add(&course->records, &last);
 }
 

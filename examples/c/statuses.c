@@ -79,8 +79,8 @@ static void check_records_new(uint8_t first, uint8_t last, uint8_t status)
     check(dali_records_new(&records, first, last) == status, "the status of dali_records_new");
     check_written(&records, sizeof records, status, "what dali_records_new writes");
     if (status == DALI_OK)
-        check(records.first == first && records.last == last && records.reserved_count == 0
-                  && records.enrolled_count == 0,
+        check(records.first == first && records.last == last && records.reserved.count == 0
+                  && records.enrolled.count == 0,
               "what dali_records_new makes");
 }
 
@@ -102,16 +102,25 @@ static void check_new(const struct dali_records *records, uint8_t status)
     check_written(&machine, sizeof machine, status, "what dali_machine_new writes");
 }
 
+/* A step, and where the struct holds a machine the same by dali_machine_go. */
 static void check_step(struct dali_machine *machine, uint8_t input, uint8_t byte, uint8_t status)
 {
     struct dali_machine before = *machine;
+    struct dali_machine other = *machine;
     struct dali_order order;
+    struct dali_order other_order;
 
     memset(&order, UNTOUCHED, sizeof order);
+    memset(&other_order, UNTOUCHED, sizeof other_order);
     check(dali_machine_step(machine, input, byte, &order) == status, "the status of a step");
     check_written(&order, sizeof order, status, "the order of a step");
     if (status != DALI_OK)
         check(memcmp(machine, &before, sizeof before) == 0, "a step refuses and changes");
+    if (status == DALI_NO_MACHINE)
+        return;
+    check(dali_machine_go(&other, input, byte, &other_order) == status, "the status of dali_machine_go");
+    check(memcmp(&other, machine, sizeof other) == 0, "the machine after dali_machine_go");
+    check(memcmp(&other_order, &order, sizeof order) == 0, "the order of dali_machine_go");
 }
 
 static void check_reads(const struct dali_machine *machine, uint8_t status)
@@ -120,15 +129,19 @@ static void check_reads(const struct dali_machine *machine, uint8_t status)
     struct dali_records records;
     struct dali_table table;
     uint8_t due = UNTOUCHED;
+    uint8_t answered;
 
     memset(&order, UNTOUCHED, sizeof order);
     memset(&records, UNTOUCHED, sizeof records);
     memset(&table, UNTOUCHED, sizeof table);
-    check(dali_machine_due(machine, &due) == status, "the status of dali_machine_due");
+    /* What is due is read of the last order alone, so other bytes that hold no machine are passed over. */
+    answered = dali_machine_due(machine, &due);
+    check(answered == DALI_OK || (status != DALI_OK && answered == DALI_NO_MACHINE), "the status of dali_machine_due");
+    check(dali_machine_check(machine) == status, "the status of dali_machine_check");
     check(dali_machine_last(machine, &order) == status, "the status of dali_machine_last");
     check(dali_machine_records(machine, &records) == status, "the status of dali_machine_records");
     check(dali_machine_table(machine, &table) == status, "the status of dali_machine_table");
-    check_written(&due, sizeof due, status, "what dali_machine_due writes");
+    check_written(&due, sizeof due, answered, "what dali_machine_due writes");
     check_written(&order, sizeof order, status, "what dali_machine_last writes");
     check_written(&records, sizeof records, status, "what dali_machine_records writes");
     check_written(&table, sizeof table, status, "what dali_machine_table writes");
@@ -235,18 +248,19 @@ static void try_machine(const struct dali_machine *given, uint8_t input, uint8_t
     struct dali_table table;
     uint8_t due = UNTOUCHED;
 
-    if (dali_machine_due(&machine, &due) != DALI_OK) {
+    if (dali_machine_check(&machine) != DALI_OK) {
         check_reads(&machine, DALI_NO_MACHINE);
         check_step(&machine, input, byte, DALI_NO_MACHINE);
         return;
     }
     check_reads(&machine, DALI_OK);
+    dali_machine_due(&machine, &due);
     dali_machine_last(&machine, &last);
     dali_machine_records(&machine, &records);
     dali_machine_table(&machine, &table);
     check(last.kind <= DALI_HALT && due == due_after[last.kind], "what is due, by the last order");
-    check(table.count == records.enrolled_count, "the count of the table");
-    check(memcmp(table.gear, records.enrolled, sizeof table.gear) == 0, "the table");
+    check(table.count == records.enrolled.count, "the count of the table");
+    check(memcmp(table.gear, records.enrolled.pairs, sizeof table.gear) == 0, "the table");
     check_new(&records, DALI_OK);
     check(memcmp(&machine, given, sizeof machine) == 0, "a call that reads changes the machine");
     if (input > DALI_COMMIT_FAILED) {
@@ -268,7 +282,7 @@ static void try_records(const struct dali_records *given, const struct dali_reco
     struct dali_machine machine;
     uint8_t status = dali_records_add(&records, addition);
     const struct dali_pair *added;
-    int count = given->reserved_count + given->enrolled_count;
+    int count = given->reserved.count + given->enrolled.count;
 
     check(status != DALI_NOT_DUE && status != DALI_NO_MACHINE && status <= DALI_NOT_RESERVED,
           "the status of an addition");
@@ -278,12 +292,12 @@ static void try_records(const struct dali_records *given, const struct dali_reco
         check(memcmp(&records, given, sizeof records) == 0, "a refused addition changes");
         return;
     }
-    check(records.reserved_count + records.enrolled_count
+    check(records.reserved.count + records.enrolled.count
               == count + (addition->kind == DALI_RELEASE ? -1 : 1),
           "how many records there are after an addition");
     if (addition->kind != DALI_RELEASE) {
-        added = addition->kind == DALI_RESERVE ? &records.reserved[records.reserved_count - 1]
-                                               : &records.enrolled[records.enrolled_count - 1];
+        added = addition->kind == DALI_RESERVE ? &records.reserved.pairs[records.reserved.count - 1]
+                                               : &records.enrolled.pairs[records.enrolled.count - 1];
         check(memcmp(added, &addition->pair, sizeof *added) == 0, "what was added");
     }
     check_new(&records, DALI_OK);
@@ -343,11 +357,11 @@ static struct dali_record some_record(const struct dali_records *records, uint64
 {
     struct dali_record record = record_of((uint8_t)chance_below(chance, 5), 0, 0);
 
-    record.pair = records->reserved[chance_below(chance, DALI_ADDRESSES)];
+    record.pair = records->reserved.pairs[chance_below(chance, DALI_ADDRESSES)];
     if (chance_below(chance, 2) == 0)
         record.pair.short_address = (uint8_t)chance_below(chance, DALI_ADDRESSES + 2);
     if (chance_below(chance, 2) == 0)
-        record.pair.random_address = records->enrolled[0].random_address;
+        record.pair.random_address = records->enrolled.pairs[0].random_address;
     else if (chance_below(chance, 2) == 0)
         record.pair.random_address.low = (uint8_t)chance_next(chance);
     return record;

@@ -66,13 +66,28 @@ struct call {
 static uint32_t stacks[16][STACK_WORDS] ALIGNED;
 static struct course course;
 
-/* Each measured call: how it is readied. The first one drives the commissioning. */
+/* Each measured call: how it is readied. The first one drives the commissioning, and the second one
+ * takes the same step with a copy. */
 
 #define AT(thing) ((uintptr_t)&(thing))
 
 static int ready_step(struct course *it, struct arguments *arguments)
 {
     *arguments = (struct arguments){{AT(it->machine), it->told.input, it->told.byte, AT(it->order)}};
+    return 1;
+}
+
+/* The same step, of a copy. */
+static int ready_go(struct course *it, struct arguments *arguments)
+{
+    it->other_machine = it->machine;
+    *arguments = (struct arguments){{AT(it->other_machine), it->told.input, it->told.byte, AT(it->other_order)}};
+    return 1;
+}
+
+static int ready_check(struct course *it, struct arguments *arguments)
+{
+    *arguments = (struct arguments){{AT(it->machine)}};
     return 1;
 }
 
@@ -111,10 +126,10 @@ static int ready_machine_new(struct course *it, struct arguments *arguments)
 static int ready_records_add(struct course *it, struct arguments *arguments)
 {
     dali_machine_records(&it->machine, &it->records);
-    if (it->records.enrolled_count == 0)
+    if (it->records.enrolled.count == 0)
         return 0;
-    it->records.enrolled_count--;
-    it->addition = (struct dali_record){DALI_ENROL, it->records.enrolled[it->records.enrolled_count]};
+    it->records.enrolled.count--;
+    it->addition = (struct dali_record){DALI_ENROL, it->records.enrolled.pairs[it->records.enrolled.count]};
     *arguments = (struct arguments){{AT(it->records), AT(it->addition)}};
     return 1;
 }
@@ -129,6 +144,8 @@ static int ready_records_new(struct course *it, struct arguments *arguments)
 
 static struct call calls[] = {
     CALL(dali_machine_step, ready_step),
+    CALL(dali_machine_go, ready_go),
+    CALL(dali_machine_check, ready_check),
     CALL(dali_machine_due, ready_due),
     CALL(dali_machine_last, ready_last),
     CALL(dali_machine_records, ready_records),
@@ -303,7 +320,7 @@ static void measure(struct call *call, uint32_t *stack)
 
 static void measure_beside(void)
 {
-    for (unsigned at = 1; at < CALLS; at++)
+    for (unsigned at = 2; at < CALLS; at++)
         measure(&calls[at], stacks[at]);
 }
 
@@ -345,6 +362,7 @@ static void commission(uint64_t seed)
     do {
         if (course.moment++ % BESIDE == 0)
             measure_beside();
+        measure(&calls[1], stacks[1]);
         measure(&calls[0], stacks[0]);
     } while (follow());
     measure_beside();

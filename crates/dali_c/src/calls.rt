@@ -1,26 +1,32 @@
-//! What C calls. No call asks anything of its caller that C cannot keep: bytes that are none are refused.
+//! What C calls. Bytes that are none are refused, but by `dali_machine_go`: the one call with a condition.
 
-ghost use Rattle.std.specs.Prelude.{◌≡◌, ◌<◌, ◌↔◌, ◌⊎◌, true, false, [], Some, None};
+ghost use Rattle.std.specs.Prelude.{◌≡◌, ◌<◌, ◌↔◌, ◌⊎◌, true, false, [], Option, Some, None, IsSome, IfSome};
 ghost use Rattle.dali_script.specs.declared.records.Record.{Record};
 ghost use Rattle.dali_script.specs.declared.orders.Input.{Input};
-ghost use Rattle.dali_script.specs.Records.{with_record};
-ghost use Rattle.dali_script.specs.Due.{due_after, accepts};
+ghost use Rattle.dali_script.specs.declared.orders.Order.{Order};
+ghost use Rattle.dali_script.specs.Records.{Fits, with_record};
+ghost use Rattle.dali_script.specs.Pairs.{pairs_in};
+ghost use Rattle.dali_script.specs.Due.{due_after, accepts, record_ordered};
 ghost use Rattle.dali_controller.specs.Machine.{Machine, at_first};
+ghost use Rattle.dali_controller.specs.Orders.{IsGiven, machine_after};
+ghost use Rattle.dali_controller.specs.Parts.{machine_with};
+ghost use Rattle.dali_controller.specs.Whole.{IsWhole};
 ghost use Rattle.dali_c.specs.Codes.{input_of, due_code};
 ghost use Rattle.dali_c.specs.Orders.{record_of, order_of};
-ghost use Rattle.dali_c.specs.Records.{kept_of, pairs_of, AreRecords};
-ghost use Rattle.dali_c.specs.Machines.{Holds};
+ghost use Rattle.dali_c.specs.Records.{kept_of, AreRecords};
+ghost use Rattle.dali_c.specs.Machines.{IsRead, Holds};
 ghost use Rattle.dali_c.specs.Calls.{AnswersAdd, Steps, OK, NOT_DUE, NO_MACHINE, BAD_ARGUMENT, NO_RECORDS};
 ghost use Rattle.dali_c.specs.Calls.{DOES_NOT_FIT, ADDRESS_TAKEN, RANDOM_TAKEN, NOT_RESERVED};
 
 use crate::codes::{due_code, input_of};
 use crate::machine::PlainMachine;
 use crate::orders::{PlainOrder, PlainRecord};
-use crate::records::{PlainRecords, PlainTable};
+use crate::records::PlainRecords;
+use crate::state::PlainState;
 use crate::status;
-use dali_controller::Machine;
+use dali_controller::State;
 use dali_frame::Short;
-use dali_script::{AddError, Block, Kept, Record};
+use dali_script::{AddError, Block, Due, Input, Order, Pairs, Record, Records};
 
 /// The records of a controller that has kept none, for a block of short addresses.
 #[unsafe(no_mangle)]
@@ -35,7 +41,7 @@ pub extern "C" fn dali_records_new(records: &mut PlainRecords, first: u8, last: 
     let (Some(first), Some(last)) = (Short::of(first), Short::of(last)) else {
         return status::BAD_ARGUMENT;
     };
-    *records = PlainRecords::of(&Kept::new(Block { first, last }));
+    *records = PlainRecords::new(Block { first, last });
     status::OK
 }
 
@@ -56,29 +62,27 @@ pub extern "C" fn dali_records_add(records: &mut PlainRecords, addition: &PlainR
     let Some(added) = addition.read() else {
         return status::BAD_ARGUMENT;
     };
-    let mut more = kept;
-    let status = add(&mut more, added);
+    let status = addition_status(&kept, &added);
     if status == status::OK {
-        *records = PlainRecords::of(&more);
+        records.add(added);
     }
     status
 }
 
-/// Adds a record, if it fits and may be added.
-fn add(kept: &mut Kept, added: Record) -> u8
-    ensures status { AnswersAdd kept.old added result }
+/// Whether a record fits and may be added, or why not.
+fn addition_status(kept: &Records<'_>, added: &Record) -> u8
+    ensures status { AnswersAdd kept.now added.now result }
     ensures named { (result ≡ OK) ⊎ (result ≡ DOES_NOT_FIT) ⊎ (result ≡ ADDRESS_TAKEN) ⊎ (result ≡ RANDOM_TAKEN)
         ⊎ (result ≡ NOT_RESERVED) }
-    ensures added { result ≡ OK → kept.new ≡ with_record kept.old added }
 {
-    if !kept.fits(&added) {
+    if !kept.fits(added) {
         return status::DOES_NOT_FIT;
     }
-    match kept.add(added) {
-        Ok(()) => status::OK,
-        Err(AddError::AddressTaken) => status::ADDRESS_TAKEN,
-        Err(AddError::RandomTaken) => status::RANDOM_TAKEN,
-        Err(AddError::NotReserved) => status::NOT_RESERVED,
+    match kept.refusal(added) {
+        None => status::OK,
+        Some(AddError::AddressTaken) => status::ADDRESS_TAKEN,
+        Some(AddError::RandomTaken) => status::RANDOM_TAKEN,
+        Some(AddError::NotReserved) => status::NOT_RESERVED,
     }
 }
 
@@ -90,11 +94,26 @@ pub extern "C" fn dali_machine_new(machine: &mut PlainMachine, id: u8, records: 
     ensures machine { result ≡ OK → Holds machine.new (at_first id (kept_of records.now)) }
     ensures untouched { (result ≡ OK → ⊥) → machine.new ≡ machine.old }
 {
-    let Some(kept) = records.read() else {
+    let Some(_) = records.read() else {
         return status::NO_RECORDS;
     };
-    *machine = PlainMachine::of(Machine::new(id, &kept));
+    machine.state = PlainState::of(&State::new(id));
+    machine.records = *records;
     status::OK
+}
+
+/// Whether a struct holds a machine.
+#[unsafe(no_mangle)]
+pub extern "C" fn dali_machine_check(machine: &PlainMachine) -> u8
+    ensures machine { result ≡ OK → (m : Machine) × Holds machine.now m }
+    ensures no_machine { ((m : Machine) → Holds machine.now m → ⊥) → result ≡ NO_MACHINE }
+    ensures held { (m : Machine) → Holds machine.now m → result ≡ OK }
+    ensures named { (result ≡ OK) ⊎ (result ≡ NO_MACHINE) }
+{
+    match machine.read() {
+        Some(_) => status::OK,
+        None => status::NO_MACHINE,
+    }
 }
 
 /// Tells a machine what happened, and gives its next order.
@@ -115,36 +134,104 @@ pub extern "C" fn dali_machine_step(
     ensures named { (result ≡ OK) ⊎ (result ≡ NOT_DUE) ⊎ (result ≡ NO_MACHINE) ⊎ (result ≡ BAD_ARGUMENT) }
     ensures untouched { (result ≡ OK → ⊥) → (machine.new ≡ machine.old) × (order.new ≡ order.old) }
 {
-    let Some(read) = machine.read() else {
-        return status::NO_MACHINE;
-    };
-    let Some(told) = input_of(input, byte) else {
-        return status::BAD_ARGUMENT;
-    };
-    let mut running = read;
-    match running.step(told) {
-        Ok(ordered) => {
-            *machine = PlainMachine::of(running);
-            *order = PlainOrder::of(Some(ordered));
-            status::OK
-        }
-        Err(_) => status::NOT_DUE,
+    match machine.read() {
+        Some(state) => go_on(machine, state, input, byte, order),
+        None => status::NO_MACHINE,
     }
 }
 
-/// What a machine waits for.
+/// The same, where it is known that the struct holds a machine.
+#[unsafe(no_mangle)]
+pub extern "C" fn dali_machine_go(
+    machine: &mut PlainMachine,
+    input: u8,
+    byte: u8,
+    order: &mut PlainOrder,
+) -> u8
+    requires { (m : Machine) × Holds machine.old m }
+
+    ensures done { (m : Machine) → (i : Input) → Holds machine.old m → input_of input byte ≡ Some i
+        → accepts (due_after m.last) i ≡ true → (result ≡ OK) × Steps m i machine.new order.new }
+    ensures not_due { (m : Machine) → (i : Input) → Holds machine.old m → input_of input byte ≡ Some i
+        → accepts (due_after m.last) i ≡ false → result ≡ NOT_DUE }
+    ensures bad { input_of input byte ≡ None → result ≡ BAD_ARGUMENT }
+    ensures named { (result ≡ OK) ⊎ (result ≡ NOT_DUE) ⊎ (result ≡ BAD_ARGUMENT) }
+    ensures untouched { (result ≡ OK → ⊥) → (machine.new ≡ machine.old) × (order.new ≡ order.old) }
+{
+    match machine.state.read() {
+        Some(state) => go_on(machine, state, input, byte, order),
+        None => unreachable!(),
+    }
+}
+
+/// A machine in this state is told what happened, and gives its next order.
+fn go_on(
+    machine: &mut PlainMachine,
+    state: State,
+    input: u8,
+    byte: u8,
+    order: &mut PlainOrder,
+) -> u8
+    requires { IsRead machine.old state }
+
+    ensures done { (m : Machine) → (i : Input) → Holds machine.old m → input_of input byte ≡ Some i
+        → accepts (due_after m.last) i ≡ true → (result ≡ OK) × Steps m i machine.new order.new }
+    ensures not_due { (m : Machine) → (i : Input) → Holds machine.old m → input_of input byte ≡ Some i
+        → accepts (due_after m.last) i ≡ false → result ≡ NOT_DUE }
+    ensures bad { input_of input byte ≡ None → result ≡ BAD_ARGUMENT }
+    ensures named { (result ≡ OK) ⊎ (result ≡ NOT_DUE) ⊎ (result ≡ BAD_ARGUMENT) }
+    ensures untouched { (result ≡ OK → ⊥) → (machine.new ≡ machine.old) × (order.new ≡ order.old) }
+{
+    let Some(told) = input_of(input, byte) else {
+        return status::BAD_ARGUMENT;
+    };
+    let mut running = state;
+    match step(&mut running, &mut machine.records, told) {
+        Some(ordered) => {
+            machine.state = PlainState::of(&running);
+            *order = PlainOrder::of(Some(ordered));
+            status::OK
+        }
+        None => status::NOT_DUE,
+    }
+}
+
+/// A machine with these records takes an input. None where it waits for something else.
+fn step(state: &mut State, records: &mut PlainRecords, told: Input) -> Option<Order>
+    requires records { AreRecords records.old }
+    requires whole { IsWhole (machine_with state.old (kept_of records.old)) }
+
+    ensures due { IsSome result ↔ (accepts (due_after state.old.last) told ≡ true) }
+    ensures not_due { result ≡ None → records.new ≡ records.old }
+    ensures kept { AreRecords records.new }
+    ensures given { IfSome result (IsGiven (machine_with state.old (kept_of records.old)) told) }
+    ensures state { IfSome result (λ order. machine_with state.new (kept_of records.new)
+        ≡ machine_after (machine_with state.old (kept_of records.old)) told order) }
+    ensures whole { IfSome result (λ _. IsWhole (machine_with state.new (kept_of records.new))) }
+    ensures fits { IfSome result (λ order. IfSome (record_ordered (Some order)) (Fits (kept_of records.old).block)) }
+{
+    let added = state.kept_by(told);
+    records.keep(added);
+    match state.step(&records.known(), told) {
+        Ok(order) => Some(order),
+        Err(_) => None,
+    }
+}
+
+/// What a machine waits for. It reads the last order alone.
 #[unsafe(no_mangle)]
 pub extern "C" fn dali_machine_due(machine: &PlainMachine, due: &mut u8) -> u8
     ensures due { (m : Machine) → Holds machine.now m → (result ≡ OK) × (due.new ≡ due_code (due_after m.last)) }
-    ensures no_machine { ((m : Machine) → Holds machine.now m → ⊥) → result ≡ NO_MACHINE }
-    ensures held { result ≡ OK → (m : Machine) × Holds machine.now m }
+    ensures read { (last : Option Order) → order_of machine.now.state.last ≡ Some last
+        → (result ≡ OK) × (due.new ≡ due_code (due_after last)) }
+    ensures no_order { (result ≡ NO_MACHINE) ↔ (order_of machine.now.state.last ≡ None) }
     ensures named { (result ≡ OK) ⊎ (result ≡ NO_MACHINE) }
     ensures untouched { (result ≡ OK → ⊥) → due.new ≡ due.old }
 {
-    let Some(read) = machine.read() else {
+    let Some(last) = machine.state.last.read() else {
         return status::NO_MACHINE;
     };
-    *due = due_code(read.due());
+    *due = due_code(Due::after(last));
     status::OK
 }
 
@@ -160,7 +247,7 @@ pub extern "C" fn dali_machine_last(machine: &PlainMachine, order: &mut PlainOrd
     let Some(read) = machine.read() else {
         return status::NO_MACHINE;
     };
-    *order = PlainOrder::of(read.last());
+    *order = PlainOrder::of(read.last);
     status::OK
 }
 
@@ -174,26 +261,26 @@ pub extern "C" fn dali_machine_records(machine: &PlainMachine, records: &mut Pla
     ensures named { (result ≡ OK) ⊎ (result ≡ NO_MACHINE) }
     ensures untouched { (result ≡ OK → ⊥) → records.new ≡ records.old }
 {
-    let Some(read) = machine.read() else {
+    let Some(_) = machine.read() else {
         return status::NO_MACHINE;
     };
-    *records = PlainRecords::of(read.kept());
+    *records = machine.records;
     status::OK
 }
 
 /// The enrolment table of a machine.
 #[unsafe(no_mangle)]
-pub extern "C" fn dali_machine_table(machine: &PlainMachine, table: &mut PlainTable) -> u8
+pub extern "C" fn dali_machine_table(machine: &PlainMachine, table: &mut Pairs) -> u8
     ensures table { (m : Machine) → Holds machine.now m
-        → (result ≡ OK) × (pairs_of table.new.count table.new.gear ≡ m.kept.enrolled) }
+        → (result ≡ OK) × (pairs_in table.new ≡ m.kept.enrolled) }
     ensures no_machine { ((m : Machine) → Holds machine.now m → ⊥) → result ≡ NO_MACHINE }
     ensures held { result ≡ OK → (m : Machine) × Holds machine.now m }
     ensures named { (result ≡ OK) ⊎ (result ≡ NO_MACHINE) }
     ensures untouched { (result ≡ OK → ⊥) → table.new ≡ table.old }
 {
-    let Some(read) = machine.read() else {
+    let Some(_) = machine.read() else {
         return status::NO_MACHINE;
     };
-    *table = PlainTable::of(read.table());
+    *table = machine.records.enrolled;
     status::OK
 }

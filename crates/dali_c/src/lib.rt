@@ -1,7 +1,8 @@
 //! The machine of an application controller, for C: `include/dali_c.h` declares what is exported here.
 //!
-//! A machine is a plain struct that C owns. Each call reads it into a machine of `dali_controller`, which takes no
-//! memory, and writes back what it became; bytes that are none of a machine's states are refused.
+//! A machine is a plain struct that C owns: its state, and the records that it goes by. Each call reads the state, and
+//! tests it and the records where they lie; a step writes the state back, and a record that was kept to the records.
+//! Bytes that are none of a machine's are refused.
 #![tactic(auto)]
 
 mod calls;
@@ -12,4 +13,5 @@ mod orders;
 mod pairs;
 mod purposes;
 mod records;
+mod state;
 mod status;

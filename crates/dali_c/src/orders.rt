@@ -4,16 +4,16 @@ ghost use Rattle.std.specs.Prelude.{◌≡◌, Some};
 ghost use Rattle.dali_c.specs.Orders.{record_of, order_of, finding_of};
 
 use crate::codes::{end_code, end_of, fault_code, fault_of};
-use crate::pairs::PlainPair;
+use crate::pairs::read_pair;
 use dali_frame::{Forward, Priority};
-use dali_script::{Finding, Order, Record};
+use dali_script::{Finding, Order, Pair, Record};
 
 /// A record: kind 1 reserves, 2 enrols, 3 releases.
 #[repr(C)]
 #[derive(Clone, Copy)]
 pub struct PlainRecord {
     pub kind: u8,
-    pub pair: PlainPair,
+    pub pair: Pair,
 }
 
 impl PlainRecord {
@@ -27,14 +27,14 @@ impl PlainRecord {
         };
         PlainRecord {
             kind,
-            pair: PlainPair::of(short, random),
+            pair: Pair::of(short, random),
         }
     }
 
     pub(crate) fn read(self) -> Option<Record>
         ensures { result ≡ record_of self }
     {
-        let (short, random) = self.pair.read()?;
+        let (short, random) = read_pair(self.pair)?;
         match self.kind {
             1 => Some(Record::Reserve(short, random)),
             2 => Some(Record::Enrol(short, random)),
@@ -68,7 +68,7 @@ impl PlainOrder {
             opcode_byte: 0,
             record: PlainRecord {
                 kind: 0,
-                pair: PlainPair::default(),
+                pair: Pair::default(),
             },
             reason: 0,
         }
@@ -135,7 +135,7 @@ impl PlainOrder {
 #[derive(Clone, Copy)]
 pub struct PlainFinding {
     pub kind: u8,
-    pub pair: PlainPair,
+    pub pair: Pair,
 }
 
 impl PlainFinding {
@@ -145,7 +145,7 @@ impl PlainFinding {
         match finding {
             None => PlainFinding {
                 kind: 0,
-                pair: PlainPair::default(),
+                pair: Pair::default(),
             },
             Some(found) => PlainFinding::found(found),
         }
@@ -160,7 +160,7 @@ impl PlainFinding {
         };
         PlainFinding {
             kind,
-            pair: PlainPair::of(short, random),
+            pair: Pair::of(short, random),
         }
     }
 
@@ -171,7 +171,7 @@ impl PlainFinding {
         if self.kind == 0 {
             return Some(None);
         }
-        let (short, random) = self.pair.read()?;
+        let (short, random) = read_pair(self.pair)?;
         match self.kind {
             1 => Some(Some(Finding::Queried(short, random))),
             2 => Some(Some(Finding::Resolved(short, random))),

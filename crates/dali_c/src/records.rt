@@ -1,73 +1,97 @@
-//! A controller's records and its enrolment table as plain bytes.
+//! A controller's records as plain bytes.
 
-ghost use Rattle.std.specs.Prelude.{◌≡◌, MatchOption};
-ghost use Rattle.dali_c.specs.Records.{pairs_of, kept_of, AreRecords};
+ghost use Rattle.std.specs.Prelude.{◌≡◌, ◌<◌, None, IfSome, MatchOption};
+ghost use Rattle.dali_script.specs.Records.{Fits, MayAdd, with_record, without_records};
+ghost use Rattle.dali_controller.specs.Steps.{with_some};
+ghost use Rattle.dali_c.specs.Records.{kept_of, AreRecords};
 
-use crate::pairs::{PlainPair, ROOM, read_pairs, write_pairs};
-use dali_enrol::Table;
 use dali_frame::Short;
-use dali_script::{Block, Kept};
+use dali_script::{Block, Pair, Pairs, Record, Records};
 
-/// The records that a controller keeps: its block, and how many of the pairs are reserved and enrolled, oldest first.
+/// The records that a controller keeps: its block, and the pairs that are reserved and enrolled, oldest first.
 #[repr(C)]
 #[derive(Clone, Copy)]
 pub struct PlainRecords {
     pub first: u8,
     pub last: u8,
-    pub reserved_count: u8,
-    pub enrolled_count: u8,
-    pub reserved: [PlainPair; ROOM],
-    pub enrolled: [PlainPair; ROOM],
+    pub reserved: Pairs,
+    pub enrolled: Pairs,
 }
 
 impl PlainRecords {
-    pub(crate) fn of(kept: &Kept) -> PlainRecords
-        ensures records { kept_of result ≡ kept.now }
+    /// No records, for this block.
+    pub(crate) fn new(block: Block) -> PlainRecords
+        ensures records { kept_of result ≡ without_records block }
         ensures kept { AreRecords result }
     {
-        let block = kept.block();
-        let reserved = kept.reserved();
-        let enrolled = kept.enrolled();
         PlainRecords {
             first: block.first.number(),
             last: block.last.number(),
-            reserved_count: reserved.len() as u8,
-            enrolled_count: enrolled.len() as u8,
-            reserved: write_pairs(reserved),
-            enrolled: write_pairs(enrolled),
+            reserved: Pairs::new(),
+            enrolled: Pairs::new(),
         }
     }
 
-    /// None where no controller keeps them.
-    pub(crate) fn read(&self) -> Option<Kept>
+    /// None where no controller keeps them. Nothing is copied.
+    pub(crate) fn read(&self) -> Option<Records<'_>>
         ensures { MatchOption result
             (AreRecords self.now → ⊥)
-            (λ kept. AreRecords self.now × (kept ≡ kept_of self.now)) }
+            (λ records. AreRecords self.now × (records ≡ kept_of self.now)) }
     {
         let first = Short::of(self.first)?;
         let last = Short::of(self.last)?;
-        let reserved = read_pairs(self.reserved.get(..usize::from(self.reserved_count))?)?;
-        let enrolled = read_pairs(self.enrolled.get(..usize::from(self.enrolled_count))?)?;
-        Kept::of(Block { first, last }, &reserved, &enrolled)
+        if self.reserved.count > 64 || self.enrolled.count > 64 {
+            return None;
+        }
+        Records::of(
+            Block { first, last },
+            self.reserved.as_slice(),
+            self.enrolled.as_slice(),
+        )
     }
-}
 
-/// The enrolment table: how many gear are enrolled, and which, oldest first.
-#[repr(C)]
-#[derive(Clone, Copy)]
-pub struct PlainTable {
-    pub count: u8,
-    pub gear: [PlainPair; ROOM],
-}
-
-impl PlainTable {
-    pub(crate) fn of(table: &Table) -> PlainTable
-        ensures { pairs_of result.count result.gear ≡ table.now.entries }
+    /// The same, where it is known that a controller keeps them.
+    pub(crate) fn known(&self) -> Records<'_>
+        requires { AreRecords self.now }
+        ensures { result ≡ kept_of self.now }
     {
-        let entries = table.entries();
-        PlainTable {
-            count: entries.len() as u8,
-            gear: write_pairs(entries),
+        let (Some(first), Some(last)) = (Short::of(self.first), Short::of(self.last)) else {
+            unreachable!();
+        };
+        Records::known(
+            Block { first, last },
+            self.reserved.as_slice(),
+            self.enrolled.as_slice(),
+        )
+    }
+
+    /// Adds a record as the last of its kind; a release takes its reservation away.
+    pub(crate) fn add(&mut self, added: Record)
+        requires records { AreRecords self.old }
+        requires fits { Fits (kept_of self.old).block added }
+        requires may { MayAdd (kept_of self.old) added }
+
+        ensures kept { AreRecords self.new }
+        ensures added { kept_of self.new ≡ with_record (kept_of self.old) added }
+    {
+        match added {
+            Record::Reserve(address, random) => self.reserved.insert(Pair::of(address, random)),
+            Record::Enrol(address, random) => self.enrolled.insert(Pair::of(address, random)),
+            Record::Release(address, random) => self.reserved.take_out(Pair::of(address, random)),
+        }
+    }
+
+    /// Adds a record, where there is one.
+    pub(crate) fn keep(&mut self, added: Option<Record>)
+        requires records { AreRecords self.old }
+        requires may { IfSome added (λ x. Fits (kept_of self.old).block x × MayAdd (kept_of self.old) x) }
+
+        ensures kept { AreRecords self.new }
+        ensures added { kept_of self.new ≡ with_some (kept_of self.old) added }
+        ensures none { added ≡ None → self.new ≡ self.old }
+    {
+        if let Some(added) = added {
+            self.add(added);
         }
     }
 }

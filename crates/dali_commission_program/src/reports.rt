@@ -92,11 +92,14 @@ fn reply_of(replies: &[Reply], short: Short) -> Reply {
 fn say_enrolled<S: Eprint>(system: &S, kept: &Kept, replies: &[Reply]) -> usize {
     let mut wrong = 0usize;
     for pair in kept.enrolled() {
-        let standing = stands(pair.1, reply_of(replies, pair.0));
+        let Some(short) = Short::of(pair.address()) else {
+            continue;
+        };
+        let standing = stands(pair.random(), reply_of(replies, short));
         if standing != Standing::There {
             wrong = wrong.saturating_add(1);
         }
-        say_standing(system, pair.0, pair.1, standing);
+        say_standing(system, short, pair.random(), standing);
     }
     wrong
 }
@@ -105,10 +108,13 @@ fn say_enrolled<S: Eprint>(system: &S, kept: &Kept, replies: &[Reply]) -> usize 
 fn say_reserved<S: Eprint>(system: &S, kept: &Kept, replies: &[Reply]) -> usize {
     let mut unfinished = 0usize;
     for pair in kept.reserved() {
-        let reply = reply_of(replies, pair.0);
-        if reply != Reply::Silence && random_at(kept.enrolled(), pair.0).is_none() {
+        let Some(short) = Short::of(pair.address()) else {
+            continue;
+        };
+        let reply = reply_of(replies, short);
+        if reply != Reply::Silence && random_at(kept.enrolled(), short).is_none() {
             unfinished = unfinished.saturating_add(1);
-            let (number, random) = (pair.0.number(), pair.1);
+            let (number, random) = (pair.address(), pair.random());
             let _ = eprintln!(system;
                 "{number} {random} is reserved, and not in the table; a gear answers"
             );

@@ -6,7 +6,7 @@ ghost use Rattle.dali_commission_program.specs.Tables.{rows_text, table_text};
 
 use arrayvec::ArrayVec;
 use dali_frame::{Random24, Short};
-use dali_script::Kept;
+use dali_script::{Kept, Pair};
 use std::alloc::AllocError;
 
 /// How a table is spelled.
@@ -21,12 +21,12 @@ pub enum Form {
 }
 
 /// The random address of the first pair with a short address.
-pub(crate) fn random_at(pairs: &[(Short, Random24)], short: Short) -> Option<Random24>
+pub(crate) fn random_at(pairs: &[Pair], short: Short) -> Option<Random24>
     ensures { result ≡ random_at pairs.now short }
 {
     for pair in pairs {
-        if pair.0 == short {
-            return Some(pair.1);
+        if pair.address() == short.number() {
+            return Some(pair.random());
         }
     }
     None

@@ -5,3 +5,4 @@ pub mod Lawfully
 pub mod Larger
 pub mod Ran
 pub mod Spelled
+mod Blocks

@@ -95,9 +95,12 @@ pub fn check<K: Keep, R: Read, W: Write>(
 pub fn outside(kept: &Kept, block: Block) -> Option<Short>
     ensures { result ≡ outside block kept.now.reserved }
 {
+    let first = block.first.number();
+    let last = block.last.number();
     for pair in kept.reserved() {
-        if pair.0 < block.first || block.last < pair.0 {
-            return Some(pair.0);
+        let address = pair.address();
+        if address < first || last < address {
+            return Short::of(address);
         }
     }
     None

@@ -18,7 +18,7 @@ use crate::fault::CommissionFault;
 use crate::lines::Half;
 use arrayvec::ArrayVec;
 use dali_frame::{Answer, Priority, Random24, Short};
-use dali_script::{Block, Input, Kept};
+use dali_script::{Block, Input, Kept, Pair};
 use dali_special::{Command, Part};
 use std::io::{Read, Write};
 
@@ -232,10 +232,10 @@ pub fn ask<R: Read, W: Write>(
     Err(CommissionFault::QuestionLost)
 }
 
-fn has_address(pairs: &[(Short, Random24)], short: Short) -> bool
+fn has_address(pairs: &[Pair], short: Short) -> bool
     ensures { result ≡ list_any (λ p. p.0 == short) pairs.now }
 {
-    pairs.iter().any(|pair| pair.0 == short)
+    pairs.iter().any(|pair| pair.address() == short.number())
 }
 
 /// Whether a record names a short address.

@@ -27,18 +27,19 @@ use Rattle.dali_search.specs.declared.step.Step.TheVariants.{Again, Found, Nobod
 use Rattle.dali_search.specs.Least.{Search, step_after, probe_after, next_probe, answered}
 use Rattle.dali_controller.specs.declared.purpose.Purpose.{Purpose}
 use Rattle.dali_controller.specs.declared.purpose.Purpose.TheVariants.{Opening, Probing, Visiting, Resolving, Closing}
-use Rattle.dali_controller.specs.declared.work.Work.{Work}
+use Rattle.dali_controller.specs.Parts.{Parts}
 use Rattle.dali_controller.specs.Course.{Course, turn_of, is_yes, after_step, probed, number_at, address_for, unless_enrolled, unfinished_at, unfinished_among, here_or_later}
 use Rattle.dali_controller.specs.Machine.{Machine, machine_lost, machine_committed, machine_told}
 use Rattle.dali_controller.specs.Next.{begins_at, course_by, next_course, beginning}
 use Rattle.dali_controller.specs.Orders.{AfterFinding, AfterEnrolled, IsFollowed}
-use Rattle.dali_controller.specs.Moments.{machine_of, course_of, IsFine, Starts}
-use Rattle.dali_controller.specs.Whole.{Pending}
+use Rattle.dali_controller.specs.Parts.{machine_of, parts_course}
+use Rattle.dali_controller.specs.Moments.{Starts}
+use Rattle.dali_controller.specs.Whole.{IsWhole, Pending}
 
 -- THE COURSE OF A MACHINE is the one of the table of moments.
 
 -- a transaction that begins where the trace has this stage
-pub started : (w : Work) (s : Stage) (o : Order) (new : Work) (c : Course) → stage_of w.trace ≡ s → c ≡ begins_at (machine_of w) s → Starts c o new → course_of new ≡ course_by (machine_of w) o
+pub started : (w : Parts) (s : Stage) (o : Order) (new : Parts) (c : Course) → stage_of w.trace ≡ s → c ≡ begins_at (machine_of w) s → Starts c o new → parts_course new ≡ course_by (machine_of w) o
 started w s o new c stage is starts = rw starts.order (starts.course ∙ is ∙ ap (λ x. begins_at (machine_of w) x) (sym stage))
 
 -- ---------------------------------------------------------------- a search that is answered
@@ -140,16 +141,16 @@ no_turn p n s c free e = go p (subst (λ x. turn_of p n x ≡ Some c) free e) wh
   go (Closing x) e = cc
 
 -- the start, and a transaction that was lost, follow neither queries nor an enrolment
-pub followed_start : (w : Work) (o : Order) → IsFine w → w.last ≡ None → IsFollowed (machine_told (machine_of w) input.Start) o
-followed_start w o fine none = record {
-  sent = λ c e. absurd (no_turn w.purpose w.number (stage_of w.trace) c (subst (Pending (machine_of w)) none fine.whole).free e);
-  told = λ b n s e. absurd (let there : Free ≡ Spelled b (Some n) = sym (subst (Pending (machine_of w)) none fine.whole).free ∙ s in cc);
-  another = λ b n s e. absurd (let there : Free ≡ Spelled b (Some n) = sym (subst (Pending (machine_of w)) none fine.whole).free ∙ s in cc);
-  unconfirmed = λ r x s. absurd (let there : Free ≡ Inconclusive r x = sym (subst (Pending (machine_of w)) none fine.whole).free ∙ s in cc);
+pub followed_start : (w : Parts) (o : Order) → IsWhole (machine_of w) → w.last ≡ None → IsFollowed (machine_told (machine_of w) input.Start) o
+followed_start w o whole none = record {
+  sent = λ c e. absurd (no_turn w.purpose w.number (stage_of w.trace) c (subst (Pending (machine_of w)) none whole).free e);
+  told = λ b n s e. absurd (let there : Free ≡ Spelled b (Some n) = sym (subst (Pending (machine_of w)) none whole).free ∙ s in cc);
+  another = λ b n s e. absurd (let there : Free ≡ Spelled b (Some n) = sym (subst (Pending (machine_of w)) none whole).free ∙ s in cc);
+  unconfirmed = λ r x s. absurd (let there : Free ≡ Inconclusive r x = sym (subst (Pending (machine_of w)) none whole).free ∙ s in cc);
   enrolled = λ b n e. absurd (let there : None ≡ Some (Commit (Enrol b n)) = sym none ∙ e in cc);
 }
 
-pub followed_lost : (w : Work) (o : Order) → due_after w.last ≡ due.Bus → IsFollowed (machine_lost (machine_of w)) o
+pub followed_lost : (w : Parts) (o : Order) → due_after w.last ≡ due.Bus → IsFollowed (machine_lost (machine_of w)) o
 followed_lost w o bus = record {
   sent = λ c e. absurd (no_turn w.purpose w.number (stage_of []) c stage_none e);
   told = λ b n s e. absurd (let there : Free ≡ Spelled b (Some n) = sym stage_none ∙ s in cc);
@@ -162,7 +163,7 @@ heard_last : (m : Machine) (f : Forward) (h : Answer) → frame_put m.last ≡ S
 heard_last m f h put = rw put refl
 
 -- a frame that was heard follows no enrolment
-pub followed_heard : (w mid : Work) (o : Order) (f : Forward) (h : Answer) → frame_put w.last ≡ Some f → machine_of mid ≡ machine_told (machine_of w) (input.Heard h)
+pub followed_heard : (w mid : Parts) (o : Order) (f : Forward) (h : Answer) → frame_put w.last ≡ Some f → machine_of mid ≡ machine_told (machine_of w) (input.Heard h)
     → ((c : Command) → turn_of mid.purpose mid.number (stage_of mid.trace) ≡ Some c → o ≡ Put LATER (frame_of c))
     → ((b n : ℕ) → stage_of mid.trace ≡ Spelled b (Some n) → n ≡ value_of mid.number → AfterFinding (machine_of mid) b n o)
     → ((b n : ℕ) → stage_of mid.trace ≡ Spelled b (Some n) → (n ≡ value_of mid.number → ⊥) → o ≡ beginning (next_course (machine_of mid)))
@@ -177,14 +178,14 @@ followed_heard w mid o f h put is sent told another unconfirmed = record {
 }
 
 -- a record that is kept follows no queries
-pub followed_committed : (w : Work) (x : Record) (o : Order) → IsFine w → record_ordered w.last ≡ Some x
+pub followed_committed : (w : Parts) (x : Record) (o : Order) → IsWhole (machine_of w) → record_ordered w.last ≡ Some x
     → ((b n : ℕ) → x ≡ Enrol b n → AfterEnrolled (machine_told (machine_of w) input.Committed) b n o) → IsFollowed (machine_told (machine_of w) input.Committed) o
-followed_committed w x o fine ordered enrolled = record {
-  sent = λ c e. absurd (no_turn w.purpose w.number (stage_of w.trace) c (free_stored w w.last x ordered fine.whole)
+followed_committed w x o whole ordered enrolled = record {
+  sent = λ c e. absurd (no_turn w.purpose w.number (stage_of w.trace) c (free_stored w w.last x ordered whole)
       (subst (λ r. turn_of (machine_committed (machine_of w) r).course.purpose (machine_committed (machine_of w) r).course.number (stage_of (machine_committed (machine_of w) r).trace) ≡ Some c) ordered e));
-  told = λ b n s e. absurd (let there : Free ≡ Spelled b (Some n) = sym (free_stored w w.last x ordered fine.whole) ∙ subst (λ r. stage_of (machine_committed (machine_of w) r).trace ≡ Spelled b (Some n)) ordered s in cc);
-  another = λ b n s e. absurd (let there : Free ≡ Spelled b (Some n) = sym (free_stored w w.last x ordered fine.whole) ∙ subst (λ r. stage_of (machine_committed (machine_of w) r).trace ≡ Spelled b (Some n)) ordered s in cc);
-  unconfirmed = λ r y s. absurd (let there : Free ≡ Inconclusive r y = sym (free_stored w w.last x ordered fine.whole) ∙ subst (λ q. stage_of (machine_committed (machine_of w) q).trace ≡ Inconclusive r y) ordered s in cc);
+  told = λ b n s e. absurd (let there : Free ≡ Spelled b (Some n) = sym (free_stored w w.last x ordered whole) ∙ subst (λ r. stage_of (machine_committed (machine_of w) r).trace ≡ Spelled b (Some n)) ordered s in cc);
+  another = λ b n s e. absurd (let there : Free ≡ Spelled b (Some n) = sym (free_stored w w.last x ordered whole) ∙ subst (λ r. stage_of (machine_committed (machine_of w) r).trace ≡ Spelled b (Some n)) ordered s in cc);
+  unconfirmed = λ r y s. absurd (let there : Free ≡ Inconclusive r y = sym (free_stored w w.last x ordered whole) ∙ subst (λ q. stage_of (machine_committed (machine_of w) q).trace ≡ Inconclusive r y) ordered s in cc);
   enrolled = λ b n e. enrolled b n (same x b n (sym ordered ∙ ap record_ordered (sym (committed_stays (machine_of w) (record_ordered w.last)) ∙ e)));
 } where
   same : (x : Record) (b n : ℕ) → Some x ≡ Some (Enrol b n) → x ≡ Enrol b n
@@ -194,7 +195,7 @@ followed_committed w x o fine ordered enrolled = record {
   committed_stays m None = refl
   committed_stays m (Some r) = refl
 
-  free_stored : (w : Work) (l : Option Order) (x : Record) → record_ordered l ≡ Some x → Pending (machine_of w) l → stage_of w.trace ≡ Free
+  free_stored : (w : Parts) (l : Option Order) (x : Record) → record_ordered l ≡ Some x → Pending (machine_of w) l → stage_of w.trace ≡ Free
   free_stored w None x is p = absurd (cc)
   free_stored w (Some (Put q f)) x is p = absurd (cc)
   free_stored w (Some (Commit y)) x is p = p.free

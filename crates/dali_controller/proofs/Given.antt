@@ -30,7 +30,7 @@ use Rattle.dali_controller.specs.declared.purpose.Purpose.TheVariants.{Closing}
 use Rattle.dali_controller.specs.Course.{Course, closing_of, turn_of, going_on, visit_or_opening, next_unfinished}
 use Rattle.dali_controller.specs.Machine.{Machine, machine_told}
 use Rattle.dali_controller.specs.Next.{next_course, begins_at, course_by, beginning, BeginsWith}
-use Rattle.dali_controller.specs.Orders.{IsAllowed, MayPut, IsWarranted, IsBegun, IsCaused, Contradicts, AfterMask, AfterFinding, AfterEnrolled, IsFollowed, IsOrdered, IsGiven, closing}
+use Rattle.dali_controller.specs.Orders.{IsAllowed, MayOrderPut, IsWarranted, IsBegun, IsCaused, Contradicts, AfterMask, AfterFinding, AfterEnrolled, IsFollowed, IsOrdered, IsGiven, running_close}
 
 -- WHICH ORDER A MACHINE GIVES at which stage, once it was told its input: what is told of a step leaves no other.
 pub record IsGivenBy (t : Machine) (o : Order) : Type 0 where
@@ -64,7 +64,7 @@ put_first t p f first begins =
 abbrev NothingLater : Machine → Type 0
 NothingLater t = (f : Forward) → (t.trace ≡ [] → ⊥) → Lawful t.kept.block t.kept.reserved t.trace f → ⊥
 
-put_begins : (t : Machine) (p : ℕ) (f : Forward) → MayPut t p f → BeginsWith (course_by t (Put p f)) (Put p f) → NothingLater t → Put p f ≡ beginning (next_course t)
+put_begins : (t : Machine) (p : ℕ) (f : Forward) → MayOrderPut t p f → BeginsWith (course_by t (Put p f)) (Put p f) → NothingLater t → Put p f ≡ beginning (next_course t)
 put_begins t p f (inl may) begins none = put_first t p f may.0 begins
 put_begins t p f (inr may) begins none = absurd (none f may.1 may.2)
 
@@ -248,23 +248,23 @@ goes_on_open t = go t.opened where
   go false = visits (next_unfinished t.kept t.course.from)
 
 -- no frame is put where a close was heard: it would be none of the close, and begin no other
-no_put : (t : Machine) (p : ℕ) (f : Forward) (e : End) → closing t ≡ Some e → stage_of t.trace ≡ Terminated → MayPut t p f → IsCaused t (course_by t (Put p f)) (Put p f) → ⊥
+no_put : (t : Machine) (p : ℕ) (f : Forward) (e : End) → running_close t ≡ Some e → stage_of t.trace ≡ Terminated → MayOrderPut t p f → IsCaused t (course_by t (Put p f)) (Put p f) → ⊥
 no_put t p f e runs stage (inl may) cause =
     let unclosed : closing_of (next_course t).purpose ≡ None = ap (λ s. closing_of (begins_at t s).purpose) stage ∙ goes_on_open t in
     let here : IsBegun t (closing_of (next_course t).purpose) = (subst (λ q. IsCaused t (course_by t (Put q f)) (Put q f)) may.0 cause).0 in
-    let ends : closing t ≡ None = subst (λ c. IsBegun t c) unclosed here in
+    let ends : running_close t ≡ None = subst (λ c. IsBegun t c) unclosed here in
     cc
 no_put t p f e runs stage (inr may) cause =
-    let here : (closing t ≡ None) ⊎ ((LATER ≡ FIRST) × (f ≡ frame_of Terminate)) = (subst (λ q. IsCaused t (course_by t (Put q f)) (Put q f)) may.0 cause).1 in
+    let here : (running_close t ≡ None) ⊎ ((LATER ≡ FIRST) × (f ≡ frame_of Terminate)) = (subst (λ q. IsCaused t (course_by t (Put q f)) (Put q f)) may.0 cause).1 in
     go here
   where
-    go : (closing t ≡ None) ⊎ ((LATER ≡ FIRST) × (f ≡ frame_of Terminate)) → ⊥
+    go : (running_close t ≡ None) ⊎ ((LATER ≡ FIRST) × (f ≡ frame_of Terminate)) → ⊥
     go (inl none) = cc
     go (inr is) = omega (arith, is.0)
 
-pub closed : (t : Machine) (o : Order) (e : End) → IsGivenBy t o → closing t ≡ Some e → stage_of t.trace ≡ Terminated → finding_of t.trace ≡ None → (t.tries ≡ 8 → ⊥) → o ≡ Done e
+pub closed : (t : Machine) (o : Order) (e : End) → IsGivenBy t o → running_close t ≡ Some e → stage_of t.trace ≡ Terminated → finding_of t.trace ≡ None → (t.tries ≡ 8 → ⊥) → o ≡ Done e
 closed t o e given runs stage found tries = go o given.ordered.allowed given.ordered.caused where
-  ended : (x : End) → ((x ≡ GaveUp) × (t.tries ≡ 8)) ⊎ ((closing t ≡ Some x) × (stage_of t.trace ≡ Terminated)) → Done x ≡ Done e
+  ended : (x : End) → ((x ≡ GaveUp) × (t.tries ≡ 8)) ⊎ ((running_close t ≡ Some x) × (stage_of t.trace ≡ Terminated)) → Done x ≡ Done e
   ended x (inl is) = absurd (tries is.1)
   ended x (inr is) = ap Done (same x (sym is.0 ∙ runs)) where
     same : (x : End) → Some x ≡ Some e → x ≡ e
@@ -272,7 +272,7 @@ closed t o e given runs stage found tries = go o given.ordered.allowed given.ord
 
   go : (o : Order) → IsAllowed t o → IsCaused t (course_by t o) o → o ≡ Done e
   go (Put p f) may cause = absurd (no_put t p f e runs stage may cause)
-  go (Commit x) may cause = absurd (let none : closing t ≡ None = cause in cc)
+  go (Commit x) may cause = absurd (let none : running_close t ≡ None = cause in cc)
   go (Done x) may cause = ended x cause
   go (Halt fault.Conflict) may cause = absurd (no_conflict t t.course found cause)
   go (Halt fault.Store) may cause = elim cause [ ]

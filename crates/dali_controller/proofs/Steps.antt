@@ -27,7 +27,6 @@ use Rattle.dali_script.specs.Findings.{later, finding_of}
 use Rattle.dali_script.specs.Stages.{finding_at, stage_of, next_stage, queried, named, verified, answered, Follows}
 use Rattle.dali_script.proofs.Transactions.{self, middle_next, low_next, turn, gives, lawful_follows, stage_none, stage_more}
 use Rattle.dali_script.proofs.Found.{finding_after}
-use Rattle.dali_enrol.specs.Table.{Table}
 use Rattle.dali_search.specs.declared.step.Step.TheVariants.{Again}
 use Rattle.dali_script.proofs.Lists.{has_map, has_last, once_before}
 use Rattle.dali_search.specs.Least.{Search}
@@ -39,14 +38,15 @@ use Rattle.dali_script.specs.declared.orders.End.TheVariants.{GaveUp}
 use Rattle.dali_script.specs.declared.orders.Due.TheVariants as due
 use Rattle.dali_controller.specs.declared.purpose.Purpose.{Purpose}
 use Rattle.dali_controller.specs.declared.purpose.Purpose.TheVariants.{Opening, Probing, Visiting, Resolving, Closing}
-use Rattle.dali_controller.specs.declared.work.Work.{Work}
+use Rattle.dali_controller.specs.Parts.{Parts}
 use Rattle.dali_script.specs.Due.{due_after, frame_put}
 use Rattle.dali_controller.specs.Course.{Course, first_of, closing_of}
-use Rattle.dali_controller.specs.Machine.{machine_lost, Machine, table_of, opened_after, silent_after, tries_after}
+use Rattle.dali_controller.specs.Machine.{machine_lost, Machine, opened_after, silent_after, tries_after}
 use Rattle.dali_controller.specs.Next.{begins_at, course_by}
-use Rattle.dali_controller.specs.Orders.{Contradicts, IsBegun, AfterMask, IsOrderedTo, machine_ordered, closing as closing_in}
-use Rattle.dali_controller.specs.Whole.{Sends, Knows, IsCalm, IsReady, IsSending, Pending}
-use Rattle.dali_controller.specs.Moments.{FoundAt, IsBetween, Closes, Settles, course_of, machine_of, Arrived, KnowsAt, CalmAt, IsFine, IsHeard, Turns, Begins, IsNext}
+use Rattle.dali_controller.specs.Orders.{Contradicts, IsBegun, AfterMask, IsOrderedTo, machine_ordered, running_close}
+use Rattle.dali_controller.specs.Parts.{parts_course, machine_of}
+use Rattle.dali_controller.specs.Whole.{IsWhole, Sends, Knows, IsWithinSilence, IsReady, IsSending, Pending}
+use Rattle.dali_controller.specs.Moments.{FoundAt, IsBetween, Closes, Settles, Arrived, KnowsAt, CalmAt, IsHeard, Turns, Begins, IsNext}
 
 -- THE COMMANDS OF A TRANSACTION. A command that is sent at a stage may follow there and is read from its frame; it is no
 -- direct arc power; past the first one no close runs; and what is known where it leads to.
@@ -136,14 +136,14 @@ calm_visiting : (o : Bool) (i : ℕ) → i < 16 → (r : SearchAddress) (other :
 calm_visiting true i h r other = (omega arith, λ e. refl)
 calm_visiting false i h r other = (omega arith, λ e. absurd (omega arith))
 
-pub calm_at : (k : Kept) (n : SearchAddress) (o : Bool) (p : Purpose) (i : ℕ) (there : Stage) → Arrived k n p there → IsCalm p i → CalmAt there p (opened_after there o) (silent_after there o i)
+pub calm_at : (k : Kept) (n : SearchAddress) (o : Bool) (p : Purpose) (i : ℕ) (there : Stage) → Arrived k n p there → IsWithinSilence p i → CalmAt there p (opened_after there o) (silent_after there o i)
 calm_at k n o p i (Unanswered r) there e =
-    let h : i < 16 = subst (λ q. IsCalm q i) there.0 e in
+    let h : i < 16 = subst (λ q. IsWithinSilence q i) there.0 e in
     calm_unanswered o i h r
 calm_at k n o p i (Inconclusive r other) there e =
-    let h : i < 16 = subst (λ q. IsCalm q i) there.0 e in
+    let h : i < 16 = subst (λ q. IsWithinSilence q i) there.0 e in
     calm_visiting o i h r other
-calm_at k n o p i (Withdrawn r b) there e = rw there.0 (zero_less i (subst (λ q. IsCalm q i) there.0 e)) where
+calm_at k n o p i (Withdrawn r b) there e = rw there.0 (zero_less i (subst (λ q. IsWithinSilence q i) there.0 e)) where
   zero_less : (i : ℕ) → i < 16 → 0 < 16
   zero_less i h = omega arith
 calm_at k n o p i _ there e = e
@@ -153,7 +153,7 @@ tries_less true n h = omega arith
 tries_less false n h = h
 
 -- and at the next command again
-pub sends_calm : (k : Kept) (n : SearchAddress) (p : Purpose) (s : Stage) (c : Command) (o : Bool) (i : ℕ) → Sends k n p s c → CalmAt s p o i → IsCalm p i
+pub sends_calm : (k : Kept) (n : SearchAddress) (p : Purpose) (s : Stage) (c : Command) (o : Bool) (i : ℕ) → Sends k n p s c → CalmAt s p o i → IsWithinSilence p i
 sends_calm k n p (Unanswered r) c o i e calm = absurd (let on = (goes k n p (Unanswered r) c e).follows.leads_on in cc)
 sends_calm k n p (Inconclusive r other) c o i e calm = absurd (let on = (goes k n p (Inconclusive r other) c e).follows.leads_on in cc)
 sends_calm k n p _ c o i e calm = calm
@@ -162,12 +162,12 @@ pub sends_knows : (k : Kept) (n : SearchAddress) (p : Purpose) (s : Stage) (c : 
 sends_knows k n p Opened c x o e knows = absurd (let on = (goes k n p Opened c e).follows.leads_on in cc)
 sends_knows k n p _ c x o e knows = knows
 
-calm_less : (p : Purpose) (i : ℕ) → closing_of p ≡ None → IsCalm p i → i < 16
+calm_less : (p : Purpose) (i : ℕ) → closing_of p ≡ None → IsWithinSilence p i → i < 16
 calm_less (Closing end) i e calm = absurd (cc)
 calm_less _ i e calm = calm
 
 -- A FRAME THAT IS OUTSTANDING
-pub sending : (w : Work) (l : Option Order) (f : Forward) → frame_put l ≡ Some f → Pending (machine_of w) l → IsSending (machine_of w) f
+pub sending : (w : Parts) (l : Option Order) (f : Forward) → frame_put l ≡ Some f → Pending (machine_of w) l → IsSending (machine_of w) f
 sending w None f is e = absurd (cc)
 sending w (Some (Put p g)) f is e = subst (λ d. IsSending (machine_of w) d) (let same : g ≡ f = cc in same) e
 sending w (Some (Commit x)) f is e = absurd (cc)
@@ -175,37 +175,34 @@ sending w (Some (Done end)) f is e = absurd (cc)
 sending w (Some (Halt why)) f is e = absurd (cc)
 
 -- also where only the bus is waited for
-pub waiting : (w : Work) (l : Option Order) → due_after l ≡ due.Bus → Pending (machine_of w) l → IsReady (machine_of w)
+pub waiting : (w : Parts) (l : Option Order) → due_after l ≡ due.Bus → Pending (machine_of w) l → IsReady (machine_of w)
 waiting w None is e = absurd (cc)
 waiting w (Some (Put p f)) is e = e.ready
 waiting w (Some (Commit x)) is e = absurd (cc)
 waiting w (Some (Done end)) is e = absurd (cc)
 waiting w (Some (Halt why)) is e = absurd (cc)
 
-pub sending_lawful : (w : Work) (f : Forward) → IsSending (machine_of w) f → Lawful w.kept.block w.kept.reserved w.trace f
+pub sending_lawful : (w : Parts) (f : Forward) → IsSending (machine_of w) f → Lawful w.kept.block w.kept.reserved w.trace f
 sending_lawful w f e = lawful_follows w.kept.block w.kept.reserved w.trace f (goes w.kept w.number w.purpose (stage_of w.trace) (command_of f) e.sends).follows
 
 -- TO GO ON
-put_fine_at : (w : Work) (s : Stage) (c : Command) (p : ℕ) (f : Forward) → IsHeard w s → Sends w.kept w.number w.purpose s c → command_of f ≡ c → IsFine (record w { last = Some (Put p f) })
-put_fine_at w s c p f h e read = record {
-  table = h.table;
-  whole = record {
-    ready = record {
-      tries = h.tries;
-      calm = sends_calm w.kept w.number w.purpose s c w.opened w.silent e h.calm;
-      knows = sends_knows w.kept w.number w.purpose s c w.search w.opened e h.knows;
-    };
-    sends = subst (λ x. Sends w.kept w.number w.purpose x (command_of f)) (sym h.stage) (subst (λ d. Sends w.kept w.number w.purpose s d) (sym read) e);
+put_whole_at : (w : Parts) (s : Stage) (c : Command) (p : ℕ) (f : Forward) → IsHeard w s → Sends w.kept w.number w.purpose s c → command_of f ≡ c → IsWhole (machine_of (record w { last = Some (Put p f) }))
+put_whole_at w s c p f h e read = record {
+  ready = record {
+    tries = h.tries;
+    calm = sends_calm w.kept w.number w.purpose s c w.opened w.silent e h.calm;
+    knows = sends_knows w.kept w.number w.purpose s c w.search w.opened e h.knows;
   };
+  sends = subst (λ x. Sends w.kept w.number w.purpose x (command_of f)) (sym h.stage) (subst (λ d. Sends w.kept w.number w.purpose s d) (sym read) e);
 }
 
-pub put_fine : (w : Work) (s : Stage) (c : Command) (p : ℕ) (f : Forward) → IsHeard w s → Sends w.kept w.number w.purpose s c → (IsSpelled c → command_of f ≡ c) → IsFine (record w { last = Some (Put p f) })
-put_fine w s c p f h e read = put_fine_at w s c p f h e (read (goes w.kept w.number w.purpose s c e).spelled)
+pub put_whole : (w : Parts) (s : Stage) (c : Command) (p : ℕ) (f : Forward) → IsHeard w s → Sends w.kept w.number w.purpose s c → (IsSpelled c → command_of f ≡ c) → IsWhole (machine_of (record w { last = Some (Put p f) }))
+put_whole w s c p f h e read = put_whole_at w s c p f h e (read (goes w.kept w.number w.purpose s c e).spelled)
 
-begun_none : (t : Machine) (o : Option End) → o ≡ None → closing_in t ≡ None → IsBegun t o
+begun_none : (t : Machine) (o : Option End) → o ≡ None → running_close t ≡ None → IsBegun t o
 begun_none t o is none = subst (IsBegun t) (sym is) none
 
-put_masked : (w : Work) (s : Stage) (c : Command) (r : SearchAddress) → Sends w.kept w.number w.purpose s c → s ≡ Unnamed r → AfterMask (machine_of w) (course_of w) r (Put LATER (frame_of c))
+put_masked : (w : Parts) (s : Stage) (c : Command) (r : SearchAddress) → Sends w.kept w.number w.purpose s c → s ≡ Unnamed r → AfterMask (machine_of w) (parts_course w) r (Put LATER (frame_of c))
 put_masked w s c r e is =
     let there : Sends w.kept w.number w.purpose (Unnamed r) c = subst (λ x. Sends w.kept w.number w.purpose x c) is e in
     inl (there.2.0, there.2.2.reserved_for, refl, ap frame_of there.2.3)
@@ -213,7 +210,7 @@ put_masked w s c r e is =
 not_empty : (t : List Entry) (s : Stage) → stage_of t ≡ s → (s ≡ Free → ⊥) → t ≡ [] → ⊥
 not_empty t s is later empty = later (sym is ∙ ap stage_of empty ∙ stage_none)
 
-put_next_at : (w : Work) (s : Stage) (c : Command) → IsHeard w s → Sends w.kept w.number w.purpose s c → (s ≡ Free → ⊥)
+put_next_at : (w : Parts) (s : Stage) (c : Command) → IsHeard w s → Sends w.kept w.number w.purpose s c → (s ≡ Free → ⊥)
     → IsNext (machine_of w) (Put LATER (frame_of c)) (machine_of (record w { last = Some (Put LATER (frame_of c)) }))
 put_next_at w s c h e later =
     let going : closing_of w.purpose ≡ None = (goes w.kept w.number w.purpose s c e).unclosed later in
@@ -239,14 +236,14 @@ put_next_at w s c h e later =
       state = refl;
     }
 
-pub put_next : (w : Work) (s : Stage) (c : Command) (p : ℕ) (f : Forward) → IsHeard w s → Sends w.kept w.number w.purpose s c → (s ≡ Free → ⊥) → p ≡ LATER → f ≡ frame_of c
+pub put_next : (w : Parts) (s : Stage) (c : Command) (p : ℕ) (f : Forward) → IsHeard w s → Sends w.kept w.number w.purpose s c → (s ≡ Free → ⊥) → p ≡ LATER → f ≡ frame_of c
     → IsNext (machine_of w) (Put p f) (machine_of (record w { last = Some (Put p f) }))
 put_next w s c p f h e later first is =
     subst (λ q. IsNext (machine_of w) (Put q f) (machine_of (record w { last = Some (Put q f) }))) (sym first)
     (subst (λ g. IsNext (machine_of w) (Put LATER g) (machine_of (record w { last = Some (Put LATER g) }))) (sym is) (put_next_at w s c h e later))
 
 -- TO BEGIN
-begun : (w : Work) (p : Purpose) → Turns w p → IsBegun (machine_of w) (closing_of p)
+begun : (w : Parts) (p : Purpose) → Turns w p → IsBegun (machine_of w) (closing_of p)
 begun w (Closing e) t = t.cause
 begun w _ t = t
 
@@ -254,7 +251,7 @@ terminates : (p : Purpose) (n : SearchAddress) → (closing_of p ≡ None) ⊎ (
 terminates (Closing e) n = inr (refl, refl)
 terminates _ n = inl refl
 
-silent_closes : (p : Purpose) (i : ℕ) → IsCalm p i → i ≡ 16 → p ≡ Closing GaveUp
+silent_closes : (p : Purpose) (i : ℕ) → IsWithinSilence p i → i ≡ 16 → p ≡ Closing GaveUp
 silent_closes (Closing e) i calm is = ap (λ x. Closing x) (calm.1 is)
 silent_closes _ i calm is = absurd (omega arith)
 
@@ -269,7 +266,7 @@ first_lawful : (k : Kept) (p : Purpose) (n : SearchAddress) → IsSpelled (first
 first_lawful k p n small =
     lawful_follows k.block k.reserved [] (frame_of (first_of p n)) (rw (first_read k p n small, stage_none) (goes_first k n p small).follows)
 
-begin_next_at : (w : Work) (p : Purpose) (n : SearchAddress) → Begins w p n
+begin_next_at : (w : Parts) (p : Purpose) (n : SearchAddress) → Begins w p n
     → IsNext (machine_of w) (Put FIRST (frame_of (first_of p n))) (machine_of (record w { trace = []; last = Some (Put FIRST (frame_of (first_of p n))); purpose = p; number = n }))
 begin_next_at w p n b =
     let tries : w.tries < 8 = b.tries in
@@ -287,7 +284,7 @@ begin_next_at w p n b =
       state = refl;
     }
 
-pub begin_next : (w : Work) (p : Purpose) (n : SearchAddress) (t : List Entry) (q : ℕ) (f : Forward) → Begins w p n → t ≡ [] → q ≡ FIRST → f ≡ frame_of (first_of p n)
+pub begin_next : (w : Parts) (p : Purpose) (n : SearchAddress) (t : List Entry) (q : ℕ) (f : Forward) → Begins w p n → t ≡ [] → q ≡ FIRST → f ≡ frame_of (first_of p n)
     → IsNext (machine_of w) (Put q f) (machine_of (record w { trace = t; last = Some (Put q f); purpose = p; number = n }))
 begin_next w p n t q f b empty first is =
     subst (λ u. IsNext (machine_of w) (Put q f) (machine_of (record w { trace = u; last = Some (Put q f); purpose = p; number = n }))) (sym empty)
@@ -297,42 +294,36 @@ begin_next w p n t q f b empty first is =
 free_of : (t : List Entry) → t ≡ [] → stage_of t ≡ Free
 free_of t empty = ap stage_of empty ∙ stage_none
 
-first_sends : (w : Work) (p : Purpose) (n : SearchAddress) (f : Forward) → Knows w.kept n w.search w.opened p → f ≡ frame_of (first_of p n) → (command_of f ≡ first_of p n) × IsSpelled (command_of f)
+first_sends : (w : Parts) (p : Purpose) (n : SearchAddress) (f : Forward) → Knows w.kept n w.search w.opened p → f ≡ frame_of (first_of p n) → (command_of f ≡ first_of p n) × IsSpelled (command_of f)
 first_sends w p n f knows is =
     let small : IsSpelled (first_of p n) = first_spelled w.kept n w.search w.opened p knows in
     let read : command_of f ≡ first_of p n = ap command_of is ∙ first_read w.kept p n small in
     (read, subst IsSpelled (sym read) small)
 
-pub begin_fine : (w : Work) (p : Purpose) (n : SearchAddress) (t : List Entry) (q : ℕ) (f : Forward) → Begins w p n → t ≡ [] → f ≡ frame_of (first_of p n)
-    → IsFine (record w { trace = t; last = Some (Put q f); purpose = p; number = n })
-begin_fine w p n t q f b empty is = record {
-  table = b.table;
-  whole = record {
-    ready = record { tries = b.tries; calm = b.calm; knows = b.knows };
-    sends = subst (λ s. Sends w.kept n p s (command_of f)) (sym (free_of t empty)) (first_sends w p n f b.knows is);
-  };
+pub begin_whole : (w : Parts) (p : Purpose) (n : SearchAddress) (t : List Entry) (q : ℕ) (f : Forward) → Begins w p n → t ≡ [] → f ≡ frame_of (first_of p n)
+    → IsWhole (machine_of (record w { trace = t; last = Some (Put q f); purpose = p; number = n }))
+begin_whole w p n t q f b empty is = record {
+  ready = record { tries = b.tries; calm = b.calm; knows = b.knows };
+  sends = subst (λ s. Sends w.kept n p s (command_of f)) (sym (free_of t empty)) (first_sends w p n f b.knows is);
 }
 
 -- TO STORE
-pub commit_fine : (w : Work) (x : Record) (t : List Entry) → w.table ≡ table_of w.kept → IsReady (machine_of w) → closing_of w.purpose ≡ None → Fits w.kept.block x → MayAdd w.kept x → t ≡ []
-    → IsFine (record w { trace = t; last = Some (Commit x) })
-commit_fine w x t table ready going fits may empty = record {
-  table = table;
-  whole = record {
-    ready = record { tries = ready.tries; calm = ready.calm; knows = ready.knows };
-    free = free_of t empty;
-    going = going;
-    fits = fits;
-    may = may;
-  };
+pub commit_whole : (w : Parts) (x : Record) (t : List Entry) → IsReady (machine_of w) → closing_of w.purpose ≡ None → Fits w.kept.block x → MayAdd w.kept x → t ≡ []
+    → IsWhole (machine_of (record w { trace = t; last = Some (Commit x) }))
+commit_whole w x t ready going fits may empty = record {
+  ready = record { tries = ready.tries; calm = ready.calm; knows = ready.knows };
+  free = free_of t empty;
+  going = going;
+  fits = fits;
+  may = may;
 }
 
 -- TO HEAR
-calm_small : (p : Purpose) (i : ℕ) → IsCalm p i → i ≤ 16
+calm_small : (p : Purpose) (i : ℕ) → IsWithinSilence p i → i ≤ 16
 calm_small (Closing e) i calm = calm.0
 calm_small _ i calm = omega arith
 
-pub sending_small : (w : Work) (f : Forward) → IsSending (machine_of w) f → w.silent < 255
+pub sending_small : (w : Parts) (f : Forward) → IsSending (machine_of w) f → w.silent < 255
 sending_small w f e = let small : w.silent ≤ 16 = calm_small w.purpose w.silent e.ready.calm in omega arith
 
 found_at : (s : Stage) (earlier found : Option Finding) → found ≡ later earlier (finding_at s) → FoundAt s found
@@ -348,17 +339,17 @@ trace_found_at (Spelled b None) found is = tt
 trace_found_at _ found is = tt
 
 -- the parts after a frame was heard, the last finding noted, and the counts made
-pub hear_heard : (w noted : Work) (f : Forward) (h : Answer) (t : List Entry) (s : Stage) (complete o : Bool) (n i : ℕ) → IsFine w → frame_put w.last ≡ Some f
+pub hear_heard : (w noted : Parts) (f : Forward) (h : Answer) (t : List Entry) (s : Stage) (complete o : Bool) (n i : ℕ) → IsWhole (machine_of w) → frame_put w.last ≡ Some f
     → t ≡ w.trace ++ (record { frame = f; heard = h }) ∷ [] → noted ≡ record w { trace = t; finding = later w.finding (finding_of t) } → s ≡ stage_of noted.trace
     → n ≡ tries_after complete noted.tries → i ≡ silent_after (stage_of noted.trace) noted.opened noted.silent → o ≡ opened_after (stage_of noted.trace) noted.opened
     → IsHeard (record noted { tries = n; silent = i; opened = o }) s
-hear_heard w noted f h t s complete o n i fine put trace is stage tries silent opened =
-    let sent : IsSending (machine_of w) f = sending w w.last f put fine.whole in
-    let same_trace : noted.trace ≡ t = ap (λ (x : Work). x.trace) is in
+hear_heard w noted f h t s complete o n i whole put trace is stage tries silent opened =
+    let sent : IsSending (machine_of w) f = sending w w.last f put whole in
+    let same_trace : noted.trace ≡ t = ap (λ (x : Parts). x.trace) is in
     let there : stage_of noted.trace ≡ next_stage (stage_of w.trace) (command_of f) h = ap stage_of (same_trace ∙ trace) ∙ stage_more w.trace (record { frame = f; heard = h }) in
     let arrived : Arrived w.kept w.number w.purpose (stage_of noted.trace) = subst (Arrived w.kept w.number w.purpose) (sym there) ((goes w.kept w.number w.purpose (stage_of w.trace) (command_of f) sent.sends).arrives h) in
     let finding : noted.finding ≡ later w.finding (finding_at (stage_of noted.trace)) =
-    ap (λ (x : Work). x.finding) is ∙ ap (λ u. later w.finding (finding_of u)) trace ∙ ap (later w.finding) (finding_after w.kept.block w.kept.reserved w.trace (record { frame = f; heard = h }) (sending_lawful w f sent))
+    ap (λ (x : Parts). x.finding) is ∙ ap (λ u. later w.finding (finding_of u)) trace ∙ ap (later w.finding) (finding_after w.kept.block w.kept.reserved w.trace (record { frame = f; heard = h }) (sending_lawful w f sent))
     ∙ ap (λ u. later w.finding (finding_at (stage_of u))) (sym (same_trace ∙ trace)) in
     let trace_finding : finding_of noted.trace ≡ finding_at (stage_of noted.trace) =
     ap finding_of (same_trace ∙ trace) ∙ finding_after w.kept.block w.kept.reserved w.trace (record { frame = f; heard = h }) (sending_lawful w f sent) ∙ ap (λ u. finding_at (stage_of u)) (sym (same_trace ∙ trace)) in
@@ -367,22 +358,20 @@ hear_heard w noted f h t s complete o n i fine put trace is stage tries silent o
     from : Arrived w.kept w.number w.purpose (stage_of noted.trace) → IsReady (machine_of w) → noted.finding ≡ later w.finding (finding_at (stage_of noted.trace)) → finding_of noted.trace ≡ finding_at (stage_of noted.trace)
         → IsHeard (record noted { tries = n; silent = i; opened = o }) (stage_of noted.trace)
     from arrived ready finding trace_finding = record {
-      table = ap (λ (x : Work). x.table) is ∙ fine.table ∙ ap table_of (ap (λ (x : Work). x.kept) (sym is));
       stage = refl;
-      tries = subst (λ m. m < 8) (sym (tries ∙ ap (λ m. tries_after complete m) (ap (λ (x : Work). x.tries) is))) (tries_less complete w.tries ready.tries);
-      arrived = subst (λ (x : Work). Arrived x.kept x.number x.purpose (stage_of noted.trace)) (sym is) arrived;
-      calm = rw (opened, silent) (subst (λ (x : Work). CalmAt (stage_of noted.trace) x.purpose (opened_after (stage_of noted.trace) x.opened) (silent_after (stage_of noted.trace) x.opened x.silent)) (sym is)
+      tries = subst (λ m. m < 8) (sym (tries ∙ ap (λ m. tries_after complete m) (ap (λ (x : Parts). x.tries) is))) (tries_less complete w.tries ready.tries);
+      arrived = subst (λ (x : Parts). Arrived x.kept x.number x.purpose (stage_of noted.trace)) (sym is) arrived;
+      calm = rw (opened, silent) (subst (λ (x : Parts). CalmAt (stage_of noted.trace) x.purpose (opened_after (stage_of noted.trace) x.opened) (silent_after (stage_of noted.trace) x.opened x.silent)) (sym is)
           (calm_at w.kept w.number w.opened w.purpose w.silent (stage_of noted.trace) arrived ready.calm));
-      knows = rw opened (subst (λ (x : Work). KnowsAt (stage_of noted.trace) x.kept x.number x.search (opened_after (stage_of noted.trace) x.opened) x.purpose) (sym is)
+      knows = rw opened (subst (λ (x : Parts). KnowsAt (stage_of noted.trace) x.kept x.number x.search (opened_after (stage_of noted.trace) x.opened) x.purpose) (sym is)
           (knows_at w.kept w.number w.search w.opened w.purpose (stage_of noted.trace) ready.knows));
       finding = found_at (stage_of noted.trace) w.finding noted.finding finding;
       trace_finding = trace_found_at (stage_of noted.trace) (finding_of noted.trace) trace_finding;
     }
 
 -- THE TRANSACTIONS
-pub opens : (w : Work) (n : SearchAddress) → IsBetween w → w.opened ≡ false → Begins w Opening n
+pub opens : (w : Parts) (n : SearchAddress) → IsBetween w → w.opened ≡ false → Begins w Opening n
 opens w n b opened = record {
-  table = b.table;
   tries = b.tries;
   calm = b.silent;
   knows = opened;
@@ -391,9 +380,8 @@ opens w n b opened = record {
   found = b.found;
 }
 
-pub probes : (w : Work) (n : SearchAddress) → IsBetween w → w.opened ≡ true → w.search.step ≡ Again → value_of n ≡ w.search.probe → Begins w Probing n
+pub probes : (w : Parts) (n : SearchAddress) → IsBetween w → w.opened ≡ true → w.search.step ≡ Again → value_of n ≡ w.search.probe → Begins w Probing n
 probes w n b opened running is = record {
-  table = b.table;
   tries = b.tries;
   calm = b.silent;
   knows = (opened, running, is);
@@ -402,9 +390,8 @@ probes w n b opened running is = record {
   found = b.found;
 }
 
-pub visits : (w : Work) (n : SearchAddress) (r : ℕ) → IsBetween w → r < MASK24 → (w.opened ≡ false → HasRandom w.kept.reserved r) → value_of n ≡ r → Begins w Visiting n
+pub visits : (w : Parts) (n : SearchAddress) (r : ℕ) → IsBetween w → r < MASK24 → (w.opened ≡ false → HasRandom w.kept.reserved r) → value_of n ≡ r → Begins w Visiting n
 visits w n r b drawn reserved is = record {
-  table = b.table;
   tries = b.tries;
   calm = b.silent;
   knows = (subst (λ x. x < MASK24) (sym is) drawn, λ early. subst (HasRandom w.kept.reserved) (sym is) (reserved early));
@@ -413,12 +400,11 @@ visits w n r b drawn reserved is = record {
   found = b.found;
 }
 
-pub resolves : (w : Work) (r : SearchAddress) (a : ℕ) → IsHeard w (Unanswered r) → w.opened ≡ false → a < 64 → Has w.kept.reserved (a, value_of r) → Begins w (Resolving a) r
+pub resolves : (w : Parts) (r : SearchAddress) (a : ℕ) → IsHeard w (Unanswered r) → w.opened ≡ false → a < 64 → Has w.kept.reserved (a, value_of r) → Begins w (Resolving a) r
 resolves w r a h early small reserved =
     let stage : stage_of w.trace ≡ Unanswered r = h.stage in
     let visiting : Knows w.kept w.number w.search w.opened Visiting = subst (Knows w.kept w.number w.search w.opened) h.arrived.0 h.knows in
     record {
-      table = h.table;
       tries = h.tries;
       calm = early_calm w.opened w.silent early h.calm;
       knows = (early, subst (λ n. value_of n < MASK24) (sym h.arrived.1) visiting.0, small, reserved);
@@ -431,9 +417,8 @@ resolves w r a h early small reserved =
         late : i ≡ 16 → ⊥
         late e = let no : false ≡ true = sym early ∙ calm.1 e in cc
 
-pub closing : (w : Work) (e : End) (n : SearchAddress) → Closes w e → Begins w (Closing e) n
+pub closing : (w : Parts) (e : End) (n : SearchAddress) → Closes w e → Begins w (Closing e) n
 closing w e n b = record {
-  table = b.table;
   tries = b.tries;
   calm = b.calm;
   knows = b.opened;
@@ -443,17 +428,16 @@ closing w e n b = record {
 }
 
 -- LOST
-turns_same : (w : Work) (p : Purpose) → w.purpose ≡ p → Knows w.kept w.number w.search w.opened p → Turns w p
+turns_same : (w : Parts) (p : Purpose) → w.purpose ≡ p → Knows w.kept w.number w.search w.opened p → Turns w p
 turns_same w (Closing e) is knows = record { opened = knows; cause = inl (ap closing_of is) }
 turns_same w _ is knows = ap closing_of is
 
-pub lost_begins : (w : Work) (t : List Entry) → IsFine w → due_after w.last ≡ due.Bus → t ≡ [] → (w.tries + 1 ≡ 8 → ⊥) → Begins (record w { trace = t; tries = w.tries + 1 }) w.purpose w.number
-lost_begins w t fine put empty more =
-    let ready : IsReady (machine_of w) = waiting w w.last put fine.whole in
+pub lost_begins : (w : Parts) (t : List Entry) → IsWhole (machine_of w) → due_after w.last ≡ due.Bus → t ≡ [] → (w.tries + 1 ≡ 8 → ⊥) → Begins (record w { trace = t; tries = w.tries + 1 }) w.purpose w.number
+lost_begins w t whole put empty more =
+    let ready : IsReady (machine_of w) = waiting w w.last put whole in
     let less : w.tries < 8 = ready.tries in
     let free : stage_of t ≡ Free = free_of t empty in
     record {
-      table = fine.table;
       tries = omega (arith, more);
       calm = ready.calm;
       knows = ready.knows;
@@ -462,7 +446,7 @@ lost_begins w t fine put empty more =
       found = λ r b e. absurd (cc);
     }
 
-lost_ended_at : (w : Work) → IsReady (machine_of w) → w.tries + 1 ≡ 8 → IsOrderedTo (machine_lost (machine_of w)) (course_of w) (Done GaveUp)
+lost_ended_at : (w : Parts) → IsReady (machine_of w) → w.tries + 1 ≡ 8 → IsOrderedTo (machine_lost (machine_of w)) (parts_course w) (Done GaveUp)
 lost_ended_at w ready is =
     let free : stage_of [] ≡ Free = stage_none in
     record {
@@ -478,15 +462,15 @@ lost_ended_at w ready is =
 but_course : (new m : Machine) → new ≡ m → new ≡ record m { course = new.course }
 but_course new m is = subst (λ (n : Machine). n ≡ record m { course = n.course }) (sym is) refl
 
-pub lost_ended : (w : Work) (t : List Entry) (o : Order) (new : Machine) → IsFine w → due_after w.last ≡ due.Bus → t ≡ [] → w.tries + 1 ≡ 8 → o ≡ Done GaveUp
+pub lost_ended : (w : Parts) (t : List Entry) (o : Order) (new : Machine) → IsWhole (machine_of w) → due_after w.last ≡ due.Bus → t ≡ [] → w.tries + 1 ≡ 8 → o ≡ Done GaveUp
     → new ≡ machine_ordered (machine_of (record w { trace = t; tries = w.tries + 1 })) o → IsNext (machine_lost (machine_of w)) o new
-lost_ended w t o new fine put empty is done state = record {
+lost_ended w t o new whole put empty is done state = record {
   order = subst (λ c. IsOrderedTo (machine_lost (machine_of w)) c o) (sym (ap (λ (m : Machine). m.course) state ∙ ap (course_by (machine_of (record w { trace = t; tries = w.tries + 1 }))) done))
-      (subst (IsOrderedTo (machine_lost (machine_of w)) (course_of w)) (sym done) (lost_ended_at w (waiting w w.last put fine.whole) is));
+      (subst (IsOrderedTo (machine_lost (machine_of w)) (parts_course w)) (sym done) (lost_ended_at w (waiting w w.last put whole) is));
   state = but_course new (machine_ordered (machine_lost (machine_of w)) o) (state ∙ ap (λ u. machine_ordered (machine_of (record w { trace = u; tries = w.tries + 1 })) o) empty);
 }
 
-pub lost_next : (w : Work) (t : List Entry) (o : Order) (new : Machine) → t ≡ [] → IsNext (machine_of (record w { trace = t; tries = w.tries + 1 })) o new → IsNext (machine_lost (machine_of w)) o new
+pub lost_next : (w : Parts) (t : List Entry) (o : Order) (new : Machine) → t ≡ [] → IsNext (machine_of (record w { trace = t; tries = w.tries + 1 })) o new → IsNext (machine_lost (machine_of w)) o new
 lost_next w t o new empty next = subst (λ u. IsNext (machine_of (record w { trace = u; tries = w.tries + 1 })) o new) empty next
 
 -- TO GIVE
@@ -503,9 +487,6 @@ sends_program k n r p a m kept visiting is h =
     (visiting.0, visiting.1, (a, kept.reserved.short a (has_map (λ q. q.0) k.reserved (a, value_of r) there), may_give k r a kept there, refl))
 
 -- TO SETTLE
-entries_of : (w : Work) → w.table ≡ table_of w.kept → w.table.entries ≡ w.kept.enrolled
-entries_of w is = ap (λ (t : Table). t.entries) is
-
 same_address : (r q : SearchAddress) (b d : ℕ) → Withdrawn r b ≡ Withdrawn q d → b ≡ d
 same_address r q b d e = cc
 
@@ -513,12 +494,11 @@ same_number : (r q : SearchAddress) (b d : ℕ) → Withdrawn r b ≡ Withdrawn 
 same_number r q b d e = cc
 
 -- what was withdrawn, or has told its random address, may be enrolled
-pub settles_withdrawn : (w : Work) (r : SearchAddress) (b n : ℕ) → IsHeard w (Withdrawn r b) → n ≡ value_of r → Settles w b n
+pub settles_withdrawn : (w : Parts) (r : SearchAddress) (b n : ℕ) → IsHeard w (Withdrawn r b) → n ≡ value_of r → Settles w b n
 settles_withdrawn w r b n h is =
     let stage : stage_of w.trace ≡ Withdrawn r b = h.stage in
     let visiting : Knows w.kept w.number w.search w.opened Visiting = subst (Knows w.kept w.number w.search w.opened) h.arrived.0 h.knows in
     subst (Settles w b) (sym is) (record {
-      table = h.table;
       ready = record { tries = h.tries; calm = h.calm; knows = h.knows };
       going = ap closing_of h.arrived.0;
       drawn = subst (λ x. value_of x < MASK24) (sym h.arrived.1) visiting.0;
@@ -532,13 +512,12 @@ settles_withdrawn w r b n h is =
       withdrawn = λ q c e. let there : Withdrawn r b ≡ Withdrawn q c = sym stage ∙ e in (same_address q r c b (sym there), ap value_of (same_number q r c b (sym there)));
     })
 
-pub settles_resolved : (w : Work) (b n m : ℕ) → IsHeard w (Spelled b (Some n)) → m ≡ value_of w.number → n ≡ m → Settles w b n
+pub settles_resolved : (w : Parts) (b n m : ℕ) → IsHeard w (Spelled b (Some n)) → m ≡ value_of w.number → n ≡ m → Settles w b n
 settles_resolved w b n m h number is =
     let stage : stage_of w.trace ≡ Spelled b (Some n) = h.stage in
     let same : n ≡ value_of w.number = is ∙ number in
     let resolving : Knows w.kept w.number w.search w.opened (Resolving b) = subst (Knows w.kept w.number w.search w.opened) h.arrived h.knows in
     record {
-      table = h.table;
       ready = record { tries = h.tries; calm = h.calm; knows = h.knows };
       going = ap closing_of h.arrived;
       drawn = subst (λ x. x < MASK24) (sym same) resolving.1;
@@ -553,10 +532,10 @@ settles_resolved w b n m h number is =
     }
 
 -- the count of silent searches is below its limit
-settled_calm : (w : Work) (b n : ℕ) → Settles w b n → w.silent < 16
+settled_calm : (w : Parts) (b n : ℕ) → Settles w b n → w.silent < 16
 settled_calm w b n h = calm_less w.purpose w.silent h.going h.ready.calm
 
-halted_at : (w : Work) (c : Course) (b n : ℕ) → Settles w b n → Contradicts w.kept.enrolled b n → IsOrderedTo (machine_of w) c (Halt fault.Conflict)
+halted_at : (w : Parts) (c : Course) (b n : ℕ) → Settles w b n → Contradicts w.kept.enrolled b n → IsOrderedTo (machine_of w) c (Halt fault.Conflict)
 halted_at w c b n h conflict =
     let tries : w.tries < 8 = h.ready.tries in
     let calm : w.silent < 16 = settled_calm w b n h in
@@ -572,28 +551,28 @@ halted_at w c b n h conflict =
           subst (λ m. Contradicts w.kept.enrolled d m) (sym there.1) (subst (λ a. Contradicts w.kept.enrolled a n) (sym there.0) conflict);
     }
 
-halted : (w : Work) (b n : ℕ) (o : Order) (new : Machine) → Settles w b n → Contradicts w.kept.enrolled b n → o ≡ Halt fault.Conflict → new ≡ machine_ordered (machine_of w) o → IsNext (machine_of w) o new
+halted : (w : Parts) (b n : ℕ) (o : Order) (new : Machine) → Settles w b n → Contradicts w.kept.enrolled b n → o ≡ Halt fault.Conflict → new ≡ machine_ordered (machine_of w) o → IsNext (machine_of w) o new
 halted w b n o new h conflict is state = record { order = subst (IsOrderedTo (machine_of w) new.course) (sym is) (halted_at w new.course b n h conflict); state = but_course new (machine_ordered (machine_of w) o) state }
 
 -- the table has the address for another gear
-pub halts_by_address : (w : Work) (b m n : ℕ) (o : Order) (new : Machine) → Settles w b n → Has w.table.entries (b, m) → (m ≡ n → ⊥)
+pub halts_by_address : (w : Parts) (b m n : ℕ) (o : Order) (new : Machine) → Settles w b n → Has w.kept.enrolled (b, m) → (m ≡ n → ⊥)
     → o ≡ Halt fault.Conflict → new ≡ machine_ordered (machine_of w) o → IsNext (machine_of w) o new
 halts_by_address w b m n o new h has other order state =
-    halted w b n o new h (inl (m, subst (λ xs. Has xs (b, m)) (entries_of w h.table) has, other)) order state
+    halted w b n o new h (inl (m, has, other)) order state
 
 -- or the gear with another address
-pub contradicts_by_random : (w : Work) (b a n : ℕ) → Settles w b n → (HasAddress w.table.entries b → ⊥) → Has w.table.entries (a, n) → Contradicts w.kept.enrolled b n
+pub contradicts_by_random : (w : Parts) (b a n : ℕ) → Settles w b n → (HasAddress w.kept.enrolled b → ⊥) → Has w.kept.enrolled (a, n) → Contradicts w.kept.enrolled b n
 contradicts_by_random w b a n h none has = inr (
   a,
-  subst (λ xs. Has xs (a, n)) (entries_of w h.table) has,
-  λ e. none (subst (HasAddress w.table.entries) e (has_map (λ q. q.0) w.table.entries (a, n) has)),
+  has,
+  λ e. none (subst (HasAddress w.kept.enrolled) e (has_map (λ q. q.0) w.kept.enrolled (a, n) has)),
 )
 
-pub halts_by_random : (w : Work) (b a n : ℕ) (o : Order) (new : Machine) → Settles w b n → (HasAddress w.table.entries b → ⊥) → Has w.table.entries (a, n)
+pub halts_by_random : (w : Parts) (b a n : ℕ) (o : Order) (new : Machine) → Settles w b n → (HasAddress w.kept.enrolled b → ⊥) → Has w.kept.enrolled (a, n)
     → o ≡ Halt fault.Conflict → new ≡ machine_ordered (machine_of w) o → IsNext (machine_of w) o new
 halts_by_random w b a n o new h none has order state = halted w b n o new h (contradicts_by_random w b a n h none has) order state
 
-enrols_at : (w : Work) (c : Course) (b n : ℕ) → Settles w b n → (HasAddress w.kept.enrolled b → ⊥) → (HasRandom w.kept.enrolled n → ⊥) → IsOrderedTo (machine_of w) c (Commit (Enrol b n))
+enrols_at : (w : Parts) (c : Course) (b n : ℕ) → Settles w b n → (HasAddress w.kept.enrolled b → ⊥) → (HasRandom w.kept.enrolled n → ⊥) → IsOrderedTo (machine_of w) c (Commit (Enrol b n))
 enrols_at w c b n h none fresh =
     let tries : w.tries < 8 = h.ready.tries in
     let calm : w.silent < 16 = settled_calm w b n h in
@@ -609,37 +588,28 @@ enrols_at w c b n h none fresh =
           ap (λ a. Enrol a n) (sym there.0) ∙ ap (λ m. Enrol d m) (sym there.1);
     }
 
-pub enrols : (w : Work) (b n : ℕ) (o : Order) (new : Machine) → Settles w b n → (HasAddress w.table.entries b → ⊥) → (HasRandom w.table.entries n → ⊥)
+pub enrols : (w : Parts) (b n : ℕ) (o : Order) (new : Machine) → Settles w b n → (HasAddress w.kept.enrolled b → ⊥) → (HasRandom w.kept.enrolled n → ⊥)
     → o ≡ Commit (Enrol b n) → new ≡ machine_ordered (machine_of w) o → IsNext (machine_of w) o new
 enrols w b n o new h none fresh order state = record {
   order = subst (IsOrderedTo (machine_of w) new.course) (sym order)
-      (enrols_at w new.course b n h (subst (λ xs. HasAddress xs b → ⊥) (entries_of w h.table) none) (subst (λ xs. HasRandom xs n → ⊥) (entries_of w h.table) fresh));
+      (enrols_at w new.course b n h none fresh);
   state = but_course new (machine_ordered (machine_of w) o) state;
 }
 
 -- a number is reserved once its reservation is kept
-pub reserved_kept : (w new : Work) (x : Record) (a n m : ℕ) → x ≡ Reserve a n → new ≡ record w { kept = with_record w.kept x } → m ≡ n → HasRandom new.kept.reserved m
+pub reserved_kept : (w new : Parts) (x : Record) (a n m : ℕ) → x ≡ Reserve a n → new ≡ record w { kept = with_record w.kept x } → m ≡ n → HasRandom new.kept.reserved m
 reserved_kept w new x a n m reserves is same =
     let there : HasRandom (w.kept.reserved ++ (a, n) ∷ []) n = has_map (λ q. q.1) (w.kept.reserved ++ (a, n) ∷ []) (a, n) (has_last w.kept.reserved (a, n)) in
     rw (is, reserves, same) there
 
 -- before the start
-pub fine_at_first : (w : Work) → w.table ≡ table_of w.kept → w.trace ≡ [] → w.last ≡ None → w.tries ≡ 0 → w.silent ≡ 0 → w.opened ≡ false → w.purpose ≡ Opening → IsFine w
-fine_at_first w table trace last tries silent opened opening = record {
-  table = table;
-  whole = rw last (record {
-    ready = record {
-      tries = rw tries (lit< tt);
-      calm = rw (opening, silent) (lit< tt);
-      knows = rw (opening, opened) refl;
-    };
-    free = free_of w.trace trace;
-    opening = opening;
-  });
-}
-
--- what is entered in turn from a list in which its key stands once stands in no earlier place
-pub not_before : (key : Assignment → ℕ) (xs : List Assignment) (i : ℕ) (p : Assignment) (t : Table) (b : Block) → IsOnce (map key xs) → i < length xs → p ≡ get_or xs i p
-    → t ≡ record { block = b; entries = take i xs } → Has (map key t.entries) (key p) → ⊥
-not_before key xs i p t b once h is table has =
-    once_before key xs i p once h (subst (λ q. Has (map key (take i xs)) (key q)) is (subst (λ (u : Table). Has (map key u.entries) (key p)) table has))
+pub whole_at_first : (w : Parts) → w.trace ≡ [] → w.last ≡ None → w.tries ≡ 0 → w.silent ≡ 0 → w.opened ≡ false → w.purpose ≡ Opening → IsWhole (machine_of w)
+whole_at_first w trace last tries silent opened opening = rw last (record {
+  ready = record {
+    tries = rw tries (lit< tt);
+    calm = rw (opening, silent) (lit< tt);
+    knows = rw (opening, opened) refl;
+  };
+  free = free_of w.trace trace;
+  opening = opening;
+})

@@ -6,3 +6,4 @@ pub mod Orders
 pub mod Moments
 pub mod Whole
 pub mod Parts
+pub mod Steps

@@ -2,7 +2,6 @@ use Rattle.std.specs.Prelude.{ℕ, ◌+◌, Bool, true, false, not, ◌||◌, Li
 use Rattle.std.specs.Prelude.{Some, None, is_some}
 use Rattle.dali_frame.specs.declared.frames.Forward.{Forward}
 use Rattle.dali_frame.specs.declared.frames.Answer.{Answer}
-use Rattle.dali_enrol.specs.Table.{Table}
 use Rattle.dali_script.specs.declared.finding.Finding.{Finding}
 use Rattle.dali_script.specs.declared.records.Record.{Record}
 use Rattle.dali_script.specs.declared.trace.Entry.{Entry}
@@ -46,10 +45,6 @@ at_first id k = record {
   opened = false;
   course = course_at_first;
 }
-
--- the table is the enrolments
-abbrev pub table_of : Kept → Table
-table_of k = record { block = k.block; entries = k.enrolled }
 
 -- WHAT AN INPUT TELLS.
 

@@ -24,32 +24,16 @@ use Rattle.dali_script.specs.declared.orders.End.TheVariants.{BlockFull}
 use Rattle.dali_controller.specs.declared.purpose.Purpose.{Purpose}
 use Rattle.dali_controller.specs.declared.purpose.Purpose.TheVariants.{Opening, Probing, Visiting}
 use Rattle.dali_controller.specs.declared.purpose.Purpose.TheVariants.{Resolving, Closing}
-use Rattle.dali_controller.specs.declared.work.Work.{Work}
+use Rattle.dali_controller.specs.Parts.{Parts}
 use Rattle.dali_controller.specs.Course.{Course, closing_of}
-use Rattle.dali_controller.specs.Machine.{Machine, table_of}
+use Rattle.dali_controller.specs.Machine.{Machine}
+use Rattle.dali_controller.specs.Parts.{parts_course, machine_of}
 use Rattle.dali_controller.specs.Next.{beginning, next_course, goes_on_to}
 use Rattle.dali_controller.specs.Orders.{Cause, IsOrderedTo, machine_ordered, IsAnswered}
 use Rattle.dali_controller.specs.Orders.{machine_after}
-use Rattle.dali_controller.specs.Whole.{IsReady, IsWhole, IsCalm, Knows, Sends}
+use Rattle.dali_controller.specs.Whole.{IsReady, IsWithinSilence, Knows, Sends}
 
--- What holds inside a machine between its moments. Its public contract cites none of this.
-
-abbrev pub course_of : Work → Course
-course_of w = record { purpose = w.purpose; number = w.number; search = w.search; from = w.from }
-
--- what contracts see
-abbrev pub machine_of : Work → Machine
-machine_of w = record {
-  id = w.id;
-  kept = w.kept;
-  trace = w.trace;
-  finding = w.finding;
-  last = w.last;
-  tries = w.tries;
-  silent = w.silent;
-  opened = w.opened;
-  course = course_of w;
-}
+-- What holds of a machine's parts between its moments. Its public contract cites none of this.
 
 -- what is known at a stage of the transaction that led there: its end, or that there is a command
 -- to send
@@ -74,7 +58,7 @@ KnowsAt _ k n s opened p = Knows k n s opened p
 abbrev pub CalmAt : Stage → Purpose → Bool → ℕ → Type 0
 CalmAt (Unanswered r) p opened silent = (silent ≤ 16) × (silent ≡ 16 → opened ≡ true)
 CalmAt (Inconclusive r other) p opened silent = (silent ≤ 16) × (silent ≡ 16 → opened ≡ true)
-CalmAt _ p opened silent = IsCalm p silent
+CalmAt _ p opened silent = IsWithinSilence p silent
 
 -- the gear that was withdrawn, or told its random address, is what was found
 abbrev pub FoundAt : Stage → Option Finding → Type 0
@@ -82,14 +66,8 @@ FoundAt (Withdrawn r b) found = found ≡ Some (Queried b (value_of r))
 FoundAt (Spelled b (Some n)) found = found ≡ Some (Resolved b n)
 FoundAt _ found = Unit {0}
 
--- what holds between two inputs
-pub record IsFine (w : Work) : Type 0 where
-  pub table : w.table ≡ table_of w.kept
-  pub whole : IsWhole (machine_of w)
-
 -- what holds where a frame was just heard
-pub record IsHeard (w : Work) (s : Stage) : Type 0 where
-  pub table : w.table ≡ table_of w.kept
+pub record IsHeard (w : Parts) (s : Stage) : Type 0 where
   pub stage : stage_of w.trace ≡ s
   pub tries : w.tries < 8
   pub arrived : Arrived w.kept w.number w.purpose s
@@ -99,8 +77,7 @@ pub record IsHeard (w : Work) (s : Stage) : Type 0 where
   pub trace_finding : FoundAt s (finding_of w.trace)
 
 -- what holds where a transaction may end without a record and without a close
-pub record IsBetween (w : Work) : Type 0 where
-  pub table : w.table ≡ table_of w.kept
+pub record IsBetween (w : Parts) : Type 0 where
   pub tries : w.tries < 8
   pub silent : w.silent < 16
   pub going : closing_of w.purpose ≡ None
@@ -109,20 +86,19 @@ pub record IsBetween (w : Work) : Type 0 where
       → Has w.kept.enrolled (b, value_of r)
 
 -- a close is begun with its cause, or again
-pub record IsTurn (w : Work) (e : End) : Type 0 where
+pub record IsTurn (w : Parts) (e : End) : Type 0 where
   pub opened : w.opened ≡ true
   pub cause : (closing_of w.purpose ≡ Some e)
       ⊎ ((closing_of w.purpose ≡ None) × Cause (machine_of w) e)
 
-abbrev pub Turns : Work → Purpose → Type 0
+abbrev pub Turns : Parts → Purpose → Type 0
 Turns w (Closing e) = IsTurn w e
 Turns w _ = closing_of w.purpose ≡ None
 
 -- what holds where a transaction begins
-pub record Begins (w : Work) (p : Purpose) (n : SearchAddress) : Type 0 where
-  pub table : w.table ≡ table_of w.kept
+pub record Begins (w : Parts) (p : Purpose) (n : SearchAddress) : Type 0 where
   pub tries : w.tries < 8
-  pub calm : IsCalm p w.silent
+  pub calm : IsWithinSilence p w.silent
   pub knows : Knows w.kept n w.search w.opened p
   pub turns : Turns w p
   pub unnamed : (r : SearchAddress) → stage_of w.trace ≡ Unnamed r
@@ -132,8 +108,7 @@ pub record Begins (w : Work) (p : Purpose) (n : SearchAddress) : Type 0 where
       → Has w.kept.enrolled (b, value_of r)
 
 -- what holds where a gear was found, and may be enrolled
-pub record Settles (w : Work) (b n : ℕ) : Type 0 where
-  pub table : w.table ≡ table_of w.kept
+pub record Settles (w : Parts) (b n : ℕ) : Type 0 where
   pub ready : IsReady (machine_of w)
   pub going : closing_of w.purpose ≡ None
   pub drawn : n < MASK24
@@ -148,17 +123,16 @@ pub record Settles (w : Work) (b n : ℕ) : Type 0 where
       → (c ≡ b) × (value_of r ≡ n)
 
 -- what holds where an enrolment was just kept
-pub record Enrolled (w : Work) (b n : ℕ) : Type 0 where
+pub record Enrolled (w : Parts) (b n : ℕ) : Type 0 where
   pub between : IsBetween w
   pub ready : IsReady (machine_of w)
   pub free : stage_of w.trace ≡ Free
   pub last : w.last ≡ Some (Commit (Enrol b n))
 
 -- what holds where a close is begun
-pub record Closes (w : Work) (e : End) : Type 0 where
-  pub table : w.table ≡ table_of w.kept
+pub record Closes (w : Parts) (e : End) : Type 0 where
   pub tries : w.tries < 8
-  pub calm : IsCalm (Closing e) w.silent
+  pub calm : IsWithinSilence (Closing e) w.silent
   pub opened : w.opened ≡ true
   pub going : closing_of w.purpose ≡ None
   pub cause : Cause (machine_of w) e
@@ -173,8 +147,8 @@ pub record IsNext (t : Machine) (o : Order) (new : Machine) : Type 0 where
   pub state : new ≡ record (machine_ordered t o) { course = new.course }
 
 -- a transaction begins, and takes this course
-pub record Starts (c : Course) (o : Order) (new : Work) : Type 0 where
-  pub course : course_of new ≡ c
+pub record Starts (c : Course) (o : Order) (new : Parts) : Type 0 where
+  pub course : parts_course new ≡ c
   pub order : o ≡ beginning c
 
 pub record IsStep (m : Machine) (i : Input) (o : Order) (new : Machine) : Type 0 where

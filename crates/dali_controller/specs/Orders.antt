@@ -53,8 +53,8 @@ machine_ordered t o = record {
 
 -- WHICH ORDERS A SITE ALLOWS. A first frame at 3, or a later one that is lawful after the running
 -- transaction, at 1.
-abbrev pub MayPut : Machine → ℕ → Forward → Type 0
-MayPut t p f =
+abbrev pub MayOrderPut : Machine → ℕ → Forward → Type 0
+MayOrderPut t p f =
     ((p ≡ FIRST) × Lawful t.kept.block t.kept.reserved [] f)
     ⊎ ((p ≡ LATER) × (t.trace ≡ [] → ⊥) × Lawful t.kept.block t.kept.reserved t.trace f)
 
@@ -81,7 +81,7 @@ IsAddressing (Put p f) = (g : Forward) → command_of f ≡ Arc g → ⊥
 IsAddressing _ = Unit {0}
 
 abbrev pub IsAllowed : Machine → Order → Type 0
-IsAllowed t (Put p f) = MayPut t p f
+IsAllowed t (Put p f) = MayOrderPut t p f
 IsAllowed t (Commit x) = MayCommit t x
 IsAllowed t (Done e) = Unit {0}
 IsAllowed t (Halt w) = Unit {0}
@@ -99,13 +99,13 @@ Cause t BlockFull =
 Cause t GaveUp = t.silent ≡ 16
 
 -- the end with which a close runs, if one does
-abbrev pub closing : Machine → Option End
-closing t = closing_of t.course.purpose
+abbrev pub running_close : Machine → Option End
+running_close t = closing_of t.course.purpose
 
 -- no close is begun, the close that runs is begun again, or a close is begun that has a cause
 abbrev pub IsBegun : Machine → Option End → Type 0
-IsBegun t None = closing t ≡ None
-IsBegun t (Some e) = (closing t ≡ Some e) ⊎ ((closing t ≡ None) × Cause t e)
+IsBegun t None = running_close t ≡ None
+IsBegun t (Some e) = (running_close t ≡ Some e) ⊎ ((running_close t ≡ None) × Cause t e)
 
 -- the table has one of the two for another
 abbrev pub Contradicts : List Assignment → ℕ → ℕ → Type 0
@@ -117,9 +117,9 @@ abbrev pub IsCaused : Machine → Course → Order → Type 0
 IsCaused t c (Put p f) =
     IsBegun t (closing_of c.purpose)
     × ((closing_of c.purpose ≡ None) ⊎ ((p ≡ FIRST) × (f ≡ frame_of Terminate)))
-IsCaused t c (Commit x) = closing t ≡ None
+IsCaused t c (Commit x) = running_close t ≡ None
 IsCaused t c (Done e) =
-    ((e ≡ GaveUp) × (t.tries ≡ 8)) ⊎ ((closing t ≡ Some e) × (stage_of t.trace ≡ Terminated))
+    ((e ≡ GaveUp) × (t.tries ≡ 8)) ⊎ ((running_close t ≡ Some e) × (stage_of t.trace ≡ Terminated))
 IsCaused t c (Halt fault.Conflict) =
     (x : Finding) × (t.finding ≡ Some x) × (finding_of t.trace ≡ Some x)
     × Contradicts t.kept.enrolled (assigned x).0 (assigned x).1

@@ -1,9 +1,56 @@
-use Rattle.dali_controller.specs.declared.parts.Parts.{Parts}
+use Rattle.std.specs.Prelude.{ℕ, Bool, List, Option}
+use Rattle.dali_frame.specs.declared.numbers.SearchAddress.{SearchAddress}
+use Rattle.dali_script.specs.declared.trace.Entry.{Entry}
+use Rattle.dali_script.specs.declared.finding.Finding.{Finding}
+use Rattle.dali_script.specs.declared.orders.Order.{Order}
+use Rattle.dali_script.specs.Records.{Kept}
+use Rattle.dali_search.specs.Least.{Search}
+use Rattle.dali_controller.specs.declared.purpose.Purpose.{Purpose}
+use Rattle.dali_controller.specs.declared.state.State.{State}
+use Rattle.dali_controller.specs.Course.{Course}
 use Rattle.dali_controller.specs.Machine.{Machine}
 
--- what contracts see of a machine's parts
-abbrev pub whole_of : Parts → Machine
-whole_of p = record {
+-- A MACHINE'S PARTS: its state, and the records that it goes by.
+pub record Parts : Type 0 where
+  pub id : ℕ
+  pub kept : Kept
+  pub trace : List Entry
+  pub finding : Option Finding
+  pub last : Option Order
+  pub tries : ℕ
+  pub silent : ℕ
+  pub opened : Bool
+  pub purpose : Purpose
+  pub number : SearchAddress
+  pub search : Search
+  pub from : ℕ
+
+abbrev pub with_kept : State → Kept → Parts
+with_kept s k = record {
+  id = s.id;
+  kept = k;
+  trace = s.trace;
+  finding = s.finding;
+  last = s.last;
+  tries = s.tries;
+  silent = s.silent;
+  opened = s.opened;
+  purpose = s.purpose;
+  number = s.number;
+  search = s.search;
+  from = s.from;
+}
+
+-- the course that a machine takes
+abbrev pub course_of : State → Course
+course_of s = record { purpose = s.purpose; number = s.number; search = s.search; from = s.from }
+
+abbrev pub parts_course : Parts → Course
+parts_course p = record { purpose = p.purpose; number = p.number; search = p.search; from = p.from }
+
+-- what contracts see of the parts
+abbrev pub machine_of : Parts → Machine
+machine_of p = record {
   id = p.id;
   kept = p.kept;
   trace = p.trace;
@@ -12,5 +59,8 @@ whole_of p = record {
   tries = p.tries;
   silent = p.silent;
   opened = p.opened;
-  course = record { purpose = p.purpose; number = p.number; search = p.search; from = p.from };
+  course = parts_course p;
 }
+
+abbrev pub machine_with : State → Kept → Machine
+machine_with s k = machine_of (with_kept s k)

@@ -56,9 +56,9 @@ Knows k n s opened (Resolving a) =
 Knows k n s opened (Closing e) = opened ≡ true
 
 -- the count of silent searches is below its limit, unless a close was begun for it
-abbrev pub IsCalm : Purpose → ℕ → Type 0
-IsCalm (Closing e) silent = (silent ≤ 16) × (silent ≡ 16 → e ≡ GaveUp)
-IsCalm _ silent = silent < 16
+abbrev pub IsWithinSilence : Purpose → ℕ → Type 0
+IsWithinSilence (Closing e) silent = (silent ≤ 16) × (silent ≡ 16 → e ≡ GaveUp)
+IsWithinSilence _ silent = silent < 16
 
 -- WHICH COMMAND a transaction sends at a stage, of those that may be sent there
 abbrev pub IsMet : Stage → Purpose → SearchAddress → Type 0
@@ -73,7 +73,7 @@ IsChosen n p s c = (turn_of p n s ≡ Some c) × IsMet s p n
 
 pub record IsReady (m : Machine) : Type 0 where
   pub tries : m.tries < 8
-  pub calm : IsCalm m.course.purpose m.silent
+  pub calm : IsWithinSilence m.course.purpose m.silent
   pub knows : Knows m.kept m.course.number m.course.search m.opened m.course.purpose
 
 pub record IsUnstarted (m : Machine) : Type 0 where

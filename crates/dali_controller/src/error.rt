@@ -1,5 +1,5 @@
 ghost use Rattle.std.specs.Prelude.{◌≡◌};
-ghost use Rattle.dali_controller.specs.Refusals.{number_of};
+ghost use Rattle.dali_controller.specs.Refusals.{refusal_number};
 
 use thiserror::Error;
 
@@ -14,7 +14,7 @@ pub enum StepError {
 impl StepError {
     /// The refusal's number.
     pub fn number(self) -> u8
-        ensures { result ≡ number_of self }
+        ensures { result ≡ refusal_number self }
     {
         match self {
             StepError::NotDue => 1,

@@ -4,18 +4,17 @@
 //! A [`Machine`] knows nothing of a bus or a store, and takes no memory.
 #![tactic(auto)]
 
-mod entries;
 mod error;
 mod machine;
 mod moments;
-mod parts;
 mod purpose;
+mod state;
+mod stepping;
 mod unfinished;
 mod whole;
-mod work;
 
 pub use dali_script::{Due, End, Fault, Input, Order};
 pub use error::StepError;
 pub use machine::Machine;
-pub use parts::Parts;
 pub use purpose::Purpose;
+pub use state::State;

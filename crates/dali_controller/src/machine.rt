@@ -1,21 +1,17 @@
 ghost use Rattle.std.specs.Prelude.{◌≡◌, ◌↔◌, true, Some, IsOk, IfOk, OnErr, IsSome, IfSome};
-ghost use Rattle.dali_script.specs.Records.{Fits};
+ghost use Rattle.dali_script.specs.Records.{Fits, MayAdd};
+ghost use Rattle.dali_controller.specs.Steps.{with_some};
+ghost use Rattle.dali_script.specs.Table.{table_of};
 ghost use Rattle.dali_script.specs.Due.{due_after, accepts, record_ordered};
-ghost use Rattle.dali_controller.specs.Machine.{at_first, table_of};
+ghost use Rattle.dali_controller.specs.Machine.{at_first};
 ghost use Rattle.dali_controller.specs.Next.{BeginsWith};
-ghost use Rattle.dali_controller.specs.Parts.{whole_of};
+ghost use Rattle.dali_controller.specs.Parts.{machine_with};
 ghost use Rattle.dali_controller.specs.Whole.{IsWhole};
 ghost use Rattle.dali_controller.specs.Orders.{IsAnswered, IsFollowedAt, machine_after};
 
-use crate::entries::table_of;
 use crate::error::StepError;
-use crate::parts::Parts;
-use crate::purpose::Purpose;
-use crate::work::Work;
-use dali_enrol::Table;
-use dali_frame::SearchAddress;
-use dali_script::{Due, Input, Kept, Order, Trace};
-use dali_search::Search;
+use crate::state::State;
+use dali_script::{Due, Input, Kept, Order, Record, Table};
 use std::marker::Model;
 
 /// The machine of one application controller, which gives the short addresses of its block to the gear on a bus.
@@ -52,18 +48,20 @@ use std::marker::Model;
 /// up, and its course: what the transaction is for, and where its search and its visits are.
 #[derive(Drop)]
 pub struct Machine {
-    work: Work,
+    kept: Kept,
+    state: State,
 }
 
 impl Model for Machine {
     ghost use Rattle.dali_controller.specs.Machine.{Machine};
-    ghost use Rattle.dali_controller.specs.Moments.{machine_of, IsFine};
+    ghost use Rattle.dali_controller.specs.Parts.{machine_with};
+    ghost use Rattle.dali_controller.specs.Whole.{IsWhole};
 
     ghost Value = { Machine };
 
-    ghost view = { λ m. machine_of m.work };
+    ghost view = { λ m. machine_with m.state m.kept };
 
-    ghost invariant = { λ m. IsFine m.work };
+    ghost invariant = { λ m. IsWhole (machine_with m.state m.kept) };
 }
 
 impl Machine {
@@ -75,72 +73,29 @@ impl Machine {
         ensures { result ≡ at_first id kept.now }
     {
         Machine {
-            work: Work {
-                id,
-                kept: kept.copy(),
-                table: table_of(kept),
-                search: Search::new(),
-                trace: Trace::new(),
-                finding: None,
-                last: None,
-                tries: 0,
-                silent: 0,
-                opened: false,
-                purpose: Purpose::Opening,
-                number: SearchAddress::MASK,
-                from: 0,
-            },
+            kept: kept.copy(),
+            state: State::new(id),
         }
     }
 
-    /// The machine of these parts. None where they are those of no machine between two inputs.
-    pub fn of(parts: Parts) -> Option<Machine>
-        ensures whole { IsSome result ↔ IsWhole (whole_of parts) }
-        ensures machine { IfSome result (λ m. m ≡ whole_of parts) }
+    /// The machine with these records, in this state. None where that is the state of no machine between two inputs.
+    pub fn of(kept: Kept, state: State) -> Option<Machine>
+        ensures whole { IsSome result ↔ IsWhole (machine_with state kept) }
+        ensures machine { IfSome result (λ m. m ≡ machine_with state kept) }
     {
-        let table = table_of(&parts.kept);
-        let work = Work {
-            id: parts.id,
-            kept: parts.kept,
-            table,
-            search: parts.search,
-            trace: parts.trace,
-            finding: parts.finding,
-            last: parts.last,
-            tries: parts.tries,
-            silent: parts.silent,
-            opened: parts.opened,
-            purpose: parts.purpose,
-            number: parts.number,
-            from: parts.from,
-        };
-        if work.is_whole() {
-            Some(Machine { work })
+        if state.is_whole(&kept.view()) {
+            Some(Machine { kept, state })
         } else {
             None
         }
     }
 
-    /// Its parts. The machine is gone.
-    pub fn into_parts(self) -> Parts
-        ensures parts { whole_of result ≡ self }
+    /// Its records and its state. The machine is gone.
+    pub fn into_parts(self) -> (Kept, State)
+        ensures parts { machine_with result.1 result.0 ≡ self }
         ensures whole { IsWhole self }
     {
-        let work = self.work;
-        Parts {
-            id: work.id,
-            kept: work.kept,
-            trace: work.trace,
-            finding: work.finding,
-            last: work.last,
-            tries: work.tries,
-            silent: work.silent,
-            opened: work.opened,
-            purpose: work.purpose,
-            number: work.number,
-            search: work.search,
-            from: work.from,
-        }
+        (self.kept, self.state)
     }
 
     /// Takes an input, and orders what is to be done next.
@@ -158,60 +113,61 @@ impl Machine {
         ensures block { self.new.kept.block ≡ self.old.kept.block }
         ensures fits { IfOk result (λ order. IfSome (record_ordered (Some order)) (Fits self.old.kept.block)) }
     {
-        match (self.work.last, input) {
-            (None, Input::Start) => Ok(self.work.start()),
-            (Some(Order::Put(_, frame)), Input::Heard(heard)) => Ok(self.work.heard(frame, heard)),
-            (Some(Order::Put(..)), Input::Destroyed | Input::Lapsed) => Ok(self.work.lost()),
-            (Some(Order::Commit(added)), Input::Committed) => Ok(self.work.committed(added)),
-            (Some(Order::Commit(_)), Input::CommitFailed) => Ok(self.work.commit_failed()),
-            _ => Err(StepError::NotDue),
-        }
+        let added = self.state.kept_by(input);
+        keep(&mut self.kept, added);
+        self.state.step(&self.kept.view(), input)
     }
 
     /// What the machine waits for.
     pub fn due(&self) -> Due
         ensures { result ≡ due_after self.now.last }
     {
-        match self.work.last {
-            None => Due::Start,
-            Some(Order::Put(..)) => Due::Bus,
-            Some(Order::Commit(_)) => Due::Store,
-            Some(Order::Done(_) | Order::Halt(_)) => Due::Nothing,
-        }
+        self.state.due()
     }
 
     /// What the machine ordered last.
     pub fn last(&self) -> Option<Order>
         ensures { result ≡ self.now.last }
     {
-        self.work.last
+        self.state.last
     }
 
     /// The records that are kept.
     pub fn kept(&self) -> &Kept
         ensures { result.now ≡ self.now.kept }
     {
-        &self.work.kept
+        &self.kept
     }
 
     /// The records that are kept. The machine is gone.
     pub fn into_kept(self) -> Kept
         ensures { result ≡ self.kept }
     {
-        self.work.kept
+        self.kept
     }
 
     /// The gear that are enrolled, with the block.
     pub fn table(&self) -> &Table
         ensures { result.now ≡ table_of self.now.kept }
     {
-        &self.work.table
+        self.kept.table()
     }
 
     /// The controller's number.
     pub fn id(&self) -> u8
         ensures { result ≡ self.now.id }
     {
-        self.work.id
+        self.state.id
+    }
+}
+
+/// Adds a record to those that are kept, where there is one.
+fn keep(kept: &mut Kept, added: Option<Record>)
+    requires { IfSome added (λ x. Fits kept.old.block x × MayAdd kept.old x) }
+    ensures { kept.new ≡ with_some kept.old added }
+{
+    if let Some(added) = added {
+        // It may be added, so it is not refused.
+        let _ = kept.add(added);
     }
 }

@@ -1,4 +1,4 @@
-//! Whether a machine's parts are those of a machine between two inputs.
+//! Whether a state is that of a machine between two inputs, with its records.
 
 ghost use Rattle.std.specs.Prelude.{◌≡◌, ◌↔◌, ◌<◌, IsTrue};
 ghost use Rattle.dali_special.specs.Command.{command_of};
@@ -6,32 +6,34 @@ ghost use Rattle.dali_script.specs.Records.{Fits, MayAdd, Has, HasRandom};
 ghost use Rattle.dali_script.specs.Stages.{stage_of};
 ghost use Rattle.dali_script.specs.declared.stage.Stage.TheVariants as stage;
 ghost use Rattle.dali_controller.specs.declared.purpose.Purpose.TheVariants.{Resolving};
-ghost use Rattle.dali_controller.specs.Whole.{IsCalm, IsMet};
+ghost use Rattle.dali_controller.specs.Whole.{IsWithinSilence, IsMet};
 
 use crate::moments::{SILENT, TRIES};
 use crate::purpose::Purpose;
-use crate::work::Work;
+use crate::state::State;
 use dali_frame::{Forward, Random24, SearchAddress, Short};
-use dali_script::{End, Order, Record, Stage};
+use dali_script::{End, Order, Record, Records, Stage};
 use dali_search::Step;
 use dali_special::Command;
 
-impl Work {
-    ghost use Rattle.dali_controller.specs.Moments.{machine_of};
+impl State {
+    ghost use Rattle.dali_controller.specs.Parts.{machine_with};
     ghost use Rattle.dali_controller.specs.Whole.{IsWhole, IsReady, Knows, Sends, IsChosen};
 
     /// Whether the last order is one that a machine gives in this state.
-    pub(crate) fn is_whole(&self) -> bool
-        ensures { IsTrue result ↔ IsWhole (machine_of self.now) }
+    pub fn is_whole(&self, kept: &Records<'_>) -> bool
+        ensures { IsTrue result ↔ IsWhole (machine_with self.now kept.now) }
     {
         match self.last {
-            None => self.is_ready() && self.is_free() && matches!(self.purpose, Purpose::Opening),
-            Some(Order::Put(_, frame)) => self.is_ready() && self.sends(frame),
+            None => self.is_ready(kept)
+                && self.is_free()
+                && matches!(self.purpose, Purpose::Opening),
+            Some(Order::Put(_, frame)) => self.is_ready(kept) && self.sends(kept, frame),
             Some(Order::Commit(added)) => {
-                self.is_ready()
+                self.is_ready(kept)
                     && self.is_free()
                     && self.purpose.end().is_none()
-                    && self.may_keep(added)
+                    && self.may_keep(kept, added)
             }
             Some(Order::Done(_) | Order::Halt(_)) => true,
         }
@@ -45,22 +47,22 @@ impl Work {
     }
 
     /// Whether a record may be kept as the next one.
-    fn may_keep(&self, added: Record) -> bool
-        ensures { IsTrue result ↔ (Fits self.now.kept.block added × MayAdd self.now.kept added) }
+    fn may_keep(&self, kept: &Records<'_>, added: Record) -> bool
+        ensures { IsTrue result ↔ (Fits kept.now.block added × MayAdd kept.now added) }
     {
-        self.kept.fits(&added) && self.kept.copy().add(added).is_ok()
+        kept.fits(&added) && kept.refusal(&added).is_none()
     }
 
-    fn is_ready(&self) -> bool
-        ensures { IsTrue result ↔ IsReady (machine_of self.now) }
+    fn is_ready(&self, kept: &Records<'_>) -> bool
+        ensures { IsTrue result ↔ IsReady (machine_with self.now kept.now) }
     {
-        self.tries < TRIES && is_calm(self.purpose, self.silent) && self.knows()
+        self.tries < TRIES && is_within_silence(self.purpose, self.silent) && self.knows(kept)
     }
 
     /// Whether what is known while its transaction runs is so.
-    fn knows(&self) -> bool
+    fn knows(&self, kept: &Records<'_>) -> bool
         ensures { IsTrue result
-            ↔ Knows self.now.kept self.now.number self.now.search self.now.opened self.now.purpose }
+            ↔ Knows kept.now self.now.number self.now.search self.now.opened self.now.purpose }
     {
         let number = self.number.value();
         match self.purpose {
@@ -69,45 +71,45 @@ impl Work {
                 self.opened && self.search.step() == Step::Again && number == self.search.probe()
             }
             Purpose::Visiting => {
-                number < Random24::MASK && (self.opened || self.is_visited(number))
+                number < Random24::MASK && (self.opened || self.is_visited(kept, number))
             }
             Purpose::Resolving(short) => {
-                !self.opened && number < Random24::MASK && self.is_reserved(short, number)
+                !self.opened && number < Random24::MASK && self.is_reserved(kept, short, number)
             }
             Purpose::Closing(_) => self.opened,
         }
     }
 
     /// Whether an address is reserved for a random address.
-    fn is_visited(&self, number: Random24) -> bool
-        ensures { IsTrue result ↔ HasRandom self.now.kept.reserved number }
+    fn is_visited(&self, kept: &Records<'_>, number: Random24) -> bool
+        ensures { IsTrue result ↔ HasRandom kept.now.reserved number }
     {
-        self.kept.reserved_for(number).is_some()
+        kept.reserved_for(number).is_some()
     }
 
     /// Whether this address is reserved for a random address.
-    fn is_reserved(&self, address: Short, number: Random24) -> bool
-        ensures has { IsTrue result ↔ Has self.now.kept.reserved (address, number) }
+    fn is_reserved(&self, kept: &Records<'_>, address: Short, number: Random24) -> bool
+        ensures has { IsTrue result ↔ Has kept.now.reserved (address, number) }
         ensures small { address < 64 }
     {
         let _ = address.number();
-        match self.kept.random_reserved(address) {
+        match kept.reserved_at(address) {
             Some(reserved) => reserved == number,
             None => false,
         }
     }
 
     /// Whether it is this frame that its transaction sends next.
-    fn sends(&self, frame: Forward) -> bool
-        requires { IsReady (machine_of self.now) }
-        ensures { IsTrue result ↔ Sends self.now.kept self.now.number self.now.purpose (stage_of self.now.trace)
+    fn sends(&self, kept: &Records<'_>, frame: Forward) -> bool
+        requires { IsReady (machine_with self.now kept.now) }
+        ensures { IsTrue result ↔ Sends kept.now self.now.number self.now.purpose (stage_of self.now.trace)
             (command_of frame) }
     {
         // Short addresses that are reserved are short addresses.
-        let _ = self.kept.block();
+        let _ = kept.block();
         let stage = self.trace.stage();
         let command = Command::read(frame);
-        self.trace.allows(&self.kept, frame) && self.chooses(&stage, command)
+        self.trace.allows_by(kept, frame) && self.chooses(&stage, command)
     }
 
     /// Whether it is this command that the transaction sends at a stage, where it may be sent there.
@@ -128,8 +130,8 @@ impl Work {
 }
 
 /// Whether the count of silent searches is below its limit, but for a close that was begun for it.
-fn is_calm(purpose: Purpose, silent: u8) -> bool
-    ensures { IsTrue result ↔ IsCalm purpose silent }
+fn is_within_silence(purpose: Purpose, silent: u8) -> bool
+    ensures { IsTrue result ↔ IsWithinSilence purpose silent }
 {
     match purpose {
         Purpose::Closing(End::GaveUp) => silent <= SILENT,

@@ -5,7 +5,8 @@ use Rattle.std.proofs.lemmas.Bool.{cases_eq}
 use Rattle.std.specs.declared.option.Option.{Option}
 use Rattle.std.specs.declared.option.Option.TheVariants.{None, Some}
 use Rattle.std.specs.Option.{IfSome}
-use Rattle.dali_enrol.specs.Directory.{Enrolled, IsOfAddress, AtItsAddress}
+use Rattle.dali_script.specs.Table.{Enrolled}
+use Rattle.dali_enrol.specs.Directory.{IsOfAddress, AtItsAddress}
 
 module _ {A X : Type 0} (f : A → X) (xs : List A) (i : ℕ) (x : A) (within : i < length xs) (here : x ≡ get_or xs i x) where
   -- what the list of values has where x stands

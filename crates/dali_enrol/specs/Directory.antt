@@ -1,12 +1,5 @@
 use Rattle.std.specs.Prelude.{◌≡◌, ℕ, List, Option, Some, None, IfSome, slice_index_or}
-
--- an entry of a table: the short address and the random address of an enrolled gear
-pub record Enrolled : Type 0 where
-  pub short : ℕ
-  pub random : ℕ
-
-abbrev pub entry : ℕ → ℕ → Enrolled
-entry short random = record { short = short; random = random }
+use Rattle.dali_script.specs.Table.{Enrolled}
 
 -- A pass: the names of the places of the directory that it is of, and for each short address, from
 -- 0 on, the entry that it knows to stand there for good.

@@ -4,9 +4,9 @@ ghost use Rattle.once_cell.specs.Once.{cell_name};
 ghost use Rattle.dali_enrol.specs.declared.error.DirectoryError.TheVariants.{NoMemory};
 ghost use Rattle.dali_enrol.specs.Directory.{IsOfAddress};
 
-use crate::enrolled::Enrolled;
 use crate::error::DirectoryError;
 use dali_frame::Short;
+use dali_script::Enrolled;
 use once_cell::race::{Note, OnceBox};
 use std::alloc::Global;
 use std::marker::Model;

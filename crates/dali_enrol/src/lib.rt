@@ -1,12 +1,10 @@
-//! The gear that a controller has enrolled: an ordered table of short addresses and random addresses, each once.
+//! The directory of enrolled gear: for each short address an entry of a controller's table, set once and read without
+//! waiting. The table itself stands in `dali_script`, beside the records that it is a part of.
 #![tactic(auto)]
 
 mod directory;
-mod enrolled;
 mod error;
-mod table;
 
+pub use dali_script::{Enrolled, Table, TableError};
 pub use directory::{Directory, Pass};
-pub use enrolled::Enrolled;
-pub use error::{DirectoryError, TableError};
-pub use table::Table;
+pub use error::DirectoryError;

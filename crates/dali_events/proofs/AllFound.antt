@@ -11,7 +11,7 @@ use Rattle.dali_special.specs.Command.{command_of}
 use Rattle.dali_gear.specs.declared.state.InitialisationState.TheVariants.{Enabled}
 use Rattle.dali_gear.specs.declared.row.Reach.{Reach}
 use Rattle.dali_gear.specs.declared.row.Reach.TheVariants.{Everyone, Only}
-use Rattle.dali_gear.specs.Gear.{Gear, fresh, YES, would_draw, answer, short_after}
+use Rattle.dali_gear.specs.Gear.{Gear, fresh, YES, draws_a_number, answer, short_after}
 use Rattle.dali_gear.specs.Row.{takes, row_after, drawn_of, draws_needed, answers_of}
 use Rattle.dali_arbiter.specs.Arbiter.{owns}
 use Rattle.dali_script.specs.declared.block.Block.{Block}
@@ -121,7 +121,7 @@ ready_drawn gs left enough opens below i in_row =
       at : i < length gs → (get_or gs i fresh).powered ≡ true → (get_or gs i fresh).short ≡ None → Ready (get_or (row_after Everyone Randomise 0 gs left) i fresh)
       at there on none =
           let open_it = opens i there on none in
-          let would : would_draw Randomise (get_or gs i fresh) ≡ true = rw (open_it.0, open_it.1) refl in
+          let would : draws_a_number Randomise (get_or gs i fresh) ≡ true = rw (open_it.0, open_it.1) refl in
           let d = draws_at Everyone Randomise gs left i there enough (powered_takes i (get_or gs i fresh) on) would in
           subst Ready (sym d.2) (drawn_ready (get_or gs i fresh) d.0 open_it (below (i, d.0) d.1))
 

@@ -6,7 +6,7 @@ use Rattle.dali_special.specs.declared.command.Command.{Command}
 use Rattle.dali_special.specs.Command.{command_of}
 use Rattle.dali_gear.specs.declared.row.Reach.{Reach}
 use Rattle.dali_gear.specs.declared.row.Reach.TheVariants.{Everyone, Only}
-use Rattle.dali_gear.specs.Gear.{Gear, fresh, would_draw, gear_expired, gear_quieted}
+use Rattle.dali_gear.specs.Gear.{Gear, fresh, draws_a_number, gear_expired, gear_quieted}
 use Rattle.dali_gear.specs.Row.{row_after, row_left, drawn_of}
 use Rattle.dali_script.specs.Records.{Has, IsOnce}
 use Rattle.dali_events.specs.declared.event.Event.{Event}
@@ -34,12 +34,12 @@ drawn_more ds es k g (inr h) = inr (has_left ds es (k, g.random) h)
 
 drawn_moved : (reach : Reach) (c : Command) (ds es : List (ℕ × ℕ)) (k : ℕ) (g h : Gear) → HasDrawn ds k g → Moved reach c es k g h → HasDrawn (ds ++ es) k h
 drawn_moved reach c ds es k g _ had (stays e) = drawn_more ds es k g had
-drawn_moved reach c ds es k g _ had (goes r e drew) = go (would_draw c g) refl where
+drawn_moved reach c ds es k g _ had (goes r e drew) = go (draws_a_number c g) refl where
   from : (r ≡ g.random) ⊎ Has es (k, r) → (r ≡ MASK24) ⊎ Has (ds ++ es) (k, r)
   from (inl s) = subst (λ n. (n ≡ MASK24) ⊎ Has (ds ++ es) (k, n)) (sym s) (drawn_more ds es k g had)
   from (inr h) = inr (has_right ds es (k, r) h)
 
-  go : (b : Bool) → would_draw c g ≡ b → ((if b then r else g.random) ≡ MASK24) ⊎ Has (ds ++ es) (k, if b then r else g.random)
+  go : (b : Bool) → draws_a_number c g ≡ b → ((if b then r else g.random) ≡ MASK24) ⊎ Has (ds ++ es) (k, if b then r else g.random)
   go true w = from (drew w)
   go false w = drawn_more ds es k g had
 

@@ -13,7 +13,7 @@ use Rattle.dali_special.specs.declared.command.Command.TheVariants.{Terminate, I
 use Rattle.dali_special.specs.Command.{MASK, program_data, IsSpelled}
 use Rattle.dali_special.proofs.Table.{short_of_code}
 use Rattle.dali_gear.specs.declared.state.InitialisationState.TheVariants.{Enabled}
-use Rattle.dali_gear.specs.Gear.{Gear, is_active, is_found, is_second, concerns, would_draw, random_after, state_after, short_after, gear_taken, answer, gear_quieted}
+use Rattle.dali_gear.specs.Gear.{Gear, is_active, is_found, is_second, concerns, draws_a_number, random_after, state_after, short_after, gear_taken, answer, gear_quieted}
 use Rattle.dali_gear.specs.Row.{stored_short}
 use Rattle.dali_script.specs.declared.block.Block.{Block}
 use Rattle.dali_script.specs.declared.stage.Stage.{Stage}
@@ -240,7 +240,7 @@ short_stays b xs (stage.Unnamed r) (Program (Some d)) g a on k e = go (is_active
 short_stays b xs _ (Program short) g a on k e = absurd (let none = on.leads_on in cc)
 short_stays b xs _ _ g a on k e = e
 
-drawing_none : (g : Gear) (a : ℕ) → Unnumbered g → g.short ≡ Some a → would_draw Randomise g ≡ false
+drawing_none : (g : Gear) (a : ℕ) → Unnumbered g → g.short ≡ Some a → draws_a_number Randomise g ≡ false
 drawing_none g a k e = go (is_second Randomise g.half) (is_active g.state) refl where
   go : (t f : Bool) → is_active g.state ≡ f → (t && f) ≡ false
   go true true active = absurd (let none : g.short ≡ None = k active in cc)

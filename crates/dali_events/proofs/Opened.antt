@@ -6,7 +6,7 @@ use Rattle.dali_special.specs.declared.command.Command.{Command}
 use Rattle.dali_special.specs.declared.command.Command.TheVariants.{Terminate, Initialise, Randomise}
 use Rattle.dali_gear.specs.declared.state.InitialisationState.TheVariants.{Disabled, Enabled}
 use Rattle.dali_gear.specs.declared.row.Reach.TheVariants.{Everyone}
-use Rattle.dali_gear.specs.Gear.{Gear, is_active, would_draw, gear_taken, state_after, half_after}
+use Rattle.dali_gear.specs.Gear.{Gear, is_active, draws_a_number, gear_taken, state_after, half_after}
 use Rattle.dali_gear.specs.Row.{row_after, drawn_of, draws_needed}
 use Rattle.dali_script.specs.declared.stage.Stage.{Stage}
 use Rattle.dali_script.specs.declared.stage.Stage.TheVariants as stage
@@ -77,7 +77,7 @@ SameState g h = (h.powered ≡ g.powered) × (h.state ≡ g.state) × (h.short �
 opened_one : (g h : Gear) → SameState g h → OpenedBy g → OpenedBy h
 opened_one g h same was = (λ none. same.1 ∙ was.0 (sym same.2 ∙ none), λ a short. same.1 ∙ was.1 a (sym same.2 ∙ short))
 
-drew_below : (g : Gear) (x : ℕ) → would_draw Randomise g ≡ true → x < MASK24 → (gear_taken Randomise x g).random < MASK24
+drew_below : (g : Gear) (x : ℕ) → draws_a_number Randomise g ≡ true → x < MASK24 → (gear_taken Randomise x g).random < MASK24
 drew_below g x would below = rw would below
 
 pub opening_opened : (gs : List Gear) (left : List ℕ) → draws_needed Everyone Randomise 0 gs ≤ length left
@@ -98,7 +98,7 @@ opening_opened gs left enough below all k in_row on = (λ none. random none, ope
   random : (gear_of (row_after Everyone Randomise 0 gs left) k).short ≡ None → (gear_of (row_after Everyone Randomise 0 gs left) k).random < MASK24
   random none =
       let enabled : (gear_of gs k).state ≡ Enabled = was.1.0 (sym same.2 ∙ none) in
-      let would : would_draw Randomise (gear_of gs k) ≡ true = rw (was.0, enabled) refl in
+      let would : draws_a_number Randomise (gear_of gs k) ≡ true = rw (was.0, enabled) refl in
       let d = draws_at Everyone Randomise gs left k there enough (powered_takes k (gear_of gs k) up) would in
       subst (λ g. g.random < MASK24) (sym d.2) (drew_below (gear_of gs k) d.0 would (below (k, d.0) d.1))
 

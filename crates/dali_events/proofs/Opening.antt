@@ -12,7 +12,7 @@ use Rattle.dali_special.specs.declared.command.Command.TheVariants.{Terminate, I
 use Rattle.dali_special.specs.Command.{MASK}
 use Rattle.dali_gear.specs.declared.state.InitialisationState.TheVariants.{Enabled, Withdrawn}
 use Rattle.dali_gear.specs.declared.row.Reach.{Reach}
-use Rattle.dali_gear.specs.Gear.{Gear, fresh, is_active, is_enabled, is_found, is_second, concerns, would_draw, gear_taken, state_after, short_after, half_after}
+use Rattle.dali_gear.specs.Gear.{Gear, fresh, is_active, is_enabled, is_found, is_second, concerns, draws_a_number, gear_taken, state_after, short_after, half_after}
 use Rattle.dali_gear.specs.Row.{takes, left_after, row_after, drawn_one, drawn_of, draws_needed}
 use Rattle.dali_script.specs.declared.block.Block.{Block}
 use Rattle.dali_script.specs.declared.stage.Stage.{Stage}
@@ -27,7 +27,7 @@ record DrawsNumber (reach : Reach) (c : Command) (k : ℕ) (gs : List Gear) (lef
   pub drawn : Has (drawn_of reach c k gs left) (k + i, number)
   pub moved : get_or (row_after reach c k gs left) i fresh ≡ gear_taken c number (get_or gs i fresh)
 
-draws_here : (reach : Reach) (c : Command) (k : ℕ) (g : Gear) (gs : List Gear) (left : List ℕ) → takes reach k g ≡ true → would_draw c g ≡ true
+draws_here : (reach : Reach) (c : Command) (k : ℕ) (g : Gear) (gs : List Gear) (left : List ℕ) → takes reach k g ≡ true → draws_a_number c g ≡ true
     → draws_needed reach c k (g ∷ gs) ≤ length left → DrawsNumber reach c k (g ∷ gs) left 0
 draws_here reach c k g gs [] t w enough =
     absurd (let more : 1 + draws_needed reach c (k + 1) gs ≤ 0 = rw (t, w) at enough in omega arith)
@@ -48,23 +48,23 @@ enough_left true n [] h = omega arith
 enough_left true n (r ∷ left) h = omega arith
 
 draws_from : (reach : Reach) (c : Command) (k : ℕ) (gs : List Gear) (left : List ℕ) (i : ℕ) → i < length gs → draws_needed reach c k gs ≤ length left
-    → takes reach (k + i) (get_or gs i fresh) ≡ true → would_draw c (get_or gs i fresh) ≡ true → DrawsNumber reach c k gs left i
+    → takes reach (k + i) (get_or gs i fresh) ≡ true → draws_a_number c (get_or gs i fresh) ≡ true → DrawsNumber reach c k gs left i
 draws_from reach c k [] left i h enough t w = absurd (omega arith)
 draws_from reach c k (g ∷ gs) left zero h enough t w = draws_here reach c k g gs left (rw add-zero at t) w enough
 draws_from reach c k (g ∷ gs) left (suc i) h enough t w =
-    let b : Bool = takes reach k g && would_draw c g in
+    let b : Bool = takes reach k g && draws_a_number c g in
     let same : k + suc i ≡ k + 1 + i = omega arith in
-    let fewer : draws_needed reach c (k + 1) gs ≤ length (left_after (takes reach k g && would_draw c g) left) = enough_left (takes reach k g && would_draw c g) (draws_needed reach c (k + 1) gs) left enough in
-    let d = draws_from reach c (k + 1) gs (left_after (takes reach k g && would_draw c g) left) i (omega arith) fewer (subst (λ n. takes reach n (get_or gs i fresh) ≡ true) same t) w in
+    let fewer : draws_needed reach c (k + 1) gs ≤ length (left_after (takes reach k g && draws_a_number c g) left) = enough_left (takes reach k g && draws_a_number c g) (draws_needed reach c (k + 1) gs) left enough in
+    let d = draws_from reach c (k + 1) gs (left_after (takes reach k g && draws_a_number c g) left) i (omega arith) fewer (subst (λ n. takes reach n (get_or gs i fresh) ≡ true) same t) w in
     record {
       number = d.number;
-      drawn = has_drawn_one (takes reach k g && would_draw c g) k left (drawn_of reach c (k + 1) gs (left_after (takes reach k g && would_draw c g) left)) (k + suc i, d.number)
-          (subst (λ n. Has (drawn_of reach c (k + 1) gs (left_after (takes reach k g && would_draw c g) left)) (n, d.number)) (sym same) d.drawn);
+      drawn = has_drawn_one (takes reach k g && draws_a_number c g) k left (drawn_of reach c (k + 1) gs (left_after (takes reach k g && draws_a_number c g) left)) (k + suc i, d.number)
+          (subst (λ n. Has (drawn_of reach c (k + 1) gs (left_after (takes reach k g && draws_a_number c g) left)) (n, d.number)) (sym same) d.drawn);
       moved = d.moved;
     }
 
 pub draws_at : (reach : Reach) (c : Command) (gs : List Gear) (left : List ℕ) (i : ℕ) → i < length gs → draws_needed reach c 0 gs ≤ length left
-    → takes reach i (get_or gs i fresh) ≡ true → would_draw c (get_or gs i fresh) ≡ true
+    → takes reach i (get_or gs i fresh) ≡ true → draws_a_number c (get_or gs i fresh) ≡ true
     → (r : ℕ) × Has (drawn_of reach c 0 gs left) (i, r) × (get_or (row_after reach c 0 gs left) i fresh ≡ gear_taken c r (get_or gs i fresh))
 draws_at reach c gs left i h enough t w =
     let d = draws_from reach c 0 gs left i h enough (subst (λ n. takes reach n (get_or gs i fresh) ≡ true) (sym (zero-add i)) t) w in
@@ -143,16 +143,16 @@ opens_step b xs _ _ h g x on k none = tt
 abbrev pub Ready : Gear → Type 0
 Ready g = g.short ≡ None → (g.state ≡ Enabled) × (g.random < MASK24)
 
-pub draws_ready : (g : Gear) → (g.half ≡ Some Randomise) × (g.state ≡ Enabled) → would_draw Randomise g ≡ true
+pub draws_ready : (g : Gear) → (g.half ≡ Some Randomise) × (g.state ≡ Enabled) → draws_a_number Randomise g ≡ true
 draws_ready g k = rw (k.0, k.1) refl
 
 pub drawn_ready : (g : Gear) (r : ℕ) → (g.half ≡ Some Randomise) × (g.state ≡ Enabled) → r < MASK24 → Ready (gear_taken Randomise r g)
 drawn_ready g r k below = λ none. (k.1, rw (draws_ready g k) below)
 
 -- a frame that is no TERMINATE leaves it ready
-randomised_ready : (g : Gear) (r : ℕ) → (would_draw Randomise g ≡ true → (r ≡ g.random) ⊎ (r < MASK24)) → Ready g → Ready (gear_taken Randomise r g)
-randomised_ready g r drew k = λ none. ((k none).0, go (would_draw Randomise g) refl (k none).1) where
-  go : (b : Bool) → would_draw Randomise g ≡ b → g.random < MASK24 → (if b then r else g.random) < MASK24
+randomised_ready : (g : Gear) (r : ℕ) → (draws_a_number Randomise g ≡ true → (r ≡ g.random) ⊎ (r < MASK24)) → Ready g → Ready (gear_taken Randomise r g)
+randomised_ready g r drew k = λ none. ((k none).0, go (draws_a_number Randomise g) refl (k none).1) where
+  go : (b : Bool) → draws_a_number Randomise g ≡ b → g.random < MASK24 → (if b then r else g.random) < MASK24
   go false e below = below
   go true e below = from (drew e) where
     from : (r ≡ g.random) ⊎ (r < MASK24) → r < MASK24
@@ -189,7 +189,7 @@ programmed_ready g a k none = go (is_active g.state && is_found g) none where
   go false e = k e
 
 pub ready_step : (b : Block) (xs : List Assignment) (s : Stage) (c : Command) (g : Gear) (r : ℕ)
-    → Follows b xs s c → (c ≡ Terminate → ⊥) → (would_draw c g ≡ true → (r ≡ g.random) ⊎ (r < MASK24)) → Knows s g → Ready g → Ready (gear_taken c r g)
+    → Follows b xs s c → (c ≡ Terminate → ⊥) → (draws_a_number c g ≡ true → (r ≡ g.random) ⊎ (r < MASK24)) → Knows s g → Ready g → Ready (gear_taken c r g)
 ready_step b xs stage.Terminated (Initialise Unaddressed) g r on calm drew knows k = λ none. (initialised_ready g k none, (k none).1)
 ready_step b xs stage.InitialisedOnce (Initialise Unaddressed) g r on calm drew knows k = λ none. (initialised_ready g k none, (k none).1)
 ready_step b xs (stage.Found n a) Withdraw g r on calm drew knows k = λ none. (withdrawn_ready g n a knows k none, (k none).1)

@@ -2,7 +2,7 @@ use Rattle.std.proofs.Common.{◌≡◌, ℕ, ◌+◌, ◌<◌, ◌⊎◌, inl, 
 use Rattle.std.specs.Prelude.{◌&&◌}
 use Rattle.dali_special.specs.declared.command.Command.{Command}
 use Rattle.dali_gear.specs.declared.row.Reach.{Reach}
-use Rattle.dali_gear.specs.Gear.{Gear, fresh, would_draw, gear_taken}
+use Rattle.dali_gear.specs.Gear.{Gear, fresh, draws_a_number, gear_taken}
 use Rattle.dali_gear.specs.Row.{takes, next_draw, one_after, left_after, row_after, row_left, drawn_one, drawn_of}
 use Rattle.dali_script.specs.Records.{Has}
 
@@ -10,7 +10,7 @@ use Rattle.dali_script.specs.Records.{Has}
 -- from those left where it draws.
 pub data Moved (reach : Reach) (c : Command) (draws : List (ℕ × ℕ)) (k : ℕ) (g : Gear) : Gear → Type 0 where
   stays : takes reach k g ≡ false → Moved reach c draws k g g
-  goes : (r : ℕ) → takes reach k g ≡ true → (would_draw c g ≡ true → (r ≡ g.random) ⊎ Has draws (k, r)) → Moved reach c draws k g (gear_taken c r g)
+  goes : (r : ℕ) → takes reach k g ≡ true → (draws_a_number c g ≡ true → (r ≡ g.random) ⊎ Has draws (k, r)) → Moved reach c draws k g (gear_taken c r g)
 
 moved_more : (reach : Reach) (c : Command) (ds es : List (ℕ × ℕ)) (k : ℕ) (g h : Gear) → ((x : ℕ × ℕ) → Has ds x → Has es x) → Moved reach c ds k g h → Moved reach c es k g h
 moved_more reach c ds es k g _ more (stays e) = stays e
@@ -25,9 +25,9 @@ drawn_before true k [] more x h = h
 drawn_before true k (r ∷ left) more x h = inr h
 
 moves_here : (reach : Reach) (c : Command) (k : ℕ) (g : Gear) (left : List ℕ) (more : List (ℕ × ℕ)) (t : Bool) → takes reach k g ≡ t
-    → Moved reach c (drawn_one (t && would_draw c g) k left more) k g (one_after t c left g)
+    → Moved reach c (drawn_one (t && draws_a_number c g) k left more) k g (one_after t c left g)
 moves_here reach c k g left more false e = stays e
-moves_here reach c k g left more true e = goes (next_draw g left) e (λ w. go (would_draw c g) left w) where
+moves_here reach c k g left more true e = goes (next_draw g left) e (λ w. go (draws_a_number c g) left w) where
   go : (b : Bool) (left : List ℕ) → b ≡ true → (next_draw g left ≡ g.random) ⊎ Has (drawn_one b k left more) (k, next_draw g left)
   go false left w = absurd (cc)
   go true [] w = inl refl
@@ -37,13 +37,13 @@ moves_from : (reach : Reach) (c : Command) (gs : List Gear) (k : ℕ) (left : Li
     → Moved reach c (drawn_of reach c k gs left) (k + i) (get_or gs i fresh) (get_or (row_after reach c k gs left) i fresh)
 moves_from reach c [] k left i h = absurd (omega arith)
 moves_from reach c (g ∷ gs) k left zero h =
-    rw add-zero (moves_here reach c k g left (drawn_of reach c (k + 1) gs (left_after (takes reach k g && would_draw c g) left)) (takes reach k g) refl)
+    rw add-zero (moves_here reach c k g left (drawn_of reach c (k + 1) gs (left_after (takes reach k g && draws_a_number c g) left)) (takes reach k g) refl)
 moves_from reach c (g ∷ gs) k left (suc i) h =
     let same : k + 1 + i ≡ k + suc i = omega arith in
-    let more : List (ℕ × ℕ) = drawn_of reach c (k + 1) gs (left_after (takes reach k g && would_draw c g) left) in
-    let there = moves_from reach c gs (k + 1) (left_after (takes reach k g && would_draw c g) left) i (omega arith) in
-    moved_more reach c _ _ (k + suc i) _ _ (drawn_before (takes reach k g && would_draw c g) k left _)
-    (subst (λ n. Moved reach c (drawn_of reach c (k + 1) gs (left_after (takes reach k g && would_draw c g) left)) n (get_or gs i fresh) (get_or (row_after reach c (k + 1) gs (left_after (takes reach k g && would_draw c g) left)) i fresh)) same there)
+    let more : List (ℕ × ℕ) = drawn_of reach c (k + 1) gs (left_after (takes reach k g && draws_a_number c g) left) in
+    let there = moves_from reach c gs (k + 1) (left_after (takes reach k g && draws_a_number c g) left) i (omega arith) in
+    moved_more reach c _ _ (k + suc i) _ _ (drawn_before (takes reach k g && draws_a_number c g) k left _)
+    (subst (λ n. Moved reach c (drawn_of reach c (k + 1) gs (left_after (takes reach k g && draws_a_number c g) left)) n (get_or gs i fresh) (get_or (row_after reach c (k + 1) gs (left_after (takes reach k g && draws_a_number c g) left)) i fresh)) same there)
 
 pub moves_at : (reach : Reach) (c : Command) (gs : List Gear) (left : List ℕ) (i : ℕ) → i < length gs
     → Moved reach c (drawn_of reach c 0 gs left) i (get_or gs i fresh) (get_or (row_after reach c 0 gs left) i fresh)
@@ -54,14 +54,14 @@ moves_at reach c gs left i h =
 -- as many gear as before
 pub row_length : (reach : Reach) (c : Command) (k : ℕ) (gs : List Gear) (left : List ℕ) → length (row_after reach c k gs left) ≡ length gs
 row_length reach c k [] left = refl
-row_length reach c k (g ∷ gs) left = ap suc (row_length reach c (k + 1) gs (left_after (takes reach k g && would_draw c g) left))
+row_length reach c k (g ∷ gs) left = ap suc (row_length reach c (k + 1) gs (left_after (takes reach k g && draws_a_number c g) left))
 
 -- THE NUMBERS DRAWN, AND THEN THOSE LEFT, ARE THOSE BEFORE
 pub numbers_stay : (reach : Reach) (c : Command) (k : ℕ) (gs : List Gear) (left : List ℕ) → map (λ draw. draw.1) (drawn_of reach c k gs left) ++ row_left reach c k gs left ≡ left
 numbers_stay reach c k [] left = refl
 numbers_stay reach c k (g ∷ gs) left =
-    go (takes reach k g && would_draw c g) left (drawn_of reach c (k + 1) gs (left_after (takes reach k g && would_draw c g) left)) (row_left reach c (k + 1) gs (left_after (takes reach k g && would_draw c g) left))
-    (numbers_stay reach c (k + 1) gs (left_after (takes reach k g && would_draw c g) left)) where
+    go (takes reach k g && draws_a_number c g) left (drawn_of reach c (k + 1) gs (left_after (takes reach k g && draws_a_number c g) left)) (row_left reach c (k + 1) gs (left_after (takes reach k g && draws_a_number c g) left))
+    (numbers_stay reach c (k + 1) gs (left_after (takes reach k g && draws_a_number c g) left)) where
       go : (b : Bool) (xs : List ℕ) (more : List (ℕ × ℕ)) (rest : List ℕ) → map (λ draw. draw.1) more ++ rest ≡ left_after b xs → map (λ draw. draw.1) (drawn_one b k xs more) ++ rest ≡ xs
       go false xs more rest e = e
       go true [] more rest e = e

@@ -18,14 +18,14 @@ pub record Plan : Type 0 where
   pub draws : List ℕ
 
 -- the refusals' numbers
-abbrev pub number_of : PlanError → ℕ
-number_of NoMemory = 1
-number_of GearCount = 2
-number_of ControllerCount = 3
-number_of BlockOrder = 4
-number_of BlockOverlap = 5
-number_of DrawTooLarge = 6
-number_of DrawTwice = 7
+abbrev pub refusal_number : PlanError → ℕ
+refusal_number NoMemory = 1
+refusal_number GearCount = 2
+refusal_number ControllerCount = 3
+refusal_number BlockOrder = 4
+refusal_number BlockOverlap = 5
+refusal_number DrawTooLarge = 6
+refusal_number DrawTwice = 7
 
 -- some pair of different places of a list passes
 abbrev pub any_pair : {A : Type 0} → (A → A → Bool) → List A → Bool

@@ -1,6 +1,6 @@
 ghost use Rattle.std.specs.Prelude.{◌≡◌, ◌==◌, ◌≤◌, length, map, nat_lt, false, Some, None, IfOk, IfErr};
 ghost use Rattle.std.specs.List.{list_any};
-ghost use Rattle.dali_events.specs.Plan.{Plan, any_pair, is_misordered, overlap, refusal_of, number_of, block_of};
+ghost use Rattle.dali_events.specs.Plan.{Plan, any_pair, is_misordered, overlap, refusal_of, refusal_number, block_of};
 
 use dali_frame::{Random24, Short};
 use dali_script::Block;
@@ -47,7 +47,7 @@ pub enum PlanError {
 impl PlanError {
     /// The refusal's number.
     pub fn number(self) -> u8
-        ensures { result ≡ number_of self }
+        ensures { result ≡ refusal_number self }
     {
         match self {
             PlanError::NoMemory => 1,

@@ -1,7 +1,7 @@
 ghost use Rattle.std.specs.Prelude.{◌≡◌, ◌<◌, true, Some};
 ghost use Rattle.std.specs.Fmt.{digit_glyph};
 ghost use Rattle.dali_frame.specs.Hex.{digit_of, byte_of, forward_of, random_of, forward_text, random_text};
-ghost use Rattle.dali_frame.specs.HexError.{number_of};
+ghost use Rattle.dali_frame.specs.HexError.{refusal_number};
 
 use crate::frames::Forward;
 use crate::numbers::Random24;
@@ -22,7 +22,7 @@ pub enum HexError {
 impl HexError {
     /// The refusal's number.
     pub fn number(self) -> u8
-        ensures { result ≡ number_of self }
+        ensures { result ≡ refusal_number self }
     {
         match self {
             HexError::NotFourDigits => 1,

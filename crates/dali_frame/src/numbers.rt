@@ -37,6 +37,7 @@ impl Short {
     ghost use Rattle.dali_frame.specs.Short.{code_of, short_of};
 
     /// The short address of this number; `None` from 64 on.
+    #[inline(always)]
     pub fn of(number: u8) -> Option<Short>
         ensures range { IsSome result ↔ (number < 64) }
         ensures value { IfSome result (λ a. a ≡ number) }
@@ -72,6 +73,7 @@ impl Short {
     }
 
     /// The number, 0 to 63.
+    #[inline(always)]
     pub fn number(self) -> u8
         ensures value { result ≡ self }
         ensures range { self < 64 }
@@ -131,6 +133,7 @@ impl Random24 {
     }
 
     /// The number, 0 to `FFFFFF`.
+    #[inline(always)]
     pub fn value(self) -> u32
         ensures value { result ≡ self }
         ensures range { self < 2 ^ 24 }
@@ -139,6 +142,7 @@ impl Random24 {
     }
 
     /// Bits 23 to 16.
+    #[inline(always)]
     pub fn high(self) -> u8
         ensures { result ≡ high_of self }
     {
@@ -147,6 +151,7 @@ impl Random24 {
     }
 
     /// Bits 15 to 8.
+    #[inline(always)]
     pub fn middle(self) -> u8
         ensures { result ≡ middle_of self }
     {
@@ -155,6 +160,7 @@ impl Random24 {
     }
 
     /// Bits 7 to 0.
+    #[inline(always)]
     pub fn low(self) -> u8
         ensures { result ≡ low_of self }
     {
@@ -163,6 +169,7 @@ impl Random24 {
     }
 
     /// The number of three bytes.
+    #[inline(always)]
     pub fn from_bytes(high: u8, middle: u8, low: u8) -> Random24
         ensures { result ≡ number_of high middle low }
     {

@@ -12,7 +12,7 @@ use Rattle.dali_gear.specs.declared.state.InitialisationState.TheVariants.{Disab
 use Rattle.dali_special.specs.Command.{is_send_twice}
 use Rattle.dali_gear.specs.declared.row.Reach.{Reach}
 use Rattle.dali_gear.specs.declared.row.Row.TheInside.{Inside}
-use Rattle.dali_gear.specs.Gear.{Gear, fresh, search_mask, would_draw, answer}
+use Rattle.dali_gear.specs.Gear.{Gear, fresh, search_mask, draws_a_number, answer}
 use Rattle.dali_gear.specs.Columns.{gear_in, all_gear, IsRow, IsUnpaired}
 use Rattle.dali_gear.proofs.Places.{places_set}
 use mir.Val.{bool_byte}
@@ -195,7 +195,7 @@ unpaired_set gs i g before none k = at (cases_eq k i) (cases_lt i (length gs))
 -- ---------------------------------------------------------------- a frame
 
 -- no gear draws at a command other than RANDOMISE
-no_draw : (c : Command) → (c ≡ Randomise → ⊥) → (g : Gear) → would_draw c g ≡ false
+no_draw : (c : Command) → (c ≡ Randomise → ⊥) → (g : Gear) → draws_a_number c g ≡ false
 no_draw Randomise other g = absurd (other refl)
 no_draw _ other g = refl
 
@@ -206,7 +206,7 @@ draws_none false draws none = refl
 pub needs_none : (reach : Reach) (c : Command) (k : ℕ) (gs : List Gear) → (c ≡ Randomise → ⊥) → draws_needed reach c k gs ≡ 0
 needs_none reach c k [] other = refl
 needs_none reach c k (g ∷ gs) other =
-    ap (λ n. n + draws_needed reach c (k + 1) gs) (draws_none (takes reach k g) (would_draw c g) (no_draw c other g))
+    ap (λ n. n + draws_needed reach c (k + 1) gs) (draws_none (takes reach k g) (draws_a_number c g) (no_draw c other g))
     ∙ zero-add (draws_needed reach c (k + 1) gs) ∙ needs_none reach c (k + 1) gs other
 
 -- what is left after gear that draws, or doesn't
@@ -235,7 +235,7 @@ pub record Turn (reach : Reach) (c : Command) (now before : List Gear) (n : ℕ)
   pub reached : Bool
   pub reaches_it : reached ≡ reaches reach n
   pub takes_it : new ≡ one_after ((old).powered && reached) c left (old)
-  pub draws_it : drew ≡ (((old).powered && reached) && would_draw c (old))
+  pub draws_it : drew ≡ (((old).powered && reached) && draws_a_number c (old))
 
 pub gear_more : (reach : Reach) (c : Command) (now before : List Gear) (n drawn : ℕ) (draws : List ℕ) (old new : Gear) (drew : Bool) (whole : List Gear)
     → Turn reach c now before n (drop drawn draws) old new drew

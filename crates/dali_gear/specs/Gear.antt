@@ -72,12 +72,12 @@ state_after Withdraw g = if is_enabled g.state && is_found g then Withdrawn else
 state_after _ g = g.state
 
 -- RANDOMISE draws a number
-abbrev pub would_draw : Command → Gear → Bool
-would_draw Randomise g = is_second Randomise g.half && is_active g.state
-would_draw _ g = false
+abbrev pub draws_a_number : Command → Gear → Bool
+draws_a_number Randomise g = is_second Randomise g.half && is_active g.state
+draws_a_number _ g = false
 
 abbrev pub random_after : Command → ℕ → Gear → ℕ
-random_after c draw g = if would_draw c g then draw else g.random
+random_after c draw g = if draws_a_number c g then draw else g.random
 
 abbrev pub search_after : Command → Gear → SearchAddress
 search_after (SearchHigh byte) g =
@@ -138,8 +138,8 @@ after_frame c draw g = if g.powered then gear_taken c draw g else g
 abbrev pub answer_to : Command → Gear → Option ℕ
 answer_to c g = if g.powered then answer c g else None
 
-abbrev pub draws : Command → Gear → Bool
-draws c g = g.powered && would_draw c g
+abbrev pub would_draw : Command → Gear → Bool
+would_draw c g = g.powered && draws_a_number c g
 
 -- The gear before any frame, and what befalls it without one.
 

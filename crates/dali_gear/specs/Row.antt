@@ -6,7 +6,7 @@ use Rattle.dali_special.specs.declared.command.Command.{Command}
 use Rattle.dali_gear.specs.declared.row.Reach.{Reach}
 use Rattle.dali_gear.specs.declared.row.Reach.TheVariants.{Everyone, Only}
 use Rattle.dali_special.specs.declared.command.Command.TheVariants.{Program}
-use Rattle.dali_gear.specs.Gear.{Gear, is_active, is_found, would_draw, gear_taken, answer}
+use Rattle.dali_gear.specs.Gear.{Gear, is_active, is_found, draws_a_number, gear_taken, answer}
 
 -- whether a frame reaches the gear of this number: in a set, gear k is the bit of value 2^k
 abbrev pub reaches : Reach → ℕ → Bool
@@ -36,13 +36,13 @@ abbrev pub row_after : Reach → Command → ℕ → List Gear → List ℕ → 
 row_after reach c k [] left = []
 row_after reach c k (g ∷ gs) left =
     one_after (takes reach k g) c left g
-    ∷ row_after reach c (k + 1) gs (left_after (takes reach k g && would_draw c g) left)
+    ∷ row_after reach c (k + 1) gs (left_after (takes reach k g && draws_a_number c g) left)
 
 -- how many numbers they draw
 abbrev pub draws_needed : Reach → Command → ℕ → List Gear → ℕ
 draws_needed reach c k [] = 0
 draws_needed reach c k (g ∷ gs) =
-    (if takes reach k g && would_draw c g then 1 else 0) + draws_needed reach c (k + 1) gs
+    (if takes reach k g && draws_a_number c g then 1 else 0) + draws_needed reach c (k + 1) gs
 
 -- the backward frames that they answer
 abbrev pub option_cons : Option ℕ → List ℕ → List ℕ
@@ -76,14 +76,14 @@ drawn_one true k (draw ∷ left) more = (k, draw) ∷ more
 abbrev pub drawn_of : Reach → Command → ℕ → List Gear → List ℕ → List (ℕ × ℕ)
 drawn_of reach c k [] left = []
 drawn_of reach c k (g ∷ gs) left =
-    drawn_one (takes reach k g && would_draw c g) k left
-    (drawn_of reach c (k + 1) gs (left_after (takes reach k g && would_draw c g) left))
+    drawn_one (takes reach k g && draws_a_number c g) k left
+    (drawn_of reach c (k + 1) gs (left_after (takes reach k g && draws_a_number c g) left))
 
 -- the numbers that are left then
 abbrev pub row_left : Reach → Command → ℕ → List Gear → List ℕ → List ℕ
 row_left reach c k [] left = left
 row_left reach c k (g ∷ gs) left =
-    row_left reach c (k + 1) gs (left_after (takes reach k g && would_draw c g) left)
+    row_left reach c (k + 1) gs (left_after (takes reach k g && draws_a_number c g) left)
 
 -- the short address that a powered gear stores at a command: PROGRAM SHORT ADDRESS may also erase,
 -- which stores none

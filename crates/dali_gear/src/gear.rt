@@ -67,10 +67,10 @@ impl Model for Gear {
 
 impl Gear {
     ghost use Rattle.dali_special.specs.Command.{command_of};
-    ghost use Rattle.dali_gear.specs.Gear.{after_frame, answer_to, draws, fresh, without_power, with_power};
+    ghost use Rattle.dali_gear.specs.Gear.{after_frame, answer_to, would_draw, fresh, without_power, with_power};
     ghost use Rattle.dali_gear.specs.Gear.{gear_expired, gear_quieted, is_active, is_found, answer, byte_at};
     ghost use Rattle.dali_gear.specs.Gear.{gear_taken, state_after, random_after, search_after, short_after};
-    ghost use Rattle.dali_gear.specs.Gear.{half_after, concerns, is_second, would_draw};
+    ghost use Rattle.dali_gear.specs.Gear.{half_after, concerns, is_second, draws_a_number};
 
     /// A gear from the factory: powered, DISABLED, without short address and with random address `FFFFFF`.
     pub fn new() -> Gear
@@ -89,10 +89,10 @@ impl Gear {
     /// Takes a forward frame. `draw` is the number that it draws if the frame makes it draw one: then it must be below
     /// `FFFFFF` (`would_draw` tells beforehand), else any number will do. A gear without power takes nothing.
     pub fn take(&mut self, frame: Forward, draw: Random24) -> Effect
-        requires { IsTrue (draws (command_of frame) self.old) → draw < MASK24 }
+        requires { IsTrue (would_draw (command_of frame) self.old) → draw < MASK24 }
         ensures gear { self.new ≡ after_frame (command_of frame) draw self.old }
         ensures answer { result.answer ≡ answer_to (command_of frame) self.old }
-        ensures drew { result.drew ≡ draws (command_of frame) self.old }
+        ensures drew { result.drew ≡ would_draw (command_of frame) self.old }
     {
         if !self.powered {
             return Effect {
@@ -102,29 +102,29 @@ impl Gear {
         }
         let command = Command::read(frame);
         let answer = self.answer(&command);
-        let drew = self.draws(&command);
+        let drew = self.draws_a_number(&command);
         *self = self.after(&command, draw);
         Effect { answer, drew }
     }
 
     /// Whether the gear would draw a number if it took this frame now.
     pub fn would_draw(&self, frame: &Forward) -> bool
-        ensures { result ≡ draws (command_of frame.now) self.now }
+        ensures { result ≡ would_draw (command_of frame.now) self.now }
     {
         self.would_draw_at(&Command::read(*frame))
     }
 
     /// As `would_draw`, with the command of the frame.
     pub(crate) fn would_draw_at(&self, command: &Command) -> bool
-        ensures { result ≡ draws command.now self.now }
+        ensures { result ≡ would_draw command.now self.now }
     {
-        self.powered && self.draws(command)
+        self.powered && self.draws_a_number(command)
     }
 
     /// Whether a command would make it draw, without regard to power.
     #[inline(always)]
-    pub(crate) fn draws(&self, command: &Command) -> bool
-        ensures { result ≡ would_draw command.now self.now }
+    pub(crate) fn draws_a_number(&self, command: &Command) -> bool
+        ensures { result ≡ draws_a_number command.now self.now }
     {
         *command == Command::Randomise && self.is_second(command) && self.is_active()
     }
@@ -270,7 +270,7 @@ impl Gear {
     fn random_after(&self, command: &Command, draw: Random24) -> Random24
         ensures { result ≡ random_after command.now draw self.now }
     {
-        if self.draws(command) {
+        if self.draws_a_number(command) {
             draw
         } else {
             self.random

@@ -82,7 +82,8 @@ impl Model for Row {
 impl Row {
     ghost use Rattle.dali_frame.specs.Random.{MASK24};
     ghost use Rattle.dali_special.specs.declared.command.Command.TheVariants.{Randomise};
-    ghost use Rattle.dali_gear.specs.Gear.{would_draw, answer, without_power, with_power, gear_expired, gear_quieted};
+    ghost use Rattle.dali_gear.specs.Gear.{draws_a_number, answer, without_power, with_power};
+    ghost use Rattle.dali_gear.specs.Gear.{gear_expired, gear_quieted};
     ghost use Rattle.dali_gear.specs.Row.{row_after, answers_of, heard_of, draws_needed};
     ghost use Rattle.dali_gear.specs.Columns.{IsUnpaired};
     ghost use Rattle.dali_special.specs.Command.{is_send_twice};
@@ -426,7 +427,7 @@ impl Row {
         requires there { number < length self.old }
         requires unpaired { paired ≡ false → (slice_index_or self.old number fresh).half ≡ None }
         requires enough { IsTrue (((slice_index_or self.old number fresh).powered && reached)
-            && would_draw command.now (slice_index_or self.old number fresh)) → 0 < length draws.now }
+            && draws_a_number command.now (slice_index_or self.old number fresh)) → 0 < length draws.now }
         requires below_mask { All (λ r. r < MASK24) draws.now }
         ensures gear { self.new ≡ slice_set self.old number
             (one_after ((slice_index_or self.old number fresh).powered && reached) command.now draws.now
@@ -434,7 +435,7 @@ impl Row {
         ensures answer { result.answer ≡ (if (slice_index_or self.old number fresh).powered && reached
             then answer command.now (slice_index_or self.old number fresh) else None) }
         ensures drew { result.drew ≡ (((slice_index_or self.old number fresh).powered && reached)
-            && would_draw command.now (slice_index_or self.old number fresh)) }
+            && draws_a_number command.now (slice_index_or self.old number fresh)) }
     {
         let gear = self.gear(number);
         let taken = gear.powered && reached;
@@ -447,7 +448,7 @@ impl Row {
         let answer = gear.answer(command);
         Effect {
             answer: if taken { answer } else { None },
-            drew: taken && gear.draws(command),
+            drew: taken && gear.draws_a_number(command),
         }
     }
 }

@@ -5,7 +5,7 @@ use Rattle.dali_script.specs.declared.block.Block.{Block}
 use Rattle.dali_script.specs.declared.records.Record.{Record}
 use Rattle.dali_script.specs.declared.records.Record.TheVariants.{Reserve, Enrol, Release}
 use Rattle.dali_script.specs.Records.{Kept, Assignment, Has, HasAddress, IsKept, with_record, without_records}
-use Rattle.dali_script.proofs.Lists.{has_at, has_map, pairs_decide, without_has}
+use Rattle.dali_script.proofs.Lists.{has_map, next_there, without_has}
 use Rattle.dali_script.proofs.Members.{same_member}
 use Rattle.dali_reserve.specs.Store.{replay_of, IsReplay}
 use Rattle.dali_line.specs.Leaves.{IsThere, IsStored, Stores}
@@ -13,10 +13,9 @@ use Rattle.dali_line.specs.Leaves.{IsThere, IsStored, Stores}
 -- A RECORD THAT THE RECORDS OF A STORE SHOW STANDS IN ITS LIST.
 
 -- a pair that was compared with the wanted one
-pub has_pair : (xs : List Assignment) (i : ℕ) (x y : Assignment) → i < length xs → x ≡ slice_index_or xs i x → (nat_eq x.0 y.0 && nat_eq x.1 y.1) ≡ true → Has xs y
-has_pair xs i x y within is same = subst (Has xs) ((pairs_decide x y).0 same) (subst (Has xs) (sym is) (has_at xs i x within))
+pub has_pair : (xs : List Assignment) (i : ℕ) (x y : Assignment) → i < length xs → x ≡ slice_index_or xs i x → x ≡ y → Has xs y
+has_pair xs i x y inside here same = subst (λ p. Has xs p) same (next_there xs i x inside here)
 
--- an address that is reserved for another number, or for none
 pub for_another : (k : Kept) (a r n : ℕ) → IsKept k → Has k.reserved (a, n) → (n ≡ r → ⊥) → Has k.reserved (a, r) → ⊥
 for_another k a r n kept has other same =
     other (ap (λ (p : Assignment). p.1) (same_member (λ (p : Assignment). p.0) k.reserved (a, n) (a, r) kept.reserved.address_once has same refl))

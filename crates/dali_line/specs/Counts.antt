@@ -3,7 +3,7 @@ use Rattle.std.specs.Prelude.{if◌then◌else◌}
 use Rattle.dali_events.specs.declared.event.Event.{Event}
 use Rattle.dali_events.specs.declared.event.Event.TheVariants as event
 use Rattle.dali_world.specs.Site.{SiteState, share_of}
-use Rattle.dali_line.specs.Shares.{Seat, seat, Tally}
+use Rattle.dali_line.specs.Shares.{PortShare, port_share, Tally}
 
 -- whether an event is no controller's step
 abbrev pub is_other : Event → Bool
@@ -26,10 +26,10 @@ counts_of log = record {
   driver = others_of log;
 }
 
--- the seats of a site: one for each controller, in order, each with its share of the log
-abbrev pub seat_in : SiteState → ℕ → Seat
-seat_in s c = seat c (share_of c s.log)
+-- the ports of a site: one for each controller, in order, each with its share of the log
+abbrev pub share_in : SiteState → ℕ → PortShare
+share_in s c = port_share c (share_of c s.log)
 
-abbrev pub seats_of : SiteState → List Seat
-seats_of s =
-    take (length s.plan.blocks) (seat_in s 0 ∷ seat_in s 1 ∷ seat_in s 2 ∷ seat_in s 3 ∷ [])
+abbrev pub shares_of : SiteState → List PortShare
+shares_of s =
+    take (length s.plan.blocks) (share_in s 0 ∷ share_in s 1 ∷ share_in s 2 ∷ share_in s 3 ∷ [])

@@ -6,7 +6,7 @@ use Rattle.dali_standing.specs.Seats.{due_of}
 use Rattle.dali_standing.specs.declared.trouble.Report.{Report}
 use Rattle.dali_standing.specs.declared.trouble.Report.TheVariants as report
 use Rattle.dali_world.specs.Site.{SiteState, world, share_of, next_request, IsSound, IsCrowded}
-use Rattle.dali_line.specs.Shares.{Seat}
+use Rattle.dali_line.specs.Shares.{PortShare}
 use Rattle.dali_line.specs.Counts.{others_of}
 use Rattle.dali_line.specs.declared.ready.Ready.{Ready}
 use Rattle.dali_line.specs.declared.ready.Ready.TheVariants as ready
@@ -18,9 +18,9 @@ pub record IsFound (s : SiteState) (count known : ℕ) : Type 0 where
   pub promise : KeepsPromise s.plan s.queue s.log
   pub share : count ≡ known
 
--- by the port of a seat, and by the driver
-abbrev pub IsFoundFrom : Seat → SiteState → Type 0
-IsFoundFrom seat s = IsFound s (share_of seat.controller s.log) seat.share
+-- by a port, and by the driver
+abbrev pub IsFoundFrom : PortShare → SiteState → Type 0
+IsFoundFrom port s = IsFound s (share_of port.controller s.log) port.share
 
 abbrev pub IsFoundByDriver : ℕ → SiteState → Type 0
 IsFoundByDriver share s = IsFound s (others_of s.log) share
@@ -31,8 +31,8 @@ events_in report.Idle = 0
 events_in _ = 1
 
 -- A CALL of a port, or of the driver, is one of a site found under the lock.
-abbrev pub FromSeat : Seat → (SiteState → Type 0) → Type 0
-FromSeat seat Answers = (s : SiteState) × IsFoundFrom seat s × Answers s
+abbrev pub FromPort : PortShare → (SiteState → Type 0) → Type 0
+FromPort port Answers = (s : SiteState) × IsFoundFrom port s × Answers s
 
 abbrev pub FromDriver : ℕ → (SiteState → Type 0) → Type 0
 FromDriver share Answers = (s : SiteState) × IsFoundByDriver share s × Answers s

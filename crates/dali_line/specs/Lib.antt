@@ -3,5 +3,5 @@ pub mod Commits
 pub mod Counts
 pub mod Found
 pub mod Leaves
-pub mod Seats
+pub mod Ports
 pub mod Shares

@@ -1,27 +1,27 @@
 use Rattle.std.specs.Prelude.{◌≡◌, ℕ, zero, suc, ◌+◌, ◌≤◌}
 
--- A SEAT at a line, as contracts see a port: the controller that it speaks for, and how many events
+-- A PORT, as contracts see it: the controller that it speaks for, and how many events
 -- of the line's log are steps of that controller, as far as its holder knows.
-pub record Seat : Type 0 where
+pub record PortShare : Type 0 where
   pub controller : ℕ
   pub share : ℕ
 
-abbrev pub seat : ℕ → ℕ → Seat
-seat c share = record { controller = c; share = share }
+abbrev pub port_share : ℕ → ℕ → PortShare
+port_share c share = record { controller = c; share = share }
 
 -- one step later
-abbrev pub raised_seat : Seat → Seat
-raised_seat s = seat s.controller (s.share + 1)
+abbrev pub raised_share : PortShare → PortShare
+raised_share s = port_share s.controller (s.share + 1)
 
--- a seat after at most so many steps
-pub record Follows (old new : Seat) (steps : ℕ) : Type 0 where
+-- a port after at most so many steps
+pub record Follows (old new : PortShare) (steps : ℕ) : Type 0 where
   pub controller : new.controller ≡ old.controller
   pub least : old.share ≤ new.share
   pub most : new.share ≤ old.share + steps
 
--- a spare seat: no controller has this number
-abbrev pub no_seat : Seat
-no_seat = seat 255 0
+-- a spare port: no controller has this number
+abbrev pub no_share : PortShare
+no_share = port_share 255 0
 
 -- THE TALLY of a line: how many events of its log are steps of the controllers 0 to 3, and how many
 -- are of nobody.

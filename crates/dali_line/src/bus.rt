@@ -1,5 +1,5 @@
 ghost use Rattle.std.specs.Prelude.{◌≡◌, ℕ, ◌+◌, IfOk, OnOk, OnErr};
-ghost use Rattle.dali_line.specs.Shares.{Seat, raised_seat};
+ghost use Rattle.dali_line.specs.Shares.{PortShare, raised_share};
 ghost use Rattle.dali_line.specs.Found.{events_in};
 
 use crate::driver::Driver;
@@ -16,7 +16,7 @@ use std::sync::ledger::Ledger;
 ///
 /// No call hands out a lock, so none is held from one call to the next.
 ///
-/// Contracts see a port by `seat`: the controller that it speaks for, and its share, how many events are steps of that
+/// Contracts see a port by `share`: the controller that it speaks for, and its share, how many events are steps of that
 /// controller. They see a driver by `driven`, its share: how many events are no controller's step.
 pub trait Bus {
     /// The right to act for one controller.
@@ -25,46 +25,46 @@ pub trait Bus {
     /// The right to drive the bus.
     type Driver;
 
-    ghost seat: { Self.Port → Seat };
+    ghost share: { Self.Port → PortShare };
 
     ghost driven: { Self.Driver → ℕ };
 
     /// The number of the port's controller; 255 where it speaks for nobody.
     fn controller(&self, port: &Self::Port) -> u8
-        ensures { result ≡ (seat port.now).controller };
+        ensures { result ≡ (share port.now).controller };
 
     /// The port's controller acts on an input.
     fn act<R: Wait>(&self, rt: &R, port: &mut Self::Port, input: Input) -> Result<Receipt, Refusal>
-        ensures accepted { OnOk result (seat port.new ≡ raised_seat (seat port.old)) }
-        ensures refused { OnErr result (seat port.new ≡ seat port.old) }
-        ensures receipt { IfOk result (λ r. (r.controller ≡ (seat port.old).controller) × (r.input ≡ input)
-            × (r.number ≡ (seat port.new).share)) };
+        ensures accepted { OnOk result (share port.new ≡ raised_share (share port.old)) }
+        ensures refused { OnErr result (share port.new ≡ share port.old) }
+        ensures receipt { IfOk result (λ r. (r.controller ≡ (share port.old).controller) × (r.input ≡ input)
+            × (r.number ≡ (share port.new).share)) };
 
     /// What the bus has told the port's controller, and it has not acted on; or Start.
     fn next<R: Wait>(&self, rt: &R, port: &mut Self::Port) -> Option<Input>
-        ensures { seat port.new ≡ seat port.old };
+        ensures { share port.new ≡ share port.old };
 
     /// What is due for the port's controller.
     fn due<R: Wait>(&self, rt: &R, port: &mut Self::Port) -> Due
-        ensures { seat port.new ≡ seat port.old };
+        ensures { share port.new ≡ share port.old };
 
     /// Waits until something is due for the port's controller (true); or all is stopped, or the controller is down
     /// (false).
     fn wait<R: Wait>(&self, rt: &R, port: &mut Self::Port) -> bool
-        ensures { seat port.new ≡ seat port.old };
+        ensures { share port.new ≡ share port.old };
 
     /// The port's holder begins the commit that is due, if one is: of the record that is answered. Until the controller
     /// was told what became of it, or `end_commit`, nobody brings the controller up.
     fn begin_commit<R: Wait>(&self, rt: &R, port: &mut Self::Port) -> Option<Record>
-        ensures { seat port.new ≡ seat port.old };
+        ensures { share port.new ≡ share port.old };
 
     /// The port's holder makes no commit any more, and has made one whose outcome it could not tell (true), or not.
     fn end_commit<R: Wait>(&self, rt: &R, port: &mut Self::Port, is_made: bool)
-        ensures { seat port.new ≡ seat port.old };
+        ensures { share port.new ≡ share port.old };
 
     /// Waits until a request more may wait, or the port's controller is down (true); or all is stopped (false).
     fn wait_for_room<R: Wait>(&self, rt: &R, port: &mut Self::Port) -> bool
-        ensures { seat port.new ≡ seat port.old };
+        ensures { share port.new ≡ share port.old };
 
     /// The request that is next comes on the bus; Idle where none is.
     fn pump<R: Wait>(
@@ -97,7 +97,7 @@ impl<P0: Ledger, P1: Ledger, P2: Ledger, P3: Ledger, D: Ledger> Bus for Line<P0,
 
     type Driver = Driver<P0, P1, P2, P3, D>;
 
-    ghost seat = { λ port. port };
+    ghost share = { λ port. port };
 
     ghost driven = { λ driver. driver };
 

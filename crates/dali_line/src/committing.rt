@@ -5,14 +5,14 @@ ghost use Rattle.dali_line.specs.Leaves.{IsThere, IsStored};
 
 use dali_frame::{Random24, Short};
 use dali_reserve::Keep;
-use dali_script::{Kept, Record};
+use dali_script::{Kept, Pair, Record};
 
 /// Whether a pair stands in a list.
-fn has(pairs: &[(Short, Random24)], wanted: (Short, Random24)) -> bool
+fn has(pairs: &[Pair], wanted: Pair) -> bool
     ensures { IsTrue result → Has pairs.now wanted }
 {
     for pair in pairs {
-        if *pair == wanted {
+        if pair.is(wanted) {
             return true;
         }
     }
@@ -24,7 +24,7 @@ fn has(pairs: &[(Short, Random24)], wanted: (Short, Random24)) -> bool
 fn is_free_of(kept: &Kept, address: Short, random: Random24) -> bool
     ensures { IsTrue result → Has kept.now.reserved (address, random) → ⊥ }
 {
-    match kept.random_reserved(address) {
+    match kept.reserved_at(address) {
         Some(reserved) => reserved != random,
         None => true,
     }
@@ -35,8 +35,8 @@ fn is_there(kept: &Kept, added: &Record) -> bool
     ensures { IsTrue result → IsThere kept.now added.now }
 {
     match *added {
-        Record::Reserve(address, random) => has(kept.reserved(), (address, random)),
-        Record::Enrol(address, random) => has(kept.enrolled(), (address, random)),
+        Record::Reserve(address, random) => has(kept.reserved(), Pair::of(address, random)),
+        Record::Enrol(address, random) => has(kept.enrolled(), Pair::of(address, random)),
         Record::Release(address, random) => is_free_of(kept, address, random),
     }
 }

@@ -4,9 +4,9 @@ ghost use Rattle.dali_script.specs.Due.{record_ordered};
 ghost use Rattle.dali_standing.specs.Seats.{due_of};
 ghost use Rattle.dali_events.specs.Promise.{KeepsPromise};
 ghost use Rattle.dali_world.specs.Site.{SiteState, world, Acts, share_of, IsSound};
-ghost use Rattle.dali_line.specs.Counts.{seats_of, counts_of, others_of};
-ghost use Rattle.dali_line.specs.Shares.{raised_seat, seat, total_of};
-ghost use Rattle.dali_line.specs.Found.{FromSeat, FromDriver, HasDue, MayOffer, IsReady, events_in};
+ghost use Rattle.dali_line.specs.Counts.{shares_of, counts_of, others_of};
+ghost use Rattle.dali_line.specs.Shares.{raised_share, port_share, total_of};
+ghost use Rattle.dali_line.specs.Found.{FromPort, FromDriver, HasDue, MayOffer, IsReady, events_in};
 ghost use Rattle.dali_line.specs.Calls.{Offers, PumpsOnce, Lapses, FallsQuiet, Powers, Expires, GoesDown, ComesUp};
 
 use crate::count::{others, steps};
@@ -30,7 +30,7 @@ use std::sync::{Condvar, Mutex, Wait};
 /// `next`, `due`, `wait`, `begin_commit`, `end_commit` and `wait_for_room` want its port, and all others the driver;
 /// `stop` and `is_stopped` are anybody's.
 ///
-/// Each call says of its answer: there is a site (`FromSeat`, `FromDriver` in `specs/Found`) whose promise holds, whose
+/// Each call says of its answer: there is a site (`FromPort`, `FromDriver` in `specs/Found`) whose promise holds, whose
 /// log has as many of the caller's events as the caller's share says, and which answers so. An accepted call raises
 /// that share by one, a refused one leaves it.
 ///
@@ -63,7 +63,7 @@ impl<P0: Ledger, P1: Ledger, P2: Ledger, P3: Ledger, D: Ledger> Line<P0, P1, P2,
         requires third { (third.name ≡ P2.name) × (third.parts ≡ P2.parts) × (0 < P2.parts) }
         requires fourth { (fourth.name ≡ P3.name) × (fourth.parts ≡ P3.parts) × (0 < P3.parts) }
         requires driver { (driver.name ≡ D.name) × (driver.parts ≡ D.parts) × (0 < D.parts) }
-        ensures ports { result.1.items ≡ seats_of site }
+        ensures ports { result.1.items ≡ shares_of site }
         ensures driver { result.2 ≡ others_of site.log }
         ensures promise { KeepsPromise site.plan site.queue site.log }
         ensures sound { IsSound site }
@@ -97,7 +97,7 @@ impl<P0: Ledger, P1: Ledger, P2: Ledger, P3: Ledger, D: Ledger> Line<P0, P1, P2,
         ports: ArrayVec<Port<P0, P1, P2, P3, D>, 4>,
         driver: Driver<P0, P1, P2, P3, D>,
     ) -> SiteState
-        ensures ports { All (λ seat. share_of seat.controller result.log ≡ seat.share) ports.items }
+        ensures ports { All (λ one. share_of one.controller result.log ≡ one.share) ports.items }
         ensures driver { others_of result.log ≡ driver }
         ensures whole { total_of (counts_of result.log) ≡ length result.log }
         ensures promise { KeepsPromise result.plan result.queue result.log }
@@ -117,9 +117,9 @@ impl<P0: Ledger, P1: Ledger, P2: Ledger, P3: Ledger, D: Ledger> Line<P0, P1, P2,
         port: &mut Port<P0, P1, P2, P3, D>,
         input: Input,
     ) -> Result<Receipt, Refusal>
-        ensures answer { FromSeat port.old
+        ensures answer { FromPort port.old
             (λ s. (new : SiteState) × Acts s port.old.controller input result new) }
-        ensures accepted { OnOk result (port.new ≡ raised_seat port.old) }
+        ensures accepted { OnOk result (port.new ≡ raised_share port.old) }
         ensures refused { OnErr result (port.new ≡ port.old) }
         ensures receipt { IfOk result (λ r. (r.controller ≡ port.old.controller) × (r.input ≡ input)
             × (r.number ≡ port.new.share)) }
@@ -138,9 +138,9 @@ impl<P0: Ledger, P1: Ledger, P2: Ledger, P3: Ledger, D: Ledger> Line<P0, P1, P2,
         port: &mut Port<P0, P1, P2, P3, D>,
         frame: Forward,
     ) -> Result<(), Refusal>
-        ensures answer { FromSeat port.old
+        ensures answer { FromPort port.old
             (λ s. (new : SiteState) × Offers s port.old.controller frame result new) }
-        ensures accepted { OnOk result (port.new ≡ raised_seat port.old) }
+        ensures accepted { OnOk result (port.new ≡ raised_share port.old) }
         ensures refused { OnErr result (port.new ≡ port.old) }
     {
         let answer = self.locked.lock(rt).arc(port, frame);
@@ -151,7 +151,7 @@ impl<P0: Ledger, P1: Ledger, P2: Ledger, P3: Ledger, D: Ledger> Line<P0, P1, P2,
     /// What the bus has told the port's controller, and it has not acted on, as `SiteState::next` says; None of a spare
     /// port.
     pub fn next<R: Wait>(&self, rt: &R, port: &mut Port<P0, P1, P2, P3, D>) -> Option<Input>
-        ensures answer { FromSeat port.old
+        ensures answer { FromPort port.old
             (λ s. result ≡ (controller_at (world s) port.old.controller).told) }
         ensures same { port.new ≡ port.old }
     {
@@ -160,7 +160,7 @@ impl<P0: Ledger, P1: Ledger, P2: Ledger, P3: Ledger, D: Ledger> Line<P0, P1, P2,
 
     /// What is due for the port's controller, as `SiteState::due` says; Nothing for a spare port.
     pub fn due<R: Wait>(&self, rt: &R, port: &mut Port<P0, P1, P2, P3, D>) -> Due
-        ensures answer { FromSeat port.old
+        ensures answer { FromPort port.old
             (λ s. result ≡ due_of (controller_at (world s) port.old.controller)) }
         ensures same { port.new ≡ port.old }
     {
@@ -173,7 +173,7 @@ impl<P0: Ledger, P1: Ledger, P2: Ledger, P3: Ledger, D: Ledger> Line<P0, P1, P2,
     /// Something is due where `next` says something, or where `due` is Store. It may wait forever, as with a port whose
     /// controller has ended.
     pub fn wait<R: Wait>(&self, rt: &R, port: &mut Port<P0, P1, P2, P3, D>) -> bool
-        ensures due { IsTrue result → FromSeat port.old (λ s. HasDue s port.old.controller) }
+        ensures due { IsTrue result → FromPort port.old (λ s. HasDue s port.old.controller) }
         ensures same { port.new ≡ port.old }
     {
         let controller = port.controller();
@@ -194,7 +194,7 @@ impl<P0: Ledger, P1: Ledger, P2: Ledger, P3: Ledger, D: Ledger> Line<P0, P1, P2,
         rt: &R,
         port: &mut Port<P0, P1, P2, P3, D>,
     ) -> Option<Record>
-        ensures answer { FromSeat port.old
+        ensures answer { FromPort port.old
             (λ s. result ≡ record_ordered (controller_at (world s) port.old.controller).last) }
         ensures same { port.new ≡ port.old }
     {
@@ -214,7 +214,7 @@ impl<P0: Ledger, P1: Ledger, P2: Ledger, P3: Ledger, D: Ledger> Line<P0, P1, P2,
     /// Waits until the port's controller is not refused for want of room: until a request more may wait, or the
     /// controller is down (true); or until the line is stopped (false).
     pub fn wait_for_room<R: Wait>(&self, rt: &R, port: &mut Port<P0, P1, P2, P3, D>) -> bool
-        ensures room { IsTrue result → FromSeat port.old (λ s. MayOffer s port.old.controller) }
+        ensures room { IsTrue result → FromPort port.old (λ s. MayOffer s port.old.controller) }
         ensures same { port.new ≡ port.old }
     {
         let controller = port.controller();
@@ -389,7 +389,8 @@ fn ports<P0: Ledger, P1: Ledger, P2: Ledger, P3: Ledger, D: Ledger>(
     fourth: Own<P3>,
 ) -> ArrayVec<Port<P0, P1, P2, P3, D>, 4>
     requires { count ≤ 4 }
-    ensures { result.items ≡ take count (seat 0 first ∷ seat 1 second ∷ seat 2 third ∷ seat 3 fourth ∷ []) }
+    ensures { result.items ≡ take count
+        (port_share 0 first ∷ port_share 1 second ∷ port_share 2 third ∷ port_share 3 fourth ∷ []) }
 {
     let mut ports = ArrayVec::new();
     if count == 0 {

@@ -33,7 +33,7 @@ pub(crate) struct Locked<P0: Ledger, P1: Ledger, P2: Ledger, P3: Ledger, D: Ledg
 
 impl<P0: Ledger, P1: Ledger, P2: Ledger, P3: Ledger, D: Ledger> Locked<P0, P1, P2, P3, D> {
     ghost use Rattle.dali_world.specs.Site.{Acts, world, share_of, IsSound};
-    ghost use Rattle.dali_line.specs.Shares.{raised_seat, total_of};
+    ghost use Rattle.dali_line.specs.Shares.{raised_share, total_of};
     ghost use Rattle.dali_line.specs.Found.{IsFoundFrom, IsFoundByDriver, HasDue, MayOffer, IsReady, events_in};
     ghost use Rattle.dali_line.specs.Commits.{state_of, MayComeUp};
     ghost use Rattle.dali_line.specs.declared.up_refusal.UpRefusal.TheVariants.{CommitOpen};
@@ -74,7 +74,7 @@ impl<P0: Ledger, P1: Ledger, P2: Ledger, P3: Ledger, D: Ledger> Locked<P0, P1, P
     ) -> Result<Receipt, Refusal>
         ensures found { IsFoundFrom port.old self.old.site }
         ensures answer { Acts self.old.site port.old.controller input result self.new.site }
-        ensures accepted { OnOk result (port.new ≡ raised_seat port.old) }
+        ensures accepted { OnOk result (port.new ≡ raised_share port.old) }
         ensures refused { OnErr result (port.new ≡ port.old) }
         ensures receipt { IfOk result (λ r. (r.controller ≡ port.old.controller) × (r.input ≡ input)
             × (r.number ≡ port.new.share)) }
@@ -99,7 +99,7 @@ impl<P0: Ledger, P1: Ledger, P2: Ledger, P3: Ledger, D: Ledger> Locked<P0, P1, P
     ) -> Result<(), Refusal>
         ensures found { IsFoundFrom port.old self.old.site }
         ensures answer { Offers self.old.site port.old.controller frame result self.new.site }
-        ensures accepted { OnOk result (port.new ≡ raised_seat port.old) }
+        ensures accepted { OnOk result (port.new ≡ raised_share port.old) }
         ensures refused { OnErr result (port.new ≡ port.old) }
         ensures commits { self.new.commits ≡ self.old.commits }
     {
@@ -518,7 +518,7 @@ impl<P0: Ledger, P1: Ledger, P2: Ledger, P3: Ledger, D: Ledger> Locked<P0, P1, P
         driver: Driver<P0, P1, P2, P3, D>,
     ) -> SiteState
         ensures site { result ≡ self.site }
-        ensures ports { All (λ seat. share_of seat.controller result.log ≡ seat.share) ports.items }
+        ensures ports { All (λ one. share_of one.controller result.log ≡ one.share) ports.items }
         ensures driver { others_of result.log ≡ driver }
         ensures whole { total_of (counts_of result.log) ≡ length result.log }
         ensures promise { KeepsPromise result.plan result.queue result.log }

@@ -1,5 +1,5 @@
 ghost use Rattle.std.specs.Prelude.{◌≡◌};
-ghost use Rattle.dali_line.specs.Shares.{no_seat};
+ghost use Rattle.dali_line.specs.Shares.{no_share};
 
 use crate::own::Own;
 use std::marker::{Model, PhantomData};
@@ -20,7 +20,7 @@ pub(crate) enum Kind<P0: Ledger, P1: Ledger, P2: Ledger, P3: Ledger> {
 /// `Line::new` gives one for each controller. It cannot be copied, so whoever has it knows what its controller did. A
 /// spare one, as `default` gives, speaks for nobody: its number is 255, and each call with it is UnknownController.
 ///
-/// Contracts see its seat: the controller's number, and its share, how many events of the line's log are its steps.
+/// Contracts see its share: the controller's number, and how many events of the line's log are its steps.
 #[derive(Drop)]
 pub struct Port<P0: Ledger, P1: Ledger, P2: Ledger, P3: Ledger, D: Ledger> {
     pub(crate) kind: Kind<P0, P1, P2, P3>,
@@ -28,20 +28,20 @@ pub struct Port<P0: Ledger, P1: Ledger, P2: Ledger, P3: Ledger, D: Ledger> {
 }
 
 impl<P0: Ledger, P1: Ledger, P2: Ledger, P3: Ledger, D: Ledger> Model for Port<P0, P1, P2, P3, D> {
-    ghost use Rattle.dali_line.specs.Shares.{Seat};
+    ghost use Rattle.dali_line.specs.Shares.{PortShare};
 
-    ghost Value = { Seat };
+    ghost Value = { PortShare };
 
-    ghost use Rattle.dali_line.specs.Seats.{seat_of};
+    ghost use Rattle.dali_line.specs.Ports.{port_share_of};
 
-    ghost view = { λ p. seat_of p.kind };
+    ghost view = { λ p. port_share_of p.kind };
 }
 
 impl<P0: Ledger, P1: Ledger, P2: Ledger, P3: Ledger, D: Ledger> Port<P0, P1, P2, P3, D> {
-    ghost use Rattle.dali_line.specs.Seats.{seat_of};
+    ghost use Rattle.dali_line.specs.Ports.{port_share_of};
 
     pub(crate) fn of(kind: Kind<P0, P1, P2, P3>) -> Port<P0, P1, P2, P3, D>
-        ensures { result ≡ seat_of kind }
+        ensures { result ≡ port_share_of kind }
     {
         Port {
             kind,
@@ -66,7 +66,7 @@ impl<P0: Ledger, P1: Ledger, P2: Ledger, P3: Ledger, D: Ledger> Port<P0, P1, P2,
 /// A spare port.
 impl<P0: Ledger, P1: Ledger, P2: Ledger, P3: Ledger, D: Ledger> Default
     for Port<P0, P1, P2, P3, D> {
-    ghost is_default = { λ p. p ≡ no_seat };
+    ghost is_default = { λ p. p ≡ no_share };
 
     fn default() -> Port<P0, P1, P2, P3, D> {
         Port::of(Kind::Spare)

@@ -1,6 +1,7 @@
 ghost use Rattle.std.specs.Prelude.{◌≡◌, [], ◌∷◌, IfOk, IfErr, IfSome, IfNone, IsSomeAnd};
-ghost use Rattle.dali_enrol.specs.declared.error.TableError.TheVariants.{NoMemory};
-ghost use Rattle.dali_enrol.specs.Directory.{Keeps, entry};
+ghost use Rattle.dali_script.specs.declared.table.TableError.TheVariants.{NoMemory};
+ghost use Rattle.dali_enrol.specs.Directory.{Keeps};
+ghost use Rattle.dali_script.specs.Table.{entry};
 ghost use Rattle.dali_line.specs.Leaves.{Learns};
 
 use dali_enrol::{Directory, Enrolled, Pass, Table, TableError};

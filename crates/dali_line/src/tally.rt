@@ -1,5 +1,5 @@
 ghost use Rattle.std.specs.Prelude.{◌≡◌, ◌+◌, ◌<◌};
-ghost use Rattle.dali_line.specs.Shares.{count_at, raised, raised_seat, raised_driver};
+ghost use Rattle.dali_line.specs.Shares.{count_at, raised, raised_share, raised_driver};
 
 use crate::driver::Driver;
 use crate::port::{Kind, Port};
@@ -37,7 +37,7 @@ impl<P0: Ledger, P1: Ledger, P2: Ledger, P3: Ledger, D: Ledger> Tally<P0, P1, P2
     pub(crate) fn raise(&mut self, port: &mut Port<P0, P1, P2, P3, D>)
         requires { port.old.controller < 4 }
         ensures tally { self.new ≡ raised self.old port.old.controller }
-        ensures port { port.new ≡ raised_seat port.old }
+        ensures port { port.new ≡ raised_share port.old }
     {
         match &mut port.kind {
             Kind::First(own) => own.raise(&mut self.first),

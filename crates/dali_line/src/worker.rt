@@ -64,7 +64,7 @@ impl<P, K: Keep, G: Gate> Worker<P, K, G> {
         turns: u32,
     ) -> (Outcome, P, K, Pass)
         requires { pass.places ≡ directory.now }
-        ensures port { Follows (B.seat self.port) (B.seat result.1) turns }
+        ensures port { Follows (B.share self.port) (B.share result.1) turns }
         ensures keep { Leaves K.is_up K.is_sound K.holds self.keep result.2 }
         ensures pass { result.3.places ≡ directory.now }
         ensures known { Keeps pass result.3 }
@@ -108,7 +108,7 @@ fn act_on<B: Bus, R: Wait>(
     port: &mut B::Port,
     input: Input,
 ) -> Result<Receipt, Refusal>
-    ensures { Follows (B.seat port.old) (B.seat port.new) 1 }
+    ensures { Follows (B.share port.old) (B.share port.new) 1 }
 {
     for _ in rt.forever() {
         match bus.act(rt, port, input) {
@@ -181,7 +181,7 @@ impl<P, K: Keep, G: Gate> Shift<P, K, G> {
     fn given<B: Bus<Port = P>, R: Wait>(&mut self, rt: &R, bus: &B) -> Option<Input>
         ensures keep { Leaves K.is_up K.is_sound K.holds self.old.keep self.new.keep }
         ensures stored { IfSome self.new.kept (Stores K.is_up K.is_sound K.holds K.block self.old.keep self.new.keep) }
-        ensures port { B.seat self.new.port ≡ B.seat self.old.port }
+        ensures port { B.share self.new.port ≡ B.share self.old.port }
     {
         self.kept = None;
         if let Some(input) = bus.next(rt, &mut self.port) {
@@ -209,7 +209,7 @@ impl<P, K: Keep, G: Gate> Shift<P, K, G> {
     ) -> Option<Outcome>
         requires { pass.old.places ≡ directory.now }
         ensures keep { Leaves K.is_up K.is_sound K.holds self.old.keep self.new.keep }
-        ensures port { Follows (B.seat self.old.port) (B.seat self.new.port) 1 }
+        ensures port { Follows (B.share self.old.port) (B.share self.new.port) 1 }
         ensures pass { pass.new.places ≡ pass.old.places }
         ensures known { Keeps pass.old pass.new }
         ensures posted { Posts K.is_up K.is_sound K.holds self.old.keep self.new.keep pass.old pass.new }

@@ -34,7 +34,7 @@ impl<B: Bus> DrivenBus<'_, B> {
 
     /// Whether nothing is due for the port's controller.
     fn has_nothing<R: Wait>(&self, rt: &R, port: &mut B::Port) -> bool
-        ensures { B.seat port.new ≡ B.seat port.old }
+        ensures { B.share port.new ≡ B.share port.old }
     {
         self.bus.next(rt, port).is_none() && self.bus.due(rt, port) == Due::Bus
     }
@@ -45,7 +45,7 @@ impl<B: Bus> Bus for DrivenBus<'_, B> {
 
     type Driver = B::Driver;
 
-    ghost seat = { λ port. B.seat port };
+    ghost share = { λ port. B.share port };
 
     ghost driven = { λ driver. B.driven driver };
 

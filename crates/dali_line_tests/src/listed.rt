@@ -57,7 +57,7 @@ impl<B: Bus> Bus for ListedBus<'_, B> {
 
     type Driver = Listed<B::Driver>;
 
-    ghost seat = { λ port. B.seat port.inner };
+    ghost share = { λ port. B.share port.inner };
 
     ghost driven = { λ driver. B.driven driver.inner };
 

@@ -4,7 +4,8 @@ ghost use Rattle.std.specs.Prelude.{◌≡◌, IfSome};
 
 use super::values::same;
 use dali_enrol::{Directory, Enrolled, Pass, Table};
-use dali_frame::{Random24, Short};
+use dali_frame::Short;
+use dali_script::Pair;
 use std::alloc::Global;
 use std::process::Abort;
 use std::sync::atomic::AtomicBool;
@@ -75,22 +76,19 @@ pub fn reads(alloc: Global, directory: &Directory, ended: &AtomicBool) -> Option
 }
 
 /// Two passes see an entry under its address.
-fn both_see<R: Abort>(
-    rt: &R,
-    directory: &Directory,
-    one: &mut Pass,
-    other: &mut Pass,
-    entry: (Short, Random24),
-)
+fn both_see<R: Abort>(rt: &R, directory: &Directory, one: &mut Pass, other: &mut Pass, entry: Pair)
     requires one { one.old.places ≡ directory.now }
     requires other { other.old.places ≡ directory.now }
     ensures one { one.new.places ≡ directory.now }
     ensures other { other.new.places ≡ directory.now }
 {
-    let wanted = Some(entry.1.value());
-    same(rt, &directory.look(one, entry.0).map(number_of), &wanted);
-    same(rt, &directory.look(other, entry.0).map(number_of), &wanted);
-    Directory::agree(one, other, entry.0);
+    let Some(address) = Short::of(entry.address()) else {
+        return;
+    };
+    let wanted = Some(entry.random().value());
+    same(rt, &directory.look(one, address).map(number_of), &wanted);
+    same(rt, &directory.look(other, address).map(number_of), &wanted);
+    Directory::agree(one, other, address);
 }
 
 /// Two passes see each entry of a table.

@@ -10,15 +10,15 @@ use Rattle.dali_replay.specs.declared.bench_line.BenchLine.{BenchLine}
 use Rattle.dali_replay.specs.declared.bench_line.BenchLine.TheVariants as line
 use Rattle.dali_replay.specs.Lines.{words_of}
 use Rattle.dali_replay.specs.BenchLine.{bench_line_of}
-use Rattle.dali_replay.specs.Bench.{World, start, after, is_enough}
+use Rattle.dali_replay.specs.Bench.{BenchState, start, after, is_enough}
 use Rattle.dali_replay.specs.Installation.{Installation, installation_of}
 use Rattle.dali_replay.specs.Replay.{NumberedLines, End, Setting, HavePlayed}
 
 -- WHAT COMES OF A LINE OF A BENCH: one event, unless the line is refused or only shows the gear.
-abbrev pub if_gear : World → ℕ → Event → Option Event
+abbrev pub if_gear : BenchState → ℕ → Event → Option Event
 if_gear w g e = if nat_lt g (length w.gear) then Some e else None
 
-abbrev pub bench_event : World → BenchLine → Option Event
+abbrev pub bench_event : BenchState → BenchLine → Option Event
 bench_event w (line.Frame f) =
     if is_enough w (command_of f)
     then Some (event.Sent 0 f (heard_of (answers_of Everyone (command_of f) 0 w.gear)))
@@ -34,7 +34,7 @@ with_event log (Some e) = log ++ e ∷ []
 with_event log None = log
 
 -- THE LOG OF A BENCH: the lines, one after the other, the world after them and what came of them.
-abbrev pub BenchRuns : World → NumberedLines → List Event → World → List Event → Type 0
+abbrev pub BenchRuns : BenchState → NumberedLines → List Event → BenchState → List Event → Type 0
 BenchRuns w [] log v more = (v ≡ w) × (more ≡ log)
 BenchRuns w (l ∷ ls) log v more =
     (asked : BenchLine) × (bench_line_of (words_of l.1) ≡ Some asked)
@@ -42,7 +42,7 @@ BenchRuns w (l ∷ ls) log v more =
 
 -- THE LOG OF A SCRIPT: that of the site that its lines lead to, or of the bench.
 abbrev pub IsLogOf : Bool → Plan → NumberedLines → List Event → Type 0
-IsLogOf true p lines log = (w : World) × BenchRuns (start p.gear p.draws) lines [] w log
+IsLogOf true p lines log = (w : BenchState) × BenchRuns (start p.gear p.draws) lines [] w log
 IsLogOf false p lines log =
     (m : Installation) × HavePlayed (installation_of p) lines [] m None None × (log ≡ m.site.log)
 

@@ -17,7 +17,7 @@ use Rattle.dali_script.specs.declared.orders.End.{End}
 use Rattle.dali_controller.specs.Machine.{Machine, machine_told}
 use Rattle.dali_controller.specs.Course.{turn_of, first_of}
 use Rattle.dali_controller.specs.Next.{next_course, course_by, BeginsWith}
-use Rattle.dali_controller.specs.Orders.{IsAllowed, IsAddressing, IsBegun, IsCaused, IsOrdered, IsFollowed, IsGiven, machine_after, closing}
+use Rattle.dali_controller.specs.Orders.{IsAllowed, IsAddressing, IsBegun, IsCaused, IsOrdered, IsFollowed, IsGiven, machine_after, running_close}
 
 -- ORDERS OF A MACHINE, by what a short history has at hand: the other way round from what is read
 -- from an order that was given.
@@ -84,7 +84,7 @@ none_some : {A : Type 0} (x : A) → None ≡ Some x → ⊥
 none_some x same = cc
 
 -- THE NEXT FRAME of the transaction that runs
-pub later_given : (m : Machine) (i : Input) (s : Stage) (x : Command) → (i ≡ input.CommitFailed → ⊥) → IsAt (machine_told m i) s → closing (machine_told m i) ≡ None
+pub later_given : (m : Machine) (i : Input) (s : Stage) (x : Command) → (i ≡ input.CommitFailed → ⊥) → IsAt (machine_told m i) s → running_close (machine_told m i) ≡ None
     → turn_of (machine_told m i).course.purpose (machine_told m i).course.number s ≡ Some x → ((machine_told m i).trace ≡ [] → ⊥)
     → Lawful (machine_told m i).kept.block (machine_told m i).kept.reserved (machine_told m i).trace (frame_of x) → ((g : Forward) → command_of (frame_of x) ≡ Arc g → ⊥) → IsGiven m i (Put LATER (frame_of x))
 later_given m i s x other at unclosed turn some lawful addressing =
@@ -107,7 +107,7 @@ first_given m i s x other at turn first caused lawful addressing =
     (followed (machine_told m i) s (Put FIRST (frame_of x)) at (λ c e. absurd (none_some c (sym turn ∙ e))))
 
 -- THE END of a close
-pub done_given : (m : Machine) (i : Input) (e : End) → (i ≡ input.CommitFailed → ⊥) → IsAt (machine_told m i) Terminated → closing (machine_told m i) ≡ Some e
+pub done_given : (m : Machine) (i : Input) (e : End) → (i ≡ input.CommitFailed → ⊥) → IsAt (machine_told m i) Terminated → running_close (machine_told m i) ≡ Some e
     → turn_of (machine_told m i).course.purpose (machine_told m i).course.number Terminated ≡ None → IsGiven m i (Done e)
 done_given m i e other at closes turn =
     given m i (Done e) other

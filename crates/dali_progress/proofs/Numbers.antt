@@ -10,7 +10,7 @@ use Rattle.dali_special.specs.declared.command.Target.TheVariants.{Unaddressed}
 use Rattle.dali_special.specs.Command.{command_of}
 use Rattle.dali_gear.specs.declared.row.Reach.{Reach}
 use Rattle.dali_gear.specs.declared.row.Reach.TheVariants.{Everyone}
-use Rattle.dali_gear.specs.Gear.{Gear, would_draw}
+use Rattle.dali_gear.specs.Gear.{Gear, draws_a_number}
 use Rattle.dali_gear.specs.Row.{takes, left_after, row_after, row_left, draws_needed}
 use Rattle.dali_gear.proofs.RowLemmas.{needs_none}
 use Rattle.dali_script.specs.Records.{Kept}
@@ -58,7 +58,7 @@ use Rattle.dali_progress.proofs.Bounded.{Runs, runs_on, world_logged, machines_l
 -- no more numbers than gear
 needs_few : (reach : Reach) (c : Command) (k : ℕ) (gs : List Gear) → draws_needed reach c k gs ≤ length gs
 needs_few reach c k [] = omega arith
-needs_few reach c k (g ∷ gs) = go (takes reach k g && would_draw c g) (draws_needed reach c (k + 1) gs) (needs_few reach c (k + 1) gs) where
+needs_few reach c k (g ∷ gs) = go (takes reach k g && draws_a_number c g) (draws_needed reach c (k + 1) gs) (needs_few reach c (k + 1) gs) where
   go : (b : Bool) (n : ℕ) → n ≤ length gs → (if b then 1 else 0) + n ≤ suc (length gs)
   go true n less = omega (arith, less)
   go false n less = omega (arith, less)
@@ -66,21 +66,21 @@ needs_few reach c k (g ∷ gs) = go (takes reach k g && would_draw c g) (draws_n
 -- and where none is drawn, all are left
 left_same : (reach : Reach) (c : Command) (k : ℕ) (gs : List Gear) (left : List ℕ) → draws_needed reach c k gs ≡ 0 → row_left reach c k gs left ≡ left
 left_same reach c k [] left none = refl
-left_same reach c k (g ∷ gs) left none = go (takes reach k g && would_draw c g) none (λ more. left_same reach c (k + 1) gs left more) where
+left_same reach c k (g ∷ gs) left none = go (takes reach k g && draws_a_number c g) none (λ more. left_same reach c (k + 1) gs left more) where
   go : (b : Bool) → (if b then 1 else 0) + draws_needed reach c (k + 1) gs ≡ 0 → (draws_needed reach c (k + 1) gs ≡ 0 → row_left reach c (k + 1) gs left ≡ left) → row_left reach c (k + 1) gs (left_after b left) ≡ left
   go true none same = absurd (omega (arith, none))
   go false none same = same (omega (arith, none))
 
 -- no gear draws at a first RANDOMISE
-one_first : (k : ℕ) (g : Gear) → (g.powered ≡ true → g.half ≡ None) → (takes Everyone k g && would_draw Randomise g) ≡ false
+one_first : (k : ℕ) (g : Gear) → (g.powered ≡ true → g.half ≡ None) → (takes Everyone k g && draws_a_number Randomise g) ≡ false
 one_first k g half = go (g.powered) refl where
-  go : (b : Bool) → g.powered ≡ b → (takes Everyone k g && would_draw Randomise g) ≡ false
+  go : (b : Bool) → g.powered ≡ b → (takes Everyone k g && draws_a_number Randomise g) ≡ false
   go true on = rw (on, half on) refl
   go false off = rw off refl
 
 none_first : (k : ℕ) (gs : List Gear) → AreOpening stage.Initialised gs → draws_needed Everyone Randomise k gs ≡ 0
 none_first k [] all = refl
-none_first k (g ∷ gs) all = sum (takes Everyone k g && would_draw Randomise g) (draws_needed Everyone Randomise (k + 1) gs) (one_first k g (λ on. (all 0 (omega arith) on).0))
+none_first k (g ∷ gs) all = sum (takes Everyone k g && draws_a_number Randomise g) (draws_needed Everyone Randomise (k + 1) gs) (one_first k g (λ on. (all 0 (omega arith) on).0))
     (none_first (k + 1) gs (λ j in_row on. all (suc j) (omega (arith, in_row)) on)) where
       sum : (b : Bool) (n : ℕ) → b ≡ false → n ≡ 0 → (if b then 1 else 0) + n ≡ 0
       sum true n first more = absurd (cc)

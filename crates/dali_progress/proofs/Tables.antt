@@ -9,7 +9,7 @@ use Rattle.dali_special.specs.declared.command.Command.{Command}
 use Rattle.dali_special.specs.declared.command.Command.TheVariants.{Terminate, Initialise, Randomise, Compare, Withdraw, SearchHigh, SearchMiddle, SearchLow, Program, QueryShort}
 use Rattle.dali_special.specs.declared.command.Target.TheVariants.{Unaddressed}
 use Rattle.dali_gear.specs.declared.row.Reach.TheVariants.{Everyone}
-use Rattle.dali_gear.specs.Gear.{Gear, is_active, would_draw, gear_taken}
+use Rattle.dali_gear.specs.Gear.{Gear, is_active, draws_a_number, gear_taken}
 use Rattle.dali_gear.specs.Row.{row_after}
 use Rattle.dali_script.specs.Records.{Assignment, Kept, Has}
 use Rattle.dali_script.specs.declared.stage.Stage.{Stage}
@@ -46,7 +46,7 @@ names_taken Randomise g x leaves = absurd leaves
 names_taken (Program short) g x leaves = absurd leaves
 names_taken _ g x leaves = λ a short. (short, refl)
 
-names_drawn : (g : Gear) (x : ℕ) → ((a : ℕ) → g.short ≡ Some a → would_draw Randomise g ≡ false) → KeepsName g (gear_taken Randomise x g)
+names_drawn : (g : Gear) (x : ℕ) → ((a : ℕ) → g.short ≡ Some a → draws_a_number Randomise g ≡ false) → KeepsName g (gear_taken Randomise x g)
 names_drawn g x still a short = (short, rw (still a short) refl)
 
 names_self : (g : Gear) → KeepsName g g
@@ -64,7 +64,7 @@ tabled_left before xs gs numbers c leaves tabled =
 
 -- RANDOMISE, where no gear with a short address draws
 abbrev StandsStill : Gear → Type 0
-StandsStill g = (a : ℕ) → g.short ≡ Some a → would_draw Randomise g ≡ false
+StandsStill g = (a : ℕ) → g.short ≡ Some a → draws_a_number Randomise g ≡ false
 
 tabled_drawn : (before : List Gear) (xs : List Assignment) (gs : List Gear) (numbers : List ℕ) → OfPowered gs StandsStill → AreTabled before xs gs → AreTabled before xs (row_after Everyone Randomise 0 gs numbers)
 tabled_drawn before xs gs numbers still tabled =

@@ -7,7 +7,7 @@ use Rattle.std.specs.Prelude.{nat_le, nat_lt, IsUtf8}
 use Rattle.std.specs.Result.{OkIff}
 use Rattle.std.specs.Str.{all_ascii_digits}
 use Rattle.std.specs.Str.Parse.{digits_value, ParsesUnsigned}
-use Rattle.dali_replay.specs.Numbers.{number_of, starts_plain}
+use Rattle.dali_replay.specs.Numbers.{number_in, starts_plain}
 
 own : IsNumeralModel (λ ds. all_ascii_digits ds ≡ true) (digits_value 10)
 own = numerals_by_value (λ ds. all_ascii_digits ds ≡ true) tells_all_ascii_digits
@@ -23,7 +23,7 @@ parses : {E : Type 0} (word : List ℕ) (r : Result ℕ E) → starts_plain word
     → OkIff r ((all_ascii_digits word ≡ true) × (0 < length word) × (digits_value 10 word < 2 ^ 32)) (digits_value 10 word)
 parses word r plain h = parse_plain own 32 word r h (no_plus word plain)
 
-pub number_some : (E : Type 0) (word : List ℕ) (n : ℕ) → starts_plain word ≡ true → ParsesUnsigned {E = E} 32 10 word (Ok n) → n ≤ 1000000 → Some n ≡ number_of word
+pub number_some : (E : Type 0) (word : List ℕ) (n : ℕ) → starts_plain word ≡ true → ParsesUnsigned {E = E} 32 10 word (Ok n) → n ≤ 1000000 → Some n ≡ number_in word
 number_some E word n plain h small =
     let is = parses {E = E} word (Ok n) plain h in
     let digits : all_ascii_digits word ≡ true = is.0.0 in
@@ -31,7 +31,7 @@ number_some E word n plain h small =
     let le : nat_le (digits_value 10 word) 1000000 ≡ true = grind (arith, nat_tests) in
     rw (plain, digits, le) (ap Some value)
 
-pub number_large : (E : Type 0) (word : List ℕ) (n : ℕ) → starts_plain word ≡ true → ParsesUnsigned {E = E} 32 10 word (Ok n) → 1000000 < n → None ≡ number_of word
+pub number_large : (E : Type 0) (word : List ℕ) (n : ℕ) → starts_plain word ≡ true → ParsesUnsigned {E = E} 32 10 word (Ok n) → 1000000 < n → None ≡ number_in word
 number_large E word n plain h large =
     let is = parses {E = E} word (Ok n) plain h in
     let digits : all_ascii_digits word ≡ true = is.0.0 in
@@ -43,9 +43,9 @@ nonempty : (word : List ℕ) → starts_plain word ≡ true → 0 < length word
 nonempty [] plain = cc
 nonempty (first ∷ more) plain = omega arith
 
-pub number_err : {E : Type 0} (word : List ℕ) (e : E) → starts_plain word ≡ true → ParsesUnsigned {E = E} 32 10 word (Err e) → None ≡ number_of word
+pub number_err : {E : Type 0} (word : List ℕ) (e : E) → starts_plain word ≡ true → ParsesUnsigned {E = E} 32 10 word (Err e) → None ≡ number_in word
 number_err {E = E} word e plain h = go (all_ascii_digits word) refl where
-  go : (b : Bool) → all_ascii_digits word ≡ b → None ≡ number_of word
+  go : (b : Bool) → all_ascii_digits word ≡ b → None ≡ number_in word
   go false digits = rw (plain, digits) refl
   go true digits =
       let some : 0 < length word = nonempty word plain in
@@ -59,8 +59,8 @@ number_err {E = E} word e plain h = go (all_ascii_digits word) refl where
           let lt : digits_value 10 word < 2 ^ 32 = grind (arith, nat_tests) in
           absurd (parses {E = E} word (Err e) plain h (digits', some, lt))
 
-pub number_no_text : (word : List ℕ) → starts_plain word ≡ true → (IsUtf8 word → ⊥) → None ≡ number_of word
+pub number_no_text : (word : List ℕ) → starts_plain word ≡ true → (IsUtf8 word → ⊥) → None ≡ number_in word
 number_no_text word plain h = go (all_ascii_digits word) refl where
-  go : (b : Bool) → all_ascii_digits word ≡ b → None ≡ number_of word
+  go : (b : Bool) → all_ascii_digits word ≡ b → None ≡ number_in word
   go false digits = rw (plain, digits) refl
   go true digits = absurd (h (IsUtf8-from_ascii word (IsAscii-from_digits word (own.to word digits))))

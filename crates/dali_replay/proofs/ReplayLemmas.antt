@@ -13,7 +13,7 @@ use Rattle.dali_replay.specs.declared.site_line.SiteLine.{SiteLine}
 use Rattle.dali_replay.specs.Lines.{words_of}
 use Rattle.dali_replay.specs.BenchLine.{bench_line_of}
 use Rattle.dali_replay.specs.SiteLine.{site_line_of}
-use Rattle.dali_replay.specs.Bench.{World, start, after}
+use Rattle.dali_replay.specs.Bench.{BenchState, start, after}
 use Rattle.dali_replay.specs.BenchReport.{report}
 use Rattle.dali_replay.specs.Installation.{Installation, installation_of}
 use Rattle.dali_replay.specs.SiteReport.{Says}
@@ -50,19 +50,19 @@ plays_more a b c text more (Err Read) first second = absurd second
 plays_more a b c text more (Err Write) first second = tt
 
 -- one line was played
-pub plays_line : (w : World) (lines rest : NumberedLines) (n : ℕ) (line : List ℕ) (asked : BenchLine) (a b c : Option (List ℕ)) (r : Result (Unit {0}) ReplayFault)
+pub plays_line : (w : BenchState) (lines rest : NumberedLines) (n : ℕ) (line : List ℕ) (asked : BenchLine) (a b c : Option (List ℕ)) (r : Result (Unit {0}) ReplayFault)
     → lines ≡ (n, line) ∷ rest → bench_line_of (words_of line) ≡ Some asked → Appends a b (report w asked)
     → Plays (played (after w asked) rest) b c r → Plays (played w lines) a c r
 plays_line w lines rest n line asked a b c r next reads wrote more =
     rw (next, reads) (plays_more a b c (report w asked) (played (after w asked) rest) r wrote more)
 
 -- the next line is a bad line
-pub plays_bad_line : (w : World) (lines rest : NumberedLines) (n : ℕ) (line : List ℕ) (a : Option (List ℕ))
+pub plays_bad_line : (w : BenchState) (lines rest : NumberedLines) (n : ℕ) (line : List ℕ) (a : Option (List ℕ))
     → lines ≡ (n, line) ∷ rest → bench_line_of (words_of line) ≡ None → Plays {A = Unit {0}} (played w lines) a a (Err (BadLine n))
 plays_bad_line w lines rest n line a next reads = rw (next, reads) (refl, appends_none a)
 
 -- no line is left
-pub plays_done : (w : World) (lines : NumberedLines) (a : Option (List ℕ)) → lines ≡ [] → Plays {A = Unit {0}} (played w lines) a a (Ok tt)
+pub plays_done : (w : BenchState) (lines : NumberedLines) (a : Option (List ℕ)) → lines ≡ [] → Plays {A = Unit {0}} (played w lines) a a (Ok tt)
 plays_done w lines a done = rw done (refl, appends_none a)
 
 -- memory ran out before the next text
@@ -146,7 +146,7 @@ replays_no_plan B a s Read not = absurd not
 replays_no_plan B a s Write not = absurd not
 
 -- what playing says, where the lines set up a bench or a site
-pub replays_bench : (a c : Option (List ℕ)) (s : Result (Setting × NumberedLines) End) (is_bench : Bool) (p : Plan) (lines : NumberedLines) (w : World) (r : Result (Unit {0}) ReplayFault)
+pub replays_bench : (a c : Option (List ℕ)) (s : Result (Setting × NumberedLines) End) (is_bench : Bool) (p : Plan) (lines : NumberedLines) (w : BenchState) (r : Result (Unit {0}) ReplayFault)
     → s ≡ Ok ((is_bench, p), lines) → is_bench ≡ true → w ≡ start p.gear p.draws → Plays (played w lines) a c r → Replays s a c r
 replays_bench a c s is_bench p lines w r is bench begun plays = rw (is, bench, ← begun) plays
 

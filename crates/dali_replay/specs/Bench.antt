@@ -10,36 +10,36 @@ use Rattle.dali_replay.specs.declared.bench_line.BenchLine.TheVariants.{Frame, O
 use Rattle.dali_replay.specs.declared.bench_line.BenchLine.TheVariants.{Quiet, Show}
 
 -- a bench: its gear, and the numbers that are left to be drawn
-pub record World : Type 0 where
+pub record BenchState : Type 0 where
   pub gear : List Gear
   pub left : List ℕ
 
 -- a bench as it is set up
-abbrev pub start : ℕ → List ℕ → World
+abbrev pub start : ℕ → List ℕ → BenchState
 start gear draws = record { gear = replicate gear fresh; left = draws }
 
 -- the numbers that a command would make the gear draw, and whether there are as many
-abbrev pub needed : World → Command → ℕ
+abbrev pub needed : BenchState → Command → ℕ
 needed w c = draws_needed Everyone c 0 w.gear
 
-abbrev pub is_enough : World → Command → Bool
+abbrev pub is_enough : BenchState → Command → Bool
 is_enough w c = nat_le (needed w c) (length w.left)
 
 -- all powered gear take the frame, in order of their number, unless too few numbers are left
-abbrev pub after_command : World → Command → World
+abbrev pub after_command : BenchState → Command → BenchState
 after_command w c =
     if is_enough w c
     then record { gear = row_after Everyone c 0 w.gear w.left; left = drop (needed w c) w.left }
     else w
 
 -- something befalls gear g, where there is one
-abbrev pub with_gear : World → ℕ → (Gear → Gear) → World
+abbrev pub with_gear : BenchState → ℕ → (Gear → Gear) → BenchState
 with_gear w g change =
     if nat_lt g (length w.gear)
     then record w { gear = slice_set w.gear g (change (slice_index_or w.gear g fresh)) }
     else w
 
-abbrev pub after : World → BenchLine → World
+abbrev pub after : BenchState → BenchLine → BenchState
 after w (Frame frame) = after_command w (command_of frame)
 after w (Off g) = with_gear w g without_power
 after w (On g) = with_gear w g with_power

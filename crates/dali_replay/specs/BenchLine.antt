@@ -5,7 +5,7 @@ use Rattle.dali_frame.specs.Hex.{forward_of}
 use Rattle.dali_replay.specs.declared.bench_line.BenchLine.{BenchLine}
 use Rattle.dali_replay.specs.declared.bench_line.BenchLine.TheVariants.{Frame, Off, On, Expire}
 use Rattle.dali_replay.specs.declared.bench_line.BenchLine.TheVariants.{Quiet, Show}
-use Rattle.dali_replay.specs.Numbers.{number_of}
+use Rattle.dali_replay.specs.Numbers.{number_in}
 
 -- the lines of one word
 abbrev pub alone_of : List ℕ → Option BenchLine
@@ -19,9 +19,9 @@ abbrev pub one_word_of : List ℕ → List ℕ → Option BenchLine
 one_word_of name word =
     if bytes_eq name (codes "frame")
     then option_map (λ frame. Frame frame) (result_ok (forward_of word))
-    else if bytes_eq name (codes "off") then option_map (λ g. Off g) (number_of word)
-    else if bytes_eq name (codes "on") then option_map (λ g. On g) (number_of word)
-    else if bytes_eq name (codes "expire") then option_map (λ g. Expire g) (number_of word)
+    else if bytes_eq name (codes "off") then option_map (λ g. Off g) (number_in word)
+    else if bytes_eq name (codes "on") then option_map (λ g. On g) (number_in word)
+    else if bytes_eq name (codes "expire") then option_map (λ g. Expire g) (number_in word)
     else None
 
 -- what a line of these words asks for on a bench

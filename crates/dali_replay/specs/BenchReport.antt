@@ -6,14 +6,14 @@ use Rattle.dali_standing.specs.declared.refusal.Refusal.TheVariants.{UnknownGear
 use Rattle.dali_replay.specs.declared.bench_line.BenchLine.{BenchLine}
 use Rattle.dali_replay.specs.declared.bench_line.BenchLine.TheVariants.{Frame, Off, On, Expire}
 use Rattle.dali_replay.specs.declared.bench_line.BenchLine.TheVariants.{Quiet, Show}
-use Rattle.dali_replay.specs.Bench.{World, is_enough}
+use Rattle.dali_replay.specs.Bench.{BenchState, is_enough}
 use Rattle.dali_replay.specs.Text.{heard_text, ok_text, gear_texts, refused_text}
 
-abbrev pub known_text : World → ℕ → List ℕ
+abbrev pub known_text : BenchState → ℕ → List ℕ
 known_text w g = if nat_lt g (length w.gear) then ok_text else refused_text UnknownGear
 
 -- What is reported of one line in a world.
-abbrev pub report : World → BenchLine → List ℕ
+abbrev pub report : BenchState → BenchLine → List ℕ
 report w (Frame frame) =
     if is_enough w (command_of frame)
     then heard_text frame (heard_of (answers_of Everyone (command_of frame) 0 w.gear))

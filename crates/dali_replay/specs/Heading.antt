@@ -1,7 +1,7 @@
 use Rattle.std.specs.Prelude.{ℕ, List, [], ◌∷◌, length, Bool, true, false, Option, Some, None}
 use Rattle.std.specs.Prelude.{bytes_eq, codes, nat_le, if◌then◌else◌, option_map, option_and_then}
 use Rattle.dali_replay.specs.declared.heading.Heading as code
-use Rattle.dali_replay.specs.Numbers.{number_of, randoms_of, blocks_of}
+use Rattle.dali_replay.specs.Numbers.{number_in, randoms_of, blocks_of}
 
 -- THE FIRST LINE: a bench of so many gear, or a site of so many gear and with a block for each
 -- controller. A bench is planned as a site of one controller, which does nothing.
@@ -22,7 +22,7 @@ site_heading gear blocks = record { is_bench = false; gear = gear; blocks = bloc
 
 -- `bench N`
 abbrev pub bench_of : List (List ℕ) → Option ℕ
-bench_of (name ∷ word ∷ []) = if bytes_eq name (codes "bench") then number_of word else None
+bench_of (name ∷ word ∷ []) = if bytes_eq name (codes "bench") then number_in word else None
 bench_of _ = None
 
 -- `site N BLOCK..`
@@ -31,7 +31,7 @@ site_from gear blocks = option_and_then (λ n. option_map (site_heading n) block
 
 abbrev pub site_of : List (List ℕ) → Option Heading
 site_of (name ∷ word ∷ words) =
-    if bytes_eq name (codes "site") then site_from (number_of word) (blocks_of words) else None
+    if bytes_eq name (codes "site") then site_from (number_in word) (blocks_of words) else None
 site_of _ = None
 
 abbrev pub or_site : Option ℕ → Option Heading → Option Heading

@@ -13,8 +13,8 @@ starts_plain (first ∷ []) = not (first == 43)
 starts_plain (first ∷ second ∷ more) = not (first == 43) && not (first == 48)
 
 -- a decimal number, at most 1,000,000
-abbrev pub number_of : List ℕ → Option ℕ
-number_of word =
+abbrev pub number_in : List ℕ → Option ℕ
+number_in word =
     if (starts_plain word && all_ascii_digits word) && nat_le (digits_value 10 word) 1000000
     then Some (digits_value 10 word)
     else None
@@ -24,7 +24,7 @@ abbrev pub within : ℕ → ℕ → Option ℕ
 within most n = if nat_le n most then Some n else None
 
 abbrev pub number_to : ℕ → List ℕ → Option ℕ
-number_to most word = option_and_then (within most) (number_of word)
+number_to most word = option_and_then (within most) (number_in word)
 
 -- a list of words, each of which is read so
 abbrev pub each_of : {A : Type 0} → (List ℕ → Option A) → List (List ℕ) → Option (List A)

@@ -12,7 +12,7 @@ use Rattle.dali_replay.specs.Lines.{lines_of, numbered_after, words_of}
 use Rattle.dali_replay.specs.Heading.{Heading, heading_of, draws_of}
 use Rattle.dali_replay.specs.BenchLine.{bench_line_of}
 use Rattle.dali_replay.specs.SiteLine.{site_line_of}
-use Rattle.dali_replay.specs.Bench.{World, start, after}
+use Rattle.dali_replay.specs.Bench.{BenchState, start, after}
 use Rattle.dali_replay.specs.BenchReport.{report}
 use Rattle.dali_replay.specs.Installation.{Installation, installation_of}
 use Rattle.dali_replay.specs.SiteReport.{Says}
@@ -79,13 +79,13 @@ abbrev pub nothing : End → Output
 nothing end = record { text = []; end = end }
 
 -- one line, and what follows it; a line that asks for nothing known ends the run
-abbrev pub playing : ℕ → World → Option BenchLine → (World → Output) → Output
+abbrev pub playing : ℕ → BenchState → Option BenchLine → (BenchState → Output) → Output
 playing n w None next = nothing (AtLine n)
 playing n w (Some line) next =
     let more = next (after w line) in record { text = report w line ++ more.text; end = more.end }
 
 -- On a bench the output is a function of the lines.
-abbrev pub played : World → NumberedLines → Output
+abbrev pub played : BenchState → NumberedLines → Output
 played w [] = nothing Done
 played w (line ∷ lines) = playing line.0 w (bench_line_of (words_of line.1)) (λ v. played v lines)
 

@@ -9,7 +9,7 @@ use Rattle.dali_replay.specs.declared.site_line.SiteLine.{SiteLine}
 use Rattle.dali_replay.specs.declared.site_line.SiteLine.TheVariants.{Go, Store, Fail, Pump, Lapse}
 use Rattle.dali_replay.specs.declared.site_line.SiteLine.TheVariants.{Arc, Down, Up, Run, Power}
 use Rattle.dali_replay.specs.declared.site_line.SiteLine.TheVariants.{Expire, Quiet, Show}
-use Rattle.dali_replay.specs.Numbers.{number_of, set_of}
+use Rattle.dali_replay.specs.Numbers.{number_in, set_of}
 
 -- the lines of one word
 abbrev pub alone_of : List ℕ → Option SiteLine
@@ -49,7 +49,7 @@ numbered_line_of name n =
 abbrev pub one_word_of : List ℕ → List ℕ → Option SiteLine
 one_word_of name word =
     if bytes_eq name (codes "pump") then option_map (λ t. Pump t) (trouble_of word)
-    else option_and_then (numbered_line_of name) (number_of word)
+    else option_and_then (numbered_line_of name) (number_in word)
 
 -- `arc c HHHH`
 abbrev pub arc_of : Option ℕ → Option Forward → Option SiteLine
@@ -67,7 +67,7 @@ destroyed_of word set =
 -- the lines of a name and two more words
 abbrev pub two_words_of : List ℕ → List ℕ → List ℕ → Option SiteLine
 two_words_of name first second =
-    if bytes_eq name (codes "arc") then arc_of (number_of first) (result_ok (forward_of second))
+    if bytes_eq name (codes "arc") then arc_of (number_in first) (result_ok (forward_of second))
     else if bytes_eq name (codes "pump") then destroyed_of first second
     else None
 

@@ -22,7 +22,7 @@ use Rattle.dali_script.specs.declared.orders.Fault.TheVariants.{Conflict, Store}
 use Rattle.dali_standing.specs.declared.refusal.Refusal.{Refusal}
 use Rattle.dali_standing.specs.declared.trouble.Report.{Report}
 use Rattle.dali_standing.specs.declared.trouble.Report.TheVariants as report
-use Rattle.dali_standing.specs.Refusals.{number_of, name_of}
+use Rattle.dali_standing.specs.Refusals.{refusal_number, name_of}
 
 -- THE TEXTS of reports, of benches and of sites. A report ends with a line feed.
 
@@ -78,7 +78,7 @@ gear_texts k (g ∷ gs) = gear_text k g ++ gear_texts (k + 1) gs
 -- `refused K NAME`
 abbrev pub refused_text : Refusal → List ℕ
 refused_text e =
-    codes "refused " ++ (decimal (number_of e) ++ (codes " " ++ (name_of e ++ codes "\n")))
+    codes "refused " ++ (decimal (refusal_number e) ++ (codes " " ++ (name_of e ++ codes "\n")))
 
 -- the text of a call that answers nothing
 abbrev pub ok_of : Unit {0} → List ℕ

@@ -22,9 +22,9 @@ pub struct Bench {
 
 impl Model for Bench {
     ghost use Rattle.std.specs.Prelude.{◌≤◌, drop, length};
-    ghost use Rattle.dali_replay.specs.Bench.{World};
+    ghost use Rattle.dali_replay.specs.Bench.{BenchState};
 
-    ghost Value = { World };
+    ghost Value = { BenchState };
 
     ghost view = { λ b. record { gear = b.gear; left = drop b.drawn b.plan.draws } };
 

@@ -5,7 +5,7 @@ ghost use Rattle.dali_replay.specs.Lines.{words_of};
 ghost use Rattle.dali_replay.specs.BenchLine.{alone_of, one_word_of, bench_line_of};
 
 use crate::lines::cut;
-use crate::numbers::number_of;
+use crate::numbers::number_in;
 use dali_frame::Forward;
 
 /// A line of a bench, after the two of its plan.
@@ -43,11 +43,11 @@ fn one_word(name: &[u8], word: &[u8]) -> Option<BenchLine>
     if name == b"frame".as_slice() {
         Some(BenchLine::Frame(Forward::read_hex(word).ok()?))
     } else if name == b"off".as_slice() {
-        Some(BenchLine::Off(number_of(word)?))
+        Some(BenchLine::Off(number_in(word)?))
     } else if name == b"on".as_slice() {
-        Some(BenchLine::On(number_of(word)?))
+        Some(BenchLine::On(number_in(word)?))
     } else if name == b"expire".as_slice() {
-        Some(BenchLine::Expire(number_of(word)?))
+        Some(BenchLine::Expire(number_in(word)?))
     } else {
         None
     }

@@ -6,7 +6,7 @@ ghost use Rattle.dali_replay.specs.Numbers.{blocks_of};
 ghost use Rattle.dali_replay.specs.Heading.{bench_of, site_of, heading_of, draws_of, drawn_of, shown};
 
 use crate::lines::{cut, words};
-use crate::numbers::{block_of, number_of};
+use crate::numbers::{block_of, number_in};
 use dali_frame::Random24;
 use dali_world::DRAW_LIMIT;
 use std::alloc::{AllocError, Global};
@@ -36,7 +36,7 @@ fn bench_named(name: &[u8], word: &[u8]) -> Option<u32>
     ensures { result ≡ bench_of (name.now ∷ word.now ∷ []) }
 {
     if name == b"bench".as_slice() {
-        number_of(word)
+        number_in(word)
     } else {
         None
     }
@@ -78,7 +78,7 @@ fn site_of(alloc: Global, line: &[u8]) -> Result<Option<Heading>, AllocError>
         return Ok(None);
     }
     let (word, list) = cut(rest, b' ');
-    let Some(gear) = number_of(word) else {
+    let Some(gear) = number_in(word) else {
         return Ok(None);
     };
     let Some(blocks) = blocks_of(alloc, list)? else {

@@ -15,10 +15,10 @@ ghost use Rattle.dali_replay.specs.Calls.{Befalls, Requests, Lapses, IsLogFull, 
 ghost use Rattle.dali_standing.specs.declared.refusal.Refusal.TheVariants as refusal;
 ghost use Rattle.dali_replay.specs.Rounds.{HasTurn};
 
-use dali_frame::{Forward, Random24, Short};
+use dali_frame::Forward;
 use dali_gear::Gear;
 use dali_reserve::{Keep, MemoryKeep};
-use dali_script::{Block, Due, Input, Kept, Order, Record};
+use dali_script::{Block, Due, Input, Kept, Order, Pair, Record};
 use dali_world::{Plan, Refusal, Report, SiteState, Trouble};
 use std::alloc::{AllocError, Global};
 use std::marker::Model;
@@ -314,7 +314,7 @@ impl Installation {
     }
 
     /// The gear that a controller has enrolled, by the records that it keeps.
-    pub fn enrolled(&self, c: u8) -> &[(Short, Random24)]
+    pub fn enrolled(&self, c: u8) -> &[Pair]
         requires { c < length self.now.site.plan.blocks }
         ensures { result.now ≡ (controller self.now c).records.enrolled }
     {

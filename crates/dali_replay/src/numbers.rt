@@ -1,7 +1,7 @@
 //! Decimal numbers, blocks of short addresses, and sets of gear.
 
 ghost use Rattle.std.specs.Prelude.{◌≡◌, [], ◌∷◌, map};
-ghost use Rattle.dali_replay.specs.Numbers.{number_of, number_to, starts_plain, block_of, block_of_parts, set_of};
+ghost use Rattle.dali_replay.specs.Numbers.{number_in, number_to, starts_plain, block_of, block_of_parts, set_of};
 
 use crate::lines::{cut, parts};
 use dali_world::GearSet;
@@ -22,8 +22,8 @@ fn starts_plain(word: &[u8]) -> bool
 }
 
 /// The decimal number that a word is: digits alone, without a leading zero, at most 1,000,000.
-pub fn number_of(word: &[u8]) -> Option<u32>
-    ensures { result ≡ number_of word.now }
+pub fn number_in(word: &[u8]) -> Option<u32>
+    ensures { result ≡ number_in word.now }
 {
     if !starts_plain(word) {
         return None;
@@ -45,7 +45,7 @@ pub fn number_of(word: &[u8]) -> Option<u32>
 fn byte_of(word: &[u8]) -> Option<u8>
     ensures { result ≡ number_to 255 word.now }
 {
-    let number = number_of(word)?;
+    let number = number_in(word)?;
     if number > 255 {
         return None;
     }
@@ -79,7 +79,7 @@ pub fn block_of(word: &[u8]) -> Option<(u8, u8)>
 fn gear_number(word: &[u8]) -> Option<u32>
     ensures { result ≡ number_to 127 word.now }
 {
-    let number = number_of(word)?;
+    let number = number_in(word)?;
     if number > 127 {
         return None;
     }

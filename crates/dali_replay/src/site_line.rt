@@ -6,7 +6,7 @@ ghost use Rattle.dali_replay.specs.SiteLine.{alone_of, trouble_of, controller_li
 ghost use Rattle.dali_replay.specs.SiteLine.{two_words_of, destroyed_of, site_line_of};
 
 use crate::lines::words;
-use crate::numbers::{number_of, set_of};
+use crate::numbers::{number_in, set_of};
 use dali_frame::Forward;
 use dali_world::Trouble;
 
@@ -111,7 +111,7 @@ fn one_word(name: &[u8], word: &[u8]) -> Option<SiteLine>
     if name == b"pump".as_slice() {
         Some(SiteLine::Pump(trouble_of(word)?))
     } else {
-        numbered_line(name, number_of(word)?)
+        numbered_line(name, number_in(word)?)
     }
 }
 
@@ -119,7 +119,7 @@ fn two_words(name: &[u8], first: &[u8], second: &[u8]) -> Option<SiteLine>
     ensures { result ≡ two_words_of name.now first.now second.now }
 {
     if name == b"arc".as_slice() {
-        match (number_of(first), Forward::read_hex(second)) {
+        match (number_in(first), Forward::read_hex(second)) {
             (Some(c), Ok(frame)) => Some(SiteLine::Arc(c, frame)),
             _ => None,
         }

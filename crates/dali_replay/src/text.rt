@@ -12,7 +12,7 @@ ghost use Rattle.dali_frame.specs.Hex.{forward_text};
 
 use dali_frame::{Answer, Forward, Priority, Random24, Short};
 use dali_gear::{Gear, InitialisationState, Row};
-use dali_script::{End, Fault, Order, Record};
+use dali_script::{End, Fault, Order, Pair, Record};
 use dali_world::{Refusal, Report};
 use std::alloc::AllocError;
 use std::str;
@@ -293,15 +293,15 @@ pub fn push_ran(text: &mut String, frames: u32) -> Result<(), AllocError>
     text.push_str("\n")
 }
 
-fn push_entry(text: &mut String, entry: (Short, Random24)) -> Result<(), AllocError>
+fn push_entry(text: &mut String, entry: Pair) -> Result<(), AllocError>
     ensures { OnOk result (string_bytes text.new ≡ string_bytes text.old ++ entry_text entry) }
 {
-    let number = entry.0.number();
-    let random = entry.1;
+    let number = entry.address();
+    let random = entry.random();
     write!(text, " {number}={random}")
 }
 
-fn push_entries(text: &mut String, entries: &[(Short, Random24)]) -> Result<(), AllocError>
+fn push_entries(text: &mut String, entries: &[Pair]) -> Result<(), AllocError>
     ensures { OnOk result (string_bytes text.new ≡ string_bytes text.old ++ entries_text entries.now) }
 {
     for entry in entries {
@@ -311,7 +311,7 @@ fn push_entries(text: &mut String, entries: &[(Short, Random24)]) -> Result<(), 
 }
 
 /// A controller's table.
-pub fn push_table(text: &mut String, c: u8, entries: &[(Short, Random24)]) -> Result<(), AllocError>
+pub fn push_table(text: &mut String, c: u8, entries: &[Pair]) -> Result<(), AllocError>
     ensures { OnOk result (string_bytes text.new ≡ string_bytes text.old ++ table_text c entries.now) }
 {
     write!(text, "table {c}:")?;

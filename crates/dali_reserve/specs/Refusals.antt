@@ -4,13 +4,13 @@ use Rattle.dali_reserve.specs.declared.error.KeepError.TheVariants.{NoMemory, St
 use Rattle.dali_reserve.specs.declared.error.KeepError.TheVariants.{AddressTaken, RandomTaken}
 use Rattle.dali_reserve.specs.declared.error.KeepError.TheVariants.{BadStore, NotReserved}
 
-abbrev pub number_of : KeepError → ℕ
-number_of NoMemory = 1
-number_of StoreFailed = 2
-number_of AddressTaken = 3
-number_of RandomTaken = 4
-number_of BadStore = 5
-number_of NotReserved = 6
+abbrev pub refusal_number : KeepError → ℕ
+refusal_number NoMemory = 1
+refusal_number StoreFailed = 2
+refusal_number AddressTaken = 3
+refusal_number RandomTaken = 4
+refusal_number BadStore = 5
+refusal_number NotReserved = 6
 
 -- why a read may be refused
 abbrev pub RefusesRead : KeepError → Type 0

@@ -1,5 +1,5 @@
 ghost use Rattle.std.specs.Prelude.{◌≡◌};
-ghost use Rattle.dali_reserve.specs.Refusals.{number_of};
+ghost use Rattle.dali_reserve.specs.Refusals.{refusal_number};
 
 use std::error::Error;
 use std::fmt;
@@ -24,7 +24,7 @@ pub enum KeepError {
 impl KeepError {
     /// The refusal's number.
     pub fn number(self) -> u8
-        ensures { result ≡ number_of self }
+        ensures { result ≡ refusal_number self }
     {
         match self {
             KeepError::NoMemory => 1,

@@ -1,6 +1,6 @@
 ghost use Rattle.std.specs.Prelude.{◌≡◌};
 ghost use Rattle.dali_ring.specs.declared.error.NewError.TheVariants as new_error;
-ghost use Rattle.dali_ring.specs.Numbers.{number_of};
+ghost use Rattle.dali_ring.specs.Numbers.{refusal_number};
 
 use std::alloc::AllocError;
 use thiserror::Error;
@@ -19,7 +19,7 @@ pub enum NewError {
 impl NewError {
     /// The refusal's number.
     pub fn number(self) -> u8
-        ensures { result ≡ number_of self }
+        ensures { result ≡ refusal_number self }
     {
         match self {
             NewError::NoMemory => 1,

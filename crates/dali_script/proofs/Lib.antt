@@ -4,4 +4,5 @@ pub mod Giving
 pub mod Transactions
 pub mod Senders
 pub mod Found
-pub mod Examples
+mod Fronts
+mod Examples

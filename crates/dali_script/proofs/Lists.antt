@@ -8,7 +8,7 @@ use Rattle.dali_frame.specs.Random.{MASK24}
 use Rattle.dali_script.specs.declared.block.Block.{Block}
 use Rattle.dali_script.specs.declared.records.Record.{Record}
 use Rattle.dali_script.specs.declared.records.Record.TheVariants.{Reserve, Enrol, Release}
-use Rattle.dali_script.specs.Records.{Kept, IsKept, without_records, Fits, MayAdd, address_of, with_record, Assignment, Has, IsOnce, addresses, randoms, HasAddress, HasRandom, InBlock, IsMap, Marks, is_pair, without_pair, IsFresh, AreReserved, AreEnrolled}
+use Rattle.dali_script.specs.Records.{Kept, IsKept, without_records, Fits, MayAdd, address_of, with_record, Assignment, Has, IsOnce, addresses, randoms, HasAddress, HasRandom, InBlock, IsMap, Marks, is_pair, without_pair, IsFresh}
 
 -- membership and an append
 pub has_last : {A : Type 0} (xs : List A) (x : A) → Has (xs ++ x ∷ []) x
@@ -294,35 +294,21 @@ kept_more k (Release a r) m fits small there = record {
 pub reserved_fits : (k : Kept) (a r : ℕ) → IsKept k → Has k.reserved (a, r) → Fits k.block (Release a r)
 reserved_fits k a r kept has = (kept.within a (has_map (λ p. p.0) k.reserved (a, r) has), kept.reserved_drawn r (has_map (λ p. p.1) k.reserved (a, r) has))
 
--- RECORDS IN TWO LISTS. An element stands in no earlier place of a list in which its key stands once.
+-- An element stands in no earlier place of a list in which its key stands once.
 pub once_before : (key : Assignment → ℕ) (xs : List Assignment) (i : ℕ) (d : Assignment) → IsOnce (map key xs) → i < length xs → Has (map key (take i xs)) (key (get_or xs i d)) → ⊥
 once_before key [] i d once h has = absurd (omega arith)
 once_before key (x ∷ xs) zero d once h has = has
 once_before key (x ∷ xs) (suc i) d once h (inl same) = once.0 (subst (Has (map key xs)) (sym same) (has_map key xs (get_or xs i d) (has_at xs i d (omega arith))))
 once_before key (x ∷ xs) (suc i) d once h (inr more) = once_before key xs i d once.1 (omega arith) more
 
-next_there : (xs : List Assignment) (i : ℕ) (p : Assignment) → i < length xs → p ≡ get_or xs i p → Has xs p
+pub next_there : (xs : List Assignment) (i : ℕ) (p : Assignment) → i < length xs → p ≡ get_or xs i p → Has xs p
 next_there xs i p inside is = subst (λ q. Has xs q) (sym is) (has_at xs i p inside)
 
-next_fresh : (xs : List Assignment) (i : ℕ) (p : Assignment) → IsMap xs → i < length xs → p ≡ get_or xs i p → IsFresh (take i xs) p
+pub next_fresh : (xs : List Assignment) (i : ℕ) (p : Assignment) → IsMap xs → i < length xs → p ≡ get_or xs i p → IsFresh (take i xs) p
 next_fresh xs i p m inside is = (
   λ h. once_before (λ q. q.0) xs i p m.address_once inside (subst (λ (q : Assignment). Has (map (λ o. o.0) (take i xs)) q.0) is h),
   λ h. once_before (λ q. q.1) xs i p m.random_once inside (subst (λ (q : Assignment). Has (map (λ o. o.1) (take i xs)) q.1) is h),
 )
-
--- of those that a controller keeps each fits, and may be added to those before
-pub reserved_next : (b : Block) (xs : List Assignment) (i : ℕ) (p : Assignment) (k : Kept) → AreReserved b xs → i < length xs → p ≡ get_or xs i p → k ≡ (record { block = b; reserved = take i xs; enrolled = [] })
-    → Fits k.block (Reserve p.0 p.1) × MayAdd k (Reserve p.0 p.1)
-reserved_next b xs i p k are inside is all =
-    let there : Has xs p = next_there xs i p inside is in
-    subst (λ (r : Kept). Fits r.block (Reserve p.0 p.1) × MayAdd r (Reserve p.0 p.1)) (sym all)
-    ((are.within p.0 (has_map (λ q. q.0) xs p there), are.drawn p.1 (has_map (λ q. q.1) xs p there)), next_fresh xs i p are.map inside is)
-
-pub enrolled_next : (b : Block) (reserved xs : List Assignment) (i : ℕ) (p : Assignment) (k : Kept) → AreEnrolled xs → i < length xs → p ≡ get_or xs i p
-    → k ≡ (record { block = b; reserved = reserved; enrolled = take i xs }) → Fits k.block (Enrol p.0 p.1) × MayAdd k (Enrol p.0 p.1)
-enrolled_next b reserved xs i p k are inside is all =
-    subst (λ (r : Kept). Fits r.block (Enrol p.0 p.1) × MayAdd r (Enrol p.0 p.1)) (sym all)
-    (are.drawn p.1 (has_map (λ q. q.1) xs p (next_there xs i p inside is)), next_fresh xs i p are.map inside is)
 
 -- THE MARKS OF ADDRESSES, while these pairs are still to be looked at
 pub record Marking (xs rest : List Assignment) (marks : List Bool) : Type 0 where

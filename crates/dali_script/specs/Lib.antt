@@ -1,4 +1,6 @@
 pub mod Records
+pub mod Pairs
+pub mod Table
 pub mod Refusals
 pub mod Commands
 pub mod Scripts

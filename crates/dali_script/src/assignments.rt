@@ -1,14 +1,14 @@
-ghost use Rattle.std.specs.Prelude.{◌≡◌, ◌↔◌, ◌<◌, [], ◌∷◌, ◌++◌, length, IsTrue, IsOk, IfErr, OnOk, OnErr};
-ghost use Rattle.std.specs.Prelude.{MatchOption, slice_index_or};
-ghost use Rattle.dali_script.specs.Records.{Assignment, Has, HasAddress, HasRandom, Marks, IsFresh, without_pair};
+ghost use Rattle.std.specs.Prelude.{◌≡◌, ◌↔◌, ◌<◌, [], ◌∷◌, ◌++◌, IsTrue, IsOk, IfErr, OnOk, OnErr, MatchOption};
+ghost use Rattle.dali_script.specs.Records.{Has, HasAddress, HasRandom, Marks, IsFresh, without_pair};
 
+use crate::pair::Pair;
+use crate::pairs::{
+    Pairs, are_both, are_same, are_with, at_address, at_random, has_address, has_random, marks,
+    place_of,
+};
 use crate::records::AddError;
-use arrayvec::ArrayVec;
 use dali_frame::{Random24, Short};
 use std::marker::Model;
-
-/// Room for a pair of every short address.
-const ROOM: usize = 64;
 
 /// Short addresses, each with the random address that it is for, in the order in which they were added.
 ///
@@ -16,18 +16,20 @@ const ROOM: usize = 64;
 /// which has room for all that there can be: no call takes memory.
 #[derive(Drop)]
 pub struct Assignments {
-    pairs: ArrayVec<(Short, Random24), ROOM>,
+    pairs: Pairs,
 }
 
 impl Model for Assignments {
-    ghost use Rattle.std.specs.Prelude.{List};
+    ghost use Rattle.std.specs.Prelude.{List, ◌≡◌, ◌≤◌, length};
     ghost use Rattle.dali_script.specs.Records.{Assignment, IsMap};
+    ghost use Rattle.dali_script.specs.Pairs.{pairs_in};
 
     ghost Value = { List Assignment };
 
-    ghost view = { λ a. a.pairs.items };
+    ghost view = { λ a. pairs_in a.pairs };
 
-    ghost invariant = { λ a. IsMap a.pairs.items };
+    ghost invariant = { λ a. (a.pairs.count ≤ 64) × IsMap (pairs_in a.pairs)
+        × (length (pairs_in a.pairs) ≡ a.pairs.count) };
 }
 
 impl Assignments {
@@ -38,7 +40,17 @@ impl Assignments {
         ensures { result ≡ [] }
     {
         Assignments {
-            pairs: ArrayVec::new(),
+            pairs: Pairs::new(),
+        }
+    }
+
+    /// These pairs, oldest first.
+    pub(crate) fn of(pairs: &[Pair]) -> Assignments
+        requires { IsMap pairs.now }
+        ensures { result ≡ pairs.now }
+    {
+        Assignments {
+            pairs: Pairs::of(pairs),
         }
     }
 
@@ -46,59 +58,41 @@ impl Assignments {
     pub fn copy(&self) -> Assignments
         ensures { result ≡ self.now }
     {
-        let mut pairs = ArrayVec::new();
-        // All of them have room.
-        let _ = pairs.try_extend_from_slice(self.pairs());
-        Assignments { pairs }
+        Assignments { pairs: self.pairs }
     }
 
     /// The pairs, oldest first.
-    pub fn pairs(&self) -> &[(Short, Random24)]
+    pub fn pairs(&self) -> &[Pair]
         ensures value { result.now ≡ self.now }
         ensures map { IsMap self.now }
     {
-        &self.pairs
+        self.pairs.as_slice()
     }
 
     /// The random address of the pair with a short address.
-    pub fn random_at(&self, address: Short) -> Option<Random24>
+    pub fn by_address(&self, address: Short) -> Option<Random24>
         ensures found { MatchOption result
             (HasAddress self.now address → ⊥)
             (λ random. Has self.now (address, random)) }
         ensures short { address < 64 }
     {
-        let wanted = address.number();
-        for pair in self.pairs() {
-            if pair.0.number() == wanted {
-                return Some(pair.1);
-            }
-        }
-        None
+        at_address(self.pairs(), address)
     }
 
     /// The short address of the pair with a random address.
-    pub fn address_for(&self, random: Random24) -> Option<Short>
+    pub fn by_random(&self, random: Random24) -> Option<Short>
         ensures { MatchOption result
             (HasRandom self.now random → ⊥)
             (λ address. Has self.now (address, random)) }
     {
-        for pair in self.pairs() {
-            if pair.1 == random {
-                return Some(pair.0);
-            }
-        }
-        None
+        at_random(self.pairs(), random)
     }
 
     /// For each of the 64 short addresses, whether a pair has it.
     pub fn marks(&self) -> [bool; 64]
         ensures { Marks self.now result }
     {
-        let mut marks = [false; 64];
-        for pair in self.pairs() {
-            marks[pair.0.number() as usize] = true;
-        }
-        marks
+        marks(self.pairs())
     }
 
     /// Whether a pair has the short address.
@@ -106,14 +100,14 @@ impl Assignments {
         ensures value { IsTrue result ↔ HasAddress self.now address }
         ensures short { address < 64 }
     {
-        self.random_at(address).is_some()
+        has_address(self.pairs(), address)
     }
 
     /// Whether a pair has the random address.
     pub fn has_random(&self, random: Random24) -> bool
         ensures { IsTrue result ↔ HasRandom self.now random }
     {
-        self.address_for(random).is_some()
+        has_random(self.pairs(), random)
     }
 
     /// Adds a pair as the last one.
@@ -137,7 +131,7 @@ impl Assignments {
             return Err(AddError::RandomTaken);
         }
         // A further address is one of 64, so there is room for it.
-        self.pairs.push((address, random));
+        self.pairs.push(Pair::of(address, random));
         Ok(())
     }
 
@@ -152,7 +146,7 @@ impl Assignments {
         ensures short { address < 64 }
         ensures map { IsMap self.new }
     {
-        match place_of(self.pairs(), (address, random)) {
+        match place_of(self.pairs(), Pair::of(address, random)) {
             Some(place) => {
                 self.pairs.remove(place);
                 Ok(())
@@ -169,14 +163,14 @@ impl Assignments {
     }
 
     /// Whether these are the other ones with this pair as the last one.
-    pub fn is_with(&self, other: &Assignments, last: (Short, Random24)) -> bool
+    pub fn is_with(&self, other: &Assignments, last: Pair) -> bool
         ensures { IsTrue result ↔ (self.now ≡ other.now ++ last ∷ []) }
     {
         are_with(self.pairs(), other.pairs(), last)
     }
 
     /// Whether these are the other ones without this pair.
-    pub fn is_without(&self, other: &Assignments, gone: (Short, Random24)) -> bool
+    pub fn is_without(&self, other: &Assignments, gone: Pair) -> bool
         ensures { IsTrue result ↔ (self.now ≡ without_pair gone other.now) }
     {
         let pairs = other.pairs();
@@ -189,52 +183,4 @@ impl Assignments {
             None => self.same(other),
         }
     }
-}
-
-fn are_same(pairs: &[(Short, Random24)], others: &[(Short, Random24)]) -> bool
-    ensures { IsTrue result ↔ (pairs.now ≡ others.now) }
-{
-    pairs == others
-}
-
-fn are_with(
-    pairs: &[(Short, Random24)],
-    others: &[(Short, Random24)],
-    last: (Short, Random24),
-) -> bool
-    ensures { IsTrue result ↔ (pairs.now ≡ others.now ++ last ∷ []) }
-{
-    match pairs.split_last() {
-        Some((end, front)) => *end == last && are_same(front, others),
-        None => false,
-    }
-}
-
-/// Where a pair stands.
-fn place_of(pairs: &[(Short, Random24)], wanted: (Short, Random24)) -> Option<usize>
-    ensures { MatchOption result
-        (Has pairs.now wanted → ⊥)
-        (λ place. (place < length pairs.now) × (slice_index_or pairs.now place wanted ≡ wanted)) }
-{
-    for place in 0..pairs.len() {
-        if pairs[place] == wanted {
-            return Some(place);
-        }
-    }
-    None
-}
-
-/// Whether pairs are these, one part after the other.
-fn are_both(
-    pairs: &[(Short, Random24)],
-    front: &[(Short, Random24)],
-    rest: &[(Short, Random24)],
-) -> bool
-    ensures { IsTrue result ↔ (pairs.now ≡ front.now ++ rest.now) }
-{
-    if pairs.len() < front.len() {
-        return false;
-    }
-    let (first, second) = pairs.split_at(front.len());
-    are_same(first, front) && are_same(second, rest)
 }

@@ -1,3 +1,5 @@
+ghost use Rattle.std.specs.Prelude.{◌≡◌};
+
 use crate::records::Record;
 use dali_frame::{Answer, Forward, Priority};
 
@@ -63,4 +65,20 @@ pub enum Due {
     Store,
     /// Nothing: it has ended or halted.
     Nothing,
+}
+
+impl Due {
+    ghost use Rattle.dali_script.specs.Due.{due_after};
+
+    /// What a machine waits for after this order; None is before the first one.
+    pub fn after(last: Option<Order>) -> Due
+        ensures { result ≡ due_after last }
+    {
+        match last {
+            None => Due::Start,
+            Some(Order::Put(..)) => Due::Bus,
+            Some(Order::Commit(_)) => Due::Store,
+            Some(Order::Done(_) | Order::Halt(_)) => Due::Nothing,
+        }
+    }
 }

@@ -4,7 +4,7 @@ ghost use Rattle.dali_script.specs.Stages.{byte_heard, bytes_heard, number_heard
 ghost use Rattle.dali_script.specs.declared.stage.Stage.TheVariants.{Free};
 
 use crate::finding::Finding;
-use crate::kept::Kept;
+use crate::reading::Records;
 use dali_frame::{Answer, Random24, SearchAddress, Short};
 use dali_special::{Command, Part, Target};
 
@@ -134,7 +134,7 @@ impl Stage {
     }
 
     /// Whether a command may come next, for a sender with these records.
-    pub(crate) fn allows(self, kept: &Kept, command: Command) -> bool
+    pub(crate) fn allows(self, kept: &Records<'_>, command: Command) -> bool
         ensures { result ≡ follows kept.now.block kept.now.reserved self command }
     {
         let given = self.given(&command);
@@ -178,7 +178,7 @@ impl Stage {
     }
 
     /// Whether some command may come next, for a sender with these records.
-    pub(crate) fn goes_on(self, kept: &Kept) -> bool
+    pub(crate) fn goes_on(self, kept: &Records<'_>) -> bool
         ensures { result ≡ may_follow kept.now.block kept.now.reserved self }
     {
         match self {

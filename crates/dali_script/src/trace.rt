@@ -5,6 +5,7 @@ ghost use Rattle.dali_special.specs.Command.{command_of};
 
 use crate::finding::Finding;
 use crate::kept::Kept;
+use crate::reading::Records;
 use crate::stage::Stage;
 use arrayvec::ArrayVec;
 use dali_frame::{Answer, Forward, Random24, Short};
@@ -114,7 +115,16 @@ impl Trace {
         ensures stage { result
             ≡ follows kept.now.block kept.now.reserved (stage_of self.now) (command_of frame) }
     {
-        self.stage.allows(kept, Command::read(frame))
+        self.allows_by(&kept.view(), frame)
+    }
+
+    /// The same, for records that are lent.
+    pub fn allows_by(&self, records: &Records<'_>, frame: Forward) -> bool
+        ensures lawful { IsTrue result ↔ Lawful records.now.block records.now.reserved self.now frame }
+        ensures stage { result
+            ≡ follows records.now.block records.now.reserved (stage_of self.now) (command_of frame) }
+    {
+        self.stage.allows(records, Command::read(frame))
     }
 
     /// Adds a frame that was sent, and what was heard after it. The frame must be one that some records allow here.
@@ -134,9 +144,19 @@ impl Trace {
         ensures stage { result
             ≡ not (may_follow kept.now.block kept.now.reserved (stage_of self.now)) }
     {
+        self.complete_by(&kept.view())
+    }
+
+    /// The same, for records that are lent.
+    pub fn complete_by(&self, records: &Records<'_>) -> bool
+        ensures complete { IsTrue result → IsComplete records.now.block records.now.reserved self.now }
+        ensures goes_on { result ≡ false → GoesOn records.now.block records.now.reserved self.now }
+        ensures stage { result
+            ≡ not (may_follow records.now.block records.now.reserved (stage_of self.now)) }
+    {
         // What is reserved are short addresses, so each has a frame that programs it.
-        let _ = kept.block();
-        !self.stage.goes_on(kept)
+        let _ = records.block();
+        !self.stage.goes_on(records)
     }
 
     /// The short address and the random address of the last finding.

@@ -1,7 +1,7 @@
 //! Values by their numbers, statements by their texts, and the one assertion that compares two values.
 
 use dali_frame::{Random24, Short};
-use dali_script::{Block, Record};
+use dali_script::{Block, Pair, Record};
 use sqlite::{Alter, Connection, Error};
 use std::fmt::Debug;
 use std::process::Abort;
@@ -56,10 +56,10 @@ impl Pair {
 }
 
 /// These pairs of a short and a random address are these numbers, in this order.
-pub fn are_pairs(rt: &impl Abort, pairs: &[(Short, Random24)], wanted: &[(u8, u32)]) {
+pub fn are_pairs(rt: &impl Abort, pairs: &[Pair], wanted: &[(u8, u32)]) {
     assert!(rt; pairs.len() == wanted.len());
     for (pair, numbers) in pairs.iter().zip(wanted) {
-        same(rt, &(pair.0.number(), pair.1.value()), numbers);
+        same(rt, &(pair.address(), pair.random().value()), numbers);
     }
 }
 

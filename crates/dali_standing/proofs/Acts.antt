@@ -30,7 +30,9 @@ use Rattle.dali_events.specs.World.{World, Controller}
 use Rattle.dali_events.specs.Happens.{entry, controller_informed, outstanding_told, outstanding_after, is_arc}
 use Rattle.dali_events.specs.Allowed.{IsDue, IsCommit, MayOrder}
 use Rattle.dali_events.proofs.Naming.{enrols_assigned}
-use Rattle.dali_standing.specs.Seats.{IsRunning, IsSeat, IsTold, IsOutstanding, IsFound, IsEnrolling, MayAnswer, seat_by, informed_by}
+use Rattle.dali_standing.specs.Seats.{IsRunning, IsSeat, IsTold, IsOutstanding, IsFound, IsEnrolling, MayAnswer, seat_by, machine_in, acted_in, informed_by}
+use Rattle.dali_standing.specs.declared.seat.Place.{Place}
+use Rattle.dali_standing.specs.declared.seat.Place.TheVariants.{Up, Down}
 use Rattle.dali_standing.specs.Settled.{IsOwning, IsApart, IsPlacedBy}
 
 -- WHAT A CONTROLLER ORDERS, the table of events allows.
@@ -255,9 +257,9 @@ outstanding_ordered t (Commit x) outstanding may none = (refl, may.fits, may.may
 outstanding_ordered t (Done e) outstanding may none = tt
 outstanding_ordered t (Halt why) outstanding may none = tt
 
-ordered_running : (t : Machine) (o : Order) (beside : Option Kept) (outstanding : Option Record) (found : Option Finding) → IsAllowed t o → later found (finding_of t.trace) ≡ found → outstanding ≡ None
-    → IsRunning (seat_by (Some (machine_ordered t o)) beside (outstanding_after outstanding o) found None).controller (machine_ordered t o)
-ordered_running t o beside outstanding found may is none = record {
+ordered_running : (t : Machine) (o : Order) (outstanding : Option Record) (found : Option Finding) → IsAllowed t o → later found (finding_of t.trace) ≡ found → outstanding ≡ None
+    → IsRunning (seat_by (Up (machine_ordered t o)) (outstanding_after outstanding o) found None).controller (machine_ordered t o)
+ordered_running t o outstanding found may is none = record {
   kept = refl;
   last = refl;
   told = tt;
@@ -266,36 +268,36 @@ ordered_running t o beside outstanding found may is none = record {
   enrolling = enrolling_by found t o is may;
 }
 
-running_acted : (m : Machine) (beside : Option Kept) (outstanding : Option Record) (found : Option Finding) (told : Option Input) (i : Input) (o : Order)
-    → IsRunning (seat_by (Some m) beside outstanding found told).controller m → IsDue (seat_by (Some m) beside outstanding found told).controller i → IsAnswered m i o
-    → IsRunning (seat_by (Some (machine_after m i o)) beside (outstanding_after (outstanding_told outstanding i) o) found None).controller (machine_after m i o)
-running_acted m beside outstanding found told i o tied due answer = go i due answer where
+running_acted : (m : Machine) (outstanding : Option Record) (found : Option Finding) (told : Option Input) (i : Input) (o : Order)
+    → IsRunning (seat_by (Up m) outstanding found told).controller m → IsDue (seat_by (Up m) outstanding found told).controller i → IsAnswered m i o
+    → IsRunning (seat_by (Up (machine_after m i o)) (outstanding_after (outstanding_told outstanding i) o) found None).controller (machine_after m i o)
+running_acted m outstanding found told i o tied due answer = go i due answer where
   k : Controller
-  k = (seat_by (Some m) beside outstanding found told).controller
+  k = (seat_by (Up m) outstanding found told).controller
 
   bus_none : (i : Input) → IsOfBus i → k.told ≡ Some i → outstanding ≡ None
   bus_none i bus is = put_outstanding k.records k.last outstanding (bus_put i k.last bus (told_accepted k.last k.told i is tied.told)) tied.outstanding
 
-  go : (i : Input) → IsDue k i → IsAnswered m i o → IsRunning (seat_by (Some (machine_after m i o)) beside (outstanding_after (outstanding_told outstanding i) o) found None).controller (machine_after m i o)
+  go : (i : Input) → IsDue k i → IsAnswered m i o → IsRunning (seat_by (Up (machine_after m i o)) (outstanding_after (outstanding_told outstanding i) o) found None).controller (machine_after m i o)
   go input.Committed commit order =
       let same : (informed_by m told).trace ≡ m.trace = stored_trace m k.last told commit tied.told in
-      ordered_running (machine_told m input.Committed) o beside None found order.allowed
+      ordered_running (machine_told m input.Committed) o None found order.allowed
       (subst (λ t. later found (finding_of t) ≡ found) (same ∙ sym (committed_trace m (record_ordered m.last))) tied.found) refl
   go input.CommitFailed commit halts =
-      subst (λ p. IsRunning (seat_by (Some (machine_after m input.CommitFailed p)) beside (outstanding_after outstanding p) found None).controller (machine_after m input.CommitFailed p)) (sym halts)
+      subst (λ p. IsRunning (seat_by (Up (machine_after m input.CommitFailed p)) (outstanding_after outstanding p) found None).controller (machine_after m input.CommitFailed p)) (sym halts)
       (record { kept = refl; last = refl; told = tt; outstanding = tt; found = refl; enrolling = tt })
   go input.Start is order =
-      ordered_running (machine_told m input.Start) o beside outstanding found order.allowed (found_told k m input.Start is tied.found)
+      ordered_running (machine_told m input.Start) o outstanding found order.allowed (found_told k m input.Start is tied.found)
       (subst (λ l. IsOutstanding k.records l outstanding) (start_first k.last (told_accepted k.last k.told input.Start is tied.told)) tied.outstanding)
-  go (input.Heard h) is order = ordered_running (machine_told m (input.Heard h)) o beside outstanding found order.allowed (found_told k m (input.Heard h) is tied.found) (bus_none (input.Heard h) tt is)
-  go input.Destroyed is order = ordered_running (machine_told m input.Destroyed) o beside outstanding found order.allowed (found_told k m input.Destroyed is tied.found) (bus_none input.Destroyed tt is)
-  go input.Lapsed is order = ordered_running (machine_told m input.Lapsed) o beside outstanding found order.allowed (found_told k m input.Lapsed is tied.found) (bus_none input.Lapsed tt is)
+  go (input.Heard h) is order = ordered_running (machine_told m (input.Heard h)) o outstanding found order.allowed (found_told k m (input.Heard h) is tied.found) (bus_none (input.Heard h) tt is)
+  go input.Destroyed is order = ordered_running (machine_told m input.Destroyed) o outstanding found order.allowed (found_told k m input.Destroyed is tied.found) (bus_none input.Destroyed tt is)
+  go input.Lapsed is order = ordered_running (machine_told m input.Lapsed) o outstanding found order.allowed (found_told k m input.Lapsed is tied.found) (bus_none input.Lapsed tt is)
 
-pub seat_acted : (machine : Option Machine) (beside : Option Kept) (outstanding : Option Record) (found : Option Finding) (told : Option Input) (i : Input) (o : Order)
-    → IsSeat machine beside outstanding found told → IsDue (seat_by machine beside outstanding found told).controller i → MayAnswer machine i o
-    → IsSeat (option_map (λ m. machine_after m i o) machine) beside (outstanding_after (outstanding_told outstanding i) o) found None
-seat_acted None beside outstanding found told i o seat due answer = elim answer [ ]
-seat_acted (Some m) beside outstanding found told i o seat due answer = (running_acted m beside outstanding found told i o seat.0 due answer.answered, seat.1)
+pub seat_acted : (place : Place) (outstanding : Option Record) (found : Option Finding) (told : Option Input) (i : Input) (o : Order)
+    → IsSeat place outstanding found told → IsDue (seat_by place outstanding found told).controller i → MayAnswer (machine_in place) i o
+    → IsSeat (acted_in place i o) (outstanding_after (outstanding_told outstanding i) o) found None
+seat_acted (Down k) outstanding found told i o seat due answer = elim answer [ ]
+seat_acted (Up m) outstanding found told i o seat due answer = running_acted m outstanding found told i o seat due answer.answered
 
 informed_bus : (w : World) (c : ℕ) (k : Controller) (m : Machine) (i : Input) → IsOfBus i → k.told ≡ Some i → IsRunning k m → IsPlacedBy (owns w.bus.owner c) w.trace k (Some m)
     → AreInformed w c (controller_informed k i) (machine_told m i)

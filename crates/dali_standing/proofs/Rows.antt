@@ -6,7 +6,7 @@ use Rattle.dali_frame.specs.Random.{MASK24}
 use mathlib.Core.List.{append_assoc}
 use Rattle.dali_special.specs.declared.command.Command.{Command}
 use Rattle.dali_gear.specs.declared.row.Reach.{Reach}
-use Rattle.dali_gear.specs.Gear.{Gear, gear_quieted, would_draw}
+use Rattle.dali_gear.specs.Gear.{Gear, gear_quieted, draws_a_number}
 use Rattle.dali_special.specs.declared.command.Command.TheVariants.{Program}
 use Rattle.dali_gear.specs.Row.{takes, left_after, row_left, row_after, draws_needed, stored_short, stored_one, stored_of}
 use Rattle.dali_script.specs.Records.{Has}
@@ -63,7 +63,7 @@ has_room reach x gs n d gifts whole a here some so_far =
 -- what is left are the numbers that were left, without those that were drawn
 left_is : (reach : Reach) (x : Command) (k : ℕ) (gs : List Gear) (left : List ℕ) → row_left reach x k gs left ≡ drop (draws_needed reach x k gs) left
 left_is reach x k [] left = refl
-left_is reach x k (g ∷ gs) left = left_go (takes reach k g && would_draw x g) (row_left reach x (k + 1) gs) (draws_needed reach x (k + 1) gs) left (λ xs. left_is reach x (k + 1) gs xs) where
+left_is reach x k (g ∷ gs) left = left_go (takes reach k g && draws_a_number x g) (row_left reach x (k + 1) gs) (draws_needed reach x (k + 1) gs) left (λ xs. left_is reach x (k + 1) gs xs) where
   left_go : (b : Bool) (rest : List ℕ → List ℕ) (n : ℕ) (left : List ℕ) → ((xs : List ℕ) → rest xs ≡ drop n xs) → rest (left_after b left) ≡ drop ((if b then 1 else 0) + n) left
   left_go true rest n left is = is (drop 1 left) ∙ drop-drop n 1 left
   left_go false rest n left is = is left ∙ ap (λ k. drop k left) (sym (zero-add n))

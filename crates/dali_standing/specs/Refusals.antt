@@ -7,18 +7,18 @@ use Rattle.dali_standing.specs.declared.refusal.Refusal.TheVariants.{DrawsSpent,
 use Rattle.dali_standing.specs.declared.refusal.Refusal.TheVariants.{NoMemory}
 
 -- the refusals' numbers
-abbrev pub number_of : Refusal → ℕ
-number_of UnknownController = 1
-number_of UnknownGear = 1
-number_of ControllerDown = 2
-number_of ControllerUp = 2
-number_of NotDue = 3
-number_of NotArc = 4
-number_of StoreDisagrees = 5
-number_of DrawsSpent = 6
-number_of QueueFull = 7
-number_of LogFull = 8
-number_of NoMemory = 9
+abbrev pub refusal_number : Refusal → ℕ
+refusal_number UnknownController = 1
+refusal_number UnknownGear = 1
+refusal_number ControllerDown = 2
+refusal_number ControllerUp = 2
+refusal_number NotDue = 3
+refusal_number NotArc = 4
+refusal_number StoreDisagrees = 5
+refusal_number DrawsSpent = 6
+refusal_number QueueFull = 7
+refusal_number LogFull = 8
+refusal_number NoMemory = 9
 
 -- and their names
 abbrev pub name_of : Refusal → List ℕ

@@ -1,4 +1,4 @@
-use Rattle.std.specs.Prelude.{◌≡◌, ℕ, Bool, true, List, [], Option, Some, None, is_some, IsSome}
+use Rattle.std.specs.Prelude.{◌≡◌, ℕ, Bool, true, List, [], Option, Some, None, is_some}
 use Rattle.std.specs.Prelude.{if◌then◌else◌}
 use Rattle.std.specs.Option.{option_map}
 use Rattle.dali_script.specs.declared.block.Block.{Block}
@@ -17,7 +17,9 @@ use Rattle.dali_script.specs.declared.orders.Due.TheVariants as due
 use Rattle.dali_script.specs.Due.{due_after, accepts}
 use Rattle.dali_controller.specs.Machine.{Machine, at_first, machine_told}
 use Rattle.dali_controller.specs.Orders.{IsGiven, machine_after}
-use Rattle.dali_events.specs.World.{Controller, controller_begun, nobody}
+use Rattle.dali_standing.specs.declared.seat.Place.{Place}
+use Rattle.dali_standing.specs.declared.seat.Place.TheVariants.{Up, Down}
+use Rattle.dali_events.specs.World.{Controller, controller_begun}
 use Rattle.dali_events.specs.Allowed.{HasOutstanding}
 use Rattle.dali_events.specs.Happens.{controller_acted, gone_down, come_up}
 
@@ -76,40 +78,40 @@ IsTied k (Some m) = IsRunning k m
 
 -- ---------------------------------------------------------------- a place by its parts
 
--- the records: the machine's while it is there, else those that stand beside it
-abbrev pub records_of : Option Machine → Option Kept → Kept
-records_of (Some m) beside = m.kept
-records_of None (Some k) = k
-records_of None None = nobody.records
+abbrev pub machine_in : Place → Option Machine
+machine_in (Up m) = Some m
+machine_in (Down k) = None
 
-abbrev pub last_of : Option Machine → Option Order
-last_of (Some m) = m.last
-last_of None = None
+-- the records are the machine's while it is there
+abbrev pub records_in : Place → Kept
+records_in (Up m) = m.kept
+records_in (Down k) = k
 
-abbrev pub seat_by : Option Machine → Option Kept → Option Record → Option Finding → Option Input
-    → Seat
-seat_by machine beside outstanding finding unread = record {
+abbrev pub last_in : Place → Option Order
+last_in (Up m) = m.last
+last_in (Down k) = None
+
+abbrev pub seat_by : Place → Option Record → Option Finding → Option Input → Seat
+seat_by place outstanding finding unread = record {
   controller = record {
-    up = is_some machine;
-    records = records_of machine beside;
+    up = is_some (machine_in place);
+    records = records_in place;
     outstanding = outstanding;
     finding = finding;
     told = unread;
-    last = last_of machine;
+    last = last_in place;
   };
-  machine = machine;
+  machine = machine_in place;
 }
 
--- the records stand once: beside the machine only where it is not there
-abbrev pub AreOnce : Option Machine → Option Kept → Type 0
-AreOnce (Some m) beside = beside ≡ None
-AreOnce None beside = IsSome beside
+abbrev pub IsSeat : Place → Option Record → Option Finding → Option Input → Type 0
+IsSeat place outstanding finding unread =
+    IsTied (seat_by place outstanding finding unread).controller (machine_in place)
 
-abbrev pub IsSeat : Option Machine → Option Kept → Option Record → Option Finding → Option Input
-    → Type 0
-IsSeat machine beside outstanding finding unread =
-    IsTied (seat_by machine beside outstanding finding unread).controller machine
-    × AreOnce machine beside
+-- the machine that is there has acted on an input, with this order
+abbrev pub acted_in : Place → Input → Order → Place
+acted_in (Up m) i o = Up (machine_after m i o)
+acted_in (Down k) i o = Down k
 
 -- ---------------------------------------------------------------- what happens to a place
 

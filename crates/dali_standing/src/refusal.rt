@@ -1,5 +1,5 @@
 ghost use Rattle.std.specs.Prelude.{◌≡◌, Some};
-ghost use Rattle.dali_standing.specs.Refusals.{number_of, name_of};
+ghost use Rattle.dali_standing.specs.Refusals.{refusal_number, name_of};
 
 use std::alloc::AllocError;
 use std::error::Error;
@@ -38,7 +38,7 @@ pub enum Refusal {
 impl Refusal {
     /// The refusal's number.
     pub fn number(self) -> u8
-        ensures { result ≡ number_of self }
+        ensures { result ≡ refusal_number self }
     {
         match self {
             Refusal::UnknownController | Refusal::UnknownGear => 1,

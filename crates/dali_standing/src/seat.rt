@@ -1,29 +1,32 @@
 ghost use Rattle.std.specs.Prelude.{◌≡◌, ◌++◌, ◌∷◌, [], Bool, true, false, ◌↔◌, Some, None};
-ghost use Rattle.std.specs.Prelude.{IsTrue, MatchOption, option_map};
+ghost use Rattle.std.specs.Prelude.{IsTrue, IsSome, IfSome, MatchOption};
 ghost use Rattle.dali_special.specs.Command.{command_of};
 ghost use Rattle.dali_script.specs.Findings.{later};
 ghost use Rattle.dali_script.specs.Due.{due_after, frame_put, record_ordered};
-ghost use Rattle.dali_controller.specs.Machine.{table_of};
+ghost use Rattle.dali_script.specs.Table.{table_of};
 ghost use Rattle.dali_script.specs.declared.orders.Due.TheVariants as due;
 ghost use Rattle.dali_script.specs.declared.orders.Input.TheVariants as input;
 ghost use Rattle.dali_events.specs.Happens.{told_sent, told_lapsed, entry, is_arc, outstanding_told, outstanding_after};
 ghost use Rattle.dali_events.specs.Allowed.{IsDue};
-ghost use Rattle.dali_controller.specs.Orders.{machine_after};
-ghost use Rattle.dali_standing.specs.Seats.{due_of, MayAnswer, Waits};
+ghost use Rattle.dali_standing.specs.declared.seat.Place.TheVariants.{Up};
+ghost use Rattle.dali_standing.specs.Seats.{due_of, machine_in, acted_in, MayAnswer, Waits};
 
 use dali_controller::Machine;
-use dali_enrol::Table;
 use dali_frame::{Answer, Forward};
-use dali_script::{Block, Due, Finding, Input, Kept, Order, Record, Trace};
+use dali_script::{Block, Due, Finding, Input, Kept, Order, Record, Table, Trace};
 use std::marker::Model;
 
-/// A controller's place on a site: its machine while it is up, its records while it is down, and what the bus has told
-/// it.
+/// A controller that is up has a machine, which has its records; of one that is down there are the records alone.
+#[derive(Drop)]
+pub(crate) enum Place {
+    Up(Machine),
+    Down(Kept),
+}
+
+/// A controller's place on a site, and what the bus has told the controller.
 #[derive(Drop)]
 pub(crate) struct Seat {
-    machine: Option<Machine>,
-    /// The records, while no machine has them.
-    kept: Option<Kept>,
+    place: Place,
     outstanding: Option<Record>,
     finding: Option<Finding>,
     told: Option<Input>,
@@ -34,9 +37,9 @@ impl Model for Seat {
 
     ghost Value = { Seat };
 
-    ghost view = { λ s. seat_by s.machine s.kept s.outstanding s.finding s.told };
+    ghost view = { λ s. seat_by s.place s.outstanding s.finding s.told };
 
-    ghost invariant = { λ s. IsSeat s.machine s.kept s.outstanding s.finding s.told };
+    ghost invariant = { λ s. IsSeat s.place s.outstanding s.finding s.told };
 }
 
 impl Seat {
@@ -54,11 +57,10 @@ impl Seat {
     /// The place of a controller that begins, with a machine that has ordered nothing yet.
     fn begun(machine: Machine) -> Seat
         requires { machine.last ≡ None }
-        ensures { result ≡ seat_by (Some machine) None None None (Some input.Start) }
+        ensures { result ≡ seat_by (Up machine) None None (Some input.Start) }
     {
         Seat {
-            machine: Some(machine),
-            kept: None,
+            place: Place::Up(machine),
             outstanding: None,
             finding: None,
             told: Some(Input::Start),
@@ -76,17 +78,22 @@ impl Seat {
     }
 
     /// Its machine acts on an input, and orders what is to be done next.
-    pub(crate) fn act(&mut self, input: Input) -> Order
+    pub(crate) fn act(&mut self, input: Input) -> Option<Order>
         requires up { self.old.controller.up ≡ true }
         requires due { IsDue self.old.controller input }
-        ensures answer { MayAnswer self.old.machine input result }
-        ensures state { self.new ≡ acted_at self.old input result }
+        ensures acted { IsSome result }
+        ensures answer { IfSome result (λ order. MayAnswer self.old.machine input order) }
+        ensures state { IfSome result (λ order. self.new ≡ acted_at self.old input order) }
         ensures tied { IsTied self.old.controller self.old.machine }
     {
-        let order = stepped(&mut self.machine, input);
-        note(&mut self.outstanding, input, &order);
-        self.told = None;
-        order
+        match stepped(&mut self.place, input) {
+            Some(order) => {
+                note(&mut self.outstanding, input, &order);
+                self.told = None;
+                Some(order)
+            }
+            None => None,
+        }
     }
 
     /// Its frame was sent, and this was heard. `running` are the frames of its transaction, with this one.
@@ -122,9 +129,7 @@ impl Seat {
     pub(crate) fn down(&mut self)
         ensures { self.new ≡ down_at self.old }
     {
-        if let Some(machine) = self.machine.take() {
-            self.kept = Some(machine.into_kept());
-        }
+        self.place = Place::Down(self.kept().copy());
         self.finding = None;
         self.told = None;
     }
@@ -164,16 +169,16 @@ impl Seat {
     pub(crate) fn is_up(&self) -> bool
         ensures { result ≡ self.now.controller.up }
     {
-        self.machine.is_some()
+        matches!(self.place, Place::Up(_))
     }
 
     /// What is due for the controller: nothing while it is down.
     pub(crate) fn due(&self) -> Due
         ensures { result ≡ due_of self.now.controller }
     {
-        match &self.machine {
-            Some(machine) => machine.due(),
-            None => Due::Nothing,
+        match &self.place {
+            Place::Up(machine) => machine.due(),
+            Place::Down(_) => Due::Nothing,
         }
     }
 
@@ -182,9 +187,9 @@ impl Seat {
         ensures { MatchOption result (self.now.controller.up ≡ false)
             (λ table. (self.now.controller.up ≡ true) × (table.now ≡ table_of self.now.controller.records)) }
     {
-        match &self.machine {
-            Some(machine) => Some(machine.table()),
-            None => None,
+        match &self.place {
+            Place::Up(machine) => Some(machine.table()),
+            Place::Down(_) => None,
         }
     }
 
@@ -192,12 +197,9 @@ impl Seat {
     pub(crate) fn kept(&self) -> &Kept
         ensures { result.now ≡ self.now.controller.records }
     {
-        match &self.machine {
-            Some(machine) => machine.kept(),
-            None => match &self.kept {
-                Some(kept) => kept,
-                None => unreachable!(),
-            },
+        match &self.place {
+            Place::Up(machine) => machine.kept(),
+            Place::Down(kept) => kept,
         }
     }
 
@@ -215,25 +217,23 @@ impl Seat {
     fn last(&self) -> Option<Order>
         ensures { result ≡ self.now.controller.last }
     {
-        match &self.machine {
-            Some(machine) => machine.last(),
-            None => None,
+        match &self.place {
+            Place::Up(machine) => machine.last(),
+            Place::Down(_) => None,
         }
     }
 }
 
 /// A machine acts on an input that it waits for.
-fn stepped(machine: &mut Option<Machine>, input: Input) -> Order
-    requires { Waits machine.old input }
-    ensures answer { MayAnswer machine.old input result }
-    ensures state { machine.new ≡ option_map (λ m. machine_after m input result) machine.old }
+fn stepped(place: &mut Place, input: Input) -> Option<Order>
+    requires { Waits (machine_in place.old) input }
+    ensures acted { IsSome result }
+    ensures answer { IfSome result (λ order. MayAnswer (machine_in place.old) input order) }
+    ensures state { IfSome result (λ order. place.new ≡ acted_in place.old input order) }
 {
-    match machine {
-        Some(machine) => match machine.step(input) {
-            Ok(order) => order,
-            Err(_) => unreachable!(),
-        },
-        None => unreachable!(),
+    match place {
+        Place::Up(machine) => machine.step(input).ok(),
+        Place::Down(_) => None,
     }
 }
 

@@ -1,11 +1,11 @@
 ghost use Rattle.std.specs.Prelude.{◌≡◌, ◌↔◌, ◌++◌, [], ◌<◌, ◌≤◌, length, true, false, Some, None};
-ghost use Rattle.std.specs.Prelude.{IfSome, IfOk, IfErr, IsTrue, Bool, MatchOption, if◌then◌else◌};
+ghost use Rattle.std.specs.Prelude.{IsSome, IfSome, IfOk, IfErr, IsTrue, Bool, MatchOption, if◌then◌else◌};
 ghost use Rattle.dali_special.specs.Command.{command_of};
 ghost use Rattle.dali_gear.specs.declared.row.Reach.TheVariants.{Everyone, Only};
 ghost use Rattle.dali_gear.specs.Row.{draws_needed, answers_of, heard_of, stored_of};
 ghost use Rattle.dali_arbiter.specs.Arbiter.{next, owns, total, bus_lapsed, collision};
 ghost use Rattle.dali_script.specs.Due.{frame_put, record_ordered};
-ghost use Rattle.dali_controller.specs.Machine.{table_of};
+ghost use Rattle.dali_script.specs.Table.{table_of};
 ghost use Rattle.dali_events.specs.declared.event.Event.TheVariants as event;
 ghost use Rattle.dali_events.specs.World.{start};
 ghost use Rattle.dali_events.specs.Happens.{is_arc, keeps_bus, gives_up, put_after, told_sent};
@@ -22,11 +22,10 @@ use crate::refusal::Refusal;
 use crate::seat::Seat;
 use crate::trouble::Trouble;
 use dali_arbiter::{Arbiter, Request};
-use dali_enrol::Table;
 use dali_events::Plan;
 use dali_frame::{Answer, Forward, Priority, Short};
 use dali_gear::{GearSet, Reach, Row};
-use dali_script::{Block, Due, Input, Kept, Order, Record, Trace};
+use dali_script::{Block, Due, Input, Kept, Order, Record, Table, Trace};
 use dali_special::Command;
 use std::alloc::Global;
 use std::marker::Model;
@@ -176,19 +175,24 @@ impl Standing {
     }
 
     /// A controller acts on an input. What it orders on the bus waits there from now on.
-    pub fn act(&mut self, c: u8, input: Input) -> Order
+    pub fn act(&mut self, c: u8, input: Input) -> Option<Order>
         requires up { (controller_on self.old c).up ≡ true }
         requires due { IsDue (controller_on self.old c) input }
         requires room { total self.old.bus < self.old.bus.capacity }
-        ensures answer { MayAnswer (machine_in self.old.machines c) input result }
-        ensures moves { Moves self.old (event.Acted c input result) self.new }
+        ensures acted { IsSome result }
+        ensures answer { IfSome result (λ order. MayAnswer (machine_in self.old.machines c) input order) }
+        ensures moves { IfSome result (λ order. Moves self.old (event.Acted c input order) self.new) }
         ensures placed { IsPlacedOn self.old c }
     {
         let seat = &mut self.seats[c as usize];
-        let order = seat.act(input);
-        give_up(&mut self.arbiter, &mut self.trace, c, &order);
-        request(&mut self.arbiter, c, &order);
-        order
+        match seat.act(input) {
+            Some(order) => {
+                give_up(&mut self.arbiter, &mut self.trace, c, &order);
+                request(&mut self.arbiter, c, &order);
+                Some(order)
+            }
+            None => None,
+        }
     }
 
     /// A controller asks to send an arc power frame.

@@ -1,11 +1,11 @@
 //! The machine's moments: what it orders after each thing that it may be told, also what no true bus tells.
 
+use super::values::InNumbers::{Enrol, Release, Reserve};
 use super::values::Ordered::{Commit, Done, Halt, NotDue, Put};
-use super::values::Pair::{Enrol, Release, Reserve};
-use super::values::{Ordered, Pair, are_pairs, frame, kept_of, same};
-use dali_controller::{Machine, Parts, Purpose, StepError};
+use super::values::{InNumbers, Ordered, are_pairs, frame, kept_of, same};
+use dali_controller::{Machine, Purpose, State, StepError};
 use dali_frame::{Answer, Priority, SearchAddress};
-use dali_script::{End, Fault, Input, Order};
+use dali_script::{End, Fault, Input, Kept, Order};
 use std::process::Abort;
 use std::test::Fail;
 
@@ -67,7 +67,7 @@ fn byte(byte: u8) -> Input {
 }
 
 /// A machine of a block, with these records.
-fn machine_of(bounds: (u8, u8), records: &[Pair]) -> Result<Machine, Fail> {
+fn machine_of(bounds: (u8, u8), records: &[InNumbers]) -> Result<Machine, Fail> {
     let kept = kept_of(bounds, records)?;
     Ok(Machine::new(0, &kept))
 }
@@ -112,7 +112,7 @@ fn goes_on<R: Abort>(rt: &R, machine: &mut Machine, parts: &[&[Moment]]) {
 fn plays<R: Abort>(
     rt: &R,
     bounds: (u8, u8),
-    records: &[Pair],
+    records: &[InNumbers],
     searched: u32,
     parts: &[&[Moment]],
 ) -> Result<(), Fail> {
@@ -196,7 +196,7 @@ fn destroyed_and_lapsed_frames_count_alike(rt: HostRuntime) -> Result<(), Fail> 
 fn gives<R: Abort>(
     rt: &R,
     first: u8,
-    records: &[Pair],
+    records: &[InNumbers],
     address: u8,
     program: u16,
     code: u8,
@@ -279,7 +279,7 @@ fn the_second_query_confirms_the_address_alone(rt: HostRuntime) -> Result<(), Fa
 /// Behind each frame of a transaction that frame is lost: the same transaction begins again.
 fn begins_again<R: Abort>(
     rt: &R,
-    records: &[Pair],
+    records: &[InNumbers],
     before: &[Moment],
     transaction: &[Moment],
     again: &[Ordered; 2],
@@ -466,15 +466,15 @@ fn nothing_is_released_at_the_start(rt: HostRuntime) -> Result<(), Fail> {
 }
 
 /// A start with 1 reserved for 123456.
-const RESERVED: [Pair; 1] = [Reserve(1, 0x123456)];
+const RESERVED: [InNumbers; 1] = [Reserve(1, 0x123456)];
 
 /// The same, where the gear 133456 is enrolled with another address.
-const BESIDE_ANOTHER: [Pair; 2] = [Reserve(1, 0x123456), Enrol(5, 0x133456)];
+const BESIDE_ANOTHER: [InNumbers; 2] = [Reserve(1, 0x123456), Enrol(5, 0x133456)];
 
 /// The gear of a visit does not answer. The queries of the gear with its address are answered by these bytes.
 fn resolves<R: Abort>(
     rt: &R,
-    records: &[Pair],
+    records: &[InNumbers],
     bytes: [u8; 3],
     wanted: Ordered,
 ) -> Result<(), Fail> {
@@ -505,7 +505,7 @@ fn a_random_address_is_the_one_visited(rt: HostRuntime) -> Result<(), Fail> {
 }
 
 /// A visit at the start, with 1 reserved for 123456, hears this address, where another gear is enrolled.
-fn settles<R: Abort>(rt: &R, enrolled: Pair, code: u8, wanted: Ordered) -> Result<(), Fail> {
+fn settles<R: Abort>(rt: &R, enrolled: InNumbers, code: u8, wanted: Ordered) -> Result<(), Fail> {
     let records = [Reserve(1, 0x123456), enrolled];
     let named = [(byte(code), Put(1, 0xAB00)), (SILENCE, wanted)];
     plays(rt, (0, 3), &records, 0, &[&VISIT, &named])
@@ -558,7 +558,8 @@ fn goes_on_anew<R: Abort>(rt: &R, machine: Machine, parts: &[&[Moment]]) {
     let mut machine = machine;
     for part in parts {
         goes_on(rt, &mut machine, &[part]);
-        match Machine::of(machine.into_parts()) {
+        let (kept, state) = machine.into_parts();
+        match Machine::of(kept, state) {
             Some(made) => machine = made,
             None => {
                 assert!(rt; false);
@@ -578,7 +579,7 @@ fn a_machine_is_made_again_from_its_parts(rt: HostRuntime) -> Result<(), Fail> {
     Ok(())
 }
 
-/// What is changed of the parts of a machine that is in a visit.
+/// What is changed of the state of a machine that is in a visit.
 #[derive(Clone, Copy)]
 enum Change {
     Nothing,
@@ -590,19 +591,19 @@ enum Change {
     Last(Option<Order>),
 }
 
-/// Whether the parts, with a change, are those of a machine.
-fn are_whole(parts: Parts, change: Change) -> bool {
-    let mut parts = parts;
+/// Whether the records and the state, with a change, are those of a machine.
+fn are_whole(parts: (Kept, State), change: Change) -> bool {
+    let (kept, mut state) = parts;
     match change {
         Change::Nothing => {}
-        Change::Tries => parts.tries = 8,
-        Change::Silent => parts.silent = 16,
-        Change::Opened => parts.opened = true,
-        Change::Purpose => parts.purpose = Purpose::Probing,
-        Change::Number => parts.number = SearchAddress::MASK,
-        Change::Last(order) => parts.last = order,
+        Change::Tries => state.tries = 8,
+        Change::Silent => state.silent = 16,
+        Change::Opened => state.opened = true,
+        Change::Purpose => state.purpose = Purpose::Probing,
+        Change::Number => state.number = SearchAddress::MASK,
+        Change::Last(order) => state.last = order,
     }
-    Machine::of(parts).is_some()
+    Machine::of(kept, state).is_some()
 }
 
 /// A machine that has sent the first two bytes of a visit's search address, and puts the third.

@@ -1,8 +1,8 @@
 //! The records that a controller keeps.
 
-use super::values::Pair::{Enrol, Release, Reserve};
-use super::values::{Pair, are_pairs, block, kept_of, random, same, short};
-use dali_script::{AddError, Kept, Record};
+use super::values::InNumbers::{Enrol, Release, Reserve};
+use super::values::{InNumbers, are_pairs, block, kept_of, random, same, short};
+use dali_script::{AddError, Kept, Pair, Record};
 use std::process::Abort;
 use std::test::Fail;
 
@@ -10,7 +10,7 @@ use std::test::Fail;
 fn adds<R: Abort>(
     rt: &R,
     kept: &mut Kept,
-    pair: Pair,
+    pair: InNumbers,
     wanted: Result<(), AddError>,
 ) -> Result<(), Fail> {
     let added = pair.record()?;
@@ -95,22 +95,27 @@ fn a_copy_is_the_same(rt: HostRuntime) -> Result<(), Fail> {
 
 type Numbers = [(u8, u32); 2];
 
+/// Whether pairs are these two, in this order.
+fn are_same(pairs: &[Pair], wanted: &[Pair; 2]) -> bool {
+    pairs.len() == 2 && pairs[0].is(wanted[0]) && pairs[1].is(wanted[1])
+}
+
 /// Whether block 4 to 7 has records with these two reservations and these two enrolments, and whether they are those.
 fn made_of(reserved: Numbers, enrolled: Numbers) -> Result<(bool, bool), Fail> {
     let [(first, one), (second, two)] = reserved;
     let reserved = [
-        (short(first)?, random(one)?),
-        (short(second)?, random(two)?),
+        Pair::of(short(first)?, random(one)?),
+        Pair::of(short(second)?, random(two)?),
     ];
     let [(first, one), (second, two)] = enrolled;
     let enrolled = [
-        (short(first)?, random(one)?),
-        (short(second)?, random(two)?),
+        Pair::of(short(first)?, random(one)?),
+        Pair::of(short(second)?, random(two)?),
     ];
     Ok(match Kept::of(block(4, 7)?, &reserved, &enrolled) {
         Some(kept) => (
             true,
-            kept.reserved() == reserved.as_slice() && kept.enrolled() == enrolled.as_slice(),
+            are_same(kept.reserved(), &reserved) && are_same(kept.enrolled(), &enrolled),
         ),
         None => (false, false),
     })
@@ -143,7 +148,7 @@ fn records_are_made_of_two_lists(rt: HostRuntime) -> Result<(), Fail> {
 }
 
 /// Whether each of these fits.
-fn fit<R: Abort>(rt: &R, kept: &Kept, records: &[(Pair, bool)]) -> Result<(), Fail> {
+fn fit<R: Abort>(rt: &R, kept: &Kept, records: &[(InNumbers, bool)]) -> Result<(), Fail> {
     for (added, wanted) in records {
         same(rt, &kept.fits(&added.record()?), wanted);
     }

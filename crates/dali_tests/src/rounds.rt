@@ -1,8 +1,8 @@
 //! Rounds of a site, as its calls: every controller that has something due acts, in order of their numbers, and then
 //! the bus has its turn. The same commissionings stand as scripts in `dali_stories`.
 
+use super::values::InNumbers::{Enrol, Release, Reserve};
 use super::values::Ordered::{Commit, Done};
-use super::values::Pair::{Enrol, Release, Reserve};
 use super::values::{Ordered, are_pairs, kept_of, same};
 use dali_script::{Due, End, Input};
 use dali_world::{GearSet, Plan, Report, SiteState, Trouble};

@@ -4,11 +4,11 @@
 //! Most tests are lists of steps, which one function plays. What another test does with its site stands in a function
 //! of its own, which only borrows the site: that is proved in a tenth of the time.
 
+use super::values::InNumbers::{Enrol, Reserve};
 use super::values::Ordered::{Commit, Done, Halt, Put};
-use super::values::Pair::{Enrol, Reserve};
-use super::values::{Ordered, Pair, are_pairs, forward, kept_of, same};
-use dali_frame::{Answer, Forward, Random24, Short};
-use dali_script::{Due, End, Fault, Input};
+use super::values::{InNumbers, Ordered, are_pairs, forward, kept_of, same};
+use dali_frame::{Answer, Forward};
+use dali_script::{Due, End, Fault, Input, Pair};
 use dali_world::{Event, GearSet, Plan, Receipt, Refusal, Report, SiteState, Trouble};
 use std::alloc::Global;
 use std::process::Abort;
@@ -150,7 +150,7 @@ fn a_log_of_any_size_fills(rt: HostRuntime) -> Result<(), Fail> {
 fn comes_up<R: Abort>(
     rt: &R,
     site: &mut SiteState,
-    record: Option<Pair>,
+    record: Option<InNumbers>,
     wanted: Result<(), Refusal>,
 ) -> Result<(), Fail> {
     let kept = match record {
@@ -265,7 +265,7 @@ fn keeps<R: Abort>(
 }
 
 /// There is this pair alone, or none.
-fn is_pair<R: Abort>(rt: &R, pairs: &[(Short, Random24)], wanted: Option<(u8, u32)>) {
+fn is_pair<R: Abort>(rt: &R, pairs: &[Pair], wanted: Option<(u8, u32)>) {
     match wanted {
         Some(pair) => are_pairs(rt, pairs, &[pair]),
         None => are_pairs(rt, pairs, &[]),
@@ -301,9 +301,9 @@ fn a_commissioning_stands_in_the_log(rt: HostRuntime) -> Result<(), Fail> {
 }
 
 /// The record whose commit is due for controller 0.
-fn has_ordered<R: Abort>(rt: &R, site: &SiteState, wanted: Option<Pair>) {
+fn has_ordered<R: Abort>(rt: &R, site: &SiteState, wanted: Option<InNumbers>) {
     assert!(rt; !site.plan().blocks().is_empty());
-    same(rt, &site.ordered(0).map(Pair::of), &wanted);
+    same(rt, &site.ordered(0).map(InNumbers::of), &wanted);
 }
 
 /// Controller 0 goes on to its first record, which is not committed.
@@ -329,7 +329,7 @@ enum Step {
     Quiet(Result<(), Refusal>),
     /// Controller 0 goes down, and comes up with this record or none.
     Down(Result<(), Refusal>),
-    Up(Option<Pair>, Result<(), Refusal>),
+    Up(Option<InNumbers>, Result<(), Refusal>),
     /// So many events are in the log, and this is the last of them.
     Logged(usize, Event),
     Reads(Shown),
@@ -338,7 +338,7 @@ enum Step {
     /// Whether the queue is full.
     Crowded(bool),
     /// The record whose commit is due for controller 0.
-    Ordered(Option<Pair>),
+    Ordered(Option<InNumbers>),
 }
 
 /// A step that calls the site and answers no more than that it was accepted.

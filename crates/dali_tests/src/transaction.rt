@@ -3,7 +3,7 @@
 //! A trace is written as frames, each with what was heard after it where that is not silence: `B10A B3BC B5DE
 //! BB00=09`. A byte is two digits, and `??` is a damaged answer.
 
-use super::values::Pair::Reserve;
+use super::values::InNumbers::Reserve;
 use super::values::{frame, kept_of, random, same, short};
 use dali_frame::{Answer, Forward, Random24, SearchAddress, Short};
 use dali_script::{Entry, Finding, Kept, Stage, Trace};

@@ -4,7 +4,7 @@
 //! that may fail.
 
 use dali_frame::{Forward, Random24, Short};
-use dali_script::{Block, End, Fault, Kept, Order, Record};
+use dali_script::{Block, End, Fault, Kept, Order, Pair, Record};
 use std::fmt::Debug;
 use std::process::Abort;
 use std::test::Fail;
@@ -55,36 +55,45 @@ pub fn block(first: u8, last: u8) -> Result<Block, Fail> {
 
 /// A record, by the numbers of its addresses.
 #[derive(Clone, Copy, Debug, PartialEq, Eq)]
-pub enum Pair {
+pub enum InNumbers {
     Reserve(u8, u32),
     Enrol(u8, u32),
     Release(u8, u32),
 }
 
-impl Pair {
+impl InNumbers {
     pub fn record(self) -> Result<Record, Fail> {
         match self {
-            Pair::Reserve(address, number) => {
+            InNumbers::Reserve(address, number) => {
                 Ok(Record::Reserve(short(address)?, random(number)?))
             }
-            Pair::Enrol(address, number) => Ok(Record::Enrol(short(address)?, random(number)?)),
-            Pair::Release(address, number) => {
+            InNumbers::Enrol(address, number) => Ok(Record::Enrol(
+                short(address)?,
+                random(number)?,
+            )),
+            InNumbers::Release(address, number) => {
                 Ok(Record::Release(short(address)?, random(number)?))
             }
         }
     }
 
-    pub fn of(record: Record) -> Pair {
+    pub fn of(record: Record) -> InNumbers {
         match record {
-            Record::Reserve(address, number) => Pair::Reserve(address.number(), number.value()),
-            Record::Enrol(address, number) => Pair::Enrol(address.number(), number.value()),
-            Record::Release(address, number) => Pair::Release(address.number(), number.value()),
+            Record::Reserve(address, number) => InNumbers::Reserve(
+                address.number(),
+                number.value(),
+            ),
+            Record::Enrol(address, number) => InNumbers::Enrol(address.number(), number.value()),
+            Record::Release(address, number) => InNumbers::Release(
+                address.number(),
+                number.value(),
+            ),
         }
     }
 }
 
 /// Adds a record that must fit.
-fn add(kept: &mut Kept, pair: Pair) -> Result<(), Fail> {
+fn add(kept: &mut Kept, pair: InNumbers) -> Result<(), Fail> {
     let added = pair.record()?;
     if !kept.fits(&added) {
         return Err(Fail::from("a record that fits"));
@@ -94,7 +103,7 @@ fn add(kept: &mut Kept, pair: Pair) -> Result<(), Fail> {
 }
 
 /// The records of a controller with this block.
-pub fn kept_of(bounds: (u8, u8), records: &[Pair]) -> Result<Kept, Fail> {
+pub fn kept_of(bounds: (u8, u8), records: &[InNumbers]) -> Result<Kept, Fail> {
     let mut kept = Kept::new(block(bounds.0, bounds.1)?);
     for pair in records {
         add(&mut kept, *pair)?;
@@ -107,7 +116,7 @@ pub fn kept_of(bounds: (u8, u8), records: &[Pair]) -> Result<Kept, Fail> {
 pub enum Ordered {
     /// A frame, at a priority.
     Put(u8, u16),
-    Commit(Pair),
+    Commit(InNumbers),
     Done(End),
     Halt(Fault),
     /// None: the input was not due.
@@ -118,7 +127,7 @@ impl Ordered {
     pub fn of(order: Order) -> Ordered {
         match order {
             Order::Put(priority, frame) => Ordered::Put(priority.number(), bytes_of(frame)),
-            Order::Commit(record) => Ordered::Commit(Pair::of(record)),
+            Order::Commit(record) => Ordered::Commit(InNumbers::of(record)),
             Order::Done(end) => Ordered::Done(end),
             Order::Halt(fault) => Ordered::Halt(fault),
         }
@@ -126,9 +135,9 @@ impl Ordered {
 }
 
 /// These pairs of a short and a random address are these numbers, in this order.
-pub fn are_pairs(rt: &impl Abort, pairs: &[(Short, Random24)], wanted: &[(u8, u32)]) {
+pub fn are_pairs(rt: &impl Abort, pairs: &[Pair], wanted: &[(u8, u32)]) {
     assert!(rt; pairs.len() == wanted.len());
     for (pair, numbers) in pairs.iter().zip(wanted) {
-        same(rt, &(pair.0.number(), pair.1.value()), numbers);
+        same(rt, &(pair.address(), pair.random().value()), numbers);
     }
 }

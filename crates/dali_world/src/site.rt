@@ -13,17 +13,17 @@ ghost use Rattle.dali_script.specs.Due.{record_ordered};
 ghost use Rattle.dali_events.specs.Plan.{block_at};
 ghost use Rattle.dali_script.specs.declared.orders.Order.TheVariants as order;
 ghost use Rattle.dali_script.specs.declared.orders.Fault.TheVariants as fault;
-ghost use Rattle.dali_controller.specs.Machine.{Machine, table_of};
+ghost use Rattle.dali_controller.specs.Machine.{Machine};
+ghost use Rattle.dali_script.specs.Table.{table_of};
 ghost use Rattle.dali_standing.specs.declared.trouble.Trouble.TheVariants as trouble;
 ghost use Rattle.dali_standing.specs.declared.refusal.Refusal.TheVariants as refusal;
 
 use crate::receipt::Receipt;
 use dali_arbiter::Request;
-use dali_enrol::Table;
 use dali_events::{Event, Plan};
 use dali_frame::{Forward, Short};
 use dali_gear::{Gear, GearSet};
-use dali_script::{Due, Input, Kept, Record};
+use dali_script::{Due, Input, Kept, Record, Table};
 use dali_standing::{Refusal, Report, Standing, Trouble, is_arc_power};
 use std::alloc::Global;
 use std::marker::Model;
@@ -131,11 +131,15 @@ impl SiteState {
         if self.is_full() {
             return Err(Refusal::LogFull);
         }
-        let order = self.standing.act(c, input);
-        let ordered = order;
-        append(&mut self.log, &Event::Acted(c, input, ordered));
-        let number = count(&mut self.shares, c);
-        Ok(Receipt::new(c, input, order, number))
+        match self.standing.act(c, input) {
+            Some(order) => {
+                let ordered = order;
+                append(&mut self.log, &Event::Acted(c, input, ordered));
+                let number = count(&mut self.shares, c);
+                Ok(Receipt::new(c, input, order, number))
+            }
+            None => Err(Refusal::NotDue),
+        }
     }
 
     /// A controller asks to send a frame of direct arc power. Its machine hears nothing of it.

@@ -22,12 +22,12 @@ pub returns-in-Some-clause-unfinished : goal.returns-in-Some-clause-unfinished
 returns-in-Some-clause-unfinished c =
     let k = c.args.kept.now in
     let is = number_is k.reserved c.args.address (Some c.in_ok-random.random) c.in_ok-random.ensures.kept.reserved.address_once c.in_ok-random.ensures.value in
-    let enrolled = address_is k.enrolled c.in_ok-random.random (Some c.in-Some.field-0) c.in_ok-random.ensures.kept.enrolled.random_once (rw c.requires at c.in-Some.ensures) in
+    let enrolled = address_is k.enrolled c.in_ok-random.random (Some c.in-Some.field-0) c.in_ok-random.ensures.kept.enrolled.random_once c.in-Some.ensures.value in
     sym (unfinished_is k c.args.address c.in_ok-random.random (Some c.in-Some.field-0) is enrolled)
 
 pub returns-in-None-clause-unfinished : goal.returns-in-None-clause-unfinished
 returns-in-None-clause-unfinished c =
     let k = c.args.kept.now in
     let is = number_is k.reserved c.args.address (Some c.in_ok-random.random) c.in_ok-random.ensures.kept.reserved.address_once c.in_ok-random.ensures.value in
-    let enrolled = address_is k.enrolled c.in_ok-random.random None c.in_ok-random.ensures.kept.enrolled.random_once (rw c.requires at c.in-None.ensures) in
+    let enrolled = address_is k.enrolled c.in_ok-random.random None c.in_ok-random.ensures.kept.enrolled.random_once c.in-None.ensures.value in
     sym (unfinished_is k c.args.address c.in_ok-random.random None is enrolled)

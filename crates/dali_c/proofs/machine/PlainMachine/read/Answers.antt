@@ -1,9 +1,23 @@
-use Rattle.dali_controller.specs.Parts.{whole_of}
-use Rattle.dali_c.proofs.Machines.{spells_once, made_of}
+use Rattle.std.proofs.Common.{◌≡◌, sym, subst, ◌∙◌, true, false}
+use Rattle.dali_controller.specs.Parts.{machine_with}
+use Rattle.dali_controller.specs.Whole.{IsWhole}
+use Rattle.dali_c.specs.Machines.{IsHeld}
+use Rattle.dali_c.specs.Records.{kept_of}
+use Rattle.dali_c.proofs.Machines.{spells_once, read_of}
 use Rattle.dali_c.proofs.machine.PlainMachine.read.Goals as goal
 
-pub returns-clause-same : goal.returns-clause-same
-returns-clause-same c =
-    λ m holds.
-    let w = whole_of c.in_ok-parts.field-0 in
-    made_of c.of.result m w (spells_once c.args.self.now m w holds.spells c.in_ok-parts.ensures.spelled) holds.whole c.of.ensures.whole.1 c.of.ensures.machine
+pub returns-then-is_whole : goal.returns-then-is_whole
+returns-then-is_whole c =
+    let p = c.args.self.now in
+    let s = c.in_ok-state.state in
+    let whole : IsWhole (machine_with s (kept_of p.records)) = subst (λ k. IsWhole (machine_with s k)) c.in_ok-records.ensures.1 (c.is_whole.ensures.0 c.if-is_whole.true) in
+    read_of p s (record { spells = c.in_ok-state.ensures.spelled; records = c.in_ok-records.ensures.0; whole = whole })
+
+pub returns-else-is_whole : goal.returns-else-is_whole
+returns-else-is_whole c m holds =
+    let p = c.args.self.now in
+    let s = c.in_ok-state.state in
+    let same = spells_once p.state holds.state s holds.held.spells c.in_ok-state.ensures.spelled in
+    let whole : IsWhole (machine_with s (kept_of p.records)) = subst (λ x. IsWhole (machine_with x (kept_of p.records))) same holds.held.whole in
+    let no : false ≡ true = sym c.if-is_whole.false ∙ c.is_whole.ensures.1 (subst (λ k. IsWhole (machine_with s k)) (sym c.in_ok-records.ensures.1) whole) in
+    absurd (cc)

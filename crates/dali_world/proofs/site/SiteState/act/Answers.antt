@@ -18,39 +18,45 @@ count-number-requires-clause-few c =
 
 pub invariant_of-self : goal.invariant_of-self
 invariant_of-self c =
+    let moves = rw c.in-Some.is at c.act.ensures.moves in
     let up = c.in_ok-check_up.ensures.ok in
     let four : c.args.c < 4 = let there = up.1 in let few = up.2 in omega arith in
-    step_goes_on _ _ _ _ _ _ _ _ _ (event.Acted c.args.c c.args.input c.act-order.result) c.args.c c.self.view_is c.self.invariant (c.if-is_full.ensures.room refl)
-    c.act-order.ensures.moves c.append.ensures.items c.append.ensures.capacity four c.count-number.ensures.shares (λ d. refl)
+    step_goes_on _ _ _ _ _ _ _ _ _ (event.Acted c.args.c c.args.input c.in-Some.order) c.args.c c.self.view_is c.self.invariant (c.if-is_full.ensures.room refl)
+    moves c.append.ensures.items c.append.ensures.capacity four c.count-number.ensures.shares (λ d. refl)
 
-pub returns-clause-answer : goal.returns-clause-answer
+pub returns-in-Some-clause-answer : goal.returns-in-Some-clause-answer
 unfolding Rattle.dali_world.specs.Site.Acts
-returns-clause-answer c =
+returns-in-Some-clause-answer c =
+    let moves = rw c.in-Some.is at c.act.ensures.moves in
+    let answer = rw c.in-Some.is at c.act.ensures.answer in
     let up = c.in_ok-check_up.ensures.ok in
     let four : c.args.c < 4 = let there = up.1 in let few = up.2 in omega arith in (
-      act_site _ _ _ _ _ c.count-number.new.shares _ c.count-number.result c.args.c c.args.input c.act-order.result c.new.result _ c.self.view_is c.self.invariant
-          (c.if-is_crowded.ensures.room refl) (c.if-is_full.ensures.room refl) c.act-order.ensures.moves c.act-order.ensures.answer c.append.ensures.items four
+      act_site _ _ _ _ _ c.count-number.new.shares _ c.count-number.result c.args.c c.args.input c.in-Some.order c.new.result _ c.self.view_is c.self.invariant
+          (c.if-is_crowded.ensures.room refl) (c.if-is_full.ensures.room refl) moves answer c.append.ensures.items four
           c.count-number.ensures.number c.new.ensures,
       tt,
       tt,
     )
 
-pub returns-clause-agreed : goal.returns-clause-agreed
-returns-clause-agreed c halts =
+pub returns-in-Some-clause-agreed : goal.returns-in-Some-clause-agreed
+returns-in-Some-clause-agreed c halts =
+    let answer = rw c.in-Some.is at c.act.ensures.answer in
     let up = c.in_ok-check_up.ensures.ok in
     let due : IsDue (controller_on c.self.inside.standing c.args.c) c.args.input = search rules in
-    let order : c.act-order.result ≡ Halt fault.Conflict = sym (ap (λ (r : Receipt). r.order) c.new.ensures) ∙ halts in
-    never_conflicts _ _ _ _ _ c.args.c c.args.input c.self.view_is c.self.invariant up.1 due c.act-order.ensures.placed
-    (subst (λ o. MayAnswer (machine_in c.self.inside.standing.machines c.args.c) c.args.input o) order c.act-order.ensures.answer)
+    let order : c.in-Some.order ≡ Halt fault.Conflict = sym (ap (λ (r : Receipt). r.order) c.new.ensures) ∙ halts in
+    never_conflicts _ _ _ _ _ c.args.c c.args.input c.self.view_is c.self.invariant up.1 due c.act.ensures.placed
+    (subst (λ o. MayAnswer (machine_in c.self.inside.standing.machines c.args.c) c.args.input o) order answer)
 
-pub returns-clause-fits : goal.returns-clause-fits
-returns-clause-fits c =
+pub returns-in-Some-clause-fits : goal.returns-in-Some-clause-fits
+returns-in-Some-clause-fits c =
+    let moves = rw c.in-Some.is at c.act.ensures.moves in
+    let answer = rw c.in-Some.is at c.act.ensures.answer in
     let up = c.in_ok-check_up.ensures.ok in
     let four : c.args.c < 4 = let there = up.1 in let few = up.2 in omega arith in
     fits_acted _ _ _ _ _ (rw (← c.self.view_is) (records_now _ _ _ c.self.invariant.run))
-    (act_site _ _ _ _ _ c.count-number.new.shares _ c.count-number.result c.args.c c.args.input c.act-order.result c.new.result _ c.self.view_is c.self.invariant
-    (c.if-is_crowded.ensures.room refl) (c.if-is_full.ensures.room refl) c.act-order.ensures.moves c.act-order.ensures.answer c.append.ensures.items four
+    (act_site _ _ _ _ _ c.count-number.new.shares _ c.count-number.result c.args.c c.args.input c.in-Some.order c.new.result _ c.self.view_is c.self.invariant
+    (c.if-is_crowded.ensures.room refl) (c.if-is_full.ensures.room refl) moves answer c.append.ensures.items four
     c.count-number.ensures.number c.new.ensures)
 
-pub returns-clause-records : goal.returns-clause-records
-returns-clause-records c = own_records _ _ _ _ _ c.args.c c.self.view_is c.self.invariant c.act-order.ensures.placed
+pub returns-in-Some-clause-records : goal.returns-in-Some-clause-records
+returns-in-Some-clause-records c = own_records _ _ _ _ _ c.args.c c.self.view_is c.self.invariant c.act.ensures.placed

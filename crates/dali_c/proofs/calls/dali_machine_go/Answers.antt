@@ -1,0 +1,10 @@
+use Rattle.std.proofs.Common.{subst}
+use Rattle.dali_c.specs.Machines.{IsHeld}
+use Rattle.dali_c.proofs.Machines.{spells_once, read_of}
+use Rattle.dali_c.proofs.calls.dali_machine_go.Goals as goal
+
+pub go_on-requires : goal.go_on-requires
+go_on-requires c =
+    let p = c.args.machine.now in
+    let held = c.requires.1.held in
+    read_of p c.in-Some.state (subst (IsHeld p) (spells_once p.state c.requires.1.state c.in-Some.state held.spells c.in-Some.ensures.spelled) held)

@@ -1,0 +1,4 @@
+use Rattle.dali_c.proofs.calls.dali_machine_records.Goals as goal
+
+pub returns-in_default-clause-records : goal.returns-in_default-clause-records
+returns-in_default-clause-records c m holds = absurd (c.in_default.ensures m holds)

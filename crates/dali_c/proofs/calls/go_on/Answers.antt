@@ -1,0 +1,26 @@
+use Rattle.std.proofs.Common.{◌≡◌, Some, refl, sym, subst, ◌∙◌}
+use Rattle.dali_script.specs.declared.orders.Input.{Input}
+use Rattle.dali_controller.specs.Machine.{Machine}
+use Rattle.dali_controller.specs.Parts.{machine_with}
+use Rattle.dali_c.specs.Calls.{Steps}
+use Rattle.dali_c.specs.Records.{kept_of}
+use Rattle.dali_c.specs.declared.machine.PlainMachine.{PlainMachine}
+use Rattle.dali_c.proofs.calls.go_on.Goals as goal
+
+pub returns-in-Some-step-clause-done : goal.returns-in-Some-step-clause-done
+returns-in-Some-step-clause-done c m i holds is due =
+    let k = kept_of c.args.machine.now.records in
+    let after : PlainMachine = record { state = c.of-machine.result; records = c.step.new.records } in
+    let told : c.in-Some.told ≡ i = (let same : Some c.in-Some.told ≡ Some i = sym c.in-Some.is ∙ c.input_of.ensures ∙ is in cc) in
+    let steps : Steps (machine_with c.args.state k) c.in-Some.told after c.of.result = record {
+      ordered = c.in-Some-step.ordered;
+      spelled = c.of.ensures;
+      given = c.in-Some-step.ensures.given;
+      state = record {
+        state = c.step.new.state;
+        held = record { spells = c.of-machine.ensures; records = c.step.ensures.kept; whole = c.in-Some-step.ensures.whole };
+        is = sym c.in-Some-step.ensures.state;
+      };
+      fits = c.in-Some-step.ensures.fits;
+    } in
+    (refl, subst (λ j. Steps m j after c.of.result) told (subst (λ (n : Machine). Steps n c.in-Some.told after c.of.result) (sym (c.requires.once m holds)) steps))

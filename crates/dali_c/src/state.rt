@@ -1,0 +1,97 @@
+//! The state of a machine as plain bytes.
+
+ghost use Rattle.std.specs.Prelude.{◌≡◌, Some, IfSome, IfNone};
+ghost use Rattle.dali_search.specs.Least.{Search};
+ghost use Rattle.dali_controller.specs.declared.state.State.{State};
+ghost use Rattle.dali_c.specs.Machines.{IsPlainSearch, Spells};
+
+use crate::codes::bool_of;
+use crate::entries::{FRAMES, PlainEntry, read_trace, write_entries};
+use crate::orders::{PlainFinding, PlainOrder};
+use crate::pairs::PlainRandom;
+use crate::purposes::{purpose_code, purpose_of};
+use dali_controller::State;
+use dali_search::Search;
+
+/// A machine without its records. Its fields are those of [`State`], with the search as three numbers.
+#[repr(C)]
+#[derive(Clone, Copy)]
+pub struct PlainState {
+    pub id: u8,
+    pub opened: u8,
+    pub tries: u8,
+    pub silent: u8,
+    pub from: u8,
+    pub purpose: u8,
+    pub detail: u8,
+    pub answers: u8,
+    pub number: PlainRandom,
+    pub least: PlainRandom,
+    pub probe: PlainRandom,
+    pub finding: PlainFinding,
+    pub last: PlainOrder,
+    pub entry_count: u8,
+    pub entries: [PlainEntry; FRAMES],
+}
+
+impl PlainState {
+    pub(crate) fn of(state: &State) -> PlainState
+        ensures { Spells result state.now }
+    {
+        let (purpose, detail) = purpose_code(state.purpose);
+        let entries = state.trace.entries();
+        PlainState {
+            id: state.id,
+            opened: u8::from(state.opened),
+            tries: state.tries,
+            silent: state.silent,
+            from: state.from,
+            purpose,
+            detail,
+            answers: state.search.answers(),
+            number: PlainRandom::of_search(state.number),
+            least: PlainRandom::of(state.search.least()),
+            probe: PlainRandom::of(state.search.probe()),
+            finding: PlainFinding::of(state.finding),
+            last: PlainOrder::of(state.last),
+            entry_count: entries.len() as u8,
+            entries: write_entries(entries),
+        }
+    }
+
+    /// None where its bytes spell no state.
+    pub(crate) fn read(&self) -> Option<State>
+        ensures spelled { IfSome result (Spells self.now) }
+        ensures none { IfNone result ((s : State) → Spells self.now s → ⊥) }
+    {
+        let opened = bool_of(self.opened)?;
+        let purpose = purpose_of(self.purpose, self.detail)?;
+        let finding = self.finding.read()?;
+        let last = self.last.read()?;
+        let search = self.search()?;
+        let trace = read_trace(&self.entries, self.entry_count)?;
+        Some(State {
+            id: self.id,
+            trace,
+            finding,
+            last,
+            tries: self.tries,
+            silent: self.silent,
+            opened,
+            purpose,
+            number: self.number.search(),
+            search,
+            from: self.from,
+        })
+    }
+
+    fn search(&self) -> Option<Search>
+        ensures search { IfSome result (IsPlainSearch self.now) }
+        ensures same { (s : Search) → IsPlainSearch self.now s → result ≡ Some s }
+    {
+        let search = Search::of(self.answers, self.least.read(), self.probe.read())?;
+        // What is a search has come of one that asked.
+        let _ = search.answers();
+        Some(search)
+    }
+}

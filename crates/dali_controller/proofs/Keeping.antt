@@ -1,0 +1,59 @@
+use Rattle.std.proofs.Common.{◌≡◌, ℕ, ◌<◌, Option, Some, None, Result, Ok, Err, sym, subst, ap, ◌∙◌}
+use Rattle.std.specs.Prelude.{IfSome, IfOk}
+use Rattle.dali_frame.specs.Random.{MASK24}
+use Rattle.dali_script.specs.declared.records.Record.{Record}
+use Rattle.dali_script.specs.declared.records.Record.TheVariants.{Reserve}
+use Rattle.dali_script.specs.declared.orders.Input.{Input}
+use Rattle.dali_script.specs.declared.orders.Input.TheVariants as input
+use Rattle.dali_script.specs.declared.orders.Order.{Order}
+use Rattle.dali_script.specs.declared.orders.Order.TheVariants.{Put, Commit, Done, Halt}
+use Rattle.dali_script.specs.Records.{Kept, HasRandom, Fits, MayAdd, with_record}
+use Rattle.dali_script.proofs.Lists.{has_last, has_map}
+use Rattle.dali_controller.specs.declared.state.State.{State}
+use Rattle.dali_controller.specs.Course.{Course}
+use Rattle.dali_controller.specs.Machine.{Machine}
+use Rattle.dali_controller.specs.Next.{BeginsWith}
+use Rattle.dali_controller.specs.Orders.{IsGiven, IsAnswered, IsFollowedAt, machine_after}
+use Rattle.dali_controller.specs.Parts.{machine_with}
+use Rattle.dali_controller.specs.Whole.{IsWhole, IsStoring, Pending}
+use Rattle.dali_controller.specs.Steps.{IsBefore, with_some, kept_by}
+
+-- WHAT IS RESERVED FROM NOW ON was drawn.
+pub reserved_now : (s : State) (k new : Kept) (a n : ℕ) → IsBefore s k input.Committed new → s.last ≡ Some (Commit (Reserve a n)) → (n < MASK24) × HasRandom new.reserved n
+reserved_now s k new a n before last =
+    let stored : IsStoring (machine_with s k) (Reserve a n) = subst (Pending (machine_with s k)) last before.whole in
+    let same : new ≡ with_record k (Reserve a n) = before.kept ∙ ap (λ l. with_some k (kept_by l input.Committed)) last in
+    (stored.fits.1, rw same (has_map (λ q. q.1) (with_record k (Reserve a n)).reserved (a, n) (has_last k.reserved (a, n))))
+
+-- A RECORD THAT AN INPUT SAYS IS KEPT fits, and may be added.
+pub kept_may : (s : State) (k : Kept) (i : Input) → IsWhole (machine_with s k) → IfSome (kept_by s.last i) (λ x. Fits k.block x × MayAdd k x)
+kept_may s k i whole = go s.last i whole where
+  go : (l : Option Order) (i : Input) → Pending (machine_with s k) l → IfSome (kept_by l i) (λ x. Fits k.block x × MayAdd k x)
+  go None i p = tt
+  go (Some (Put q f)) i p = tt
+  go (Some (Commit x)) input.Start p = tt
+  go (Some (Commit x)) (input.Heard h) p = tt
+  go (Some (Commit x)) input.Destroyed p = tt
+  go (Some (Commit x)) input.Lapsed p = tt
+  go (Some (Commit x)) input.Committed p = (p.fits, p.may)
+  go (Some (Commit x)) input.CommitFailed p = tt
+  go (Some (Done e)) i p = tt
+  go (Some (Halt why)) i p = tt
+
+-- WHAT A STEP GIVES, clause by clause
+pub given_answered : {E : Type 0} (r : Result Order E) (m : Machine) (i : Input) → IfOk r (λ o. IsGiven m i o) → IfOk r (λ o. IsAnswered m i o)
+given_answered (Ok o) m i given = given.answered
+given_answered (Err e) m i given = tt
+
+pub given_followed : {E : Type 0} (r : Result Order E) (m : Machine) (i : Input) → IfOk r (λ o. IsGiven m i o) → IfOk r (λ o. IsFollowedAt m i o)
+given_followed (Ok o) m i given = given.followed
+given_followed (Err e) m i given = tt
+
+pub given_begins : {E : Type 0} (r : Result Order E) (m : Machine) (i : Input) (c : Course) (new : Machine) → IfOk r (λ o. IsGiven m i o) → IfOk r (λ o. new ≡ machine_after m i o) → new.course ≡ c
+    → IfOk r (BeginsWith c)
+given_begins (Ok o) m i c new given state is = subst (λ d. BeginsWith d o) (sym (ap (λ (n : Machine). n.course) state) ∙ is) given.begins
+given_begins (Err e) m i c new given state is = tt
+
+-- the records before a step, and those that it goes by
+pub before_is : (s : State) (k new view : Kept) (added : Option Record) (i : Input) → IsWhole (machine_with s k) → added ≡ kept_by s.last i → new ≡ with_some k added → view ≡ new → IsBefore s k i view
+before_is s k new view added i whole is now shown = record { whole = whole; kept = shown ∙ now ∙ ap (with_some k) is }

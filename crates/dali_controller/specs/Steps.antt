@@ -1,0 +1,25 @@
+use Rattle.std.specs.Prelude.{◌≡◌, Option, Some, None}
+use Rattle.dali_script.specs.declared.records.Record.{Record}
+use Rattle.dali_script.specs.declared.orders.Input.{Input}
+use Rattle.dali_script.specs.declared.orders.Input.TheVariants as input
+use Rattle.dali_script.specs.declared.orders.Order.{Order}
+use Rattle.dali_script.specs.declared.orders.Order.TheVariants.{Commit}
+use Rattle.dali_script.specs.Records.{Kept, with_record}
+use Rattle.dali_controller.specs.declared.state.State.{State}
+use Rattle.dali_controller.specs.Parts.{machine_with}
+use Rattle.dali_controller.specs.Whole.{IsWhole}
+
+-- the record that is kept from now on, by the last order and an input
+abbrev pub kept_by : Option Order → Input → Option Record
+kept_by (Some (Commit x)) input.Committed = Some x
+kept_by _ _ = None
+
+abbrev pub with_some : Kept → Option Record → Kept
+with_some k (Some x) = with_record k x
+with_some k None = k
+
+-- A MACHINE WITH ITS RECORDS ELSEWHERE: k are those before an input, and `new` those with what the
+-- input says is kept.
+pub record IsBefore (s : State) (k : Kept) (i : Input) (new : Kept) : Type 0 where
+  pub whole : IsWhole (machine_with s k)
+  pub kept : new ≡ with_some k (kept_by s.last i)

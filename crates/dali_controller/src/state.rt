@@ -1,0 +1,207 @@
+ghost use Rattle.std.specs.Prelude.{◌≡◌, ◌+◌, ◌<◌, Some};
+ghost use Rattle.dali_frame.specs.Priority.{FIRST, LATER};
+ghost use Rattle.dali_special.specs.Command.{frame_of};
+ghost use Rattle.dali_script.specs.declared.stage.Stage.TheVariants.{Free};
+ghost use Rattle.dali_script.specs.Findings.{later, finding_of};
+ghost use Rattle.dali_script.specs.Records.{Fits, MayAdd};
+ghost use Rattle.dali_script.specs.Stages.{stage_of};
+ghost use Rattle.dali_script.specs.declared.orders.Input.TheVariants as input;
+ghost use Rattle.dali_script.specs.declared.orders.Order.TheVariants as order;
+ghost use Rattle.dali_controller.specs.declared.purpose.Purpose.TheVariants as purpose;
+ghost use Rattle.dali_script.specs.Due.{frame_put};
+ghost use Rattle.dali_controller.specs.Machine.{machine_told, is_complete, tries_after, silent_after, opened_after};
+ghost use Rattle.dali_controller.specs.Orders.{machine_ordered};
+
+use crate::purpose::Purpose;
+use dali_frame::{Answer, Forward, Priority, SearchAddress};
+use dali_script::{End, Fault, Finding, Order, Record, Records, Stage, Trace};
+use dali_search::Search;
+use dali_special::Command;
+
+/// A machine without its records: plain data of a fixed size, to be handed over or laid down between two inputs and
+/// made a machine again (`Machine::of`). It takes no memory.
+///
+/// A state may be that of no machine. Whoever has the records elsewhere steps it with them (`step`).
+#[derive(Drop)]
+pub struct State {
+    /// The controller's number.
+    pub id: u8,
+    /// The frames of the running transaction, each with what was heard.
+    pub trace: Trace,
+    /// The last gear that was found.
+    pub finding: Option<Finding>,
+    /// What was ordered last.
+    pub last: Option<Order>,
+    /// How often in a row the running transaction was lost.
+    pub tries: u8,
+    /// How many searches in a row led to no gear.
+    pub silent: u8,
+    /// Whether an opening was complete.
+    pub opened: bool,
+    /// What the running transaction is for.
+    pub purpose: Purpose,
+    /// The search address of the running transaction, where it has one.
+    pub number: SearchAddress,
+    /// The search for the least random address.
+    pub search: Search,
+    /// In the visits before the opening, the first short address that was not looked at.
+    pub from: u8,
+}
+
+impl State {
+    ghost use Rattle.dali_controller.specs.Parts.{with_kept, machine_with, course_of};
+    ghost use Rattle.dali_controller.specs.Moments.{IsHeard, Begins};
+    ghost use Rattle.dali_controller.specs.Whole.{IsWhole, Sends, IsReady};
+    ghost use Rattle.dali_controller.specs.Moments.{IsNext, Starts};
+    ghost use Rattle.dali_controller.specs.Course.{closing_of, taking};
+
+    /// Whether the running transaction is complete.
+    fn is_complete(&self, kept: &Records<'_>) -> bool
+        ensures { result ≡ is_complete kept.now (closing_of self.now.purpose) (stage_of self.now.trace) }
+    {
+        self.purpose.end().is_some() || self.trace.complete_by(kept)
+    }
+
+    /// The tries of the running transaction: none where it is complete.
+    fn tries_after(&self, kept: &Records<'_>) -> u8
+        ensures { result
+            ≡ tries_after (is_complete kept.now (closing_of self.now.purpose) (stage_of self.now.trace))
+            self.now.tries }
+    {
+        // Of a transaction that was not lost before, it need not be known.
+        if self.tries == 0 || self.is_complete(kept) {
+            0
+        } else {
+            self.tries
+        }
+    }
+
+    /// The silent searches, with the running transaction.
+    fn silent_after(&self) -> u8
+        requires { self.now.silent < 255 }
+        ensures { result ≡ silent_after (stage_of self.now.trace) self.now.opened self.now.silent }
+    {
+        match self.trace.stage() {
+            Stage::Unanswered(_) | Stage::Inconclusive(..) if self.opened => self.silent + 1,
+            Stage::Withdrawn(..) => 0,
+            _ => self.silent,
+        }
+    }
+
+    /// Whether an opening was complete, with the running transaction.
+    fn opened_after(&self) -> bool
+        ensures { result ≡ opened_after (stage_of self.now.trace) self.now.opened }
+    {
+        match self.trace.stage() {
+            Stage::Opened => true,
+            _ => self.opened,
+        }
+    }
+
+    /// Keeps the last finding.
+    fn note_finding(&mut self)
+        ensures { self.new ≡ record self.old { finding = later self.old.finding (finding_of self.old.trace) } }
+    {
+        if let Some(found) = self.trace.found() {
+            self.finding = Some(found);
+        }
+    }
+
+    /// Takes what was heard after the frame that was put, and says how far the transaction is.
+    pub(crate) fn hear(&mut self, kept: &Records<'_>, frame: Forward, heard: Answer) -> Stage
+        requires whole { IsWhole (machine_with self.old kept.now) }
+        requires put { frame_put self.old.last ≡ Some frame }
+
+        ensures told { machine_with self.new kept.now
+            ≡ machine_told (machine_with self.old kept.now) (input.Heard heard) }
+        ensures heard { IsHeard (with_kept self.new kept.now) result }
+    {
+        self.trace.push(frame, heard);
+        self.note_finding();
+        self.tries = self.tries_after(kept);
+        self.silent = self.silent_after();
+        self.opened = self.opened_after();
+        self.trace.stage()
+    }
+
+    /// Goes on with the running transaction.
+    pub(crate) fn put(&mut self, kept: &Records<'_>, command: Command) -> Order
+        requires heard { IsHeard (with_kept self.old kept.now) (stage_of self.old.trace) }
+        requires sends { Sends kept.now self.old.number self.old.purpose (stage_of self.old.trace) command }
+        requires later { stage_of self.old.trace ≡ Free → ⊥ }
+
+        ensures order { result ≡ order.Put LATER (frame_of command) }
+        ensures course { course_of self.new ≡ course_of self.old }
+        ensures next { IsNext (machine_with self.old kept.now) result (machine_with self.new kept.now) }
+        ensures whole { IsWhole (machine_with self.new kept.now) }
+    {
+        let priority = Priority::LATER;
+        let frame = command.write();
+        self.last = Some(Order::Put(priority, frame));
+        Order::Put(priority, frame)
+    }
+
+    /// Begins a transaction.
+    pub(crate) fn begin(
+        &mut self,
+        kept: &Records<'_>,
+        purpose: Purpose,
+        number: SearchAddress,
+    ) -> Order
+        requires { Begins (with_kept self.old kept.now) purpose number }
+
+        ensures starts { Starts (taking (course_of self.old) purpose number) result (with_kept self.new kept.now) }
+        ensures next { IsNext (machine_with self.old kept.now) result (machine_with self.new kept.now) }
+        ensures whole { IsWhole (machine_with self.new kept.now) }
+    {
+        let priority = Priority::FIRST;
+        let frame = purpose.first(number).write();
+        self.trace = Trace::new();
+        self.purpose = purpose;
+        self.number = number;
+        self.last = Some(Order::Put(priority, frame));
+        Order::Put(priority, frame)
+    }
+
+    /// Orders that a record is kept.
+    pub(crate) fn commit(&mut self, kept: &Records<'_>, added: Record) -> Order
+        requires ready { IsReady (machine_with self.old kept.now) }
+        requires going { closing_of self.old.purpose ≡ None }
+        requires fits { Fits kept.now.block added }
+        requires may { MayAdd kept.now added }
+
+        ensures order { result ≡ order.Commit added }
+        ensures course { course_of self.new ≡ course_of self.old }
+        ensures state { machine_with self.new kept.now ≡ machine_ordered (machine_with self.old kept.now) result }
+        ensures whole { IsWhole (machine_with self.new kept.now) }
+    {
+        self.trace = Trace::new();
+        let same = added;
+        self.last = Some(Order::Commit(added));
+        Order::Commit(same)
+    }
+
+    /// Ends.
+    pub(crate) fn done(&mut self, kept: &Records<'_>, end: End) -> Order
+        ensures order { result ≡ order.Done end }
+        ensures course { course_of self.new ≡ course_of self.old }
+        ensures state { machine_with self.new kept.now ≡ machine_ordered (machine_with self.old kept.now) result }
+        ensures whole { IsWhole (machine_with self.new kept.now) }
+    {
+        self.trace = Trace::new();
+        self.last = Some(Order::Done(end));
+        Order::Done(end)
+    }
+
+    /// Halts.
+    pub(crate) fn halt(&mut self, kept: &Records<'_>, fault: Fault) -> Order
+        ensures order { result ≡ order.Halt fault }
+        ensures course { course_of self.new ≡ course_of self.old }
+        ensures state { machine_with self.new kept.now ≡ machine_ordered (machine_with self.old kept.now) result }
+        ensures whole { IsWhole (machine_with self.new kept.now) }
+    {
+        self.trace = Trace::new();
+        self.last = Some(Order::Halt(fault));
+        Order::Halt(fault)
+    }
+}

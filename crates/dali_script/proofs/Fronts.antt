@@ -1,0 +1,131 @@
+use Rattle.std.proofs.Common.{◌≡◌, ℕ, ◌+◌, ◌<◌, ◌≤◌, ◌⊎◌, inl, inr, Bool, true, false, Option, Some, None, List, [], ◌∷◌, ◌++◌, refl, sym, ap, subst, ◌∙◌, arith, length, map, get_or, ◌≢◌, replicate, take, drop, set, ◌-◌, length-set, take-take, get_or-set_same, get_or-set_other}
+use Rattle.std.specs.Prelude.{suc, ◌↔◌, IsSome, IfSome, MatchOption}
+use Rattle.std.proofs.lemmas.Bool.{cases_eq}
+use Rattle.std.specs.List.{remove}
+use Rattle.std.proofs.Math.Seq.{paste}
+use Rattle.std.proofs.lemmas.List.{take_more, get_or-replicate, drop-take, length-drop}
+use Rattle.std.proofs.lemmas.List.Edits.{take-paste}
+use Rattle.dali_frame.specs.Random.{MASK24, low_of}
+use Rattle.dali_script.specs.declared.block.Block.{Block}
+use Rattle.dali_script.specs.Records.{Assignment, Has, HasAddress, HasRandom, InBlock, IsMap, Marks, IsFresh, AreEnrolled, AllDrawn}
+use Rattle.dali_script.specs.Pairs.{Seen}
+use Rattle.dali_script.proofs.Lists.{has_map, has_cases, next_there, next_fresh, map_none, map_more, all_more}
+
+-- THE PAIR AT A PLACE
+pub address_at : (xs : List Assignment) (i : ℕ) (p : Assignment) → i < length xs → p ≡ get_or xs i p → HasAddress xs p.0
+address_at xs i p inside is = has_map (λ q. q.0) xs p (next_there xs i p inside is)
+
+pub random_at : (xs : List Assignment) (i : ℕ) (p : Assignment) → i < length xs → p ≡ get_or xs i p → HasRandom xs p.1
+random_at xs i p inside is = has_map (λ q. q.1) xs p (next_there xs i p inside is)
+
+pub take_next : (xs : List Assignment) (i : ℕ) (p : Assignment) → i < length xs → p ≡ get_or xs i p → take (i + 1) xs ≡ take i xs ++ p ∷ []
+take_next xs i p inside is = take_more xs i p inside ∙ ap (λ q. take i xs ++ q ∷ []) (sym is)
+
+-- which key stands in a list with one pair more
+key_cases : (key : Assignment → ℕ) (xs : List Assignment) (p : Assignment) (n : ℕ) → Has (map key (xs ++ p ∷ [])) n → Has (map key xs) n ⊎ (key p ≡ n)
+key_cases key [] p n (inl e) = inr e
+key_cases key [] p n (inr h) = elim h [ ]
+key_cases key (x ∷ xs) p n (inl e) = inl (inl e)
+key_cases key (x ∷ xs) p n (inr h) = go (key_cases key xs p n h) where
+  go : Has (map key xs) n ⊎ (key p ≡ n) → Has (map key (x ∷ xs)) n ⊎ (key p ≡ n)
+  go (inl k) = inl (inr k)
+  go (inr e) = inr e
+
+key_before : (key : Assignment → ℕ) (xs : List Assignment) (p : Assignment) (n : ℕ) → Has (map key xs) n → Has (map key (xs ++ p ∷ [])) n
+key_before key [] p n h = elim h [ ]
+key_before key (x ∷ xs) p n (inl e) = inl e
+key_before key (x ∷ xs) p n (inr h) = inr (key_before key xs p n h)
+
+key_last : (key : Assignment → ℕ) (xs : List Assignment) (p : Assignment) → Has (map key (xs ++ p ∷ [])) (key p)
+key_last key [] p = inl refl
+key_last key (x ∷ xs) p = inr (key_last key xs p)
+
+-- WITHIN A BLOCK
+pub within_more : (b : Block) (xs : List Assignment) (i : ℕ) (p : Assignment) → i < length xs → p ≡ get_or xs i p → ((a : ℕ) → HasAddress (take i xs) a → InBlock b a) → InBlock b p.0
+    → (a : ℕ) → HasAddress (take (i + 1) xs) a → InBlock b a
+within_more b xs i p inside is all here a has = go (key_cases (λ q. q.0) (take i xs) p a (subst (λ ys. HasAddress ys a) (take_next xs i p inside is) has)) where
+  go : HasAddress (take i xs) a ⊎ (p.0 ≡ a) → InBlock b a
+  go (inl before) = all a before
+  go (inr same) = subst (InBlock b) same here
+
+-- ONE PAIR MORE
+pub enrolled_none : AreEnrolled []
+enrolled_none = record { map = map_none; drawn = λ r has. absurd has }
+
+pub enrolled_more : (xs : List Assignment) (i : ℕ) (p : Assignment) → i < length xs → p ≡ get_or xs i p → AreEnrolled (take i xs) → IsFresh (take i xs) p × (p.0 < 64) × (p.1 < MASK24)
+    → AreEnrolled (take (i + 1) xs)
+enrolled_more xs i p inside is are next = subst AreEnrolled (sym (take_next xs i p inside is)) (record {
+  map = map_more (take i xs) p.0 p.1 are.map next.0.0 next.0.1 next.1;
+  drawn = all_more (λ q. q.1) (λ n. n < MASK24) (take i xs) p are.drawn next.2;
+})
+
+pub next_enrolled : (xs : List Assignment) (i : ℕ) (p : Assignment) → i < length xs → p ≡ get_or xs i p → AreEnrolled xs → IsFresh (take i xs) p × (p.0 < 64) × (p.1 < MASK24)
+next_enrolled xs i p inside is are = (next_fresh xs i p are.map inside is, are.map.short p.0 (address_at xs i p inside is), are.drawn p.1 (random_at xs i p inside is))
+
+pub marks_none : Marks [] (replicate 64 false)
+marks_none = record { all = refl; marked = λ a small. (λ is. absurd (let no : false ≡ true = sym (get_or-replicate 64 a false false small) ∙ is in cc), λ has. absurd has) }
+
+pub marks_more : (xs : List Assignment) (i : ℕ) (p : Assignment) (marks : List Bool) → i < length xs → p ≡ get_or xs i p → p.0 < 64 → Marks (take i xs) marks → Marks (take (i + 1) xs) (set marks p.0 true)
+marks_more xs i p marks inside is small m = subst (λ ys. Marks ys (set marks p.0 true)) (sym (take_next xs i p inside is)) (record {
+  all = length-set marks p.0 true ∙ m.all;
+  marked = λ a below. (only a below (cases_eq a p.0), other a below (cases_eq a p.0));
+}) where
+  before : List Assignment
+  before = take i xs
+
+  there : p.0 < length marks
+  there = rw m.all small
+
+  only : (a : ℕ) → a < 64 → (a ≡ p.0) ⊎ (a ≢ p.0) → get_or (set marks p.0 true) a false ≡ true → HasAddress (before ++ p ∷ []) a
+  only a below (inl same) marked = subst (λ n. HasAddress (before ++ p ∷ []) n) (sym same) (key_last (λ q. q.0) before p)
+  only a below (inr not_it) marked = key_before (λ q. q.0) before p a ((m.marked a below).0 (sym (get_or-set_other marks p.0 a true false not_it) ∙ marked))
+
+  other : (a : ℕ) → a < 64 → (a ≡ p.0) ⊎ (a ≢ p.0) → HasAddress (before ++ p ∷ []) a → get_or (set marks p.0 true) a false ≡ true
+  other a below (inl same) has = ap (λ b. get_or (set marks p.0 true) b false) same ∙ get_or-set_same marks p.0 true false there
+  other a below (inr not_it) has = go (key_cases (λ q. q.0) before p a has) where
+    go : HasAddress before a ⊎ (p.0 ≡ a) → get_or (set marks p.0 true) a false ≡ true
+    go (inl k) = get_or-set_other marks p.0 a true false not_it ∙ (m.marked a below).1 k
+    go (inr same) = absurd (not_it (sym same))
+
+pub seen_none : Seen [] (replicate 256 false)
+seen_none = record { all = refl; marked = λ r has. absurd has }
+
+pub seen_more : (xs : List Assignment) (i : ℕ) (p : Assignment) (n : ℕ) (seen : List Bool) → i < length xs → p ≡ get_or xs i p → n ≡ low_of p.1 → Seen (take i xs) seen → Seen (take (i + 1) xs) (set seen n true)
+seen_more xs i p n seen inside is last m = subst (λ ys. Seen ys (set seen n true)) (sym (take_next xs i p inside is)) (record {
+  all = length-set seen n true ∙ m.all;
+  marked = λ r has. marked r (cases_eq (low_of r) n) (key_cases (λ q. q.1) before p r has);
+}) where
+  before : List Assignment
+  before = take i xs
+
+  small : low_of p.1 < 256
+  small = omega arith
+
+  there : n < length seen
+  there = rw (m.all, last) small
+
+  marked : (r : ℕ) → (low_of r ≡ n) ⊎ (low_of r ≢ n) → HasRandom before r ⊎ (p.1 ≡ r) → get_or (set seen n true) (low_of r) false ≡ true
+  marked r (inl same) has = ap (λ b. get_or (set seen n true) b false) same ∙ get_or-set_same seen n true false there
+  marked r (inr not_it) (inl k) = get_or-set_other seen n (low_of r) true false not_it ∙ m.marked r k
+  marked r (inr not_it) (inr same) = absurd (not_it (sym (last ∙ ap low_of same)))
+
+-- WHAT A TEST OF A NUMBER SAYS
+pub short_found : (o : Option ℕ) (xs : List Assignment) (a r : ℕ) → IsSome o ↔ (a < 64) → IfSome o (λ s. s ≡ a) → a < 64 → Has xs (a, r) → MatchOption o (HasRandom xs r → ⊥) (λ s. Has xs (s, r))
+short_found None xs a r range value small has = absurd (let some : false ≡ true = range.1 small in cc)
+short_found (Some s) xs a r range value small has = subst (λ n. Has xs (n, r)) (sym value) has
+
+-- A PAIR TAKEN OUT of the first n, by moving those after it down
+pub removed : (xs : List Assignment) (i n : ℕ) → i < n → n ≤ length xs → take (n - 1) (paste xs i (drop (i + 1) xs) (n - (i + 1))) ≡ remove (take n xs) i
+removed xs i n less few = go (n - (i + 1)) (omega arith) where
+  go : (k : ℕ) → n ≡ (i + 1) + k → take (n - 1) (paste xs i (drop (i + 1) xs) k) ≡ remove (take n xs) i
+  go k is =
+      let front : n - 1 ≡ i + k = omega (arith, is) in
+      let one : i + 1 ≡ suc i = omega arith in
+      let rest : k ≤ length (drop (i + 1) xs) = omega (arith, is, length-drop (i + 1) xs) in
+      rw (front) (take-paste xs i (drop (i + 1) xs) k (omega arith) rest)
+      ∙ ap (λ ys. ys ++ take k (drop (i + 1) xs)) (sym (take-take i n xs (omega arith)))
+      ∙ ap (λ ys. take i (take n xs) ++ ys) (sym (drop-take (i + 1) k xs) ∙ ap (λ m. drop (i + 1) (take m xs)) (sym is) ∙ ap (λ m. drop m (take n xs)) one)
+
+pub least_found : (o : Option ℕ) (P : Type 0) (Q : ℕ → Type 0) (n : ℕ) → IsSome o ↔ (n < 64) → IfSome o (λ s. s ≡ n) → n < 64 → Q n → MatchOption o P Q
+least_found None P Q n range value small is = absurd (let some : false ≡ true = range.1 small in cc)
+least_found (Some s) P Q n range value small is = subst Q (sym value) is
