@@ -4,7 +4,7 @@ ghost use Rattle.std.specs.Prelude.{IsTrue, IfOk};
 ghost use Rattle.sqlite_disk.specs.Memory.{memory_is_usable};
 
 use super::stores::{commits, commits_are_read_back, reads};
-use super::values::Pair::{Enrol, Reserve};
+use super::values::InNumbers::{Enrol, Reserve};
 use super::values::block;
 use dali_reserve::{Keep, KeepError};
 use dali_sqlite::SqliteKeep;

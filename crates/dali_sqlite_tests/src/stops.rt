@@ -9,7 +9,7 @@
 
 use super::sites::comes_up;
 use super::tables::TABLE;
-use super::values::{Pair, block, run};
+use super::values::{InNumbers, block, run};
 use dali_reserve::Keep;
 use dali_script::{Block, Kept, Record};
 use dali_sqlite::SqliteKeep;
@@ -35,9 +35,9 @@ fn record_at(place: u8) -> Result<Record, Fail> {
     let address = place / 2;
     let drawn = u32::from(address) + 0x400000;
     if place % 2 == 0 {
-        Pair::Reserve(address, drawn).record()
+        InNumbers::Reserve(address, drawn).record()
     } else {
-        Pair::Enrol(address, drawn).record()
+        InNumbers::Enrol(address, drawn).record()
     }
 }
 
@@ -406,7 +406,7 @@ fn commits_at_each<R: Abort + AllocGlobal>(rt: &R, which: Which, place: u8) -> R
 
 /// The first 65 records, so that the last reservation is not enrolled yet, and then its enrolment with another address.
 fn with_another_address(alloc: Global) -> Result<Vec<Record>, Fail> {
-    let told = Pair::Enrol(63, 0x400020).record()?;
+    let told = InNumbers::Enrol(63, 0x400020).record()?;
     let mut records = first_records(alloc, 65)?;
     records.push(told)?;
     Ok(records)
@@ -414,7 +414,7 @@ fn with_another_address(alloc: Global) -> Result<Vec<Record>, Fail> {
 
 /// The reservation of gear with another address is released.
 fn releases_at_each<R: Abort + AllocGlobal>(rt: &R, which: Which) -> Result<(), Fail> {
-    let added = Pair::Release(32, 0x400020).record()?;
+    let added = InNumbers::Release(32, 0x400020).record()?;
     let records = with_another_address(rt.alloc())?;
     commits_after(rt, rt.alloc(), which, &records, &added)
 }

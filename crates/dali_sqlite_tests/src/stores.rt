@@ -3,8 +3,8 @@
 ghost use Rattle.std.specs.Prelude.{◌≡◌, ◌⊎◌, List, [], ◌∷◌, ◌++◌, OnOk, IfOk, false};
 ghost use Rattle.dali_script.specs.declared.records.Record.{Record};
 
-use super::values::Pair::{Enrol, Release, Reserve};
-use super::values::{Pair, are_pairs, block, number, same};
+use super::values::InNumbers::{Enrol, Release, Reserve};
+use super::values::{InNumbers, are_pairs, block, number, same};
 use dali_reserve::{Keep, KeepError, MemoryKeep};
 use dali_script::{Kept, Record};
 use dali_sqlite::SqliteKeep;
@@ -35,7 +35,7 @@ fn read_and_commit<K: Keep>(keep: &mut K, added: Record) -> Result<Result<(), Ke
 pub fn commits<K: Keep>(
     rt: &impl Abort,
     keep: &mut K,
-    added: &[(Pair, Result<(), KeepError>)],
+    added: &[(InNumbers, Result<(), KeepError>)],
 ) -> Result<(), Fail> {
     for (one, wanted) in added {
         same(rt, &read_and_commit(keep, one.record()?)?, wanted);

@@ -35,20 +35,23 @@ pub fn block(first: u8, last: u8) -> Result<Block, Fail> {
 
 /// A record, by the numbers of its addresses.
 #[derive(Clone, Copy)]
-pub enum Pair {
+pub enum InNumbers {
     Reserve(u8, u32),
     Enrol(u8, u32),
     Release(u8, u32),
 }
 
-impl Pair {
+impl InNumbers {
     pub fn record(self) -> Result<Record, Fail> {
         match self {
-            Pair::Reserve(address, number) => {
+            InNumbers::Reserve(address, number) => {
                 Ok(Record::Reserve(short(address)?, random(number)?))
             }
-            Pair::Enrol(address, number) => Ok(Record::Enrol(short(address)?, random(number)?)),
-            Pair::Release(address, number) => {
+            InNumbers::Enrol(address, number) => Ok(Record::Enrol(
+                short(address)?,
+                random(number)?,
+            )),
+            InNumbers::Release(address, number) => {
                 Ok(Record::Release(short(address)?, random(number)?))
             }
         }
