@@ -47,9 +47,16 @@ impl State {
     pub fn kept_by(&self, input: Input) -> Option<Record>
         ensures { result ≡ kept_by self.now.last input }
     {
-        match (self.last, input) {
-            (Some(Order::Commit(added)), Input::Committed) => Some(added),
-            _ => None,
+        match input {
+            Input::Committed => match self.last {
+                Some(Order::Commit(added)) => Some(added),
+                None | Some(Order::Put(..) | Order::Done(_) | Order::Halt(_)) => None,
+            },
+            Input::Start
+            | Input::Heard(_)
+            | Input::Destroyed
+            | Input::Lapsed
+            | Input::CommitFailed => None,
         }
     }
 

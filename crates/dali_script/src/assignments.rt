@@ -1,10 +1,9 @@
 ghost use Rattle.std.specs.Prelude.{◌≡◌, ◌↔◌, ◌<◌, [], ◌∷◌, ◌++◌, IsTrue, IsOk, IfErr, OnOk, OnErr, MatchOption};
-ghost use Rattle.dali_script.specs.Records.{Has, HasAddress, HasRandom, Marks, IsFresh, without_pair};
+ghost use Rattle.dali_script.specs.Records.{Has, HasAddress, HasRandom, IsFresh, without_pair};
 
 use crate::pair::Pair;
 use crate::pairs::{
-    Pairs, are_both, are_same, are_with, at_address, at_random, has_address, has_random, marks,
-    place_of,
+    Pairs, are_both, are_same, are_with, at_address, at_random, has_address, has_random, place_of,
 };
 use crate::records::AddError;
 use dali_frame::{Random24, Short};
@@ -86,13 +85,6 @@ impl Assignments {
             (λ address. Has self.now (address, random)) }
     {
         at_random(self.pairs(), random)
-    }
-
-    /// For each of the 64 short addresses, whether a pair has it.
-    pub fn marks(&self) -> [bool; 64]
-        ensures { Marks self.now result }
-    {
-        marks(self.pairs())
     }
 
     /// Whether a pair has the short address.
