@@ -7,6 +7,8 @@ use Rattle.dali_commissioning.specs.declared.conducting.Ended.TheVariants.{Done,
 use Rattle.dali_commissioning.specs.declared.driver.DriverFault.TheVariants.{Memory}
 use Rattle.dali_commissioning.specs.declared.fault.CommissionFault.{CommissionFault}
 use Rattle.dali_commissioning.specs.declared.fault.CommissionFault.TheVariants as commission
+use Rattle.dali_commission_words.specs.declared.fault.WordsFault.{WordsFault}
+use Rattle.dali_commission_words.specs.declared.fault.WordsFault.TheVariants as words
 use Rattle.dali_commission_program.specs.declared.failure.Failure.{Failure}
 use Rattle.dali_commission_program.specs.declared.failure.Failure.TheVariants.{AddressedBefore}
 use Rattle.dali_commission_program.specs.declared.failure.Failure.TheVariants.{NotAsRecorded}
@@ -36,6 +38,11 @@ status_of Spent = 9
 abbrev pub status_after : {A : Type 0} → Result A Failure → ℕ
 status_after (Ok done) = 0
 status_after (Err failure) = status_of failure
+
+-- what a fault of the command line is to the program
+abbrev pub words_failure : WordsFault → Failure
+words_failure words.Bad = BadCommandLine
+words_failure words.Refused = Refused
 
 -- what the end of the last machine is to the program
 abbrev pub ended_as : Ended → Result (Unit {0}) Failure

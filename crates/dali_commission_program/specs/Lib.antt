@@ -1,3 +1,2 @@
 pub mod Failures
 pub mod Tables
-pub mod Answered

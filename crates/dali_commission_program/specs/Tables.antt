@@ -2,8 +2,8 @@ use Rattle.std.specs.Prelude.{ℕ, zero, suc, ◌==◌, if◌then◌else◌, Boo
 use Rattle.std.specs.Prelude.{◌∷◌, ◌++◌, Option, Some, None, codes, decimal}
 use Rattle.dali_frame.specs.Hex.{random_text}
 use Rattle.dali_script.specs.Records.{Assignment}
-use Rattle.dali_commission_program.specs.declared.table.Form.{Form}
-use Rattle.dali_commission_program.specs.declared.table.Form.TheVariants.{Text, Csv, Json}
+use Rattle.dali_commission_words.specs.declared.tasks.Form.{Form}
+use Rattle.dali_commission_words.specs.declared.tasks.Form.TheVariants.{Text, Csv, Json}
 
 -- THE ROWS of a table: what is enrolled, by short address from 0 on.
 abbrev pub random_at : List Assignment → ℕ → Option ℕ

@@ -2,9 +2,10 @@
 
 ghost use Rattle.std.specs.Prelude.{◌≡◌};
 ghost use Rattle.std.specs.Process.{exit_status};
-ghost use Rattle.dali_commission_program.specs.Failures.{status_of, status_after, ended_as, failure_of};
+ghost use Rattle.dali_commission_program.specs.Failures.{status_of, status_after, ended_as, failure_of, words_failure};
 
 use crate::stores::StoreFault;
+use dali_commission_words::WordsFault;
 use dali_commissioning::{CommissionFault, DriverFault, Ended};
 use dali_frame::Short;
 use dali_reserve::KeepError;
@@ -89,6 +90,16 @@ impl Failure {
             Failure::Conflict => 8,
             Failure::Spent => 9,
         }
+    }
+}
+
+/// What a fault of the command line is to the program.
+pub fn words_failure(fault: WordsFault) -> Failure
+    ensures { result ≡ words_failure fault }
+{
+    match fault {
+        WordsFault::Bad => Failure::BadCommandLine,
+        WordsFault::Refused => Failure::Refused,
     }
 }
 

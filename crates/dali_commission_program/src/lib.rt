@@ -1,4 +1,4 @@
-//! The program `dali_commission`: what its words ask for, and what it does and says.
+//! The program `dali_commission`: what it does and says.
 #![tactic(auto)]
 
 mod failure;
@@ -7,10 +7,8 @@ mod progress;
 mod reports;
 mod stores;
 mod table;
-mod tasks;
-mod words;
 
 pub use failure::{Failure, exit_code};
 pub use program::run_and_say;
 pub use stores::{Borrower, StoreFault, Stores};
-pub use table::{Form, push_table};
+pub use table::push_table;

@@ -4,13 +4,12 @@ ghost use Rattle.std.specs.Prelude.{OnOk};
 ghost use Rattle.std.specs.Io.KnownBytes.{Appends};
 ghost use Rattle.dali_commission_program.specs.Tables.{table_text};
 
-use crate::failure::{Failure, ended_as, failure_of};
+use crate::failure::{Failure, ended_as, failure_of, words_failure};
 use crate::progress::{Manner, Progress};
 use crate::reports::{say_addressed, say_checked, say_commissioned};
 use crate::stores::{Borrower, StoreFault, Stores};
-use crate::table::{Form, push_table};
-use crate::tasks::{Bounds, Setup, Task};
-use crate::words::asked;
+use crate::table::push_table;
+use dali_commission_words::{Bounds, Form, Setup, Task, asked};
 use dali_commissioning::{Begun, CommissionFault, Driver, Ended, begin, check, light, outside};
 use dali_frame::Short;
 use dali_reserve::{Keep, KeepError, MemoryKeep};
@@ -43,6 +42,14 @@ fn words<S: Env + AllocGlobal>(system: &S) -> Result<Vec<String>, Failure> {
     match words.collect(system.alloc()) {
         Ok(words) => Ok(words),
         Err(_) => Err(Failure::Refused),
+    }
+}
+
+/// What the words of the command line ask for.
+fn asked_for<S: Env + Print + Eprint + AllocGlobal>(system: &S) -> Result<Task, Failure> {
+    match asked(system, &words(system)?) {
+        Ok(task) => Ok(task),
+        Err(fault) => Err(words_failure(fault)),
     }
 }
 
@@ -309,8 +316,7 @@ where
     S: Env + Input + Print + Eprint + AllocGlobal + Clock,
     F: Stores,
 {
-    let words = words(system)?;
-    match asked(system, &words)? {
+    match asked_for(system)? {
         Task::Help => Ok(()),
         Task::Run(setup) => {
             let running = Running {

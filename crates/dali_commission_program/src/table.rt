@@ -5,20 +5,10 @@ ghost use Rattle.dali_commission_program.specs.Tables.{random_at, at_if, rows, h
 ghost use Rattle.dali_commission_program.specs.Tables.{rows_text, table_text};
 
 use arrayvec::ArrayVec;
+use dali_commission_words::Form;
 use dali_frame::{Random24, Short};
 use dali_script::{Kept, Pair};
 use std::alloc::AllocError;
-
-/// How a table is spelled.
-#[derive(Clone, Copy)]
-pub enum Form {
-    /// A line for each gear: its short address, a space, and its random address.
-    Text,
-    /// Comma-separated values, with a heading.
-    Csv,
-    /// An array with an object for each gear.
-    Json,
-}
 
 /// The random address of the first pair with a short address.
 pub(crate) fn random_at(pairs: &[Pair], short: Short) -> Option<Random24>

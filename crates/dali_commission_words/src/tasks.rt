@@ -1,6 +1,16 @@
-use crate::table::Form;
 use dali_frame::Short;
 use dali_script::Block;
+
+/// How a table is spelled.
+#[derive(Clone, Copy)]
+pub enum Form {
+    /// A line for each gear: its short address, a space, and its random address.
+    Text,
+    /// Comma-separated values, with a heading.
+    Csv,
+    /// An array with an object for each gear.
+    Json,
+}
 
 /// What a command line asks for.
 #[derive(Drop)]

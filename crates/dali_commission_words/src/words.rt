@@ -1,11 +1,10 @@
 //! The command line, and what it asks for.
 
 ghost use Rattle.std.specs.Prelude.{◌≡◌};
-ghost use Rattle.dali_commission_program.specs.Answered.{answered};
+ghost use Rattle.dali_commission_words.specs.Answered.{answered};
 
-use crate::failure::Failure;
-use crate::table::Form;
-use crate::tasks::{Bounds, Setup, Task};
+use crate::fault::WordsFault;
+use crate::tasks::{Bounds, Form, Setup, Task};
 use clap::error::ErrorKind;
 use clap::{Arg, ArgAction, ArgMatches, Command, Error, value_parser};
 use dali_frame::Short;
@@ -226,10 +225,16 @@ fn arg<'a>(alloc: Global, word: &Word) -> Result<Arg<'a>, AllocError> {
     }
 }
 
+/// Adds what was made to a list.
+fn add<T: Drop>(list: &mut Vec<T>, made: Result<T, AllocError>) -> Result<(), AllocError> {
+    list.push(made?)?;
+    Ok(())
+}
+
 fn args<'a>(alloc: Global, words: &[Word]) -> Result<Vec<Arg<'a>>, AllocError> {
     let mut args = Vec::new(alloc);
     for word in words {
-        args.push(arg(alloc, word)?)?;
+        add(&mut args, arg(alloc, word))?;
     }
     Ok(args)
 }
@@ -246,7 +251,7 @@ fn command_of<'a>(alloc: Global, from: &Subcommand) -> Result<Command<'a>, Alloc
 fn subcommands<'a>(alloc: Global) -> Result<Vec<Command<'a>>, AllocError> {
     let mut commands = Vec::new(alloc);
     for from in SUBCOMMANDS {
-        commands.push(command_of(alloc, from)?)?;
+        add(&mut commands, command_of(alloc, from))?;
     }
     Ok(commands)
 }
@@ -420,19 +425,22 @@ fn read(alloc: Global, words: &[String]) -> Result<Task, Error> {
 }
 
 /// What a command line comes to that `clap` answered, with its answer printed or not.
-fn answered(kind: ErrorKind, printed: bool) -> Result<Task, Failure>
+fn answered(kind: ErrorKind, printed: bool) -> Result<Task, WordsFault>
     ensures { result ≡ answered kind printed }
 {
     match kind {
         ErrorKind::DisplayHelp | ErrorKind::DisplayVersion if printed => Ok(Task::Help),
-        ErrorKind::DisplayHelp | ErrorKind::DisplayVersion => Err(Failure::Refused),
-        ErrorKind::OutOfMemory => Err(Failure::Refused),
-        _ => Err(Failure::BadCommandLine),
+        ErrorKind::DisplayHelp | ErrorKind::DisplayVersion => Err(WordsFault::Refused),
+        ErrorKind::OutOfMemory => Err(WordsFault::Refused),
+        _ => Err(WordsFault::Bad),
     }
 }
 
 /// What the words of a command line ask for. Help is printed, and what is wrong is said on standard error.
-pub fn asked<R: Print + Eprint + AllocGlobal>(rt: &R, words: &[String]) -> Result<Task, Failure> {
+pub fn asked<R: Print + Eprint + AllocGlobal>(
+    rt: &R,
+    words: &[String],
+) -> Result<Task, WordsFault> {
     match read(rt.alloc(), words) {
         Ok(task) => Ok(task),
         Err(error) => answered(error.kind(), error.print(rt).is_ok()),
