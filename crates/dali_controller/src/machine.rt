@@ -11,7 +11,7 @@ ghost use Rattle.dali_controller.specs.Orders.{IsAnswered, IsFollowedAt, machine
 
 use crate::error::StepError;
 use crate::state::State;
-use dali_script::{Due, Input, Kept, Order, Record, Table};
+use dali_script::{Due, Input, Kept, Order, Record, Table, Trace};
 use std::marker::Model;
 
 /// The machine of one application controller, which gives the short addresses of its block to the gear on a bus.
@@ -130,6 +130,13 @@ impl Machine {
         ensures { result ≡ self.now.last }
     {
         self.state.last
+    }
+
+    /// The frames of the running transaction, each with what was heard.
+    pub fn trace(&self) -> &Trace
+        ensures { result.now ≡ self.now.trace }
+    {
+        &self.state.trace
     }
 
     /// The records that are kept.

@@ -102,7 +102,7 @@ impl State {
     fn note_finding(&mut self)
         ensures { self.new ≡ record self.old { finding = later self.old.finding (finding_of self.old.trace) } }
     {
-        if let Some(found) = self.trace.found() {
+        if let Some(found) = self.trace.how_found() {
             self.finding = Some(found);
         }
     }

@@ -74,6 +74,21 @@ impl Trace {
         }
     }
 
+    /// The same frames once more.
+    pub fn copy(&self) -> Trace
+        ensures { result ≡ self.now }
+    {
+        let sent = self.entries();
+        let mut entries = ArrayVec::new();
+        for entry in sent {
+            entries.push(*entry);
+        }
+        Trace {
+            entries,
+            stage: self.stage,
+        }
+    }
+
     /// The running transaction of these frames, each with what was heard, oldest first.
     ///
     /// None where no controller has sent them: where one of them is not lawful after those before it, for any sender.
@@ -163,11 +178,11 @@ impl Trace {
     pub fn finding(&self) -> Option<(Short, Random24)>
         ensures { result ≡ option_map assigned (finding_of self.now) }
     {
-        Some(self.found()?.assigned())
+        Some(self.how_found()?.assigned())
     }
 
     /// The last finding, with how the gear was found.
-    pub fn found(&self) -> Option<Finding>
+    pub fn how_found(&self) -> Option<Finding>
         ensures { result ≡ finding_of self.now }
     {
         self.stage.finding()

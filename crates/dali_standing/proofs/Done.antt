@@ -8,13 +8,14 @@ use Rattle.dali_gear.specs.declared.gear_set.GearSet.{GearSet}
 use Rattle.dali_gear.specs.declared.row.Reach.TheVariants.{Everyone, Only}
 use Rattle.dali_gear.specs.Row.{answers_of, draws_needed, heard_of}
 use Rattle.dali_arbiter.specs.declared.request.Request.{Request}
-use Rattle.dali_arbiter.specs.Arbiter.{Arbiter, owns, total, next, request_of, bus_lapsed, bus_offered, bus_sent, bus_destroyed, bus_collided, collision, bus_silenced}
+use Rattle.dali_arbiter.specs.Arbiter.{Arbiter, owns, total, next, request_of, bus_lapsed, bus_offered, bus_sent, bus_destroyed, bus_collided, collision, bus_silenced, bus_freed, bus_muted}
 use Rattle.dali_script.specs.declared.trace.Entry.{Entry}
 use Rattle.dali_script.specs.Scripts.{IsLawful, IsFirst}
 use Rattle.dali_script.specs.Stages.{stage_of, may_follow}
 use Rattle.dali_script.specs.declared.orders.Input.{Input}
+use Rattle.dali_script.specs.declared.orders.Input.TheVariants as input
 use Rattle.dali_script.specs.declared.orders.Order.{Order}
-use Rattle.dali_script.specs.declared.orders.Order.TheVariants.{Put}
+use Rattle.dali_script.specs.declared.orders.Order.TheVariants.{Put, Commit, Done, Halt}
 use Rattle.dali_script.specs.Due.{frame_put}
 use Rattle.dali_events.specs.declared.event.Event.{Event}
 use Rattle.dali_events.specs.declared.event.Event.TheVariants as event
@@ -24,9 +25,9 @@ use Rattle.dali_events.specs.Allowed.{Allowed, IsUp, Hears, MaySend, IsDue, IsAr
 use Rattle.dali_standing.specs.FittedGear.{FittedGear, taken_at}
 use Rattle.dali_script.specs.Records.{Kept}
 use Rattle.dali_standing.specs.Seats.{Seat, Agrees, IsRunning, IsTied, MayAnswer, acted_at, told_at, down_at, up_at, trace_of}
-use Rattle.dali_standing.specs.Standing.{Seated, seat_in, empty_seat, Standing, flat, stand_of, controller_on, machine_in, machines_after, Moves, MayBeSent}
+use Rattle.dali_standing.specs.Standing.{Seated, seat_in, empty_seat, seated, running_told, running_at, running_by, Standing, flat, stand_of, controller_on, machine_in, machines_after, Moves, MayBeSent}
 use Rattle.dali_standing.proofs.Seats.{seat_at, world_of, with_seat, running_in, goes_on_in, has_acted, has_offered, has_sent, has_lost, has_collided, has_lapsed, has_gone_down, has_come_up, IsMove}
-use Rattle.dali_standing.specs.Settled.{IsAccepted, IsHearing, IsPlacedBy, IsPlacedOn, Settled}
+use Rattle.dali_standing.specs.Settled.{IsAccepted, IsHearing, IsOwning, IsPlacedBy, IsPlaced, IsPlacedOn, Settled}
 use Rattle.dali_standing.specs.declared.trouble.Trouble.{Trouble}
 use Rattle.dali_standing.specs.declared.trouble.Trouble.TheVariants as trouble
 use Rattle.dali_standing.specs.Troubles.{heard_under, nobody_at_all}
@@ -36,7 +37,8 @@ use Rattle.dali_special.proofs.Table.{arc_of}
 use Rattle.dali_controller.specs.Machine.{Machine}
 use Rattle.dali_events.proofs.Growing.{plain_hearing}
 use Rattle.dali_events.proofs.Sending.{lawful_of}
-use Rattle.dali_standing.proofs.Placing.{running_is}
+use Rattle.dali_standing.proofs.Placing.{running_is, owner_acted}
+use Rattle.dali_standing.proofs.Acts.{owner_owns}
 use Rattle.dali_standing.proofs.Settling.{next_at, owner_put, is_collision, is_arc_of, arc_tells, may_ask, accepted, settled_acted, settled_offered, settled_sent, settled_lost, settled_collided, settled_lapsed, settled_down, settled_up}
 
 -- WHAT A CALL DID, from what its parts did: the event moves what stood, and what stands is settled.
@@ -46,6 +48,55 @@ pub record IsDone (was : Standing) (e : Event) (new : Seated) : Type 0 where
 
 done_as : (was : Standing) (e : Event) (new as_found : Seated) → as_found ≡ new → IsDone was e new → IsDone was e as_found
 done_as was e new as_found same done = subst (λ (s : Seated). IsDone was e s) (sym same) done
+
+-- ---------------------------------------------------------------- the running transaction is the owner's
+
+-- the frames that run are those of the machine that owns the bus
+abbrev pub Runs : Seated → Type 0
+Runs s = s.trace ≡ running_by s.bus.owner s.seats
+
+owner_runs : (t : List Entry) (p : Seat) → IsPlaced true t p → t ≡ running_at p
+owner_runs t p placed = by_machine p.machine placed where
+  by_order : (m : Machine) (last : Option Order) (told : Option Input) → IsOwning t p.controller m last told → t ≡ running_told m.trace last told
+  by_order m (Some (Put q f)) None is = is.1
+  by_order m (Some (Put q f)) (Some (input.Heard h)) is = is
+  by_order m (Some (Put q f)) (Some input.Start) is = elim is [ ]
+  by_order m (Some (Put q f)) (Some input.Destroyed) is = elim is [ ]
+  by_order m (Some (Put q f)) (Some input.Lapsed) is = elim is [ ]
+  by_order m (Some (Put q f)) (Some input.Committed) is = elim is [ ]
+  by_order m (Some (Put q f)) (Some input.CommitFailed) is = elim is [ ]
+  by_order m (Some (Commit x)) told is = elim is [ ]
+  by_order m (Some (Done e)) told is = elim is [ ]
+  by_order m (Some (Halt why)) told is = elim is [ ]
+  by_order m None told is = elim is [ ]
+
+  by_machine : (m : Option Machine) → IsPlacedBy true t p.controller m → t ≡ running_told (trace_of m) p.controller.last p.controller.told
+  by_machine None placed = absurd (let no : true ≡ false = placed.0 in cc)
+  by_machine (Some m) placed = by_order m p.controller.last p.controller.told placed
+
+runs_settled : (s : Seated) → Settled s → (s.bus.owner ≡ None → s.trace ≡ []) → Runs s
+runs_settled s settled idle = go s.bus.owner refl where
+  go : (o : Option ℕ) → s.bus.owner ≡ o → s.trace ≡ running_by o s.seats
+  go None e = idle e
+  go (Some c) e = owner_runs s.trace (seat_in s.seats c) (subst (λ b. IsPlaced b s.trace (seat_in s.seats c)) (owner_owns s.bus.owner c e) (settled.places c))
+
+-- and so it is once something happened, if nothing runs where nobody owns the bus
+done_running : (was : Standing) (e : Event) (fitted : FittedGear) (bus : Arbiter) (t : List Entry) (seats : List Seat) → (bus.owner ≡ None → t ≡ [])
+    → IsDone was e (record { fitted = fitted; bus = bus; trace = t; seats = seats }) → IsDone was e (seated fitted bus seats)
+done_running was e fitted bus t seats idle done =
+    subst (λ u. IsDone was e (record { fitted = fitted; bus = bus; trace = u; seats = seats })) (runs_settled (record { fitted = fitted; bus = bus; trace = t; seats = seats }) done.settled idle) done
+
+-- nothing runs where nobody owns the bus
+idle_now : (s : Seated) → Runs s → s.bus.owner ≡ None → s.trace ≡ []
+idle_now s runs e = runs ∙ ap (λ o. running_by o s.seats) e
+
+idle_if : (x : Bool) (s : Seated) → Runs s → (if x then None else s.bus.owner) ≡ None → (if x then [] else s.trace) ≡ []
+idle_if true s runs e = refl
+idle_if false s runs e = idle_now s runs e
+
+idle_sent : (more : Bool) (c : ℕ) (u : List Entry) → (if more then Some c else None) ≡ None → (if more then u else []) ≡ []
+idle_sent true c u e = absurd (let no : Some c ≡ None = e in cc)
+idle_sent false c u e = refl
 
 -- the world in which these numbers were drawn
 abbrev with_draws : Standing → List (ℕ × ℕ) → World
@@ -92,12 +143,12 @@ act_accepts s was c i o at bus view settled up due room read tied answer bus_is 
     (may_ask (world_of s []) c (seat_at s c) i o (subst (λ (k : Controller). IsDue k i) (on_place s was c view) due)
     (subst (λ (p : Seat). IsTied p.controller p.machine) is tied) (subst (λ (p : Seat). MayAnswer p.machine i o) is answer) (settled.places c)))
 
-pub act_done : (s : Seated) (was : Standing) (c : ℕ) (i : Input) (o : Order) (at seat : Seat) (bus bus' : Arbiter) (trace : List Entry) → flat s ≡ was → Settled s
+acted_done : (s : Seated) (was : Standing) (c : ℕ) (i : Input) (o : Order) (at seat : Seat) (bus bus' : Arbiter) (trace : List Entry) → flat s ≡ was → Settled s
     → (controller_on was c).up ≡ true → IsDue (controller_on was c) i
     → at ≡ get_or s.seats c at → IsTied at.controller at.machine → MayAnswer at.machine i o → seat ≡ acted_at at i o
     → bus ≡ (if gives_up s.bus c o then bus_lapsed s.bus else s.bus) → trace ≡ (if gives_up s.bus c o then [] else s.trace) → bus' ≡ put_after bus c o
     → IsDone was (event.Acted c i o) (record { fitted = s.fitted; bus = bus'; trace = trace; seats = with_seat s.seats c seat })
-act_done s was c i o at seat bus bus' trace view settled up due read tied answer seat_is bus_is trace_is bus'_is =
+acted_done s was c i o at seat bus bus' trace view settled up due read tied answer seat_is bus_is trace_is bus'_is =
     let here : (seat_at s c).controller.up ≡ true = subst (λ (k : Controller). k.up ≡ true) (on_place s was c view) up in
     let due_here : IsDue (seat_at s c).controller i = subst (λ (k : Controller). IsDue k i) (on_place s was c view) due in
     let is : at ≡ seat_at s c = place_read s.seats c at read (up_there s.seats c here) in
@@ -111,6 +162,17 @@ act_done s was c i o at seat bus bus' trace view settled up due read tied answer
       settled = settled_acted s c i o settled here due_here tied_here answer_here;
     }))
 
+pub act_done : (s : Seated) (was : Standing) (c : ℕ) (i : Input) (o : Order) (at seat : Seat) (bus bus' : Arbiter) → flat s ≡ was → Settled s → Runs s
+    → (controller_on was c).up ≡ true → IsDue (controller_on was c) i
+    → at ≡ get_or s.seats c at → IsTied at.controller at.machine → MayAnswer at.machine i o → seat ≡ acted_at at i o
+    → bus ≡ (if gives_up s.bus c o then bus_lapsed s.bus else s.bus) → bus' ≡ put_after bus c o
+    → IsDone was (event.Acted c i o) (seated s.fitted bus' (with_seat s.seats c seat))
+act_done s was c i o at seat bus bus' view settled runs up due read tied answer seat_is bus_is bus'_is =
+    let trace : List Entry = (if gives_up s.bus c o then [] else s.trace) in
+    let owner : bus'.owner ≡ (if gives_up s.bus c o then None else s.bus.owner) = ap (λ (b : Arbiter). b.owner) (bus'_is ∙ ap (λ (b : Arbiter). put_after b c o) bus_is) ∙ owner_acted s.bus c o in
+    done_running was (event.Acted c i o) s.fitted bus' trace (with_seat s.seats c seat) (λ e. idle_if (gives_up s.bus c o) s runs (sym owner ∙ e))
+    (acted_done s was c i o at seat bus bus' trace view settled up due read tied answer seat_is bus_is refl bus'_is)
+
 pub act_answers : (s : Seated) (was : Standing) (c : ℕ) (i : Input) (o : Order) (at : Seat) → flat s ≡ was → (controller_on was c).up ≡ true
     → at ≡ get_or s.seats c at → MayAnswer at.machine i o → MayAnswer (machine_in was.machines c) i o
 act_answers s was c i o at view up read answer =
@@ -120,12 +182,18 @@ act_answers s was c i o at view up read answer =
 
 -- ---------------------------------------------------------------- requests and frames
 
-pub offer_done : (s : Seated) (was : Standing) (c : ℕ) (f : Forward) (bus : Arbiter) → flat s ≡ was → Settled s → (controller_on was c).up ≡ true → IsArc f
+offered_done : (s : Seated) (was : Standing) (c : ℕ) (f : Forward) (bus : Arbiter) → flat s ≡ was → Settled s → (controller_on was c).up ≡ true → IsArc f
     → bus ≡ bus_offered s.bus (request_of c 2 f) → IsDone was (event.Offered c f) (record { fitted = s.fitted; bus = bus; trace = s.trace; seats = s.seats })
-offer_done s was c f bus view settled up arc is =
+offered_done s was c f bus view settled up arc is =
     let here : (seat_at s c).controller.up ≡ true = subst (λ (k : Controller). k.up ≡ true) (on_place s was c view) up in
     subst (λ (w : Standing). IsDone w (event.Offered c f) (record { fitted = s.fitted; bus = bus; trace = s.trace; seats = s.seats })) view
     (done_as (flat s) (event.Offered c f) (has_offered s c f) _ (rw is refl) (record { moves = moved s _ _ (moves_offered s c f here arc); settled = settled_offered s c f settled here arc }))
+
+pub offer_done : (s : Seated) (was : Standing) (c : ℕ) (f : Forward) (bus : Arbiter) → flat s ≡ was → Settled s → Runs s → (controller_on was c).up ≡ true → IsArc f
+    → bus ≡ bus_offered s.bus (request_of c 2 f) → IsDone was (event.Offered c f) (seated s.fitted bus s.seats)
+offer_done s was c f bus view settled runs up arc is =
+    let owner : bus.owner ≡ s.bus.owner = ap (λ (b : Arbiter). b.owner) is in
+    done_running was (event.Offered c f) s.fitted bus s.trace s.seats (λ e. idle_now s runs (sym owner ∙ e)) (offered_done s was c f bus view settled up arc is)
 
 -- the request that is next, of what stands
 next_here : (s : Seated) (was : Standing) (r : Request) → flat s ≡ was → next was.bus ≡ Some r → next s.bus ≡ Some r
@@ -146,6 +214,22 @@ frame_follows s was r t view settled first is =
 abbrev IsKind : Seated → Request → Type 0
 IsKind s r = ((is_arc (command_of r.frame) ≡ false) × ((seat_at s r.sender).controller.told ≡ None) × ((seat_at s r.sender).controller.last ≡ Some (Put r.priority r.frame)))
     ⊎ ((is_arc (command_of r.frame) ≡ true) × (s.bus.owner ≡ None))
+
+-- the frames that its transaction has so far are its machine's
+same_if : (b : Bool) (t u : List Entry) → (if b then t else []) ≡ u → (if b then u else []) ≡ (if b then t else [])
+same_if true t u e = sym e
+same_if false t u e = refl
+
+pub sender_runs : (s : Seated) (was : Standing) (r : Request) (at : Seat) (t : List Entry) (owned : Bool) → flat s ≡ was → Settled s → next was.bus ≡ Some r → at ≡ get_or s.seats r.sender at
+    → owned ≡ owns s.bus.owner r.sender → t ≡ (if owned then trace_of at.machine else []) → t ≡ (if owns s.bus.owner r.sender then s.trace else [])
+sender_runs s was r at t owned view settled first read owned_is t_is =
+    let n = next_at s r settled (next_here s was r view first) in
+    let is : at ≡ seat_at s r.sender = place_read s.seats r.sender at read (up_there s.seats r.sender n.up) in
+    t_is ∙ ap (λ b. if b then trace_of at.machine else []) owned_is ∙ ap (λ (p : Seat). if owns s.bus.owner r.sender then trace_of p.machine else []) is ∙ go n.kind where
+      go : IsKind s r → (if owns s.bus.owner r.sender then trace_of (seat_at s r.sender).machine else []) ≡ (if owns s.bus.owner r.sender then s.trace else [])
+      go (inl k) = same_if (owns s.bus.owner r.sender) s.trace (trace_of (seat_at s r.sender).machine)
+          (running_is (owns s.bus.owner r.sender) s.trace (seat_at s r.sender) r.priority r.frame k.1 k.2 (settled.places r.sender))
+      go (inr k) = rw k.1 refl
 
 -- its sender waits for it
 pub sender_hears : (s : Seated) (was : Standing) (r : Request) (at : Seat) (h : Answer) (t u : List Entry) → flat s ≡ was → Settled s → next was.bus ≡ Some r → at ≡ get_or s.seats r.sender at
@@ -189,14 +273,14 @@ not_not : (b c : Bool) → c ≡ not b → not c ≡ b
 not_not true c e = rw e refl
 not_not false c e = rw e refl
 
-pub send_done : (s : Seated) (was : Standing) (r : Request) (h : Answer) (at seat : Seat) (fitted : FittedGear) (bus : Arbiter) (t u v : List Entry) (done : Bool) → flat s ≡ was → Settled s → next was.bus ≡ Some r
+sent_done : (s : Seated) (was : Standing) (r : Request) (h : Answer) (at seat : Seat) (fitted : FittedGear) (bus : Arbiter) (t u v : List Entry) (done : Bool) → flat s ≡ was → Settled s → next was.bus ≡ Some r
     → draws_needed Everyone (command_of r.frame) 0 was.gear ≤ length was.left → Hears (answers_of Everyone (command_of r.frame) 0 s.fitted.gear) h
     → at ≡ get_or s.seats r.sender at → fitted ≡ taken_at Everyone (command_of r.frame) s.fitted
     → t ≡ (if owns s.bus.owner r.sender then s.trace else []) → u ≡ t ++ entry r.frame h ∷ []
     → seat ≡ told_at (told_sent (trace_of at.machine) r.frame h) at
     → done ≡ not (may_follow seat.controller.records.block seat.controller.records.reserved (stage_of u)) → v ≡ (if not done then u else []) → bus ≡ bus_sent s.bus (not done)
     → IsDone was (event.Sent r.sender r.frame h) (record { fitted = fitted; bus = bus; trace = v; seats = with_seat s.seats r.sender seat })
-send_done s was r h at seat fitted bus t u v done view settled first draws heard read fitted_is t_is u_is seat_is done_is v_is bus_is =
+sent_done s was r h at seat fitted bus t u v done view settled first draws heard read fitted_is t_is u_is seat_is done_is v_is bus_is =
     let here = next_here s was r view first in
     let n = next_at s r settled here in
     let is : at ≡ seat_at s r.sender = place_read s.seats r.sender at read (up_there s.seats r.sender n.up) in
@@ -211,11 +295,23 @@ send_done s was r h at seat fitted bus t u v done view settled first draws heard
     (rw (fitted_is, bus_is ∙ sent_is s.bus r (not done) here, v_is, u_so, seat_so, more_so) refl)
     (record { moves = moved s _ _ (moves_sent s r.sender r.frame h n.up n.may draws_here heard); settled = settled_sent s r h settled here }))
 
-pub destroy_done : (s : Seated) (was : Standing) (r : Request) (set : GearSet) (at seat : Seat) (fitted : FittedGear) (bus : Arbiter) (t : List Entry) → flat s ≡ was → Settled s → next was.bus ≡ Some r
+pub send_done : (s : Seated) (was : Standing) (r : Request) (h : Answer) (at seat : Seat) (fitted : FittedGear) (bus : Arbiter) (t u : List Entry) (done : Bool) → flat s ≡ was → Settled s → next was.bus ≡ Some r
+    → draws_needed Everyone (command_of r.frame) 0 was.gear ≤ length was.left → Hears (answers_of Everyone (command_of r.frame) 0 s.fitted.gear) h
+    → at ≡ get_or s.seats r.sender at → fitted ≡ taken_at Everyone (command_of r.frame) s.fitted
+    → t ≡ (if owns s.bus.owner r.sender then s.trace else []) → u ≡ t ++ entry r.frame h ∷ []
+    → seat ≡ told_at (told_sent (trace_of at.machine) r.frame h) at
+    → done ≡ not (may_follow seat.controller.records.block seat.controller.records.reserved (stage_of u)) → bus ≡ bus_sent s.bus (not done)
+    → IsDone was (event.Sent r.sender r.frame h) (seated fitted bus (with_seat s.seats r.sender seat))
+send_done s was r h at seat fitted bus t u done view settled first draws heard read fitted_is t_is u_is seat_is done_is bus_is =
+    let owner : bus.owner ≡ (if not done then Some r.sender else None) = ap (λ (b : Arbiter). b.owner) (bus_is ∙ sent_is s.bus r (not done) (next_here s was r view first)) in
+    done_running was (event.Sent r.sender r.frame h) fitted bus (if not done then u else []) (with_seat s.seats r.sender seat) (λ e. idle_sent (not done) r.sender u (sym owner ∙ e))
+    (sent_done s was r h at seat fitted bus t u _ done view settled first draws heard read fitted_is t_is u_is seat_is done_is refl bus_is)
+
+lost_done : (s : Seated) (was : Standing) (r : Request) (set : GearSet) (at seat : Seat) (fitted : FittedGear) (bus : Arbiter) (t : List Entry) → flat s ≡ was → Settled s → next was.bus ≡ Some r
     → draws_needed (Only set) (command_of r.frame) 0 was.gear ≤ length was.left
     → at ≡ get_or s.seats r.sender at → fitted ≡ taken_at (Only set) (command_of r.frame) s.fitted → seat ≡ told_at (told_destroyed r.frame) at → bus ≡ bus_destroyed s.bus → t ≡ []
     → IsDone was (event.Destroyed r.sender r.frame set) (record { fitted = fitted; bus = bus; trace = t; seats = with_seat s.seats r.sender seat })
-destroy_done s was r set at seat fitted bus t view settled first draws read fitted_is seat_is bus_is t_is =
+lost_done s was r set at seat fitted bus t view settled first draws read fitted_is seat_is bus_is t_is =
     let here = next_here s was r view first in
     let n = next_at s r settled here in
     let is : at ≡ seat_at s r.sender = place_read s.seats r.sender at read (up_there s.seats r.sender n.up) in
@@ -224,6 +320,14 @@ destroy_done s was r set at seat fitted bus t view settled first draws read fitt
     subst (λ (w : Standing). IsDone w (event.Destroyed r.sender r.frame set) (record { fitted = fitted; bus = bus; trace = t; seats = with_seat s.seats r.sender seat })) view
     (done_as (flat s) (event.Destroyed r.sender r.frame set) (has_lost s r.sender r.frame set) _ (rw (fitted_is, bus_is, t_is, seat_so) refl)
     (record { moves = moved s _ _ (moves_lost s r.sender r.frame set n.up n.may draws_here); settled = settled_lost s r set settled here }))
+
+pub destroy_done : (s : Seated) (was : Standing) (r : Request) (set : GearSet) (at seat : Seat) (fitted : FittedGear) (bus : Arbiter) → flat s ≡ was → Settled s → next was.bus ≡ Some r
+    → draws_needed (Only set) (command_of r.frame) 0 was.gear ≤ length was.left
+    → at ≡ get_or s.seats r.sender at → fitted ≡ taken_at (Only set) (command_of r.frame) s.fitted → seat ≡ told_at (told_destroyed r.frame) at → bus ≡ bus_destroyed s.bus
+    → IsDone was (event.Destroyed r.sender r.frame set) (seated fitted bus (with_seat s.seats r.sender seat))
+destroy_done s was r set at seat fitted bus view settled first draws read fitted_is seat_is bus_is =
+    done_running was (event.Destroyed r.sender r.frame set) fitted bus [] (with_seat s.seats r.sender seat) (λ e. refl)
+    (lost_done s was r set at seat fitted bus [] view settled first draws read fitted_is seat_is bus_is refl)
 
 -- what is heard under a trouble may be heard
 pub may_hear : (answers : List ℕ) (what : Trouble) (plain h : Answer) → plain ≡ heard_of answers → h ≡ heard_under what plain → Hears answers h
@@ -240,12 +344,12 @@ may_hear answers what plain h plain_is is = subst (λ x. Hears answers x) (sym (
 alone_is : (b : Arbiter) → collision b.lists ≡ None → bus_collided b ≡ bus_destroyed b
 alone_is b none = rw none refl
 
-pub alone_done : (s : Seated) (was : Standing) (r : Request) (at seat : Seat) (fitted : FittedGear) (bus : Arbiter) (t : List Entry) → flat s ≡ was → Settled s → next was.bus ≡ Some r
+pub alone_done : (s : Seated) (was : Standing) (r : Request) (at seat : Seat) (fitted : FittedGear) (bus : Arbiter) → flat s ≡ was → Settled s → next was.bus ≡ Some r
     → draws_needed (Only nobody_at_all) (command_of r.frame) 0 was.gear ≤ length was.left → collision s.bus.lists ≡ None
-    → at ≡ get_or s.seats r.sender at → fitted ≡ taken_at (Only nobody_at_all) (command_of r.frame) s.fitted → seat ≡ told_at (told_destroyed r.frame) at → bus ≡ bus_collided s.bus → t ≡ []
-    → IsDone was (event.Destroyed r.sender r.frame nobody_at_all) (record { fitted = fitted; bus = bus; trace = t; seats = with_seat s.seats r.sender seat })
-alone_done s was r at seat fitted bus t view settled first draws none read fitted_is seat_is bus_is t_is =
-    destroy_done s was r nobody_at_all at seat fitted bus t view settled first draws read fitted_is seat_is (bus_is ∙ alone_is s.bus none) t_is
+    → at ≡ get_or s.seats r.sender at → fitted ≡ taken_at (Only nobody_at_all) (command_of r.frame) s.fitted → seat ≡ told_at (told_destroyed r.frame) at → bus ≡ bus_collided s.bus
+    → IsDone was (event.Destroyed r.sender r.frame nobody_at_all) (seated fitted bus (with_seat s.seats r.sender seat))
+alone_done s was r at seat fitted bus view settled first draws none read fitted_is seat_is bus_is =
+    destroy_done s was r nobody_at_all at seat fitted bus view settled first draws read fitted_is seat_is (bus_is ∙ alone_is s.bus none)
 
 first_frame : (s : Seated) (r : Request) → s.bus.owner ≡ None → MaySendAt s r.sender r.frame → IsFirst r.frame
 first_frame s r free may = go (may []) where
@@ -275,11 +379,11 @@ rival_loses s was r q at seat at' view settled first both read seat_is read' scr
     sender_loses lost (flat lost) q at' refl (settled_lost s r nobody_at_all settled here) k.then_next
     (subst (λ (ps : List Seat). at' ≡ get_or ps q.sender at') (first_lost s was r at seat view settled first read seat_is) read') scripted
 
-pub collide_done : (s : Seated) (was : Standing) (r q : Request) (at seat at' seat' : Seat) (bus : Arbiter) (t : List Entry) → flat s ≡ was → Settled s → next was.bus ≡ Some r → collision s.bus.lists ≡ Some q
+collided_done : (s : Seated) (was : Standing) (r q : Request) (at seat at' seat' : Seat) (bus : Arbiter) (t : List Entry) → flat s ≡ was → Settled s → next was.bus ≡ Some r → collision s.bus.lists ≡ Some q
     → at ≡ get_or s.seats r.sender at → seat ≡ told_at (told_destroyed r.frame) at → at' ≡ get_or (with_seat s.seats r.sender seat) q.sender at' → seat' ≡ told_at (told_destroyed q.frame) at'
     → bus ≡ bus_collided s.bus → t ≡ []
     → IsDone was (event.Collided r.sender r.frame q.sender q.frame) (record { fitted = s.fitted; bus = bus; trace = t; seats = with_seat (with_seat s.seats r.sender seat) q.sender seat' })
-collide_done s was r q at seat at' seat' bus t view settled first both read seat_is read' seat'_is bus_is t_is =
+collided_done s was r q at seat at' seat' bus t view settled first both read seat_is read' seat'_is bus_is t_is =
     let here = next_here s was r view first in
     let k = is_collision s r q settled here both in
     let lost : Seated = has_lost s r.sender r.frame nobody_at_all in
@@ -297,34 +401,57 @@ collide_done s was r q at seat at' seat' bus t view settled first both read seat
       settled = settled_collided s r q settled here both;
     }))
 
+pub collide_done : (s : Seated) (was : Standing) (r q : Request) (at seat at' seat' : Seat) (bus : Arbiter) → flat s ≡ was → Settled s → next was.bus ≡ Some r → collision s.bus.lists ≡ Some q
+    → at ≡ get_or s.seats r.sender at → seat ≡ told_at (told_destroyed r.frame) at → at' ≡ get_or (with_seat s.seats r.sender seat) q.sender at' → seat' ≡ told_at (told_destroyed q.frame) at'
+    → bus ≡ bus_collided s.bus
+    → IsDone was (event.Collided r.sender r.frame q.sender q.frame) (seated s.fitted bus (with_seat (with_seat s.seats r.sender seat) q.sender seat'))
+collide_done s was r q at seat at' seat' bus view settled first both read seat_is read' seat'_is bus_is =
+    done_running was (event.Collided r.sender r.frame q.sender q.frame) s.fitted bus [] (with_seat (with_seat s.seats r.sender seat) q.sender seat') (λ e. refl)
+    (collided_done s was r q at seat at' seat' bus [] view settled first both read seat_is read' seat'_is bus_is refl)
+
 -- ---------------------------------------------------------------- the owner loses the bus, controllers go down and come up
 
-pub lapse_done : (s : Seated) (was : Standing) (c : ℕ) (at seat : Seat) (bus : Arbiter) (t : List Entry) → flat s ≡ was → Settled s → s.bus.owner ≡ Some c → at ≡ get_or s.seats c at → seat ≡ told_at told_lapsed at
+lapsed_done : (s : Seated) (was : Standing) (c : ℕ) (at seat : Seat) (bus : Arbiter) (t : List Entry) → flat s ≡ was → Settled s → s.bus.owner ≡ Some c → at ≡ get_or s.seats c at → seat ≡ told_at told_lapsed at
     → bus ≡ bus_lapsed s.bus → t ≡ [] → IsDone was event.Lapsed (record { fitted = s.fitted; bus = bus; trace = t; seats = with_seat s.seats c seat })
-lapse_done s was c at seat bus t view settled own read seat_is bus_is t_is =
+lapsed_done s was c at seat bus t view settled own read seat_is bus_is t_is =
     let is : at ≡ seat_at s c = place_read s.seats c at read (up_there s.seats c (owner_put s c settled own).0) in
     subst (λ (w : Standing). IsDone w event.Lapsed (record { fitted = s.fitted; bus = bus; trace = t; seats = with_seat s.seats c seat })) view
     (done_as (flat s) event.Lapsed (has_lapsed s) _ (rw (bus_is, t_is, seat_is, own) (ap (λ (p : Seat). record { fitted = s.fitted; bus = bus_lapsed s.bus; trace = []; seats = with_seat s.seats c (told_at told_lapsed p) }) is))
     (record { moves = moved s _ _ (moves_lapsed s); settled = settled_lapsed s settled }))
 
-not_if : (b c : Bool) (t : List Entry) → b ≡ c → (if not b then t else []) ≡ (if c then [] else t)
-not_if true c t e = rw (← e) refl
-not_if false c t e = rw (← e) refl
+pub lapse_done : (s : Seated) (was : Standing) (c : ℕ) (at seat : Seat) (bus : Arbiter) → flat s ≡ was → Settled s → s.bus.owner ≡ Some c → at ≡ get_or s.seats c at → seat ≡ told_at told_lapsed at
+    → bus ≡ bus_lapsed s.bus → IsDone was event.Lapsed (seated s.fitted bus (with_seat s.seats c seat))
+lapse_done s was c at seat bus view settled own read seat_is bus_is =
+    done_running was event.Lapsed s.fitted bus [] (with_seat s.seats c seat) (λ e. refl) (lapsed_done s was c at seat bus [] view settled own read seat_is bus_is refl)
 
-pub down_done : (s : Seated) (was : Standing) (c : ℕ) (at seat : Seat) (bus : Arbiter) (t : List Entry) (owned : Bool) → flat s ≡ was → Settled s → (controller_on was c).up ≡ true → owned ≡ owns s.bus.owner c
-    → at ≡ get_or s.seats c at → seat ≡ down_at at → bus ≡ bus_silenced s.bus c → t ≡ (if not owned then s.trace else [])
+gone_down_done : (s : Seated) (was : Standing) (c : ℕ) (at seat : Seat) (bus : Arbiter) (t : List Entry) → flat s ≡ was → Settled s → (controller_on was c).up ≡ true
+    → at ≡ get_or s.seats c at → seat ≡ down_at at → bus ≡ bus_silenced s.bus c → t ≡ (if owns s.bus.owner c then [] else s.trace)
     → IsDone was (event.Down c) (record { fitted = s.fitted; bus = bus; trace = t; seats = with_seat s.seats c seat })
-down_done s was c at seat bus t owned view settled up owned_is read seat_is bus_is t_is =
+gone_down_done s was c at seat bus t view settled up read seat_is bus_is t_is =
     let here : (seat_at s c).controller.up ≡ true = subst (λ (k : Controller). k.up ≡ true) (on_place s was c view) up in
     let is : at ≡ seat_at s c = place_read s.seats c at read (up_there s.seats c here) in
     subst (λ (w : Standing). IsDone w (event.Down c) (record { fitted = s.fitted; bus = bus; trace = t; seats = with_seat s.seats c seat })) view
     (done_as (flat s) (event.Down c) (has_gone_down s c) _
-    (rw (bus_is, t_is ∙ not_if owned (owns s.bus.owner c) s.trace owned_is, seat_is) (ap (λ (p : Seat). record { fitted = s.fitted; bus = bus_silenced s.bus c; trace = (if owns s.bus.owner c then [] else s.trace); seats = with_seat s.seats c (down_at p) }) is))
+    (rw (bus_is, t_is, seat_is) (ap (λ (p : Seat). record { fitted = s.fitted; bus = bus_silenced s.bus c; trace = (if owns s.bus.owner c then [] else s.trace); seats = with_seat s.seats c (down_at p) }) is))
     (record { moves = moved s _ _ (moves_down s c here); settled = settled_down s c settled here }))
 
-pub up_done : (s : Seated) (was : Standing) (c : ℕ) (kept : Bool) (at seat : Seat) → flat s ≡ was → Settled s → c < length was.controllers → (controller_on was c).up ≡ false → HasOutstanding (controller_on was c) kept
+-- who owns the bus then
+owner_silenced : (b : Arbiter) (c : ℕ) → (bus_silenced b c).owner ≡ (if owns b.owner c then None else b.owner)
+owner_silenced b c = go (owns b.owner c) where
+  go : (x : Bool) → (if x then bus_freed (bus_muted b c) else bus_muted b c).owner ≡ (if x then None else b.owner)
+  go true = refl
+  go false = refl
+
+pub down_done : (s : Seated) (was : Standing) (c : ℕ) (at seat : Seat) (bus : Arbiter) → flat s ≡ was → Settled s → Runs s → (controller_on was c).up ≡ true
+    → at ≡ get_or s.seats c at → seat ≡ down_at at → bus ≡ bus_silenced s.bus c → IsDone was (event.Down c) (seated s.fitted bus (with_seat s.seats c seat))
+down_done s was c at seat bus view settled runs up read seat_is bus_is =
+    let owner : bus.owner ≡ (if owns s.bus.owner c then None else s.bus.owner) = ap (λ (b : Arbiter). b.owner) bus_is ∙ owner_silenced s.bus c in
+    done_running was (event.Down c) s.fitted bus (if owns s.bus.owner c then [] else s.trace) (with_seat s.seats c seat) (λ e. idle_if (owns s.bus.owner c) s runs (sym owner ∙ e))
+    (gone_down_done s was c at seat bus _ view settled up read seat_is bus_is refl)
+
+came_up_done : (s : Seated) (was : Standing) (c : ℕ) (kept : Bool) (at seat : Seat) → flat s ≡ was → Settled s → c < length was.controllers → (controller_on was c).up ≡ false → HasOutstanding (controller_on was c) kept
     → at ≡ get_or s.seats c at → seat ≡ up_at c kept at → IsDone was (event.Up c kept) (record { fitted = s.fitted; bus = s.bus; trace = s.trace; seats = with_seat s.seats c seat })
-up_done s was c kept at seat view settled there down has read seat_is =
+came_up_done s was c kept at seat view settled there down has read seat_is =
     let there_s : c < length s.seats = subst (λ n. c < n) (length-map s.seats (λ p. p.controller)) (subst (λ (w : Standing). c < length w.controllers) (sym view) there) in
     let down_s : (seat_at s c).controller.up ≡ false = subst (λ (k : Controller). k.up ≡ false) (on_place s was c view) down in
     let has_s : HasOutstanding (seat_at s c).controller kept = subst (λ (k : Controller). HasOutstanding k kept) (on_place s was c view) has in
@@ -342,17 +469,22 @@ came_up s was c copy kept at seat view there agrees read up =
     let is : at ≡ seat_at s c = place_read s.seats c at read there_s in
     up kept (subst (λ (p : Seat). Agrees p.controller copy kept) (sym is) (subst (λ (k : Controller). Agrees k copy kept) (on_place s was c view) agrees))
 
-pub up_settles : (s : Seated) (was : Standing) (c : ℕ) (copy : Kept) (kept : Bool) (at seat : Seat) → flat s ≡ was → Settled s → c < length was.controllers → (controller_on was c).up ≡ false
-    → Agrees (controller_on was c) copy kept → at ≡ get_or s.seats c at → ((k : Bool) → Agrees at.controller copy k → seat ≡ up_at c k at)
-    → Settled (record { fitted = s.fitted; bus = s.bus; trace = s.trace; seats = with_seat s.seats c seat })
-up_settles s was c copy kept at seat view settled there down agrees read up =
-    (up_done s was c kept at seat view settled there down agrees.0 read (came_up s was c copy kept at seat view there agrees read up)).settled
+up_done : (s : Seated) (was : Standing) (c : ℕ) (kept : Bool) (at seat : Seat) → flat s ≡ was → Settled s → Runs s → c < length was.controllers → (controller_on was c).up ≡ false
+    → HasOutstanding (controller_on was c) kept → at ≡ get_or s.seats c at → seat ≡ up_at c kept at → IsDone was (event.Up c kept) (seated s.fitted s.bus (with_seat s.seats c seat))
+up_done s was c kept at seat view settled runs there down has read seat_is =
+    done_running was (event.Up c kept) s.fitted s.bus s.trace (with_seat s.seats c seat) (idle_now s runs) (came_up_done s was c kept at seat view settled there down has read seat_is)
 
-pub up_moves : (s : Seated) (was : Standing) (c : ℕ) (copy : Kept) (at seat : Seat) → flat s ≡ was → Settled s → c < length was.controllers → (controller_on was c).up ≡ false
+pub up_settles : (s : Seated) (was : Standing) (c : ℕ) (copy : Kept) (kept : Bool) (at seat : Seat) → flat s ≡ was → Settled s → Runs s → c < length was.controllers → (controller_on was c).up ≡ false
+    → Agrees (controller_on was c) copy kept → at ≡ get_or s.seats c at → ((k : Bool) → Agrees at.controller copy k → seat ≡ up_at c k at)
+    → Settled (seated s.fitted s.bus (with_seat s.seats c seat))
+up_settles s was c copy kept at seat view settled runs there down agrees read up =
+    (up_done s was c kept at seat view settled runs there down agrees.0 read (came_up s was c copy kept at seat view there agrees read up)).settled
+
+pub up_moves : (s : Seated) (was : Standing) (c : ℕ) (copy : Kept) (at seat : Seat) → flat s ≡ was → Settled s → Runs s → c < length was.controllers → (controller_on was c).up ≡ false
     → at ≡ get_or s.seats c at → ((k : Bool) → Agrees at.controller copy k → seat ≡ up_at c k at)
-    → (k : Bool) → Agrees (controller_on was c) copy k → Moves was (event.Up c k) (flat (record { fitted = s.fitted; bus = s.bus; trace = s.trace; seats = with_seat s.seats c seat }))
-up_moves s was c copy at seat view settled there down read up k agrees =
-    (up_done s was c k at seat view settled there down agrees.0 read (came_up s was c copy k at seat view there agrees read up)).moves
+    → (k : Bool) → Agrees (controller_on was c) copy k → Moves was (event.Up c k) (flat (seated s.fitted s.bus (with_seat s.seats c seat)))
+up_moves s was c copy at seat view settled runs there down read up k agrees =
+    (up_done s was c k at seat view settled runs there down agrees.0 read (came_up s was c copy k at seat view there agrees read up)).moves
 
 -- ---------------------------------------------------------------- the request that is next may be sent
 

@@ -74,7 +74,7 @@ placed_acted w c p i o due tied answer placed = go p.machine tied answer placed 
   go (Some m) tied answer placed = placed_left w c p.controller m i o (may_order w c p.controller m i o due tied answer.answered placed).left
 
 -- the bus for another controller
-owner_acted : (b : Arbiter) (c : ℕ) (o : Order) → (bus_acted b c o).owner ≡ (if gives_up b c o then None else b.owner)
+pub owner_acted : (b : Arbiter) (c : ℕ) (o : Order) → (bus_acted b c o).owner ≡ (if gives_up b c o then None else b.owner)
 owner_acted b c o = go o where
   freed : (x : Bool) → (if x then bus_lapsed b else b).owner ≡ (if x then None else b.owner)
   freed true = refl

@@ -1,5 +1,5 @@
-use Rattle.std.specs.Prelude.{◌≡◌, ℕ, ◌+◌, List, [], ◌∷◌, map, slice_set, slice_index_or, Option}
-use Rattle.std.specs.Prelude.{Some, None}
+use Rattle.std.specs.Prelude.{◌≡◌, ℕ, ◌+◌, List, [], ◌∷◌, ◌++◌, map, slice_set, slice_index_or}
+use Rattle.std.specs.Prelude.{Option, Some, None}
 use Rattle.std.specs.Option.{option_map}
 use Rattle.dali_gear.specs.Gear.{Gear}
 use Rattle.dali_arbiter.specs.declared.request.Request.{Request}
@@ -7,15 +7,19 @@ use Rattle.dali_arbiter.specs.Arbiter.{Arbiter}
 use Rattle.dali_script.specs.declared.block.Block.{Block}
 use Rattle.dali_script.specs.declared.trace.Entry.{Entry}
 use Rattle.dali_script.specs.Records.{without_records}
+use Rattle.dali_script.specs.declared.orders.Input.{Input}
+use Rattle.dali_script.specs.declared.orders.Input.TheVariants as input
+use Rattle.dali_script.specs.declared.orders.Order.{Order}
+use Rattle.dali_script.specs.declared.orders.Order.TheVariants.{Put}
 use Rattle.dali_controller.specs.Machine.{Machine, at_first}
 use Rattle.dali_controller.specs.Orders.{machine_after}
 use Rattle.dali_events.specs.declared.event.Event.{Event}
 use Rattle.dali_events.specs.declared.event.Event.TheVariants as event
 use Rattle.dali_events.specs.World.{World, Controller, controller_at, nobody}
-use Rattle.dali_events.specs.Happens.{happens, come_up}
+use Rattle.dali_events.specs.Happens.{happens, come_up, entry}
 use Rattle.dali_events.specs.Allowed.{Allowed, IsUp, MaySend}
 use Rattle.dali_standing.specs.FittedGear.{FittedGear}
-use Rattle.dali_standing.specs.Seats.{Seat, begun_at}
+use Rattle.dali_standing.specs.Seats.{Seat, begun_at, trace_of}
 
 -- WHAT STANDS on a site at one moment: a world without the history of draws, and with the machines
 -- of the controllers.
@@ -63,6 +67,28 @@ controllers_of seats = map (λ p. p.controller) seats
 
 abbrev pub machines_of : List Seat → List (Option Machine)
 machines_of seats = map (λ p. p.machine) seats
+
+-- the frames of the transaction that runs: those of the owner's machine, and behind them the last
+-- one, where the owner was told what was heard after it, and has not acted on that
+abbrev pub running_told : List Entry → Option Order → Option Input → List Entry
+running_told t (Some (Put p f)) (Some (input.Heard h)) = t ++ entry f h ∷ []
+running_told t _ _ = t
+
+abbrev pub running_at : Seat → List Entry
+running_at p = running_told (trace_of p.machine) p.controller.last p.controller.told
+
+abbrev pub running_by : Option ℕ → List Seat → List Entry
+running_by None seats = []
+running_by (Some c) seats = running_at (seat_in seats c)
+
+-- gear, bus and places: the running transaction is the owner's
+abbrev pub seated : FittedGear → Arbiter → List Seat → Seated
+seated fitted bus seats = record {
+  fitted = fitted;
+  bus = bus;
+  trace = running_by bus.owner seats;
+  seats = seats;
+}
 
 -- what stands then
 abbrev pub flat : Seated → Standing

@@ -1,5 +1,5 @@
 ghost use Rattle.std.specs.Prelude.{◌≡◌, ◌++◌, ◌∷◌, [], Bool, true, false, ◌↔◌, Some, None};
-ghost use Rattle.std.specs.Prelude.{IsTrue, IsSome, IfSome, MatchOption};
+ghost use Rattle.std.specs.Prelude.{IsTrue, IsSome, IfSome, MatchOption, if◌then◌else◌};
 ghost use Rattle.dali_special.specs.Command.{command_of};
 ghost use Rattle.dali_script.specs.Findings.{later};
 ghost use Rattle.dali_script.specs.Due.{due_after, frame_put, record_ordered};
@@ -105,7 +105,7 @@ impl Seat {
         requires running { running.now ≡ trace_of self.old.machine ++ entry frame heard ∷ [] }
         ensures { self.new ≡ told_at (told_sent (trace_of self.old.machine) frame heard) self.old }
     {
-        self.finding = later(self.finding, running.found());
+        self.finding = later(self.finding, running.how_found());
         self.told = Some(Input::Heard(heard));
     }
 
@@ -156,6 +156,16 @@ impl Seat {
         ensures { (kept : Bool) → Agrees self.old.controller copy.now kept → self.new ≡ up_at id kept self.old }
     {
         *self = Seat::begun(Machine::new(id, copy));
+    }
+
+    /// The frames of the running transaction that it goes on with: those of its machine, where it owns the bus.
+    pub(crate) fn running(&self, owned: bool) -> Trace
+        ensures { result ≡ (if owned then trace_of self.now.machine else []) }
+    {
+        match &self.place {
+            Place::Up(machine) if owned => machine.trace().copy(),
+            Place::Up(_) | Place::Down(_) => Trace::new(),
+        }
     }
 
     /// What the bus has told the controller, and it has not acted on.

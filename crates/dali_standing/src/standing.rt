@@ -30,8 +30,8 @@ use dali_special::Command;
 use std::alloc::Global;
 use std::marker::Model;
 
-/// What stands on a site at one moment: its gear, the requests that wait for its bus, the frames of the running
-/// transaction, and a place for each controller.
+/// What stands on a site at one moment: its gear, the requests that wait for its bus, and a place for each controller.
+/// The frames of the running transaction are those of the machine that owns the bus.
 ///
 /// Controllers and gear are named by their numbers, which must be there. The caller tests what its call asks for:
 /// `is_up` and `may_act` before `act`, `is_crowded` before `act` and `offer`, `next_request` and `is_spent` before a
@@ -40,19 +40,18 @@ use std::marker::Model;
 pub struct Standing {
     fitted: FittedGear,
     arbiter: Arbiter,
-    trace: Trace,
     seats: Vec<Seat>,
 }
 
 impl Model for Standing {
-    ghost use Rattle.dali_standing.specs.Standing.{Standing, flat, seat_in};
-    ghost use Rattle.dali_standing.specs.Settled.{IsSettled};
+    ghost use Rattle.dali_standing.specs.Standing.{Standing, flat, seated};
+    ghost use Rattle.dali_standing.specs.Settled.{Settled};
 
     ghost Value = { Standing };
 
-    ghost view = { λ s. flat (record { fitted = s.fitted; bus = s.arbiter; trace = s.trace; seats = s.seats.items }) };
+    ghost view = { λ s. flat (seated s.fitted s.arbiter s.seats.items) };
 
-    ghost invariant = { λ s. IsSettled s.arbiter s.trace (seat_in s.seats.items) };
+    ghost invariant = { λ s. Settled (seated s.fitted s.arbiter s.seats.items) };
 }
 
 impl Standing {
@@ -75,7 +74,6 @@ impl Standing {
         Ok(Standing {
             fitted,
             arbiter,
-            trace: Trace::new(),
             seats,
         })
     }
@@ -187,7 +185,7 @@ impl Standing {
         let seat = &mut self.seats[c as usize];
         match seat.act(input) {
             Some(order) => {
-                give_up(&mut self.arbiter, &mut self.trace, c, &order);
+                give_up(&mut self.arbiter, c, &order);
                 request(&mut self.arbiter, c, &order);
                 Some(order)
             }
@@ -236,12 +234,11 @@ impl Standing {
         let plain = self.fitted.take(request.frame, Reach::Everyone);
         let heard = trouble.heard(plain);
         let owned = owns(&self.arbiter, request.sender);
-        keep_if(&mut self.trace, owned);
-        self.trace.push(request.frame, heard);
         let seat = &mut self.seats[request.sender as usize];
-        hear(seat, request.frame, heard, &self.trace);
-        let more = !self.trace.complete(seat.kept());
-        keep_if(&mut self.trace, more);
+        let mut running = seat.running(owned);
+        running.push(request.frame, heard);
+        hear(seat, request.frame, heard, &running);
+        let more = !running.complete(seat.kept());
         self.arbiter.sent(more);
         heard
     }
@@ -256,7 +253,6 @@ impl Standing {
     {
         self.fitted.take(request.frame, Reach::Only(set));
         self.arbiter.destroyed();
-        self.trace = Trace::new();
         let seat = &mut self.seats[request.sender as usize];
         lose(seat, request.frame);
     }
@@ -275,7 +271,6 @@ impl Standing {
             (λ q. Moves self.old (event.Collided request.sender request.frame q.sender q.frame) self.new) }
     {
         let other = self.arbiter.collided();
-        self.trace = Trace::new();
         let seat = &mut self.seats[request.sender as usize];
         lose(seat, request.frame);
         match &other {
@@ -296,7 +291,6 @@ impl Standing {
         ensures moves { Moves self.old event.Lapsed self.new }
     {
         let owner = self.arbiter.lapse();
-        self.trace = Trace::new();
         if let Some(c) = owner {
             let seat = &mut self.seats[c as usize];
             seat.lapse();
@@ -332,8 +326,6 @@ impl Standing {
         requires { (controller_on self.old c).up ≡ true }
         ensures { Moves self.old (event.Down c) self.new }
     {
-        let owned = owns(&self.arbiter, c);
-        keep_if(&mut self.trace, !owned);
         self.arbiter.silence(c);
         let seat = &mut self.seats[c as usize];
         seat.down();
@@ -383,15 +375,6 @@ fn owns(arbiter: &Arbiter, c: u8) -> bool
     arbiter.owner() == Some(c)
 }
 
-/// Keeps the frames of a transaction, or forgets them.
-fn keep_if(trace: &mut Trace, goes_on: bool)
-    ensures { trace.new ≡ (if goes_on then trace.old else []) }
-{
-    if !goes_on {
-        *trace = Trace::new();
-    }
-}
-
 /// Whether a controller that owns the bus keeps it with this order.
 fn keeps_bus(order: &Order) -> bool
     ensures { result ≡ keeps_bus order.now }
@@ -403,13 +386,11 @@ fn keeps_bus(order: &Order) -> bool
 }
 
 /// The owner gives up the bus with any order but a later frame of its transaction.
-fn give_up(arbiter: &mut Arbiter, trace: &mut Trace, c: u8, order: &Order)
-    ensures bus { arbiter.new ≡ (if gives_up arbiter.old c order.now then bus_lapsed arbiter.old else arbiter.old) }
-    ensures trace { trace.new ≡ (if gives_up arbiter.old c order.now then [] else trace.old) }
+fn give_up(arbiter: &mut Arbiter, c: u8, order: &Order)
+    ensures { arbiter.new ≡ (if gives_up arbiter.old c order.now then bus_lapsed arbiter.old else arbiter.old) }
 {
     if owns(arbiter, c) && !keeps_bus(order) {
         arbiter.lapse();
-        *trace = Trace::new();
     }
 }
 

@@ -226,7 +226,7 @@ fn each_is_resolved<R: Abort>(
     wanted: bool,
 ) -> Result<(), Fail> {
     for frames in traces {
-        let is_resolved = match trace_of(kept, *frames)?.found() {
+        let is_resolved = match trace_of(kept, *frames)?.how_found() {
             Some(Finding::Resolved(..)) => true,
             Some(Finding::Queried(..)) | None => false,
         };

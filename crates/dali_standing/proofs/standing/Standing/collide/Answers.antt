@@ -26,25 +26,25 @@ lose-requires-in-Some c =
 pub invariant_of-self : goal.invariant_of-self
 invariant_of-self c =
     let both : collision c.self.inside.arbiter.lists ≡ Some c.in-Some.second = sym c.collided-other.ensures.other ∙ c.in-Some.is in
-    (collide_done _ _ c.args.request c.in-Some.second _ c.lose.new.seat _ _ _ _ c.self.view_is c.self.invariant c.requires.next both
-    c.index_mut-seat.ensures.value c.lose.ensures c.index_mut-seat-in-Some.ensures.value c.lose-in-Some.ensures c.collided-other.ensures.bus c.new-self-inside.ensures).settled
+    (collide_done _ _ c.args.request c.in-Some.second _ c.lose.new.seat _ _ _ c.self.view_is c.self.invariant c.requires.next both
+    c.index_mut-seat.ensures.value c.lose.ensures c.index_mut-seat-in-Some.ensures.value c.lose-in-Some.ensures c.collided-other.ensures.bus).settled
 
 pub invariant_of-self-in-None : goal.invariant_of-self-in-None
 invariant_of-self-in-None c =
     let none : collision c.self.inside.arbiter.lists ≡ None = sym c.collided-other.ensures.other ∙ c.in-None.is in
-    (alone_done _ _ c.args.request _ _ _ _ _ c.self.view_is c.self.invariant c.requires.next c.requires.draws none
-    c.index_mut-seat.ensures.value c.take.ensures.state c.lose.ensures c.collided-other.ensures.bus c.new-self-inside.ensures).settled
+    (alone_done _ _ c.args.request _ _ _ _ c.self.view_is c.self.invariant c.requires.next c.requires.draws none
+    c.index_mut-seat.ensures.value c.take.ensures.state c.lose.ensures c.collided-other.ensures.bus).settled
 
 pub returns-in-Some-clause-moves : goal.returns-in-Some-clause-moves
 returns-in-Some-clause-moves c =
     let both : collision c.self.inside.arbiter.lists ≡ Some c.in-Some.second = sym c.collided-other.ensures.other ∙ c.in-Some.is in
     rw c.in-Some.is
-    (collide_done _ _ c.args.request c.in-Some.second _ c.lose.new.seat _ _ _ _ c.self.view_is c.self.invariant c.requires.next both
-    c.index_mut-seat.ensures.value c.lose.ensures c.index_mut-seat-in-Some.ensures.value c.lose-in-Some.ensures c.collided-other.ensures.bus c.new-self-inside.ensures).moves
+    (collide_done _ _ c.args.request c.in-Some.second _ c.lose.new.seat _ _ _ c.self.view_is c.self.invariant c.requires.next both
+    c.index_mut-seat.ensures.value c.lose.ensures c.index_mut-seat-in-Some.ensures.value c.lose-in-Some.ensures c.collided-other.ensures.bus).moves
 
 pub returns-in-None-clause-moves : goal.returns-in-None-clause-moves
 returns-in-None-clause-moves c =
     let none : collision c.self.inside.arbiter.lists ≡ None = sym c.collided-other.ensures.other ∙ c.in-None.is in
     rw c.in-None.is
-    (alone_done _ _ c.args.request _ _ _ _ _ c.self.view_is c.self.invariant c.requires.next c.requires.draws none
-    c.index_mut-seat.ensures.value c.take.ensures.state c.lose.ensures c.collided-other.ensures.bus c.new-self-inside.ensures).moves
+    (alone_done _ _ c.args.request _ _ _ _ c.self.view_is c.self.invariant c.requires.next c.requires.draws none
+    c.index_mut-seat.ensures.value c.take.ensures.state c.lose.ensures c.collided-other.ensures.bus).moves

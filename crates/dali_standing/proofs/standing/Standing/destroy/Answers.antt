@@ -12,10 +12,10 @@ lose-requires c = sender_loses _ _ c.args.request _ c.self.view_is c.self.invari
 
 pub invariant_of-self : goal.invariant_of-self
 invariant_of-self c =
-    (destroy_done _ _ c.args.request c.args.set _ _ _ _ _ c.self.view_is c.self.invariant c.requires.next c.requires.draws
-    c.index_mut-seat.ensures.value c.take.ensures.state c.lose.ensures c.destroyed.ensures c.new-self-inside.ensures).settled
+    (destroy_done _ _ c.args.request c.args.set _ _ _ _ c.self.view_is c.self.invariant c.requires.next c.requires.draws
+    c.index_mut-seat.ensures.value c.take.ensures.state c.lose.ensures c.destroyed.ensures).settled
 
 pub returns : goal.returns
 returns c =
-    (destroy_done _ _ c.args.request c.args.set _ _ _ _ _ c.self.view_is c.self.invariant c.requires.next c.requires.draws
-    c.index_mut-seat.ensures.value c.take.ensures.state c.lose.ensures c.destroyed.ensures c.new-self-inside.ensures).moves
+    (destroy_done _ _ c.args.request c.args.set _ _ _ _ c.self.view_is c.self.invariant c.requires.next c.requires.draws
+    c.index_mut-seat.ensures.value c.take.ensures.state c.lose.ensures c.destroyed.ensures).moves

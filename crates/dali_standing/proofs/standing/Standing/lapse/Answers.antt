@@ -4,10 +4,10 @@ use Rattle.dali_standing.proofs.standing.Standing.lapse.Goals as goal
 
 pub invariant_of-self : goal.invariant_of-self
 invariant_of-self c =
-    (lapse_done _ _ c.in-Some.c _ _ _ _ c.self.view_is c.self.invariant (sym c.lapse-owner.ensures.owner ∙ c.in-Some.is)
-    c.index_mut-seat.ensures.value c.lapse.ensures c.lapse-owner.ensures.bus c.new-self-inside.ensures).settled
+    (lapse_done _ _ c.in-Some.c _ _ _ c.self.view_is c.self.invariant (sym c.lapse-owner.ensures.owner ∙ c.in-Some.is)
+    c.index_mut-seat.ensures.value c.lapse.ensures c.lapse-owner.ensures.bus).settled
 
 pub returns-in-Some-clause-moves : goal.returns-in-Some-clause-moves
 returns-in-Some-clause-moves c =
-    (lapse_done _ _ c.in-Some.c _ _ _ _ c.self.view_is c.self.invariant (sym c.lapse-owner.ensures.owner ∙ c.in-Some.is)
-    c.index_mut-seat.ensures.value c.lapse.ensures c.lapse-owner.ensures.bus c.new-self-inside.ensures).moves
+    (lapse_done _ _ c.in-Some.c _ _ _ c.self.view_is c.self.invariant (sym c.lapse-owner.ensures.owner ∙ c.in-Some.is)
+    c.index_mut-seat.ensures.value c.lapse.ensures c.lapse-owner.ensures.bus).moves
