@@ -7,7 +7,7 @@ import os
 import pathlib
 import re
 
-WIDTHS = {"src": (".rt", 120), "specs": (".antt", 100)}
+WIDTHS = {"src": (".rt", 120), "specs": (".antt", 100), "proofs": (".antt", 160)}
 LONGEST = 800
 TESTS = ("dali_tests", "dali_stories", "dali_line_tests", "dali_sqlite_tests")
 
@@ -36,7 +36,7 @@ def named(root, file):
 
 
 def widths(root):
-    """Lines of code are at most 120 columns wide, of definitions 100."""
+    """Lines of code are at most 120 columns wide, of definitions 100, of proofs 160 (tools/break-lines breaks those)."""
     for part, (suffix, most) in WIDTHS.items():
         for file in code(root, f"*/{part}/**/*{suffix}"):
             for at, line in enumerate(file.read_text().splitlines(), 1):
@@ -214,32 +214,36 @@ def kit(root):
 
 # Enums of the code whose variants are spelled once more where the code cannot be read: the file that has the enum, the file
 # that has its codes if it has some, and how each further file spells a variant.
-ORDERS, CODES, HEADER, FORMAT = (
+ORDERS, RECORDS, CODES, HEADER, FORMAT = (
     "crates/dali_script/src/orders.rt",
+    "crates/dali_script/src/records.rt",
     "crates/dali_c/src/codes.rt",
     "include/dali_c.h",
     "docs/FORMAT.md",
 )
-REPLAY, THREADS = "tools/replay_report.py", "tools/threads_report.py"
+TROUBLE, REFUSAL = "crates/dali_standing/src/trouble.rt", "crates/dali_standing/src/refusal.rt"
+REPLAY, THREADS, FORMS = "tools/replay_report.py", "tools/threads_report.py", "tools/script_forms.py"
 SPELLINGS = {
     "Input": (ORDERS, None, {HEADER: "DALI_{UPPER}"}),
     "Order": (ORDERS, None, {HEADER: "DALI_{UPPER} ="}),
     "End": (
         ORDERS,
-        CODES,
+        ORDERS,
         {HEADER: "DALI_{UPPER} = {code}", FORMAT: "`c: done {kebab}`", REPLAY: "{kebab}", THREADS: '"{kebab}"'},
     ),
     "Fault": (
         ORDERS,
-        CODES,
+        ORDERS,
         {HEADER: "DALI_{UPPER} = {code}", FORMAT: "`c: halt {kebab}`", THREADS: '"halt {kebab}"'},
     ),
     "Due": (ORDERS, CODES, {HEADER: "DALI_DUE_{UPPER} = {code}"}),
     "Record": (
-        "crates/dali_script/src/records.rt",
-        "crates/dali_c/src/orders.rt",
+        RECORDS,
+        RECORDS,
         {HEADER: "DALI_{UPPER} = {code}", FORMAT: "{code} {Name}:", REPLAY: "{kebab}"},
     ),
+    "Trouble": (TROUBLE, TROUBLE, {FORMAT: "| `pump{word}", FORMS: "{word}"}),
+    "Refusal": (REFUSAL, REFUSAL, {FORMAT: "{code} {Name}"}),
     "KeepError": ("crates/dali_reserve/src/error.rt", "crates/dali_reserve/src/error.rt", {FORMAT: "| {code} | {Name} |"}),
 }
 
@@ -252,8 +256,14 @@ def variants(text, name):
 
 def code_of(text, name, variant):
     """The number that a file of code has for a variant, or None."""
-    found = re.search(rf"\b{name}::{variant}\b(?:\([^)]*\))? => \(?(\d+)", text)
+    found = re.search(rf"\b{name}::{variant}\b(?:\([^)]*\))?(?: \| [\w:| ]+)? => \(?(\d+)", text)
     return found and found[1]
+
+
+def word_of(text, name, variant):
+    """A space and the word that a file of code reads as a variant; nothing where it reads none."""
+    found = re.search(rf'b"([\w-]+)"\.as_slice\(\) \{{\s*Some\({name}::{variant}\b', text)
+    return f" {found[1]}" if found else ""
 
 
 def spellings(root):
@@ -266,7 +276,10 @@ def spellings(root):
             snake = re.sub(r"(?<!^)([A-Z])", r"_\1", variant).lower()
             forms = {"Name": variant, "UPPER": snake.upper(), "kebab": snake.replace("_", "-")}
             if codes:
-                forms["code"] = code_of((root / codes).read_text(), name, variant)
+                text = (root / codes).read_text()
+                forms |= {"code": code_of(text, name, variant), "word": word_of(text, name, variant)}
+                if not forms["word"] and "{word}" in "".join(spelled.values()) and variant != "None":
+                    yield f"{codes}: no word is read as {name}::{variant}"
             for other, form in spelled.items():
                 wanted = form.format(**forms)
                 if not re.search(rf"(?<![\w-]){re.escape(wanted)}(?!\d)", (root / other).read_text()):

@@ -26,7 +26,7 @@ PARTS = ("src", "specs", "proofs")
 MEMORY = 2_500_000_000
 # How many lines of a crate are worth a job, and how many jobs at most: a third and a fourth one save little time.
 JOB = 1_000
-MOST_JOBS = 2
+MOST_JOBS = 1
 REFUSED, MISSING, INTERRUPTED = 126, 127, 130
 
 

@@ -50,7 +50,8 @@ collision_first ([] ∷ lists) q e = collision_first lists q e
 collision_first ((x ∷ xs) ∷ lists) q e = rival_first x q xs lists e
 
 -- where nobody owns the bus, list 1 is empty, and a collision is two losses, one after the other
-pub collided_is : (b : Arbiter) (q : Request) (rest : List (List Request)) → b.lists ≡ [] ∷ rest → collision b.lists ≡ Some q → bus_collided b ≡ bus_destroyed (bus_destroyed b)
+pub collided_is : (b : Arbiter) (q : Request) (rest : List (List Request)) → b.lists ≡ [] ∷ rest → collision b.lists ≡ Some q
+    → bus_collided b ≡ bus_destroyed (bus_destroyed b)
 collided_is b q rest e both = rw both (rw e refl)
 
 pub rival_next : (b : Arbiter) (q : Request) (rest : List (List Request)) → b.lists ≡ [] ∷ rest → collision b.lists ≡ Some q → next (bus_destroyed b) ≡ Some q

@@ -44,7 +44,8 @@ pub put_seen : (q q2 : Queues Request) (owner : Option ℕ) (r : Request) (b : A
     → q2 ≡ with_list q r.priority (list_of q r.priority ++ r ∷ []) → seen q owner ≡ b → seen q2 owner ≡ bus_offered b r
 put_seen q q2 owner r b held least most is view =
     subst (λ (x : Arbiter). seen q2 owner ≡ bus_offered x r) view
-    (ap (λ (x : Queues Request). seen x owner) is ∙ ap (λ (ls : Lists). seen (record { lists = ls; capacity = q.capacity }) owner) (put_is r q.lists held.five least most))
+    (ap (λ (x : Queues Request). seen x owner) is ∙ ap (λ (ls : Lists). seen (record { lists = ls; capacity = q.capacity }) owner)
+    (put_is r q.lists held.five least most))
 
 -- ---------------------------------------------------------------- list 1 is the owner's
 

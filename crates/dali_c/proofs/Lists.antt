@@ -6,7 +6,8 @@ use Rattle.dali_c.specs.Entries.{entry_of, AreEntries}
 use Rattle.dali_c.specs.declared.entries.PlainEntry.{PlainEntry}
 
 -- An entry that cannot be read is in no list of entries,
-pub unread_entry : (plain : List PlainEntry) (entries : List Entry) (i : ℕ) (d : PlainEntry) → i < length plain → entry_of (get_or plain i d) ≡ None → AreEntries plain entries → ⊥
+pub unread_entry : (plain : List PlainEntry) (entries : List Entry) (i : ℕ) (d : PlainEntry) → i < length plain → entry_of (get_or plain i d) ≡ None
+    → AreEntries plain entries → ⊥
 unread_entry [] entries i d inside none are = absurd (omega arith)
 unread_entry (p ∷ ps) [] i d inside none are = cc
 unread_entry (p ∷ ps) (e ∷ es) zero d inside none are = cc

@@ -4,10 +4,6 @@ use Rattle.dali_frame.specs.declared.frames.Answer.{Answer}
 use Rattle.dali_frame.specs.declared.frames.Answer.TheVariants.{Silence, Byte, Damaged}
 use Rattle.dali_script.specs.declared.orders.Input.{Input}
 use Rattle.dali_script.specs.declared.orders.Input.TheVariants as input
-use Rattle.dali_script.specs.declared.orders.End.{End}
-use Rattle.dali_script.specs.declared.orders.End.TheVariants.{AllFound, BlockFull, GaveUp}
-use Rattle.dali_script.specs.declared.orders.Fault.{Fault}
-use Rattle.dali_script.specs.declared.orders.Fault.TheVariants as fault
 use Rattle.dali_script.specs.declared.orders.Due.{Due}
 use Rattle.dali_script.specs.declared.orders.Due.TheVariants as due
 
@@ -35,19 +31,6 @@ or_else None o = o
 
 abbrev pub input_of : ℕ → ℕ → Option Input
 input_of c byte = or_else (told_of c) (option_map (λ h. input.Heard h) (answer_of c byte))
-
--- enum dali_end
-abbrev pub end_of : ℕ → Option End
-end_of c =
-    if c == 1 then Some AllFound else
-    (if c == 2 then Some BlockFull else
-    (if c == 3 then Some GaveUp else None))
-
--- enum dali_fault
-abbrev pub fault_of : ℕ → Option Fault
-fault_of c =
-    if c == 1 then Some fault.Conflict else
-    (if c == 2 then Some fault.Store else None)
 
 -- enum dali_due
 abbrev pub due_code : Due → ℕ

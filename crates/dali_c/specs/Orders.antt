@@ -1,27 +1,20 @@
 use Rattle.std.specs.Prelude.{ℕ, ◌==◌, ◌&&◌, nat_le, Option, Some, None, option_map}
 use Rattle.std.specs.Prelude.{if◌then◌else◌}
 use Rattle.dali_script.specs.declared.records.Record.{Record}
-use Rattle.dali_script.specs.declared.records.Record.TheVariants.{Reserve, Enrol, Release}
 use Rattle.dali_script.specs.declared.orders.Order.{Order}
 use Rattle.dali_script.specs.declared.orders.Order.TheVariants.{Put, Commit, Done, Halt}
 use Rattle.dali_script.specs.declared.finding.Finding.{Finding}
 use Rattle.dali_script.specs.declared.finding.Finding.TheVariants.{Queried, Resolved}
 use Rattle.dali_script.specs.Records.{Assignment}
-use Rattle.dali_c.specs.Codes.{end_of, fault_of}
+use Rattle.dali_script.specs.Names.{record_by, end_by, fault_by}
 use Rattle.dali_c.specs.Pairs.{read_pair}
 use Rattle.dali_c.specs.declared.orders.PlainRecord.{PlainRecord}
 use Rattle.dali_c.specs.declared.orders.PlainOrder.{PlainOrder}
 use Rattle.dali_c.specs.declared.orders.PlainFinding.{PlainFinding}
 
 -- struct dali_record, with the kinds of enum dali_record_kind
-abbrev pub record_by : ℕ → Assignment → Option Record
-record_by kind p =
-    if kind == 1 then Some (Reserve p.0 p.1) else
-    (if kind == 2 then Some (Enrol p.0 p.1) else
-    (if kind == 3 then Some (Release p.0 p.1) else None))
-
 abbrev pub record_if : ℕ → Option Assignment → Option Record
-record_if kind (Some p) = record_by kind p
+record_if kind (Some p) = record_by kind p.0 p.1
 record_if kind None = None
 
 abbrev pub record_of : PlainRecord → Option Record
@@ -41,8 +34,8 @@ abbrev pub given_of : PlainOrder → Option Order
 given_of o =
     if o.kind == 1 then put_of o else
     (if o.kind == 2 then option_map (λ x. Commit x) (record_of o.record) else
-    (if o.kind == 3 then option_map (λ e. Done e) (end_of o.reason) else
-    (if o.kind == 4 then option_map (λ w. Halt w) (fault_of o.reason) else None)))
+    (if o.kind == 3 then option_map (λ e. Done e) (end_by o.reason) else
+    (if o.kind == 4 then option_map (λ w. Halt w) (fault_by o.reason) else None)))
 
 abbrev pub order_of : PlainOrder → Option (Option Order)
 order_of o = if o.kind == 0 then Some None else option_map (λ x. Some x) (given_of o)

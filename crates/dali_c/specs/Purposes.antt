@@ -2,7 +2,7 @@ use Rattle.std.specs.Prelude.{ℕ, ◌==◌, nat_lt, Option, Some, None, option_
 use Rattle.dali_controller.specs.declared.purpose.Purpose.{Purpose}
 use Rattle.dali_controller.specs.declared.purpose.Purpose.TheVariants.{Opening, Probing, Visiting}
 use Rattle.dali_controller.specs.declared.purpose.Purpose.TheVariants.{Resolving, Closing}
-use Rattle.dali_c.specs.Codes.{end_of}
+use Rattle.dali_script.specs.Names.{end_by}
 
 -- what a transaction is for: the short address that is asked, or the end of a close, is a byte of
 -- its own
@@ -15,4 +15,4 @@ purpose_of c detail =
     (if c == 1 then Some Probing else
     (if c == 2 then Some Visiting else
     (if c == 3 then resolving detail else
-    (if c == 4 then option_map (λ e. Closing e) (end_of detail) else None))))
+    (if c == 4 then option_map (λ e. Closing e) (end_by detail) else None))))

@@ -1,10 +1,10 @@
 //! The codes of what a machine is told and of what it answers with.
 
 ghost use Rattle.std.specs.Prelude.{◌≡◌, Some};
-ghost use Rattle.dali_c.specs.Codes.{answer_of, input_of, end_of, fault_of, bool_of, due_code};
+ghost use Rattle.dali_c.specs.Codes.{answer_of, input_of, bool_of, due_code};
 
 use dali_frame::Answer;
-use dali_script::{Due, End, Fault, Input};
+use dali_script::{Due, Input};
 
 /// What was heard.
 pub(crate) fn answer_of(code: u8, byte: u8) -> Option<Answer>
@@ -40,48 +40,6 @@ pub(crate) fn input_of(code: u8, byte: u8) -> Option<Input>
         6 => Some(Input::Committed),
         7 => Some(Input::CommitFailed),
         _ => Some(Input::Heard(answer_of(code, byte)?)),
-    }
-}
-
-/// How a machine ends.
-pub(crate) fn end_of(code: u8) -> Option<End>
-    ensures { result ≡ end_of code }
-{
-    match code {
-        1 => Some(End::AllFound),
-        2 => Some(End::BlockFull),
-        3 => Some(End::GaveUp),
-        _ => None,
-    }
-}
-
-pub(crate) fn end_code(end: End) -> u8
-    ensures { end_of result ≡ Some end }
-{
-    match end {
-        End::AllFound => 1,
-        End::BlockFull => 2,
-        End::GaveUp => 3,
-    }
-}
-
-/// Why a machine cannot go on.
-pub(crate) fn fault_of(code: u8) -> Option<Fault>
-    ensures { result ≡ fault_of code }
-{
-    match code {
-        1 => Some(Fault::Conflict),
-        2 => Some(Fault::Store),
-        _ => None,
-    }
-}
-
-pub(crate) fn fault_code(fault: Fault) -> u8
-    ensures { fault_of result ≡ Some fault }
-{
-    match fault {
-        Fault::Conflict => 1,
-        Fault::Store => 2,
     }
 }
 

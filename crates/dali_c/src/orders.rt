@@ -3,12 +3,11 @@
 ghost use Rattle.std.specs.Prelude.{◌≡◌, Some};
 ghost use Rattle.dali_c.specs.Orders.{record_of, order_of, finding_of};
 
-use crate::codes::{end_code, end_of, fault_code, fault_of};
 use crate::pairs::read_pair;
 use dali_frame::{Forward, Priority};
-use dali_script::{Finding, Order, Pair, Record};
+use dali_script::{End, Fault, Finding, Order, Pair, Record};
 
-/// A record: kind 1 reserves, 2 enrols, 3 releases.
+/// A record: the code of its kind (`Record::code`), and its pair.
 #[repr(C)]
 #[derive(Clone, Copy)]
 pub struct PlainRecord {
@@ -17,17 +16,12 @@ pub struct PlainRecord {
 }
 
 impl PlainRecord {
-    pub(crate) fn of(added: Record) -> PlainRecord
-        ensures { record_of result ≡ Some added }
+    pub(crate) fn of(added: &Record) -> PlainRecord
+        ensures { record_of result ≡ Some added.now }
     {
-        let (kind, short, random) = match added {
-            Record::Reserve(short, random) => (1, short, random),
-            Record::Enrol(short, random) => (2, short, random),
-            Record::Release(short, random) => (3, short, random),
-        };
         PlainRecord {
-            kind,
-            pair: Pair::of(short, random),
+            kind: added.code(),
+            pair: Pair::of(added.address(), added.random()),
         }
     }
 
@@ -35,12 +29,7 @@ impl PlainRecord {
         ensures { result ≡ record_of self }
     {
         let (short, random) = read_pair(self.pair)?;
-        match self.kind {
-            1 => Some(Record::Reserve(short, random)),
-            2 => Some(Record::Enrol(short, random)),
-            3 => Some(Record::Release(short, random)),
-            _ => None,
-        }
+        Record::of_code(self.kind, short, random)
     }
 }
 
@@ -94,15 +83,15 @@ impl PlainOrder {
                 ..PlainOrder::empty(1)
             },
             Order::Commit(added) => PlainOrder {
-                record: PlainRecord::of(added),
+                record: PlainRecord::of(&added),
                 ..PlainOrder::empty(2)
             },
             Order::Done(end) => PlainOrder {
-                reason: end_code(end),
+                reason: end.code(),
                 ..PlainOrder::empty(3)
             },
             Order::Halt(fault) => PlainOrder {
-                reason: fault_code(fault),
+                reason: fault.code(),
                 ..PlainOrder::empty(4)
             },
         }
@@ -123,8 +112,8 @@ impl PlainOrder {
                 Some(Some(Order::Put(priority, frame)))
             }
             2 => Some(Some(Order::Commit(self.record.read()?))),
-            3 => Some(Some(Order::Done(end_of(self.reason)?))),
-            4 => Some(Some(Order::Halt(fault_of(self.reason)?))),
+            3 => Some(Some(Order::Done(End::of_code(self.reason)?))),
+            4 => Some(Some(Order::Halt(Fault::of_code(self.reason)?))),
             _ => None,
         }
     }

@@ -3,7 +3,6 @@
 ghost use Rattle.std.specs.Prelude.{◌≡◌, Some};
 ghost use Rattle.dali_c.specs.Purposes.{purpose_of};
 
-use crate::codes::{end_code, end_of};
 use dali_controller::Purpose;
 use dali_frame::Short;
 
@@ -16,7 +15,7 @@ pub(crate) fn purpose_of(code: u8, detail: u8) -> Option<Purpose>
         1 => Some(Purpose::Probing),
         2 => Some(Purpose::Visiting),
         3 => Some(Purpose::Resolving(Short::of(detail)?)),
-        4 => Some(Purpose::Closing(end_of(detail)?)),
+        4 => Some(Purpose::Closing(End::of_code(detail)?)),
         _ => None,
     }
 }
@@ -30,6 +29,6 @@ pub(crate) fn purpose_code(purpose: Purpose) -> (u8, u8)
         Purpose::Probing => (1, 0),
         Purpose::Visiting => (2, 0),
         Purpose::Resolving(short) => (3, short.number()),
-        Purpose::Closing(end) => (4, end_code(end)),
+        Purpose::Closing(end) => (4, end.code()),
     }
 }

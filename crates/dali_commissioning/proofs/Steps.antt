@@ -1,4 +1,5 @@
-use Rattle.std.proofs.Common.{◌≡◌, ◌⊎◌, ⊎_elim, arith, ℕ, ◌+◌, ◌≤◌, length, List, [], ◌∷◌, ◌++◌, Bool, true, false, ◌||◌, Option, Some, None, refl, ◌∙◌, ap, sym, subst}
+use Rattle.std.proofs.Common.{◌≡◌, ◌⊎◌, ⊎_elim, arith, ℕ, ◌+◌, ◌≤◌, length, List, [], ◌∷◌, ◌++◌, Bool, true, false, ◌||◌, Option, Some, None, refl, ◌∙◌, ap}
+use Rattle.std.proofs.Common.{sym, subst}
 use Rattle.std.proofs.lemmas.Bool.{false≢true}
 use Rattle.dali_script.specs.Due.{accepts}
 use Rattle.dali_script.specs.declared.orders.Due.TheVariants as due
@@ -6,7 +7,8 @@ use Rattle.dali_script.specs.declared.orders.Input.{Input}
 use Rattle.dali_script.specs.declared.orders.Input.TheVariants.{Start, Heard, Destroyed, Lapsed, Committed, CommitFailed}
 use Rattle.dali_commissioning.specs.Lines.{Tells}
 use Rattle.dali_commissioning.specs.Conducted.{Hears, Conducted, Commits, MayCommit, Stays, IsAt, IsLeft, HasTaken}
-use Rattle.dali_commissioning.specs.Steps.{Step, IsStep, last_order, open_after, order_line, written_by, opened_by, if_heard, record_told, committed_by, is_kept, AreTold}
+use Rattle.dali_commissioning.specs.Steps.{Step, IsStep, last_order, open_after, order_line, written_by, opened_by, if_heard, record_told, committed_by}
+use Rattle.dali_commissioning.specs.Steps.{is_kept, AreTold}
 use Rattle.dali_commissioning.specs.Drivers.{Talk}
 use Rattle.dali_controller.specs.Machine.{Machine}
 use Rattle.dali_script.specs.declared.orders.Order.{Order}
@@ -92,20 +94,21 @@ pub at_further : {S : Type 0} (is_up is_sound : S → Type 0) (holds : S → Lis
     → Stays is_up is_sound mid keep
     → Commits is_up is_sound holds mid keep (record_told told (record_ordered (Some order)))
     → IsAt is_up is_sound holds was keep m n x z later next more (count + 1)
-at_further is_up is_sound holds was mid keep m between n x y z waiting later order next told committed more count so_far step ordered wrote hears opened joined stays commits = record {
-  steps = record { told = told; order = next } ∷ so_far.steps;
-  conducted = further m between n so_far.steps order next told x y z so_far.conducted so_far.last step
-      (subst (λ o. Appends y.written z.written (order_line o (Some order))) so_far.stands wrote) hears;
-  counted = omega (arith, so_far.counted);
-  last = refl;
-  ordered = ordered;
-  stands = opened ∙ ap (λ o. if_heard told (opened_by o (Some order))) so_far.stands
-      ∙ ap (λ o. if_heard told (opened_by (open_after so_far.steps) o)) (sym so_far.last);
-  commits = commits_further is_up is_sound holds was mid keep (committed_by so_far.steps) _ so_far.commits so_far.stays stays
-      (subst (λ o. Commits is_up is_sound holds mid keep (record_told told (record_ordered o))) (sym so_far.last) commits);
-  has = joined ∙ ap (λ c. c || is_kept told) so_far.has;
-  stays = stays_further is_up is_sound was mid keep so_far.stays stays;
-}
+at_further is_up is_sound holds was mid keep m between n x y z waiting later order next told committed more count so_far step ordered wrote hears opened joined
+    stays commits = record {
+      steps = record { told = told; order = next } ∷ so_far.steps;
+      conducted = further m between n so_far.steps order next told x y z so_far.conducted so_far.last step
+          (subst (λ o. Appends y.written z.written (order_line o (Some order))) so_far.stands wrote) hears;
+      counted = omega (arith, so_far.counted);
+      last = refl;
+      ordered = ordered;
+      stands = opened ∙ ap (λ o. if_heard told (opened_by o (Some order))) so_far.stands
+          ∙ ap (λ o. if_heard told (opened_by (open_after so_far.steps) o)) (sym so_far.last);
+      commits = commits_further is_up is_sound holds was mid keep (committed_by so_far.steps) _ so_far.commits so_far.stays stays
+          (subst (λ o. Commits is_up is_sound holds mid keep (record_told told (record_ordered o))) (sym so_far.last) commits);
+      has = joined ∙ ap (λ c. c || is_kept told) so_far.has;
+      stays = stays_further is_up is_sound was mid keep so_far.stays stays;
+    }
 
 -- where nothing is written or read
 pub no_line : (a : Option (List ℕ)) → Appends a a []

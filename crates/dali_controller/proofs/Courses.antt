@@ -1,4 +1,5 @@
-use Rattle.std.proofs.Common.{◌≡◌, ℕ, ◌+◌, ◌-◌, ◌<◌, ◌≤◌, inl, inr, Bool, true, false, List, [], ◌∷◌, ◌++◌, refl, sym, ap, subst, ◌∙◌, arith, Option, Some, None}
+use Rattle.std.proofs.Common.{◌≡◌, ℕ, ◌+◌, ◌-◌, ◌<◌, ◌≤◌, inl, inr, Bool, true, false, List, [], ◌∷◌, ◌++◌, refl, sym, ap, subst, ◌∙◌, arith, Option, Some}
+use Rattle.std.proofs.Common.{None}
 use Rattle.std.specs.Prelude.{◌==◌, MatchOption, is_some, suc, if◌then◌else◌}
 use Rattle.std.proofs.lemmas.Bool.Decides.{nat_tests}
 use Rattle.dali_frame.specs.declared.frames.Forward.{Forward}
@@ -28,7 +29,8 @@ use Rattle.dali_search.specs.Least.{Search, step_after, probe_after, next_probe,
 use Rattle.dali_controller.specs.declared.purpose.Purpose.{Purpose}
 use Rattle.dali_controller.specs.declared.purpose.Purpose.TheVariants.{Opening, Probing, Visiting, Resolving, Closing}
 use Rattle.dali_controller.specs.Parts.{Parts}
-use Rattle.dali_controller.specs.Course.{Course, turn_of, is_yes, after_step, probed, number_at, address_for, unless_enrolled, unfinished_at, unfinished_among, here_or_later}
+use Rattle.dali_controller.specs.Course.{Course, turn_of, is_yes, after_step, probed, number_at, address_for, unless_enrolled, unfinished_at, unfinished_among}
+use Rattle.dali_controller.specs.Course.{here_or_later}
 use Rattle.dali_controller.specs.Machine.{Machine, machine_lost, machine_committed, machine_told}
 use Rattle.dali_controller.specs.Next.{begins_at, course_by, next_course, beginning}
 use Rattle.dali_controller.specs.Orders.{AfterFinding, AfterEnrolled, IsFollowed}
@@ -39,12 +41,14 @@ use Rattle.dali_controller.specs.Whole.{IsWhole, Pending}
 -- THE COURSE OF A MACHINE is the one of the table of moments.
 
 -- a transaction that begins where the trace has this stage
-pub started : (w : Parts) (s : Stage) (o : Order) (new : Parts) (c : Course) → stage_of w.trace ≡ s → c ≡ begins_at (machine_of w) s → Starts c o new → parts_course new ≡ course_by (machine_of w) o
+pub started : (w : Parts) (s : Stage) (o : Order) (new : Parts) (c : Course) → stage_of w.trace ≡ s → c ≡ begins_at (machine_of w) s → Starts c o new
+    → parts_course new ≡ course_by (machine_of w) o
 started w s o new c stage is starts = rw starts.order (starts.course ∙ is ∙ ap (λ x. begins_at (machine_of w) x) (sym stage))
 
 -- ---------------------------------------------------------------- a search that is answered
 
-whole : (s : Search) (answers : List (ℕ × Bool)) (probe : ℕ) (step : Step) → s.answers ≡ answers → s.probe ≡ probe → s.step ≡ step → s ≡ record { answers = answers; probe = probe; step = step }
+whole : (s : Search) (answers : List (ℕ × Bool)) (probe : ℕ) (step : Step) → s.answers ≡ answers → s.probe ≡ probe → s.step ≡ step
+    → s ≡ record { answers = answers; probe = probe; step = step }
 whole s answers probe step one two three = rw (← one, ← two, ← three) refl
 
 probe_is : (s t : Step) (last next now : ℕ) → s ≡ t → (s ≡ Again → now ≡ next) → ((s ≡ Again → ⊥) → now ≡ last) → now ≡ next_probe t last next
@@ -52,7 +56,8 @@ probe_is Again t last next now is again ended = subst (λ x. now ≡ next_probe 
 probe_is (Found r) t last next now is again ended = subst (λ x. now ≡ next_probe x last next) is (ended (λ e. cc))
 probe_is Nobody t last next now is again ended = subst (λ x. now ≡ next_probe x last next) is (ended (λ e. cc))
 
-pub answered_is : (old new : Search) (said : Bool) (s : Step) → old.step ≡ Again → (old.step ≡ Again → new.answers ≡ old.answers ++ (old.probe, said) ∷ []) → (old.step ≡ Again → s ≡ step_after new.answers)
+pub answered_is : (old new : Search) (said : Bool) (s : Step) → old.step ≡ Again → (old.step ≡ Again → new.answers ≡ old.answers ++ (old.probe, said) ∷ [])
+    → (old.step ≡ Again → s ≡ step_after new.answers)
     → (s ≡ Again → new.probe ≡ probe_after new.answers) → ((s ≡ Again → ⊥) → new.probe ≡ old.probe) → new.step ≡ s → new ≡ answered old said
 answered_is old new said s running asked step next last kept =
     let answers : new.answers ≡ old.answers ++ (old.probe, said) ∷ [] = asked running in
@@ -61,7 +66,8 @@ answered_is old new said s running asked step next last kept =
     (probe_is s _ old.probe _ new.probe after (λ e. next e ∙ ap probe_after answers) last)
     (kept ∙ after)
 
-pub probed_is : (c : Course) (h : Answer) (said : Bool) (s : Search) (step : Step) → said ≡ is_yes h → s ≡ answered c.search said → s.step ≡ step → after_step step (record c { search = s }) ≡ probed c h
+pub probed_is : (c : Course) (h : Answer) (said : Bool) (s : Search) (step : Step) → said ≡ is_yes h → s ≡ answered c.search said → s.step ≡ step
+    → after_step step (record c { search = s }) ≡ probed c h
 probed_is c h said s step yes_is is here =
     ap (λ x. after_step x (record c { search = s })) (sym here)
     ∙ ap (λ (q : Search). after_step q.step (record c { search = q })) (is ∙ ap (answered c.search) yes_is)
@@ -71,7 +77,8 @@ probed_is c h said s step yes_is is here =
 found_number : (xs : List Assignment) (a : ℕ) → MatchOption (number_at xs a) (HasAddress xs a → ⊥) (λ r. Has xs (a, r))
 found_number [] a = λ h. h
 found_number (p ∷ xs) a = go (p.0 == a) refl (number_at xs a) (found_number xs a) where
-  go : (b : Bool) → (p.0 == a) ≡ b → (o : Option ℕ) → MatchOption o (HasAddress xs a → ⊥) (λ r. Has xs (a, r)) → MatchOption (if b then Some p.1 else o) (HasAddress (p ∷ xs) a → ⊥) (λ r. Has (p ∷ xs) (a, r))
+  go : (b : Bool) → (p.0 == a) ≡ b → (o : Option ℕ) → MatchOption o (HasAddress xs a → ⊥) (λ r. Has xs (a, r))
+      → MatchOption (if b then Some p.1 else o) (HasAddress (p ∷ xs) a → ⊥) (λ r. Has (p ∷ xs) (a, r))
   go true is o later = inl (let same : p.0 ≡ a = grind (arith, nat_tests) in ap (λ x. (x, p.1)) same)
   go false is None none = none_of where
     none_of : HasAddress (p ∷ xs) a → ⊥
@@ -82,7 +89,8 @@ found_number (p ∷ xs) a = go (p.0 == a) refl (number_at xs a) (found_number xs
 found_address : (xs : List Assignment) (r : ℕ) → MatchOption (address_for xs r) (HasRandom xs r → ⊥) (λ a. Has xs (a, r))
 found_address [] r = λ h. h
 found_address (p ∷ xs) r = go (p.1 == r) refl (address_for xs r) (found_address xs r) where
-  go : (b : Bool) → (p.1 == r) ≡ b → (o : Option ℕ) → MatchOption o (HasRandom xs r → ⊥) (λ a. Has xs (a, r)) → MatchOption (if b then Some p.0 else o) (HasRandom (p ∷ xs) r → ⊥) (λ a. Has (p ∷ xs) (a, r))
+  go : (b : Bool) → (p.1 == r) ≡ b → (o : Option ℕ) → MatchOption o (HasRandom xs r → ⊥) (λ a. Has xs (a, r))
+      → MatchOption (if b then Some p.0 else o) (HasRandom (p ∷ xs) r → ⊥) (λ a. Has (p ∷ xs) (a, r))
   go true is o later = inl (let same : p.1 ≡ r = grind (arith, nat_tests) in ap (λ x. (p.0, x)) same)
   go false is None none = none_of where
     none_of : HasRandom (p ∷ xs) r → ⊥
@@ -90,7 +98,8 @@ found_address (p ∷ xs) r = go (p.1 == r) refl (address_for xs r) (found_addres
     none_of (inr h) = none h
   go false is (Some a) there = inr there
 
-pub number_is : (xs : List Assignment) (a : ℕ) (o : Option ℕ) → IsOnce (addresses xs) → MatchOption o (HasAddress xs a → ⊥) (λ r. Has xs (a, r)) → o ≡ number_at xs a
+pub number_is : (xs : List Assignment) (a : ℕ) (o : Option ℕ) → IsOnce (addresses xs) → MatchOption o (HasAddress xs a → ⊥) (λ r. Has xs (a, r))
+    → o ≡ number_at xs a
 number_is xs a o once said = go o (number_at xs a) said (found_number xs a) where
   go : (o p : Option ℕ) → MatchOption o (HasAddress xs a → ⊥) (λ r. Has xs (a, r)) → MatchOption p (HasAddress xs a → ⊥) (λ r. Has xs (a, r)) → o ≡ p
   go None None h k = refl
@@ -98,7 +107,8 @@ number_is xs a o once said = go o (number_at xs a) said (found_number xs a) wher
   go (Some r) None h k = absurd (k (has_map (λ (q : Assignment). q.0) xs (a, r) h))
   go (Some r) (Some s) h k = ap Some (ap (λ (q : Assignment). q.1) (same_member (λ (q : Assignment). q.0) xs (a, r) (a, s) once h k refl))
 
-pub address_is : (xs : List Assignment) (r : ℕ) (o : Option ℕ) → IsOnce (randoms xs) → MatchOption o (HasRandom xs r → ⊥) (λ a. Has xs (a, r)) → o ≡ address_for xs r
+pub address_is : (xs : List Assignment) (r : ℕ) (o : Option ℕ) → IsOnce (randoms xs) → MatchOption o (HasRandom xs r → ⊥) (λ a. Has xs (a, r))
+    → o ≡ address_for xs r
 address_is xs r o once said = go o (address_for xs r) said (found_address xs r) where
   go : (o p : Option ℕ) → MatchOption o (HasRandom xs r → ⊥) (λ a. Has xs (a, r)) → MatchOption p (HasRandom xs r → ⊥) (λ a. Has xs (a, r)) → o ≡ p
   go None None h k = refl
@@ -111,7 +121,8 @@ address_is xs r o once said = go o (address_for xs r) said (found_address xs r) 
 pub none_reserved : (k : Kept) (a : ℕ) → None ≡ number_at k.reserved a → unfinished_at k a ≡ None
 none_reserved k a is = ap (unless_enrolled k.enrolled) (sym is)
 
-pub unfinished_is : (k : Kept) (a r : ℕ) (o : Option ℕ) → Some r ≡ number_at k.reserved a → o ≡ address_for k.enrolled r → unfinished_at k a ≡ (if is_some o then None else Some r)
+pub unfinished_is : (k : Kept) (a r : ℕ) (o : Option ℕ) → Some r ≡ number_at k.reserved a → o ≡ address_for k.enrolled r
+    → unfinished_at k a ≡ (if is_some o then None else Some r)
 unfinished_is k a r o reserved enrolled =
     ap (unless_enrolled k.enrolled) (sym reserved) ∙ ap (λ x. if is_some x then None else Some r) (sym enrolled)
 
@@ -163,7 +174,8 @@ heard_last : (m : Machine) (f : Forward) (h : Answer) → frame_put m.last ≡ S
 heard_last m f h put = rw put refl
 
 -- a frame that was heard follows no enrolment
-pub followed_heard : (w mid : Parts) (o : Order) (f : Forward) (h : Answer) → frame_put w.last ≡ Some f → machine_of mid ≡ machine_told (machine_of w) (input.Heard h)
+pub followed_heard : (w mid : Parts) (o : Order) (f : Forward) (h : Answer) → frame_put w.last ≡ Some f
+    → machine_of mid ≡ machine_told (machine_of w) (input.Heard h)
     → ((c : Command) → turn_of mid.purpose mid.number (stage_of mid.trace) ≡ Some c → o ≡ Put LATER (frame_of c))
     → ((b n : ℕ) → stage_of mid.trace ≡ Spelled b (Some n) → n ≡ value_of mid.number → AfterFinding (machine_of mid) b n o)
     → ((b n : ℕ) → stage_of mid.trace ≡ Spelled b (Some n) → (n ≡ value_of mid.number → ⊥) → o ≡ beginning (next_course (machine_of mid)))
@@ -172,20 +184,27 @@ pub followed_heard : (w mid : Parts) (o : Order) (f : Forward) (h : Answer) → 
 followed_heard w mid o f h put is sent told another unconfirmed = record {
   sent = subst (λ (t : Machine). (c : Command) → turn_of t.course.purpose t.course.number (stage_of t.trace) ≡ Some c → o ≡ Put LATER (frame_of c)) is sent;
   told = subst (λ (t : Machine). (b n : ℕ) → stage_of t.trace ≡ Spelled b (Some n) → n ≡ value_of t.course.number → AfterFinding t b n o) is told;
-  another = subst (λ (t : Machine). (b n : ℕ) → stage_of t.trace ≡ Spelled b (Some n) → (n ≡ value_of t.course.number → ⊥) → o ≡ beginning (next_course t)) is another;
-  unconfirmed = subst (λ (t : Machine). (r : SearchAddress) (x : Option ℕ) → stage_of t.trace ≡ Inconclusive r x → o ≡ beginning (next_course t)) is unconfirmed;
+  another = subst (λ (t : Machine). (b n : ℕ) → stage_of t.trace ≡ Spelled b (Some n) → (n ≡ value_of t.course.number → ⊥) → o ≡ beginning (next_course t))
+      is another;
+  unconfirmed = subst (λ (t : Machine). (r : SearchAddress) (x : Option ℕ) → stage_of t.trace ≡ Inconclusive r x → o ≡ beginning (next_course t))
+      is unconfirmed;
   enrolled = λ b n e. absurd (let there = subst (λ l. frame_put l ≡ Some f) (sym (heard_last (machine_of w) f h put) ∙ e) put in cc);
 }
 
 -- a record that is kept follows no queries
 pub followed_committed : (w : Parts) (x : Record) (o : Order) → IsWhole (machine_of w) → record_ordered w.last ≡ Some x
-    → ((b n : ℕ) → x ≡ Enrol b n → AfterEnrolled (machine_told (machine_of w) input.Committed) b n o) → IsFollowed (machine_told (machine_of w) input.Committed) o
+    → ((b n : ℕ) → x ≡ Enrol b n → AfterEnrolled (machine_told (machine_of w) input.Committed) b n o)
+    → IsFollowed (machine_told (machine_of w) input.Committed) o
 followed_committed w x o whole ordered enrolled = record {
   sent = λ c e. absurd (no_turn w.purpose w.number (stage_of w.trace) c (free_stored w w.last x ordered whole)
-      (subst (λ r. turn_of (machine_committed (machine_of w) r).course.purpose (machine_committed (machine_of w) r).course.number (stage_of (machine_committed (machine_of w) r).trace) ≡ Some c) ordered e));
-  told = λ b n s e. absurd (let there : Free ≡ Spelled b (Some n) = sym (free_stored w w.last x ordered whole) ∙ subst (λ r. stage_of (machine_committed (machine_of w) r).trace ≡ Spelled b (Some n)) ordered s in cc);
-  another = λ b n s e. absurd (let there : Free ≡ Spelled b (Some n) = sym (free_stored w w.last x ordered whole) ∙ subst (λ r. stage_of (machine_committed (machine_of w) r).trace ≡ Spelled b (Some n)) ordered s in cc);
-  unconfirmed = λ r y s. absurd (let there : Free ≡ Inconclusive r y = sym (free_stored w w.last x ordered whole) ∙ subst (λ q. stage_of (machine_committed (machine_of w) q).trace ≡ Inconclusive r y) ordered s in cc);
+      (subst (λ r. turn_of (machine_committed (machine_of w) r).course.purpose (machine_committed (machine_of w) r).course.number
+      (stage_of (machine_committed (machine_of w) r).trace) ≡ Some c) ordered e));
+  told = λ b n s e. absurd (let there : Free ≡ Spelled b (Some n) = sym (free_stored w w.last x ordered whole)
+      ∙ subst (λ r. stage_of (machine_committed (machine_of w) r).trace ≡ Spelled b (Some n)) ordered s in cc);
+  another = λ b n s e. absurd (let there : Free ≡ Spelled b (Some n) = sym (free_stored w w.last x ordered whole)
+      ∙ subst (λ r. stage_of (machine_committed (machine_of w) r).trace ≡ Spelled b (Some n)) ordered s in cc);
+  unconfirmed = λ r y s. absurd (let there : Free ≡ Inconclusive r y = sym (free_stored w w.last x ordered whole)
+      ∙ subst (λ q. stage_of (machine_committed (machine_of w) q).trace ≡ Inconclusive r y) ordered s in cc);
   enrolled = λ b n e. enrolled b n (same x b n (sym ordered ∙ ap record_ordered (sym (committed_stays (machine_of w) (record_ordered w.last)) ∙ e)));
 } where
   same : (x : Record) (b n : ℕ) → Some x ≡ Some (Enrol b n) → x ≡ Enrol b n

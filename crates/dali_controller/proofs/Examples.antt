@@ -21,7 +21,8 @@ use Rattle.dali_controller.specs.Orders.{IsWarranted}
 -- WORKED EXAMPLES of the definitions.
 
 -- a search begins with FFFFFE; silence under it closes with all-found, and a yes halves what is left
-nobody_is_left : probed (searching_anew course_at_first) Silence ≡ closing (record (searching_anew course_at_first) { search = answered search_at_first false }) AllFound
+nobody_is_left : probed (searching_anew course_at_first) Silence
+    ≡ closing (record (searching_anew course_at_first) { search = answered search_at_first false }) AllFound
 nobody_is_left = refl
 
 half_is_asked : (probed (searching_anew course_at_first) Damaged).number ≡ sought 0x7FFFFF
@@ -33,7 +34,8 @@ unfolding stage_of
 same_again m p f last = rw last refl
 
 -- the unfinished reservation with the least short address is visited first, and one that is enrolled is passed over
-least_is_visited : next_unfinished (record { block = record { first = 0; last = 3 }; reserved = (3, 7) ∷ (1, 5) ∷ (0, 6) ∷ []; enrolled = (0, 6) ∷ [] }) 0 ≡ Some (2, 5)
+least_is_visited : next_unfinished (record { block = record { first = 0; last = 3 }; reserved = (3, 7) ∷ (1, 5) ∷ (0, 6) ∷ []; enrolled = (0, 6) ∷ [] }) 0
+    ≡ Some (2, 5)
 least_is_visited = refl
 
 -- a visit that led to no gear counts only after the opening, and one that led to gear ends the row

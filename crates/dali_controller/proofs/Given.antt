@@ -30,7 +30,8 @@ use Rattle.dali_controller.specs.declared.purpose.Purpose.TheVariants.{Closing}
 use Rattle.dali_controller.specs.Course.{Course, closing_of, turn_of, going_on, visit_or_opening, next_unfinished}
 use Rattle.dali_controller.specs.Machine.{Machine, machine_told}
 use Rattle.dali_controller.specs.Next.{next_course, begins_at, course_by, beginning, BeginsWith}
-use Rattle.dali_controller.specs.Orders.{IsAllowed, MayOrderPut, IsWarranted, IsBegun, IsCaused, Contradicts, AfterMask, AfterFinding, AfterEnrolled, IsFollowed, IsOrdered, IsGiven, running_close}
+use Rattle.dali_controller.specs.Orders.{IsAllowed, MayOrderPut, IsWarranted, IsBegun, IsCaused, Contradicts, AfterMask, AfterFinding, AfterEnrolled}
+use Rattle.dali_controller.specs.Orders.{IsFollowed, IsOrdered, IsGiven, running_close}
 
 -- WHICH ORDER A MACHINE GIVES at which stage, once it was told its input: what is told of a step leaves no other.
 pub record IsGivenBy (t : Machine) (o : Order) : Type 0 where
@@ -52,7 +53,8 @@ abbrev pub IsNoEnrolment : Option Order → Type 0
 IsNoEnrolment last = (b n : ℕ) → last ≡ Some (Commit (Enrol b n)) → ⊥
 
 -- A TRANSACTION THAT GOES ON. Its next frame is the one of its turn.
-pub turns : (t : Machine) (o : Order) (c : Command) → IsGivenBy t o → turn_of t.course.purpose t.course.number (stage_of t.trace) ≡ Some c → o ≡ Put LATER (frame_of c)
+pub turns : (t : Machine) (o : Order) (c : Command) → IsGivenBy t o → turn_of t.course.purpose t.course.number (stage_of t.trace) ≡ Some c
+    → o ≡ Put LATER (frame_of c)
 turns t o c given turn = given.followed.sent c turn
 
 -- A TRANSACTION THAT BEGINS. A first frame is that of the transaction that begins; it is put where no later one may be.
@@ -64,7 +66,8 @@ put_first t p f first begins =
 abbrev NothingLater : Machine → Type 0
 NothingLater t = (f : Forward) → (t.trace ≡ [] → ⊥) → Lawful t.kept.block t.kept.reserved t.trace f → ⊥
 
-put_begins : (t : Machine) (p : ℕ) (f : Forward) → MayOrderPut t p f → BeginsWith (course_by t (Put p f)) (Put p f) → NothingLater t → Put p f ≡ beginning (next_course t)
+put_begins : (t : Machine) (p : ℕ) (f : Forward) → MayOrderPut t p f → BeginsWith (course_by t (Put p f)) (Put p f) → NothingLater t
+    → Put p f ≡ beginning (next_course t)
 put_begins t p f (inl may) begins none = put_first t p f may.0 begins
 put_begins t p f (inr may) begins none = absurd (none f may.1 may.2)
 
@@ -90,10 +93,12 @@ spent_ends _ c spent e = elim spent [ ]
 
 nothing_after : (t : Machine) (s : Stage) → stage_of t.trace ≡ s → ((c : Command) → is_some (leads s c Silence) ≡ true → ⊥) → NothingLater t
 nothing_after t s stage ends f running lawful =
-    ends (command_of f) (subst (λ x. is_some (leads x (command_of f) Silence) ≡ true) stage (follows_lawful t.kept.block t.kept.reserved t.trace f lawful).leads_on)
+    ends (command_of f) (subst (λ x. is_some (leads x (command_of f) Silence) ≡ true) stage
+    (follows_lawful t.kept.block t.kept.reserved t.trace f lawful).leads_on)
 
 -- no record is ordered without a cause
-unwarranted : (t : Machine) (x : Record) → ((r : SearchAddress) → stage_of t.trace ≡ Unnamed r → ⊥) → finding_of t.trace ≡ None → IsNoEnrolment t.last → IsWarranted t x → ⊥
+unwarranted : (t : Machine) (x : Record) → ((r : SearchAddress) → stage_of t.trace ≡ Unnamed r → ⊥) → finding_of t.trace ≡ None → IsNoEnrolment t.last
+    → IsWarranted t x → ⊥
 unwarranted t (Reserve a r) named none last w = named w.0 w.1
 unwarranted t (Enrol b r) named none last w = let found = w.2 in cc
 unwarranted t (Release a r) named none last w = last w.0 r w.1
@@ -105,7 +110,8 @@ no_end : (t : Machine) (c : Course) (e : End) → (t.tries ≡ 8 → ⊥) → (s
 no_end t c e tries unclosed (inl cause) = tries cause.1
 no_end t c e tries unclosed (inr cause) = unclosed cause.1
 
-begins_anew : (t : Machine) (o : Order) → IsGivenBy t o → NothingLater t → ((r : SearchAddress) → stage_of t.trace ≡ Unnamed r → ⊥) → (stage_of t.trace ≡ Terminated → ⊥)
+begins_anew : (t : Machine) (o : Order) → IsGivenBy t o → NothingLater t → ((r : SearchAddress) → stage_of t.trace ≡ Unnamed r → ⊥)
+    → (stage_of t.trace ≡ Terminated → ⊥)
     → finding_of t.trace ≡ None → IsNoEnrolment t.last → (t.tries ≡ 8 → ⊥) → o ≡ beginning (next_course t)
 begins_anew t (Put p f) given none named unclosed found last tries = put_begins t p f given.ordered.allowed given.begins none
 begins_anew t (Commit x) given none named unclosed found last tries = absurd (unwarranted t x named found last given.ordered.allowed.warranted)
@@ -114,7 +120,8 @@ begins_anew t (Halt fault.Conflict) given none named unclosed found last tries =
 begins_anew t (Halt fault.Store) given none named unclosed found last tries = elim given.ordered.caused [ ]
 
 -- after a transaction that found nothing
-pub begins_after : (t : Machine) (o : Order) (s : Stage) → IsGivenBy t o → stage_of t.trace ≡ s → IsSpent s → finding_of t.trace ≡ None → IsNoEnrolment t.last → (t.tries ≡ 8 → ⊥)
+pub begins_after : (t : Machine) (o : Order) (s : Stage) → IsGivenBy t o → stage_of t.trace ≡ s → IsSpent s → finding_of t.trace ≡ None → IsNoEnrolment t.last
+    → (t.tries ≡ 8 → ⊥)
     → o ≡ beginning (next_course t)
 begins_after t o s given stage spent found last tries =
     begins_anew t o given (nothing_after t s stage (λ c. spent_ends s c spent))
@@ -167,7 +174,8 @@ uncontradicted : (xs : List Assignment) (b n : ℕ) → (HasAddress xs b → ⊥
 uncontradicted xs b n address number (inl is) = address (has_address xs b is.0 is.1)
 uncontradicted xs b n address number (inr is) = number (has_random xs is.0 n is.1)
 
-enrols_found : (t : Machine) (b n : ℕ) (o : Order) → (HasAddress t.kept.enrolled b → ⊥) → (HasRandom t.kept.enrolled n → ⊥) → AfterFinding t b n o → o ≡ Commit (Enrol b n)
+enrols_found : (t : Machine) (b n : ℕ) (o : Order) → (HasAddress t.kept.enrolled b → ⊥) → (HasRandom t.kept.enrolled n → ⊥) → AfterFinding t b n o
+    → o ≡ Commit (Enrol b n)
 enrols_found t b n (Put p f) address number is = absurd (address (has_address t.kept.enrolled b n is))
 enrols_found t b n (Commit x) address number is = ap Commit is
 enrols_found t b n (Done e) address number is = elim is [ ]
@@ -189,7 +197,8 @@ agrees_with xs b n map has (inl is) =
 agrees_with xs b n map has (inr is) =
     is.2 (ap (λ (q : Assignment). q.0) (same_member (λ (q : Assignment). q.1) xs (is.0, n) (b, n) map.random_once is.1 has refl))
 
-begins_known : (t : Machine) (o : Order) (b n : ℕ) → IsGivenBy t o → NothingLater t → IsMap t.kept.enrolled → Has t.kept.enrolled (b, n) → AfterFinding t b n o → o ≡ beginning (next_course t)
+begins_known : (t : Machine) (o : Order) (b n : ℕ) → IsGivenBy t o → NothingLater t → IsMap t.kept.enrolled → Has t.kept.enrolled (b, n) → AfterFinding t b n o
+    → o ≡ beginning (next_course t)
 begins_known t (Put p f) b n given none map has is = put_begins t p f given.ordered.allowed given.begins none
 begins_known t (Commit x) b n given none map has is =
     let fresh : IsFresh t.kept.enrolled (b, n) = subst (λ y. MayAdd t.kept y) is given.ordered.allowed.may in
@@ -200,13 +209,15 @@ begins_known t (Halt why) b n given none map has is = absurd (agrees_with t.kept
 pub withdrawn_known : (t : Machine) (o : Order) (r : SearchAddress) (b : ℕ) → IsGivenBy t o → stage_of t.trace ≡ Withdrawn r b
     → IsMap t.kept.enrolled → Has t.kept.enrolled (b, value_of r) → o ≡ beginning (next_course t)
 withdrawn_known t o r b given stage map has =
-    begins_known t o b (value_of r) given (nothing_after t (Withdrawn r b) stage (λ c e. let none : is_some (leads (Withdrawn r b) c Silence) ≡ true = e in cc)) map has
+    begins_known t o b (value_of r) given (nothing_after t (Withdrawn r b) stage (λ c e. let none : is_some (leads (Withdrawn r b) c Silence) ≡ true = e in cc))
+    map has
     (given.ordered.found r b stage)
 
 pub spelled_known : (t : Machine) (o : Order) (b n : ℕ) → IsGivenBy t o → stage_of t.trace ≡ Spelled b (Some n) → n ≡ value_of t.course.number
     → IsMap t.kept.enrolled → Has t.kept.enrolled (b, n) → o ≡ beginning (next_course t)
 spelled_known t o b n given stage visited map has =
-    begins_known t o b n given (nothing_after t (Spelled b (Some n)) stage (λ c e. let none : is_some (leads (Spelled b (Some n)) c Silence) ≡ true = e in cc)) map has
+    begins_known t o b n given (nothing_after t (Spelled b (Some n)) stage (λ c e. let none : is_some (leads (Spelled b (Some n)) c Silence) ≡ true = e in cc))
+    map has
     (given.followed.told b n stage visited)
 
 -- AN ENROLMENT THAT IS KEPT. A transaction begins where no other address is reserved for the number; else one is
@@ -214,7 +225,8 @@ spelled_known t o b n given stage visited map has =
 enrolled_once : (b n d m : ℕ) → Some (Commit (Enrol b n)) ≡ Some (Commit (Enrol d m)) → d ≡ b
 enrolled_once b n d m e = cc
 
-pub enrolled : (t : Machine) (o : Order) (b n : ℕ) → IsGivenBy t o → t.last ≡ Some (Commit (Enrol b n)) → t.trace ≡ [] → ((a : ℕ) → Has t.kept.reserved (a, n) → a ≡ b)
+pub enrolled : (t : Machine) (o : Order) (b n : ℕ) → IsGivenBy t o → t.last ≡ Some (Commit (Enrol b n)) → t.trace ≡ []
+    → ((a : ℕ) → Has t.kept.reserved (a, n) → a ≡ b)
     → o ≡ beginning (next_course t)
 enrolled t o b n given last free own = go o given (given.followed.enrolled b n last) where
   go : (o : Order) → IsGivenBy t o → AfterEnrolled t b n o → o ≡ beginning (next_course t)
@@ -248,21 +260,24 @@ goes_on_open t = go t.opened where
   go false = visits (next_unfinished t.kept t.course.from)
 
 -- no frame is put where a close was heard: it would be none of the close, and begin no other
-no_put : (t : Machine) (p : ℕ) (f : Forward) (e : End) → running_close t ≡ Some e → stage_of t.trace ≡ Terminated → MayOrderPut t p f → IsCaused t (course_by t (Put p f)) (Put p f) → ⊥
+no_put : (t : Machine) (p : ℕ) (f : Forward) (e : End) → running_close t ≡ Some e → stage_of t.trace ≡ Terminated → MayOrderPut t p f
+    → IsCaused t (course_by t (Put p f)) (Put p f) → ⊥
 no_put t p f e runs stage (inl may) cause =
     let unclosed : closing_of (next_course t).purpose ≡ None = ap (λ s. closing_of (begins_at t s).purpose) stage ∙ goes_on_open t in
     let here : IsBegun t (closing_of (next_course t).purpose) = (subst (λ q. IsCaused t (course_by t (Put q f)) (Put q f)) may.0 cause).0 in
     let ends : running_close t ≡ None = subst (λ c. IsBegun t c) unclosed here in
     cc
 no_put t p f e runs stage (inr may) cause =
-    let here : (running_close t ≡ None) ⊎ ((LATER ≡ FIRST) × (f ≡ frame_of Terminate)) = (subst (λ q. IsCaused t (course_by t (Put q f)) (Put q f)) may.0 cause).1 in
+    let here : (running_close t ≡ None) ⊎ ((LATER ≡ FIRST) × (f ≡ frame_of Terminate)) =
+    (subst (λ q. IsCaused t (course_by t (Put q f)) (Put q f)) may.0 cause).1 in
     go here
   where
     go : (running_close t ≡ None) ⊎ ((LATER ≡ FIRST) × (f ≡ frame_of Terminate)) → ⊥
     go (inl none) = cc
     go (inr is) = omega (arith, is.0)
 
-pub closed : (t : Machine) (o : Order) (e : End) → IsGivenBy t o → running_close t ≡ Some e → stage_of t.trace ≡ Terminated → finding_of t.trace ≡ None → (t.tries ≡ 8 → ⊥) → o ≡ Done e
+pub closed : (t : Machine) (o : Order) (e : End) → IsGivenBy t o → running_close t ≡ Some e → stage_of t.trace ≡ Terminated → finding_of t.trace ≡ None
+    → (t.tries ≡ 8 → ⊥) → o ≡ Done e
 closed t o e given runs stage found tries = go o given.ordered.allowed given.ordered.caused where
   ended : (x : End) → ((x ≡ GaveUp) × (t.tries ≡ 8)) ⊎ ((running_close t ≡ Some x) × (stage_of t.trace ≡ Terminated)) → Done x ≡ Done e
   ended x (inl is) = absurd (tries is.1)

@@ -19,7 +19,8 @@ use Rattle.dali_controller.specs.Whole.{IsWhole, IsStoring, Pending}
 use Rattle.dali_controller.specs.Steps.{IsBefore, with_some, kept_by}
 
 -- WHAT IS RESERVED FROM NOW ON was drawn.
-pub reserved_now : (s : State) (k new : Kept) (a n : ℕ) → IsBefore s k input.Committed new → s.last ≡ Some (Commit (Reserve a n)) → (n < MASK24) × HasRandom new.reserved n
+pub reserved_now : (s : State) (k new : Kept) (a n : ℕ) → IsBefore s k input.Committed new → s.last ≡ Some (Commit (Reserve a n))
+    → (n < MASK24) × HasRandom new.reserved n
 reserved_now s k new a n before last =
     let stored : IsStoring (machine_with s k) (Reserve a n) = subst (Pending (machine_with s k)) last before.whole in
     let same : new ≡ with_record k (Reserve a n) = before.kept ∙ ap (λ l. with_some k (kept_by l input.Committed)) last in
@@ -49,11 +50,13 @@ pub given_followed : {E : Type 0} (r : Result Order E) (m : Machine) (i : Input)
 given_followed (Ok o) m i given = given.followed
 given_followed (Err e) m i given = tt
 
-pub given_begins : {E : Type 0} (r : Result Order E) (m : Machine) (i : Input) (c : Course) (new : Machine) → IfOk r (λ o. IsGiven m i o) → IfOk r (λ o. new ≡ machine_after m i o) → new.course ≡ c
+pub given_begins : {E : Type 0} (r : Result Order E) (m : Machine) (i : Input) (c : Course) (new : Machine) → IfOk r (λ o. IsGiven m i o)
+    → IfOk r (λ o. new ≡ machine_after m i o) → new.course ≡ c
     → IfOk r (BeginsWith c)
 given_begins (Ok o) m i c new given state is = subst (λ d. BeginsWith d o) (sym (ap (λ (n : Machine). n.course) state) ∙ is) given.begins
 given_begins (Err e) m i c new given state is = tt
 
 -- the records before a step, and those that it goes by
-pub before_is : (s : State) (k new view : Kept) (added : Option Record) (i : Input) → IsWhole (machine_with s k) → added ≡ kept_by s.last i → new ≡ with_some k added → view ≡ new → IsBefore s k i view
+pub before_is : (s : State) (k new view : Kept) (added : Option Record) (i : Input) → IsWhole (machine_with s k) → added ≡ kept_by s.last i
+    → new ≡ with_some k added → view ≡ new → IsBefore s k i view
 before_is s k new view added i whole is now shown = record { whole = whole; kept = shown ∙ now ∙ ap (with_some k) is }

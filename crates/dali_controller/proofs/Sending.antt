@@ -44,12 +44,14 @@ given_small : (k : Kept) (a : ℕ) (n : ℕ) → IsMap k.reserved → Has k.rese
 given_small k a n map has = map.short a (has_map (λ q. q.0) k.reserved (a, n) has)
 
 -- and what it has chosen, where it may be sent, it sends
-pub chosen_sends : (k : Kept) (n : SearchAddress) (x : Search) (o : Bool) (p : Purpose) (s : Stage) (c : Command) → IsMap k.reserved → Knows k n x o p → Follows k.block k.reserved s c → IsChosen n p s c
+pub chosen_sends : (k : Kept) (n : SearchAddress) (x : Search) (o : Bool) (p : Purpose) (s : Stage) (c : Command) → IsMap k.reserved → Knows k n x o p
+    → Follows k.block k.reserved s c → IsChosen n p s c
     → Sends k n p s c
 chosen_sends k n x o p Free c map knows follows e = (e, subst IsSpelled (sym e) (first_spelled k n x o p knows))
 chosen_sends k n x o p (Unnamed r) c map knows follows e =
     let program = programs r c follows.leads_on in
-    let may : MayGive k.block k.reserved r program.0 = subst (λ d. IfSome (given (Unnamed r) d) (λ g. MayGive k.block k.reserved g.0 g.1)) program.1 follows.may in
+    let may : MayGive k.block k.reserved r program.0 =
+    subst (λ d. IfSome (given (Unnamed r) d) (λ g. MayGive k.block k.reserved g.0 g.1)) program.1 follows.may in
     (e.0, e.1, (program.0, given_small k program.0 (value_of r) map may.reserved_for, may, program.1))
 chosen_sends k n x o p (HighAsked b high) c map knows follows e = (e.0, (e.1, asked_small k n x o p b knows e.1), follows.may)
 chosen_sends k n x o p (MiddleAsked b bytes) c map knows follows e = (e.0, (e.1, asked_small k n x o p b knows e.1), follows.may)
@@ -57,7 +59,10 @@ chosen_sends k n x o p _ c map knows follows e = (e.0, e.1, follows.may)
 
 -- what is reserved at an address
 pub reserved_is : (xs : List Assignment) (a r n : ℕ) → IsOnce (addresses xs) → Has xs (a, r) → (nat_eq r n ≡ true) ↔ Has xs (a, n)
-reserved_is xs a r n once has = (λ e. let same : r ≡ n = grind (arith, nat_tests) in subst (λ m. Has xs (a, m)) same has, λ h. test (ap (λ q. q.1) (same_member (λ q. q.0) xs (a, r) (a, n) once has h refl))) where
+reserved_is xs a r n once has = (
+  λ e. let same : r ≡ n = grind (arith, nat_tests) in subst (λ m. Has xs (a, m)) same has,
+  λ h. test (ap (λ q. q.1) (same_member (λ q. q.0) xs (a, r) (a, n) once has h refl)),
+) where
   test : r ≡ n → nat_eq r n ≡ true
   test e = grind (arith, nat_tests)
 
@@ -65,12 +70,15 @@ pub reserved_none : (xs : List Assignment) (a n : ℕ) → (HasAddress xs a → 
 reserved_none xs a n none = (λ e. absurd (cc), λ h. absurd (none (has_map (λ q. q.0) xs (a, n) h)))
 
 -- so whether it sends a frame is told by whether the frame may be sent, and whether it has chosen it
-pub sends_allowed : (k : Kept) (n : SearchAddress) (x : Search) (o : Bool) (p : Purpose) (t : List Entry) (f : Forward) (chosen : Bool) → IsMap k.reserved → Knows k n x o p → Lawful k.block k.reserved t f
+pub sends_allowed : (k : Kept) (n : SearchAddress) (x : Search) (o : Bool) (p : Purpose) (t : List Entry) (f : Forward) (chosen : Bool) → IsMap k.reserved
+    → Knows k n x o p → Lawful k.block k.reserved t f
     → ((chosen ≡ true) ↔ IsChosen n p (stage_of t) (command_of f)) → (chosen ≡ true) ↔ Sends k n p (stage_of t) (command_of f)
 sends_allowed k n x o p t f chosen map knows lawful test = (
   λ e. chosen_sends k n x o p (stage_of t) (command_of f) map knows (follows_lawful k.block k.reserved t f lawful) (test.0 e),
   λ s. test.1 (sends_chosen k n p (stage_of t) (command_of f) s),
 )
 
-pub sends_refused : (k : Kept) (n : SearchAddress) (p : Purpose) (t : List Entry) (f : Forward) → (Lawful k.block k.reserved t f → ⊥) → (false ≡ true) ↔ Sends k n p (stage_of t) (command_of f)
-sends_refused k n p t f refused = (λ e. absurd (cc), λ s. absurd (refused (lawful_follows k.block k.reserved t f (sends_follow k n p (stage_of t) (command_of f) s))))
+pub sends_refused : (k : Kept) (n : SearchAddress) (p : Purpose) (t : List Entry) (f : Forward) → (Lawful k.block k.reserved t f → ⊥)
+    → (false ≡ true) ↔ Sends k n p (stage_of t) (command_of f)
+sends_refused k n p t f refused =
+    (λ e. absurd (cc), λ s. absurd (refused (lawful_follows k.block k.reserved t f (sends_follow k n p (stage_of t) (command_of f) s))))

@@ -1,4 +1,5 @@
-use Rattle.std.proofs.Common.{map, take, lit<, length, get_or, ◌≡◌, ◌⊎◌, inl, inr, ℕ, ◌+◌, ◌<◌, ◌≤◌, Bool, true, false, List, [], ◌∷◌, ◌++◌, refl, sym, ap, subst, ◌∙◌, arith, Option, Some, None}
+use Rattle.std.proofs.Common.{map, take, lit<, length, get_or, ◌≡◌, ◌⊎◌, inl, inr, ℕ, ◌+◌, ◌<◌, ◌≤◌, Bool, true, false, List, [], ◌∷◌, ◌++◌, refl, sym, ap}
+use Rattle.std.proofs.Common.{subst, ◌∙◌, arith, Option, Some, None}
 use Rattle.std.specs.Prelude.{◌==◌, if◌then◌else◌}
 use Rattle.dali_frame.specs.declared.frames.Forward.{Forward}
 use Rattle.dali_frame.specs.declared.frames.Answer.{Answer}
@@ -10,7 +11,8 @@ use Rattle.dali_frame.specs.Priority.{FIRST, LATER}
 use Rattle.dali_special.specs.declared.command.Target.TheVariants.{Unaddressed}
 use Rattle.dali_special.specs.declared.command.Part.TheVariants.{Middle, Low}
 use Rattle.dali_special.specs.declared.command.Command.{Command}
-use Rattle.dali_special.specs.declared.command.Command.TheVariants.{Terminate, Initialise, Randomise, Compare, Withdraw, SearchMiddle, SearchLow, Program, QueryShort, RandomByte, Arc}
+use Rattle.dali_special.specs.declared.command.Command.TheVariants.{Terminate, Initialise, Randomise, Compare, Withdraw, SearchMiddle, SearchLow, Program}
+use Rattle.dali_special.specs.declared.command.Command.TheVariants.{QueryShort, RandomByte, Arc}
 use Rattle.dali_special.specs.Command.{MASK, command_of, frame_of, IsSpelled}
 use Rattle.dali_special.proofs.Table.{read_written}
 use Rattle.dali_script.specs.declared.block.Block.{Block}
@@ -20,7 +22,9 @@ use Rattle.dali_script.specs.declared.finding.Finding.TheVariants.{Queried, Reso
 use Rattle.dali_script.specs.declared.records.Record.{Record}
 use Rattle.dali_script.specs.declared.records.Record.TheVariants.{Reserve, Enrol}
 use Rattle.dali_script.specs.declared.stage.Stage.{Stage}
-use Rattle.dali_script.specs.declared.stage.Stage.TheVariants.{Free, Terminated, InitialisedOnce, Initialised, RandomisedOnce, Opened, HighSent, MiddleSent, NumberSent, Found, Unnamed, Unanswered, Inconclusive, Programmed, Confirmed, Withdrawn, HighAsked, MiddleAsked, Spelled}
+use Rattle.dali_script.specs.declared.stage.Stage.TheVariants.{Free, Terminated, InitialisedOnce, Initialised, RandomisedOnce, Opened, HighSent, MiddleSent}
+use Rattle.dali_script.specs.declared.stage.Stage.TheVariants.{NumberSent, Found, Unnamed, Unanswered, Inconclusive, Programmed, Confirmed, Withdrawn}
+use Rattle.dali_script.specs.declared.stage.Stage.TheVariants.{HighAsked, MiddleAsked, Spelled}
 use Rattle.dali_script.specs.Records.{IsKept, IsOnce, with_record, HasAddress, Kept, Assignment, Has, HasRandom, Fits, MayAdd}
 use Rattle.dali_script.specs.Scripts.{MayGive, Lawful}
 use Rattle.dali_script.specs.Findings.{later, finding_of}
@@ -57,7 +61,8 @@ record Goes (k : Kept) (n : SearchAddress) (p : Purpose) (s : Stage) (c : Comman
   pub unclosed : (s ≡ Free → ⊥) → closing_of p ≡ None
   pub arrives : (h : Answer) → Arrived k n p (next_stage s c h)
 
-going : {k : Kept} {n : SearchAddress} {p : Purpose} {s : Stage} {c : Command} → Follows k.block k.reserved s c → IsSpelled c → ((g : Forward) → c ≡ Arc g → ⊥) → ((s ≡ Free → ⊥) → closing_of p ≡ None)
+going : {k : Kept} {n : SearchAddress} {p : Purpose} {s : Stage} {c : Command} → Follows k.block k.reserved s c → IsSpelled c → ((g : Forward) → c ≡ Arc g → ⊥)
+    → ((s ≡ Free → ⊥) → closing_of p ≡ None)
     → ((h : Answer) → Arrived k n p (next_stage s c h)) → Goes k n p s c
 going {k} {n} {p} {s} {c} follows spelled addressing unclosed arrives =
     record { follows = follows; spelled = spelled; addressing = addressing; unclosed = unclosed; arrives = arrives }
@@ -99,10 +104,14 @@ goes k n Opening Terminated c e = rw (some_is _ c e.0) (going (turn refl refl) t
 goes k n Opening InitialisedOnce c e = rw (some_is _ c e.0) (going (turn refl refl) tt (λ g x. cc) (λ later. refl) (λ h. (Randomise, (refl, tt, tt))))
 goes k n Opening Initialised c e = rw (some_is _ c e.0) (going (turn refl refl) tt (λ g x. cc) (λ later. refl) (λ h. (Randomise, (refl, tt, tt))))
 goes k n Opening RandomisedOnce c e = rw (some_is _ c e.0) (going (turn refl refl) tt (λ g x. cc) (λ later. refl) (λ h. refl))
-goes k n Probing (HighSent high) c e = rw (some_is _ c e.0) (going (turn refl refl) tt (λ g x. cc) (λ later. refl) (λ h. (SearchLow n.low, (refl, (e.1, refl), tt))))
-goes k n Visiting (HighSent high) c e = rw (some_is _ c e.0) (going (turn refl refl) tt (λ g x. cc) (λ later. refl) (λ h. (SearchLow n.low, (refl, (e.1, refl), tt))))
-goes k n Probing (MiddleSent high middle) c e = rw (some_is _ c e.0) (going (turn refl refl) tt (λ g x. cc) (λ later. refl) (λ h. (Compare, (refl, whole n high middle e.1.0 e.1.1, tt))))
-goes k n Visiting (MiddleSent high middle) c e = rw (some_is _ c e.0) (going (turn refl refl) tt (λ g x. cc) (λ later. refl) (λ h. (QueryShort, (refl, whole n high middle e.1.0 e.1.1, tt))))
+goes k n Probing (HighSent high) c e =
+    rw (some_is _ c e.0) (going (turn refl refl) tt (λ g x. cc) (λ later. refl) (λ h. (SearchLow n.low, (refl, (e.1, refl), tt))))
+goes k n Visiting (HighSent high) c e =
+    rw (some_is _ c e.0) (going (turn refl refl) tt (λ g x. cc) (λ later. refl) (λ h. (SearchLow n.low, (refl, (e.1, refl), tt))))
+goes k n Probing (MiddleSent high middle) c e =
+    rw (some_is _ c e.0) (going (turn refl refl) tt (λ g x. cc) (λ later. refl) (λ h. (Compare, (refl, whole n high middle e.1.0 e.1.1, tt))))
+goes k n Visiting (MiddleSent high middle) c e =
+    rw (some_is _ c e.0) (going (turn refl refl) tt (λ g x. cc) (λ later. refl) (λ h. (QueryShort, (refl, whole n high middle e.1.0 e.1.1, tt))))
 goes k n Probing (NumberSent r) c e = rw (some_is _ c e.0) (going (turn refl refl) tt (λ g x. cc) (λ later. refl) (λ h. (refl, sym e.1)))
 goes k n Visiting (NumberSent r) c e = rw (some_is _ c e.0) (going (turn refl refl) tt (λ g x. cc) (λ later. refl) (λ h. arrives_queried k n r h (sym e.1)))
 goes k n Visiting (Found r b) c e = rw (some_is _ c e.0) (going (turn refl refl) tt (λ g x. cc) (λ later. refl) (λ h. (refl, sym e.1)))
@@ -110,10 +119,12 @@ goes k n (Resolving a) (HighAsked b high) c e =
     rw (some_is _ c e.0) (going (turn (rw (self b) refl) refl) e.1.1 (λ g x. cc) (λ later. refl)
     (λ h. subst (Arrived k n (Resolving a)) (sym (middle_next b high h)) (RandomByte b Low, (refl, e.1, tt))))
 goes k n (Resolving a) (MiddleAsked b bytes) c e =
-    rw (some_is _ c e.0) (going (turn (rw (self b) refl) refl) e.1.1 (λ g x. cc) (λ later. refl) (λ h. subst (Arrived k n (Resolving a)) (sym (low_next b bytes h)) e.1.0))
+    rw (some_is _ c e.0) (going (turn (rw (self b) refl) refl) e.1.1 (λ g x. cc) (λ later. refl)
+    (λ h. subst (Arrived k n (Resolving a)) (sym (low_next b bytes h)) e.1.0))
 goes k n p Free c e = subst (Goes k n p Free) (sym e.0) (goes_first k n p (subst IsSpelled e.0 e.1))
 goes k n Visiting (Unnamed r) c e = rw e.2.3 (going (gives refl e.2.2) e.2.1 (λ g x. cc) (λ later. refl) (λ h. (QueryShort, (refl, sym e.1, e.2.2))))
-goes k n Visiting (Programmed r a) c e = rw (some_is _ c e.0) (going (gives refl e.2) tt (λ g x. cc) (λ later. refl) (λ h. arrives_verified k n r a h (sym e.1) e.2))
+goes k n Visiting (Programmed r a) c e =
+    rw (some_is _ c e.0) (going (gives refl e.2) tt (λ g x. cc) (λ later. refl) (λ h. arrives_verified k n r a h (sym e.1) e.2))
 goes k n Visiting (Confirmed r a) c e = rw (some_is _ c e.0) (going (gives refl e.2) tt (λ g x. cc) (λ later. refl) (λ h. (refl, sym e.1)))
 goes k n _ _ c e = absurd (let none = e.0 in cc)
 
@@ -124,7 +135,8 @@ not_withdrawn : (k : Kept) (n : SearchAddress) (p : Purpose) (r : SearchAddress)
 not_withdrawn k n p r b c e = let on = (goes k n p (Withdrawn r b) c e).follows.leads_on in cc
 
 -- what is known there
-pub knows_at : (k : Kept) (n : SearchAddress) (s : Search) (o : Bool) (p : Purpose) (there : Stage) → Knows k n s o p → KnowsAt there k n s (opened_after there o) p
+pub knows_at : (k : Kept) (n : SearchAddress) (s : Search) (o : Bool) (p : Purpose) (there : Stage) → Knows k n s o p
+    → KnowsAt there k n s (opened_after there o) p
 knows_at k n s o p Opened e = refl
 knows_at k n s o p _ e = e
 
@@ -132,11 +144,13 @@ calm_unanswered : (o : Bool) (i : ℕ) → i < 16 → (r : SearchAddress) → Ca
 calm_unanswered true i h r = (omega arith, λ e. refl)
 calm_unanswered false i h r = (omega arith, λ e. absurd (omega arith))
 
-calm_visiting : (o : Bool) (i : ℕ) → i < 16 → (r : SearchAddress) (other : Option ℕ) → CalmAt (Inconclusive r other) Visiting o (silent_after (Inconclusive r other) o i)
+calm_visiting : (o : Bool) (i : ℕ) → i < 16 → (r : SearchAddress) (other : Option ℕ)
+    → CalmAt (Inconclusive r other) Visiting o (silent_after (Inconclusive r other) o i)
 calm_visiting true i h r other = (omega arith, λ e. refl)
 calm_visiting false i h r other = (omega arith, λ e. absurd (omega arith))
 
-pub calm_at : (k : Kept) (n : SearchAddress) (o : Bool) (p : Purpose) (i : ℕ) (there : Stage) → Arrived k n p there → IsWithinSilence p i → CalmAt there p (opened_after there o) (silent_after there o i)
+pub calm_at : (k : Kept) (n : SearchAddress) (o : Bool) (p : Purpose) (i : ℕ) (there : Stage) → Arrived k n p there → IsWithinSilence p i
+    → CalmAt there p (opened_after there o) (silent_after there o i)
 calm_at k n o p i (Unanswered r) there e =
     let h : i < 16 = subst (λ q. IsWithinSilence q i) there.0 e in
     calm_unanswered o i h r
@@ -153,12 +167,14 @@ tries_less true n h = omega arith
 tries_less false n h = h
 
 -- and at the next command again
-pub sends_calm : (k : Kept) (n : SearchAddress) (p : Purpose) (s : Stage) (c : Command) (o : Bool) (i : ℕ) → Sends k n p s c → CalmAt s p o i → IsWithinSilence p i
+pub sends_calm : (k : Kept) (n : SearchAddress) (p : Purpose) (s : Stage) (c : Command) (o : Bool) (i : ℕ) → Sends k n p s c → CalmAt s p o i
+    → IsWithinSilence p i
 sends_calm k n p (Unanswered r) c o i e calm = absurd (let on = (goes k n p (Unanswered r) c e).follows.leads_on in cc)
 sends_calm k n p (Inconclusive r other) c o i e calm = absurd (let on = (goes k n p (Inconclusive r other) c e).follows.leads_on in cc)
 sends_calm k n p _ c o i e calm = calm
 
-pub sends_knows : (k : Kept) (n : SearchAddress) (p : Purpose) (s : Stage) (c : Command) (x : Search) (o : Bool) → Sends k n p s c → KnowsAt s k n x o p → Knows k n x o p
+pub sends_knows : (k : Kept) (n : SearchAddress) (p : Purpose) (s : Stage) (c : Command) (x : Search) (o : Bool) → Sends k n p s c → KnowsAt s k n x o p
+    → Knows k n x o p
 sends_knows k n p Opened c x o e knows = absurd (let on = (goes k n p Opened c e).follows.leads_on in cc)
 sends_knows k n p _ c x o e knows = knows
 
@@ -186,7 +202,8 @@ pub sending_lawful : (w : Parts) (f : Forward) → IsSending (machine_of w) f �
 sending_lawful w f e = lawful_follows w.kept.block w.kept.reserved w.trace f (goes w.kept w.number w.purpose (stage_of w.trace) (command_of f) e.sends).follows
 
 -- TO GO ON
-put_whole_at : (w : Parts) (s : Stage) (c : Command) (p : ℕ) (f : Forward) → IsHeard w s → Sends w.kept w.number w.purpose s c → command_of f ≡ c → IsWhole (machine_of (record w { last = Some (Put p f) }))
+put_whole_at : (w : Parts) (s : Stage) (c : Command) (p : ℕ) (f : Forward) → IsHeard w s → Sends w.kept w.number w.purpose s c → command_of f ≡ c
+    → IsWhole (machine_of (record w { last = Some (Put p f) }))
 put_whole_at w s c p f h e read = record {
   ready = record {
     tries = h.tries;
@@ -196,13 +213,15 @@ put_whole_at w s c p f h e read = record {
   sends = subst (λ x. Sends w.kept w.number w.purpose x (command_of f)) (sym h.stage) (subst (λ d. Sends w.kept w.number w.purpose s d) (sym read) e);
 }
 
-pub put_whole : (w : Parts) (s : Stage) (c : Command) (p : ℕ) (f : Forward) → IsHeard w s → Sends w.kept w.number w.purpose s c → (IsSpelled c → command_of f ≡ c) → IsWhole (machine_of (record w { last = Some (Put p f) }))
+pub put_whole : (w : Parts) (s : Stage) (c : Command) (p : ℕ) (f : Forward) → IsHeard w s → Sends w.kept w.number w.purpose s c
+    → (IsSpelled c → command_of f ≡ c) → IsWhole (machine_of (record w { last = Some (Put p f) }))
 put_whole w s c p f h e read = put_whole_at w s c p f h e (read (goes w.kept w.number w.purpose s c e).spelled)
 
 begun_none : (t : Machine) (o : Option End) → o ≡ None → running_close t ≡ None → IsBegun t o
 begun_none t o is none = subst (IsBegun t) (sym is) none
 
-put_masked : (w : Parts) (s : Stage) (c : Command) (r : SearchAddress) → Sends w.kept w.number w.purpose s c → s ≡ Unnamed r → AfterMask (machine_of w) (parts_course w) r (Put LATER (frame_of c))
+put_masked : (w : Parts) (s : Stage) (c : Command) (r : SearchAddress) → Sends w.kept w.number w.purpose s c → s ≡ Unnamed r
+    → AfterMask (machine_of w) (parts_course w) r (Put LATER (frame_of c))
 put_masked w s c r e is =
     let there : Sends w.kept w.number w.purpose (Unnamed r) c = subst (λ x. Sends w.kept w.number w.purpose x c) is e in
     inl (there.2.0, there.2.2.reserved_for, refl, ap frame_of there.2.3)
@@ -224,7 +243,8 @@ put_next_at w s c h e later =
         allowed = inr (
           refl,
           not_empty w.trace s h.stage later,
-          lawful_follows w.kept.block w.kept.reserved w.trace (frame_of c) (goes w.kept w.number w.purpose (stage_of w.trace) (command_of (frame_of c)) sends).follows,
+          lawful_follows w.kept.block w.kept.reserved w.trace (frame_of c)
+              (goes w.kept w.number w.purpose (stage_of w.trace) (command_of (frame_of c)) sends).follows,
         );
         addressing = λ g is. (goes w.kept w.number w.purpose s c e).addressing g (sym spelled ∙ is);
         caused = (begun_none (machine_of w) (closing_of w.purpose) going going, inl going);
@@ -236,7 +256,8 @@ put_next_at w s c h e later =
       state = refl;
     }
 
-pub put_next : (w : Parts) (s : Stage) (c : Command) (p : ℕ) (f : Forward) → IsHeard w s → Sends w.kept w.number w.purpose s c → (s ≡ Free → ⊥) → p ≡ LATER → f ≡ frame_of c
+pub put_next : (w : Parts) (s : Stage) (c : Command) (p : ℕ) (f : Forward) → IsHeard w s → Sends w.kept w.number w.purpose s c → (s ≡ Free → ⊥) → p ≡ LATER
+    → f ≡ frame_of c
     → IsNext (machine_of w) (Put p f) (machine_of (record w { last = Some (Put p f) }))
 put_next w s c p f h e later first is =
     subst (λ q. IsNext (machine_of w) (Put q f) (machine_of (record w { last = Some (Put q f) }))) (sym first)
@@ -267,7 +288,8 @@ first_lawful k p n small =
     lawful_follows k.block k.reserved [] (frame_of (first_of p n)) (rw (first_read k p n small, stage_none) (goes_first k n p small).follows)
 
 begin_next_at : (w : Parts) (p : Purpose) (n : SearchAddress) → Begins w p n
-    → IsNext (machine_of w) (Put FIRST (frame_of (first_of p n))) (machine_of (record w { trace = []; last = Some (Put FIRST (frame_of (first_of p n))); purpose = p; number = n }))
+    → IsNext (machine_of w) (Put FIRST (frame_of (first_of p n)))
+    (machine_of (record w { trace = []; last = Some (Put FIRST (frame_of (first_of p n))); purpose = p; number = n }))
 begin_next_at w p n b =
     let tries : w.tries < 8 = b.tries in
     let small : IsSpelled (first_of p n) = first_spelled w.kept n w.search w.opened p b.knows in
@@ -284,17 +306,20 @@ begin_next_at w p n b =
       state = refl;
     }
 
-pub begin_next : (w : Parts) (p : Purpose) (n : SearchAddress) (t : List Entry) (q : ℕ) (f : Forward) → Begins w p n → t ≡ [] → q ≡ FIRST → f ≡ frame_of (first_of p n)
+pub begin_next : (w : Parts) (p : Purpose) (n : SearchAddress) (t : List Entry) (q : ℕ) (f : Forward) → Begins w p n → t ≡ [] → q ≡ FIRST
+    → f ≡ frame_of (first_of p n)
     → IsNext (machine_of w) (Put q f) (machine_of (record w { trace = t; last = Some (Put q f); purpose = p; number = n }))
 begin_next w p n t q f b empty first is =
     subst (λ u. IsNext (machine_of w) (Put q f) (machine_of (record w { trace = u; last = Some (Put q f); purpose = p; number = n }))) (sym empty)
     (subst (λ x. IsNext (machine_of w) (Put x f) (machine_of (record w { trace = []; last = Some (Put x f); purpose = p; number = n }))) (sym first)
-    (subst (λ g. IsNext (machine_of w) (Put FIRST g) (machine_of (record w { trace = []; last = Some (Put FIRST g); purpose = p; number = n }))) (sym is) (begin_next_at w p n b)))
+    (subst (λ g. IsNext (machine_of w) (Put FIRST g) (machine_of (record w { trace = []; last = Some (Put FIRST g); purpose = p; number = n }))) (sym is)
+    (begin_next_at w p n b)))
 
 free_of : (t : List Entry) → t ≡ [] → stage_of t ≡ Free
 free_of t empty = ap stage_of empty ∙ stage_none
 
-first_sends : (w : Parts) (p : Purpose) (n : SearchAddress) (f : Forward) → Knows w.kept n w.search w.opened p → f ≡ frame_of (first_of p n) → (command_of f ≡ first_of p n) × IsSpelled (command_of f)
+first_sends : (w : Parts) (p : Purpose) (n : SearchAddress) (f : Forward) → Knows w.kept n w.search w.opened p → f ≡ frame_of (first_of p n)
+    → (command_of f ≡ first_of p n) × IsSpelled (command_of f)
 first_sends w p n f knows is =
     let small : IsSpelled (first_of p n) = first_spelled w.kept n w.search w.opened p knows in
     let read : command_of f ≡ first_of p n = ap command_of is ∙ first_read w.kept p n small in
@@ -308,7 +333,8 @@ begin_whole w p n t q f b empty is = record {
 }
 
 -- TO STORE
-pub commit_whole : (w : Parts) (x : Record) (t : List Entry) → IsReady (machine_of w) → closing_of w.purpose ≡ None → Fits w.kept.block x → MayAdd w.kept x → t ≡ []
+pub commit_whole : (w : Parts) (x : Record) (t : List Entry) → IsReady (machine_of w) → closing_of w.purpose ≡ None → Fits w.kept.block x → MayAdd w.kept x
+    → t ≡ []
     → IsWhole (machine_of (record w { trace = t; last = Some (Commit x) }))
 commit_whole w x t ready going fits may empty = record {
   ready = record { tries = ready.tries; calm = ready.calm; knows = ready.knows };
@@ -339,31 +365,41 @@ trace_found_at (Spelled b None) found is = tt
 trace_found_at _ found is = tt
 
 -- the parts after a frame was heard, the last finding noted, and the counts made
-pub hear_heard : (w noted : Parts) (f : Forward) (h : Answer) (t : List Entry) (s : Stage) (complete o : Bool) (n i : ℕ) → IsWhole (machine_of w) → frame_put w.last ≡ Some f
-    → t ≡ w.trace ++ (record { frame = f; heard = h }) ∷ [] → noted ≡ record w { trace = t; finding = later w.finding (finding_of t) } → s ≡ stage_of noted.trace
-    → n ≡ tries_after complete noted.tries → i ≡ silent_after (stage_of noted.trace) noted.opened noted.silent → o ≡ opened_after (stage_of noted.trace) noted.opened
+pub hear_heard : (w noted : Parts) (f : Forward) (h : Answer) (t : List Entry) (s : Stage) (complete o : Bool) (n i : ℕ) → IsWhole (machine_of w)
+    → frame_put w.last ≡ Some f
+    → t ≡ w.trace ++ (record { frame = f; heard = h }) ∷ [] → noted ≡ record w { trace = t; finding = later w.finding (finding_of t) }
+    → s ≡ stage_of noted.trace
+    → n ≡ tries_after complete noted.tries → i ≡ silent_after (stage_of noted.trace) noted.opened noted.silent
+    → o ≡ opened_after (stage_of noted.trace) noted.opened
     → IsHeard (record noted { tries = n; silent = i; opened = o }) s
 hear_heard w noted f h t s complete o n i whole put trace is stage tries silent opened =
     let sent : IsSending (machine_of w) f = sending w w.last f put whole in
     let same_trace : noted.trace ≡ t = ap (λ (x : Parts). x.trace) is in
-    let there : stage_of noted.trace ≡ next_stage (stage_of w.trace) (command_of f) h = ap stage_of (same_trace ∙ trace) ∙ stage_more w.trace (record { frame = f; heard = h }) in
-    let arrived : Arrived w.kept w.number w.purpose (stage_of noted.trace) = subst (Arrived w.kept w.number w.purpose) (sym there) ((goes w.kept w.number w.purpose (stage_of w.trace) (command_of f) sent.sends).arrives h) in
+    let there : stage_of noted.trace ≡ next_stage (stage_of w.trace) (command_of f) h =
+    ap stage_of (same_trace ∙ trace) ∙ stage_more w.trace (record { frame = f; heard = h }) in
+    let arrived : Arrived w.kept w.number w.purpose (stage_of noted.trace) =
+    subst (Arrived w.kept w.number w.purpose) (sym there) ((goes w.kept w.number w.purpose (stage_of w.trace) (command_of f) sent.sends).arrives h) in
     let finding : noted.finding ≡ later w.finding (finding_at (stage_of noted.trace)) =
-    ap (λ (x : Parts). x.finding) is ∙ ap (λ u. later w.finding (finding_of u)) trace ∙ ap (later w.finding) (finding_after w.kept.block w.kept.reserved w.trace (record { frame = f; heard = h }) (sending_lawful w f sent))
+    ap (λ (x : Parts). x.finding) is ∙ ap (λ u. later w.finding (finding_of u)) trace
+    ∙ ap (later w.finding) (finding_after w.kept.block w.kept.reserved w.trace (record { frame = f; heard = h }) (sending_lawful w f sent))
     ∙ ap (λ u. later w.finding (finding_at (stage_of u))) (sym (same_trace ∙ trace)) in
     let trace_finding : finding_of noted.trace ≡ finding_at (stage_of noted.trace) =
-    ap finding_of (same_trace ∙ trace) ∙ finding_after w.kept.block w.kept.reserved w.trace (record { frame = f; heard = h }) (sending_lawful w f sent) ∙ ap (λ u. finding_at (stage_of u)) (sym (same_trace ∙ trace)) in
+    ap finding_of (same_trace ∙ trace) ∙ finding_after w.kept.block w.kept.reserved w.trace (record { frame = f; heard = h }) (sending_lawful w f sent)
+    ∙ ap (λ u. finding_at (stage_of u)) (sym (same_trace ∙ trace)) in
     rw stage (from arrived sent.ready finding trace_finding)
   where
-    from : Arrived w.kept w.number w.purpose (stage_of noted.trace) → IsReady (machine_of w) → noted.finding ≡ later w.finding (finding_at (stage_of noted.trace)) → finding_of noted.trace ≡ finding_at (stage_of noted.trace)
+    from : Arrived w.kept w.number w.purpose (stage_of noted.trace) → IsReady (machine_of w)
+        → noted.finding ≡ later w.finding (finding_at (stage_of noted.trace)) → finding_of noted.trace ≡ finding_at (stage_of noted.trace)
         → IsHeard (record noted { tries = n; silent = i; opened = o }) (stage_of noted.trace)
     from arrived ready finding trace_finding = record {
       stage = refl;
       tries = subst (λ m. m < 8) (sym (tries ∙ ap (λ m. tries_after complete m) (ap (λ (x : Parts). x.tries) is))) (tries_less complete w.tries ready.tries);
       arrived = subst (λ (x : Parts). Arrived x.kept x.number x.purpose (stage_of noted.trace)) (sym is) arrived;
-      calm = rw (opened, silent) (subst (λ (x : Parts). CalmAt (stage_of noted.trace) x.purpose (opened_after (stage_of noted.trace) x.opened) (silent_after (stage_of noted.trace) x.opened x.silent)) (sym is)
+      calm = rw (opened, silent) (subst (λ (x : Parts). CalmAt (stage_of noted.trace) x.purpose (opened_after (stage_of noted.trace) x.opened)
+          (silent_after (stage_of noted.trace) x.opened x.silent)) (sym is)
           (calm_at w.kept w.number w.opened w.purpose w.silent (stage_of noted.trace) arrived ready.calm));
-      knows = rw opened (subst (λ (x : Parts). KnowsAt (stage_of noted.trace) x.kept x.number x.search (opened_after (stage_of noted.trace) x.opened) x.purpose) (sym is)
+      knows = rw opened (subst (λ (x : Parts). KnowsAt (stage_of noted.trace) x.kept x.number x.search (opened_after (stage_of noted.trace) x.opened) x.purpose)
+          (sym is)
           (knows_at w.kept w.number w.search w.opened w.purpose (stage_of noted.trace) ready.knows));
       finding = found_at (stage_of noted.trace) w.finding noted.finding finding;
       trace_finding = trace_found_at (stage_of noted.trace) (finding_of noted.trace) trace_finding;
@@ -390,7 +426,8 @@ probes w n b opened running is = record {
   found = b.found;
 }
 
-pub visits : (w : Parts) (n : SearchAddress) (r : ℕ) → IsBetween w → r < MASK24 → (w.opened ≡ false → HasRandom w.kept.reserved r) → value_of n ≡ r → Begins w Visiting n
+pub visits : (w : Parts) (n : SearchAddress) (r : ℕ) → IsBetween w → r < MASK24 → (w.opened ≡ false → HasRandom w.kept.reserved r) → value_of n ≡ r
+    → Begins w Visiting n
 visits w n r b drawn reserved is = record {
   tries = b.tries;
   calm = b.silent;
@@ -400,7 +437,8 @@ visits w n r b drawn reserved is = record {
   found = b.found;
 }
 
-pub resolves : (w : Parts) (r : SearchAddress) (a : ℕ) → IsHeard w (Unanswered r) → w.opened ≡ false → a < 64 → Has w.kept.reserved (a, value_of r) → Begins w (Resolving a) r
+pub resolves : (w : Parts) (r : SearchAddress) (a : ℕ) → IsHeard w (Unanswered r) → w.opened ≡ false → a < 64 → Has w.kept.reserved (a, value_of r)
+    → Begins w (Resolving a) r
 resolves w r a h early small reserved =
     let stage : stage_of w.trace ≡ Unanswered r = h.stage in
     let visiting : Knows w.kept w.number w.search w.opened Visiting = subst (Knows w.kept w.number w.search w.opened) h.arrived.0 h.knows in
@@ -432,7 +470,8 @@ turns_same : (w : Parts) (p : Purpose) → w.purpose ≡ p → Knows w.kept w.nu
 turns_same w (Closing e) is knows = record { opened = knows; cause = inl (ap closing_of is) }
 turns_same w _ is knows = ap closing_of is
 
-pub lost_begins : (w : Parts) (t : List Entry) → IsWhole (machine_of w) → due_after w.last ≡ due.Bus → t ≡ [] → (w.tries + 1 ≡ 8 → ⊥) → Begins (record w { trace = t; tries = w.tries + 1 }) w.purpose w.number
+pub lost_begins : (w : Parts) (t : List Entry) → IsWhole (machine_of w) → due_after w.last ≡ due.Bus → t ≡ [] → (w.tries + 1 ≡ 8 → ⊥)
+    → Begins (record w { trace = t; tries = w.tries + 1 }) w.purpose w.number
 lost_begins w t whole put empty more =
     let ready : IsReady (machine_of w) = waiting w w.last put whole in
     let less : w.tries < 8 = ready.tries in
@@ -462,15 +501,19 @@ lost_ended_at w ready is =
 but_course : (new m : Machine) → new ≡ m → new ≡ record m { course = new.course }
 but_course new m is = subst (λ (n : Machine). n ≡ record m { course = n.course }) (sym is) refl
 
-pub lost_ended : (w : Parts) (t : List Entry) (o : Order) (new : Machine) → IsWhole (machine_of w) → due_after w.last ≡ due.Bus → t ≡ [] → w.tries + 1 ≡ 8 → o ≡ Done GaveUp
+pub lost_ended : (w : Parts) (t : List Entry) (o : Order) (new : Machine) → IsWhole (machine_of w) → due_after w.last ≡ due.Bus → t ≡ [] → w.tries + 1 ≡ 8
+    → o ≡ Done GaveUp
     → new ≡ machine_ordered (machine_of (record w { trace = t; tries = w.tries + 1 })) o → IsNext (machine_lost (machine_of w)) o new
 lost_ended w t o new whole put empty is done state = record {
-  order = subst (λ c. IsOrderedTo (machine_lost (machine_of w)) c o) (sym (ap (λ (m : Machine). m.course) state ∙ ap (course_by (machine_of (record w { trace = t; tries = w.tries + 1 }))) done))
+  order = subst (λ c. IsOrderedTo (machine_lost (machine_of w)) c o)
+      (sym (ap (λ (m : Machine). m.course) state ∙ ap (course_by (machine_of (record w { trace = t; tries = w.tries + 1 }))) done))
       (subst (IsOrderedTo (machine_lost (machine_of w)) (parts_course w)) (sym done) (lost_ended_at w (waiting w w.last put whole) is));
-  state = but_course new (machine_ordered (machine_lost (machine_of w)) o) (state ∙ ap (λ u. machine_ordered (machine_of (record w { trace = u; tries = w.tries + 1 })) o) empty);
+  state = but_course new (machine_ordered (machine_lost (machine_of w)) o)
+      (state ∙ ap (λ u. machine_ordered (machine_of (record w { trace = u; tries = w.tries + 1 })) o) empty);
 }
 
-pub lost_next : (w : Parts) (t : List Entry) (o : Order) (new : Machine) → t ≡ [] → IsNext (machine_of (record w { trace = t; tries = w.tries + 1 })) o new → IsNext (machine_lost (machine_of w)) o new
+pub lost_next : (w : Parts) (t : List Entry) (o : Order) (new : Machine) → t ≡ [] → IsNext (machine_of (record w { trace = t; tries = w.tries + 1 })) o new
+    → IsNext (machine_lost (machine_of w)) o new
 lost_next w t o new empty next = subst (λ u. IsNext (machine_of (record w { trace = u; tries = w.tries + 1 })) o new) empty next
 
 -- TO GIVE
@@ -481,7 +524,8 @@ may_give k r a m h = record {
   reserved_for = h;
 }
 
-pub sends_program : (k : Kept) (n r : SearchAddress) (p : Purpose) (a m : ℕ) → IsKept k → (p ≡ Visiting) × (r ≡ n) → m ≡ value_of r → Has k.reserved (a, m) → Sends k n p (Unnamed r) (Program (Some a))
+pub sends_program : (k : Kept) (n r : SearchAddress) (p : Purpose) (a m : ℕ) → IsKept k → (p ≡ Visiting) × (r ≡ n) → m ≡ value_of r → Has k.reserved (a, m)
+    → Sends k n p (Unnamed r) (Program (Some a))
 sends_program k n r p a m kept visiting is h =
     let there : Has k.reserved (a, value_of r) = subst (λ v. Has k.reserved (a, v)) is h in
     (visiting.0, visiting.1, (a, kept.reserved.short a (has_map (λ q. q.0) k.reserved (a, value_of r) there), may_give k r a kept there, refl))
@@ -509,7 +553,8 @@ settles_withdrawn w r b n h is =
       trace_finding = h.trace_finding;
       next = ap (begins_at (machine_of w)) stage;
       unnamed = λ q e. absurd (cc);
-      withdrawn = λ q c e. let there : Withdrawn r b ≡ Withdrawn q c = sym stage ∙ e in (same_address q r c b (sym there), ap value_of (same_number q r c b (sym there)));
+      withdrawn = λ q c e. let there : Withdrawn r b ≡ Withdrawn q c =
+          sym stage ∙ e in (same_address q r c b (sym there), ap value_of (same_number q r c b (sym there)));
     })
 
 pub settles_resolved : (w : Parts) (b n m : ℕ) → IsHeard w (Spelled b (Some n)) → m ≡ value_of w.number → n ≡ m → Settles w b n
@@ -551,8 +596,13 @@ halted_at w c b n h conflict =
           subst (λ m. Contradicts w.kept.enrolled d m) (sym there.1) (subst (λ a. Contradicts w.kept.enrolled a n) (sym there.0) conflict);
     }
 
-halted : (w : Parts) (b n : ℕ) (o : Order) (new : Machine) → Settles w b n → Contradicts w.kept.enrolled b n → o ≡ Halt fault.Conflict → new ≡ machine_ordered (machine_of w) o → IsNext (machine_of w) o new
-halted w b n o new h conflict is state = record { order = subst (IsOrderedTo (machine_of w) new.course) (sym is) (halted_at w new.course b n h conflict); state = but_course new (machine_ordered (machine_of w) o) state }
+halted : (w : Parts) (b n : ℕ) (o : Order) (new : Machine) → Settles w b n → Contradicts w.kept.enrolled b n → o ≡ Halt fault.Conflict
+    → new ≡ machine_ordered (machine_of w) o → IsNext (machine_of w) o new
+halted w b n o new h conflict is state =
+    record {
+      order = subst (IsOrderedTo (machine_of w) new.course) (sym is) (halted_at w new.course b n h conflict);
+      state = but_course new (machine_ordered (machine_of w) o) state;
+    }
 
 -- the table has the address for another gear
 pub halts_by_address : (w : Parts) (b m n : ℕ) (o : Order) (new : Machine) → Settles w b n → Has w.kept.enrolled (b, m) → (m ≡ n → ⊥)
@@ -561,7 +611,8 @@ halts_by_address w b m n o new h has other order state =
     halted w b n o new h (inl (m, has, other)) order state
 
 -- or the gear with another address
-pub contradicts_by_random : (w : Parts) (b a n : ℕ) → Settles w b n → (HasAddress w.kept.enrolled b → ⊥) → Has w.kept.enrolled (a, n) → Contradicts w.kept.enrolled b n
+pub contradicts_by_random : (w : Parts) (b a n : ℕ) → Settles w b n → (HasAddress w.kept.enrolled b → ⊥) → Has w.kept.enrolled (a, n)
+    → Contradicts w.kept.enrolled b n
 contradicts_by_random w b a n h none has = inr (
   a,
   has,
@@ -572,7 +623,8 @@ pub halts_by_random : (w : Parts) (b a n : ℕ) (o : Order) (new : Machine) → 
     → o ≡ Halt fault.Conflict → new ≡ machine_ordered (machine_of w) o → IsNext (machine_of w) o new
 halts_by_random w b a n o new h none has order state = halted w b n o new h (contradicts_by_random w b a n h none has) order state
 
-enrols_at : (w : Parts) (c : Course) (b n : ℕ) → Settles w b n → (HasAddress w.kept.enrolled b → ⊥) → (HasRandom w.kept.enrolled n → ⊥) → IsOrderedTo (machine_of w) c (Commit (Enrol b n))
+enrols_at : (w : Parts) (c : Course) (b n : ℕ) → Settles w b n → (HasAddress w.kept.enrolled b → ⊥) → (HasRandom w.kept.enrolled n → ⊥)
+    → IsOrderedTo (machine_of w) c (Commit (Enrol b n))
 enrols_at w c b n h none fresh =
     let tries : w.tries < 8 = h.ready.tries in
     let calm : w.silent < 16 = settled_calm w b n h in
@@ -597,7 +649,8 @@ enrols w b n o new h none fresh order state = record {
 }
 
 -- a number is reserved once its reservation is kept
-pub reserved_kept : (w new : Parts) (x : Record) (a n m : ℕ) → x ≡ Reserve a n → new ≡ record w { kept = with_record w.kept x } → m ≡ n → HasRandom new.kept.reserved m
+pub reserved_kept : (w new : Parts) (x : Record) (a n m : ℕ) → x ≡ Reserve a n → new ≡ record w { kept = with_record w.kept x } → m ≡ n
+    → HasRandom new.kept.reserved m
 reserved_kept w new x a n m reserves is same =
     let there : HasRandom (w.kept.reserved ++ (a, n) ∷ []) n = has_map (λ q. q.1) (w.kept.reserved ++ (a, n) ∷ []) (a, n) (has_last w.kept.reserved (a, n)) in
     rw (is, reserves, same) there

@@ -84,7 +84,15 @@ impl State {
             (Some(Order::Put(..)), Input::Lapsed) => Ok(self.lost(kept)),
             (Some(Order::Commit(added)), Input::Committed) => Ok(self.committed(kept, added)),
             (Some(Order::Commit(_)), Input::CommitFailed) => Ok(self.commit_failed(kept)),
-            _ => Err(StepError::NotDue),
+            (
+                _,
+                Input::Start
+                | Input::Heard(_)
+                | Input::Destroyed
+                | Input::Lapsed
+                | Input::Committed
+                | Input::CommitFailed,
+            ) => Err(StepError::NotDue),
         }
     }
 }

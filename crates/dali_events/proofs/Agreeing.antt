@@ -38,13 +38,17 @@ reserved_stays p plan w (e ∷ es) all k = λ c g a there gift h.
     let v : World = happens w e in
     let kept = keeps_step p plan w e all.0 k g a gift in
     let here : c < length v.controllers = subst (λ n. c < n) (sym (controllers_count w e)) there in
-    let before : Has (controller_at w c).records.reserved (a, (gear_at v g).random) = subst (λ r. Has (controller_at w c).records.reserved (a, r)) (sym kept.1) h in
+    let before : Has (controller_at w c).records.reserved (a, (gear_at v g).random) =
+    subst (λ r. Has (controller_at w c).records.reserved (a, r)) (sym kept.1) h in
     let next : Has (controller_at v c).records.reserved (a, (gear_at v g).random) = stays_step p plan w e all.0 k g a kept.0 c here before in
-    subst (λ r. Has (controller_at (after_all v es) c).records.reserved (a, r)) kept.1 (reserved_stays p plan v es all.1 (holds_step p plan w e all.0 k) c g a here kept.0 next)
+    subst (λ r. Has (controller_at (after_all v es) c).records.reserved (a, r)) kept.1
+    (reserved_stays p plan v es all.1 (holds_step p plan w e all.0 k) c g a here kept.0 next)
 
-pub reservations_stay : (p : Plan) (capacity : ℕ) (front later rest : List Event) → IsRun p capacity (front ++ (later ++ rest)) → KeepsReserved (after p capacity front) (after p capacity (front ++ later))
+pub reservations_stay : (p : Plan) (capacity : ℕ) (front later rest : List Event) → IsRun p capacity (front ++ (later ++ rest))
+    → KeepsReserved (after p capacity front) (after p capacity (front ++ later))
 reservations_stay p capacity front later rest run =
-    let allowed : AllAllowed (after p capacity front) later = allowed_front (after p capacity front) later rest (allowed_rest (start p capacity) front (later ++ rest) run.allowed) in
+    let allowed : AllAllowed (after p capacity front) later =
+    allowed_front (after p capacity front) later rest (allowed_rest (start p capacity) front (later ++ rest) run.allowed) in
     subst (λ v. KeepsReserved (after p capacity front) v) (sym (after_both (start p capacity) front later))
     (reserved_stays p run.plan (after p capacity front) later allowed (holds_after p capacity front (run_front p capacity front (later ++ rest) run)))
 
@@ -85,7 +89,8 @@ module _ (w : World) (s : IsSafe w) where
 
 pub tables_agree_in : (p : Plan) (capacity : ℕ) (front rest : List Event) → IsRun p capacity (front ++ rest) → TablesAgree (after p capacity front)
 tables_agree_in p capacity front rest run =
-    tables_agree (after p capacity front) (safe p (after p capacity front) (holds_after p capacity front (run_front p capacity front rest run))) (drawn_in_front p capacity front rest run)
+    tables_agree (after p capacity front) (safe p (after p capacity front) (holds_after p capacity front (run_front p capacity front rest run)))
+    (drawn_in_front p capacity front rest run)
 
 -- FINDINGS AGREE
 finding_named : (p : Plan) (w : World) → Holds p w → (c : ℕ) (x : Assignment) → HasFound w c x → Names w x
@@ -118,7 +123,8 @@ told_by_gear p capacity log c a high middle low f g h run running first second t
     let w : World = after p capacity log in
     let k : Holds p w = holds_after p capacity log (run_front p capacity log (Sent c h (Byte low) ∷ []) run) in
     let here : Allowed w (Sent c h (Byte low)) = last_allowed p capacity log (Sent c h (Byte low)) run in
-    resolved_names (IsReserved w.controllers) w c h (Byte low) here k.gifts (tells_if (owns w.bus.owner c) w.trace w.gear k.tells) a (number_of high middle low) record {
+    resolved_names (IsReserved w.controllers) w c h (Byte low) here k.gifts (tells_if (owns w.bus.owner c) w.trace w.gear k.tells) a
+    (number_of high middle low) record {
       high = high;
       middle = middle;
       low = low;

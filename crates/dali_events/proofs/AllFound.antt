@@ -1,4 +1,5 @@
-use Rattle.std.proofs.Common.{◌≡◌, ℕ, ◌<◌, ◌≤◌, ◌⊎◌, inl, inr, Bool, true, false, List, [], ◌∷◌, ◌++◌, refl, sym, ap, subst, ◌∙◌, arith, length, get_or, Option, Some, None}
+use Rattle.std.proofs.Common.{◌≡◌, ℕ, ◌<◌, ◌≤◌, ◌⊎◌, inl, inr, Bool, true, false, List, [], ◌∷◌, ◌++◌, refl, sym, ap, subst, ◌∙◌, arith, length, get_or, Option}
+use Rattle.std.proofs.Common.{Some, None}
 use Rattle.std.specs.Prelude.{nat_le, if◌then◌else◌}
 use Rattle.std.proofs.lemmas.Bool.Decides.{nat_tests}
 use Rattle.dali_frame.specs.declared.frames.Forward.{Forward}
@@ -31,7 +32,8 @@ use Rattle.dali_events.specs.World.{World, gear_at, controller_at, start}
 use Rattle.dali_events.specs.Happens.{happens, trace_running, entry, goes_on}
 use Rattle.dali_events.specs.Allowed.{Allowed, MaySend}
 use Rattle.dali_events.specs.Runs.{after, after_all, AllAllowed}
-use Rattle.dali_events.specs.Searching.{EachPowered, IsCalm, AreCalm, CompletesOpening, HIGHEST, sent_event, up_to_compare, SearchesAll, NobodyAnswers, HasShort}
+use Rattle.dali_events.specs.Searching.{EachPowered, IsCalm, AreCalm, CompletesOpening, HIGHEST, sent_event, up_to_compare, SearchesAll, NobodyAnswers}
+use Rattle.dali_events.specs.Searching.{HasShort}
 use Rattle.dali_events.proofs.Growing.{after_both, allowed_front, allowed_rest}
 use Rattle.dali_script.proofs.Members.{Each, has_right}
 use Rattle.dali_events.proofs.Takes.{Moved, stays, goes, moves_at, row_length}
@@ -69,8 +71,10 @@ opens_sent w c f h here opens =
       all : OpensAll (next_stage (stage_of (trace_running w c)) (command_of f) h) (row_after Everyone (command_of f) 0 w.gear w.left)
       all i in_row =
           let there : i < length w.gear = subst (λ n. i < n) (row_length Everyone (command_of f) 0 w.gear w.left) in_row in
-          opens_moved (controller_at w c).records.block (controller_at w c).records.reserved (stage_of (trace_running w c)) (command_of f) h (drawn_of Everyone (command_of f) 0 w.gear w.left) i (gear_at w i)
-          (get_or (row_after Everyone (command_of f) 0 w.gear w.left) i fresh) (follows_of w c f here.may) (opens i there) (moves_at Everyone (command_of f) w.gear w.left i there)
+          opens_moved (controller_at w c).records.block (controller_at w c).records.reserved (stage_of (trace_running w c)) (command_of f) h
+          (drawn_of Everyone (command_of f) 0 w.gear w.left) i (gear_at w i)
+          (get_or (row_after Everyone (command_of f) 0 w.gear w.left) i fresh) (follows_of w c f here.may) (opens i there)
+          (moves_at Everyone (command_of f) w.gear w.left i there)
 
 opens_event : (w : World) (e : Event) → Allowed w e → IsCalm e → OpensAll (stage_of w.trace) w.gear → OpensAll (stage_of (happens w e).trace) (happens w e).gear
 opens_event w (event.Acted c i o) here calm opens = opens_unless _ w.trace w.gear opens
@@ -85,14 +89,17 @@ opens_event w (event.Expired g) here calm opens = absurd calm
 opens_event w (event.Down c) here calm opens = opens_unless _ w.trace w.gear opens
 opens_event w (event.Up c kept) here calm opens = opens
 
-opens_all : (w : World) (es : List Event) → AllAllowed w es → AreCalm es → OpensAll (stage_of w.trace) w.gear → OpensAll (stage_of (after_all w es).trace) (after_all w es).gear
+opens_all : (w : World) (es : List Event) → AllAllowed w es → AreCalm es → OpensAll (stage_of w.trace) w.gear
+    → OpensAll (stage_of (after_all w es).trace) (after_all w es).gear
 opens_all w [] all calm opens = opens
 opens_all w (e ∷ es) all calm opens = opens_all (happens w e) es all.1 calm.1 (opens_event w e all.0 calm.0 opens)
 
 -- TERMINATE begins it
-opens_first : (w : World) (c : ℕ) (f : Forward) (h : Answer) → Allowed w (event.Sent c f h) → command_of f ≡ Terminate → OpensAll (stage_of (happens w (event.Sent c f h)).trace) (happens w (event.Sent c f h)).gear
+opens_first : (w : World) (c : ℕ) (f : Forward) (h : Answer) → Allowed w (event.Sent c f h) → command_of f ≡ Terminate
+    → OpensAll (stage_of (happens w (event.Sent c f h)).trace) (happens w (event.Sent c f h)).gear
 opens_first w c f h here is =
-    let none : trace_running w c ≡ [] = terminate_first (controller_at w c).records.block (controller_at w c).records.reserved (trace_running w c) f (lawful_of w c f here.may) is in
+    let none : trace_running w c ≡ [] =
+    terminate_first (controller_at w c).records.block (controller_at w c).records.reserved (trace_running w c) f (lawful_of w c f here.may) is in
     opens_sent w c f h here (opens_free (trace_running w c) w.gear (ap stage_of none ∙ stage_none))
 
 -- and its last frame is the second RANDOMISE
@@ -109,7 +116,8 @@ opening_last (a ∷ b ∷ c ∷ d ∷ e ∷ t) f front four = absurd (omega arit
 abbrev ReadyAll : List Gear → Type 0
 ReadyAll gs = Each fresh (λ k g. g.powered ≡ true → Ready g) gs
 
-ready_moved : (ds : List (ℕ × ℕ)) (k : ℕ) (g g' : Gear) → Moved Everyone Randomise ds k g g' → (g.powered ≡ true → g.short ≡ None → Ready g') → g'.powered ≡ true → Ready g'
+ready_moved : (ds : List (ℕ × ℕ)) (k : ℕ) (g g' : Gear) → Moved Everyone Randomise ds k g g' → (g.powered ≡ true → g.short ≡ None → Ready g')
+    → g'.powered ≡ true → Ready g'
 ready_moved ds k g _ (stays off) draws on = absurd (let there : takes Everyone k g ≡ true = powered_takes k g on in cc)
 ready_moved ds k g _ (goes r there drew) draws on = λ none. draws on none none
 
@@ -117,8 +125,10 @@ ready_drawn : (gs : List Gear) (left : List ℕ) → draws_needed Everyone Rando
     → ((x : ℕ × ℕ) → Has (drawn_of Everyone Randomise 0 gs left) x → x.1 < MASK24) → ReadyAll (row_after Everyone Randomise 0 gs left)
 ready_drawn gs left enough opens below i in_row =
     let there : i < length gs = subst (λ n. i < n) (row_length Everyone Randomise 0 gs left) in_row in
-    ready_moved (drawn_of Everyone Randomise 0 gs left) i (get_or gs i fresh) (get_or (row_after Everyone Randomise 0 gs left) i fresh) (moves_at Everyone Randomise gs left i there) (λ on none. at there on none) where
-      at : i < length gs → (get_or gs i fresh).powered ≡ true → (get_or gs i fresh).short ≡ None → Ready (get_or (row_after Everyone Randomise 0 gs left) i fresh)
+    ready_moved (drawn_of Everyone Randomise 0 gs left) i (get_or gs i fresh) (get_or (row_after Everyone Randomise 0 gs left) i fresh)
+    (moves_at Everyone Randomise gs left i there) (λ on none. at there on none) where
+      at : i < length gs → (get_or gs i fresh).powered ≡ true → (get_or gs i fresh).short ≡ None
+          → Ready (get_or (row_after Everyone Randomise 0 gs left) i fresh)
       at there on none =
           let open_it = opens i there on none in
           let would : draws_a_number Randomise (get_or gs i fresh) ≡ true = rw (open_it.0, open_it.1) refl in
@@ -129,14 +139,17 @@ ready_last : (c : Command) (gs : List Gear) (left : List ℕ) → c ≡ Randomis
     → ((x : ℕ × ℕ) → Has (drawn_of Everyone c 0 gs left) x → x.1 < MASK24) → ReadyAll (row_after Everyone c 0 gs left)
 ready_last c gs left is enough opens below =
     subst (λ d. ReadyAll (row_after Everyone d 0 gs left)) (sym is)
-    (ready_drawn gs left (subst (λ d. draws_needed Everyone d 0 gs ≤ length left) is enough) opens (λ x h. below x (subst (λ d. Has (drawn_of Everyone d 0 gs left) x) (sym is) h)))
+    (ready_drawn gs left (subst (λ d. draws_needed Everyone d 0 gs ≤ length left) is enough) opens
+    (λ x h. below x (subst (λ d. Has (drawn_of Everyone d 0 gs left) x) (sym is) h)))
 
 -- the numbers that a frame draws are below FFFFFF
-below_of : (p : Plan) → IsPlan p → (w : World) (e : Event) (more : List (ℕ × ℕ)) → Draws p.draws w.gear w.drawn w.left → (happens w e).drawn ≡ w.drawn ++ more → (x : ℕ × ℕ) → Has more x → x.1 < MASK24
+below_of : (p : Plan) → IsPlan p → (w : World) (e : Event) (more : List (ℕ × ℕ)) → Draws p.draws w.gear w.drawn w.left → (happens w e).drawn ≡ w.drawn ++ more
+    → (x : ℕ × ℕ) → Has more x → x.1 < MASK24
 below_of p plan w e more d is x h =
     (are_drawn p (happens w e) plan (draws_step p w e d)).below x.0 x.1 (subst (λ ds. Has ds x) (sym is) (has_right w.drawn more x h))
 
-ready_opened : (p : Plan) → IsPlan p → (w : World) (c : ℕ) (f : Forward) (h : Answer) → Allowed w (event.Sent c f h) → Draws p.draws w.gear w.drawn w.left → CompletesOpening w c f
+ready_opened : (p : Plan) → IsPlan p → (w : World) (c : ℕ) (f : Forward) (h : Answer) → Allowed w (event.Sent c f h) → Draws p.draws w.gear w.drawn w.left
+    → CompletesOpening w c f
     → OpensAll (stage_of w.trace) w.gear → ReadyAll (happens w (event.Sent c f h)).gear
 ready_opened p plan w c f h here draws complete opens =
     let last = opening_last w.trace f complete.opening complete.last in
@@ -144,8 +157,10 @@ ready_opened p plan w c f h here draws complete opens =
     (below_of p plan w (event.Sent c f h) (drawn_of Everyone (command_of f) 0 w.gear w.left) draws refl)
 
 -- it stays ready
-ready_taken_one : (b : Block) (xs : List Assignment) (s : Stage) (c : Command) (reach : Reach) (ds : List (ℕ × ℕ)) (k : ℕ) (g g' : Gear) → Follows b xs s c → (c ≡ Terminate → ⊥)
-    → ((x : ℕ × ℕ) → Has ds x → x.1 < MASK24) → (g.powered ≡ true → Knows s g) → (g.powered ≡ true → Ready g) → Moved reach c ds k g g' → g'.powered ≡ true → Ready g'
+ready_taken_one : (b : Block) (xs : List Assignment) (s : Stage) (c : Command) (reach : Reach) (ds : List (ℕ × ℕ)) (k : ℕ) (g g' : Gear) → Follows b xs s c
+    → (c ≡ Terminate → ⊥)
+    → ((x : ℕ × ℕ) → Has ds x → x.1 < MASK24) → (g.powered ≡ true → Knows s g) → (g.powered ≡ true → Ready g) → Moved reach c ds k g g' → g'.powered ≡ true
+    → Ready g'
 ready_taken_one b xs s c reach ds k g _ follows calm below knows ready (stays off) on = ready on
 ready_taken_one b xs s c reach ds k g _ follows calm below knows ready (goes r there drew) on =
     ready_step b xs s c g r follows calm (λ w. go (drew w)) (knows on) (ready on) where
@@ -154,17 +169,22 @@ ready_taken_one b xs s c reach ds k g _ follows calm below knows ready (goes r t
       go (inr h) = inr (below (k, r) h)
 
 ready_taken : (w : World) (c : ℕ) (f : Forward) (reach : Reach) → MaySend w c f → IsKnown w → (command_of f ≡ Terminate → ⊥)
-    → ((x : ℕ × ℕ) → Has (drawn_of reach (command_of f) 0 w.gear w.left) x → x.1 < MASK24) → ReadyAll w.gear → ReadyAll (row_after reach (command_of f) 0 w.gear w.left)
+    → ((x : ℕ × ℕ) → Has (drawn_of reach (command_of f) 0 w.gear w.left) x → x.1 < MASK24) → ReadyAll w.gear
+    → ReadyAll (row_after reach (command_of f) 0 w.gear w.left)
 ready_taken w c f reach may known calm below ready i in_row =
     let there : i < length w.gear = subst (λ n. i < n) (row_length reach (command_of f) 0 w.gear w.left) in_row in
-    ready_taken_one (controller_at w c).records.block (controller_at w c).records.reserved (stage_of (trace_running w c)) (command_of f) reach (drawn_of reach (command_of f) 0 w.gear w.left) i (gear_at w i)
-    (get_or (row_after reach (command_of f) 0 w.gear w.left) i fresh) (follows_of w c f may) calm below (knows_running w c known.knows i there) (ready i there) (moves_at reach (command_of f) w.gear w.left i there)
+    ready_taken_one (controller_at w c).records.block (controller_at w c).records.reserved (stage_of (trace_running w c)) (command_of f) reach
+    (drawn_of reach (command_of f) 0 w.gear w.left) i (gear_at w i)
+    (get_or (row_after reach (command_of f) 0 w.gear w.left) i fresh) (follows_of w c f may) calm below (knows_running w c known.knows i there) (ready i there)
+    (moves_at reach (command_of f) w.gear w.left i there)
 
-ready_event : (p : Plan) → IsPlan p → (w : World) (e : Event) → Allowed w e → IsCalm e → IsKnown w → Draws p.draws w.gear w.drawn w.left → ReadyAll w.gear → ReadyAll (happens w e).gear
+ready_event : (p : Plan) → IsPlan p → (w : World) (e : Event) → Allowed w e → IsCalm e → IsKnown w → Draws p.draws w.gear w.drawn w.left → ReadyAll w.gear
+    → ReadyAll (happens w e).gear
 ready_event p plan w (event.Sent c f h) here calm known draws ready =
     ready_taken w c f Everyone here.may known calm (below_of p plan w (event.Sent c f h) (drawn_of Everyone (command_of f) 0 w.gear w.left) draws refl) ready
 ready_event p plan w (event.Destroyed c f set) here calm known draws ready =
-    ready_taken w c f (Only set) here.may known calm (below_of p plan w (event.Destroyed c f set) (drawn_of (Only set) (command_of f) 0 w.gear w.left) draws refl) ready
+    ready_taken w c f (Only set) here.may known calm (below_of p plan w (event.Destroyed c f set)
+    (drawn_of (Only set) (command_of f) 0 w.gear w.left) draws refl) ready
 ready_event p plan w event.Quiet here calm known draws ready = absurd calm
 ready_event p plan w (event.Power g on) here calm known draws ready = absurd calm
 ready_event p plan w (event.Expired g) here calm known draws ready = absurd calm
@@ -175,7 +195,8 @@ ready_event p plan w event.Lapsed here calm known draws ready = ready
 ready_event p plan w (event.Down c) here calm known draws ready = ready
 ready_event p plan w (event.Up c kept) here calm known draws ready = ready
 
-ready_all : (p : Plan) → IsPlan p → (w : World) (es : List Event) → AllAllowed w es → AreCalm es → IsKnown w → Draws p.draws w.gear w.drawn w.left → ReadyAll w.gear → ReadyAll (after_all w es).gear
+ready_all : (p : Plan) → IsPlan p → (w : World) (es : List Event) → AllAllowed w es → AreCalm es → IsKnown w → Draws p.draws w.gear w.drawn w.left
+    → ReadyAll w.gear → ReadyAll (after_all w es).gear
 ready_all p plan w [] all calm known draws ready = ready
 ready_all p plan w (e ∷ es) all calm known draws ready =
     ready_all p plan (happens w e) es all.1 calm.1 (known_step w e all.0 known) (draws_step p w e draws) (ready_event p plan w e all.0 calm.0 known draws ready)
@@ -194,11 +215,13 @@ ready_answers g r enabled below search highest =
         let below : m ≤ n = omega arith in
         grind (arith, nat_tests)
 
-number_seeks : (s : Stage) (g : Gear) (q : SearchAddress) → (r : SearchAddress) × (s ≡ stage.NumberSent r) → IsSearched s q → Knows s g → IsActive g → g.search ≡ q
+number_seeks : (s : Stage) (g : Gear) (q : SearchAddress) → (r : SearchAddress) × (s ≡ stage.NumberSent r) → IsSearched s q → Knows s g → IsActive g
+    → g.search ≡ q
 number_seeks s g q at search_of knows active =
     subst (λ x. Knows x g) at.1 knows active ∙ sym (subst (λ x. IsSearched x q) at.1 search_of)
 
-compare_finds : (w : World) (c : ℕ) (f : Forward) (h : Answer) → Allowed w (event.Sent c f h) → IsKnown w → command_of f ≡ Compare → value_of (search_of (trace_running w c)) ≡ HIGHEST
+compare_finds : (w : World) (c : ℕ) (f : Forward) (h : Answer) → Allowed w (event.Sent c f h) → IsKnown w → command_of f ≡ Compare
+    → value_of (search_of (trace_running w c)) ≡ HIGHEST
     → NobodyAnswers w → ReadyAll w.gear → EachPowered w HasShort
 compare_finds w c f h here known is highest nobody ready g there on = go (gear_at w g).short refl where
   seeks : IsActive (gear_at w g) → (gear_at w g).search ≡ search_of (trace_running w c)
@@ -218,20 +241,25 @@ compare_finds w c f h here known is highest nobody ready g there on = go (gear_a
       absurd (subst (λ xs. Has xs YES) nobody has)
 
 -- the COMPARE leaves short addresses
-short_moved : (c : Command) (ds : List (ℕ × ℕ)) (k : ℕ) (g g' : Gear) → c ≡ Compare → (g.powered ≡ true → HasShort g) → Moved Everyone c ds k g g' → g'.powered ≡ true → HasShort g'
+short_moved : (c : Command) (ds : List (ℕ × ℕ)) (k : ℕ) (g g' : Gear) → c ≡ Compare → (g.powered ≡ true → HasShort g) → Moved Everyone c ds k g g'
+    → g'.powered ≡ true → HasShort g'
 short_moved c ds k g _ is has (stays off) on = has on
 short_moved c ds k g _ is has (goes r there drew) on = let short = has on in (short.0, subst (λ d. short_after d g ≡ Some short.0) (sym is) short.1)
 
-compare_leaves : (w : World) (c : ℕ) (f : Forward) (h : Answer) → command_of f ≡ Compare → EachPowered w HasShort → EachPowered (happens w (event.Sent c f h)) HasShort
+compare_leaves : (w : World) (c : ℕ) (f : Forward) (h : Answer) → command_of f ≡ Compare → EachPowered w HasShort
+    → EachPowered (happens w (event.Sent c f h)) HasShort
 compare_leaves w c f h is has i in_row =
     let there : i < length w.gear = subst (λ n. i < n) (row_length Everyone (command_of f) 0 w.gear w.left) in_row in
-    short_moved (command_of f) (drawn_of Everyone (command_of f) 0 w.gear w.left) i (gear_at w i) (get_or (row_after Everyone (command_of f) 0 w.gear w.left) i fresh) is (has i there)
+    short_moved (command_of f) (drawn_of Everyone (command_of f) 0 w.gear w.left) i (gear_at w i)
+    (get_or (row_after Everyone (command_of f) 0 w.gear w.left) i fresh) is (has i there)
     (moves_at Everyone (command_of f) w.gear w.left i there)
 
 -- ALL FOUND
-module _ (p : Plan) (plan : IsPlan p) (w : World) (known : IsKnown w) (draws : Draws p.draws w.gear w.drawn w.left) (c : ℕ) (first last compare : Entry) (opening middle : List Event)
+module _ (p : Plan) (plan : IsPlan p) (w : World) (known : IsKnown w) (draws : Draws p.draws w.gear w.drawn w.left) (c : ℕ) (first last compare : Entry)
+    (opening middle : List Event)
     (all : AllAllowed w (sent_event c first ∷ (opening ++ sent_event c last ∷ (middle ++ sent_event c compare ∷ [])))) where
-  pub found_from : command_of first.frame ≡ Terminate → AreCalm opening → CompletesOpening (after_all (happens w (sent_event c first)) opening) c last.frame → AreCalm middle → command_of compare.frame ≡ Compare
+  pub found_from : command_of first.frame ≡ Terminate → AreCalm opening → CompletesOpening (after_all (happens w (sent_event c first)) opening) c last.frame
+      → AreCalm middle → command_of compare.frame ≡ Compare
       → value_of (search_of (trace_running (after_all (happens (after_all (happens w (sent_event c first)) opening) (sent_event c last)) middle) c)) ≡ HIGHEST
       → NobodyAnswers (after_all (happens (after_all (happens w (sent_event c first)) opening) (sent_event c last)) middle)
       → EachPowered (after_all (happens (after_all (happens w (sent_event c first)) opening) (sent_event c last)) middle) HasShort
@@ -248,37 +276,47 @@ module _ (p : Plan) (plan : IsPlan p) (w : World) (known : IsKnown w) (draws : D
       let known5 = known_step (after_all (happens w (sent_event c first)) opening) (sent_event c last) rest.0 known4 in
       let draws5 = draws_step p (after_all (happens w (sent_event c first)) opening) (sent_event c last) draws4 in
       let w5 : World = happens (after_all (happens w (sent_event c first)) opening) (sent_event c last) in
-      let middle_allowed = allowed_front (happens (after_all (happens w (sent_event c first)) opening) (sent_event c last)) middle (sent_event c compare ∷ []) rest.1 in
-      let compare_allowed = (allowed_rest (happens (after_all (happens w (sent_event c first)) opening) (sent_event c last)) middle (sent_event c compare ∷ []) rest.1).0 in
+      let middle_allowed =
+      allowed_front (happens (after_all (happens w (sent_event c first)) opening) (sent_event c last)) middle (sent_event c compare ∷ []) rest.1 in
+      let compare_allowed =
+      (allowed_rest (happens (after_all (happens w (sent_event c first)) opening) (sent_event c last)) middle (sent_event c compare ∷ []) rest.1).0 in
       let known6 = known_all (happens (after_all (happens w (sent_event c first)) opening) (sent_event c last)) middle middle_allowed known5 in
-      let ready6 = ready_all p plan (happens (after_all (happens w (sent_event c first)) opening) (sent_event c last)) middle middle_allowed calm_since known5 draws5 ready5 in
-      compare_finds (after_all (happens (after_all (happens w (sent_event c first)) opening) (sent_event c last)) middle) c compare.frame compare.heard compare_allowed known6 compares highest nobody ready6
+      let ready6 = ready_all p plan (happens (after_all (happens w (sent_event c first)) opening) (sent_event c last))
+      middle middle_allowed calm_since known5 draws5 ready5 in
+      compare_finds (after_all (happens (after_all (happens w (sent_event c first)) opening) (sent_event c last)) middle)
+      c compare.frame compare.heard compare_allowed known6 compares highest nobody ready6
 
 -- the world of the search, from the front
-world_of : (w : World) (front opening middle : List Event) (a b : Event) → after_all w (front ++ a ∷ (opening ++ b ∷ middle)) ≡ after_all (happens (after_all (happens (after_all w front) a) opening) b) middle
+world_of : (w : World) (front opening middle : List Event) (a b : Event)
+    → after_all w (front ++ a ∷ (opening ++ b ∷ middle)) ≡ after_all (happens (after_all (happens (after_all w front) a) opening) b) middle
 world_of w front opening middle a b = after_both w front (a ∷ (opening ++ b ∷ middle)) ∙ after_both (happens (after_all w front) a) opening (b ∷ middle)
 
-pub all_found : (p : Plan) (capacity : ℕ) (front : List Event) (c : ℕ) (first : Entry) (opening : List Event) (last : Entry) (middle : List Event) (compare : Entry)
+pub all_found : (p : Plan) (capacity : ℕ) (front : List Event) (c : ℕ) (first : Entry) (opening : List Event) (last : Entry) (middle : List Event)
+    (compare : Entry)
     → SearchesAll p capacity front c first opening last middle compare → NobodyAnswers (after p capacity (up_to_compare front c first opening last middle))
     → EachPowered (after p capacity (up_to_compare front c first opening last middle)) HasShort
 all_found p capacity front c first opening last middle compare s nobody =
     let there = world_of (start p capacity) front opening middle (sent_event c first) (sent_event c last) in
     let half = after_both (start p capacity) front (sent_event c first ∷ opening) in
     subst (λ v. EachPowered v HasShort) (sym there)
-    (found_from p s.run.plan (after p capacity front) (known_after p capacity front (allowed_front (start p capacity) front _ s.run.allowed)) (draws_after p capacity front) c first last compare opening middle
+    (found_from p s.run.plan (after p capacity front) (known_after p capacity front (allowed_front (start p capacity) front _ s.run.allowed))
+    (draws_after p capacity front) c first last compare opening middle
     (allowed_rest (start p capacity) front (sent_event c first ∷ (opening ++ sent_event c last ∷ (middle ++ sent_event c compare ∷ []))) s.run.allowed)
     s.terminate s.calm_opening (subst (λ v. CompletesOpening v c last.frame) half s.complete) s.calm_since s.compare_sent
     (subst (λ v. value_of (search_of (trace_running v c)) ≡ HIGHEST) there s.highest) (subst NobodyAnswers there nobody))
 
 -- and in the world after the COMPARE
-pub all_found_after : (p : Plan) (capacity : ℕ) (front : List Event) (c : ℕ) (first : Entry) (opening : List Event) (last : Entry) (middle : List Event) (compare : Entry)
+pub all_found_after : (p : Plan) (capacity : ℕ) (front : List Event) (c : ℕ) (first : Entry) (opening : List Event) (last : Entry) (middle : List Event)
+    (compare : Entry)
     → SearchesAll p capacity front c first opening last middle compare → NobodyAnswers (after p capacity (up_to_compare front c first opening last middle))
     → EachPowered (after p capacity (up_to_compare front c first opening last (middle ++ sent_event c compare ∷ []))) HasShort
 all_found_after p capacity front c first opening last middle compare s nobody =
     let there = world_of (start p capacity) front opening middle (sent_event c first) (sent_event c last) in
     let whole = world_of (start p capacity) front opening (middle ++ sent_event c compare ∷ []) (sent_event c first) (sent_event c last) in
     let w5 : World = happens (after_all (happens (after p capacity front) (sent_event c first)) opening) (sent_event c last) in
-    let more = after_both (happens (after_all (happens (after p capacity front) (sent_event c first)) opening) (sent_event c last)) middle (sent_event c compare ∷ []) in
+    let more = after_both (happens (after_all (happens (after p capacity front) (sent_event c first)) opening) (sent_event c last)) middle
+    (sent_event c compare ∷ []) in
     subst (λ v. EachPowered v HasShort) (sym (whole ∙ more))
-    (compare_leaves (after_all (happens (after_all (happens (after p capacity front) (sent_event c first)) opening) (sent_event c last)) middle) c compare.frame compare.heard s.compare_sent
+    (compare_leaves (after_all (happens (after_all (happens (after p capacity front) (sent_event c first)) opening) (sent_event c last)) middle)
+    c compare.frame compare.heard s.compare_sent
     (subst (λ v. EachPowered v HasShort) there (all_found p capacity front c first opening last middle compare s nobody)))

@@ -1,4 +1,5 @@
-use Rattle.std.proofs.Common.{◌≡◌, ◌≢◌, ℕ, ◌+◌, ◌<◌, ◌≤◌, inl, inr, Bool, true, false, zero, suc, List, [], ◌∷◌, refl, sym, ap, subst, ◌∙◌, arith, length, map, get_or, Option, Some, None, add-zero, zero-add}
+use Rattle.std.proofs.Common.{◌≡◌, ◌≢◌, ℕ, ◌+◌, ◌<◌, ◌≤◌, inl, inr, Bool, true, false, zero, suc, List, [], ◌∷◌, refl, sym, ap, subst, ◌∙◌, arith, length, map}
+use Rattle.std.proofs.Common.{get_or, Option, Some, None, add-zero, zero-add}
 use Rattle.std.specs.Prelude.{if◌then◌else◌}
 use Rattle.std.specs.List.{AllByRecursion}
 use Rattle.dali_frame.specs.declared.frames.Answer.{Answer}
@@ -14,7 +15,8 @@ use Rattle.dali_events.specs.Allowed.{Hears}
 abbrev Answered : Reach → Command → ℕ → List Gear → ℕ → Type 0
 Answered reach c k gs v = (i : ℕ) × (i < length gs) × (takes reach (k + i) (get_or gs i fresh) ≡ true) × (answer c (get_or gs i fresh) ≡ Some v)
 
-answered_here : (reach : Reach) (c : Command) (k : ℕ) (g : Gear) (gs : List Gear) (v : ℕ) → takes reach k g ≡ true → answer c g ≡ Some v → Answered reach c k (g ∷ gs) v
+answered_here : (reach : Reach) (c : Command) (k : ℕ) (g : Gear) (gs : List Gear) (v : ℕ) → takes reach k g ≡ true → answer c g ≡ Some v
+    → Answered reach c k (g ∷ gs) v
 answered_here reach c k g gs v t e = (0, omega arith, rw add-zero t, e)
 
 answered_later : (reach : Reach) (c : Command) (k : ℕ) (g : Gear) (gs : List Gear) (v : ℕ) → Answered reach c (k + 1) gs v → Answered reach c k (g ∷ gs) v
@@ -43,7 +45,8 @@ has_option : (o : Option ℕ) (xs : List ℕ) (v : ℕ) → Has xs v → Has (op
 has_option None xs v h = h
 has_option (Some u) xs v h = inr h
 
-answers_from : (reach : Reach) (c : Command) (k : ℕ) (gs : List Gear) (i v : ℕ) → i < length gs → takes reach (k + i) (get_or gs i fresh) ≡ true → answer c (get_or gs i fresh) ≡ Some v
+answers_from : (reach : Reach) (c : Command) (k : ℕ) (gs : List Gear) (i v : ℕ) → i < length gs → takes reach (k + i) (get_or gs i fresh) ≡ true
+    → answer c (get_or gs i fresh) ≡ Some v
     → Has (answers_of reach c k gs) v
 answers_from reach c k [] i v h t e = absurd (omega arith)
 answers_from reach c k (g ∷ gs) zero v h t e =
@@ -54,7 +57,8 @@ answers_from reach c k (g ∷ gs) (suc i) v h t e =
     has_option (if takes reach k g then answer c g else None) (answers_of reach c (k + 1) gs) v
     (answers_from reach c (k + 1) gs i v (omega arith) (subst (λ n. takes reach n (get_or gs i fresh) ≡ true) same t) e)
 
-pub answers_have : (reach : Reach) (c : Command) (gs : List Gear) (i v : ℕ) → i < length gs → takes reach i (get_or gs i fresh) ≡ true → answer c (get_or gs i fresh) ≡ Some v
+pub answers_have : (reach : Reach) (c : Command) (gs : List Gear) (i v : ℕ) → i < length gs → takes reach i (get_or gs i fresh) ≡ true
+    → answer c (get_or gs i fresh) ≡ Some v
     → Has (answers_of reach c 0 gs) v
 answers_have reach c gs i v h t e = answers_from reach c 0 gs i v h (subst (λ n. takes reach n (get_or gs i fresh) ≡ true) (sym (zero-add i)) t) e
 
@@ -81,7 +85,8 @@ byte_answered answers h u hears is = from (subst (λ x. Hears answers x) is hear
 
 -- WHO STORED AN ADDRESS
 abbrev Stored : Reach → Command → ℕ → List Gear → ℕ → ℕ → Type 0
-Stored reach c k gs n a = (i : ℕ) × (n ≡ k + i) × (i < length gs) × (takes reach (k + i) (get_or gs i fresh) ≡ true) × (stored_short c (get_or gs i fresh) ≡ Some a)
+Stored reach c k gs n a =
+    (i : ℕ) × (n ≡ k + i) × (i < length gs) × (takes reach (k + i) (get_or gs i fresh) ≡ true) × (stored_short c (get_or gs i fresh) ≡ Some a)
 
 stored_later : (reach : Reach) (c : Command) (k : ℕ) (g : Gear) (gs : List Gear) (n a : ℕ) → Stored reach c (k + 1) gs n a → Stored reach c k (g ∷ gs) n a
 stored_later reach c k g gs n a s =
@@ -108,14 +113,18 @@ pub stored_by : (reach : Reach) (c : Command) (gs : List Gear) (n a : ℕ) → H
 stored_by reach c gs n a h =
     let s = stored_from reach c 0 gs n a h in
     let same : s.0 ≡ n = sym (s.1 ∙ zero-add s.0) in
-    let taking : takes reach s.0 (get_or gs s.0 fresh) ≡ true = subst (λ m. takes reach m (get_or gs s.0 fresh) ≡ true) (zero-add s.0) s.3 in
-    (subst (λ m. m < length gs) same s.2, subst (λ m. takes reach m (get_or gs m fresh) ≡ true) same taking, subst (λ m. stored_short c (get_or gs m fresh) ≡ Some a) same s.4)
+    let taking : takes reach s.0 (get_or gs s.0 fresh) ≡ true = subst (λ m. takes reach m (get_or gs s.0 fresh) ≡ true) (zero-add s.0) s.3 in (
+      subst (λ m. m < length gs) same s.2,
+      subst (λ m. takes reach m (get_or gs m fresh) ≡ true) same taking,
+      subst (λ m. stored_short c (get_or gs m fresh) ≡ Some a) same s.4,
+    )
 
 has_stored : (k : ℕ) (o : Option ℕ) (xs : List (ℕ × ℕ)) (x : ℕ × ℕ) → Has xs x → Has (stored_one k o xs) x
 has_stored k None xs x h = h
 has_stored k (Some u) xs x h = inr h
 
-stores_from : (reach : Reach) (c : Command) (k : ℕ) (gs : List Gear) (i a : ℕ) → i < length gs → takes reach (k + i) (get_or gs i fresh) ≡ true → stored_short c (get_or gs i fresh) ≡ Some a
+stores_from : (reach : Reach) (c : Command) (k : ℕ) (gs : List Gear) (i a : ℕ) → i < length gs → takes reach (k + i) (get_or gs i fresh) ≡ true
+    → stored_short c (get_or gs i fresh) ≡ Some a
     → Has (stored_of reach c k gs) (k + i, a)
 stores_from reach c k [] i a h t e = absurd (omega arith)
 stores_from reach c k (g ∷ gs) zero a h t e =
@@ -127,7 +136,8 @@ stores_from reach c k (g ∷ gs) (suc i) a h t e =
     (subst (λ n. Has (stored_of reach c (k + 1) gs) (n, a)) (sym same)
     (stores_from reach c (k + 1) gs i a (omega arith) (subst (λ n. takes reach n (get_or gs i fresh) ≡ true) same t) e))
 
-pub stores_at : (reach : Reach) (c : Command) (gs : List Gear) (i a : ℕ) → i < length gs → takes reach i (get_or gs i fresh) ≡ true → stored_short c (get_or gs i fresh) ≡ Some a
+pub stores_at : (reach : Reach) (c : Command) (gs : List Gear) (i a : ℕ) → i < length gs → takes reach i (get_or gs i fresh) ≡ true
+    → stored_short c (get_or gs i fresh) ≡ Some a
     → Has (stored_of reach c 0 gs) (i, a)
 stores_at reach c gs i a h t e =
     subst (λ n. Has (stored_of reach c 0 gs) (n, a)) (zero-add i)
@@ -138,7 +148,8 @@ stores_at reach c gs i a h t e =
 stored_past : (reach : Reach) (c : Command) (k : ℕ) (gs : List Gear) (n : ℕ) → Has (map (λ p. p.0) (stored_of reach c k gs)) n → k ≤ n
 stored_past reach c k [] n h = elim h [ ]
 stored_past reach c k (g ∷ gs) n h = go (if takes reach k g then stored_short c g else None) h (stored_past reach c (k + 1) gs n) where
-  go : (o : Option ℕ) → Has (map (λ p. p.0) (stored_one k o (stored_of reach c (k + 1) gs))) n → (Has (map (λ p. p.0) (stored_of reach c (k + 1) gs)) n → k + 1 ≤ n) → k ≤ n
+  go : (o : Option ℕ) → Has (map (λ p. p.0) (stored_one k o (stored_of reach c (k + 1) gs))) n
+      → (Has (map (λ p. p.0) (stored_of reach c (k + 1) gs)) n → k + 1 ≤ n) → k ≤ n
   go None h later = let past : k + 1 ≤ n = later h in omega arith
   go (Some u) (inl e) later = omega arith
   go (Some u) (inr h) later = let past : k + 1 ≤ n = later h in omega arith

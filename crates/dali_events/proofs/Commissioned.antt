@@ -114,9 +114,19 @@ allowed = (
     (
       record { up = record { known = lit< tt; up = refl }; may = inl (refl, (Open, tt, (refl, tt, (refl, tt, refl)))); draws = lit≤ tt; heard = tt },
       (
-        record { up = record { known = lit< tt; up = refl }; may = inl (refl, (Open, tt, (refl, tt, (refl, tt, (refl, tt, refl))))); draws = lit≤ tt; heard = tt },
+        record {
+          up = record { known = lit< tt; up = refl };
+          may = inl (refl, (Open, tt, (refl, tt, (refl, tt, (refl, tt, refl)))));
+          draws = lit≤ tt;
+          heard = tt;
+        },
         (
-          record { up = record { known = lit< tt; up = refl }; may = inl (refl, (Open, tt, (refl, tt, (refl, tt, (refl, tt, (refl, tt, refl)))))); draws = lit≤ tt; heard = tt },
+          record {
+            up = record { known = lit< tt; up = refl };
+            may = inl (refl, (Open, tt, (refl, tt, (refl, tt, (refl, tt, (refl, tt, refl))))));
+            draws = lit≤ tt;
+            heard = tt;
+          },
           (
             record { up = record { known = lit< tt; up = refl }; due = refl; order = (refl, ((lit≤ tt, lit≤ tt), lit< tt, (λ h. h, λ h. h))) },
             (
@@ -126,23 +136,73 @@ allowed = (
                 (
                   record { up = record { known = lit< tt; up = refl }; may = inl (refl, (Probe number, tt, (refl, tt, refl))); draws = lit≤ tt; heard = tt },
                   (
-                    record { up = record { known = lit< tt; up = refl }; may = inl (refl, (Probe number, tt, (refl, tt, (refl, tt, refl)))); draws = lit≤ tt; heard = tt },
+                    record {
+                      up = record { known = lit< tt; up = refl };
+                      may = inl (refl, (Probe number, tt, (refl, tt, (refl, tt, refl))));
+                      draws = lit≤ tt;
+                      heard = tt;
+                    },
                     (
-                      record { up = record { known = lit< tt; up = refl }; may = inl (refl, (Look number, tt, (refl, tt, (refl, tt, (refl, tt, refl))))); draws = lit≤ tt; heard = (λ e. cc, (refl, tt)) },
+                      record {
+                        up = record { known = lit< tt; up = refl };
+                        may = inl (refl, (Look number, tt, (refl, tt, (refl, tt, (refl, tt, refl)))));
+                        draws = lit≤ tt;
+                        heard = (λ e. cc, (refl, tt));
+                      },
                       (
-                        record { up = record { known = lit< tt; up = refl }; may = inl (refl, (Give number 0, may_give, (refl, tt, (refl, tt, (refl, tt, (refl, refl, refl)))))); draws = lit≤ tt; heard = tt },
+                        record {
+                          up = record { known = lit< tt; up = refl };
+                          may = inl
+                              (refl, (Give number 0, may_give, (refl, tt, (refl, tt, (refl, tt, (refl, refl, refl))))));
+                          draws = lit≤ tt;
+                          heard = tt;
+                        },
                         (
-                          record { up = record { known = lit< tt; up = refl }; may = inl (refl, (Give number 0, may_give, (refl, tt, (refl, tt, (refl, tt, (refl, refl, (refl, tt, refl))))))); draws = lit≤ tt; heard = (λ e. cc, (refl, tt)) },
+                          record {
+                            up = record { known = lit< tt; up = refl };
+                            may = inl
+                                (refl, (Give number 0, may_give, (refl, tt, (refl, tt, (refl, tt, (refl, refl, (refl, tt, refl)))))));
+                            draws = lit≤ tt;
+                            heard =
+                                (λ e. cc, (refl, tt));
+                          },
                           (
-                            record { up = record { known = lit< tt; up = refl }; may = inl (refl, (Give number 0, may_give, (refl, tt, (refl, tt, (refl, tt, (refl, refl, (refl, tt, (refl, refl, refl)))))))); draws = lit≤ tt; heard = tt },
+                            record {
+                              up = record { known = lit< tt; up = refl };
+                              may = inl
+                                  (refl, (Give number 0, may_give, (refl, tt, (refl, tt, (refl, tt, (refl, refl, (refl, tt, (refl, refl, refl))))))));
+                              draws =
+                                  lit≤ tt;
+                              heard = tt;
+                            },
                             (
-                              record { up = record { known = lit< tt; up = refl }; may = inr (refl, (block, [], (Probe highest, tt, refl))); draws = lit≤ tt; heard = tt },
+                              record {
+                                up = record { known = lit< tt; up = refl };
+                                may = inr (refl, (block, [], (Probe highest, tt, refl)));
+                                draws = lit≤ tt;
+                                heard = tt;
+                              },
                               (
-                                record { up = record { known = lit< tt; up = refl }; may = inl (refl, (Probe highest, tt, (refl, tt, refl))); draws = lit≤ tt; heard = tt },
+                                record {
+                                  up = record { known = lit< tt; up = refl };
+                                  may = inl (refl, (Probe highest, tt, (refl, tt, refl)));
+                                  draws = lit≤ tt;
+                                  heard = tt;
+                                },
                                 (
-                                  record { up = record { known = lit< tt; up = refl }; may = inl (refl, (Probe highest, tt, (refl, tt, (refl, tt, refl)))); draws = lit≤ tt; heard = tt },
+                                  record {
+                                    up = record { known = lit< tt; up = refl };
+                                    may = inl (refl, (Probe highest, tt, (refl, tt, (refl, tt, refl))));
+                                    draws = lit≤ tt;
+                                    heard = tt;
+                                  },
                                   (
-                                    record { up = record { known = lit< tt; up = refl }; may = inl (refl, (Probe highest, tt, (refl, tt, (refl, tt, (refl, tt, refl))))); draws = lit≤ tt; heard = tt },
+                                    record {
+                                      up = record { known = lit< tt; up = refl };
+                                      may = inl (refl, (Probe highest, tt, (refl, tt, (refl, tt, (refl, tt, refl)))));
+                                      draws = lit≤ tt;
+                                      heard = tt;
+                                    },
                                     tt,
                                   ),
                                 ),

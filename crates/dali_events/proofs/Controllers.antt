@@ -11,7 +11,8 @@ use Rattle.dali_script.specs.declared.orders.Order.TheVariants.{Put, Commit, Don
 use Rattle.dali_events.specs.declared.event.Event.{Event}
 use Rattle.dali_events.specs.declared.event.Event.TheVariants as event
 use Rattle.dali_events.specs.World.{World, Controller, controller_at, nobody}
-use Rattle.dali_events.specs.Happens.{happens, with_outstanding, controller_informed, controller_acted, trace_running, told_sent, told_destroyed, told_lapsed, owner_told, gone_down, come_up}
+use Rattle.dali_events.specs.Happens.{happens, with_outstanding, controller_informed, controller_acted, trace_running, told_sent, told_destroyed, told_lapsed}
+use Rattle.dali_events.specs.Happens.{owner_told, gone_down, come_up}
 use Rattle.dali_script.proofs.Members.{Each, each_changed}
 
 -- WHAT AN EVENT DOES TO THE CONTROLLERS, for any property of what a controller keeps, its outstanding record and its
@@ -35,14 +36,17 @@ AddsOrder P c k _ = Unit {0}
 abbrev pub Adds : Property → World → Event → Type 0
 Adds P w (event.Acted c i o) = AddsOrder P c (controller_informed (controller_at w c) i) o
 Adds P w (event.Sent c f h) =
-    c < length w.controllers → Of P c (controller_at w c) → P c (controller_at w c).records (controller_at w c).outstanding (later (controller_at w c).finding (found_by (search_of (trace_running w c)) (asked_of (trace_running w c)) (command_of f) h))
+    c < length w.controllers → Of P c (controller_at w c)
+    → P c (controller_at w c).records (controller_at w c).outstanding
+    (later (controller_at w c).finding (found_by (search_of (trace_running w c)) (asked_of (trace_running w c)) (command_of f) h))
 Adds P w _ = Unit {0}
 
 informed_stands : (P : Property) (s : Stands P) (c : ℕ) (k : Controller) (i : Input) → Of P c k → Of P c (controller_informed k i)
 informed_stands P s c k input.Committed h = s.keep c k.records k.outstanding k.finding h
 informed_stands P s c k _ h = h
 
-acted_stands : (P : Property) (s : Stands P) (c : ℕ) (k : Controller) (i : Input) (o : Order) → AddsOrder P c (controller_informed k i) o → Of P c k → Of P c (controller_acted k i o)
+acted_stands : (P : Property) (s : Stands P) (c : ℕ) (k : Controller) (i : Input) (o : Order) → AddsOrder P c (controller_informed k i) o → Of P c k
+    → Of P c (controller_acted k i o)
 acted_stands P s c k i (Commit x) adds h = adds (informed_stands P s c k i h)
 acted_stands P s c k i (Put p f) adds h = informed_stands P s c k i h
 acted_stands P s c k i (Done end) adds h = informed_stands P s c k i h
@@ -56,7 +60,8 @@ up_stands : (P : Property) (s : Stands P) (c : ℕ) (k : Controller) (kept : Boo
 up_stands P s c k true h = s.forget c (with_outstanding k.records k.outstanding) None k.finding (s.keep c k.records k.outstanding k.finding h)
 up_stands P s c k false h = s.forget c k.records None k.finding (s.drop c k.records k.outstanding k.finding h)
 
-pub controllers_step : (P : Property) (s : Stands P) (w : World) (e : Event) → Adds P w e → Each nobody (Of P) w.controllers → Each nobody (Of P) (happens w e).controllers
+pub controllers_step : (P : Property) (s : Stands P) (w : World) (e : Event) → Adds P w e → Each nobody (Of P) w.controllers
+    → Each nobody (Of P) (happens w e).controllers
 controllers_step P s w (event.Acted c i o) adds each =
     each_changed nobody (Of P) (λ k. controller_acted k i o) w.controllers c (λ there h. acted_stands P s c (controller_at w c) i o adds h) each
 controllers_step P s w (event.Offered c f) adds each = each
@@ -69,8 +74,10 @@ controllers_step P s w event.Quiet adds each = each
 controllers_step P s w (event.Power g on) adds each = each
 controllers_step P s w (event.Expired g) adds each = each
 controllers_step P s w (event.Down c) adds each =
-    each_changed nobody (Of P) gone_down w.controllers c (λ there h. s.forget c (controller_at w c).records (controller_at w c).outstanding (controller_at w c).finding h) each
-controllers_step P s w (event.Up c kept) adds each = each_changed nobody (Of P) (come_up kept) w.controllers c (λ there h. up_stands P s c (controller_at w c) kept h) each
+    each_changed nobody (Of P) gone_down w.controllers c
+    (λ there h. s.forget c (controller_at w c).records (controller_at w c).outstanding (controller_at w c).finding h) each
+controllers_step P s w (event.Up c kept) adds each =
+    each_changed nobody (Of P) (come_up kept) w.controllers c (λ there h. up_stands P s c (controller_at w c) kept h) each
 
 -- there are as many as before
 owner_count : (cs : List Controller) (o : Option ℕ) → length (owner_told cs o) ≡ length cs

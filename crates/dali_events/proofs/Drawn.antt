@@ -48,7 +48,8 @@ draws_taken : (plan : List ℕ) (reach : Reach) (c : Command) (gs : List Gear) (
 draws_taken plan reach c gs ds left d = record {
   each = λ i h.
       let there : i < length gs = subst (λ n. i < n) (row_length reach c 0 gs left) h in
-      drawn_moved reach c ds (drawn_of reach c 0 gs left) i (get_or gs i fresh) (get_or (row_after reach c 0 gs left) i fresh) (d.each i there) (moves_at reach c gs left i there);
+      drawn_moved reach c ds (drawn_of reach c 0 gs left) i (get_or gs i fresh) (get_or (row_after reach c 0 gs left) i fresh) (d.each i there)
+      (moves_at reach c gs left i there);
   numbers = rw (map-append, append_assoc, numbers_stay) d.numbers;
 }
 
@@ -60,7 +61,8 @@ drawn_powered true ds k g d = go (g.powered) where
   go false = d
 
 -- they hold after each event
-pub draws_step : (p : Plan) (w : World) (e : Event) → Draws p.draws w.gear w.drawn w.left → Draws p.draws (happens w e).gear (happens w e).drawn (happens w e).left
+pub draws_step : (p : Plan) (w : World) (e : Event) → Draws p.draws w.gear w.drawn w.left
+    → Draws p.draws (happens w e).gear (happens w e).drawn (happens w e).left
 draws_step p w (event.Acted c i o) d = d
 draws_step p w (event.Offered c f) d = d
 draws_step p w (event.Sent c f h) d = draws_taken p.draws Everyone (command_of f) w.gear w.drawn w.left d
@@ -69,7 +71,10 @@ draws_step p w (event.Collided c f k g) d = d
 draws_step p w event.Lapsed d = d
 draws_step p w event.Quiet d = record { each = each_map fresh (HasDrawn w.drawn) gear_quieted w.gear (λ k g h. h) d.each; numbers = d.numbers }
 draws_step p w (event.Power g on) d =
-    record { each = each_changed fresh (HasDrawn w.drawn) (gear_powered on) w.gear g (λ there h. drawn_powered on w.drawn g (gear_at w g) h) d.each; numbers = d.numbers }
+    record {
+      each = each_changed fresh (HasDrawn w.drawn) (gear_powered on) w.gear g (λ there h. drawn_powered on w.drawn g (gear_at w g) h) d.each;
+      numbers = d.numbers;
+    }
 draws_step p w (event.Expired g) d = record { each = each_changed fresh (HasDrawn w.drawn) gear_expired w.gear g (λ there h. h) d.each; numbers = d.numbers }
 draws_step p w (event.Down c) d = d
 draws_step p w (event.Up c kept) d = d
@@ -82,7 +87,8 @@ draws_start p capacity = record {
   numbers = refl;
 }
 
-pub draws_all : (p : Plan) (w : World) (es : List Event) → Draws p.draws w.gear w.drawn w.left → Draws p.draws (after_all w es).gear (after_all w es).drawn (after_all w es).left
+pub draws_all : (p : Plan) (w : World) (es : List Event) → Draws p.draws w.gear w.drawn w.left
+    → Draws p.draws (after_all w es).gear (after_all w es).drawn (after_all w es).left
 draws_all p w [] d = d
 draws_all p w (e ∷ es) d = draws_all p (happens w e) es (draws_step p w e d)
 
@@ -94,7 +100,8 @@ pub are_drawn : (p : Plan) (w : World) → IsPlan p → Draws p.draws w.gear w.d
 are_drawn p w plan d = record {
   random = d.each;
   once = once_front (map (λ draw. draw.1) w.drawn) w.left (subst IsOnce (sym d.numbers) plan.draws_once);
-  below = λ g r h. plan.draws_below r (subst (λ ns. Has ns r) d.numbers (has_left (map (λ draw. draw.1) w.drawn) w.left r (has_map (λ draw. draw.1) w.drawn (g, r) h)));
+  below = λ g r h. plan.draws_below r (subst (λ ns. Has ns r) d.numbers
+      (has_left (map (λ draw. draw.1) w.drawn) w.left r (has_map (λ draw. draw.1) w.drawn (g, r) h)));
 }
 
 pub drawn_in_front : (p : Plan) (capacity : ℕ) (front rest : List Event) → IsRun p capacity (front ++ rest) → AreDrawn (after p capacity front)

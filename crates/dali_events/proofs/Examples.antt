@@ -116,15 +116,30 @@ abbrev reserving : List Event
 reserving = event.Acted 0 input.Start (Commit (Reserve 0 0x123456)) ∷ event.Down 0 ∷ []
 
 adopted : (controller_at (after_all site (reserving ++ event.Up 0 true ∷ [])) 0)
-    ≡ record { up = true; records = record { block = first_block; reserved = (0, 0x123456) ∷ []; enrolled = [] }; outstanding = None; finding = None; told = Some input.Start; last = None }
+    ≡ record {
+      up = true;
+      records = record { block = first_block; reserved = (0, 0x123456) ∷ []; enrolled = [] };
+      outstanding = None;
+      finding = None;
+      told = Some input.Start;
+      last = None;
+    }
 adopted = refl
 
 not_adopted : (controller_at (after_all site (reserving ++ event.Up 0 false ∷ [])) 0)
-    ≡ record { up = true; records = record { block = first_block; reserved = []; enrolled = [] }; outstanding = None; finding = None; told = Some input.Start; last = None }
+    ≡ record {
+      up = true;
+      records = record { block = first_block; reserved = []; enrolled = [] };
+      outstanding = None;
+      finding = None;
+      told = Some input.Start;
+      last = None;
+    }
 not_adopted = refl
 
 -- 7. a commit that was reported as failed may have kept the record: it stays outstanding
-failed_commit : (controller_at (after_all site (event.Acted 0 input.Start (Commit (Reserve 0 0x123456)) ∷ event.Acted 0 input.CommitFailed (Put 3 terminate) ∷ [])) 0).outstanding
+failed_commit : (controller_at (after_all site (event.Acted 0 input.Start (Commit (Reserve 0 0x123456)) ∷ event.Acted 0 input.CommitFailed (Put 3 terminate)
+    ∷ [])) 0).outstanding
     ≡ Some (Reserve 0 0x123456)
 failed_commit = refl
 
@@ -146,7 +161,8 @@ unfolding command_of stage_of
 lapsed_told = refl
 
 -- 9. an order at another priority than 1 gives the bus up
-given_up : (after_all site (event.Acted 0 input.Start (Put 3 terminate) ∷ event.Sent 0 terminate Silence ∷ event.Acted 0 (input.Heard Silence) (Put 3 terminate) ∷ [])).bus.owner ≡ None
+given_up : (after_all site (event.Acted 0 input.Start (Put 3 terminate) ∷ event.Sent 0 terminate Silence ∷ event.Acted 0 (input.Heard Silence) (Put 3 terminate)
+    ∷ [])).bus.owner ≡ None
 unfolding command_of stage_of
 given_up = refl
 
@@ -215,11 +231,13 @@ released = refl
 abbrev reserving_site : World
 reserving_site = record found_site {
   gear = record (found_gear 0x123456) { short = Some 4 } ∷ found_gear 0x0ABCDE ∷ [];
-  controllers = record (controller_begun first_block) { records = record { block = first_block; reserved = (0, 0x123456) ∷ []; enrolled = [] } } ∷ controller_begun second_block ∷ [];
+  controllers = record (controller_begun first_block) { records = record { block = first_block; reserved = (0, 0x123456) ∷ []; enrolled = [] } }
+      ∷ controller_begun second_block ∷ [];
   gifts = (0, 4) ∷ [];
 }
 
-release_is_allowed : AllAllowed reserving_site (looking ++ event.Sent 0 query (Byte 0x09) ∷ event.Acted 0 (input.Heard (Byte 0x09)) (Commit (Release 0 0x123456)) ∷ [])
+release_is_allowed : AllAllowed reserving_site (looking ++ event.Sent 0 query (Byte 0x09)
+    ∷ event.Acted 0 (input.Heard (Byte 0x09)) (Commit (Release 0 0x123456)) ∷ [])
 unfolding command_of stage_of
 release_is_allowed = (
   record { up = record { known = lit< tt; up = refl }; may = inr (refl, (first_block, [], (Look at_123456, tt, refl))); draws = lit≤ tt; heard = tt },
@@ -228,8 +246,21 @@ release_is_allowed = (
     (
       record { up = record { known = lit< tt; up = refl }; may = inl (refl, (Look at_123456, tt, (refl, tt, (refl, tt, refl)))); draws = lit≤ tt; heard = tt },
       (
-        record { up = record { known = lit< tt; up = refl }; may = inl (refl, (Look at_123456, tt, (refl, tt, (refl, tt, (refl, tt, refl))))); draws = lit≤ tt; heard = (λ e. cc, (refl, tt)) },
-        (record { up = record { known = lit< tt; up = refl }; due = refl; order = (refl, (inl refl, (Queried 4 0x123456, refl, 4, refl, λ e. apart 4 0 refl refl e))) }, tt),
+        record {
+          up = record { known = lit< tt; up = refl };
+          may = inl (refl, (Look at_123456, tt, (refl, tt, (refl, tt, (refl, tt, refl)))));
+          draws = lit≤ tt;
+          heard = (λ e. cc, (refl, tt));
+        },
+        (
+          record {
+            up = record { known = lit< tt; up = refl };
+            due = refl;
+            order =
+                (refl, (inl refl, (Queried 4 0x123456, refl, 4, refl, λ e. apart 4 0 refl refl e)));
+          },
+          tt,
+        ),
       ),
     ),
   ),

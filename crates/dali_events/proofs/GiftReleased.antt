@@ -105,9 +105,19 @@ allowed = (
     (
       record { up = record { known = lit< tt; up = refl }; may = inl (refl, (Open, tt, (refl, tt, (refl, tt, refl)))); draws = lit≤ tt; heard = tt },
       (
-        record { up = record { known = lit< tt; up = refl }; may = inl (refl, (Open, tt, (refl, tt, (refl, tt, (refl, tt, refl))))); draws = lit≤ tt; heard = tt },
+        record {
+          up = record { known = lit< tt; up = refl };
+          may = inl (refl, (Open, tt, (refl, tt, (refl, tt, (refl, tt, refl)))));
+          draws = lit≤ tt;
+          heard = tt;
+        },
         (
-          record { up = record { known = lit< tt; up = refl }; may = inl (refl, (Open, tt, (refl, tt, (refl, tt, (refl, tt, (refl, tt, refl)))))); draws = lit≤ tt; heard = tt },
+          record {
+            up = record { known = lit< tt; up = refl };
+            may = inl (refl, (Open, tt, (refl, tt, (refl, tt, (refl, tt, (refl, tt, refl))))));
+            draws = lit≤ tt;
+            heard = tt;
+          },
           (
             record { up = record { known = lit< tt; up = refl }; due = refl; order = (refl, ((lit≤ tt, lit≤ tt), lit< tt, (λ h. h, λ h. h))) },
             (
@@ -117,29 +127,84 @@ allowed = (
                 (
                   record { up = record { known = lit< tt; up = refl }; may = inl (refl, (Probe at_123456, tt, (refl, tt, refl))); draws = lit≤ tt; heard = tt },
                   (
-                    record { up = record { known = lit< tt; up = refl }; may = inl (refl, (Probe at_123456, tt, (refl, tt, (refl, tt, refl)))); draws = lit≤ tt; heard = tt },
+                    record {
+                      up = record { known = lit< tt; up = refl };
+                      may = inl (refl, (Probe at_123456, tt, (refl, tt, (refl, tt, refl))));
+                      draws = lit≤ tt;
+                      heard = tt;
+                    },
                     (
-                      record { up = record { known = lit< tt; up = refl }; may = inl (refl, (Look at_123456, tt, (refl, tt, (refl, tt, (refl, tt, refl))))); draws = lit≤ tt; heard = (λ e. cc, (refl, tt)) },
+                      record {
+                        up = record { known = lit< tt; up = refl };
+                        may = inl (refl, (Look at_123456, tt, (refl, tt, (refl, tt, (refl, tt, refl)))));
+                        draws = lit≤ tt;
+                        heard = (λ e. cc, (refl, tt));
+                      },
                       (
-                        record { up = record { known = lit< tt; up = refl }; may = inl (refl, (Give at_123456 0, may_give_123456, (refl, tt, (refl, tt, (refl, tt, (refl, refl, refl)))))); draws = lit≤ tt; heard = tt },
+                        record {
+                          up = record { known = lit< tt; up = refl };
+                          may = inl
+                              (refl, (Give at_123456 0, may_give_123456, (refl, tt, (refl, tt, (refl, tt, (refl, refl, refl))))));
+                          draws = lit≤ tt;
+                          heard = tt;
+                        },
                         (
-                          record { up = record { known = lit< tt; up = refl }; may = inl (refl, (Give at_123456 0, may_give_123456, (refl, tt, (refl, tt, (refl, tt, (refl, refl, (refl, tt, refl))))))); draws = lit≤ tt; heard = (λ e. cc, (refl, tt)) },
+                          record {
+                            up = record { known = lit< tt; up = refl };
+                            may = inl
+                                (refl, (Give at_123456 0, may_give_123456, (refl, tt, (refl, tt, (refl, tt, (refl, refl, (refl, tt, refl)))))));
+                            draws =
+                                lit≤ tt;
+                            heard = (λ e. cc, (refl, tt));
+                          },
                           (
-                            record { up = record { known = lit< tt; up = refl }; due = refl; none = refl; reserved = inl refl; found = (Queried 0 0x123456, refl, 0, refl) },
+                            record {
+                              up = record { known = lit< tt; up = refl };
+                              due = refl;
+                              none = refl;
+                              reserved = inl refl;
+                              found = (Queried 0 0x123456, refl, 0, refl);
+                            },
                             (
                               record { up = record { known = lit< tt; up = refl }; due = tt; order = (refl, ((lit≤ tt, lit≤ tt), lit< tt, (λ h. h, λ h. h))) },
                               (
                                 record { up = record { known = lit< tt; up = refl }; due = tt; order = inl (refl, (block, [], (Probe at_0abcde, tt, refl))) },
                                 (
-                                  record { up = record { known = lit< tt; up = refl }; may = inr (refl, (block, [], (Probe at_0abcde, tt, refl))); draws = lit≤ tt; heard = tt },
+                                  record {
+                                    up = record { known = lit< tt; up = refl };
+                                    may = inr (refl, (block, [], (Probe at_0abcde, tt, refl)));
+                                    draws = lit≤ tt;
+                                    heard = tt;
+                                  },
                                   (
-                                    record { up = record { known = lit< tt; up = refl }; may = inl (refl, (Probe at_0abcde, tt, (refl, tt, refl))); draws = lit≤ tt; heard = tt },
+                                    record {
+                                      up = record { known = lit< tt; up = refl };
+                                      may = inl (refl, (Probe at_0abcde, tt, (refl, tt, refl)));
+                                      draws = lit≤ tt;
+                                      heard = tt;
+                                    },
                                     (
-                                      record { up = record { known = lit< tt; up = refl }; may = inl (refl, (Probe at_0abcde, tt, (refl, tt, (refl, tt, refl)))); draws = lit≤ tt; heard = tt },
+                                      record {
+                                        up = record { known = lit< tt; up = refl };
+                                        may = inl (refl, (Probe at_0abcde, tt, (refl, tt, (refl, tt, refl))));
+                                        draws = lit≤ tt;
+                                        heard = tt;
+                                      },
                                       (
-                                        record { up = record { known = lit< tt; up = refl }; may = inl (refl, (Look at_0abcde, tt, (refl, tt, (refl, tt, (refl, tt, refl))))); draws = lit≤ tt; heard = (λ e. cc, (refl, tt)) },
+                                        record {
+                                          up = record { known = lit< tt; up = refl };
+                                          may = inl (refl, (Look at_0abcde, tt, (refl, tt, (refl, tt, (refl, tt, refl)))));
+                                          draws = lit≤ tt;
+                                          heard =
+                                              (λ e. cc, (refl, tt));
+                                        },
                                         (
-                                          record { up = record { known = lit< tt; up = refl }; may = inl (refl, (Give at_0abcde 0, may_give_0abcde, (refl, tt, (refl, tt, (refl, tt, (refl, refl, refl)))))); draws = lit≤ tt; heard = tt },
+                                          record {
+                                            up = record { known = lit< tt; up = refl };
+                                            may = inl (refl, (Give at_0abcde 0, may_give_0abcde, (refl, tt, (refl, tt, (refl, tt, (refl, refl, refl))))));
+                                            draws = lit≤ tt;
+                                            heard = tt;
+                                          },
                                           tt,
                                         ),
                                       ),

@@ -1,4 +1,5 @@
-use Rattle.std.proofs.Common.{◌≡◌, ◌↔◌, ℕ, ◌<◌, ◌⊎◌, inl, inr, true, List, [], ◌++◌, refl, sym, ap, subst, ◌∙◌, arith, length, map, get_or, append-nil, Some, None}
+use Rattle.std.proofs.Common.{◌≡◌, ◌↔◌, ℕ, ◌<◌, ◌⊎◌, inl, inr, true, List, [], ◌++◌, refl, sym, ap, subst, ◌∙◌, arith, length, map, get_or, append-nil, Some}
+use Rattle.std.proofs.Common.{None}
 use Rattle.std.proofs.lemmas.List.{map-append}
 use Rattle.dali_frame.specs.Random.{value_of}
 use Rattle.dali_special.specs.declared.command.Command.{Command}
@@ -52,7 +53,8 @@ pub record Change (R : Assignment → Type 0) (gs : List Gear) (ds gf : List (�
 abbrev pub SameAddresses : List Gear → ℕ → Gear → Type 0
 SameAddresses gs k h = (h.short ≡ (get_or gs k fresh).short) × (h.random ≡ (get_or gs k fresh).random)
 
-pub no_change : (R : Assignment → Type 0) (gs hs : List Gear) (ds gf : List (ℕ × ℕ)) → length hs ≡ length gs → Each fresh (SameAddresses gs) hs → Change R gs ds gf hs ds gf
+pub no_change : (R : Assignment → Type 0) (gs hs : List Gear) (ds gf : List (ℕ × ℕ)) → length hs ≡ length gs → Each fresh (SameAddresses gs) hs
+    → Change R gs ds gf hs ds gf
 no_change R gs hs ds gf count same = record {
   new = [];
   more = [];
@@ -72,26 +74,32 @@ module _ (R : Assignment → Type 0) (b : Block) (xs : List Assignment) (s : Sta
   moved_short ds k a g _ knows (stays e) h = h
   moved_short ds k a g _ knows (goes r e drew) h = short_stays b xs s c g a follows (knows (takes_powered reach k g e)) h
 
-  moved_random : (ds : List (ℕ × ℕ)) (k a : ℕ) (g g' : Gear) → (g.powered ≡ true → Knows s g) → Moved reach c ds k g g' → g.short ≡ Some a → g'.random ≡ g.random
+  moved_random : (ds : List (ℕ × ℕ)) (k a : ℕ) (g g' : Gear) → (g.powered ≡ true → Knows s g) → Moved reach c ds k g g' → g.short ≡ Some a
+      → g'.random ≡ g.random
   moved_random ds k a g _ knows (stays e) h = refl
   moved_random ds k a g _ knows (goes r e drew) h = random_stays b xs s c g r a follows (knows (takes_powered reach k g e)) h
 
-  moved_from : (ds : List (ℕ × ℕ)) (k a : ℕ) (g g' : Gear) → Moved reach c ds k g g' → g'.short ≡ Some a → (g.short ≡ Some a) ⊎ ((takes reach k g ≡ true) × (stored_short c g ≡ Some a))
+  moved_from : (ds : List (ℕ × ℕ)) (k a : ℕ) (g g' : Gear) → Moved reach c ds k g g' → g'.short ≡ Some a
+      → (g.short ≡ Some a) ⊎ ((takes reach k g ≡ true) × (stored_short c g ≡ Some a))
   moved_from ds k a g _ (stays e) h = inl h
   moved_from ds k a g _ (goes r e drew) h = go (short_from c g a h) where
     go : (g.short ≡ Some a) ⊎ (stored_short c g ≡ Some a) → (g.short ≡ Some a) ⊎ ((takes reach k g ≡ true) × (stored_short c g ≡ Some a))
     go (inl is) = inl is
     go (inr is) = inr (e, is)
 
-  moved_stores : (ds : List (ℕ × ℕ)) (k a : ℕ) (g g' : Gear) → Moved reach c ds k g g' → takes reach k g ≡ true → stored_short c g ≡ Some a → (g'.short ≡ Some a) × (g'.random ≡ g.random)
+  moved_stores : (ds : List (ℕ × ℕ)) (k a : ℕ) (g g' : Gear) → Moved reach c ds k g g' → takes reach k g ≡ true → stored_short c g ≡ Some a
+      → (g'.short ≡ Some a) × (g'.random ≡ g.random)
   moved_stores ds k a g _ (stays off) e is = absurd (cc)
   moved_stores ds k a g _ (goes r there drew) e is = (short_stored c g a is, random_stored c g r a is)
 
   drawn_new : (ds : List (ℕ × ℕ)) (k a : ℕ) (g : Gear) → HasDrawn ds k g → IsNew b xs g a → Has ds (k, g.random)
   drawn_new ds k a g (inr h) n = h
-  drawn_new ds k a g (inl mask) n = absurd (let is : g.random ≡ value_of n.number = n.random in let below : value_of n.number < 0xFFFFFF = n.may.drawn in let at : g.random ≡ 0xFFFFFF = mask in omega arith)
+  drawn_new ds k a g (inl mask) n =
+      absurd (let is : g.random ≡ value_of n.number = n.random in let below : value_of n.number < 0xFFFFFF = n.may.drawn in
+      let at : g.random ≡ 0xFFFFFF = mask in omega arith)
 
-  pub frame_changes : (gs : List Gear) (left : List ℕ) (ds gf : List (ℕ × ℕ)) → KnowsAll s gs → Each fresh (HasDrawn ds) gs → ((a r : ℕ) → Has xs (a, r) → R (a, r))
+  pub frame_changes : (gs : List Gear) (left : List ℕ) (ds gf : List (ℕ × ℕ)) → KnowsAll s gs → Each fresh (HasDrawn ds) gs
+      → ((a r : ℕ) → Has xs (a, r) → R (a, r))
       → Change R gs ds gf (row_after reach c 0 gs left) (ds ++ drawn_of reach c 0 gs left) (gf ++ stored_of reach c 0 gs)
   frame_changes gs left ds gf knows drawn sender = record {
     new = stored_of reach c 0 gs;
@@ -99,22 +107,28 @@ module _ (R : Assignment → Type 0) (b : Block) (xs : List Assignment) (s : Sta
     gifts = refl;
     draws = refl;
     count = row_length reach c 0 gs left;
-    stays_short = λ g a h e. moved_short (drawn_of reach c 0 gs left) g a (get_or gs g fresh) (get_or (row_after reach c 0 gs left) g fresh) (knows g h) (moves_at reach c gs left g h) e;
-    stays_random = λ g a h e. moved_random (drawn_of reach c 0 gs left) g a (get_or gs g fresh) (get_or (row_after reach c 0 gs left) g fresh) (knows g h) (moves_at reach c gs left g h) e;
-    from = λ g a h e. stores g a h (moved_from (drawn_of reach c 0 gs left) g a (get_or gs g fresh) (get_or (row_after reach c 0 gs left) g fresh) (moves_at reach c gs left g h) e);
+    stays_short = λ g a h e. moved_short (drawn_of reach c 0 gs left) g a (get_or gs g fresh) (get_or (row_after reach c 0 gs left) g fresh) (knows g h)
+        (moves_at reach c gs left g h) e;
+    stays_random = λ g a h e. moved_random (drawn_of reach c 0 gs left) g a (get_or gs g fresh) (get_or (row_after reach c 0 gs left) g fresh) (knows g h)
+        (moves_at reach c gs left g h) e;
+    from = λ g a h e. stores g a h (moved_from (drawn_of reach c 0 gs left) g a (get_or gs g fresh) (get_or (row_after reach c 0 gs left) g fresh)
+        (moves_at reach c gs left g h) e);
     given = λ g a h. given g a (stored_by reach c gs g a h);
     once = stored_once reach c gs;
   } where
-    stores : (g a : ℕ) → g < length gs → ((get_or gs g fresh).short ≡ Some a) ⊎ ((takes reach g (get_or gs g fresh) ≡ true) × (stored_short c (get_or gs g fresh) ≡ Some a))
+    stores : (g a : ℕ) → g < length gs
+        → ((get_or gs g fresh).short ≡ Some a) ⊎ ((takes reach g (get_or gs g fresh) ≡ true) × (stored_short c (get_or gs g fresh) ≡ Some a))
         → ((get_or gs g fresh).short ≡ Some a) ⊎ Has (stored_of reach c 0 gs) (g, a)
     stores g a h (inl e) = inl e
     stores g a h (inr e) = inr (stores_at reach c gs g a h e.0 e.1)
 
-    given : (g a : ℕ) → (g < length gs) × (takes reach g (get_or gs g fresh) ≡ true) × (stored_short c (get_or gs g fresh) ≡ Some a) → Given R gs ds (row_after reach c 0 gs left) g a
+    given : (g a : ℕ) → (g < length gs) × (takes reach g (get_or gs g fresh) ≡ true) × (stored_short c (get_or gs g fresh) ≡ Some a)
+        → Given R gs ds (row_after reach c 0 gs left) g a
     given g a h =
         let knows_it : Knows s (get_or gs g fresh) = knows g h.0 (takes_powered reach g (get_or gs g fresh) h.1) in
         let new : IsNew b xs (get_or gs g fresh) a = new_from b xs s c (get_or gs g fresh) a follows knows_it h.2 in
-        let stored_it = moved_stores (drawn_of reach c 0 gs left) g a (get_or gs g fresh) (get_or (row_after reach c 0 gs left) g fresh) (moves_at reach c gs left g h.0) h.1 h.2 in
+        let stored_it = moved_stores (drawn_of reach c 0 gs left) g a (get_or gs g fresh) (get_or (row_after reach c 0 gs left) g fresh)
+        (moves_at reach c gs left g h.0) h.1 h.2 in
         record {
           there = h.0;
           before = new.none;
@@ -131,7 +145,8 @@ module _ (R : Assignment → Type 0) (one_number : (a r q : ℕ) → R (a, r) �
   given_is g a h = (old.holds g a (old.there g a h)).1 h
 
   -- one address, one gear
-  one_gear : (g h a : ℕ) → R (a, (get_or gs g fresh).random) → R (a, (get_or gs h fresh).random) → Has ds (g, (get_or gs g fresh).random) → Has ds (h, (get_or gs h fresh).random) → g ≡ h
+  one_gear : (g h a : ℕ) → R (a, (get_or gs g fresh).random) → R (a, (get_or gs h fresh).random) → Has ds (g, (get_or gs g fresh).random)
+      → Has ds (h, (get_or gs h fresh).random) → g ≡ h
   one_gear g h a rg rh dg dh =
       let same : (get_or gs g fresh).random ≡ (get_or gs h fresh).random = one_number a (get_or gs g fresh).random (get_or gs h fresh).random rg rh in
       ap (λ x. x.0) (same_member (λ draw. draw.1) ds (g, (get_or gs g fresh).random) (h, (get_or gs h fresh).random) drawn_once dg dh same)
@@ -164,7 +179,8 @@ module _ (R : Assignment → Type 0) (one_number : (a r q : ℕ) → R (a, r) �
     go g h a x y = one_gear g h a x.reserved y.reserved x.drawn y.drawn
 
   pub KeepsOne : ℕ → ℕ → Type 0
-  KeepsOne g a = (g < length gs) × ((get_or hs g fresh).short ≡ Some a) × ((get_or hs g fresh).random ≡ (get_or gs g fresh).random) × R (a, (get_or gs g fresh).random) × Has ds (g, (get_or gs g fresh).random)
+  KeepsOne g a = (g < length gs) × ((get_or hs g fresh).short ≡ Some a) × ((get_or hs g fresh).random ≡ (get_or gs g fresh).random)
+      × R (a, (get_or gs g fresh).random) × Has ds (g, (get_or gs g fresh).random)
 
   each_gift : (g a : ℕ) → Has gf (g, a) ⊎ Has ch.new (g, a) → KeepsOne g a
   unfolding KeepsOne

@@ -30,7 +30,8 @@ pub allowed_rest : (w : World) (es fs : List Event) → AllAllowed w (es ++ fs) 
 allowed_rest w [] fs all = all
 allowed_rest w (e ∷ es) fs all = allowed_rest (happens w e) es fs all.1
 
-pub run_more : (p : Plan) (capacity : ℕ) (log : List Event) (e : Event) → IsRun p capacity log → Allowed (after p capacity log) e → IsRun p capacity (log ++ e ∷ [])
+pub run_more : (p : Plan) (capacity : ℕ) (log : List Event) (e : Event) → IsRun p capacity log → Allowed (after p capacity log) e
+    → IsRun p capacity (log ++ e ∷ [])
 run_more p capacity log e run here = record { plan = run.plan; allowed = allowed_more (start p capacity) log e run.allowed here }
 
 -- hearing

@@ -52,7 +52,8 @@ pub whole_taken : (b : Block) (xs : List Assignment) (s : Stage) (c : Command) (
     → Each fresh Whole (row_after Everyone c 0 gs left)
 whole_taken b xs s c gs left follows e i in_row =
     let there : i < length gs = subst (λ n. i < n) (row_length Everyone c 0 gs left) in_row in
-    whole_moved c (drawn_of Everyone c 0 gs left) i (get_or gs i fresh) (get_or (row_after Everyone c 0 gs left) i fresh) (half_first b xs s c (get_or gs i fresh) follows e) (moves_at Everyone c gs left i there)
+    whole_moved c (drawn_of Everyone c 0 gs left) i (get_or gs i fresh) (get_or (row_after Everyone c 0 gs left) i fresh)
+    (half_first b xs s c (get_or gs i fresh) follows e) (moves_at Everyone c gs left i there)
 
 -- while a trace has one frame alone
 abbrev Alone : List Entry → List Gear → Type 0
@@ -77,7 +78,8 @@ before_one (z ∷ u ∷ t) x y e = absurd (cc)
 alone_powered : (on : Bool) (k : ℕ) (g : Gear) → Whole k g → Whole k (gear_powered on g)
 alone_powered false k g h e = absurd (cc)
 alone_powered true k g h e = go (g.powered) h e where
-  go : (b : Bool) → (b ≡ true → g.half ≡ None) → (if b then g else record g { powered = true; state = fresh.state; search = fresh.search; half = None }).powered ≡ true
+  go : (b : Bool) → (b ≡ true → g.half ≡ None)
+      → (if b then g else record g { powered = true; state = fresh.state; search = fresh.search; half = None }).powered ≡ true
       → (if b then g else record g { powered = true; state = fresh.state; search = fresh.search; half = None }).half ≡ None
   go true h e = h refl
   go false h e = refl
@@ -90,7 +92,8 @@ alone_step w (event.Acted c i o) here h = alone_unless _ w.trace w.gear h
 alone_step w (event.Offered c f) here h = h
 alone_step w (event.Sent c f a) here h =
     alone_if (goes_on w c (trace_running w c ++ entry f a ∷ [])) (trace_running w c ++ entry f a ∷ []) (row_after Everyone (command_of f) 0 w.gear w.left)
-    (λ x e. whole_taken (controller_at w c).records.block (controller_at w c).records.reserved (stage_of (trace_running w c)) (command_of f) w.gear w.left (follows_of w c f here.may)
+    (λ x e. whole_taken (controller_at w c).records.block (controller_at w c).records.reserved (stage_of (trace_running w c)) (command_of f) w.gear w.left
+    (follows_of w c f here.may)
     (stage_free (trace_running w c) (before_one (trace_running w c) (entry f a) x e)))
 alone_step w (event.Destroyed c f set) here h = alone_none _
 alone_step w (event.Collided c f d g) here h = alone_none w.gear
@@ -105,7 +108,8 @@ alone_all : (w : World) (es : List Event) → AllAllowed w es → Alone w.trace 
 alone_all w [] all h = h
 alone_all w (e ∷ es) all h = alone_all (happens w e) es all.1 (alone_step w e all.0 h)
 
-pub no_half_while_one : (p : Plan) (capacity : ℕ) (log : List Event) (x : Entry) → IsRun p capacity log → (after p capacity log).trace ≡ x ∷ [] → EachPowered (after p capacity log) (λ g. g.half ≡ None)
+pub no_half_while_one : (p : Plan) (capacity : ℕ) (log : List Event) (x : Entry) → IsRun p capacity log → (after p capacity log).trace ≡ x ∷ []
+    → EachPowered (after p capacity log) (λ g. g.half ≡ None)
 no_half_while_one p capacity log x run e = alone_all (start p capacity) log run.allowed (alone_none _) x e
 
 -- the last event of a run was allowed
@@ -118,14 +122,16 @@ first_half f g first =
     half_first (record { first = 0; last = 0 }) [] (stage_of []) (command_of f) g
     (follows_lawful (record { first = 0; last = 0 }) [] [] f (first_for_all (record { first = 0; last = 0 }) [] f first)) stage_none
 
-pub no_half_at_first : (p : Plan) (capacity : ℕ) (log : List Event) (c : ℕ) (f : Forward) (a : Answer) → IsRun p capacity (log ++ event.Sent c f a ∷ []) → IsFirst f
+pub no_half_at_first : (p : Plan) (capacity : ℕ) (log : List Event) (c : ℕ) (f : Forward) (a : Answer) → IsRun p capacity (log ++ event.Sent c f a ∷ [])
+    → IsFirst f
     → EachPowered (after p capacity (log ++ event.Sent c f a ∷ [])) (λ g. g.half ≡ None)
 no_half_at_first p capacity log c f a run first =
     subst (λ w. EachPowered w (λ g. g.half ≡ None)) (sym (after_more (start p capacity) log (event.Sent c f a))) (at (after p capacity log)) where
       at : (w : World) → EachPowered (happens w (event.Sent c f a)) (λ g. g.half ≡ None)
       at w i in_row =
           let there : i < length w.gear = subst (λ n. i < n) (row_length Everyone (command_of f) 0 w.gear w.left) in_row in
-          whole_moved (command_of f) (drawn_of Everyone (command_of f) 0 w.gear w.left) i (gear_at w i) (get_or (row_after Everyone (command_of f) 0 w.gear w.left) i fresh) (first_half f (gear_at w i) first)
+          whole_moved (command_of f) (drawn_of Everyone (command_of f) 0 w.gear w.left) i (gear_at w i)
+          (get_or (row_after Everyone (command_of f) 0 w.gear w.left) i fresh) (first_half f (gear_at w i) first)
           (moves_at Everyone (command_of f) w.gear w.left i there)
 
 -- RANDOMISE
@@ -135,18 +141,23 @@ unnumbered_at s g (inr e) k = subst (λ x. Knows x g) e k
 
 unnumbered_sent : (w : World) (c : ℕ) (f : Forward) → MaySend w c f → IsKnown w → command_of f ≡ Randomise → EachActive w (λ g. g.short ≡ None)
 unnumbered_sent w c f may known is g there on =
-    unnumbered_at (stage_of (trace_running w c)) (gear_at w g) (randomise_at (controller_at w c).records.block (controller_at w c).records.reserved (trace_running w c) f (lawful_of w c f may) is)
+    unnumbered_at (stage_of (trace_running w c)) (gear_at w g)
+    (randomise_at (controller_at w c).records.block (controller_at w c).records.reserved (trace_running w c) f (lawful_of w c f may) is)
     (knows_running w c known.knows g there on)
 
-unnumbered_in : (w : World) (e : Event) (f : Forward) → Allowed w e → IsKnown w → frame_in e ≡ Some f → command_of f ≡ Randomise → EachActive w (λ g. g.short ≡ None)
+unnumbered_in : (w : World) (e : Event) (f : Forward) → Allowed w e → IsKnown w → frame_in e ≡ Some f → command_of f ≡ Randomise
+    → EachActive w (λ g. g.short ≡ None)
 unnumbered_in w (event.Sent c d h) f here known is command = unnumbered_sent w c d here.may known (ap command_of (let same : d ≡ f = cc in same) ∙ command)
-unnumbered_in w (event.Destroyed c d set) f here known is command = unnumbered_sent w c d here.may known (ap command_of (let same : d ≡ f = cc in same) ∙ command)
+unnumbered_in w (event.Destroyed c d set) f here known is command =
+    unnumbered_sent w c d here.may known (ap command_of (let same : d ≡ f = cc in same) ∙ command)
 unnumbered_in w _ f here known is command = absurd (cc)
 
-pub no_short_at_randomise : (p : Plan) (capacity : ℕ) (log : List Event) (e : Event) (f : Forward) → IsRun p capacity (log ++ e ∷ []) → frame_in e ≡ Some f → command_of f ≡ Randomise
+pub no_short_at_randomise : (p : Plan) (capacity : ℕ) (log : List Event) (e : Event) (f : Forward) → IsRun p capacity (log ++ e ∷ []) → frame_in e ≡ Some f
+    → command_of f ≡ Randomise
     → EachActive (after p capacity log) (λ g. g.short ≡ None)
 no_short_at_randomise p capacity log e f run is command =
-    unnumbered_in (after p capacity log) e f (last_allowed p capacity log e run) (known_after p capacity log (allowed_front (start p capacity) log (e ∷ []) run.allowed)) is command
+    unnumbered_in (after p capacity log) e f (last_allowed p capacity log e run)
+    (known_after p capacity log (allowed_front (start p capacity) log (e ∷ []) run.allowed)) is command
 
 -- THE SEARCH ADDRESS
 seeks_at : (s : Stage) (g : Gear) (r : SearchAddress) → number_at s ≡ Some r → Knows s g → IsActive g → g.search ≡ r
@@ -157,12 +168,14 @@ seeks_at (stage.Programmed n a) g r e k active = k active ∙ (let same : n ≡ 
 seeks_at (stage.Confirmed n a) g r e k active = (k active).0 ∙ (let same : n ≡ r = cc in same)
 seeks_at _ g r e k active = absurd (cc)
 
-pub gear_are_searched : (p : Plan) (capacity : ℕ) (log : List Event) (r : SearchAddress) → IsRun p capacity log → number_at (stage_of (after p capacity log).trace) ≡ Some r
+pub gear_are_searched : (p : Plan) (capacity : ℕ) (log : List Event) (r : SearchAddress) → IsRun p capacity log
+    → number_at (stage_of (after p capacity log).trace) ≡ Some r
     → EachActive (after p capacity log) (λ g. g.search ≡ r)
 gear_are_searched p capacity log r run e g there on active =
     seeks_at (stage_of (after p capacity log).trace) (gear_at (after p capacity log) g) r e ((known_after p capacity log run.allowed).knows g there on) active
 
-pub no_short_while_unnamed : (p : Plan) (capacity : ℕ) (log : List Event) (r : SearchAddress) → IsRun p capacity log → stage_of (after p capacity log).trace ≡ stage.Unnamed r
+pub no_short_while_unnamed : (p : Plan) (capacity : ℕ) (log : List Event) (r : SearchAddress) → IsRun p capacity log
+    → stage_of (after p capacity log).trace ≡ stage.Unnamed r
     → EachActive (after p capacity log) (λ g. g.random ≡ value_of r → g.short ≡ None)
 no_short_while_unnamed p capacity log r run e g there on active =
     (at (stage_of (after p capacity log).trace) (gear_at (after p capacity log) g) e ((known_after p capacity log run.allowed).knows g there on) active) where

@@ -1,4 +1,5 @@
-use Rattle.std.proofs.Common.{◌≡◌, ℕ, ◌+◌, ◌<◌, ◌≤◌, ◌⊎◌, inl, inr, Bool, true, false, zero, suc, List, [], ◌∷◌, refl, sym, ap, subst, ◌∙◌, arith, length, Some, None}
+use Rattle.std.proofs.Common.{◌≡◌, ℕ, ◌+◌, ◌<◌, ◌≤◌, ◌⊎◌, inl, inr, Bool, true, false, zero, suc, List, [], ◌∷◌, refl, sym, ap, subst, ◌∙◌, arith, length, Some}
+use Rattle.std.proofs.Common.{None}
 use Rattle.std.specs.Prelude.{◌&&◌, nat_le, if◌then◌else◌}
 use Rattle.std.proofs.lemmas.Bool.Decides.{nat_tests}
 use Rattle.dali_frame.specs.declared.frames.Answer.TheVariants.{Silence, Byte}
@@ -32,7 +33,8 @@ yes_compared g v e = go (is_enabled g.state) (nat_le g.random (value_of g.search
   test : (m n : ℕ) → nat_le m n ≡ true → m ≤ n
   test m n h = grind (arith, nat_tests)
 
-  go : (a b : Bool) → is_enabled g.state ≡ a → nat_le g.random (value_of g.search) ≡ b → (if a && b then Some YES else None) ≡ Some v → (g.state ≡ Enabled) × (g.random ≤ value_of g.search)
+  go : (a b : Bool) → is_enabled g.state ≡ a → nat_le g.random (value_of g.search) ≡ b → (if a && b then Some YES else None) ≡ Some v
+      → (g.state ≡ Enabled) × (g.random ≤ value_of g.search)
   go true true enabled below e = (enabled_is g.state enabled, test g.random (value_of g.search) below)
   go true false enabled below e = absurd (cc)
   go false b enabled below e = absurd (cc)
@@ -46,7 +48,8 @@ loud_some : (bytes : List ℕ) → (heard_of bytes ≡ Silence → ⊥) → (v :
 loud_some [] e = absurd (e refl)
 loud_some (byte ∷ bytes) e = (byte, inl refl)
 
-pub silent_above : (gs : List Gear) (r : SearchAddress) → Seek gs r → heard_of (answers_of Everyone Compare 0 gs) ≡ Silence → (n : ℕ) → wants gs n ≡ true → value_of r < n
+pub silent_above : (gs : List Gear) (r : SearchAddress) → Seek gs r → heard_of (answers_of Everyone Compare 0 gs) ≡ Silence → (n : ℕ) → wants gs n ≡ true
+    → value_of r < n
 silent_above gs r seek silent n e = go (nat_le n (value_of r)) refl where
   go : (b : Bool) → nat_le n (value_of r) ≡ b → value_of r < n
   go false above = test n (value_of r) above where
@@ -56,25 +59,32 @@ silent_above gs r seek silent n e = go (nat_le n (value_of r)) refl where
       let there = wants_at gs n e in
       let on : (gear_of gs there.0).powered ≡ true = wanted_powered (gear_of gs there.0) there.2 in
       let search : (gear_of gs there.0).search ≡ r = seek there.0 there.1 on (wanted_active (gear_of gs there.0) there.2) in
-      let least : (gear_of gs there.0).random ≤ value_of (gear_of gs there.0).search = subst (λ s. (gear_of gs there.0).random ≤ value_of s) (sym search) (subst (λ m. m ≤ value_of r) (sym there.3) (test n (value_of r) below)) in
+      let least : (gear_of gs there.0).random ≤ value_of (gear_of gs there.0).search =
+      subst (λ s. (gear_of gs there.0).random ≤ value_of s) (sym search) (subst (λ m. m ≤ value_of r) (sym there.3) (test n (value_of r) below)) in
       let replies = compared_yes (gear_of gs there.0) (wanted_enabled (gear_of gs there.0) there.2) least in
-      let has : Has (answers_of Everyone Compare 0 gs) YES = answers_have Everyone Compare gs there.0 YES there.1 (powered_takes there.0 (gear_of gs there.0) on) replies in
+      let has : Has (answers_of Everyone Compare 0 gs) YES =
+      answers_have Everyone Compare gs there.0 YES there.1 (powered_takes there.0 (gear_of gs there.0) on) replies in
       absurd (subst (λ bytes. Has bytes YES) (silent_none (answers_of Everyone Compare 0 gs) silent) has) where
         test : (m n : ℕ) → nat_le m n ≡ true → m ≤ n
         test m n h = grind (arith, nat_tests)
 
-pub heard_below : (gs : List Gear) (r : SearchAddress) → Seek gs r → (heard_of (answers_of Everyone Compare 0 gs) ≡ Silence → ⊥) → (n : ℕ) × (wants gs n ≡ true) × (n ≤ value_of r)
+pub heard_below : (gs : List Gear) (r : SearchAddress) → Seek gs r → (heard_of (answers_of Everyone Compare 0 gs) ≡ Silence → ⊥)
+    → (n : ℕ) × (wants gs n ≡ true) × (n ≤ value_of r)
 heard_below gs r seek loud =
     let some = loud_some (answers_of Everyone Compare 0 gs) loud in
     let there = answered Everyone Compare gs some.0 some.1 in
     let on : (gear_of gs there.0).powered ≡ true = takes_powered Everyone there.0 (gear_of gs there.0) there.2 in
     let compared = yes_compared (gear_of gs there.0) some.0 there.3 in
     let wanted : is_wanted (gear_of gs there.0) ≡ true = is_wanted_by (gear_of gs there.0) on compared.0 in
-    let search : (gear_of gs there.0).search ≡ r = seek there.0 there.1 on (wanted_active (gear_of gs there.0) wanted) in
-    ((gear_of gs there.0).random, wants_by gs (gear_of gs there.0).random there.0 there.1 wanted refl, subst (λ s. (gear_of gs there.0).random ≤ value_of s) search compared.1)
+    let search : (gear_of gs there.0).search ≡ r = seek there.0 there.1 on (wanted_active (gear_of gs there.0) wanted) in (
+      (gear_of gs there.0).random,
+      wants_by gs (gear_of gs there.0).random there.0 there.1 wanted refl,
+      subst (λ s. (gear_of gs there.0).random ≤ value_of s) search compared.1,
+    )
 
 -- ONE GEAR ANSWERS, and no other
-answers_first : (c : Command) (k : ℕ) (g : Gear) (gs : List Gear) → answers_of Everyone c k (g ∷ gs) ≡ option_cons (answer_to c g) (answers_of Everyone c (k + 1) gs)
+answers_first : (c : Command) (k : ℕ) (g : Gear) (gs : List Gear)
+    → answers_of Everyone c k (g ∷ gs) ≡ option_cons (answer_to c g) (answers_of Everyone c (k + 1) gs)
 answers_first c k g gs = ap (λ o. option_cons o (answers_of Everyone c (k + 1) gs)) (go g.powered) where
   go : (on : Bool) → (if on && true then answer c g else None) ≡ (if on then answer c g else None)
   go true = refl
@@ -90,7 +100,8 @@ one_answers : (c : Command) (k : ℕ) (gs : List Gear) (i v : ℕ) → i < lengt
     → ((j : ℕ) → j < length gs → (j ≡ i → ⊥) → answer_to c (gear_of gs j) ≡ None) → answers_of Everyone c k gs ≡ v ∷ []
 one_answers c k [] i v h e none = absurd (omega arith)
 one_answers c k (g ∷ gs) zero v h e none =
-    answers_first c k g gs ∙ ap (λ o. option_cons o (answers_of Everyone c (k + 1) gs)) e ∙ ap (λ bytes. v ∷ bytes) (none_answer c (k + 1) gs (λ j in_row. none (suc j) (omega arith) (λ same. omega arith)))
+    answers_first c k g gs ∙ ap (λ o. option_cons o (answers_of Everyone c (k + 1) gs)) e
+    ∙ ap (λ bytes. v ∷ bytes) (none_answer c (k + 1) gs (λ j in_row. none (suc j) (omega arith) (λ same. omega arith)))
 one_answers c k (g ∷ gs) (suc i) v h e none =
     let here : answer_to c g ≡ None = none 0 (omega arith) (λ same. omega arith) in
     answers_first c k g gs ∙ ap (λ o. option_cons o (answers_of Everyone c (k + 1) gs)) here
@@ -111,14 +122,17 @@ queried_none g other = go g.powered (is_active g.state) (is_found g) refl refl r
   go true true false on active found = rw (on, active, found) refl
   go true true true on active found = absurd (other on active found)
 
-pub query_answers : (gs : List Gear) (r : SearchAddress) (k : ℕ) → Seek gs r → AreApart gs → k < length gs → (gear_of gs k).powered ≡ true → is_active (gear_of gs k).state ≡ true
+pub query_answers : (gs : List Gear) (r : SearchAddress) (k : ℕ) → Seek gs r → AreApart gs → k < length gs → (gear_of gs k).powered ≡ true
+    → is_active (gear_of gs k).state ≡ true
     → (gear_of gs k).random ≡ value_of r → answers_of Everyone QueryShort 0 gs ≡ program_data (gear_of gs k).short ∷ []
 query_answers gs r k seek apart h on active random =
-    one_answers QueryShort 0 gs k (program_data (gear_of gs k).short) h (queried_short (gear_of gs k) on active (random_found (gear_of gs k) r (seek k h on active) random))
+    one_answers QueryShort 0 gs k (program_data (gear_of gs k).short) h
+    (queried_short (gear_of gs k) on active (random_found (gear_of gs k) r (seek k h on active) random))
     (λ j in_row other. queried_none (gear_of gs j) (λ up awake found.
     other (apart j k in_row h up on awake active (found_random (gear_of gs j) r (seek j in_row up awake) found ∙ sym random))))
 
-pub query_heard : (gs : List Gear) (r : SearchAddress) (k : ℕ) → Seek gs r → AreApart gs → k < length gs → is_wanted (gear_of gs k) ≡ true → (gear_of gs k).random ≡ value_of r
+pub query_heard : (gs : List Gear) (r : SearchAddress) (k : ℕ) → Seek gs r → AreApart gs → k < length gs → is_wanted (gear_of gs k) ≡ true
+    → (gear_of gs k).random ≡ value_of r
     → heard_of (answers_of Everyone QueryShort 0 gs) ≡ Byte (program_data (gear_of gs k).short)
 query_heard gs r k seek apart h wanted random =
     ap heard_of (query_answers gs r k seek apart h (wanted_powered (gear_of gs k) wanted) (wanted_active (gear_of gs k) wanted) random)
@@ -129,7 +143,8 @@ drawn_apart w drawn below j k h i on up live awake same =
     let first : Has w.drawn (j, (gear_of w.gear j).random) = drew j h on live in
     let second : Has w.drawn (k, (gear_of w.gear k).random) = drew k i up awake in
     ap (λ draw. draw.0) (same_member (λ draw. draw.1) w.drawn (j, (gear_of w.gear j).random) (k, (gear_of w.gear k).random) drawn.once first second same) where
-      drew : (g : ℕ) → g < length w.gear → (gear_of w.gear g).powered ≡ true → is_active (gear_of w.gear g).state ≡ true → Has w.drawn (g, (gear_of w.gear g).random)
+      drew : (g : ℕ) → g < length w.gear → (gear_of w.gear g).powered ≡ true → is_active (gear_of w.gear g).state ≡ true
+          → Has w.drawn (g, (gear_of w.gear g).random)
       drew g there on active = go (drawn.random g there) where
         go : ((gear_of w.gear g).random ≡ MASK24) ⊎ Has w.drawn (g, (gear_of w.gear g).random) → Has w.drawn (g, (gear_of w.gear g).random)
         go (inl none) = absurd (let small : (gear_of w.gear g).random < MASK24 = below g there on active in omega (arith, none))

@@ -55,7 +55,12 @@ keep_all kept (Some x) k new = let n = new x refl in kept_more kept x k n.fits n
 
 keeping_stands : (p : Plan) → Stands (KeepsAs p)
 keeping_stands p = record {
-  keep = λ c kept o f h. record { block = block_kept kept o ∙ h.block; kept_so = keep_all kept o h.kept_so h.new; new = λ x e. absurd (cc); finding = h.finding };
+  keep = λ c kept o f h. record {
+    block = block_kept kept o ∙ h.block;
+    kept_so = keep_all kept o h.kept_so h.new;
+    new = λ x e. absurd (cc);
+    finding = h.finding;
+  };
   drop = λ c kept o f h. record { block = h.block; kept_so = h.kept_so; new = λ x e. absurd (cc); finding = h.finding };
   forget = λ c kept o f h. record { block = h.block; kept_so = h.kept_so; new = h.new; finding = λ x e. absurd (cc) };
 }
@@ -68,19 +73,29 @@ enrolled_short p x is small = subst (λ (y : Assignment). y.0 < 64) (sym is) sma
 
 -- what is reserved fits, and may be released
 reserved_new : (kept : Kept) (a r : ℕ) → IsKept kept → Has kept.reserved (a, r) → IsNewRecord kept (Release a r)
-reserved_new kept a r m there = record { may = there; fits = reserved_fits kept a r m there; short = m.reserved.short a (has_map (λ p. p.0) kept.reserved (a, r) there) }
+reserved_new kept a r m there =
+    record { may = there; fits = reserved_fits kept a r m there; short = m.reserved.short a (has_map (λ p. p.0) kept.reserved (a, r) there) }
 
 order_keeps : (p : Plan) → IsPlan p → (w : World) (c : ℕ) → c < length p.blocks → (k : Controller) (o : Order) → MayOrder w c k o → AddsOrder (KeepsAs p) c k o
 order_keeps p plan w c there k (Commit (Reserve a r)) may = λ h. record {
   block = h.block;
   kept_so = h.kept_so;
-  new = one_new k.records (Reserve a r) (record { may = may.1.2; fits = (may.1.0, may.1.1); short = plan.short c a there (subst (λ b. InBlock b a) h.block may.1.0) });
+  new = one_new k.records (Reserve a r) (record {
+    may = may.1.2;
+    fits = (may.1.0, may.1.1);
+    short = plan.short c a there (subst (λ b. InBlock b a) h.block may.1.0);
+  });
   finding = h.finding;
 }
 order_keeps p plan w c there k (Commit (Enrol a r)) may = λ h. record {
   block = h.block;
   kept_so = h.kept_so;
-  new = one_new k.records (Enrol a r) (record { may = may.1.2; fits = may.1.1; short = enrolled_short (a, r) may.1.0.0 (enrols_assigned k.records.reserved may.1.0.0 (a, r) may.1.0.2) (h.finding may.1.0.0 may.1.0.1) });
+  new = one_new k.records (Enrol a r) (record {
+    may = may.1.2;
+    fits = may.1.1;
+    short = enrolled_short (a, r) may.1.0.0
+        (enrols_assigned k.records.reserved may.1.0.0 (a, r) may.1.0.2) (h.finding may.1.0.0 may.1.0.1);
+  });
   finding = h.finding;
 }
 order_keeps p plan w c there k (Commit (Release a r)) may = λ h. record {
@@ -93,7 +108,8 @@ order_keeps p plan w c there k (Put q f) may = tt
 order_keeps p plan w c there k (Done end) may = tt
 order_keeps p plan w c there k (Halt fault) may = tt
 
-later_short : (f g : Option Finding) → ((x : Finding) → f ≡ Some x → (assigned x).0 < 64) → ((x : Finding) → g ≡ Some x → (assigned x).0 < 64) → (x : Finding) → later f g ≡ Some x → (assigned x).0 < 64
+later_short : (f g : Option Finding) → ((x : Finding) → f ≡ Some x → (assigned x).0 < 64) → ((x : Finding) → g ≡ Some x → (assigned x).0 < 64) → (x : Finding)
+    → later f g ≡ Some x → (assigned x).0 < 64
 later_short f None old new x e = old x e
 later_short f (Some y) old new x e = new x e
 
@@ -102,13 +118,15 @@ finding_small r q f h (Queried a n) is = short_small is.byte a is.short
 finding_small r q f h (Resolved a n) is = subst IsSpelled is.query (read_spelled f)
 
 keeps_add : (p : Plan) → IsPlan p → (w : World) (e : Event) → Allowed w e → length w.controllers ≡ length p.blocks → Adds (KeepsAs p) w e
-keeps_add p plan w (event.Acted c i o) here count = order_keeps p plan w c (subst (λ n. c < n) count here.up.known) (controller_informed (controller_at w c) i) o here.order
+keeps_add p plan w (event.Acted c i o) here count =
+    order_keeps p plan w c (subst (λ n. c < n) count here.up.known) (controller_informed (controller_at w c) i) o here.order
 keeps_add p plan w (event.Sent c f h) here count = λ there k. record {
   block = k.block;
   kept_so = k.kept_so;
   new = k.new;
   finding = later_short (controller_at w c).finding (found_by (search_of (trace_running w c)) (asked_of (trace_running w c)) (command_of f) h) k.finding
-      (λ x e. finding_small (search_of (trace_running w c)) (asked_of (trace_running w c)) f h x (finding_is (search_of (trace_running w c)) (asked_of (trace_running w c)) (command_of f) h x e));
+      (λ x e. finding_small (search_of (trace_running w c)) (asked_of (trace_running w c)) f h x
+      (finding_is (search_of (trace_running w c)) (asked_of (trace_running w c)) (command_of f) h x e));
 }
 keeps_add p plan w _ here count = tt
 
@@ -127,7 +145,8 @@ keeps_start p capacity = record {
   count = length-map p.blocks controller_begun;
   each = λ i h.
       let there : i < length p.blocks = subst (λ n. i < n) (length-map p.blocks controller_begun) h in
-      rw (get_or-map controller_begun p.blocks i no_block nobody there) (record { block = refl; kept_so = kept_none (block_at p i); new = λ x e. absurd (cc); finding = λ x e. absurd (cc) });
+      rw (get_or-map controller_begun p.blocks i no_block nobody there)
+      (record { block = refl; kept_so = kept_none (block_at p i); new = λ x e. absurd (cc); finding = λ x e. absurd (cc) });
 }
 
 keeps_all : (p : Plan) → IsPlan p → (w : World) (es : List Event) → AllAllowed w es → AllKeep p w.controllers → AllKeep p (after_all w es).controllers

@@ -9,11 +9,13 @@ use Rattle.dali_frame.specs.Random.{value_of}
 use Rattle.dali_special.specs.declared.command.Part.TheVariants.{High, Middle, Low}
 use Rattle.dali_special.specs.declared.command.Target.TheVariants.{Unaddressed}
 use Rattle.dali_special.specs.declared.command.Command.{Command}
-use Rattle.dali_special.specs.declared.command.Command.TheVariants.{Terminate, Initialise, Randomise, Withdraw, SearchHigh, SearchMiddle, SearchLow, Program, QueryShort, RandomByte}
+use Rattle.dali_special.specs.declared.command.Command.TheVariants.{Terminate, Initialise, Randomise, Withdraw, SearchHigh, SearchMiddle, SearchLow, Program}
+use Rattle.dali_special.specs.declared.command.Command.TheVariants.{QueryShort, RandomByte}
 use Rattle.dali_special.specs.Command.{MASK, program_data, IsSpelled}
 use Rattle.dali_special.proofs.Table.{short_of_code}
 use Rattle.dali_gear.specs.declared.state.InitialisationState.TheVariants.{Enabled}
-use Rattle.dali_gear.specs.Gear.{Gear, is_active, is_found, is_second, concerns, draws_a_number, random_after, state_after, short_after, gear_taken, answer, gear_quieted}
+use Rattle.dali_gear.specs.Gear.{Gear, is_active, is_found, is_second, concerns, draws_a_number, random_after, state_after, short_after, gear_taken, answer}
+use Rattle.dali_gear.specs.Gear.{gear_quieted}
 use Rattle.dali_gear.specs.Row.{stored_short}
 use Rattle.dali_script.specs.declared.block.Block.{Block}
 use Rattle.dali_script.specs.declared.stage.Stage.{Stage}
@@ -57,7 +59,8 @@ IsShort g = (a : ℕ) → g.short ≡ Some a → a < 64
 -- a gear that is heard to have none has none
 none_of_code : (o : Option ℕ) (v : ℕ) → ((a : ℕ) → o ≡ Some a → a < 64) → short_of v ≡ None → program_data o ≡ v → o ≡ None
 none_of_code None v small short e = refl
-none_of_code (Some a) v small short e = absurd (let read : short_of (code_of a) ≡ Some a = short_of_code a (small a refl) in let at : short_of (code_of a) ≡ None = ap short_of e ∙ short in cc)
+none_of_code (Some a) v small short e =
+    absurd (let read : short_of (code_of a) ≡ Some a = short_of_code a (small a refl) in let at : short_of (code_of a) ≡ None = ap short_of e ∙ short in cc)
 
 -- a gear that is heard to have one has it
 pub some_of_code : (o : Option ℕ) (v b : ℕ) → ((a : ℕ) → o ≡ Some a → a < 64) → short_of v ≡ Some b → program_data o ≡ v → o ≡ Some b
@@ -77,17 +80,23 @@ found_random g r search found = test (g.random) (value_of g.search) found ∙ ap
   test : (m n : ℕ) → (m == n) ≡ true → m ≡ n
   test m n e = grind (arith, nat_tests)
 
-knows_queried : (r : SearchAddress) (h : Answer) (g : Gear) (x : ℕ) → IsShort g → Agrees QueryShort g h → Seeks r g → Knows (queried r h) (gear_taken QueryShort x g)
+knows_queried : (r : SearchAddress) (h : Answer) (g : Gear) (x : ℕ) → IsShort g → Agrees QueryShort g h → Seeks r g
+    → Knows (queried r h) (gear_taken QueryShort x g)
 knows_queried r Silence g x small agrees k = tt
 knows_queried r Damaged g x small agrees k = tt
 knows_queried r (Byte v) g x small agrees k = go (short_of v) (v == MASK) refl where
   go : (o : Option ℕ) (m : Bool) → short_of v ≡ o → Knows (named r o m) (gear_taken QueryShort x g)
   go (Some b) m short = λ active.
       (k active, λ random. some_of_code g.short v b small short (agrees v (program_data g.short) refl (query_answer g active (found_at g r (k active) random))))
-  go None true short = λ active. (k active, λ random. none_of_code g.short v small short (agrees v (program_data g.short) refl (query_answer g active (found_at g r (k active) random))))
+  go None true short = λ active. (
+    k active,
+    λ random. none_of_code g.short v small short
+        (agrees v (program_data g.short) refl (query_answer g active (found_at g r (k active) random))),
+  )
   go None false short = tt
 
-knows_verified : (r : SearchAddress) (a : ℕ) (h : Answer) (g : Gear) (x : ℕ) → IsShort g → Agrees QueryShort g h → Seeks r g → Knows (verified r a h) (gear_taken QueryShort x g)
+knows_verified : (r : SearchAddress) (a : ℕ) (h : Answer) (g : Gear) (x : ℕ) → IsShort g → Agrees QueryShort g h → Seeks r g
+    → Knows (verified r a h) (gear_taken QueryShort x g)
 knows_verified r a Silence g x small agrees k = tt
 knows_verified r a Damaged g x small agrees k = tt
 knows_verified r a (Byte v) g x small agrees k = go (short_of v) refl where
@@ -96,8 +105,11 @@ knows_verified r a (Byte v) g x small agrees k = go (short_of v) refl where
   go (Some b) short = same (b == a) refl where
     same : (m : Bool) → (b == a) ≡ m → Knows (if m then stage.Confirmed r a else stage.Inconclusive r (Some b)) (gear_taken QueryShort x g)
     same true is = λ active.
-        let number : b ≡ a = grind (arith, nat_tests) in
-        (k active, λ random. some_of_code g.short v b small short (agrees v (program_data g.short) refl (query_answer g active (found_at g r (k active) random))) ∙ ap (λ n. Some n) number)
+        let number : b ≡ a = grind (arith, nat_tests) in (
+          k active,
+          λ random. some_of_code g.short v b small short
+              (agrees v (program_data g.short) refl (query_answer g active (found_at g r (k active) random))) ∙ ap (λ n. Some n) number,
+        )
     same false is = tt
 
 both_true : (a b : Bool) → (a && b) ≡ true → (a ≡ true) × (b ≡ true)
@@ -111,7 +123,8 @@ concerned_none (Some a) e = absurd (cc)
 -- who becomes active at INITIALISE for gear without short address has none
 initialised_none : (g : Gear) → Unnumbered g → is_active (state_after (Initialise Unaddressed) g) ≡ true → g.short ≡ None
 initialised_none g k active = go (is_second (Initialise Unaddressed) g.half && concerns Unaddressed g.short) refl active where
-  go : (b : Bool) → (is_second (Initialise Unaddressed) g.half && concerns Unaddressed g.short) ≡ b → is_active (if b then Enabled else g.state) ≡ true → g.short ≡ None
+  go : (b : Bool) → (is_second (Initialise Unaddressed) g.half && concerns Unaddressed g.short) ≡ b → is_active (if b then Enabled else g.state) ≡ true
+      → g.short ≡ None
   go true e a = concerned_none g.short (both_true (is_second (Initialise Unaddressed) g.half) (concerns Unaddressed g.short) e).1
   go false e a = k a
 
@@ -137,7 +150,8 @@ knows_step b xs stage.InitialisedOnce (Initialise Unaddressed) h g x on small ag
 knows_step b xs stage.Initialised Randomise h g x on small agrees k = k
 knows_step b xs (stage.HighSent high) (SearchMiddle middle) h g x on small agrees k = λ active. rw active (k active, refl)
 knows_step b xs (stage.MiddleSent high middle) (SearchLow low) h g x on small agrees k = λ active.
-    rw active (ap (λ n. record { high = n; middle = g.search.middle; low = low }) (k active).0 ∙ ap (λ n. record { high = high; middle = n; low = low }) (k active).1)
+    rw active (ap (λ n. record { high = n; middle = g.search.middle; low = low }) (k active).0
+    ∙ ap (λ n. record { high = high; middle = n; low = low }) (k active).1)
 knows_step b xs (stage.NumberSent r) QueryShort h g x on small agrees k = knows_queried r h g x small agrees k
 knows_step b xs (stage.Unnamed r) (Program (Some a)) h g x on small agrees k = λ active. (k active).0
 knows_step b xs (stage.Programmed r a) QueryShort h g x on small agrees k = knows_verified r a h g x small agrees k
@@ -218,7 +232,8 @@ pub record IsNew (b : Block) (xs : List Assignment) (g : Gear) (a : ℕ) : Type 
   pub none : g.short ≡ None
   pub may : MayGive b xs number a
 
-pub new_from : (b : Block) (xs : List Assignment) (s : Stage) (c : Command) (g : Gear) (a : ℕ) → Follows b xs s c → Knows s g → stored_short c g ≡ Some a → IsNew b xs g a
+pub new_from : (b : Block) (xs : List Assignment) (s : Stage) (c : Command) (g : Gear) (a : ℕ) → Follows b xs s c → Knows s g → stored_short c g ≡ Some a
+    → IsNew b xs g a
 new_from b xs (stage.Unnamed r) (Program (Some d)) g a on k e = go (is_active g.state) (is_found g) refl refl e where
   go : (t f : Bool) → is_active g.state ≡ t → is_found g ≡ f → (if t && f then Some d else None) ≡ Some a → IsNew b xs g a
   go true true active found e =
@@ -231,7 +246,8 @@ new_from b xs _ (Program short) g a on k e = absurd (let none = on.leads_on in c
 new_from b xs _ _ g a on k e = absurd (cc)
 
 -- a short address stays
-pub short_stays : (b : Block) (xs : List Assignment) (s : Stage) (c : Command) (g : Gear) (a : ℕ) → Follows b xs s c → Knows s g → g.short ≡ Some a → short_after c g ≡ Some a
+pub short_stays : (b : Block) (xs : List Assignment) (s : Stage) (c : Command) (g : Gear) (a : ℕ) → Follows b xs s c → Knows s g → g.short ≡ Some a
+    → short_after c g ≡ Some a
 short_stays b xs (stage.Unnamed r) (Program (Some d)) g a on k e = go (is_active g.state) (is_found g) refl refl where
   go : (t f : Bool) → is_active g.state ≡ t → is_found g ≡ f → (if t && f then Some d else g.short) ≡ Some a
   go true true active found = absurd (let none : g.short ≡ None = (k active).1 (found_random g r (k active).0 found) in cc)
@@ -248,7 +264,8 @@ drawing_none g a k e = go (is_second Randomise g.half) (is_active g.state) refl 
   go false f active = refl
 
 -- and so does the random address of a gear with a short address
-pub random_stays : (b : Block) (xs : List Assignment) (s : Stage) (c : Command) (g : Gear) (x a : ℕ) → Follows b xs s c → Knows s g → g.short ≡ Some a → random_after c x g ≡ g.random
+pub random_stays : (b : Block) (xs : List Assignment) (s : Stage) (c : Command) (g : Gear) (x a : ℕ) → Follows b xs s c → Knows s g → g.short ≡ Some a
+    → random_after c x g ≡ g.random
 random_stays b xs stage.Initialised Randomise g x a on k e = rw (drawing_none g a k e) refl
 random_stays b xs stage.RandomisedOnce Randomise g x a on k e = rw (drawing_none g a k e) refl
 random_stays b xs _ Randomise g x a on k e = absurd (let none = on.leads_on in cc)
@@ -260,7 +277,8 @@ random_stored (Program short) g x a e = refl
 random_stored _ g x a e = absurd (cc)
 
 -- at QUERY SHORT ADDRESS the gear have the search address that was sent
-pub search_known : (b : Block) (xs : List Assignment) (s : Stage) (c : Command) (g : Gear) (r : SearchAddress) → Follows b xs s c → c ≡ QueryShort → IsSearched s r → Knows s g → IsActive g → g.search ≡ r
+pub search_known : (b : Block) (xs : List Assignment) (s : Stage) (c : Command) (g : Gear) (r : SearchAddress) → Follows b xs s c → c ≡ QueryShort
+    → IsSearched s r → Knows s g → IsActive g → g.search ≡ r
 search_known b xs (stage.NumberSent n) QueryShort g r on is searched k active = k active ∙ sym searched
 search_known b xs (stage.Programmed n a) QueryShort g r on is searched k active = k active ∙ sym searched
 search_known b xs _ _ g r on is searched k active = absurd (let none = on.leads_on in cc)

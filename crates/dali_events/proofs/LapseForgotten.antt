@@ -55,7 +55,8 @@ happens_on s e = record { world = happens s.world e; old_owner = s.old_owner; ol
 record IsSentOn (s : SiteState) (c : ℕ) (f : Forward) (h : Answer) : Type 0 where
   pub up : IsUp s.world c
   pub may : ((s.world.bus.owner ≡ Some c) × Lawful (controller_at s.world c).records.block (controller_at s.world c).records.reserved s.world.trace f)
-      ⊎ (((s.world.bus.owner ≡ None) × (s.old_owner ≡ Some c) × Lawful (controller_at s.world c).records.block (controller_at s.world c).records.reserved s.old_trace f)
+      ⊎ (((s.world.bus.owner ≡ None) × (s.old_owner ≡ Some c) × Lawful (controller_at s.world c).records.block
+      (controller_at s.world c).records.reserved s.old_trace f)
       ⊎ ((s.world.bus.owner ≡ None) × (owns s.old_owner c ≡ false) × IsFirst f))
   pub draws : HasDraws s.world Everyone f
   pub heard : Hears (answers_of Everyone (command_of f) 0 s.world.gear) h
@@ -132,35 +133,93 @@ allowed = (
       (
         tt,
         (
-          record { up = record { known = lit< tt; up = refl }; may = inr (inr (refl, refl, (second_block, [], (Open, tt, refl)))); draws = lit≤ tt; heard = tt },
+          record {
+            up = record { known = lit< tt; up = refl };
+            may = inr (inr (refl, refl, (second_block, [], (Open, tt, refl))));
+            draws = lit≤ tt;
+            heard = tt;
+          },
           (
             record { up = record { known = lit< tt; up = refl }; may = inl (refl, (Open, tt, (refl, tt, refl))); draws = lit≤ tt; heard = tt },
             (
               record { up = record { known = lit< tt; up = refl }; may = inl (refl, (Open, tt, (refl, tt, (refl, tt, refl)))); draws = lit≤ tt; heard = tt },
               (
-                record { up = record { known = lit< tt; up = refl }; may = inl (refl, (Open, tt, (refl, tt, (refl, tt, (refl, tt, refl))))); draws = lit≤ tt; heard = tt },
+                record {
+                  up = record { known = lit< tt; up = refl };
+                  may = inl (refl, (Open, tt, (refl, tt, (refl, tt, (refl, tt, refl)))));
+                  draws = lit≤ tt;
+                  heard = tt;
+                },
                 (
-                  record { up = record { known = lit< tt; up = refl }; may = inl (refl, (Open, tt, (refl, tt, (refl, tt, (refl, tt, (refl, tt, refl)))))); draws = lit≤ tt; heard = tt },
+                  record {
+                    up = record { known = lit< tt; up = refl };
+                    may = inl (refl, (Open, tt, (refl, tt, (refl, tt, (refl, tt, (refl, tt, refl))))));
+                    draws = lit≤ tt;
+                    heard = tt;
+                  },
                   (
                     record { up = record { known = lit< tt; up = refl }; due = refl; order = (refl, ((lit≤ tt, lit≤ tt), lit< tt, (λ h. h, λ h. h))) },
                     (
                       record { up = record { known = lit< tt; up = refl }; due = tt; order = inl (refl, (second_block, [], (Probe number, tt, refl))) },
                       (
-                        record { up = record { known = lit< tt; up = refl }; may = inr (inr (refl, refl, (second_block, [], (Probe number, tt, refl)))); draws = lit≤ tt; heard = tt },
+                        record {
+                          up = record { known = lit< tt; up = refl };
+                          may = inr (inr (refl, refl, (second_block, [], (Probe number, tt, refl))));
+                          draws = lit≤ tt;
+                          heard = tt;
+                        },
                         (
-                          record { up = record { known = lit< tt; up = refl }; may = inl (refl, (Probe number, tt, (refl, tt, refl))); draws = lit≤ tt; heard = tt },
+                          record {
+                            up = record { known = lit< tt; up = refl };
+                            may = inl (refl, (Probe number, tt, (refl, tt, refl)));
+                            draws = lit≤ tt;
+                            heard = tt;
+                          },
                           (
-                            record { up = record { known = lit< tt; up = refl }; may = inl (refl, (Probe number, tt, (refl, tt, (refl, tt, refl)))); draws = lit≤ tt; heard = tt },
+                            record {
+                              up = record { known = lit< tt; up = refl };
+                              may = inl (refl, (Probe number, tt, (refl, tt, (refl, tt, refl))));
+                              draws = lit≤ tt;
+                              heard = tt;
+                            },
                             (
-                              record { up = record { known = lit< tt; up = refl }; may = inl (refl, (Look number, tt, (refl, tt, (refl, tt, (refl, tt, refl))))); draws = lit≤ tt; heard = (λ e. cc, (refl, tt)) },
+                              record {
+                                up = record { known = lit< tt; up = refl };
+                                may = inl (refl, (Look number, tt, (refl, tt, (refl, tt, (refl, tt, refl)))));
+                                draws = lit≤ tt;
+                                heard =
+                                    (λ e. cc, (refl, tt));
+                              },
                               (
-                                record { up = record { known = lit< tt; up = refl }; may = inl (refl, (Give number 4, may_give, (refl, tt, (refl, tt, (refl, tt, (refl, refl, refl)))))); draws = lit≤ tt; heard = tt },
+                                record {
+                                  up = record { known = lit< tt; up = refl };
+                                  may = inl (refl, (Give number 4, may_give, (refl, tt, (refl, tt, (refl, tt, (refl, refl, refl))))));
+                                  draws =
+                                      lit≤ tt;
+                                  heard = tt;
+                                },
                                 (
-                                  record { up = record { known = lit< tt; up = refl }; may = inl (refl, (Give number 4, may_give, (refl, tt, (refl, tt, (refl, tt, (refl, refl, (refl, tt, refl))))))); draws = lit≤ tt; heard = tt },
+                                  record {
+                                    up = record { known = lit< tt; up = refl };
+                                    may = inl (refl, (Give number 4, may_give, (refl, tt, (refl, tt, (refl, tt, (refl, refl, (refl, tt, refl)))))));
+                                    draws =
+                                        lit≤ tt;
+                                    heard = tt;
+                                  },
                                   (
-                                    record { up = record { known = lit< tt; up = refl }; may = inr (inl (refl, refl, (Open, tt, (refl, tt, (refl, tt, (refl, tt, refl)))))); draws = lit≤ tt; heard = tt },
+                                    record {
+                                      up = record { known = lit< tt; up = refl };
+                                      may = inr (inl (refl, refl, (Open, tt, (refl, tt, (refl, tt, (refl, tt, refl))))));
+                                      draws = lit≤ tt;
+                                      heard = tt;
+                                    },
                                     (
-                                      record { up = record { known = lit< tt; up = refl }; may = inl (refl, (Open, tt, (refl, tt, (refl, tt, (refl, tt, (refl, tt, refl)))))); draws = lit≤ tt; heard = tt },
+                                      record {
+                                        up = record { known = lit< tt; up = refl };
+                                        may = inl (refl, (Open, tt, (refl, tt, (refl, tt, (refl, tt, (refl, tt, refl))))));
+                                        draws = lit≤ tt;
+                                        heard = tt;
+                                      },
                                       tt,
                                     ),
                                   ),

@@ -46,7 +46,8 @@ core_opened gs hs same opened = record {
   bare = powered_over Enabling Enabling gs hs same.same_length (λ k h. (same.each k h).same_powered)
       (λ k h on was none. (same.each k h).same_state ∙ was (sym (same.each k h).same_short ∙ none)) opened.bare;
   drawn = powered_over Drawing Drawing gs hs same.same_length (λ k h. (same.each k h).same_powered)
-      (λ k h on was active. subst (λ n. n < MASK24) (sym (same.each k h).same_random) (was (subst (λ s. is_active s ≡ true) (same.each k h).same_state active))) opened.drawn;
+      (λ k h on was active. subst (λ n. n < MASK24) (sym (same.each k h).same_random) (was (subst (λ s. is_active s ≡ true) (same.each k h).same_state active)))
+      opened.drawn;
 }
 
 pub core_none_named : (gs hs : List Gear) → SameCore gs hs → NoneNamed gs → NoneNamed hs
@@ -57,12 +58,14 @@ core_none_named gs hs same named =
 pub core_none_named_but : (gs hs : List Gear) (n : ℕ) → SameCore gs hs → NoneNamedBut gs n → NoneNamedBut hs n
 core_none_named_but gs hs n same named =
     powered_over (UnnamedBut n) (UnnamedBut n) gs hs same.same_length (λ k h. (same.each k h).same_powered)
-    (λ k h on was enabled other. (same.each k h).same_short ∙ was (sym (same.each k h).same_state ∙ enabled) (λ e. other ((same.each k h).same_random ∙ e))) named
+    (λ k h on was enabled other. (same.each k h).same_short ∙ was (sym (same.each k h).same_state ∙ enabled) (λ e. other ((same.each k h).same_random ∙ e)))
+    named
 
 pub core_named : (gs hs : List Gear) (n : ℕ) → SameCore gs hs → AreNamed gs n → AreNamed hs n
 core_named gs hs n same named =
     powered_over (Named n) (Named n) gs hs same.same_length (λ k h. (same.each k h).same_powered)
-    (λ k h on was enabled random. let short = was (sym (same.each k h).same_state ∙ enabled) (sym (same.each k h).same_random ∙ random) in (short.0, (same.each k h).same_short ∙ short.1)) named
+    (λ k h on was enabled random. let short = was (sym (same.each k h).same_state ∙ enabled) (sym (same.each k h).same_random ∙ random) in
+    (short.0, (same.each k h).same_short ∙ short.1)) named
 
 pub core_apart : (gs hs : List Gear) → SameCore gs hs → AreApart gs → AreApart hs
 core_apart gs hs same apart =
@@ -108,12 +111,14 @@ short_left (Program short) g x leaves = absurd leaves
 short_left _ g x leaves = (refl, refl)
 
 pub short_after_all : (c : Command) (gs : List Gear) (left : List ℕ) → LeavesShort c → (k : ℕ) → k < length gs
-    → ((gear_of (row_after Everyone c 0 gs left) k).powered ≡ (gear_of gs k).powered) × ((gear_of (row_after Everyone c 0 gs left) k).short ≡ (gear_of gs k).short)
+    → ((gear_of (row_after Everyone c 0 gs left) k).powered ≡ (gear_of gs k).powered)
+    × ((gear_of (row_after Everyone c 0 gs left) k).short ≡ (gear_of gs k).short)
 short_after_all c gs left leaves = after_at c SameShort (λ g off. (refl, refl)) (λ g x on. short_left c g x leaves) gs left
 
 pub count_bare_after : (c : Command) (gs : List Gear) (left : List ℕ) → LeavesShort c → count_by is_bare (row_after Everyone c 0 gs left) ≡ count_by is_bare gs
 count_bare_after c gs left leaves =
-    count_same is_bare is_bare gs (row_after Everyone c 0 gs left) (row_length Everyone c 0 gs left) (λ k h. bare_by (gear_of gs k) (gear_of (row_after Everyone c 0 gs left) k) (short_after_all c gs left leaves k h)) where
+    count_same is_bare is_bare gs (row_after Everyone c 0 gs left) (row_length Everyone c 0 gs left)
+    (λ k h. bare_by (gear_of gs k) (gear_of (row_after Everyone c 0 gs left) k) (short_after_all c gs left leaves k h)) where
       bare_by : (g h : Gear) → SameShort g h → is_bare h ≡ is_bare g
       bare_by g h same = rw (same.0, same.1) refl
 
@@ -165,17 +170,22 @@ seek_high gs left high k in_row =
     after_at (SearchHigh high) (λ g h. h.powered ≡ true → is_active h.state ≡ true → h.search.high ≡ high)
     (λ g off on. absurd (off on)) (λ g x up on active. rw active refl) gs left k (subst (λ n. k < n) (row_length Everyone (SearchHigh high) 0 gs left) in_row)
 
-pub seek_middle : (gs : List Gear) (left : List ℕ) (high middle : ℕ) → SeekHigh gs high → SeekMiddle (row_after Everyone (SearchMiddle middle) 0 gs left) high middle
+pub seek_middle : (gs : List Gear) (left : List ℕ) (high middle : ℕ) → SeekHigh gs high
+    → SeekMiddle (row_after Everyone (SearchMiddle middle) 0 gs left) high middle
 seek_middle gs left high middle seek k in_row on active =
     let there : k < length gs = subst (λ n. k < n) (row_length Everyone (SearchMiddle middle) 0 gs left) in_row in
-    after_at (SearchMiddle middle) (λ g h. (g.powered ≡ true → is_active g.state ≡ true → g.search.high ≡ high) → h.powered ≡ true → is_active h.state ≡ true → (h.search.high ≡ high) × (h.search.middle ≡ middle))
+    after_at (SearchMiddle middle) (λ g h. (g.powered ≡ true → is_active g.state ≡ true → g.search.high ≡ high) → h.powered ≡ true → is_active h.state ≡ true
+    → (h.search.high ≡ high) × (h.search.middle ≡ middle))
     (λ g off was on. absurd (off on)) (λ g x up was on active. rw active (was up active, refl)) gs left k there (seek k there) on active
 
-pub seek_low : (gs : List Gear) (left : List ℕ) (high middle low : ℕ) → SeekMiddle gs high middle → Seek (row_after Everyone (SearchLow low) 0 gs left) (record { high = high; middle = middle; low = low })
+pub seek_low : (gs : List Gear) (left : List ℕ) (high middle low : ℕ) → SeekMiddle gs high middle
+    → Seek (row_after Everyone (SearchLow low) 0 gs left) (record { high = high; middle = middle; low = low })
 seek_low gs left high middle low seek k in_row on active =
     let there : k < length gs = subst (λ n. k < n) (row_length Everyone (SearchLow low) 0 gs left) in_row in
-    after_at (SearchLow low) (λ g h. (g.powered ≡ true → is_active g.state ≡ true → (g.search.high ≡ high) × (g.search.middle ≡ middle)) → h.powered ≡ true → is_active h.state ≡ true
+    after_at (SearchLow low) (λ g h. (g.powered ≡ true → is_active g.state ≡ true → (g.search.high ≡ high) × (g.search.middle ≡ middle)) → h.powered ≡ true
+    → is_active h.state ≡ true
     → h.search ≡ record { high = high; middle = middle; low = low })
     (λ g off was on. absurd (off on))
-    (λ g x up was on active. rw active (ap (λ n. record { high = n; middle = g.search.middle; low = low }) (was up active).0 ∙ ap (λ n. record { high = high; middle = n; low = low }) (was up active).1))
+    (λ g x up was on active. rw active (ap (λ n. record { high = n; middle = g.search.middle; low = low }) (was up active).0
+    ∙ ap (λ n. record { high = high; middle = n; low = low }) (was up active).1))
     gs left k there (seek k there) on active

@@ -89,7 +89,13 @@ says_finding N (Some y) x e h = subst (λ z. N (assigned z)) (let same : y ≡ x
 
 says_order : (N : Assignment → Type 0) (w : World) (c : ℕ) (k : Controller) (o : Order) → MayOrder w c k o → AddsOrder (Says N) c k o
 says_order N w c k (Commit (Reserve a r)) may = λ h. record { enrolled = h.enrolled; outstanding = tt; finding = h.finding }
-says_order N w c k (Commit (Enrol a r)) may = λ h. record { enrolled = h.enrolled; outstanding = subst N (sym (enrols_assigned k.records.reserved may.1.0.0 (a, r) may.1.0.2)) (says_finding N k.finding may.1.0.0 may.1.0.1 h.finding); finding = h.finding }
+says_order N w c k (Commit (Enrol a r)) may =
+    λ h. record {
+      enrolled = h.enrolled;
+      outstanding = subst N (sym (enrols_assigned k.records.reserved may.1.0.0 (a, r) may.1.0.2))
+          (says_finding N k.finding may.1.0.0 may.1.0.1 h.finding);
+      finding = h.finding;
+    }
 says_order N w c k (Commit (Release a r)) may = λ h. record {
   enrolled = h.enrolled;
   outstanding = (may.1.1.2, may.1.1.4, subst N may.1.1.3 (says_finding N k.finding may.1.1.0 may.1.1.1 h.finding));
@@ -105,7 +111,8 @@ later_says N f (Some x) h new = new x refl
 
 -- what a frame finds
 abbrev pub FoundBy : (Assignment → Type 0) → World → Event → Type 0
-FoundBy N w (event.Sent c f h) = (x : Finding) → found_by (search_of (trace_running w c)) (asked_of (trace_running w c)) (command_of f) h ≡ Some x → N (assigned x)
+FoundBy N w (event.Sent c f h) =
+    (x : Finding) → found_by (search_of (trace_running w c)) (asked_of (trace_running w c)) (command_of f) h ≡ Some x → N (assigned x)
 FoundBy N w _ = Unit {0}
 
 pub says_add : (N : Assignment → Type 0) (w : World) (e : Event) → Allowed w e → FoundBy N w e → Adds (Says N) w e
@@ -117,22 +124,25 @@ says_add N w (event.Sent c f h) here found = λ there k. record {
 }
 says_add N w _ here found = tt
 
-pub says_more : (N M : Assignment → Type 0) → ((x : Assignment) → N x → M x) → (kept : Kept) (o : Option Record) (f : Option Finding) → SaysOnly N kept o f → SaysOnly M kept o f
-says_more N M more kept o f h = record { enrolled = λ x k. more x (h.enrolled x k); outstanding = of_record o h.outstanding; finding = of_finding f h.finding } where
-  of_record : (o : Option Record) → SaysRecord N o → SaysRecord M o
-  of_record None h = tt
-  of_record (Some (Reserve a r)) h = tt
-  of_record (Some (Enrol a r)) h = more (a, r) h
-  of_record (Some (Release a r)) h = (h.0, h.1, more (h.0, r) h.2)
+pub says_more : (N M : Assignment → Type 0) → ((x : Assignment) → N x → M x) → (kept : Kept) (o : Option Record) (f : Option Finding) → SaysOnly N kept o f
+    → SaysOnly M kept o f
+says_more N M more kept o f h =
+    record { enrolled = λ x k. more x (h.enrolled x k); outstanding = of_record o h.outstanding; finding = of_finding f h.finding } where
+      of_record : (o : Option Record) → SaysRecord N o → SaysRecord M o
+      of_record None h = tt
+      of_record (Some (Reserve a r)) h = tt
+      of_record (Some (Enrol a r)) h = more (a, r) h
+      of_record (Some (Release a r)) h = (h.0, h.1, more (h.0, r) h.2)
 
-  of_finding : (f : Option Finding) → SaysFinding N f → SaysFinding M f
-  of_finding None h = tt
-  of_finding (Some x) h = more (assigned x) h
+      of_finding : (f : Option Finding) → SaysFinding N f → SaysFinding M f
+      of_finding None h = tt
+      of_finding (Some x) h = more (assigned x) h
 
 pub says_step : (N M : Assignment → Type 0) (w : World) (e : Event) → Allowed w e → ((x : Assignment) → N x → M x) → FoundBy M w e
     → Each nobody (Of (Says N)) w.controllers → Each nobody (Of (Says M)) (happens w e).controllers
 says_step N M w e here more found each =
-    controllers_step (Says M) (says_stand M) w e (says_add M w e here found) (λ i h. says_more N M more (controller_at w i).records (controller_at w i).outstanding (controller_at w i).finding (each i h))
+    controllers_step (Says M) (says_stand M) w e (says_add M w e here found)
+    (λ i h. says_more N M more (controller_at w i).records (controller_at w i).outstanding (controller_at w i).finding (each i h))
 
 pub says_start : (N : Assignment → Type 0) (p : Plan) (capacity : ℕ) → Each nobody (Of (Says N)) (start p capacity).controllers
 says_start N p capacity i h =
@@ -160,18 +170,21 @@ abbrev pub IsFinding : SearchAddress → Asked → Command → Answer → Findin
 IsFinding r q c h (Queried a n) = IsQueried r c h a n
 IsFinding r q c h (Resolved a n) = IsResolved q c h a n
 
-queried_is : (r : SearchAddress) (q : Asked) (v : ℕ) (x : Finding) → option_map (λ b. Queried b (value_of r)) (short_of v) ≡ Some x → IsFinding r q QueryShort (Byte v) x
+queried_is : (r : SearchAddress) (q : Asked) (v : ℕ) (x : Finding) → option_map (λ b. Queried b (value_of r)) (short_of v) ≡ Some x
+    → IsFinding r q QueryShort (Byte v) x
 queried_is r q v x e = go (short_of v) refl e where
   go : (o : Option ℕ) → short_of v ≡ o → option_map (λ b. Queried b (value_of r)) o ≡ Some x → IsFinding r q QueryShort (Byte v) x
   go None short e = absurd (cc)
   go (Some b) short e =
-      subst (IsFinding r q QueryShort (Byte v)) (let same : Queried b (value_of r) ≡ x = cc in same) (record { byte = v; query = refl; heard = refl; short = short; number = refl })
+      subst (IsFinding r q QueryShort (Byte v)) (let same : Queried b (value_of r) ≡ x = cc in same)
+      (record { byte = v; query = refl; heard = refl; short = short; number = refl })
 
 resolved_is : (r : SearchAddress) (q : Asked) (a v : ℕ) (x : Finding) → spelled_by a v q ≡ Some x → IsFinding r q (RandomByte a Low) (Byte v) x
 resolved_is r nothing a v x e = absurd (cc)
 resolved_is r (high_byte b high) a v x e = absurd (cc)
 resolved_is r (two_bytes b high middle) a v x e = go (b == a) refl e where
-  go : (t : Bool) → (b == a) ≡ t → (if t then Some (Resolved a (number_of high middle v)) else None) ≡ Some x → IsFinding r (two_bytes b high middle) (RandomByte a Low) (Byte v) x
+  go : (t : Bool) → (b == a) ≡ t → (if t then Some (Resolved a (number_of high middle v)) else None) ≡ Some x
+      → IsFinding r (two_bytes b high middle) (RandomByte a Low) (Byte v) x
   go true is e =
       subst (IsFinding r (two_bytes b high middle) (RandomByte a Low) (Byte v)) (let same : Resolved a (number_of high middle v) ≡ x = cc in same)
       (record { high = high; middle = middle; low = v; query = refl; heard = refl; asked = ap (λ n. two_bytes n high middle) (equal b a is); number = refl })
@@ -199,26 +212,32 @@ answer_of_query g v e = go (is_active g.state) (is_found g) refl refl e where
   go false f active found e = absurd (cc)
 
 -- who holds a short address, with a random address, is named by the pair
-names_holder : (R : Assignment → Type 0) (w : World) → Gifts R w.gear w.drawn w.gifts → (g a n : ℕ) → g < length w.gear → (gear_at w g).short ≡ Some a → (gear_at w g).random ≡ n → Names w (a, n)
+names_holder : (R : Assignment → Type 0) (w : World) → Gifts R w.gear w.drawn w.gifts → (g a n : ℕ) → g < length w.gear → (gear_at w g).short ≡ Some a
+    → (gear_at w g).random ≡ n → Names w (a, n)
 names_holder R w gifts g a n there short random =
     let gift : Has w.gifts (g, a) = (gifts.holds g a there).0 short in
     (g, there, record { drawer = subst (λ r. Has w.drawn (g, r)) random (gifts.drawn g a gift); given = gift; random = random })
 
-queried_names : (R : Assignment → Type 0) (w : World) (c : ℕ) (f : Forward) (h : Answer) → Allowed w (event.Sent c f h) → IsKnown w → Gifts R w.gear w.drawn w.gifts
+queried_names : (R : Assignment → Type 0) (w : World) (c : ℕ) (f : Forward) (h : Answer) → Allowed w (event.Sent c f h) → IsKnown w
+    → Gifts R w.gear w.drawn w.gifts
     → (a n : ℕ) → IsQueried (search_of (trace_running w c)) (command_of f) h a n → Names w (a, n)
 queried_names R w c f h here known gifts a n is =
     let who = answered Everyone (command_of f) w.gear is.byte (byte_answered (answers_of Everyone (command_of f) 0 w.gear) h is.byte here.heard is.heard) in
     let query : answer QueryShort (gear_at w who.0) ≡ Some is.byte = subst (λ d. answer d (gear_at w who.0) ≡ Some is.byte) is.query who.3 in
     let reply : IsAnswer (gear_at w who.0) is.byte = answer_of_query (gear_at w who.0) is.byte query in
-    let knows : Knows (stage_of (trace_running w c)) (gear_at w who.0) = knows_running w c known.knows who.0 who.1 (takes_powered Everyone who.0 (gear_at w who.0) who.2) in
+    let knows : Knows (stage_of (trace_running w c)) (gear_at w who.0) =
+    knows_running w c known.knows who.0 who.1 (takes_powered Everyone who.0 (gear_at w who.0) who.2) in
     let search : (gear_at w who.0).search ≡ search_of (trace_running w c) =
-    search_known (controller_at w c).records.block (controller_at w c).records.reserved (stage_of (trace_running w c)) (command_of f) (gear_at w who.0) (search_of (trace_running w c))
-    (follows_of w c f here.may) is.query (searched_lawful (controller_at w c).records.block (controller_at w c).records.reserved (trace_running w c) f (lawful_of w c f here.may)) knows reply.active in
+    search_known (controller_at w c).records.block (controller_at w c).records.reserved (stage_of (trace_running w c)) (command_of f) (gear_at w who.0)
+    (search_of (trace_running w c))
+    (follows_of w c f here.may) is.query (searched_lawful (controller_at w c).records.block (controller_at w c).records.reserved (trace_running w c) f
+    (lawful_of w c f here.may)) knows reply.active in
     let random : (gear_at w who.0).random ≡ n = found_random (gear_at w who.0) (search_of (trace_running w c)) search reply.found ∙ is.number in
     let short : (gear_at w who.0).short ≡ Some a = some_of_code (gear_at w who.0).short is.byte a (known.short who.0 who.1) is.short reply.reply in
     names_holder R w gifts who.0 a n who.1 short random
 
-pub resolved_names : (R : Assignment → Type 0) (w : World) (c : ℕ) (f : Forward) (h : Answer) → Allowed w (event.Sent c f h) → Gifts R w.gear w.drawn w.gifts → Tells (asked_of (trace_running w c)) w.gear
+pub resolved_names : (R : Assignment → Type 0) (w : World) (c : ℕ) (f : Forward) (h : Answer) → Allowed w (event.Sent c f h) → Gifts R w.gear w.drawn w.gifts
+    → Tells (asked_of (trace_running w c)) w.gear
     → (a n : ℕ) → IsResolved (asked_of (trace_running w c)) (command_of f) h a n → Names w (a, n)
 resolved_names R w c f h here gifts tells a n is =
     let two : TellsTwo w.gear a is.high is.middle = subst (λ q. Tells q w.gear) is.asked tells in
@@ -228,7 +247,8 @@ resolved_names R w c f h here gifts tells a n is =
     names_holder R w gifts two.gear a n two.there two.short
     (whole_number (gear_at w two.gear).random is.high is.middle is.low two.high two.middle low ∙ is.number)
 
-pub found_names : (R : Assignment → Type 0) (w : World) (c : ℕ) (f : Forward) (h : Answer) → Allowed w (event.Sent c f h) → IsKnown w → Gifts R w.gear w.drawn w.gifts → Tells (asked_of (trace_running w c)) w.gear
+pub found_names : (R : Assignment → Type 0) (w : World) (c : ℕ) (f : Forward) (h : Answer) → Allowed w (event.Sent c f h) → IsKnown w
+    → Gifts R w.gear w.drawn w.gifts → Tells (asked_of (trace_running w c)) w.gear
     → (x : Finding) → found_by (search_of (trace_running w c)) (asked_of (trace_running w c)) (command_of f) h ≡ Some x → Names w (assigned x)
 found_names R w c f h here known gifts tells x e =
     names_of x (finding_is (search_of (trace_running w c)) (asked_of (trace_running w c)) (command_of f) h x e) where

@@ -34,10 +34,12 @@ abbrev pub AreOpening : Stage → List Gear → Type 0
 AreOpening s gs = OfPowered gs (IsOpening s)
 
 -- from one stage to the next
-opening_step : (c : Command) (s t : Stage) → ((g : Gear) (x : ℕ) → IsOpening s g → IsOpening t (gear_taken c x g)) → (gs : List Gear) (left : List ℕ) → AreOpening s gs → AreOpening t (row_after Everyone c 0 gs left)
+opening_step : (c : Command) (s t : Stage) → ((g : Gear) (x : ℕ) → IsOpening s g → IsOpening t (gear_taken c x g)) → (gs : List Gear) (left : List ℕ)
+    → AreOpening s gs → AreOpening t (row_after Everyone c 0 gs left)
 opening_step c s t step gs left all k in_row on =
     let there : k < length gs = subst (λ n. k < n) (row_length Everyone c 0 gs left) in_row in
-    after_at c (λ g h. (g.powered ≡ true → IsOpening s g) → h.powered ≡ true → IsOpening t h) (λ g off was up. absurd (off up)) (λ g x up was still. step g x (was up)) gs left k there (all k there) on
+    after_at c (λ g h. (g.powered ≡ true → IsOpening s g) → h.powered ≡ true → IsOpening t h) (λ g off was up. absurd (off up))
+    (λ g x up was still. step g x (was up)) gs left k there (all k there) on
 
 pub opening_terminated : (gs : List Gear) (left : List ℕ) → AreOpening stage.Terminated (row_after Everyone Terminate 0 gs left)
 opening_terminated gs left = opening_step Terminate stage.Free stage.Terminated (λ g x was. (refl, refl)) gs left (λ k h on. tt)
@@ -45,7 +47,8 @@ opening_terminated gs left = opening_step Terminate stage.Free stage.Terminated 
 initialised_once : (g : Gear) (x : ℕ) → IsOpening stage.Terminated g → IsOpening stage.InitialisedOnce (gear_taken (Initialise Unaddressed) x g)
 initialised_once g x was = rw (was.0) (refl, was.1)
 
-pub opening_initialised_once : (gs : List Gear) (left : List ℕ) → AreOpening stage.Terminated gs → AreOpening stage.InitialisedOnce (row_after Everyone (Initialise Unaddressed) 0 gs left)
+pub opening_initialised_once : (gs : List Gear) (left : List ℕ) → AreOpening stage.Terminated gs
+    → AreOpening stage.InitialisedOnce (row_after Everyone (Initialise Unaddressed) 0 gs left)
 opening_initialised_once = opening_step (Initialise Unaddressed) stage.Terminated stage.InitialisedOnce initialised_once
 
 initialised_twice : (g : Gear) (x : ℕ) → IsOpening stage.InitialisedOnce g → IsOpening stage.Initialised (gear_taken (Initialise Unaddressed) x g)
@@ -59,7 +62,8 @@ initialised_twice g x was = (half, (λ none. enabled none, λ a short. disabled 
   disabled : (a : ℕ) → g.short ≡ Some a → state_after (Initialise Unaddressed) g ≡ Disabled
   disabled a short = rw (was.0, short) was.1
 
-pub opening_initialised : (gs : List Gear) (left : List ℕ) → AreOpening stage.InitialisedOnce gs → AreOpening stage.Initialised (row_after Everyone (Initialise Unaddressed) 0 gs left)
+pub opening_initialised : (gs : List Gear) (left : List ℕ) → AreOpening stage.InitialisedOnce gs
+    → AreOpening stage.Initialised (row_after Everyone (Initialise Unaddressed) 0 gs left)
 opening_initialised = opening_step (Initialise Unaddressed) stage.InitialisedOnce stage.Initialised initialised_twice
 
 randomised_once : (g : Gear) (x : ℕ) → IsOpening stage.Initialised g → IsOpening stage.RandomisedOnce (gear_taken Randomise x g)
@@ -67,7 +71,8 @@ randomised_once g x was = (half, was.1) where
   half : half_after Randomise g ≡ Some Randomise
   half = rw (was.0) refl
 
-pub opening_randomised_once : (gs : List Gear) (left : List ℕ) → AreOpening stage.Initialised gs → AreOpening stage.RandomisedOnce (row_after Everyone Randomise 0 gs left)
+pub opening_randomised_once : (gs : List Gear) (left : List ℕ) → AreOpening stage.Initialised gs
+    → AreOpening stage.RandomisedOnce (row_after Everyone Randomise 0 gs left)
 opening_randomised_once = opening_step Randomise stage.Initialised stage.RandomisedOnce randomised_once
 
 -- the second RANDOMISE, with numbers enough
@@ -81,26 +86,28 @@ drew_below : (g : Gear) (x : ℕ) → draws_a_number Randomise g ≡ true → x 
 drew_below g x would below = rw would below
 
 pub opening_opened : (gs : List Gear) (left : List ℕ) → draws_needed Everyone Randomise 0 gs ≤ length left
-    → ((x : ℕ × ℕ) → Has (drawn_of Everyone Randomise 0 gs left) x → x.1 < MASK24) → AreOpening stage.RandomisedOnce gs → AreOpening stage.Opened (row_after Everyone Randomise 0 gs left)
-opening_opened gs left enough below all k in_row on = (λ none. random none, opened_one (gear_of gs k) (gear_of (row_after Everyone Randomise 0 gs left) k) same was.1) where
-  there : k < length gs
-  there = subst (λ n. k < n) (row_length Everyone Randomise 0 gs left) in_row
+    → ((x : ℕ × ℕ) → Has (drawn_of Everyone Randomise 0 gs left) x → x.1 < MASK24) → AreOpening stage.RandomisedOnce gs
+    → AreOpening stage.Opened (row_after Everyone Randomise 0 gs left)
+opening_opened gs left enough below all k in_row on =
+    (λ none. random none, opened_one (gear_of gs k) (gear_of (row_after Everyone Randomise 0 gs left) k) same was.1) where
+      there : k < length gs
+      there = subst (λ n. k < n) (row_length Everyone Randomise 0 gs left) in_row
 
-  same : SameState (gear_of gs k) (gear_of (row_after Everyone Randomise 0 gs left) k)
-  same = after_at Randomise SameState (λ g off. (refl, refl, refl)) (λ g x on. (refl, refl, refl)) gs left k there
+      same : SameState (gear_of gs k) (gear_of (row_after Everyone Randomise 0 gs left) k)
+      same = after_at Randomise SameState (λ g off. (refl, refl, refl)) (λ g x on. (refl, refl, refl)) gs left k there
 
-  up : (gear_of gs k).powered ≡ true
-  up = sym same.0 ∙ on
+      up : (gear_of gs k).powered ≡ true
+      up = sym same.0 ∙ on
 
-  was : IsOpening stage.RandomisedOnce (gear_of gs k)
-  was = all k there up
+      was : IsOpening stage.RandomisedOnce (gear_of gs k)
+      was = all k there up
 
-  random : (gear_of (row_after Everyone Randomise 0 gs left) k).short ≡ None → (gear_of (row_after Everyone Randomise 0 gs left) k).random < MASK24
-  random none =
-      let enabled : (gear_of gs k).state ≡ Enabled = was.1.0 (sym same.2 ∙ none) in
-      let would : draws_a_number Randomise (gear_of gs k) ≡ true = rw (was.0, enabled) refl in
-      let d = draws_at Everyone Randomise gs left k there enough (powered_takes k (gear_of gs k) up) would in
-      subst (λ g. g.random < MASK24) (sym d.2) (drew_below (gear_of gs k) d.0 would (below (k, d.0) d.1))
+      random : (gear_of (row_after Everyone Randomise 0 gs left) k).short ≡ None → (gear_of (row_after Everyone Randomise 0 gs left) k).random < MASK24
+      random none =
+          let enabled : (gear_of gs k).state ≡ Enabled = was.1.0 (sym same.2 ∙ none) in
+          let would : draws_a_number Randomise (gear_of gs k) ≡ true = rw (was.0, enabled) refl in
+          let d = draws_at Everyone Randomise gs left k there enough (powered_takes k (gear_of gs k) up) would in
+          subst (λ g. g.random < MASK24) (sym d.2) (drew_below (gear_of gs k) d.0 would (below (k, d.0) d.1))
 
 -- AT THE END OF AN OPENING the gear without short address are wanted, and no other
 opened_named : (g : Gear) → OpenedBy g → g.state ≡ Enabled → g.short ≡ None

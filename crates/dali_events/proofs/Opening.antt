@@ -1,4 +1,5 @@
-use Rattle.std.proofs.Common.{◌≡◌, ℕ, ◌+◌, ◌<◌, ◌≤◌, ◌⊎◌, inl, inr, Bool, true, false, zero, suc, List, [], ◌∷◌, refl, sym, subst, arith, length, get_or, Option, Some, None, add-zero, zero-add}
+use Rattle.std.proofs.Common.{◌≡◌, ℕ, ◌+◌, ◌<◌, ◌≤◌, ◌⊎◌, inl, inr, Bool, true, false, zero, suc, List, [], ◌∷◌, refl, sym, subst, arith, length, get_or}
+use Rattle.std.proofs.Common.{Option, Some, None, add-zero, zero-add}
 use Rattle.std.specs.Prelude.{◌&&◌, ◌==◌, if◌then◌else◌, unwrap_or}
 use Rattle.dali_frame.specs.declared.frames.Answer.{Answer}
 use Rattle.dali_frame.specs.declared.frames.Answer.TheVariants.{Silence, Byte, Damaged}
@@ -8,11 +9,13 @@ use Rattle.dali_frame.specs.Random.{value_of, MASK24}
 use Rattle.dali_special.specs.declared.command.Part.TheVariants.{High, Middle, Low}
 use Rattle.dali_special.specs.declared.command.Target.TheVariants.{Unaddressed}
 use Rattle.dali_special.specs.declared.command.Command.{Command}
-use Rattle.dali_special.specs.declared.command.Command.TheVariants.{Terminate, Initialise, Randomise, Withdraw, SearchMiddle, SearchLow, Program, QueryShort, RandomByte}
+use Rattle.dali_special.specs.declared.command.Command.TheVariants.{Terminate, Initialise, Randomise, Withdraw, SearchMiddle, SearchLow, Program, QueryShort}
+use Rattle.dali_special.specs.declared.command.Command.TheVariants.{RandomByte}
 use Rattle.dali_special.specs.Command.{MASK}
 use Rattle.dali_gear.specs.declared.state.InitialisationState.TheVariants.{Enabled, Withdrawn}
 use Rattle.dali_gear.specs.declared.row.Reach.{Reach}
-use Rattle.dali_gear.specs.Gear.{Gear, fresh, is_active, is_enabled, is_found, is_second, concerns, draws_a_number, gear_taken, state_after, short_after, half_after}
+use Rattle.dali_gear.specs.Gear.{Gear, fresh, is_active, is_enabled, is_found, is_second, concerns, draws_a_number, gear_taken, state_after, short_after}
+use Rattle.dali_gear.specs.Gear.{half_after}
 use Rattle.dali_gear.specs.Row.{takes, left_after, row_after, drawn_one, drawn_of, draws_needed}
 use Rattle.dali_script.specs.declared.block.Block.{Block}
 use Rattle.dali_script.specs.declared.stage.Stage.{Stage}
@@ -54,11 +57,14 @@ draws_from reach c k (g ∷ gs) left zero h enough t w = draws_here reach c k g 
 draws_from reach c k (g ∷ gs) left (suc i) h enough t w =
     let b : Bool = takes reach k g && draws_a_number c g in
     let same : k + suc i ≡ k + 1 + i = omega arith in
-    let fewer : draws_needed reach c (k + 1) gs ≤ length (left_after (takes reach k g && draws_a_number c g) left) = enough_left (takes reach k g && draws_a_number c g) (draws_needed reach c (k + 1) gs) left enough in
-    let d = draws_from reach c (k + 1) gs (left_after (takes reach k g && draws_a_number c g) left) i (omega arith) fewer (subst (λ n. takes reach n (get_or gs i fresh) ≡ true) same t) w in
+    let fewer : draws_needed reach c (k + 1) gs ≤ length (left_after (takes reach k g && draws_a_number c g) left) =
+    enough_left (takes reach k g && draws_a_number c g) (draws_needed reach c (k + 1) gs) left enough in
+    let d = draws_from reach c (k + 1) gs (left_after (takes reach k g && draws_a_number c g) left) i (omega arith) fewer
+    (subst (λ n. takes reach n (get_or gs i fresh) ≡ true) same t) w in
     record {
       number = d.number;
-      drawn = has_drawn_one (takes reach k g && draws_a_number c g) k left (drawn_of reach c (k + 1) gs (left_after (takes reach k g && draws_a_number c g) left)) (k + suc i, d.number)
+      drawn = has_drawn_one (takes reach k g && draws_a_number c g) k left
+          (drawn_of reach c (k + 1) gs (left_after (takes reach k g && draws_a_number c g) left)) (k + suc i, d.number)
           (subst (λ n. Has (drawn_of reach c (k + 1) gs (left_after (takes reach k g && draws_a_number c g) left)) (n, d.number)) (sym same) d.drawn);
       moved = d.moved;
     }
@@ -111,7 +117,8 @@ opens_low a d bytes h g = go (d == a) where
   go false = tt
 
 -- the second INITIALISE enables it
-enables : (g : Gear) → g.half ≡ Some (Initialise Unaddressed) → g.short ≡ None → (half_after (Initialise Unaddressed) g ≡ None) × (state_after (Initialise Unaddressed) g ≡ Enabled)
+enables : (g : Gear) → g.half ≡ Some (Initialise Unaddressed) → g.short ≡ None
+    → (half_after (Initialise Unaddressed) g ≡ None) × (state_after (Initialise Unaddressed) g ≡ Enabled)
 enables g half none = rw (half, none) (refl, refl)
 
 remembers_initialise : (g : Gear) → g.half ≡ None → half_after (Initialise Unaddressed) g ≡ Some (Initialise Unaddressed)
@@ -166,7 +173,8 @@ initialised_ready g k none = go (is_second (Initialise Unaddressed) g.half && co
   go false = (k none).0
 
 -- only gear with a short address withdraw
-withdrawn_ready : (g : Gear) (r : SearchAddress) (a : ℕ) → (IsActive g → (g.search ≡ r) × (g.random ≡ value_of r → g.short ≡ Some a)) → Ready g → g.short ≡ None → state_after Withdraw g ≡ Enabled
+withdrawn_ready : (g : Gear) (r : SearchAddress) (a : ℕ) → (IsActive g → (g.search ≡ r) × (g.random ≡ value_of r → g.short ≡ Some a)) → Ready g → g.short ≡ None
+    → state_after Withdraw g ≡ Enabled
 withdrawn_ready g r a knows k none = go (is_enabled g.state && is_found g) refl where
   active : is_active g.state ≡ true
   active = rw (k none).0 refl

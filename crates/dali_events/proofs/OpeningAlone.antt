@@ -59,7 +59,8 @@ sent_or_alone w c f h t more = record (taken_by w Everyone (command_of f)) {
 
 abbrev happens_or_alone : World → Event → World
 happens_or_alone w (event.Sent c f h) =
-    sent_or_alone w c f h (trace_running w c ++ entry f h ∷ []) (goes_on w c (trace_running w c ++ entry f h ∷ []) || goes_on_alone (trace_running w c ++ entry f h ∷ []))
+    sent_or_alone w c f h (trace_running w c ++ entry f h ∷ [])
+    (goes_on w c (trace_running w c ++ entry f h ∷ []) || goes_on_alone (trace_running w c ++ entry f h ∷ []))
 happens_or_alone w e = happens w e
 
 record IsSentOrAlone (w : World) (c : ℕ) (f : Forward) (h : Answer) : Type 0 where
@@ -129,9 +130,19 @@ allowed = (
     (
       record { up = record { known = lit< tt; up = refl }; may = inl (refl, inl (Open, tt, (refl, tt, (refl, tt, refl)))); draws = lit≤ tt; heard = tt },
       (
-        record { up = record { known = lit< tt; up = refl }; may = inl (refl, inl (Open, tt, (refl, tt, (refl, tt, (refl, tt, refl))))); draws = lit≤ tt; heard = tt },
+        record {
+          up = record { known = lit< tt; up = refl };
+          may = inl (refl, inl (Open, tt, (refl, tt, (refl, tt, (refl, tt, refl)))));
+          draws = lit≤ tt;
+          heard = tt;
+        },
         (
-          record { up = record { known = lit< tt; up = refl }; may = inl (refl, inl (Open, tt, (refl, tt, (refl, tt, (refl, tt, (refl, tt, refl)))))); draws = lit≤ tt; heard = tt },
+          record {
+            up = record { known = lit< tt; up = refl };
+            may = inl (refl, inl (Open, tt, (refl, tt, (refl, tt, (refl, tt, (refl, tt, refl))))));
+            draws = lit≤ tt;
+            heard = tt;
+          },
           (
             record { up = record { known = lit< tt; up = refl }; due = refl; order = (refl, ((lit≤ tt, lit≤ tt), lit< tt, (λ h. h, λ h. h))) },
             (
@@ -139,13 +150,34 @@ allowed = (
               (
                 record { up = record { known = lit< tt; up = refl }; may = inr (refl, inl (Probe number, tt, refl)); draws = lit≤ tt; heard = tt },
                 (
-                  record { up = record { known = lit< tt; up = refl }; may = inl (refl, inl (Probe number, tt, (refl, tt, refl))); draws = lit≤ tt; heard = tt },
+                  record {
+                    up = record { known = lit< tt; up = refl };
+                    may = inl (refl, inl (Probe number, tt, (refl, tt, refl)));
+                    draws = lit≤ tt;
+                    heard = tt;
+                  },
                   (
-                    record { up = record { known = lit< tt; up = refl }; may = inl (refl, inl (Probe number, tt, (refl, tt, (refl, tt, refl)))); draws = lit≤ tt; heard = tt },
+                    record {
+                      up = record { known = lit< tt; up = refl };
+                      may = inl (refl, inl (Probe number, tt, (refl, tt, (refl, tt, refl))));
+                      draws = lit≤ tt;
+                      heard = tt;
+                    },
                     (
-                      record { up = record { known = lit< tt; up = refl }; may = inl (refl, inl (Look number, tt, (refl, tt, (refl, tt, (refl, tt, refl))))); draws = lit≤ tt; heard = (λ e. cc, (refl, tt)) },
+                      record {
+                        up = record { known = lit< tt; up = refl };
+                        may = inl (refl, inl (Look number, tt, (refl, tt, (refl, tt, (refl, tt, refl)))));
+                        draws = lit≤ tt;
+                        heard = (λ e. cc, (refl, tt));
+                      },
                       (
-                        record { up = record { known = lit< tt; up = refl }; may = inl (refl, inl (Give number 0, may_give, (refl, tt, (refl, tt, (refl, tt, (refl, refl, refl)))))); draws = lit≤ tt; heard = tt },
+                        record {
+                          up = record { known = lit< tt; up = refl };
+                          may = inl
+                              (refl, inl (Give number 0, may_give, (refl, tt, (refl, tt, (refl, tt, (refl, refl, refl))))));
+                          draws = lit≤ tt;
+                          heard = tt;
+                        },
                         (
                           tt,
                           (
@@ -153,9 +185,19 @@ allowed = (
                             (
                               record { up = record { known = lit< tt; up = refl }; may = inl (refl, inr (refl, tt, refl)); draws = lit≤ tt; heard = tt },
                               (
-                                record { up = record { known = lit< tt; up = refl }; may = inl (refl, inr (refl, tt, (refl, tt, refl))); draws = lit≤ tt; heard = tt },
+                                record {
+                                  up = record { known = lit< tt; up = refl };
+                                  may = inl (refl, inr (refl, tt, (refl, tt, refl)));
+                                  draws = lit≤ tt;
+                                  heard = tt;
+                                },
                                 (
-                                  record { up = record { known = lit< tt; up = refl }; may = inl (refl, inr (refl, tt, (refl, tt, (refl, tt, refl)))); draws = lit≤ tt; heard = tt },
+                                  record {
+                                    up = record { known = lit< tt; up = refl };
+                                    may = inl (refl, inr (refl, tt, (refl, tt, (refl, tt, refl))));
+                                    draws = lit≤ tt;
+                                    heard = tt;
+                                  },
                                   tt,
                                 ),
                               ),

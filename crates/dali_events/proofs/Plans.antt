@@ -1,4 +1,5 @@
-use Rattle.std.proofs.Common.{◌≡◌, ℕ, zero, suc, ◌<◌, ◌≤◌, Bool, true, false, List, [], ◌∷◌, length, get_or, map, Some, None, refl, sym, ap, subst, inl, inr, arith}
+use Rattle.std.proofs.Common.{◌≡◌, ℕ, zero, suc, ◌<◌, ◌≤◌, Bool, true, false, List, [], ◌∷◌, length, get_or, map, Some, None, refl, sym, ap, subst, inl, inr}
+use Rattle.std.proofs.Common.{arith}
 use Rattle.std.proofs.lemmas.Bool.Decides.{nat_tests}
 use Rattle.std.specs.Prelude.{◌==◌, ◌||◌, nat_lt, if◌then◌else◌}
 use Rattle.std.specs.List.{list_any}
@@ -131,9 +132,11 @@ plan_is gear blocks draws is =
     let all = accepted gear blocks draws is in
     record {
       apart = λ c d a c_here d_here first second. one_block blocks c d a all.apart (subst (λ n. c < n) (length_blocks blocks) c_here)
-          (subst (λ n. d < n) (length_blocks blocks) d_here) (subst (λ b. InBlock b a) (block_is blocks c) first) (subst (λ b. InBlock b a) (block_is blocks d) second);
+          (subst (λ n. d < n) (length_blocks blocks) d_here) (subst (λ b. InBlock b a) (block_is blocks c) first)
+          (subst (λ b. InBlock b a) (block_is blocks d) second);
       short = λ c a c_here within. short_block (get_or blocks c no_bounds) a
-          (none_at is_misordered blocks c no_bounds all.ordered (subst (λ n. c < n) (length_blocks blocks) c_here)) (subst (λ b. InBlock b a) (block_is blocks c) within);
+          (none_at is_misordered blocks c no_bounds all.ordered (subst (λ n. c < n) (length_blocks blocks) c_here))
+          (subst (λ b. InBlock b a) (block_is blocks c) within);
       draws_once = draws_once draws all.once;
       draws_below = λ r has. draws_below draws r all.small has;
     }
@@ -144,7 +147,8 @@ gear_is gear is =
     let high : nat_lt 128 gear ≡ false = or_false_right (nat_lt gear 1) (nat_lt 128 gear) is in
     (grind (arith, nat_tests), grind (arith, nat_tests))
 
-pub blocks_are : (blocks : List (ℕ × ℕ)) → (nat_lt (length blocks) 1 || nat_lt 4 (length blocks)) ≡ false → (1 ≤ length (map block_of blocks)) × (length (map block_of blocks) ≤ 4)
+pub blocks_are : (blocks : List (ℕ × ℕ)) → (nat_lt (length blocks) 1 || nat_lt 4 (length blocks)) ≡ false
+    → (1 ≤ length (map block_of blocks)) × (length (map block_of blocks) ≤ 4)
 blocks_are blocks is =
     let low : nat_lt (length blocks) 1 ≡ false = or_false_left (nat_lt (length blocks) 1) (nat_lt 4 (length blocks)) is in
     let high : nat_lt 4 (length blocks) ≡ false = or_false_right (nat_lt (length blocks) 1) (nat_lt 4 (length blocks)) is in

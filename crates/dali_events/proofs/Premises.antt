@@ -67,9 +67,19 @@ twice_drawn_allowed = (
     (
       record { up = record { known = lit< tt; up = refl }; may = inl (refl, (Open, tt, (refl, tt, (refl, tt, refl)))); draws = lit≤ tt; heard = tt },
       (
-        record { up = record { known = lit< tt; up = refl }; may = inl (refl, (Open, tt, (refl, tt, (refl, tt, (refl, tt, refl))))); draws = lit≤ tt; heard = tt },
+        record {
+          up = record { known = lit< tt; up = refl };
+          may = inl (refl, (Open, tt, (refl, tt, (refl, tt, (refl, tt, refl)))));
+          draws = lit≤ tt;
+          heard = tt;
+        },
         (
-          record { up = record { known = lit< tt; up = refl }; may = inl (refl, (Open, tt, (refl, tt, (refl, tt, (refl, tt, (refl, tt, refl)))))); draws = lit≤ tt; heard = tt },
+          record {
+            up = record { known = lit< tt; up = refl };
+            may = inl (refl, (Open, tt, (refl, tt, (refl, tt, (refl, tt, (refl, tt, refl))))));
+            draws = lit≤ tt;
+            heard = tt;
+          },
           (
             record { up = record { known = lit< tt; up = refl }; due = refl; order = (refl, ((lit≤ tt, lit≤ tt), lit< tt, (λ h. h, λ h. h))) },
             (
@@ -79,11 +89,27 @@ twice_drawn_allowed = (
                 (
                   record { up = record { known = lit< tt; up = refl }; may = inl (refl, (Probe at_123456, tt, (refl, tt, refl))); draws = lit≤ tt; heard = tt },
                   (
-                    record { up = record { known = lit< tt; up = refl }; may = inl (refl, (Probe at_123456, tt, (refl, tt, (refl, tt, refl)))); draws = lit≤ tt; heard = tt },
+                    record {
+                      up = record { known = lit< tt; up = refl };
+                      may = inl (refl, (Probe at_123456, tt, (refl, tt, (refl, tt, refl))));
+                      draws = lit≤ tt;
+                      heard = tt;
+                    },
                     (
-                      record { up = record { known = lit< tt; up = refl }; may = inl (refl, (Look at_123456, tt, (refl, tt, (refl, tt, (refl, tt, refl))))); draws = lit≤ tt; heard = (λ e. cc, (refl, (refl, tt))) },
+                      record {
+                        up = record { known = lit< tt; up = refl };
+                        may = inl (refl, (Look at_123456, tt, (refl, tt, (refl, tt, (refl, tt, refl)))));
+                        draws = lit≤ tt;
+                        heard = (λ e. cc, (refl, (refl, tt)));
+                      },
                       (
-                        record { up = record { known = lit< tt; up = refl }; may = inl (refl, (Give at_123456 0, may_give_123456, (refl, tt, (refl, tt, (refl, tt, (refl, refl, refl)))))); draws = lit≤ tt; heard = tt },
+                        record {
+                          up = record { known = lit< tt; up = refl };
+                          may = inl
+                              (refl, (Give at_123456 0, may_give_123456, (refl, tt, (refl, tt, (refl, tt, (refl, refl, refl))))));
+                          draws = lit≤ tt;
+                          heard = tt;
+                        },
                         tt,
                       ),
                     ),
@@ -137,9 +163,19 @@ overlapping_allowed = (
     (
       record { up = record { known = lit< tt; up = refl }; may = inl (refl, (Open, tt, (refl, tt, (refl, tt, refl)))); draws = lit≤ tt; heard = tt },
       (
-        record { up = record { known = lit< tt; up = refl }; may = inl (refl, (Open, tt, (refl, tt, (refl, tt, (refl, tt, refl))))); draws = lit≤ tt; heard = tt },
+        record {
+          up = record { known = lit< tt; up = refl };
+          may = inl (refl, (Open, tt, (refl, tt, (refl, tt, (refl, tt, refl)))));
+          draws = lit≤ tt;
+          heard = tt;
+        },
         (
-          record { up = record { known = lit< tt; up = refl }; may = inl (refl, (Open, tt, (refl, tt, (refl, tt, (refl, tt, (refl, tt, refl)))))); draws = lit≤ tt; heard = tt },
+          record {
+            up = record { known = lit< tt; up = refl };
+            may = inl (refl, (Open, tt, (refl, tt, (refl, tt, (refl, tt, (refl, tt, refl))))));
+            draws = lit≤ tt;
+            heard = tt;
+          },
           (
             record { up = record { known = lit< tt; up = refl }; due = refl; order = (refl, ((lit≤ tt, lit≤ tt), lit< tt, (λ h. h, λ h. h))) },
             (
@@ -149,11 +185,27 @@ overlapping_allowed = (
                 (
                   record { up = record { known = lit< tt; up = refl }; may = inl (refl, (Probe at_123456, tt, (refl, tt, refl))); draws = lit≤ tt; heard = tt },
                   (
-                    record { up = record { known = lit< tt; up = refl }; may = inl (refl, (Probe at_123456, tt, (refl, tt, (refl, tt, refl)))); draws = lit≤ tt; heard = tt },
+                    record {
+                      up = record { known = lit< tt; up = refl };
+                      may = inl (refl, (Probe at_123456, tt, (refl, tt, (refl, tt, refl))));
+                      draws = lit≤ tt;
+                      heard = tt;
+                    },
                     (
-                      record { up = record { known = lit< tt; up = refl }; may = inl (refl, (Look at_123456, tt, (refl, tt, (refl, tt, (refl, tt, refl))))); draws = lit≤ tt; heard = (λ e. cc, (refl, tt)) },
+                      record {
+                        up = record { known = lit< tt; up = refl };
+                        may = inl (refl, (Look at_123456, tt, (refl, tt, (refl, tt, (refl, tt, refl)))));
+                        draws = lit≤ tt;
+                        heard = (λ e. cc, (refl, tt));
+                      },
                       (
-                        record { up = record { known = lit< tt; up = refl }; may = inl (refl, (Give at_123456 0, may_give_123456, (refl, tt, (refl, tt, (refl, tt, (refl, refl, refl)))))); draws = lit≤ tt; heard = tt },
+                        record {
+                          up = record { known = lit< tt; up = refl };
+                          may = inl
+                              (refl, (Give at_123456 0, may_give_123456, (refl, tt, (refl, tt, (refl, tt, (refl, refl, refl))))));
+                          draws = lit≤ tt;
+                          heard = tt;
+                        },
                         (
                           tt,
                           (
@@ -161,15 +213,41 @@ overlapping_allowed = (
                             (
                               record { up = record { known = lit< tt; up = refl }; due = tt; order = inl (refl, (block, [], (Probe at_0abcde, tt, refl))) },
                               (
-                                record { up = record { known = lit< tt; up = refl }; may = inr (refl, (block, [], (Probe at_0abcde, tt, refl))); draws = lit≤ tt; heard = tt },
+                                record {
+                                  up = record { known = lit< tt; up = refl };
+                                  may = inr (refl, (block, [], (Probe at_0abcde, tt, refl)));
+                                  draws = lit≤ tt;
+                                  heard = tt;
+                                },
                                 (
-                                  record { up = record { known = lit< tt; up = refl }; may = inl (refl, (Probe at_0abcde, tt, (refl, tt, refl))); draws = lit≤ tt; heard = tt },
+                                  record {
+                                    up = record { known = lit< tt; up = refl };
+                                    may = inl (refl, (Probe at_0abcde, tt, (refl, tt, refl)));
+                                    draws = lit≤ tt;
+                                    heard = tt;
+                                  },
                                   (
-                                    record { up = record { known = lit< tt; up = refl }; may = inl (refl, (Probe at_0abcde, tt, (refl, tt, (refl, tt, refl)))); draws = lit≤ tt; heard = tt },
+                                    record {
+                                      up = record { known = lit< tt; up = refl };
+                                      may = inl (refl, (Probe at_0abcde, tt, (refl, tt, (refl, tt, refl))));
+                                      draws = lit≤ tt;
+                                      heard = tt;
+                                    },
                                     (
-                                      record { up = record { known = lit< tt; up = refl }; may = inl (refl, (Look at_0abcde, tt, (refl, tt, (refl, tt, (refl, tt, refl))))); draws = lit≤ tt; heard = (λ e. cc, (refl, tt)) },
+                                      record {
+                                        up = record { known = lit< tt; up = refl };
+                                        may = inl (refl, (Look at_0abcde, tt, (refl, tt, (refl, tt, (refl, tt, refl)))));
+                                        draws = lit≤ tt;
+                                        heard =
+                                            (λ e. cc, (refl, tt));
+                                      },
                                       (
-                                        record { up = record { known = lit< tt; up = refl }; may = inl (refl, (Give at_0abcde 0, may_give_0abcde, (refl, tt, (refl, tt, (refl, tt, (refl, refl, refl)))))); draws = lit≤ tt; heard = tt },
+                                        record {
+                                          up = record { known = lit< tt; up = refl };
+                                          may = inl (refl, (Give at_0abcde 0, may_give_0abcde, (refl, tt, (refl, tt, (refl, tt, (refl, refl, refl))))));
+                                          draws = lit≤ tt;
+                                          heard = tt;
+                                        },
                                         tt,
                                       ),
                                     ),
@@ -235,9 +313,18 @@ with_erased_allowed = (
     (
       record { up = record { known = lit< tt; up = refl }; may = inl (refl, (Open, tt, (refl, tt, (refl, tt, refl)))); draws = lit≤ tt; heard = tt },
       (
-        record { up = record { known = lit< tt; up = refl }; may = inl (refl, (Open, tt, (refl, tt, (refl, tt, (refl, tt, refl))))); draws = lit≤ tt; heard = tt },
+        record {
+          up = record { known = lit< tt; up = refl };
+          may = inl (refl, (Open, tt, (refl, tt, (refl, tt, (refl, tt, refl)))));
+          draws = lit≤ tt;
+          heard = tt;
+        },
         (
-          record { up = record { known = lit< tt; up = refl }; may = inl (refl, (Open, tt, (refl, tt, (refl, tt, (refl, tt, (refl, tt, refl)))))); draws = lit≤ tt },
+          record {
+            up = record { known = lit< tt; up = refl };
+            may = inl (refl, (Open, tt, (refl, tt, (refl, tt, (refl, tt, (refl, tt, refl))))));
+            draws = lit≤ tt;
+          },
           (
             record { up = record { known = lit< tt; up = refl }; due = refl; order = (refl, ((lit≤ tt, lit≤ tt), lit< tt, (λ h. h, λ h. h))) },
             (
@@ -247,11 +334,27 @@ with_erased_allowed = (
                 (
                   record { up = record { known = lit< tt; up = refl }; may = inl (refl, (Probe at_123456, tt, (refl, tt, refl))); draws = lit≤ tt; heard = tt },
                   (
-                    record { up = record { known = lit< tt; up = refl }; may = inl (refl, (Probe at_123456, tt, (refl, tt, (refl, tt, refl)))); draws = lit≤ tt; heard = tt },
+                    record {
+                      up = record { known = lit< tt; up = refl };
+                      may = inl (refl, (Probe at_123456, tt, (refl, tt, (refl, tt, refl))));
+                      draws = lit≤ tt;
+                      heard = tt;
+                    },
                     (
-                      record { up = record { known = lit< tt; up = refl }; may = inl (refl, (Look at_123456, tt, (refl, tt, (refl, tt, (refl, tt, refl))))); draws = lit≤ tt; heard = (λ e. cc, (refl, (refl, tt))) },
+                      record {
+                        up = record { known = lit< tt; up = refl };
+                        may = inl (refl, (Look at_123456, tt, (refl, tt, (refl, tt, (refl, tt, refl)))));
+                        draws = lit≤ tt;
+                        heard = (λ e. cc, (refl, (refl, tt)));
+                      },
                       (
-                        record { up = record { known = lit< tt; up = refl }; may = inl (refl, (Give at_123456 0, may_give_123456, (refl, tt, (refl, tt, (refl, tt, (refl, refl, refl)))))); draws = lit≤ tt; heard = tt },
+                        record {
+                          up = record { known = lit< tt; up = refl };
+                          may = inl
+                              (refl, (Give at_123456 0, may_give_123456, (refl, tt, (refl, tt, (refl, tt, (refl, refl, refl))))));
+                          draws = lit≤ tt;
+                          heard = tt;
+                        },
                         tt,
                       ),
                     ),

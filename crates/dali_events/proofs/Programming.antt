@@ -11,7 +11,8 @@ use Rattle.dali_gear.specs.Row.{row_after}
 use Rattle.dali_events.specs.Wanted.{is_wanted, wants, is_bare, gear_of, Seek, AreApart, IsOpened, NoneNamedBut, AreNamed}
 use Rattle.dali_events.proofs.Takes.{row_length}
 use Rattle.dali_events.proofs.Known.{found_random}
-use Rattle.dali_events.proofs.Wanted.{wanted_powered, wanted_active, is_bare_by, bare_is, count_same, count_at_most, count_less, Enabling, Drawing, UnnamedBut, powered_over, wants_same, apart_over, after_at}
+use Rattle.dali_events.proofs.Wanted.{wanted_powered, wanted_active, is_bare_by, bare_is, count_same, count_at_most, count_less, Enabling, Drawing, UnnamedBut}
+use Rattle.dali_events.proofs.Wanted.{powered_over, wants_same, apart_over, after_at}
 use Rattle.dali_events.proofs.Heard.{random_found}
 
 -- PROGRAM SHORT ADDRESS: the gear after it
@@ -26,7 +27,8 @@ pub record Programs (n a : ℕ) (g h : Gear) : Type 0 where
   pub programmed : g.powered ≡ true → is_active g.state ≡ true → g.random ≡ n → h.short ≡ Some a
   pub others : (g.powered ≡ true → is_active g.state ≡ true → g.random ≡ n → ⊥) → h.short ≡ g.short
 
-programs_on : (r : SearchAddress) (a : ℕ) (g : Gear) (x : ℕ) → g.powered ≡ true → (g.powered ≡ true → is_active g.state ≡ true → g.search ≡ r) → Programs (value_of r) a g (gear_taken (Program (Some a)) x g)
+programs_on : (r : SearchAddress) (a : ℕ) (g : Gear) (x : ℕ) → g.powered ≡ true → (g.powered ≡ true → is_active g.state ≡ true → g.search ≡ r)
+    → Programs (value_of r) a g (gear_taken (Program (Some a)) x g)
 programs_on r a g x on seek = record { same_powered = refl; same_state = refl; same_random = refl; programmed = programmed; others = others } where
   programmed : g.powered ≡ true → is_active g.state ≡ true → g.random ≡ value_of r → short_after (Program (Some a)) g ≡ Some a
   programmed up active random =
@@ -40,10 +42,17 @@ programs_on r a g x on seek = record { same_powered = refl; same_state = refl; s
     go true false active found = rw (active, found) refl
     go true true active found = absurd (other on active (found_random g r (seek on active) found))
 
-pub programs_at : (gs : List Gear) (left : List ℕ) (r : SearchAddress) (a : ℕ) → Seek gs r → (k : ℕ) → k < length gs → Programs (value_of r) a (gear_of gs k) (gear_of (after_program a gs left) k)
+pub programs_at : (gs : List Gear) (left : List ℕ) (r : SearchAddress) (a : ℕ) → Seek gs r → (k : ℕ) → k < length gs
+    → Programs (value_of r) a (gear_of gs k) (gear_of (after_program a gs left) k)
 programs_at gs left r a seek k h =
     after_at (Program (Some a)) (λ g h. (g.powered ≡ true → is_active g.state ≡ true → g.search ≡ r) → Programs (value_of r) a g h)
-    (λ g off was. record { same_powered = refl; same_state = refl; same_random = refl; programmed = λ on active random. absurd (off on); others = λ other. refl })
+    (λ g off was. record {
+      same_powered = refl;
+      same_state = refl;
+      same_random = refl;
+      programmed = λ on active random. absurd (off on);
+      others = λ other. refl;
+    })
     (λ g x on was. programs_on r a g x on was) gs left k h (seek k h)
 
 -- the same are wanted
@@ -53,9 +62,11 @@ programs_wanted n a g h p = rw (p.same_powered, p.same_state) refl
 pub programmed_wants : (gs : List Gear) (left : List ℕ) (r : SearchAddress) (a n : ℕ) → Seek gs r → wants (after_program a gs left) n ≡ wants gs n
 programmed_wants gs left r a n seek =
     wants_same gs (after_program a gs left) n (row_length Everyone (Program (Some a)) 0 gs left)
-    (λ k h. programs_wanted (value_of r) a (gear_of gs k) (gear_of (after_program a gs left) k) (programs_at gs left r a seek k h)) (λ k h. (programs_at gs left r a seek k h).same_random)
+    (λ k h. programs_wanted (value_of r) a (gear_of gs k) (gear_of (after_program a gs left) k) (programs_at gs left r a seek k h))
+    (λ k h. (programs_at gs left r a seek k h).same_random)
 
-pub programmed_count : (gs : List Gear) (left : List ℕ) (r : SearchAddress) (a : ℕ) → Seek gs r → count_by is_wanted (after_program a gs left) ≡ count_by is_wanted gs
+pub programmed_count : (gs : List Gear) (left : List ℕ) (r : SearchAddress) (a : ℕ) → Seek gs r
+    → count_by is_wanted (after_program a gs left) ≡ count_by is_wanted gs
 programmed_count gs left r a seek =
     count_same is_wanted is_wanted gs (after_program a gs left) (row_length Everyone (Program (Some a)) 0 gs left)
     (λ k h. programs_wanted (value_of r) a (gear_of gs k) (gear_of (after_program a gs left) k) (programs_at gs left r a seek k h))
@@ -67,13 +78,15 @@ programs_bare n a g h p none = sym (p.others (λ on active random. let never : N
 still_bare : (n a : ℕ) (g h : Gear) → Programs n a g h → is_bare h ≡ true → is_bare g ≡ true
 still_bare n a g h p bare = is_bare_by g (sym p.same_powered ∙ (bare_is h bare).0) (programs_bare n a g h p (bare_is h bare).1)
 
-pub programmed_count_bare : (gs : List Gear) (left : List ℕ) (r : SearchAddress) (a : ℕ) → Seek gs r → count_by is_bare (after_program a gs left) ≤ count_by is_bare gs
+pub programmed_count_bare : (gs : List Gear) (left : List ℕ) (r : SearchAddress) (a : ℕ) → Seek gs r
+    → count_by is_bare (after_program a gs left) ≤ count_by is_bare gs
 programmed_count_bare gs left r a seek =
     count_at_most is_bare is_bare gs (after_program a gs left) (row_length Everyone (Program (Some a)) 0 gs left)
     (λ k h. still_bare (value_of r) a (gear_of gs k) (gear_of (after_program a gs left) k) (programs_at gs left r a seek k h))
 
 -- fewer are bare where one was that is meant
-pub programmed_fewer_bare : (gs : List Gear) (left : List ℕ) (r : SearchAddress) (a k : ℕ) → Seek gs r → k < length gs → is_wanted (gear_of gs k) ≡ true → (gear_of gs k).random ≡ value_of r
+pub programmed_fewer_bare : (gs : List Gear) (left : List ℕ) (r : SearchAddress) (a k : ℕ) → Seek gs r → k < length gs → is_wanted (gear_of gs k) ≡ true
+    → (gear_of gs k).random ≡ value_of r
     → (gear_of gs k).short ≡ None → count_by is_bare (after_program a gs left) < count_by is_bare gs
 programmed_fewer_bare gs left r a k seek h wanted random none =
     let on : (gear_of gs k).powered ≡ true = wanted_powered (gear_of gs k) wanted in
@@ -91,14 +104,18 @@ programmed_fewer_bare gs left r a k seek h wanted random none =
 -- what the search stands on
 pub programmed_opened : (gs : List Gear) (left : List ℕ) (r : SearchAddress) (a : ℕ) → Seek gs r → IsOpened gs → IsOpened (after_program a gs left)
 programmed_opened gs left r a seek opened = record {
-  bare = powered_over Enabling Enabling gs (after_program a gs left) (row_length Everyone (Program (Some a)) 0 gs left) (λ k h. (programs_at gs left r a seek k h).same_powered)
+  bare = powered_over Enabling Enabling gs (after_program a gs left) (row_length Everyone (Program (Some a)) 0 gs left)
+      (λ k h. (programs_at gs left r a seek k h).same_powered)
       (λ k h on was none. (programs_at gs left r a seek k h).same_state
       ∙ was (programs_bare (value_of r) a (gear_of gs k) (gear_of (after_program a gs left) k) (programs_at gs left r a seek k h) none)) opened.bare;
-  drawn = powered_over Drawing Drawing gs (after_program a gs left) (row_length Everyone (Program (Some a)) 0 gs left) (λ k h. (programs_at gs left r a seek k h).same_powered)
-      (λ k h on was active. subst (λ n. n < MASK24) (sym (programs_at gs left r a seek k h).same_random) (was (subst (λ s. is_active s ≡ true) (programs_at gs left r a seek k h).same_state active))) opened.drawn;
+  drawn = powered_over Drawing Drawing gs (after_program a gs left) (row_length Everyone (Program (Some a)) 0 gs left)
+      (λ k h. (programs_at gs left r a seek k h).same_powered)
+      (λ k h on was active. subst (λ n. n < MASK24) (sym (programs_at gs left r a seek k h).same_random)
+      (was (subst (λ s. is_active s ≡ true) (programs_at gs left r a seek k h).same_state active))) opened.drawn;
 }
 
-pub programmed_none_named : (gs : List Gear) (left : List ℕ) (r : SearchAddress) (a : ℕ) → Seek gs r → NoneNamedBut gs (value_of r) → NoneNamedBut (after_program a gs left) (value_of r)
+pub programmed_none_named : (gs : List Gear) (left : List ℕ) (r : SearchAddress) (a : ℕ) → Seek gs r → NoneNamedBut gs (value_of r)
+    → NoneNamedBut (after_program a gs left) (value_of r)
 programmed_none_named gs left r a seek named =
     powered_over (UnnamedBut (value_of r)) (UnnamedBut (value_of r)) gs (after_program a gs left) (row_length Everyone (Program (Some a)) 0 gs left)
     (λ k h. (programs_at gs left r a seek k h).same_powered)
@@ -119,4 +136,5 @@ programmed_named gs left r a seek k in_row on enabled random =
 pub programmed_apart : (gs : List Gear) (left : List ℕ) (r : SearchAddress) (a : ℕ) → Seek gs r → AreApart gs → AreApart (after_program a gs left)
 programmed_apart gs left r a seek apart =
     apart_over gs (after_program a gs left) (row_length Everyone (Program (Some a)) 0 gs left) (λ k h. (programs_at gs left r a seek k h).same_powered)
-    (λ k h active. subst (λ s. is_active s ≡ true) (programs_at gs left r a seek k h).same_state active) (λ k h. (programs_at gs left r a seek k h).same_random) apart
+    (λ k h active. subst (λ s. is_active s ≡ true) (programs_at gs left r a seek k h).same_state active)
+    (λ k h. (programs_at gs left r a seek k h).same_random) apart

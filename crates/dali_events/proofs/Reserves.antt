@@ -63,7 +63,8 @@ reserves_stand p = record {
 }
 
 order_adds : (p : Plan) (w : World) (c : ℕ) (k : Controller) (o : Order) → MayOrder w c k o → AddsOrder (ReservesAs p) c k o
-order_adds p w c k (Commit (Reserve a r)) may = λ h. record { block = h.block; within = h.within; once = h.once; new = (subst (λ b. InBlock b a) h.block may.1.0, may.1.2.0) }
+order_adds p w c k (Commit (Reserve a r)) may =
+    λ h. record { block = h.block; within = h.within; once = h.once; new = (subst (λ b. InBlock b a) h.block may.1.0, may.1.2.0) }
 order_adds p w c k (Commit (Enrol a r)) may = λ h. record { block = h.block; within = h.within; once = h.once; new = tt }
 order_adds p w c k (Commit (Release a r)) may = λ h. record { block = h.block; within = h.within; once = h.once; new = tt }
 order_adds p w c k (Put q f) may = tt

@@ -96,7 +96,8 @@ tells_high gs h a v hears heard =
     let told = teller gs (RandomByte a High) h a v High hears refl heard in
     record { gear = told.0; there = told.1; short = told.2.short; high = told.2.byte }
 
-tells_middle : (R : Assignment → Type 0) (gs : List Gear) (ds gf : List (ℕ × ℕ)) → Gifts R gs ds gf → (h : Answer) (a high v : ℕ) → Hears (answers_of Everyone (RandomByte a Middle) 0 gs) h → h ≡ Byte v
+tells_middle : (R : Assignment → Type 0) (gs : List Gear) (ds gf : List (ℕ × ℕ)) → Gifts R gs ds gf → (h : Answer) (a high v : ℕ)
+    → Hears (answers_of Everyone (RandomByte a Middle) 0 gs) h → h ≡ Byte v
     → TellsHigh gs a high → TellsTwo gs a high v
 tells_middle R gs ds gf gifts h a high v hears heard k =
     let told = teller gs (RandomByte a Middle) h a v Middle hears refl heard in
@@ -110,7 +111,8 @@ tells_middle R gs ds gf gifts h a high v hears heard k =
     }
 
 -- and so after one more frame
-pub tells_more : (R : Assignment → Type 0) (gs : List Gear) (ds gf : List (ℕ × ℕ)) → Gifts R gs ds gf → (c : Command) (h : Answer) (q : Asked) → Hears (answers_of Everyone c 0 gs) h
+pub tells_more : (R : Assignment → Type 0) (gs : List Gear) (ds gf : List (ℕ × ℕ)) → Gifts R gs ds gf → (c : Command) (h : Answer) (q : Asked)
+    → Hears (answers_of Everyone c 0 gs) h
     → Tells q gs → Tells (asked_after c h q) gs
 tells_more R gs ds gf gifts (RandomByte a High) (Byte v) q hears k = tells_high gs (Byte v) a v hears refl
 tells_more R gs ds gf gifts (RandomByte a Middle) (Byte v) (high_byte b high) hears k = go (b == a) refl where

@@ -1,4 +1,5 @@
-use Rattle.std.proofs.Common.{◌≡◌, ℕ, ◌<◌, Bool, true, false, List, [], ◌∷◌, ◌++◌, refl, sym, ap, subst, ◌∙◌, append_assoc, length, length-set, get_or, Some, None}
+use Rattle.std.proofs.Common.{◌≡◌, ℕ, ◌<◌, Bool, true, false, List, [], ◌∷◌, ◌++◌, refl, sym, ap, subst, ◌∙◌, append_assoc, length, length-set, get_or, Some}
+use Rattle.std.proofs.Common.{None}
 use Rattle.std.proofs.lemmas.List.{length-map, length-replicate, get_or-replicate}
 use Rattle.std.specs.Prelude.{if◌then◌else◌}
 use Rattle.dali_frame.specs.declared.frames.Forward.{Forward}
@@ -46,9 +47,11 @@ abbrev ChangeOf : World → World → Type 0
 ChangeOf w v = Change (IsReserved w.controllers) w.gear w.drawn w.gifts v.gear v.drawn v.gifts
 
 frame_change : (w : World) (c : ℕ) (f : Forward) (reach : Reach) → IsUp w c → MaySend w c f → IsKnown w → ((p : Plan) × Draws p.draws w.gear w.drawn w.left)
-    → Change (IsReserved w.controllers) w.gear w.drawn w.gifts (row_after reach (command_of f) 0 w.gear w.left) (w.drawn ++ drawn_of reach (command_of f) 0 w.gear w.left) (w.gifts ++ stored_of reach (command_of f) 0 w.gear)
+    → Change (IsReserved w.controllers) w.gear w.drawn w.gifts (row_after reach (command_of f) 0 w.gear w.left)
+    (w.drawn ++ drawn_of reach (command_of f) 0 w.gear w.left) (w.gifts ++ stored_of reach (command_of f) 0 w.gear)
 frame_change w c f reach up may known draws =
-    frame_changes (IsReserved w.controllers) (controller_at w c).records.block (controller_at w c).records.reserved (stage_of (trace_running w c)) (command_of f) reach (follows_of w c f may)
+    frame_changes (IsReserved w.controllers) (controller_at w c).records.block (controller_at w c).records.reserved (stage_of (trace_running w c))
+    (command_of f) reach (follows_of w c f may)
     w.gear w.left w.drawn w.gifts (knows_running w c known.knows) draws.1.each (λ a r h. (c, up.known, h))
 
 powered_same : (on : Bool) (g : Gear) → ((gear_powered on g).short ≡ g.short) × ((gear_powered on g).random ≡ g.random)
@@ -76,14 +79,16 @@ change_of p w (event.Destroyed c f set) here k = frame_change w c f (Only set) h
 change_of p w (event.Collided c f d g) here k = same_gear w
 change_of p w event.Lapsed here k = same_gear w
 change_of p w event.Quiet here k =
-    no_change (IsReserved w.controllers) w.gear _ w.drawn w.gifts (length-map w.gear gear_quieted) (each_map fresh (SameAddresses w.gear) gear_quieted w.gear (λ i x h. h) (λ i h. (refl, refl)))
+    no_change (IsReserved w.controllers) w.gear _ w.drawn w.gifts (length-map w.gear gear_quieted)
+    (each_map fresh (SameAddresses w.gear) gear_quieted w.gear (λ i x h. h) (λ i h. (refl, refl)))
 change_of p w (event.Power g on) here k = one_change w (gear_powered on) g (powered_same on)
 change_of p w (event.Expired g) here k = one_change w gear_expired g (λ x. (refl, refl))
 change_of p w (event.Down c) here k = same_gear w
 change_of p w (event.Up c kept) here k = same_gear w
 
 -- ONE EVENT
-gifts_more : (R S : Assignment → Type 0) (gs : List Gear) (ds gf : List (ℕ × ℕ)) → ((g a : ℕ) → Has gf (g, a) → R (a, (get_or gs g fresh).random) → S (a, (get_or gs g fresh).random))
+gifts_more : (R S : Assignment → Type 0) (gs : List Gear) (ds gf : List (ℕ × ℕ))
+    → ((g a : ℕ) → Has gf (g, a) → R (a, (get_or gs g fresh).random) → S (a, (get_or gs g fresh).random))
     → Gifts R gs ds gf → Gifts S gs ds gf
 gifts_more R S gs ds gf more k = record {
   there = k.there;
@@ -100,14 +105,17 @@ names_stay w v ch drawn keeps x n =
     (n.0, subst (λ m. n.0 < m) (sym ch.count) n.1, record { drawer = drawn (n.0, x.1) n.2.drawer; given = kept.0; random = kept.1 ∙ n.2.random })
 
 found_of : (p : Plan) (w : World) (e : Event) (M : Assignment → Type 0) → Allowed w e → Holds p w → ((x : Assignment) → Names w x → M x) → FoundBy M w e
-found_of p w (event.Sent c f h) M here k more = λ x e. more (assigned x) (found_names (IsReserved w.controllers) w c f h here k.known k.gifts (tells_if (owns w.bus.owner c) w.trace w.gear k.tells) x e)
+found_of p w (event.Sent c f h) M here k more =
+    λ x e. more (assigned x) (found_names (IsReserved w.controllers) w c f h here k.known k.gifts (tells_if (owns w.bus.owner c) w.trace w.gear k.tells) x e)
 found_of p w _ M here k more = tt
 
-tells_sent : (p : Plan) (w : World) (c : ℕ) (f : Forward) (h : Answer) → Allowed w (event.Sent c f h) → Holds p w → Tells (asked_of (happens w (event.Sent c f h)).trace) (happens w (event.Sent c f h)).gear
+tells_sent : (p : Plan) (w : World) (c : ℕ) (f : Forward) (h : Answer) → Allowed w (event.Sent c f h) → Holds p w
+    → Tells (asked_of (happens w (event.Sent c f h)).trace) (happens w (event.Sent c f h)).gear
 tells_sent p w c f h here k =
     let q : Asked = asked_of (trace_running w c) in
     let before : Tells q w.gear = tells_if (owns w.bus.owner c) w.trace w.gear k.tells in
-    let now : Tells (asked_after (command_of f) h q) w.gear = tells_more (IsReserved w.controllers) w.gear w.drawn w.gifts k.gifts (command_of f) h q here.heard before in
+    let now : Tells (asked_after (command_of f) h q) w.gear =
+    tells_more (IsReserved w.controllers) w.gear w.drawn w.gifts k.gifts (command_of f) h q here.heard before in
     let after_it : Tells (asked_after (command_of f) h q) (happens w (event.Sent c f h)).gear =
     tells_stay (IsReserved w.controllers) w.gear _ w.drawn w.gifts _ _ (change_of p w (event.Sent c f h) here k) (asked_after (command_of f) h q) now in
     tells_if (goes_on w c (trace_running w c ++ entry f h ∷ [])) (trace_running w c ++ entry f h ∷ []) (happens w (event.Sent c f h)).gear
@@ -120,9 +128,12 @@ tells_step p w (event.Sent c f h) here k = tells_sent p w c f h here k
 tells_step p w (event.Destroyed c f set) here k = tt
 tells_step p w (event.Collided c f d g) here k = tt
 tells_step p w event.Lapsed here k = tt
-tells_step p w event.Quiet here k = tells_stay (IsReserved w.controllers) w.gear _ w.drawn w.gifts _ _ (change_of p w event.Quiet here k) (asked_of w.trace) k.tells
-tells_step p w (event.Power g on) here k = tells_stay (IsReserved w.controllers) w.gear _ w.drawn w.gifts _ _ (change_of p w (event.Power g on) here k) (asked_of w.trace) k.tells
-tells_step p w (event.Expired g) here k = tells_stay (IsReserved w.controllers) w.gear _ w.drawn w.gifts _ _ (change_of p w (event.Expired g) here k) (asked_of w.trace) k.tells
+tells_step p w event.Quiet here k =
+    tells_stay (IsReserved w.controllers) w.gear _ w.drawn w.gifts _ _ (change_of p w event.Quiet here k) (asked_of w.trace) k.tells
+tells_step p w (event.Power g on) here k =
+    tells_stay (IsReserved w.controllers) w.gear _ w.drawn w.gifts _ _ (change_of p w (event.Power g on) here k) (asked_of w.trace) k.tells
+tells_step p w (event.Expired g) here k =
+    tells_stay (IsReserved w.controllers) w.gear _ w.drawn w.gifts _ _ (change_of p w (event.Expired g) here k) (asked_of w.trace) k.tells
 tells_step p w (event.Down c) here k = tells_unless _ w.trace w.gear k.tells
 tells_step p w (event.Up c kept) here k = k.tells
 
@@ -132,16 +143,20 @@ module _ (p : Plan) (plan : IsPlan p) (w : World) (e : Event) (here : Allowed w 
 
   keeps : KeepsGifts w (happens w e)
   keeps g a h = (
-    gift_stays (IsReserved w.controllers) (one_number p w.controllers plan k.reserves) w.gear _ w.drawn w.gifts _ _ (are_drawn p w plan k.draws).once k.gifts ch g a h,
-    gift_random (IsReserved w.controllers) (one_number p w.controllers plan k.reserves) w.gear _ w.drawn w.gifts _ _ (are_drawn p w plan k.draws).once k.gifts ch g a h,
+    gift_stays (IsReserved w.controllers) (one_number p w.controllers plan k.reserves) w.gear _ w.drawn w.gifts _ _
+        (are_drawn p w plan k.draws).once k.gifts ch g a h,
+    gift_random (IsReserved w.controllers) (one_number p w.controllers plan k.reserves) w.gear _ w.drawn w.gifts _ _
+        (are_drawn p w plan k.draws).once k.gifts ch g a h,
   )
 
   names : (x : Assignment) → Names w x → Names (happens w e) x
   names x n = names_stay w (happens w e) ch
-      (draw_stays (IsReserved w.controllers) (one_number p w.controllers plan k.reserves) w.gear _ w.drawn w.gifts _ _ (are_drawn p w plan k.draws).once k.gifts ch) keeps x n
+      (draw_stays (IsReserved w.controllers) (one_number p w.controllers plan k.reserves) w.gear _ w.drawn w.gifts _ _
+      (are_drawn p w plan k.draws).once k.gifts ch) keeps x n
 
   gifts : Gifts (IsReserved w.controllers) (happens w e).gear (happens w e).drawn (happens w e).gifts
-  gifts = gifts_step (IsReserved w.controllers) (one_number p w.controllers plan k.reserves) w.gear _ w.drawn w.gifts _ _ (are_drawn p w plan k.draws).once k.gifts ch
+  gifts = gifts_step (IsReserved w.controllers) (one_number p w.controllers plan k.reserves) w.gear _ w.drawn w.gifts _ _
+      (are_drawn p w plan k.draws).once k.gifts ch
 
   found : FoundBy (Names (happens w e)) w e
   found = found_of p w e (Names (happens w e)) here k names
@@ -150,12 +165,14 @@ module _ (p : Plan) (plan : IsPlan p) (w : World) (e : Event) (here : Allowed w 
   keeps_step = keeps
 
   -- what is reserved for a gear that was given the address stays reserved
-  pub stays_step : (g a : ℕ) → Has (happens w e).gifts (g, a) → Each nobody (Of (StillReserved w.controllers (a, (gear_at (happens w e) g).random))) (happens w e).controllers
+  pub stays_step : (g a : ℕ) → Has (happens w e).gifts (g, a)
+      → Each nobody (Of (StillReserved w.controllers (a, (gear_at (happens w e) g).random))) (happens w e).controllers
   stays_step g a h = still_reserved (Names w) (Names (happens w e)) (a, (gear_at (happens w e) g).random) alone w e here names found k.says where
     alone : Unopposed (Names (happens w e)) (a, (gear_at (happens w e) g).random)
     alone = given_alone (IsReserved w.controllers) (happens w e) (are_drawn p (happens w e) plan (draws_step p w e k.draws)) gifts g a h
 
-  reserved_step : (g a : ℕ) → Has (happens w e).gifts (g, a) → IsReserved w.controllers (a, (gear_at (happens w e) g).random) → IsReserved (happens w e).controllers (a, (gear_at (happens w e) g).random)
+  reserved_step : (g a : ℕ) → Has (happens w e).gifts (g, a) → IsReserved w.controllers (a, (gear_at (happens w e) g).random)
+      → IsReserved (happens w e).controllers (a, (gear_at (happens w e) g).random)
   reserved_step g a h r =
       let there : r.0 < length (happens w e).controllers = subst (λ n. r.0 < n) (sym (controllers_count w e)) r.1 in
       (r.0, there, stays_step g a h r.0 there r.2)
@@ -165,7 +182,8 @@ module _ (p : Plan) (plan : IsPlan p) (w : World) (e : Event) (here : Allowed w 
     draws = draws_step p w e k.draws;
     reserves = reserves_step p w e here k.reserves;
     known = known_step w e here k.known;
-    gifts = gifts_more (IsReserved w.controllers) (IsReserved (happens w e).controllers) (happens w e).gear (happens w e).drawn (happens w e).gifts reserved_step gifts;
+    gifts = gifts_more (IsReserved w.controllers) (IsReserved (happens w e).controllers) (happens w e).gear (happens w e).drawn
+        (happens w e).gifts reserved_step gifts;
     says = says_step (Names w) (Names (happens w e)) w e here names found k.says;
     tells = tells_step p w e here k;
   }
@@ -225,7 +243,8 @@ safe_history p capacity log run = record {
       (holds_after p capacity earlier (run_front p capacity earlier more (subst (λ es. IsRun p capacity es) (sym e) run)));
   ever_after = λ earlier later rest e. since earlier later rest (subst (λ es. IsRun p capacity es) (sym e) run);
 } where
-  since : (earlier later rest : List Event) → IsRun p capacity (earlier ++ (later ++ rest)) → KeepsGifts (after p capacity earlier) (after p capacity (earlier ++ later))
+  since : (earlier later rest : List Event) → IsRun p capacity (earlier ++ (later ++ rest))
+      → KeepsGifts (after p capacity earlier) (after p capacity (earlier ++ later))
   since earlier later rest r =
       let allowed : AllAllowed (after p capacity earlier) later =
       allowed_front (after p capacity earlier) later rest (allowed_rest (start p capacity) earlier (later ++ rest) r.allowed) in
@@ -236,7 +255,8 @@ safe_history p capacity log run = record {
 promise_now : (p : Plan) (w : World) → Holds p w → KeepsPromiseNow w
 promise_now p w k = record {
   one_gear = λ g h a one two.
-      ap (λ gift. gift.0) (same_member (λ gift. gift.1) w.gifts (g, a) (h, a) k.gifts.address_once ((k.gifts.holds g a one.0).0 one.1) ((k.gifts.holds h a two.0).0 two.1) refl);
+      ap (λ gift. gift.0) (same_member (λ gift. gift.1) w.gifts (g, a) (h, a) k.gifts.address_once ((k.gifts.holds g a one.0).0 one.1)
+      ((k.gifts.holds h a two.0).0 two.1) refl);
   tables = λ c entry h. let n = (k.says c h.0).enrolled entry h.1 in (n.0, (n.1, (k.gifts.holds n.0 entry.0 n.1).1 n.2.given), n.2.random);
 }
 

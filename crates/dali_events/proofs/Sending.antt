@@ -40,7 +40,8 @@ owner_runs o c t e = rw (e, self c) refl where
 nobody_runs : (o : Option ℕ) (c : ℕ) (t : List Entry) → o ≡ None → (if owns o c then t else []) ≡ []
 nobody_runs o c t e = rw e refl
 
-pub lawful_of : (w : World) (c : ℕ) (f : Forward) → MaySend w c f → Lawful (controller_at w c).records.block (controller_at w c).records.reserved (trace_running w c) f
+pub lawful_of : (w : World) (c : ℕ) (f : Forward) → MaySend w c f
+    → Lawful (controller_at w c).records.block (controller_at w c).records.reserved (trace_running w c) f
 lawful_of w c f (inl may) =
     subst (λ t. Lawful (controller_at w c).records.block (controller_at w c).records.reserved t f) (sym (owner_runs w.bus.owner c w.trace may.0)) may.1
 lawful_of w c f (inr may) =
@@ -82,7 +83,8 @@ takes_powered reach k g e = first (g.powered) _ e where
   first false b e = e
 
 knows_moved : (b : Block) (xs : List Assignment) (s : Stage) (c : Command) (h : Answer) (ds : List (ℕ × ℕ)) (k : ℕ) (g g' : Gear)
-    → Follows b xs s c → IsShort g → (g.powered ≡ true → Agrees c g h) → (g.powered ≡ true → Knows s g) → Moved Everyone c ds k g g' → g'.powered ≡ true → Knows (next_stage s c h) g'
+    → Follows b xs s c → IsShort g → (g.powered ≡ true → Agrees c g h) → (g.powered ≡ true → Knows s g) → Moved Everyone c ds k g g' → g'.powered ≡ true
+    → Knows (next_stage s c h) g'
 knows_moved b xs s c h ds k g _ follows small agrees knows (stays off) on = absurd (let there : takes Everyone k g ≡ true = powered_takes k g on in cc)
 knows_moved b xs s c h ds k g _ follows small agrees knows (goes r there drew) on = knows_step b xs s c h g r follows small (agrees on) (knows on)
 
@@ -101,14 +103,16 @@ short_moved reach c ds k g _ spelled small (goes r e drew) = short_taken c g r s
 pub shorts_taken : (reach : Reach) (c : Command) (gs : List Gear) (left : List ℕ) → IsSpelled c → ShortAll gs → ShortAll (row_after reach c 0 gs left)
 shorts_taken reach c gs left spelled small i in_row =
     let there : i < length gs = subst (λ n. i < n) (row_length reach c 0 gs left) in_row in
-    short_moved reach c (drawn_of reach c 0 gs left) i (get_or gs i fresh) (get_or (row_after reach c 0 gs left) i fresh) spelled (small i there) (moves_at reach c gs left i there)
+    short_moved reach c (drawn_of reach c 0 gs left) i (get_or gs i fresh) (get_or (row_after reach c 0 gs left) i fresh) spelled (small i there)
+    (moves_at reach c gs left i there)
 
 -- WHAT IS KNOWN OF THE GEAR, at each moment
 pub record IsKnown (w : World) : Type 0 where
   pub knows : KnowsAll (stage_of w.trace) w.gear
   pub short : ShortAll w.gear
 
-knows_sent : (w : World) (c : ℕ) (f : Forward) (h : Answer) → Allowed w (event.Sent c f h) → IsKnown w → KnowsAll (stage_of (happens w (event.Sent c f h)).trace) (happens w (event.Sent c f h)).gear
+knows_sent : (w : World) (c : ℕ) (f : Forward) (h : Answer) → Allowed w (event.Sent c f h) → IsKnown w
+    → KnowsAll (stage_of (happens w (event.Sent c f h)).trace) (happens w (event.Sent c f h)).gear
 knows_sent w c f h here known =
     knows_of (goes_on w c (trace_running w c ++ entry f h ∷ [])) (trace_running w c ++ entry f h ∷ []) (row_after Everyone (command_of f) 0 w.gear w.left)
     (subst (λ s. KnowsAll s (row_after Everyone (command_of f) 0 w.gear w.left)) (sym (stage_more (trace_running w c) (entry f h)))
@@ -118,7 +122,8 @@ knows_sent w c f h here known =
 knows_powered : (s : Stage) (on : Bool) (g : Gear) → (g.powered ≡ true → Knows s g) → (gear_powered on g).powered ≡ true → Knows s (gear_powered on g)
 knows_powered s false g k e = absurd (cc)
 knows_powered s true g k e = go (g.powered) k e where
-  go : (b : Bool) → (b ≡ true → Knows s g) → (if b then g else record g { powered = true; state = fresh.state; search = fresh.search; half = None }).powered ≡ true
+  go : (b : Bool) → (b ≡ true → Knows s g)
+      → (if b then g else record g { powered = true; state = fresh.state; search = fresh.search; half = None }).powered ≡ true
       → Knows s (if b then g else record g { powered = true; state = fresh.state; search = fresh.search; half = None })
   go true k e = k refl
   go false k e = knows_inactive s (record g { powered = true; state = fresh.state; search = fresh.search; half = None }) refl
@@ -140,15 +145,18 @@ known_step w (event.Destroyed c f set) here known =
 known_step w (event.Collided c f d g) here known = record { knows = knows_free w.gear; short = known.short }
 known_step w event.Lapsed here known = record { knows = knows_free w.gear; short = known.short }
 known_step w event.Quiet here known = record {
-  knows = each_map fresh (λ k g. g.powered ≡ true → Knows (stage_of w.trace) g) gear_quieted w.gear (λ k g h on. knows_quieted (stage_of w.trace) g (h on)) known.knows;
+  knows = each_map fresh (λ k g. g.powered ≡ true → Knows (stage_of w.trace) g) gear_quieted w.gear
+      (λ k g h on. knows_quieted (stage_of w.trace) g (h on)) known.knows;
   short = each_map fresh (λ k g. IsShort g) gear_quieted w.gear (λ k g h. h) known.short;
 }
 known_step w (event.Power g on) here known = record {
-  knows = each_changed fresh (λ k g. g.powered ≡ true → Knows (stage_of w.trace) g) (gear_powered on) w.gear g (λ there h. knows_powered (stage_of w.trace) on (gear_at w g) h) known.knows;
+  knows = each_changed fresh (λ k g. g.powered ≡ true → Knows (stage_of w.trace) g) (gear_powered on) w.gear g
+      (λ there h. knows_powered (stage_of w.trace) on (gear_at w g) h) known.knows;
   short = each_changed fresh (λ k g. IsShort g) (gear_powered on) w.gear g (λ there h. short_powered on (gear_at w g) h) known.short;
 }
 known_step w (event.Expired g) here known = record {
-  knows = each_changed fresh (λ k g. g.powered ≡ true → Knows (stage_of w.trace) g) gear_expired w.gear g (λ there h on. knows_inactive (stage_of w.trace) (gear_expired (gear_at w g)) refl) known.knows;
+  knows = each_changed fresh (λ k g. g.powered ≡ true → Knows (stage_of w.trace) g) gear_expired w.gear g
+      (λ there h on. knows_inactive (stage_of w.trace) (gear_expired (gear_at w g)) refl) known.knows;
   short = each_changed fresh (λ k g. IsShort g) gear_expired w.gear g (λ there h. h) known.short;
 }
 known_step w (event.Down c) here known = record { knows = knows_unless _ w.trace w.gear known.knows; short = known.short }

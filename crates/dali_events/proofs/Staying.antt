@@ -32,7 +32,8 @@ record StaysOnly (N : Assignment → Type 0) (cs : List Controller) (x : Assignm
 abbrev Stays : (Assignment → Type 0) → List Controller → Assignment → Property
 Stays N cs x c kept o f = StaysOnly N cs x c kept o f
 
-still_keep : (N : Assignment → Type 0) (x : Assignment) → Unopposed N x → (kept : Kept) (o : Option Record) → SaysRecord N o → Has kept.reserved x → Has (with_outstanding kept o).reserved x
+still_keep : (N : Assignment → Type 0) (x : Assignment) → Unopposed N x → (kept : Kept) (o : Option Record) → SaysRecord N o → Has kept.reserved x
+    → Has (with_outstanding kept o).reserved x
 still_keep N x alone kept None says h = h
 still_keep N x alone kept (Some (Reserve a r)) says h = has_left kept.reserved ((a, r) ∷ []) x h
 still_keep N x alone kept (Some (Enrol a r)) says h = h
@@ -47,7 +48,8 @@ stays_stand N cs x alone = record {
   forget = λ c kept o f h. record { says = (says_stand N).forget c kept o f h.says; still = h.still };
 }
 
-stays_order : (N : Assignment → Type 0) (cs : List Controller) (x : Assignment) (c : ℕ) (k : Controller) (o : Order) → AddsOrder (Says N) c k o → AddsOrder (Stays N cs x) c k o
+stays_order : (N : Assignment → Type 0) (cs : List Controller) (x : Assignment) (c : ℕ) (k : Controller) (o : Order) → AddsOrder (Says N) c k o
+    → AddsOrder (Stays N cs x) c k o
 stays_order N cs x c k (Commit y) adds = λ h. record { says = adds h.says; still = h.still }
 stays_order N cs x c k (Put q f) adds = tt
 stays_order N cs x c k (Done end) adds = tt
@@ -59,16 +61,22 @@ stays_add N cs x w (event.Sent c f h) adds = λ there k. record { says = adds th
 stays_add N cs x w _ adds = tt
 
 -- one event, by what controllers say before it and after it
-pub still_reserved : (N M : Assignment → Type 0) (x : Assignment) → Unopposed M x → (w : World) (e : Event) → Allowed w e → ((y : Assignment) → N y → M y) → FoundBy M w e
+pub still_reserved : (N M : Assignment → Type 0) (x : Assignment) → Unopposed M x → (w : World) (e : Event) → Allowed w e → ((y : Assignment) → N y → M y)
+    → FoundBy M w e
     → Each nobody (Of (Says N)) w.controllers → Each nobody (Of (StillReserved w.controllers x)) (happens w e).controllers
 still_reserved N M x alone w e here more found each c there = (all c there).still where
   all : Each nobody (Of (Stays M w.controllers x)) (happens w e).controllers
   all = controllers_step (Stays M w.controllers x) (stays_stand M w.controllers x alone) w e (stays_add M w.controllers x w e (says_add M w e here found))
-      (λ i h. record { says = says_more N M more (controller_at w i).records (controller_at w i).outstanding (controller_at w i).finding (each i h); still = λ k. k })
+      (λ i h. record {
+        says = says_more N M more (controller_at w i).records (controller_at w i).outstanding (controller_at w i).finding (each i h);
+        still = λ k. k;
+      })
 
 -- no entry has the number of a gear with another address than the one that it was given
-pub given_alone : (R : Assignment → Type 0) (w : World) → AreDrawn w → Gifts R w.gear w.drawn w.gifts → (g a : ℕ) → Has w.gifts (g, a) → Unopposed (Names w) (a, (gear_at w g).random)
+pub given_alone : (R : Assignment → Type 0) (w : World) → AreDrawn w → Gifts R w.gear w.drawn w.gifts → (g a : ℕ) → Has w.gifts (g, a)
+    → Unopposed (Names w) (a, (gear_at w g).random)
 given_alone R w d gifts g a h b other n =
-    let same : n.0 ≡ g = ap (λ draw. draw.0) (same_member (λ draw. draw.1) w.drawn (n.0, (gear_at w g).random) (g, (gear_at w g).random) d.once n.2.drawer (gifts.drawn g a h) refl) in
+    let same : n.0 ≡ g = ap (λ draw. draw.0) (same_member (λ draw. draw.1) w.drawn (n.0, (gear_at w g).random) (g, (gear_at w g).random) d.once n.2.drawer
+    (gifts.drawn g a h) refl) in
     let given : Has w.gifts (g, b) = subst (λ k. Has w.gifts (k, b)) same n.2.given in
     other (ap (λ gift. gift.1) (same_member (λ gift. gift.0) w.gifts (g, b) (g, a) gifts.gear_once given h refl))

@@ -1,4 +1,5 @@
-use Rattle.std.proofs.Common.{◌≡◌, ℕ, ◌+◌, ◌<◌, ◌⊎◌, inl, inr, Bool, true, false, zero, suc, List, [], ◌∷◌, ◌++◌, refl, ap, subst, arith, length, map, get_or, add-zero, zero-add}
+use Rattle.std.proofs.Common.{◌≡◌, ℕ, ◌+◌, ◌<◌, ◌⊎◌, inl, inr, Bool, true, false, zero, suc, List, [], ◌∷◌, ◌++◌, refl, ap, subst, arith, length, map, get_or}
+use Rattle.std.proofs.Common.{add-zero, zero-add}
 use Rattle.std.specs.Prelude.{◌&&◌}
 use Rattle.dali_special.specs.declared.command.Command.{Command}
 use Rattle.dali_gear.specs.declared.row.Reach.{Reach}
@@ -12,7 +13,8 @@ pub data Moved (reach : Reach) (c : Command) (draws : List (ℕ × ℕ)) (k : �
   stays : takes reach k g ≡ false → Moved reach c draws k g g
   goes : (r : ℕ) → takes reach k g ≡ true → (draws_a_number c g ≡ true → (r ≡ g.random) ⊎ Has draws (k, r)) → Moved reach c draws k g (gear_taken c r g)
 
-moved_more : (reach : Reach) (c : Command) (ds es : List (ℕ × ℕ)) (k : ℕ) (g h : Gear) → ((x : ℕ × ℕ) → Has ds x → Has es x) → Moved reach c ds k g h → Moved reach c es k g h
+moved_more : (reach : Reach) (c : Command) (ds es : List (ℕ × ℕ)) (k : ℕ) (g h : Gear) → ((x : ℕ × ℕ) → Has ds x → Has es x) → Moved reach c ds k g h
+    → Moved reach c es k g h
 moved_more reach c ds es k g _ more (stays e) = stays e
 moved_more reach c ds es k g _ more (goes r e drew) = goes r e (λ w. go (drew w)) where
   go : (r ≡ g.random) ⊎ Has ds (k, r) → (r ≡ g.random) ⊎ Has es (k, r)
@@ -43,13 +45,15 @@ moves_from reach c (g ∷ gs) k left (suc i) h =
     let more : List (ℕ × ℕ) = drawn_of reach c (k + 1) gs (left_after (takes reach k g && draws_a_number c g) left) in
     let there = moves_from reach c gs (k + 1) (left_after (takes reach k g && draws_a_number c g) left) i (omega arith) in
     moved_more reach c _ _ (k + suc i) _ _ (drawn_before (takes reach k g && draws_a_number c g) k left _)
-    (subst (λ n. Moved reach c (drawn_of reach c (k + 1) gs (left_after (takes reach k g && draws_a_number c g) left)) n (get_or gs i fresh) (get_or (row_after reach c (k + 1) gs (left_after (takes reach k g && draws_a_number c g) left)) i fresh)) same there)
+    (subst (λ n. Moved reach c (drawn_of reach c (k + 1) gs (left_after (takes reach k g && draws_a_number c g) left)) n (get_or gs i fresh)
+    (get_or (row_after reach c (k + 1) gs (left_after (takes reach k g && draws_a_number c g) left)) i fresh)) same there)
 
 pub moves_at : (reach : Reach) (c : Command) (gs : List Gear) (left : List ℕ) (i : ℕ) → i < length gs
     → Moved reach c (drawn_of reach c 0 gs left) i (get_or gs i fresh) (get_or (row_after reach c 0 gs left) i fresh)
 moves_at reach c gs left i h =
     let start : 0 + i ≡ i = zero-add i in
-    subst (λ n. Moved reach c (drawn_of reach c 0 gs left) n (get_or gs i fresh) (get_or (row_after reach c 0 gs left) i fresh)) start (moves_from reach c gs 0 left i h)
+    subst (λ n. Moved reach c (drawn_of reach c 0 gs left) n (get_or gs i fresh) (get_or (row_after reach c 0 gs left) i fresh)) start
+    (moves_from reach c gs 0 left i h)
 
 -- as many gear as before
 pub row_length : (reach : Reach) (c : Command) (k : ℕ) (gs : List Gear) (left : List ℕ) → length (row_after reach c k gs left) ≡ length gs
@@ -57,12 +61,15 @@ row_length reach c k [] left = refl
 row_length reach c k (g ∷ gs) left = ap suc (row_length reach c (k + 1) gs (left_after (takes reach k g && draws_a_number c g) left))
 
 -- THE NUMBERS DRAWN, AND THEN THOSE LEFT, ARE THOSE BEFORE
-pub numbers_stay : (reach : Reach) (c : Command) (k : ℕ) (gs : List Gear) (left : List ℕ) → map (λ draw. draw.1) (drawn_of reach c k gs left) ++ row_left reach c k gs left ≡ left
+pub numbers_stay : (reach : Reach) (c : Command) (k : ℕ) (gs : List Gear) (left : List ℕ)
+    → map (λ draw. draw.1) (drawn_of reach c k gs left) ++ row_left reach c k gs left ≡ left
 numbers_stay reach c k [] left = refl
 numbers_stay reach c k (g ∷ gs) left =
-    go (takes reach k g && draws_a_number c g) left (drawn_of reach c (k + 1) gs (left_after (takes reach k g && draws_a_number c g) left)) (row_left reach c (k + 1) gs (left_after (takes reach k g && draws_a_number c g) left))
+    go (takes reach k g && draws_a_number c g) left (drawn_of reach c (k + 1) gs (left_after (takes reach k g && draws_a_number c g) left))
+    (row_left reach c (k + 1) gs (left_after (takes reach k g && draws_a_number c g) left))
     (numbers_stay reach c (k + 1) gs (left_after (takes reach k g && draws_a_number c g) left)) where
-      go : (b : Bool) (xs : List ℕ) (more : List (ℕ × ℕ)) (rest : List ℕ) → map (λ draw. draw.1) more ++ rest ≡ left_after b xs → map (λ draw. draw.1) (drawn_one b k xs more) ++ rest ≡ xs
+      go : (b : Bool) (xs : List ℕ) (more : List (ℕ × ℕ)) (rest : List ℕ) → map (λ draw. draw.1) more ++ rest ≡ left_after b xs
+          → map (λ draw. draw.1) (drawn_one b k xs more) ++ rest ≡ xs
       go false xs more rest e = e
       go true [] more rest e = e
       go true (r ∷ xs) more rest e = ap (λ ys. r ∷ ys) e

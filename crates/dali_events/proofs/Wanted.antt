@@ -78,7 +78,8 @@ is_bare_by g on none = rw (on, none) refl
 count_first : (p : Gear → Bool) (g : Gear) (gs : List Gear) → count_by p (g ∷ gs) ≡ (if p g then 1 else 0) + count_by p gs
 count_first p g gs = sum_by-cons (λ x. if p x then 1 else 0) g gs
 
-pub count_same : (p q : Gear → Bool) (gs hs : List Gear) → length hs ≡ length gs → ((k : ℕ) → k < length gs → q (gear_of hs k) ≡ p (gear_of gs k)) → count_by q hs ≡ count_by p gs
+pub count_same : (p q : Gear → Bool) (gs hs : List Gear) → length hs ≡ length gs → ((k : ℕ) → k < length gs → q (gear_of hs k) ≡ p (gear_of gs k))
+    → count_by q hs ≡ count_by p gs
 count_same p q [] [] e same = refl
 count_same p q [] (h ∷ hs) e same = absurd (omega arith)
 count_same p q (g ∷ gs) [] e same = absurd (omega arith)
@@ -93,13 +94,15 @@ one_at_most true false m n pass h = absurd (let there : false ≡ true = pass re
 one_at_most false true m n pass h = omega arith
 one_at_most false false m n pass h = omega arith
 
-pub count_at_most : (p q : Gear → Bool) (gs hs : List Gear) → length hs ≡ length gs → ((k : ℕ) → k < length gs → q (gear_of hs k) ≡ true → p (gear_of gs k) ≡ true) → count_by q hs ≤ count_by p gs
+pub count_at_most : (p q : Gear → Bool) (gs hs : List Gear) → length hs ≡ length gs
+    → ((k : ℕ) → k < length gs → q (gear_of hs k) ≡ true → p (gear_of gs k) ≡ true) → count_by q hs ≤ count_by p gs
 count_at_most p q [] [] e pass = omega arith
 count_at_most p q [] (h ∷ hs) e pass = absurd (omega arith)
 count_at_most p q (g ∷ gs) [] e pass = absurd (omega arith)
 count_at_most p q (g ∷ gs) (h ∷ hs) e pass =
     rw (count_first q h hs, count_first p g gs)
-    (one_at_most (q h) (p g) (count_by q hs) (count_by p gs) (pass 0 (omega arith)) (count_at_most p q gs hs (omega arith) (λ k in_row. pass (suc k) (omega arith))))
+    (one_at_most (q h) (p g) (count_by q hs) (count_by p gs) (pass 0 (omega arith))
+    (count_at_most p q gs hs (omega arith) (λ k in_row. pass (suc k) (omega arith))))
 
 one_less : (a b : Bool) (m n : ℕ) → (a ≡ true → b ≡ true) → m < n → (if a then 1 else 0) + m < (if b then 1 else 0) + n
 one_less true true m n pass h = omega arith
@@ -107,7 +110,8 @@ one_less true false m n pass h = absurd (let there : false ≡ true = pass refl 
 one_less false true m n pass h = omega arith
 one_less false false m n pass h = omega arith
 
-pub count_less : (p q : Gear → Bool) (gs hs : List Gear) (i : ℕ) → length hs ≡ length gs → ((k : ℕ) → k < length gs → q (gear_of hs k) ≡ true → p (gear_of gs k) ≡ true)
+pub count_less : (p q : Gear → Bool) (gs hs : List Gear) (i : ℕ) → length hs ≡ length gs
+    → ((k : ℕ) → k < length gs → q (gear_of hs k) ≡ true → p (gear_of gs k) ≡ true)
     → i < length gs → p (gear_of gs i) ≡ true → q (gear_of hs i) ≡ false → count_by q hs < count_by p gs
 count_less p q [] hs i e pass h was now = absurd (omega arith)
 count_less p q (g ∷ gs) [] i e pass h was now = absurd (omega arith)
@@ -116,7 +120,8 @@ count_less p q (g ∷ gs) (h ∷ hs) zero e pass in_row was now =
     rw (count_first q h hs, count_first p g gs, was, now) (omega (arith, rest))
 count_less p q (g ∷ gs) (h ∷ hs) (suc i) e pass in_row was now =
     rw (count_first q h hs, count_first p g gs)
-    (one_less (q h) (p g) (count_by q hs) (count_by p gs) (pass 0 (omega arith)) (count_less p q gs hs i (omega arith) (λ k in_row. pass (suc k) (omega arith)) (omega arith) was now))
+    (one_less (q h) (p g) (count_by q hs) (count_by p gs) (pass 0 (omega arith))
+    (count_less p q gs hs i (omega arith) (λ k in_row. pass (suc k) (omega arith)) (omega arith) was now))
 
 -- two tests that pass alike
 pub same_tests : (a b : Bool) → (a ≡ true → b ≡ true) → (b ≡ true → a ≡ true) → a ≡ b
@@ -141,7 +146,8 @@ abbrev pub Named : ℕ → Gear → Type 0
 Named n g = g.state ≡ Enabled → g.random ≡ n → HasShort g
 
 -- what goes over from one list to another
-pub powered_over : (P Q : Gear → Type 0) (gs hs : List Gear) → length hs ≡ length gs → ((k : ℕ) → k < length gs → (gear_of hs k).powered ≡ (gear_of gs k).powered)
+pub powered_over : (P Q : Gear → Type 0) (gs hs : List Gear) → length hs ≡ length gs
+    → ((k : ℕ) → k < length gs → (gear_of hs k).powered ≡ (gear_of gs k).powered)
     → ((k : ℕ) → k < length gs → (gear_of gs k).powered ≡ true → P (gear_of gs k) → Q (gear_of hs k)) → OfPowered gs P → OfPowered hs Q
 powered_over P Q gs hs e powered step all k h on =
     let there : k < length gs = subst (λ n. k < n) e h in
@@ -149,7 +155,8 @@ powered_over P Q gs hs e powered step all k h on =
     step k there was (all k there was)
 
 -- numbers that stay wanted
-pub wants_over : (gs hs : List Gear) (n : ℕ) → length hs ≡ length gs → ((k : ℕ) → k < length gs → is_wanted (gear_of hs k) ≡ true → is_wanted (gear_of gs k) ≡ true)
+pub wants_over : (gs hs : List Gear) (n : ℕ) → length hs ≡ length gs
+    → ((k : ℕ) → k < length gs → is_wanted (gear_of hs k) ≡ true → is_wanted (gear_of gs k) ≡ true)
     → ((k : ℕ) → k < length gs → (gear_of hs k).random ≡ (gear_of gs k).random) → wants hs n ≡ true → wants gs n ≡ true
 wants_over gs hs n e wanted random wants =
     let there = wants_at hs n wants in
@@ -171,7 +178,8 @@ pub apart_over : (gs hs : List Gear) → length hs ≡ length gs → ((k : ℕ) 
 apart_over gs hs e powered active random apart j k h i on up live awake same =
     let there : j < length gs = subst (λ n. j < n) e h in
     let here : k < length gs = subst (λ n. k < n) e i in
-    apart j k there here (sym (powered j there) ∙ on) (sym (powered k here) ∙ up) (active j there live) (active k here awake) (sym (random j there) ∙ same ∙ random k here)
+    apart j k there here (sym (powered j there) ∙ on) (sym (powered k here) ∙ up) (active j there live) (active k here awake)
+    (sym (random j there) ∙ same ∙ random k here)
 
 -- WHAT IS WANTED OF GEAR THAT WERE OPENED: only numbers below FFFFFF
 pub wanted_below : (gs : List Gear) (n : ℕ) → IsOpened gs → wants gs n ≡ true → n < MASK24
@@ -191,7 +199,8 @@ bare_count gs opened = count_at_most is_wanted is_bare gs gs refl (λ k h bare. 
 
 pub wanted_count : (gs : List Gear) → IsOpened gs → NoneNamed gs → count_by is_wanted gs ≡ count_by is_bare gs
 wanted_count gs opened named =
-    count_same is_bare is_wanted gs gs refl (λ k h. same_tests (is_wanted (gear_of gs k)) (is_bare (gear_of gs k)) (wanted_bare (gear_of gs k) (named k h)) (bare_wanted (gear_of gs k) (opened.bare k h)))
+    count_same is_bare is_wanted gs gs refl (λ k h. same_tests (is_wanted (gear_of gs k)) (is_bare (gear_of gs k)) (wanted_bare (gear_of gs k) (named k h))
+    (bare_wanted (gear_of gs k) (opened.bare k h)))
 
 -- none are wanted where no number is
 pub count_none : (gs : List Gear) → ((n : ℕ) → wants gs n ≡ true → ⊥) → count_by is_wanted gs ≡ 0
@@ -212,18 +221,22 @@ count_some gs n wants = let there = wants_at gs n wants in go gs there.0 there.1
   go (h ∷ hs) (suc k) in_row e = let rest : 0 < count_by is_wanted hs = go hs k (omega arith) e in rw (count_first is_wanted h hs) (omega (arith, rest))
 
 -- a gear with this random address that is wanted and has a short address: all such have one
-pub named_by : (gs : List Gear) (n k : ℕ) → AreApart gs → k < length gs → is_wanted (gear_of gs k) ≡ true → (gear_of gs k).random ≡ n → HasShort (gear_of gs k) → AreNamed gs n
+pub named_by : (gs : List Gear) (n k : ℕ) → AreApart gs → k < length gs → is_wanted (gear_of gs k) ≡ true → (gear_of gs k).random ≡ n → HasShort (gear_of gs k)
+    → AreNamed gs n
 named_by gs n k apart h wanted random short j in_row on enabled same =
     let active : is_active (gear_of gs j).state ≡ true = rw enabled refl in
     let one : k ≡ j = apart k j h in_row (wanted_powered (gear_of gs k) wanted) on (wanted_active (gear_of gs k) wanted) active (random ∙ sym same) in
     subst (λ i. HasShort (gear_of gs i)) one short
 
 -- WHAT A FRAME DOES TO EACH GEAR, if it does so to each that has power
-moved_by : (c : Command) (P : Gear → Gear → Type 0) → ((g : Gear) → (g.powered ≡ true → ⊥) → P g g) → ((g : Gear) (x : ℕ) → g.powered ≡ true → P g (gear_taken c x g))
+moved_by : (c : Command) (P : Gear → Gear → Type 0) → ((g : Gear) → (g.powered ≡ true → ⊥) → P g g)
+    → ((g : Gear) (x : ℕ) → g.powered ≡ true → P g (gear_taken c x g))
     → (ds : List (ℕ × ℕ)) (k : ℕ) (g h : Gear) → Moved Everyone c ds k g h → P g h
 moved_by c P off on ds k g _ (stays e) = off g (λ up. absurd (let there : takes Everyone k g ≡ true = powered_takes k g up in cc))
 moved_by c P off on ds k g _ (goes x e drew) = on g x (takes_powered Everyone k g e)
 
-pub after_at : (c : Command) (P : Gear → Gear → Type 0) → ((g : Gear) → (g.powered ≡ true → ⊥) → P g g) → ((g : Gear) (x : ℕ) → g.powered ≡ true → P g (gear_taken c x g))
+pub after_at : (c : Command) (P : Gear → Gear → Type 0) → ((g : Gear) → (g.powered ≡ true → ⊥) → P g g)
+    → ((g : Gear) (x : ℕ) → g.powered ≡ true → P g (gear_taken c x g))
     → (gs : List Gear) (left : List ℕ) (k : ℕ) → k < length gs → P (gear_of gs k) (gear_of (row_after Everyone c 0 gs left) k)
-after_at c P off on gs left k h = moved_by c P off on (drawn_of Everyone c 0 gs left) k (gear_of gs k) (gear_of (row_after Everyone c 0 gs left) k) (moves_at Everyone c gs left k h)
+after_at c P off on gs left k h =
+    moved_by c P off on (drawn_of Everyone c 0 gs left) k (gear_of gs k) (gear_of (row_after Everyone c 0 gs left) k) (moves_at Everyone c gs left k h)

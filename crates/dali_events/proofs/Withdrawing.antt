@@ -13,7 +13,8 @@ use Rattle.dali_events.specs.Searching.{HasShort}
 use Rattle.dali_events.specs.Wanted.{is_wanted, wants, gear_of, Seek, AreApart, IsOpened, NoneNamed, NoneNamedBut, AreNamed}
 use Rattle.dali_events.proofs.Takes.{row_length}
 use Rattle.dali_events.proofs.Known.{found_random}
-use Rattle.dali_events.proofs.Wanted.{enabled_is, wanted_powered, wanted_enabled, is_wanted_by, wants_by, wants_at, count_less, Enabling, Drawing, Unnamed, UnnamedBut, powered_over, apart_over, after_at}
+use Rattle.dali_events.proofs.Wanted.{enabled_is, wanted_powered, wanted_enabled, is_wanted_by, wants_by, wants_at, count_less, Enabling, Drawing, Unnamed}
+use Rattle.dali_events.proofs.Wanted.{UnnamedBut, powered_over, apart_over, after_at}
 use Rattle.dali_events.proofs.Heard.{random_found}
 
 -- WITHDRAW: the gear after it
@@ -28,7 +29,8 @@ pub record Withdraws (n : ℕ) (g h : Gear) : Type 0 where
   pub withdrawn : g.powered ≡ true → g.state ≡ Enabled → g.random ≡ n → h.state ≡ Withdrawn
   pub others : (g.powered ≡ true → g.state ≡ Enabled → g.random ≡ n → ⊥) → h.state ≡ g.state
 
-withdraws_on : (r : SearchAddress) (g : Gear) (x : ℕ) → g.powered ≡ true → (g.powered ≡ true → is_active g.state ≡ true → g.search ≡ r) → Withdraws (value_of r) g (gear_taken Withdraw x g)
+withdraws_on : (r : SearchAddress) (g : Gear) (x : ℕ) → g.powered ≡ true → (g.powered ≡ true → is_active g.state ≡ true → g.search ≡ r)
+    → Withdraws (value_of r) g (gear_taken Withdraw x g)
 withdraws_on r g x on seek = record { same_powered = refl; same_random = refl; same_short = refl; withdrawn = withdrawn; others = others } where
   seeks : g.state ≡ Enabled → g.search ≡ r
   seeks enabled = seek on (rw enabled refl)
@@ -47,19 +49,32 @@ withdraws_on r g x on seek = record { same_powered = refl; same_random = refl; s
         let is : g.state ≡ Enabled = enabled_is g.state enabled in
         absurd (other on is (found_random g r (seeks is) found))
 
-pub withdraws_at : (gs : List Gear) (left : List ℕ) (r : SearchAddress) → Seek gs r → (k : ℕ) → k < length gs → Withdraws (value_of r) (gear_of gs k) (gear_of (after_withdraw gs left) k)
+pub withdraws_at : (gs : List Gear) (left : List ℕ) (r : SearchAddress) → Seek gs r → (k : ℕ) → k < length gs
+    → Withdraws (value_of r) (gear_of gs k) (gear_of (after_withdraw gs left) k)
 withdraws_at gs left r seek k h =
     after_at Withdraw (λ g h. (g.powered ≡ true → is_active g.state ≡ true → g.search ≡ r) → Withdraws (value_of r) g h)
-    (λ g off was. record { same_powered = refl; same_random = refl; same_short = refl; withdrawn = λ on enabled random. absurd (off on); others = λ other. refl })
+    (λ g off was. record {
+      same_powered = refl;
+      same_random = refl;
+      same_short = refl;
+      withdrawn = λ on enabled random. absurd (off on);
+      others = λ other. refl;
+    })
     (λ g x on was. withdraws_on r g x on was) gs left k h (seek k h)
 
 -- who is ENABLED then was so before, and has another random address
 still_enabled : (n : ℕ) (g h : Gear) → Withdraws n g h → g.powered ≡ true → h.state ≡ Enabled → (g.state ≡ Enabled) × (g.random ≢ n)
 still_enabled n g h w on enabled = go g.state refl where
   go : (s : InitialisationState) → g.state ≡ s → (g.state ≡ Enabled) × (g.random ≢ n)
-  go Enabled is = (is, λ random. let gone : h.state ≡ Withdrawn = w.withdrawn on is random in let never : Enabled ≡ Withdrawn = sym enabled ∙ gone in absurd (cc))
-  go Disabled is = absurd (let same : h.state ≡ g.state = w.others (λ up e random. let never : Disabled ≡ Enabled = sym is ∙ e in absurd (cc)) in let never : Enabled ≡ Disabled = sym enabled ∙ same ∙ is in cc)
-  go Withdrawn is = absurd (let same : h.state ≡ g.state = w.others (λ up e random. let never : Withdrawn ≡ Enabled = sym is ∙ e in absurd (cc)) in let never : Enabled ≡ Withdrawn = sym enabled ∙ same ∙ is in cc)
+  go Enabled is = (
+    is,
+    λ random. let gone : h.state ≡ Withdrawn = w.withdrawn on is random in let never : Enabled ≡ Withdrawn = sym enabled ∙ gone in
+        absurd (cc),
+  )
+  go Disabled is = absurd (let same : h.state ≡ g.state = w.others (λ up e random. let never : Disabled ≡ Enabled = sym is ∙ e in absurd (cc)) in
+      let never : Enabled ≡ Disabled = sym enabled ∙ same ∙ is in cc)
+  go Withdrawn is = absurd (let same : h.state ≡ g.state = w.others (λ up e random. let never : Withdrawn ≡ Enabled = sym is ∙ e in absurd (cc)) in
+      let never : Enabled ≡ Withdrawn = sym enabled ∙ same ∙ is in cc)
 
 still_wanted : (n : ℕ) (g h : Gear) → Withdraws n g h → is_wanted h ≡ true → (is_wanted g ≡ true) × (g.random ≢ n)
 still_wanted n g h w wanted =
@@ -77,7 +92,8 @@ stays_wanted : (n : ℕ) (g h : Gear) → Withdraws n g h → is_wanted g ≡ tr
 stays_wanted n g h w wanted other =
     is_wanted_by h (w.same_powered ∙ wanted_powered g wanted) (w.others (λ on enabled random. other random) ∙ wanted_enabled g wanted)
 
-pub withdrawn_wants : (gs : List Gear) (left : List ℕ) (r : SearchAddress) (n : ℕ) → Seek gs r → wants (after_withdraw gs left) n ≡ true → (wants gs n ≡ true) × (n ≡ value_of r → ⊥)
+pub withdrawn_wants : (gs : List Gear) (left : List ℕ) (r : SearchAddress) (n : ℕ) → Seek gs r → wants (after_withdraw gs left) n ≡ true
+    → (wants gs n ≡ true) × (n ≡ value_of r → ⊥)
 withdrawn_wants gs left r n seek wants =
     let there = wants_at (after_withdraw gs left) n wants in
     let inside : there.0 < length gs = subst (λ m. there.0 < m) (row_length Everyone Withdraw 0 gs left) there.1 in
@@ -86,15 +102,18 @@ withdrawn_wants gs left r n seek wants =
     let random : (gear_of gs there.0).random ≡ n = sym w.same_random ∙ there.3 in
     (wants_by gs n there.0 inside was.0 random, λ e. was.1 (random ∙ e))
 
-pub wants_withdrawn : (gs : List Gear) (left : List ℕ) (r : SearchAddress) (n : ℕ) → Seek gs r → wants gs n ≡ true → (n ≡ value_of r → ⊥) → wants (after_withdraw gs left) n ≡ true
+pub wants_withdrawn : (gs : List Gear) (left : List ℕ) (r : SearchAddress) (n : ℕ) → Seek gs r → wants gs n ≡ true → (n ≡ value_of r → ⊥)
+    → wants (after_withdraw gs left) n ≡ true
 wants_withdrawn gs left r n seek wants other =
     let there = wants_at gs n wants in
     let w = withdraws_at gs left r seek there.0 there.1 in
     let inside : there.0 < length (after_withdraw gs left) = subst (λ m. there.0 < m) (sym (row_length Everyone Withdraw 0 gs left)) there.1 in
     wants_by (after_withdraw gs left) n there.0 inside
-    (stays_wanted (value_of r) (gear_of gs there.0) (gear_of (after_withdraw gs left) there.0) w there.2 (λ e. other (sym there.3 ∙ e))) (w.same_random ∙ there.3)
+    (stays_wanted (value_of r) (gear_of gs there.0) (gear_of (after_withdraw gs left) there.0) w there.2 (λ e. other (sym there.3 ∙ e)))
+    (w.same_random ∙ there.3)
 
-pub withdrawn_count : (gs : List Gear) (left : List ℕ) (r : SearchAddress) → Seek gs r → wants gs (value_of r) ≡ true → count_by is_wanted (after_withdraw gs left) < count_by is_wanted gs
+pub withdrawn_count : (gs : List Gear) (left : List ℕ) (r : SearchAddress) → Seek gs r → wants gs (value_of r) ≡ true
+    → count_by is_wanted (after_withdraw gs left) < count_by is_wanted gs
 withdrawn_count gs left r seek wants =
     let there = wants_at gs (value_of r) wants in
     count_less is_wanted is_wanted gs (after_withdraw gs left) there.0 (row_length Everyone Withdraw 0 gs left)
@@ -116,11 +135,15 @@ withdraws_enabling n g h w named was none =
     let bare : g.short ≡ None = sym w.same_short ∙ none in
     w.others (λ on enabled random. let short = named enabled random in let never : None ≡ Some short.0 = sym bare ∙ short.1 in absurd (cc)) ∙ was bare
 
-pub withdrawn_opened : (gs : List Gear) (left : List ℕ) (r : SearchAddress) → Seek gs r → AreNamed gs (value_of r) → IsOpened gs → IsOpened (after_withdraw gs left)
+pub withdrawn_opened : (gs : List Gear) (left : List ℕ) (r : SearchAddress) → Seek gs r → AreNamed gs (value_of r) → IsOpened gs
+    → IsOpened (after_withdraw gs left)
 withdrawn_opened gs left r seek named opened = record {
-  bare = powered_over Enabling Enabling gs (after_withdraw gs left) (row_length Everyone Withdraw 0 gs left) (λ k h. (withdraws_at gs left r seek k h).same_powered)
-      (λ k h on was. withdraws_enabling (value_of r) (gear_of gs k) (gear_of (after_withdraw gs left) k) (withdraws_at gs left r seek k h) (named k h on) was) opened.bare;
-  drawn = powered_over Drawing Drawing gs (after_withdraw gs left) (row_length Everyone Withdraw 0 gs left) (λ k h. (withdraws_at gs left r seek k h).same_powered)
+  bare = powered_over Enabling Enabling gs (after_withdraw gs left) (row_length Everyone Withdraw 0 gs left)
+      (λ k h. (withdraws_at gs left r seek k h).same_powered)
+      (λ k h on was. withdraws_enabling (value_of r) (gear_of gs k) (gear_of (after_withdraw gs left) k) (withdraws_at gs left r seek k h) (named k h on) was)
+      opened.bare;
+  drawn = powered_over Drawing Drawing gs (after_withdraw gs left) (row_length Everyone Withdraw 0 gs left)
+      (λ k h. (withdraws_at gs left r seek k h).same_powered)
       (λ k h on was active. subst (λ n. n < MASK24) (sym (withdraws_at gs left r seek k h).same_random)
       (was (withdraws_active (value_of r) (gear_of gs k) (gear_of (after_withdraw gs left) k) (withdraws_at gs left r seek k h) active))) opened.drawn;
 }
@@ -130,7 +153,8 @@ none_named_but gs n named k h on enabled other = named k h on enabled
 
 pub withdrawn_none_named : (gs : List Gear) (left : List ℕ) (r : SearchAddress) → Seek gs r → NoneNamedBut gs (value_of r) → NoneNamed (after_withdraw gs left)
 withdrawn_none_named gs left r seek named =
-    powered_over (UnnamedBut (value_of r)) Unnamed gs (after_withdraw gs left) (row_length Everyone Withdraw 0 gs left) (λ k h. (withdraws_at gs left r seek k h).same_powered)
+    powered_over (UnnamedBut (value_of r)) Unnamed gs (after_withdraw gs left) (row_length Everyone Withdraw 0 gs left)
+    (λ k h. (withdraws_at gs left r seek k h).same_powered)
     (λ k h on was enabled.
     let w = withdraws_at gs left r seek k h in
     let still = still_enabled (value_of r) (gear_of gs k) (gear_of (after_withdraw gs left) k) w on enabled in

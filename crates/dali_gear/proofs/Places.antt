@@ -19,8 +19,10 @@ places_set {A} f new n i g here is others =
     len = rw (length-map-range_with_len f 0 n) here
 
     at : (k : ℕ) (d : A) → k < n → (k ≡ i) ⊎ (k ≢ i) → new k ≡ get_or (set (map f (range_with_len 0 n)) i g) k d
-    at k d inside (inl same) = ap new same ∙ is ∙ sym (ap (λ j. get_or (set (map f (range_with_len 0 n)) i g) j d) same ∙ get_or-set_same (map f (range_with_len 0 n)) i g d len)
-    at k d inside (inr other) = others k other ∙ sym (get_or-set_other (map f (range_with_len 0 n)) i k g d other ∙ get_or-map-range_with_len f 0 n k k d inside (zero-add k))
+    at k d inside (inl same) =
+        ap new same ∙ is ∙ sym (ap (λ j. get_or (set (map f (range_with_len 0 n)) i g) j d) same ∙ get_or-set_same (map f (range_with_len 0 n)) i g d len)
+    at k d inside (inr other) =
+        others k other ∙ sym (get_or-set_other (map f (range_with_len 0 n)) i k g d other ∙ get_or-map-range_with_len f 0 n k k d inside (zero-add k))
 
 -- there is one address for each gear that a row may have
 pub addresses_len : (a : Inside) → length (all_addresses a) ≡ 128
@@ -32,6 +34,7 @@ address_is a k d here = sym (get_or-map-range_with_len (address_in a) 0 128 k k 
 -- the address of a gear is written
 pub address_set : (a : Inside) (i : ℕ) (s : SearchAddress) → i < 128 → i < length a.high → i < length a.middle → i < length a.low
     → all_addresses (record { high = set a.high i s.high; middle = set a.middle i s.middle; low = set a.low i s.low }) ≡ set (all_addresses a) i s
-address_set a i s here high middle low = places_set (address_in a) (address_in (record { high = set a.high i s.high; middle = set a.middle i s.middle; low = set a.low i s.low })) 128 i s here
+address_set a i s here high middle low =
+    places_set (address_in a) (address_in (record { high = set a.high i s.high; middle = set a.middle i s.middle; low = set a.low i s.low })) 128 i s here
     (rw (get_or-set_same a.high i s.high 0 high, get_or-set_same a.middle i s.middle 0 middle, get_or-set_same a.low i s.low 0 low) refl)
     (λ k other. rw (get_or-set_other a.high i k s.high 0 other, get_or-set_other a.middle i k s.middle 0 other, get_or-set_other a.low i k s.low 0 other) refl)

@@ -1,5 +1,7 @@
-use Rattle.std.proofs.Common.{◌≡◌, ◌≢◌, ℕ, ◌+◌, ◌*◌, ◌%◌, ◌<◌, ◌≤◌, ◌⊎◌, Bool, true, false, ◌&&◌, ◌||◌, List, [], ◌∷◌, ◌++◌, take, length, get_or, set, drop, replicate, refl, sym, ap, ◌∙◌, arith, add-zero, zero-add, add_assoc, inl, inr}
-use Rattle.std.proofs.lemmas.List.{drop-drop, drop_more, drop-set-lt, take_more_set, same_lists, get_or-set_same, get_or-set_other, get_or_default, get_or-replicate, length-replicate, get_or_past, set-set}
+use Rattle.std.proofs.Common.{◌≡◌, ◌≢◌, ℕ, ◌+◌, ◌*◌, ◌%◌, ◌<◌, ◌≤◌, ◌⊎◌, Bool, true, false, ◌&&◌, ◌||◌, List, [], ◌∷◌, ◌++◌, take, length, get_or, set, drop}
+use Rattle.std.proofs.Common.{replicate, refl, sym, ap, ◌∙◌, arith, add-zero, zero-add, add_assoc, inl, inr}
+use Rattle.std.proofs.lemmas.List.{drop-drop, drop_more, drop-set-lt, take_more_set, same_lists, get_or-set_same, get_or-set_other, get_or_default}
+use Rattle.std.proofs.lemmas.List.{get_or-replicate, length-replicate, get_or_past, set-set}
 use Rattle.std.proofs.lemmas.List.FromFn.{length-map-range_with_len, get_or-map-range_with_len}
 use Rattle.std.proofs.lemmas.Bool.{cases_eq, cases_lt, false≢true, true≢false}
 use Rattle.std.proofs.Math.Seq.{set_out}
@@ -32,7 +34,14 @@ gear_at r k here = get_or-map-range_with_len (gear_in r) 0 r.count k k fresh her
 -- a gear is read from the columns
 pub gear_is : (r : Inside) (k random : ℕ) (search : SearchAddress) (short : Option ℕ) (half : Option Command) → k < r.count → k < length r.short
     → random ≡ (gear_in r k).random → search ≡ (gear_in r k).search → half ≡ (gear_in r k).half
-    → record { powered = get_or r.powered k false; state = get_or r.state k Disabled; random = random; search = search; short = get_or r.short k short; half = half }
+    → record {
+      powered = get_or r.powered k false;
+      state = get_or r.state k Disabled;
+      random = random;
+      search = search;
+      short = get_or r.short k short;
+      half = half;
+    }
     ≡ get_or (all_gear r) k fresh
 gear_is r k random search short half here in_short random_is search_is half_is =
     rw (gear_at r k here, random_is, search_is, half_is, get_or_default r.short k short None in_short) refl
@@ -82,8 +91,26 @@ module _ (r : Inside) (i : ℕ) (here : i < r.count) (wide : Wide r i) where
         some_paired = r.some_paired;
       }) ≡ set (all_gear r) i (record g { half = (get_or (all_gear r) i fresh).half })
   put_variables_is g number random search is random_is search_is = places_set (gear_in r) _ r.count i _ here
-      (rw (gear_at r i here, random_is, search_is, get_or-set_same r.powered i g.powered false wide.powered, get_or-set_same r.state i g.state Disabled wide.state, get_or-set_same r.random i number search_mask wide.random, is, get_or-set_same r.search i g.search search_mask wide.search, get_or-set_same r.short i g.short None wide.short) refl)
-      (λ k other. rw (random_is, search_is, get_or-set_other r.powered i k g.powered false other, get_or-set_other r.state i k g.state Disabled other, get_or-set_other r.random i k number search_mask other, get_or-set_other r.search i k g.search search_mask other, get_or-set_other r.short i k g.short None other) refl)
+      (rw (
+        gear_at r i here,
+        random_is,
+        search_is,
+        get_or-set_same r.powered i g.powered false wide.powered,
+        get_or-set_same r.state i g.state Disabled wide.state,
+        get_or-set_same r.random i number search_mask wide.random,
+        is,
+        get_or-set_same r.search i g.search search_mask wide.search,
+        get_or-set_same r.short i g.short None wide.short,
+      ) refl)
+      (λ k other. rw (
+        random_is,
+        search_is,
+        get_or-set_other r.powered i k g.powered false other,
+        get_or-set_other r.state i k g.state Disabled other,
+        get_or-set_other r.random i k number search_mask other,
+        get_or-set_other r.search i k g.search search_mask other,
+        get_or-set_other r.short i k g.short None other,
+      ) refl)
 
   -- the half pair of a gear stays or is gone
   pub put_pair_is : (stays : Bool) → (stays ≡ true → IsSome (get_or (all_gear r) i fresh).half) → all_gear (record {
@@ -100,7 +127,12 @@ module _ (r : Inside) (i : ℕ) (here : i < r.count) (wide : Wide r i) where
   put_pair_is stays one =
       let there : stays ≡ true → IsSome (gear_in r i).half = rw (gear_at r i here) at one in
       places_set (gear_in r) _ r.count i _ here
-      (rw (gear_at r i here, get_or-set_same r.paired i stays false wide.paired, ← pair_stays stays (get_or r.paired i false) (get_or r.first i Terminate) there) refl)
+      (rw (
+        gear_at r i here,
+        get_or-set_same r.paired i stays false wide.paired,
+        ← pair_stays stays (get_or r.paired i false)
+            (get_or r.first i Terminate) there,
+      ) refl)
       (λ k other. rw (get_or-set_other r.paired i k stays false other) refl)
 
   pub put_pair_unpaired : (stays : Bool) → (stays ≡ true → IsSome (get_or (all_gear r) i fresh).half) → IsRow r
@@ -252,7 +284,8 @@ pub drawn_more : (reach : Reach) (c : Command) (now before : List Gear) (n drawn
     → drawn + bool_byte drew + draws_needed reach c (n + 1) (drop (n + 1) before) ≡ whole
 drawn_more reach c now before n drawn left old new drew whole t so_far =
     let known = rw (t.next, ← t.reaches_it, ← t.draws_it) at so_far in
-    add_assoc drawn (bool_byte drew) (draws_needed reach c (n + 1) (drop (n + 1) before)) ∙ ap (λ k. drawn + (k + draws_needed reach c (n + 1) (drop (n + 1) before))) (one drew) ∙ known
+    add_assoc drawn (bool_byte drew) (draws_needed reach c (n + 1) (drop (n + 1) before))
+    ∙ ap (λ k. drawn + (k + draws_needed reach c (n + 1) (drop (n + 1) before))) (one drew) ∙ known
   where
     one : (b : Bool) → bool_byte b ≡ (if b then 1 else 0)
     one true = refl
@@ -316,4 +349,17 @@ factory_is r n count few powered state random search_is short paired =
     let inside : k < r.count = rw (row_len r) at below in
     let there : k < 128 = omega arith in
     get_or-map-range_with_len (gear_in r) 0 r.count k k d inside (zero-add k)
-    ∙ rw (powered, state, random, search_is, short, paired, get_or-replicate 128 k true false there, get_or-replicate 128 k Disabled Disabled there, get_or-replicate 128 k search_mask search_mask there, get_or-replicate {A = Option ℕ} 128 k None None there, get_or-replicate 128 k false false there, get_or-replicate n k fresh d (omega arith)) refl)
+    ∙ rw (
+      powered,
+      state,
+      random,
+      search_is,
+      short,
+      paired,
+      get_or-replicate 128 k true false there,
+      get_or-replicate 128 k Disabled Disabled there,
+      get_or-replicate 128 k search_mask search_mask there,
+      get_or-replicate {A = Option ℕ} 128 k None None there,
+      get_or-replicate 128 k false false there,
+      get_or-replicate n k fresh d (omega arith),
+    ) refl)

@@ -22,7 +22,8 @@ appended : (xs ys : List PortShare) (s : PortShare) → (xs ++ s ∷ []) ++ ys �
 appended [] ys s = refl
 appended (x ∷ xs) ys s = ap (λ (l : List PortShare). x ∷ l) (appended xs ys s)
 
-pub one_back : (log : List Event) (given old new : List PortShare) (s : PortShare) → AreBack log given old → old ≡ new ++ s ∷ [] → IsExact log s → AreBack log given new
+pub one_back : (log : List Event) (given old new : List PortShare) (s : PortShare) → AreBack log given old → old ≡ new ++ s ∷ [] → IsExact log s
+    → AreBack log given new
 one_back log given old new s back is exact = record {
   back = s ∷ back.back;
   whole = back.whole ∙ ap (λ (l : List PortShare). l ++ back.back) is ∙ appended new back.back s;

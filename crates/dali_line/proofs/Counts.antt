@@ -39,11 +39,13 @@ uncounted : (c : ℕ) (es : List Event) (e : Event) → is_step_of c e ≡ false
 uncounted c es e nobodys = let more = counted c es e false nobodys in omega arith
 
 tallies : (a b c d e a' b' c' d' e' : ℕ) → a ≡ a' → b ≡ b' → c ≡ c' → d ≡ d' → e ≡ e'
-    → ◌≡◌ {A = Tally} (record { first = a; second = b; third = c; fourth = d; driver = e }) (record { first = a'; second = b'; third = c'; fourth = d'; driver = e' })
+    → ◌≡◌ {A = Tally} (record { first = a; second = b; third = c; fourth = d; driver = e })
+    (record { first = a'; second = b'; third = c'; fourth = d'; driver = e' })
 tallies a b c d e a' b' c' d' e' p q r s t = cc
 
 -- a step of controller c, and of nobody else
-pub counts_step : (log : List Event) (e : Event) (c : ℕ) → c < 4 → is_other e ≡ false → ((d : ℕ) → is_step_of d e ≡ (c == d)) → raised (counts_of log) c ≡ counts_of (log ++ e ∷ [])
+pub counts_step : (log : List Event) (e : Event) (c : ℕ) → c < 4 → is_other e ≡ false → ((d : ℕ) → is_step_of d e ≡ (c == d))
+    → raised (counts_of log) c ≡ counts_of (log ++ e ∷ [])
 counts_step log e c there own step = sym (go c there step) where
   others : others_of (log ++ e ∷ []) ≡ others_of log
   others = let more = others_more log e in rw own at more ∙ omega arith
@@ -60,18 +62,22 @@ counts_step log e c there own step = sym (go c there step) where
   go (suc (suc (suc (suc c)))) there step = absurd (omega arith)
 
 -- an event that is nobody's step
-pub counts_other : (log : List Event) (e : Event) → is_other e ≡ true → ((d : ℕ) → is_step_of d e ≡ false) → raised_driver (counts_of log) ≡ counts_of (log ++ e ∷ [])
+pub counts_other : (log : List Event) (e : Event) → is_other e ≡ true → ((d : ℕ) → is_step_of d e ≡ false)
+    → raised_driver (counts_of log) ≡ counts_of (log ++ e ∷ [])
 counts_other log e other step =
     sym (tallies _ _ _ _ _ _ _ _ _ _ (uncounted 0 log e (step 0)) (uncounted 1 log e (step 1)) (uncounted 2 log e (step 2)) (uncounted 3 log e (step 3))
     (others_more log e ∙ ap (λ (x : Bool). others_of log + (if x then 1 else 0)) other))
 
 -- the same of two sites, of which the second has one event more
-pub step_counted : (old new : SiteState) (t t' : Tally) (e : Event) (c d : ℕ) → t ≡ counts_of old.log → t' ≡ raised t d → c ≡ d → c < 4 → is_other e ≡ false → ((x : ℕ) → is_step_of x e ≡ (c == x))
+pub step_counted : (old new : SiteState) (t t' : Tally) (e : Event) (c d : ℕ) → t ≡ counts_of old.log → t' ≡ raised t d → c ≡ d → c < 4 → is_other e ≡ false
+    → ((x : ℕ) → is_step_of x e ≡ (c == x))
     → new ≡ site_logged old e → t' ≡ counts_of new.log
 step_counted old new t t' e c d exact raised_is same there own step logged =
-    raised_is ∙ ap (raised t) (sym same) ∙ ap (λ (x : Tally). raised x c) exact ∙ counts_step old.log e c there own step ∙ sym (ap (λ (s : SiteState). counts_of s.log) logged)
+    raised_is ∙ ap (raised t) (sym same) ∙ ap (λ (x : Tally). raised x c) exact ∙ counts_step old.log e c there own step
+    ∙ sym (ap (λ (s : SiteState). counts_of s.log) logged)
 
-pub other_counted : (old new : SiteState) (t t' : Tally) (e : Event) → t ≡ counts_of old.log → t' ≡ raised_driver t → is_other e ≡ true → ((x : ℕ) → is_step_of x e ≡ false) → new ≡ site_logged old e
+pub other_counted : (old new : SiteState) (t t' : Tally) (e : Event) → t ≡ counts_of old.log → t' ≡ raised_driver t → is_other e ≡ true
+    → ((x : ℕ) → is_step_of x e ≡ false) → new ≡ site_logged old e
     → t' ≡ counts_of new.log
 other_counted old new t t' e exact raised_is other step logged =
     raised_is ∙ ap raised_driver exact ∙ counts_other old.log e other step ∙ sym (ap (λ (s : SiteState). counts_of s.log) logged)
@@ -95,7 +101,8 @@ pub strangers : (p : Plan) (queue : ℕ) (log : List Event) (c : ℕ) → IsRun 
 strangers p queue log c run few = no_steps (start p queue) log c run.allowed (rw (length-map p.blocks _) few)
 
 -- what the tally has of a controller is its share, whichever number it has
-pub count_at-counts_of : (p : Plan) (queue : ℕ) (log : List Event) (c : ℕ) → IsRun p queue log → length p.blocks ≤ 4 → count_at (counts_of log) c ≡ share_of c log
+pub count_at-counts_of : (p : Plan) (queue : ℕ) (log : List Event) (c : ℕ) → IsRun p queue log → length p.blocks ≤ 4
+    → count_at (counts_of log) c ≡ share_of c log
 count_at-counts_of p queue log zero run few = refl
 count_at-counts_of p queue log (suc zero) run few = refl
 count_at-counts_of p queue log (suc (suc zero)) run few = refl
@@ -131,9 +138,11 @@ whole p queue log run few = whole_from (start p queue) log run.allowed (rw (leng
 
 -- ---------------------------------------------------------------- what came of a pump
 
-pub pump_counted : (old new : SiteState) (t t' : Tally) (trouble : Trouble) (r : Report) → t ≡ counts_of old.log → t' ≡ raised_driver t → Pumps old trouble r new → (r ≡ report.Idle → ⊥) → t' ≡ counts_of new.log
+pub pump_counted : (old new : SiteState) (t t' : Tally) (trouble : Trouble) (r : Report) → t ≡ counts_of old.log → t' ≡ raised_driver t
+    → Pumps old trouble r new → (r ≡ report.Idle → ⊥) → t' ≡ counts_of new.log
 pump_counted old new t t' trouble report.Idle exact raised_is pumps some = absurd (some refl)
-pump_counted old new t t' trouble (report.Sent c f h) exact raised_is pumps some = other_counted old new t t' (event.Sent c f h) exact raised_is refl (λ x. refl) pumps.3.4.logged
+pump_counted old new t t' trouble (report.Sent c f h) exact raised_is pumps some =
+    other_counted old new t t' (event.Sent c f h) exact raised_is refl (λ x. refl) pumps.3.4.logged
 pump_counted old new t t' trouble (report.Destroyed c f) exact raised_is pumps some =
     other_counted old new t t' (event.Destroyed c f pumps.3.2.0) exact raised_is refl (λ x. refl) pumps.3.2.2.logged
 pump_counted old new t t' trouble (report.Collided c f d g) exact raised_is pumps some =

@@ -67,9 +67,11 @@ module _ {S : Type 0} (is_up is_sound : S → Type 0) (holds : S → List Record
       → IfSome kept (λ x. Learns was is (x ∷ [])) → IfNone kept (is ≡ was) → new' ≡ new → is' ≡ is
       → Posts is_up is_sound holds old new' was is'
   posts_if block old new new' was is is' None left stored learned none same it =
-      subst (λ n. Posts is_up is_sound holds old n was is') (sym same) (subst (Posts is_up is_sound holds old new was) (sym (it ∙ none)) (posts_none old new was left))
+      subst (λ n. Posts is_up is_sound holds old n was is') (sym same)
+      (subst (Posts is_up is_sound holds old new was) (sym (it ∙ none)) (posts_none old new was left))
   posts_if block old new new' was is is' (Some x) left stored learned none same it =
-      subst (λ n. Posts is_up is_sound holds old n was is') (sym same) (subst (Posts is_up is_sound holds old new was) (sym it) (posts_one block old new was is x stored learned))
+      subst (λ n. Posts is_up is_sound holds old n was is') (sym same)
+      (subst (Posts is_up is_sound holds old new was) (sym it) (posts_one block old new was is x stored learned))
 
   -- and then more
   pub posts_more : (old between new : S) (was then_ is : Pass)

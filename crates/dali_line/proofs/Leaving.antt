@@ -14,7 +14,8 @@ leaves_none is_up is_sound holds s = record {
 }
 
 -- with one record more, or not
-pub leaves_one : {S : Type 0} (is_up is_sound : S → Type 0) (holds : S → List Record → Type 0) (old new : S) (x : Record) → (is_up new → is_up old) → (is_sound old → is_up new → is_sound new)
+pub leaves_one : {S : Type 0} (is_up is_sound : S → Type 0) (holds : S → List Record → Type 0) (old new : S) (x : Record) → (is_up new → is_up old)
+    → (is_sound old → is_up new → is_sound new)
     → (is_sound old → is_up new → (xs : List Record) → holds old xs → holds new xs ⊎ holds new (xs ++ x ∷ [])) → Leaves is_up is_sound holds old new
 leaves_one is_up is_sound holds old new x up sound list = record { up = up; sound = sound; list = λ s u xs held. go xs (list s u xs held) } where
   go : (xs : List Record) → holds new xs ⊎ holds new (xs ++ x ∷ []) → (more : List Record) × holds new (xs ++ more)
@@ -22,7 +23,8 @@ leaves_one is_up is_sound holds old new x up sound list = record { up = up; soun
   go xs (inr held) = (x ∷ [], held)
 
 -- and then with more
-pub leaves_more : {S : Type 0} (is_up is_sound : S → Type 0) (holds : S → List Record → Type 0) (old between new : S) → Leaves is_up is_sound holds old between → Leaves is_up is_sound holds between new
+pub leaves_more : {S : Type 0} (is_up is_sound : S → Type 0) (holds : S → List Record → Type 0) (old between new : S) → Leaves is_up is_sound holds old between
+    → Leaves is_up is_sound holds between new
     → Leaves is_up is_sound holds old new
 leaves_more is_up is_sound holds old between new first second = record {
   up = λ u. first.up (second.up u);

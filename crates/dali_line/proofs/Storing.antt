@@ -36,7 +36,8 @@ has_part (z ∷ zs) ys x (inr there) = ⊎_elim (λ h. inl (inr h)) (λ h. inr h
 reserved_from : (xs : List Record) (k : Kept) (p : Assignment) → Has (replay_of k xs).reserved p → Has k.reserved p ⊎ Has xs (Reserve p.0 p.1)
 reserved_from [] k p has = inl has
 reserved_from (Reserve a r ∷ xs) k p has = ⊎_elim
-    (λ before. ⊎_elim (λ old. inl old) (λ new. ⊎_elim (λ is. inr (inl (subst (λ (q : Assignment). Reserve a r ≡ Reserve q.0 q.1) is refl))) (λ none. elim none [ ]) new)
+    (λ before. ⊎_elim (λ old. inl old) (λ new. ⊎_elim (λ is. inr (inl (subst (λ (q : Assignment). Reserve a r ≡ Reserve q.0 q.1) is refl)))
+    (λ none. elim none [ ]) new)
     (has_part k.reserved ((a, r) ∷ []) p before))
     (λ later. inr (inr later))
     (reserved_from xs (with_record k (Reserve a r)) p has)
@@ -49,7 +50,8 @@ reserved_from (Release a r ∷ xs) k p has = ⊎_elim
 enrolled_from : (xs : List Record) (k : Kept) (p : Assignment) → Has (replay_of k xs).enrolled p → Has k.enrolled p ⊎ Has xs (Enrol p.0 p.1)
 enrolled_from [] k p has = inl has
 enrolled_from (Enrol a r ∷ xs) k p has = ⊎_elim
-    (λ before. ⊎_elim (λ old. inl old) (λ new. ⊎_elim (λ is. inr (inl (subst (λ (q : Assignment). Enrol a r ≡ Enrol q.0 q.1) is refl))) (λ none. elim none [ ]) new)
+    (λ before. ⊎_elim (λ old. inl old) (λ new. ⊎_elim (λ is. inr (inl (subst (λ (q : Assignment). Enrol a r ≡ Enrol q.0 q.1) is refl)))
+    (λ none. elim none [ ]) new)
     (has_part k.enrolled ((a, r) ∷ []) p before))
     (λ later. inr (inr later))
     (enrolled_from xs (with_record k (Enrol a r)) p has)
@@ -74,7 +76,8 @@ pub stores_one : {S : Type 0} (is_up is_sound : S → Type 0) (holds : S → Lis
     → (is_sound old → is_up new → (xs : List Record) → holds old xs → (holds new xs × IsStored (block new) xs x) ⊎ holds new (xs ++ x ∷ []))
     → Stores is_up is_sound holds block old new x
 stores_one is_up is_sound holds block old new x left s u xs held = go (left s u xs held) where
-  go : (holds new xs × IsStored (block new) xs x) ⊎ holds new (xs ++ x ∷ []) → (more : List Record) × holds new (xs ++ more) × IsStored (block new) (xs ++ more) x
+  go : (holds new xs × IsStored (block new) xs x) ⊎ holds new (xs ++ x ∷ [])
+      → (more : List Record) × holds new (xs ++ more) × IsStored (block new) (xs ++ more) x
   go (inl there) =
       let same = sym (append-nil xs) in
       ([], subst (holds new) same there.0, subst (λ (ys : List Record). IsStored (block new) ys x) same there.1)

@@ -9,7 +9,15 @@ use Rattle.dali_line.specs.Shares.{PortShare, port_share, Tally}
 abbrev pub is_other : Event → Bool
 is_other (event.Acted c i o) = false
 is_other (event.Offered c f) = false
-is_other _ = true
+is_other (event.Sent c f h) = true
+is_other (event.Destroyed c f set) = true
+is_other (event.Collided c f d g) = true
+is_other event.Lapsed = true
+is_other event.Quiet = true
+is_other (event.Power g on) = true
+is_other (event.Expired g) = true
+is_other (event.Down c) = true
+is_other (event.Up c kept) = true
 
 -- THE DRIVER'S SHARE of a log: how many of its events are no controller's steps
 abbrev pub others_of : List Event → ℕ

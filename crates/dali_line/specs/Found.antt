@@ -28,7 +28,9 @@ IsFoundByDriver share s = IsFound s (others_of s.log) share
 -- a report tells of one event, unless nothing was next
 abbrev pub events_in : Report → ℕ
 events_in report.Idle = 0
-events_in _ = 1
+events_in (report.Sent c f h) = 1
+events_in (report.Destroyed c f) = 1
+events_in (report.Collided c f d g) = 1
 
 -- A CALL of a port, or of the driver, is one of a site found under the lock.
 abbrev pub FromPort : PortShare → (SiteState → Type 0) → Type 0

@@ -141,7 +141,17 @@ fn end_refused(refusal: Refusal, input: Input) -> Option<Outcome> {
             Some(Outcome::Refused(Refusal::NotDue))
         }
         (Refusal::NotDue, _) => None,
-        _ => Some(Outcome::Refused(refusal)),
+        (
+            Refusal::UnknownController
+            | Refusal::UnknownGear
+            | Refusal::ControllerUp
+            | Refusal::NotArc
+            | Refusal::StoreDisagrees
+            | Refusal::DrawsSpent
+            | Refusal::LogFull
+            | Refusal::NoMemory,
+            _,
+        ) => Some(Outcome::Refused(refusal)),
     }
 }
 

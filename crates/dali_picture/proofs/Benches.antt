@@ -20,5 +20,6 @@ pub left_more : (w v x : BenchState) (lines left rest : NumberedLines) (log more
 left_more w v x lines left rest log more next k line asked before is reads world logged =
     λ u all runs. before u all (rw is (asked, reads, rw (← world, ← logged) runs))
 
-pub left_done : (w v : BenchState) (lines left : NumberedLines) (log more : List Event) → Left w lines log v left more → left ≡ [] → BenchRuns w lines log v more
+pub left_done : (w v : BenchState) (lines left : NumberedLines) (log more : List Event) → Left w lines log v left more → left ≡ []
+    → BenchRuns w lines log v more
 left_done w v lines left log more before done = before v more (rw done (refl, refl))

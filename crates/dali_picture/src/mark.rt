@@ -54,10 +54,8 @@ pub enum Reply {
 pub enum Look {
     /// A frame waits for the bus.
     Asked(Tone),
-    /// A reservation, an enrolment or a release is to be kept.
-    Reserves,
-    Enrols,
-    Releases,
+    /// A record is to be kept.
+    Commits(Record),
     /// A commissioning ended.
     Ended,
     /// A machine halted.
@@ -132,9 +130,7 @@ fn order_look(order: Order) -> Look
 {
     match order {
         Order::Put(_, frame) => Look::Asked(tone_of(frame)),
-        Order::Commit(Record::Reserve(..)) => Look::Reserves,
-        Order::Commit(Record::Enrol(..)) => Look::Enrols,
-        Order::Commit(Record::Release(..)) => Look::Releases,
+        Order::Commit(record) => Look::Commits(record),
         Order::Done(_) => Look::Ended,
         Order::Halt(_) => Look::Halted,
     }

@@ -56,7 +56,7 @@ fn bench_event(bench: &mut Bench, line: BenchLine) -> Option<Event>
             bench.quiet();
             Some(Event::Quiet)
         }
-        _ => None,
+        BenchLine::Off(_) | BenchLine::On(_) | BenchLine::Expire(_) | BenchLine::Show => None,
     }
 }
 

@@ -122,7 +122,12 @@ impl Watch<'_> {
             Event::Power(number, on) => power(&mut self.gear, number, on),
             Event::Expired(number) => expire(&mut self.gear, number),
             Event::Quiet => self.gear.quiet(),
-            _ => {}
+            Event::Acted(..)
+            | Event::Offered(..)
+            | Event::Collided(..)
+            | Event::Lapsed
+            | Event::Down(_)
+            | Event::Up(..) => {}
         }
     }
 
@@ -172,7 +177,13 @@ fn at_first(alloc: Global, gear: &Row) -> Result<Vec<(usize, Shown)>, AllocError
 fn is_felt(event: Event) -> bool {
     match event {
         Event::Sent(..) | Event::Destroyed(..) | Event::Power(..) | Event::Expired(_) => true,
-        _ => false,
+        Event::Acted(..)
+        | Event::Offered(..)
+        | Event::Collided(..)
+        | Event::Lapsed
+        | Event::Quiet
+        | Event::Down(_)
+        | Event::Up(..) => false,
     }
 }
 

@@ -49,7 +49,15 @@ pub struct Transaction {
 pub fn frame_of(event: Event) -> Option<(u8, Forward)> {
     match event {
         Event::Sent(c, frame, _) | Event::Destroyed(c, frame, _) => Some((c, frame)),
-        _ => None,
+        Event::Acted(..)
+        | Event::Offered(..)
+        | Event::Collided(..)
+        | Event::Lapsed
+        | Event::Quiet
+        | Event::Power(..)
+        | Event::Expired(_)
+        | Event::Down(_)
+        | Event::Up(..) => None,
     }
 }
 
@@ -58,7 +66,15 @@ pub fn is_first(frame: Forward) -> bool {
     match Command::read(frame) {
         Command::Terminate | Command::SearchHigh(_) | Command::Arc(_) | Command::Other(_) => true,
         Command::RandomByte(_, part) => matches!(part, Part::High),
-        _ => false,
+        Command::Initialise(_)
+        | Command::Randomise
+        | Command::Compare
+        | Command::Withdraw
+        | Command::SearchMiddle(_)
+        | Command::SearchLow(_)
+        | Command::Program(_)
+        | Command::Verify(_)
+        | Command::QueryShort => false,
     }
 }
 
@@ -73,7 +89,8 @@ fn purpose_after(purpose: Purpose, frame: Forward) -> Purpose {
         Command::QueryShort => visited(purpose),
         Command::RandomByte(..) => Purpose::Resolve,
         Command::Arc(_) | Command::Other(_) => Purpose::Other,
-        _ => purpose,
+        Command::Withdraw | Command::SearchMiddle(_) | Command::SearchLow(_) | Command::Verify(_) =>
+            purpose,
     }
 }
 
@@ -81,7 +98,13 @@ fn purpose_after(purpose: Purpose, frame: Forward) -> Purpose {
 fn visited(purpose: Purpose) -> Purpose {
     match purpose {
         Purpose::Program => Purpose::Program,
-        _ => Purpose::Visit,
+        Purpose::Search
+        | Purpose::Probe
+        | Purpose::Visit
+        | Purpose::Resolve
+        | Purpose::Opening
+        | Purpose::Close
+        | Purpose::Other => Purpose::Visit,
     }
 }
 

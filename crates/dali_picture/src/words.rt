@@ -3,9 +3,9 @@
 use crate::folds::{Fold, Held};
 use crate::stays::Shown;
 use crate::transactions::{Purpose, Transaction};
-use dali_frame::{Answer, Forward, Random24, Short};
+use dali_frame::{Answer, Forward, Short};
 use dali_gear::{GearSet, InitialisationState, Reach};
-use dali_script::{End, Fault, Input, Order, Record};
+use dali_script::{Input, Order, Record};
 use dali_special::{Command, Part};
 use dali_world::Event;
 use std::alloc::AllocError;
@@ -52,37 +52,16 @@ fn push_heard(text: &mut String, heard: Answer) -> Result<(), AllocError> {
     }
 }
 
-fn push_record(
-    text: &mut String,
-    kind: &str,
-    short: Short,
-    random: Random24,
-) -> Result<(), AllocError> {
-    let address = short.number();
-    write!(text, "commits: {kind} short address {address} for {random}")
+fn push_commit(text: &mut String, record: &Record) -> Result<(), AllocError> {
+    let name = record.name();
+    let address = record.address().number();
+    let random = record.random();
+    write!(text, "commits: {name} short address {address} for {random}")
 }
 
-fn push_commit(text: &mut String, record: Record) -> Result<(), AllocError> {
-    match record {
-        Record::Reserve(short, random) => push_record(text, "reserve", short, random),
-        Record::Enrol(short, random) => push_record(text, "enrol", short, random),
-        Record::Release(short, random) => push_record(text, "release", short, random),
-    }
-}
-
-fn end_name(end: End) -> &'static str {
-    match end {
-        End::AllFound => "done: all found",
-        End::BlockFull => "done: block full",
-        End::GaveUp => "done: gave up",
-    }
-}
-
-fn fault_name(fault: Fault) -> &'static str {
-    match fault {
-        Fault::Conflict => "halted: a gear contradicts the table",
-        Fault::Store => "halted: a commit failed",
-    }
+/// That a machine has ended, and how or why.
+fn push_ended(text: &mut String, what: &str, name: &str) -> Result<(), AllocError> {
+    write!(text, "{what}: {name}")
 }
 
 fn push_order(text: &mut String, order: Order) -> Result<(), AllocError> {
@@ -92,9 +71,9 @@ fn push_order(text: &mut String, order: Order) -> Result<(), AllocError> {
             write!(text, "asks at priority {number} to send ")?;
             push_frame(text, frame)
         }
-        Order::Commit(record) => push_commit(text, record),
-        Order::Done(end) => text.push_str(end_name(end)),
-        Order::Halt(fault) => text.push_str(fault_name(fault)),
+        Order::Commit(record) => push_commit(text, &record),
+        Order::Done(end) => push_ended(text, "done", end.name()),
+        Order::Halt(fault) => push_ended(text, "halted", fault.name()),
     }
 }
 

@@ -60,7 +60,8 @@ taking_the_bus =
 
 pub given_second : IsGiven (at_first 1 (without_records second_block)) input.Start (Put 3 (frame 0xA1 0))
 unfolding command_of stage_of
-given_second = first_given (at_first 1 (without_records second_block)) input.Start Free Terminate (λ e. cc) (record { stage = refl; plain = tt; tries = refl; silent = refl; last = tt }) refl refl (refl, inl refl)
+given_second = first_given (at_first 1 (without_records second_block)) input.Start Free Terminate (λ e. cc)
+    (record { stage = refl; plain = tt; tries = refl; silent = refl; last = tt }) refl refl (refl, inl refl)
     (Open, tt, refl) (λ g e. cc)
 
 pub starts : StartsAlone shared_site 0

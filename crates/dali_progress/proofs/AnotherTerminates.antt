@@ -14,7 +14,8 @@ use Rattle.dali_events.specs.Allowed.{Allowed}
 use Rattle.dali_standing.specs.Standing.{machines_at}
 use Rattle.dali_world.specs.Site.{SiteState, world, machines, site_logged}
 use Rattle.dali_progress.specs.Rounds.{StartsAlone, IsOfRound, Rounds, site_after, HasEnded, IsDone}
-use Rattle.dali_progress.proofs.Session.{block, highest, silent, given_first, given_initialise, given_initialise_again, given_randomise, given_randomise_again, given_high, given_middle, given_low, given_compare, given_close, given_done}
+use Rattle.dali_progress.proofs.Session.{block, highest, silent, given_first, given_initialise, given_initialise_again, given_randomise, given_randomise_again}
+use Rattle.dali_progress.proofs.Session.{given_high, given_middle, given_low, given_compare, given_close, given_done}
 use Rattle.dali_progress.proofs.Playing.{Plays, rounds_by}
 use Rattle.dali_progress.proofs.Another.{second_block, two_controllers, shared_site, starts, given_second}
 
@@ -101,13 +102,27 @@ opening_plays = (
               record { up = record { known = lit< tt; up = refl }; due = refl; order = inr (refl, refl, (Open, tt, (refl, tt, (refl, tt, (refl, tt, refl))))) },
               (refl, tt, given_randomise),
               (
-                record { up = record { known = lit< tt; up = refl }; may = inl (refl, (Open, tt, (refl, tt, (refl, tt, (refl, tt, refl))))); draws = lit≤ tt; heard = tt },
+                record {
+                  up = record { known = lit< tt; up = refl };
+                  may = inl (refl, (Open, tt, (refl, tt, (refl, tt, (refl, tt, refl)))));
+                  draws = lit≤ tt;
+                  heard = tt;
+                },
                 (request_of 0 1 (frame 0xA7 0), refl, refl, refl, refl),
                 (
-                  record { up = record { known = lit< tt; up = refl }; due = refl; order = inr (refl, refl, (Open, tt, (refl, tt, (refl, tt, (refl, tt, (refl, tt, refl)))))) },
+                  record {
+                    up = record { known = lit< tt; up = refl };
+                    due = refl;
+                    order = inr (refl, refl, (Open, tt, (refl, tt, (refl, tt, (refl, tt, (refl, tt, refl))))));
+                  },
                   (refl, tt, given_randomise_again),
                   (
-                    record { up = record { known = lit< tt; up = refl }; may = inl (refl, (Open, tt, (refl, tt, (refl, tt, (refl, tt, (refl, tt, refl)))))); draws = lit≤ tt; heard = tt },
+                    record {
+                      up = record { known = lit< tt; up = refl };
+                      may = inl (refl, (Open, tt, (refl, tt, (refl, tt, (refl, tt, (refl, tt, refl))))));
+                      draws = lit≤ tt;
+                      heard = tt;
+                    },
                     (request_of 0 1 (frame 0xA7 0), refl, refl, refl, refl),
                     tt,
                   ),
@@ -133,7 +148,8 @@ other_plays = (
   ),
 )
 
-searching_plays : Plays (world (site_after (site_after shared_site opening) terminating_once)) (machines (site_after (site_after shared_site opening) terminating_once)) 0 searching
+searching_plays : Plays (world (site_after (site_after shared_site opening) terminating_once))
+    (machines (site_after (site_after shared_site opening) terminating_once)) 0 searching
 unfolding command_of stage_of
 searching_plays = (
   record { up = record { known = lit< tt; up = refl }; due = refl; order = inl (refl, (block, [], (Probe highest, tt, refl))) },
@@ -151,13 +167,28 @@ searching_plays = (
           record { up = record { known = lit< tt; up = refl }; due = refl; order = inr (refl, refl, (Probe highest, tt, (refl, tt, (refl, tt, refl)))) },
           (refl, tt, given_low),
           (
-            record { up = record { known = lit< tt; up = refl }; may = inl (refl, (Probe highest, tt, (refl, tt, (refl, tt, refl)))); draws = lit≤ tt; heard = tt },
+            record {
+              up = record { known = lit< tt; up = refl };
+              may = inl (refl, (Probe highest, tt, (refl, tt, (refl, tt, refl))));
+              draws = lit≤ tt;
+              heard = tt;
+            },
             (request_of 0 1 (frame 0xB5 0xFE), refl, refl, refl, refl),
             (
-              record { up = record { known = lit< tt; up = refl }; due = refl; order = inr (refl, refl, (Probe highest, tt, (refl, tt, (refl, tt, (refl, tt, refl))))) },
+              record {
+                up = record { known = lit< tt; up = refl };
+                due = refl;
+                order = inr
+                    (refl, refl, (Probe highest, tt, (refl, tt, (refl, tt, (refl, tt, refl)))));
+              },
               (refl, tt, given_compare),
               (
-                record { up = record { known = lit< tt; up = refl }; may = inl (refl, (Probe highest, tt, (refl, tt, (refl, tt, (refl, tt, refl))))); draws = lit≤ tt; heard = tt },
+                record {
+                  up = record { known = lit< tt; up = refl };
+                  may = inl (refl, (Probe highest, tt, (refl, tt, (refl, tt, (refl, tt, refl)))));
+                  draws = lit≤ tt;
+                  heard = tt;
+                },
                 (request_of 0 1 (frame 0xA9 0), refl, refl, refl, refl),
                 (
                   record { up = record { known = lit< tt; up = refl }; due = refl; order = inl (refl, (block, [], (Close, tt, refl))) },

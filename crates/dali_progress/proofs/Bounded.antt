@@ -1,4 +1,5 @@
-use Rattle.std.proofs.Common.{◌≡◌, ℕ, ◌+◌, ◌*◌, ◌<◌, ◌≤◌, ◌⊎◌, inl, inr, zero, suc, List, [], ◌∷◌, refl, sym, ap, subst, ◌∙◌, arith, length, get_or, get_or-set_same, Option, Some, None}
+use Rattle.std.proofs.Common.{◌≡◌, ℕ, ◌+◌, ◌*◌, ◌<◌, ◌≤◌, ◌⊎◌, inl, inr, zero, suc, List, [], ◌∷◌, refl, sym, ap, subst, ◌∙◌, arith, length, get_or}
+use Rattle.std.proofs.Common.{get_or-set_same, Option, Some, None}
 use Rattle.std.specs.Prelude.{if◌then◌else◌}
 use Rattle.std.specs.Option.{option_map}
 use Rattle.std.specs.List.{count_by}
@@ -36,7 +37,8 @@ use Rattle.dali_standing.specs.Seats.{MayAnswer}
 use Rattle.dali_standing.specs.Standing.{machine_in, machines_at, machines_after}
 use Rattle.dali_world.specs.Site.{SiteState, opened_site, world, site_logged, machines, machine_at, next_request}
 use Rattle.dali_world.proofs.Logs.{machines_more, records_now}
-use Rattle.dali_progress.specs.Rounds.{StartsAlone, Succeeds, IsOfRound, Rounds, site_after, is_frame, frames, GoesOn, HasEnded, HasNext, IsDone, AreTabled, IsTabled}
+use Rattle.dali_progress.specs.Rounds.{StartsAlone, Succeeds, IsOfRound, Rounds, site_after, is_frame, frames, GoesOn, HasEnded, HasNext, IsDone, AreTabled}
+use Rattle.dali_progress.specs.Rounds.{IsTabled}
 use Rattle.dali_progress.proofs.Lone.{still, Heard, Moment}
 use Rattle.dali_progress.proofs.Stands.{EndsWell}
 use Rattle.dali_progress.proofs.Goes.{Goes, Holds, IsKnown, slack_in, acted_less, sent_less, goes_acted, goes_sent}
@@ -65,7 +67,8 @@ some_within [] c m is = absurd (cc)
 some_within (x ∷ ms) zero m is = omega arith
 some_within (x ∷ ms) (suc c) m is = let inside : c < length ms = some_within ms c m is in omega (arith, inside)
 
-pub acted_machine : (s : SiteState) (c : ℕ) (i : Input) (o : Order) (m : Machine) → machine_at s c ≡ Some m → machine_at (site_logged s (event.Acted c i o)) c ≡ Some (machine_after m i o)
+pub acted_machine : (s : SiteState) (c : ℕ) (i : Input) (o : Order) (m : Machine) → machine_at s c ≡ Some m
+    → machine_at (site_logged s (event.Acted c i o)) c ≡ Some (machine_after m i o)
 acted_machine s c i o m there =
     ap (λ ms. machine_in ms c) (machines_logged s (event.Acted c i o))
     ∙ get_or-set_same (machines s) c (option_map (λ n. machine_after n i o) (machine_in (machines s) c)) None (some_within (machines s) c m there)
@@ -84,13 +87,15 @@ pub record RunsOn (before : List Gear) (s : SiteState) (c left : ℕ) (e : Event
   pub less : 3 * rest + slack_in (world (site_logged s e)) c + 1 ≤ 3 * left + slack_in (world s) c
   pub runs : Runs before (site_logged s e) c rest
 
-acted_on : (before : List Gear) (s : SiteState) (c left : ℕ) (i : Input) (o : Order) → Runs before s c left → Allowed (world s) (event.Acted c i o) → Succeeds i → MayAnswer (machine_at s c) i o → RunsOn before s c left (event.Acted c i o)
+acted_on : (before : List Gear) (s : SiteState) (c left : ℕ) (i : Input) (o : Order) → Runs before s c left → Allowed (world s) (event.Acted c i o) → Succeeds i
+    → MayAnswer (machine_at s c) i o → RunsOn before s c left (event.Acted c i o)
 acted_on before s c left i o r here good may =
     let given : IsGiven r.machine i o = subst (λ n. MayAnswer n i o) r.there may in
     record {
       rest = left;
       sum = omega arith;
-      less = less_acted (slack_in (world (site_logged s (event.Acted c i o))) c) (subst (λ w. slack_in w c + 1 ≤ slack_in (world s) c) (sym (world_logged s (event.Acted c i o)))
+      less = less_acted (slack_in (world (site_logged s (event.Acted c i o))) c)
+          (subst (λ w. slack_in w c + 1 ≤ slack_in (world s) c) (sym (world_logged s (event.Acted c i o)))
           (acted_less before (world s) s.queue c r.machine i o left r.goes good here given (kept_now s c r.run r.goes.lone.up)));
       runs = record {
         run = run_logged s (event.Acted c i o) r.run here;
@@ -104,7 +109,8 @@ acted_on before s c left i o r here good may =
     less_acted : (x : ℕ) → x + 1 ≤ slack_in (world s) c → 3 * left + x + 1 ≤ 3 * left + slack_in (world s) c
     less_acted x less = omega (arith, less)
 
-sent_on : (before : List Gear) (s : SiteState) (c left : ℕ) (r : Request) (h : Answer) → Runs before s c left → Allowed (world s) (event.Sent r.sender r.frame h) → next_request s ≡ Some r
+sent_on : (before : List Gear) (s : SiteState) (c left : ℕ) (r : Request) (h : Answer) → Runs before s c left
+    → Allowed (world s) (event.Sent r.sender r.frame h) → next_request s ≡ Some r
     → h ≡ heard_of (answers_of Everyone (command_of r.frame) 0 (world s).gear) → RunsOn before s c left (event.Sent r.sender r.frame h)
 sent_on before s c left r h u here is heard =
     let run : IsRun s.plan s.queue (site_logged s (event.Sent r.sender r.frame h)).log = run_logged s (event.Sent r.sender r.frame h) u.run here in
@@ -131,14 +137,17 @@ sent_on before s c left r h u here is heard =
     less_sent : (rest x y left : ℕ) → left ≡ suc rest → x ≡ 2 → y ≡ 0 → 3 * rest + x + 1 ≤ 3 * left + y
     less_sent rest x y left is two none = omega (arith, is, two, none)
 
-sent_by : (before : List Gear) (s : SiteState) (c left d : ℕ) (f : Forward) (h : Answer) → Runs before s c left → Allowed (world s) (event.Sent d f h) → IsOfRound s c (event.Sent d f h) → RunsOn before s c left (event.Sent d f h)
+sent_by : (before : List Gear) (s : SiteState) (c left d : ℕ) (f : Forward) (h : Answer) → Runs before s c left → Allowed (world s) (event.Sent d f h)
+    → IsOfRound s c (event.Sent d f h) → RunsOn before s c left (event.Sent d f h)
 sent_by before s c left d f h u here of =
     subst (λ e. Allowed (world s) e → RunsOn before s c left e) (sym (ap (λ n. event.Sent n f h) of.2 ∙ ap (λ g. event.Sent of.0.sender g h) of.3))
     (λ now. sent_on before s c left of.0 h u now of.1 (of.4 ∙ ap (λ g. heard_of (answers_of Everyone (command_of g) 0 (world s).gear)) of.3)) here
 
-pub runs_on : (before : List Gear) (s : SiteState) (c left : ℕ) (e : Event) → Runs before s c left → Allowed (world s) e → IsOfRound s c e → RunsOn before s c left e
+pub runs_on : (before : List Gear) (s : SiteState) (c left : ℕ) (e : Event) → Runs before s c left → Allowed (world s) e → IsOfRound s c e
+    → RunsOn before s c left e
 runs_on before s c left (event.Acted d i o) u here of =
-    subst (λ n. Allowed (world s) (event.Acted n i o) → RunsOn before s c left (event.Acted n i o)) (sym of.0) (λ now. acted_on before s c left i o u now of.1 of.2) here
+    subst (λ n. Allowed (world s) (event.Acted n i o) → RunsOn before s c left (event.Acted n i o)) (sym of.0)
+    (λ now. acted_on before s c left i o u now of.1 of.2) here
 runs_on before s c left (event.Sent d f h) u here of = sent_by before s c left d f h u here of
 runs_on before s c left _ u here of = absurd of
 
@@ -157,7 +166,8 @@ runs_all before s c left (e ∷ es) u rounds =
     record {
       rest = all.rest;
       sum = both (if is_frame e then 1 else 0) (frames es) left on.rest all.rest on.sum all.sum;
-      less = fewer all.rest on.rest left (slack_in (world (site_after (site_logged s e) es)) c) (slack_in (world (site_logged s e)) c) (slack_in (world s) c) (length es) on.less all.less;
+      less = fewer all.rest on.rest left (slack_in (world (site_after (site_logged s e) es)) c) (slack_in (world (site_logged s e)) c) (slack_in (world s) c)
+          (length es) on.less all.less;
       runs = all.runs;
     }
   where
@@ -204,7 +214,8 @@ pub few_events : (s : SiteState) (c : ℕ) (es : List Event) → StartsAlone s c
 few_events s c es a rounds =
     let all = runs_all (world s).gear s c (111 * count_by is_bare (world s).gear + 10) es (starts s c a) rounds in
     let one : slack_in (world s) c ≡ 1 = rw (a.last) refl in
-    few (count_by is_bare (world s).gear) all.rest (slack_in (world (site_after s es)) c) (length es) (subst (λ x. 3 * all.rest + slack_in (world (site_after s es)) c + length es ≤ 3 * (111 * count_by is_bare (world s).gear + 10) + x) one all.less)
+    few (count_by is_bare (world s).gear) all.rest (slack_in (world (site_after s es)) c) (length es)
+    (subst (λ x. 3 * all.rest + slack_in (world (site_after s es)) c + length es ≤ 3 * (111 * count_by is_bare (world s).gear + 10) + x) one all.less)
   where
     few : (n rest x k : ℕ) → 3 * rest + x + k ≤ 3 * (111 * n + 10) + 1 → k ≤ 333 * n + 31
     few n rest x k less = omega (arith, less)
@@ -237,8 +248,10 @@ heard_free w q c m f h (inr free) = ap total free.0 ∙ nothing_waits q None
 abbrev IsDueIn : World → ℕ → Type 0
 IsDueIn w c = (i : Input) × Succeeds i × IsDue (controller_at w c) i × (total w.bus ≡ 0)
 
-due_by : (before : List Gear) (w : World) (q c : ℕ) (m : Machine) (last : Option Order) (told : Option Input) (left : ℕ) → (controller_at w c).last ≡ last → (controller_at w c).told ≡ told
-    → Moment w q c m (controller_at w c).outstanding last told → Holds before m last told w.gear left → ((e : End) × (last ≡ Some (Done e))) ⊎ (IsDueIn w c ⊎ ((r : Request) × (next w.bus ≡ Some r)))
+due_by : (before : List Gear) (w : World) (q c : ℕ) (m : Machine) (last : Option Order) (told : Option Input) (left : ℕ) → (controller_at w c).last ≡ last
+    → (controller_at w c).told ≡ told
+    → Moment w q c m (controller_at w c).outstanding last told → Holds before m last told w.gear left
+    → ((e : End) × (last ≡ Some (Done e))) ⊎ (IsDueIn w c ⊎ ((r : Request) × (next w.bus ≡ Some r)))
 due_by before w q c m None (Some input.Start) left is told at holds = inr (inl (input.Start, tt, told, ap total at.0.0 ∙ nothing_waits q None))
 due_by before w q c m (Some (Put p f)) (Some (input.Heard h)) left is told at holds = inr (inl (input.Heard h, tt, told, heard_free w q c m f h at))
 due_by before w q c m (Some (Put p f)) None left is told (inl later) holds = inr (inr (request_of c LATER f, ap next later.1))
@@ -254,7 +267,9 @@ due_by before w q c m (Some (Done e)) (Some i) left is told at holds = absurd at
 due_by before w q c m (Some (Halt why)) (Some i) left is told at holds = absurd at
 
 pub goes_on : (s : SiteState) (c : ℕ) (es : List Event) → StartsAlone s c → Rounds s c es → GoesOn (site_after s es) c
-goes_on s c es a rounds = go (due_by (world s).gear (world (site_after s es)) _ c all.runs.machine (controller_at (world (site_after s es)) c).last (controller_at (world (site_after s es)) c).told all.rest
+goes_on s c es a rounds =
+    go (due_by (world s).gear (world (site_after s es)) _ c all.runs.machine (controller_at (world (site_after s es)) c).last
+    (controller_at (world (site_after s es)) c).told all.rest
     refl refl all.runs.goes.lone.moment all.runs.goes.holds) where
       all : RunsAll (world s).gear s c (111 * count_by is_bare (world s).gear + 10) es
       all = runs_all (world s).gear s c (111 * count_by is_bare (world s).gear + 10) es (starts s c a) rounds
@@ -265,11 +280,13 @@ goes_on s c es a rounds = go (due_by (world s).gear (world (site_after s es)) _ 
       go (inr (inr next)) = inr (inr next)
 
 -- all that is so after them
-pub runs_after : (s : SiteState) (c : ℕ) (es : List Event) → StartsAlone s c → Rounds s c es → RunsAll (world s).gear s c (111 * count_by is_bare (world s).gear + 10) es
+pub runs_after : (s : SiteState) (c : ℕ) (es : List Event) → StartsAlone s c → Rounds s c es
+    → RunsAll (world s).gear s c (111 * count_by is_bare (world s).gear + 10) es
 runs_after s c es a rounds = runs_all (world s).gear s c (111 * count_by is_bare (world s).gear + 10) es (starts s c a) rounds
 
 -- an end says what is true
-well_by : (before : List Gear) (m : Machine) (last : Option Order) (told : Option Input) (e : End) (gs : List Gear) (left : ℕ) → last ≡ Some (Done e) → Holds before m last told gs left → EndsWell e m.kept gs × AreTabled before m.kept.enrolled gs
+well_by : (before : List Gear) (m : Machine) (last : Option Order) (told : Option Input) (e : End) (gs : List Gear) (left : ℕ) → last ≡ Some (Done e)
+    → Holds before m last told gs left → EndsWell e m.kept gs × AreTabled before m.kept.enrolled gs
 well_by before m (Some (Done x)) None e gs left is holds = (subst (λ y. EndsWell y m.kept gs) (let same : x ≡ e = cc in same) holds.0, holds.1)
 well_by before m (Some (Done x)) (Some i) e gs left is holds = absurd holds
 well_by before m None told e gs left is holds = absurd (cc)
@@ -279,11 +296,13 @@ well_by before m (Some (Halt why)) told e gs left is holds = absurd (cc)
 
 -- what an end leaves
 ended_by : (s : SiteState) (c : ℕ) (es : List Event) (e : End) → StartsAlone s c → Rounds s c es → HasEnded (site_after s es) c e
-    → (m : Machine) × (m.kept ≡ (controller_at (world (site_after s es)) c).records) × EndsWell e m.kept (world (site_after s es)).gear × AreTabled (world s).gear m.kept.enrolled (world (site_after s es)).gear
+    → (m : Machine) × (m.kept ≡ (controller_at (world (site_after s es)) c).records) × EndsWell e m.kept (world (site_after s es)).gear
+    × AreTabled (world s).gear m.kept.enrolled (world (site_after s es)).gear
 ended_by s c es e a rounds ended =
     let all = runs_all (world s).gear s c (111 * count_by is_bare (world s).gear + 10) es (starts s c a) rounds in
     let g = all.runs.goes in
-    let well = well_by (world s).gear all.runs.machine (controller_at (world (site_after s es)) c).last (controller_at (world (site_after s es)) c).told e (world (site_after s es)).gear all.rest ended g.holds in
+    let well = well_by (world s).gear all.runs.machine (controller_at (world (site_after s es)) c).last (controller_at (world (site_after s es)) c).told e
+    (world (site_after s es)).gear all.rest ended g.holds in
     (all.runs.machine, g.lone.kept, well.0, well.1)
 
 done_by : (s : SiteState) (c : ℕ) (e : End) (m : Machine) → m.kept ≡ (controller_at (world s) c).records → EndsWell e m.kept (world s).gear → IsDone s c e
@@ -294,7 +313,8 @@ done_by s c GaveUp m kept well = well
 pub ends : (s : SiteState) (c : ℕ) (es : List Event) (e : End) → StartsAlone s c → Rounds s c es → HasEnded (site_after s es) c e → IsDone (site_after s es) c e
 ends s c es e a rounds ended = let by = ended_by s c es e a rounds ended in done_by (site_after s es) c e by.0 by.1 by.2
 
-pub tabled : (s : SiteState) (c : ℕ) (es : List Event) (e : End) → StartsAlone s c → Rounds s c es → HasEnded (site_after s es) c e → IsTabled s (site_after s es) c
+pub tabled : (s : SiteState) (c : ℕ) (es : List Event) (e : End) → StartsAlone s c → Rounds s c es → HasEnded (site_after s es) c e
+    → IsTabled s (site_after s es) c
 tabled s c es e a rounds ended =
     let by = ended_by s c es e a rounds ended in
     subst (λ (k : Kept). AreTabled (world s).gear k.enrolled (world (site_after s es)).gear) by.1 by.3

@@ -1,4 +1,5 @@
-use Rattle.std.proofs.Common.{◌≡◌, ℕ, ◌+◌, ◌<◌, ◌≤◌, inl, inr, Bool, true, false, zero, suc, List, [], ◌∷◌, refl, sym, ap, subst, ◌∙◌, arith, length, get_or, Option, Some, None}
+use Rattle.std.proofs.Common.{◌≡◌, ℕ, ◌+◌, ◌<◌, ◌≤◌, inl, inr, Bool, true, false, zero, suc, List, [], ◌∷◌, refl, sym, ap, subst, ◌∙◌, arith, length, get_or}
+use Rattle.std.proofs.Common.{Option, Some, None}
 use Rattle.std.specs.Prelude.{◌==◌, if◌then◌else◌}
 use Rattle.std.specs.List.{count_by}
 use Rattle.std.proofs.lemmas.Bool.Decides.{nat_tests}
@@ -7,7 +8,8 @@ use Rattle.dali_frame.specs.declared.frames.Answer.TheVariants.{Silence, Byte, D
 use Rattle.dali_frame.specs.declared.numbers.SearchAddress.{SearchAddress}
 use Rattle.dali_frame.specs.Random.{value_of, MASK24}
 use Rattle.dali_special.specs.declared.command.Command.{Command}
-use Rattle.dali_special.specs.declared.command.Command.TheVariants.{Terminate, Initialise, Randomise, Compare, Withdraw, SearchHigh, SearchMiddle, SearchLow, Program, QueryShort}
+use Rattle.dali_special.specs.declared.command.Command.TheVariants.{Terminate, Initialise, Randomise, Compare, Withdraw, SearchHigh, SearchMiddle, SearchLow}
+use Rattle.dali_special.specs.declared.command.Command.TheVariants.{Program, QueryShort}
 use Rattle.dali_special.specs.declared.command.Target.TheVariants.{Unaddressed}
 use Rattle.dali_special.specs.Command.{program_data}
 use Rattle.dali_special.proofs.Table.{short_of_code}
@@ -36,7 +38,8 @@ use Rattle.dali_events.proofs.Heard as hearing
 use Rattle.dali_events.proofs.Opened as opening
 use Rattle.dali_events.proofs.Programming as programming
 use Rattle.dali_events.proofs.Withdrawing as withdrawing
-use Rattle.dali_progress.proofs.Stands.{sent_at, search_frames, probe_frames, Opens, ProbeStage, Probes, VisitStage, IsVisited, VisitFrames, Visits, HaveShort, Names, VisitsAt, EndsWell, Closes, At, Sends}
+use Rattle.dali_progress.proofs.Stands.{sent_at, search_frames, probe_frames, Opens, ProbeStage, Probes, VisitStage, IsVisited, VisitFrames, Visits, HaveShort}
+use Rattle.dali_progress.proofs.Stands.{Names, VisitsAt, EndsWell, Closes, At, Sends}
 
 -- A FRAME IS SENT, and each gear with power takes it. The transaction goes on to its next stage, and one frame less is
 -- left to be sent.
@@ -67,7 +70,8 @@ some_is x c e = cc
 
 -- ---------------------------------------------------------------- an opening
 
-opens_less : (c : Command) (gs : List Gear) (numbers : List ℕ) (left sent : ℕ) → LeavesShort c → 5 + search_frames (count_by is_bare gs) ≤ left + sent → sent < 5
+opens_less : (c : Command) (gs : List Gear) (numbers : List ℕ) (left sent : ℕ) → LeavesShort c → 5 + search_frames (count_by is_bare gs) ≤ left + sent
+    → sent < 5
     → (l : ℕ) × (left ≡ suc l) × (5 + search_frames (count_by is_bare (row_after Everyone c 0 gs numbers)) ≤ l + (sent + 1))
 opens_less c gs numbers left sent leaves enough small =
     let less = one_less (5 + search_frames (count_by is_bare gs)) left sent enough (omega (arith, small)) in
@@ -75,26 +79,30 @@ opens_less c gs numbers left sent leaves enough small =
 
 opening_sent : (s : Stage) (k : Kept) (opened : Bool) (x : Search) (n : SearchAddress) (gs : List Gear) (numbers : List ℕ) (left : ℕ) (c : Command) (h : Answer)
     → Opens s opened gs left → Sends Opening n k s c → IsTaken c gs numbers h → IsSentTo Opening s k opened x n gs numbers left c h
-opening_sent stage.Free k opened x n gs numbers left c h o is taken = subst (λ d. IsSentTo Opening stage.Free k opened x n gs numbers left d h) (sym is) go where
-  go : IsSentTo Opening stage.Free k opened x n gs numbers left Terminate h
-  go =
-      let less = opens_less Terminate gs numbers left 0 tt o.frames (omega arith) in
-      (less.0, less.1, record { stage_is = o.stage_is; gear = opening.opening_terminated gs numbers; frames = less.2 })
-opening_sent stage.Terminated k opened x n gs numbers left c h o is taken = subst (λ d. IsSentTo Opening stage.Terminated k opened x n gs numbers left d h) (some_is (Initialise Unaddressed) c is) go where
-  go : IsSentTo Opening stage.Terminated k opened x n gs numbers left (Initialise Unaddressed) h
-  go =
-      let less = opens_less (Initialise Unaddressed) gs numbers left 1 tt o.frames (omega arith) in
-      (less.0, less.1, record { stage_is = o.stage_is; gear = opening.opening_initialised_once gs numbers o.gear; frames = less.2 })
-opening_sent stage.InitialisedOnce k opened x n gs numbers left c h o is taken = subst (λ d. IsSentTo Opening stage.InitialisedOnce k opened x n gs numbers left d h) (some_is (Initialise Unaddressed) c is) go where
-  go : IsSentTo Opening stage.InitialisedOnce k opened x n gs numbers left (Initialise Unaddressed) h
-  go =
-      let less = opens_less (Initialise Unaddressed) gs numbers left 2 tt o.frames (omega arith) in
-      (less.0, less.1, record { stage_is = o.stage_is; gear = opening.opening_initialised gs numbers o.gear; frames = less.2 })
-opening_sent stage.Initialised k opened x n gs numbers left c h o is taken = subst (λ d. IsSentTo Opening stage.Initialised k opened x n gs numbers left d h) (some_is Randomise c is) go where
-  go : IsSentTo Opening stage.Initialised k opened x n gs numbers left Randomise h
-  go =
-      let less = opens_less Randomise gs numbers left 3 tt o.frames (omega arith) in
-      (less.0, less.1, record { stage_is = o.stage_is; gear = opening.opening_randomised_once gs numbers o.gear; frames = less.2 })
+opening_sent stage.Free k opened x n gs numbers left c h o is taken =
+    subst (λ d. IsSentTo Opening stage.Free k opened x n gs numbers left d h) (sym is) go where
+      go : IsSentTo Opening stage.Free k opened x n gs numbers left Terminate h
+      go =
+          let less = opens_less Terminate gs numbers left 0 tt o.frames (omega arith) in
+          (less.0, less.1, record { stage_is = o.stage_is; gear = opening.opening_terminated gs numbers; frames = less.2 })
+opening_sent stage.Terminated k opened x n gs numbers left c h o is taken =
+    subst (λ d. IsSentTo Opening stage.Terminated k opened x n gs numbers left d h) (some_is (Initialise Unaddressed) c is) go where
+      go : IsSentTo Opening stage.Terminated k opened x n gs numbers left (Initialise Unaddressed) h
+      go =
+          let less = opens_less (Initialise Unaddressed) gs numbers left 1 tt o.frames (omega arith) in
+          (less.0, less.1, record { stage_is = o.stage_is; gear = opening.opening_initialised_once gs numbers o.gear; frames = less.2 })
+opening_sent stage.InitialisedOnce k opened x n gs numbers left c h o is taken =
+    subst (λ d. IsSentTo Opening stage.InitialisedOnce k opened x n gs numbers left d h) (some_is (Initialise Unaddressed) c is) go where
+      go : IsSentTo Opening stage.InitialisedOnce k opened x n gs numbers left (Initialise Unaddressed) h
+      go =
+          let less = opens_less (Initialise Unaddressed) gs numbers left 2 tt o.frames (omega arith) in
+          (less.0, less.1, record { stage_is = o.stage_is; gear = opening.opening_initialised gs numbers o.gear; frames = less.2 })
+opening_sent stage.Initialised k opened x n gs numbers left c h o is taken =
+    subst (λ d. IsSentTo Opening stage.Initialised k opened x n gs numbers left d h) (some_is Randomise c is) go where
+      go : IsSentTo Opening stage.Initialised k opened x n gs numbers left Randomise h
+      go =
+          let less = opens_less Randomise gs numbers left 3 tt o.frames (omega arith) in
+          (less.0, less.1, record { stage_is = o.stage_is; gear = opening.opening_randomised_once gs numbers o.gear; frames = less.2 })
 opening_sent stage.RandomisedOnce k opened x n gs numbers left c h o is taken =
     subst (λ d. IsTaken d gs numbers h → IsSentTo Opening stage.RandomisedOnce k opened x n gs numbers left d h) (some_is Randomise c is) go taken where
       go : IsTaken Randomise gs numbers h → IsSentTo Opening stage.RandomisedOnce k opened x n gs numbers left Randomise h
@@ -122,7 +130,8 @@ agrees_same has had [] same agrees = tt
 agrees_same has had (a ∷ later) same agrees = (gives_same has had a.0 a.1 same agrees.0, agrees_same has had later same agrees.1)
 
 -- what COMPARE was heard as says whether a number that is wanted is at most the one that was asked
-probe_says : (gs : List Gear) (r : SearchAddress) (h : Answer) → Seek gs r → h ≡ heard_of (answers_of Everyone Compare 0 gs) → Gives (wants gs) (value_of r) (is_yes h)
+probe_says : (gs : List Gear) (r : SearchAddress) (h : Answer) → Seek gs r → h ≡ heard_of (answers_of Everyone Compare 0 gs)
+    → Gives (wants gs) (value_of r) (is_yes h)
 probe_says gs r h seek heard = go h refl where
   yes_at : (h ≡ Silence → ⊥) → HasAtMost (wants gs) (value_of r)
   yes_at loud = hearing.heard_below gs r seek (λ e. loud (heard ∙ e))
@@ -139,14 +148,19 @@ probe_small answers zero = omega arith
 probe_small answers (suc n) = omega arith
 
 -- the same search, where the gear are the same but for what they seek
-probes_on : (s t : Stage) (x : Search) (n : SearchAddress) (gs hs : List Gear) (left l : ℕ) → Probes s x n gs left → SameCore gs hs → ProbeStage t hs x.probe → IsSearched t n
+probes_on : (s t : Stage) (x : Search) (n : SearchAddress) (gs hs : List Gear) (left l : ℕ) → Probes s x n gs left → SameCore gs hs → ProbeStage t hs x.probe
+    → IsSearched t n
     → probe_frames (length x.answers) (count_by is_wanted gs) ≤ l + sent_at t → Probes t x n hs l
 probes_on s t x n gs hs left l p same stage searched frames = record {
   stage_is = stage;
   searched = searched;
   ready = leaving.core_opened gs hs same p.ready;
   unnamed = leaving.core_none_named gs hs same p.unnamed;
-  searches = record { running = p.searches.running; narrowing = p.searches.narrowing; agrees = agrees_same (wants gs) (wants hs) x.answers (λ m. leaving.core_wants gs hs m same) p.searches.agrees };
+  searches = record {
+    running = p.searches.running;
+    narrowing = p.searches.narrowing;
+    agrees = agrees_same (wants gs) (wants hs) x.answers (λ m. leaving.core_wants gs hs m same) p.searches.agrees;
+  };
   number = p.number;
   frames = rw (leaving.core_count_wanted gs hs same) frames;
 }
@@ -156,30 +170,50 @@ probing_sent : (s : Stage) (k : Kept) (x : Search) (n : SearchAddress) (gs : Lis
 probing_sent stage.Free k x n gs numbers left c h p is taken seek = subst (λ d. IsSentTo Probing stage.Free k true x n gs numbers left d h) (sym is) go where
   go : IsSentTo Probing stage.Free k true x n gs numbers left (SearchHigh n.high) h
   go =
-      let less = one_less (probe_frames (length x.answers) (count_by is_wanted gs)) left 0 p.frames (omega (arith, probe_small (length x.answers) (count_by is_wanted gs))) in
-      (less.0, less.1, (refl, probes_on stage.Free (stage.HighSent n.high) x n gs _ left less.0 p (leaving.core_after (SearchHigh n.high) gs numbers tt) tt refl less.2))
-probing_sent (stage.HighSent high) k x n gs numbers left c h p is taken seek = subst (λ d. IsSentTo Probing (stage.HighSent high) k true x n gs numbers left d h) (some_is (SearchMiddle n.middle) c is) go where
-  go : IsSentTo Probing (stage.HighSent high) k true x n gs numbers left (SearchMiddle n.middle) h
-  go =
-      let less = one_less (probe_frames (length x.answers) (count_by is_wanted gs)) left 1 p.frames (omega (arith, probe_small (length x.answers) (count_by is_wanted gs))) in
-      (less.0, less.1, (refl, probes_on (stage.HighSent high) (stage.MiddleSent high n.middle) x n gs _ left less.0 p (leaving.core_after (SearchMiddle n.middle) gs numbers tt) tt (p.searched, refl) less.2))
-probing_sent (stage.MiddleSent high middle) k x n gs numbers left c h p is taken seek = subst (λ d. IsSentTo Probing (stage.MiddleSent high middle) k true x n gs numbers left d h) (some_is (SearchLow n.low) c is) go where
-  go : IsSentTo Probing (stage.MiddleSent high middle) k true x n gs numbers left (SearchLow n.low) h
-  go =
-      let less = one_less (probe_frames (length x.answers) (count_by is_wanted gs)) left 2 p.frames (omega (arith, probe_small (length x.answers) (count_by is_wanted gs))) in (
+      let less = one_less (probe_frames (length x.answers) (count_by is_wanted gs)) left 0 p.frames
+      (omega (arith, probe_small (length x.answers) (count_by is_wanted gs))) in (
         less.0,
         less.1,
         (
           refl,
-          probes_on (stage.MiddleSent high middle) (stage.NumberSent (record { high = high; middle = middle; low = n.low })) x n gs _ left less.0 p
-              (leaving.core_after (SearchLow n.low) gs numbers tt) tt (whole n high middle p.searched.0 p.searched.1) less.2,
+          probes_on stage.Free (stage.HighSent n.high) x n gs _ left less.0 p
+              (leaving.core_after (SearchHigh n.high) gs numbers tt) tt refl less.2,
         ),
       )
+probing_sent (stage.HighSent high) k x n gs numbers left c h p is taken seek =
+    subst (λ d. IsSentTo Probing (stage.HighSent high) k true x n gs numbers left d h) (some_is (SearchMiddle n.middle) c is) go where
+      go : IsSentTo Probing (stage.HighSent high) k true x n gs numbers left (SearchMiddle n.middle) h
+      go =
+          let less = one_less (probe_frames (length x.answers) (count_by is_wanted gs)) left 1 p.frames
+          (omega (arith, probe_small (length x.answers) (count_by is_wanted gs))) in (
+            less.0,
+            less.1,
+            (
+              refl,
+              probes_on (stage.HighSent high) (stage.MiddleSent high n.middle) x n gs _ left less.0 p
+                  (leaving.core_after (SearchMiddle n.middle) gs numbers tt) tt (p.searched, refl) less.2,
+            ),
+          )
+probing_sent (stage.MiddleSent high middle) k x n gs numbers left c h p is taken seek =
+    subst (λ d. IsSentTo Probing (stage.MiddleSent high middle) k true x n gs numbers left d h) (some_is (SearchLow n.low) c is) go where
+      go : IsSentTo Probing (stage.MiddleSent high middle) k true x n gs numbers left (SearchLow n.low) h
+      go =
+          let less = one_less (probe_frames (length x.answers) (count_by is_wanted gs)) left 2 p.frames
+          (omega (arith, probe_small (length x.answers) (count_by is_wanted gs))) in (
+            less.0,
+            less.1,
+            (
+              refl,
+              probes_on (stage.MiddleSent high middle) (stage.NumberSent (record { high = high; middle = middle; low = n.low })) x n gs _ left less.0 p
+                  (leaving.core_after (SearchLow n.low) gs numbers tt) tt (whole n high middle p.searched.0 p.searched.1) less.2,
+            ),
+          )
 probing_sent (stage.NumberSent r) k x n gs numbers left c h p is taken seek =
     subst (λ d. IsTaken d gs numbers h → IsSentTo Probing (stage.NumberSent r) k true x n gs numbers left d h) (some_is Compare c is) go taken where
       go : IsTaken Compare gs numbers h → IsSentTo Probing (stage.NumberSent r) k true x n gs numbers left Compare h
       go t =
-          let less = one_less (probe_frames (length x.answers) (count_by is_wanted gs)) left 3 p.frames (omega (arith, probe_small (length x.answers) (count_by is_wanted gs))) in
+          let less = one_less (probe_frames (length x.answers) (count_by is_wanted gs)) left 3 p.frames
+          (omega (arith, probe_small (length x.answers) (count_by is_wanted gs))) in
           let same : SameCore gs (row_after Everyone Compare 0 gs numbers) = leaving.core_after Compare gs numbers tt in
           let asked : value_of r ≡ x.probe = ap value_of (sym p.searched ∙ p.number) ∙ value_sought x.probe in
           let says : Gives (wants gs) x.probe (is_yes h) = subst (λ q. Gives (wants gs) q (is_yes h)) asked (probe_says gs r h (seek r refl) t.heard) in (
@@ -188,7 +222,8 @@ probing_sent (stage.NumberSent r) k x n gs numbers left c h p is taken seek =
             (
               refl,
               probes_on (stage.NumberSent r) (stage.Probed r h) x n gs _ left less.0 p same
-                  (gives_same (wants gs) (wants (row_after Everyone Compare 0 gs numbers)) x.probe (is_yes h) (λ m. leaving.core_wants gs (row_after Everyone Compare 0 gs numbers) m same) says) p.searched less.2,
+                  (gives_same (wants gs) (wants (row_after Everyone Compare 0 gs numbers)) x.probe (is_yes h)
+                  (λ m. leaving.core_wants gs (row_after Everyone Compare 0 gs numbers) m same) says) p.searched less.2,
             ),
           )
 probing_sent (stage.Probed r h') k x n gs numbers left c h p is taken seek = absurd (cc)
@@ -196,15 +231,21 @@ probing_sent _ k x n gs numbers left c h p is taken seek = absurd p.stage_is
 
 -- ---------------------------------------------------------------- a visit
 
-visit_less : (k : Kept) (n : SearchAddress) (more left sent : ℕ) → VisitFrames k n more (left + sent) → sent < 4 → (l : ℕ) × (left ≡ suc l) × VisitFrames k n more (l + (sent + 1))
-visit_less k n more left sent (inl enough) small = let less = one_less (7 + search_frames more) left sent enough.1 (omega (arith, small)) in (less.0, less.1, inl (enough.0, less.2))
-visit_less k n more left sent (inr enough) small = let less = one_less (11 + search_frames more) left sent enough (omega (arith, small)) in (less.0, less.1, inr less.2)
+visit_less : (k : Kept) (n : SearchAddress) (more left sent : ℕ) → VisitFrames k n more (left + sent) → sent < 4
+    → (l : ℕ) × (left ≡ suc l) × VisitFrames k n more (l + (sent + 1))
+visit_less k n more left sent (inl enough) small = let less =
+    one_less (7 + search_frames more) left sent enough.1 (omega (arith, small)) in (less.0, less.1, inl (enough.0, less.2))
+visit_less k n more left sent (inr enough) small = let less =
+    one_less (11 + search_frames more) left sent enough (omega (arith, small)) in (less.0, less.1, inr less.2)
 
-visited_on : (n : SearchAddress) (gs hs : List Gear) (more : ℕ) → IsVisited n gs more → ((m : ℕ) → wants hs m ≡ wants gs m) → count_by is_wanted hs ≡ count_by is_wanted gs → IsVisited n hs more
-visited_on n gs hs more v same count = record { wanted = same (value_of n) ∙ v.wanted; number = v.number; number_is = v.number_is; drawn = v.drawn; count = count ∙ v.count }
+visited_on : (n : SearchAddress) (gs hs : List Gear) (more : ℕ) → IsVisited n gs more → ((m : ℕ) → wants hs m ≡ wants gs m)
+    → count_by is_wanted hs ≡ count_by is_wanted gs → IsVisited n hs more
+visited_on n gs hs more v same count =
+    record { wanted = same (value_of n) ∙ v.wanted; number = v.number; number_is = v.number_is; drawn = v.drawn; count = count ∙ v.count }
 
 -- the same visit, where the gear are the same but for what they seek
-visits_on : (s t : Stage) (k : Kept) (n : SearchAddress) (gs hs : List Gear) (left l : ℕ) (v : Visits s k n gs left) → SameCore gs hs → VisitStage t → IsSearched t n → VisitFrames k n v.more (l + sent_at t)
+visits_on : (s t : Stage) (k : Kept) (n : SearchAddress) (gs hs : List Gear) (left l : ℕ) (v : Visits s k n gs left) → SameCore gs hs → VisitStage t
+    → IsSearched t n → VisitFrames k n v.more (l + sent_at t)
     → Visits t k n hs l
 visits_on s t k n gs hs left l v same stage searched frames = record {
   stage_is = stage;
@@ -237,11 +278,13 @@ visit_heard gs n r more o h v is seek apart short heard =
     let there = wanted.wants_at gs (value_of n) v.wanted in
     let random : (get_or gs there.0 fresh).random ≡ value_of r = there.3 ∙ ap value_of is in
     let has : (get_or gs there.0 fresh).short ≡ o =
-    short there.0 there.1 (wanted.wanted_powered (get_or gs there.0 fresh) there.2) (wanted.wanted_active (get_or gs there.0 fresh) there.2) (wanted.wanted_enabled (get_or gs there.0 fresh) there.2) there.3 in
+    short there.0 there.1 (wanted.wanted_powered (get_or gs there.0 fresh) there.2) (wanted.wanted_active (get_or gs there.0 fresh) there.2)
+    (wanted.wanted_enabled (get_or gs there.0 fresh) there.2) there.3 in
     heard ∙ hearing.query_heard gs r there.0 seek apart there.1 there.2 random ∙ ap (λ p. Byte (program_data p)) has
 
 -- of one that is programmed
-short_given : (gs : List Gear) (numbers : List ℕ) (r : SearchAddress) (a : ℕ) → Seek gs r → HaveShort (row_after Everyone (Program (Some a)) 0 gs numbers) (value_of r) a
+short_given : (gs : List Gear) (numbers : List ℕ) (r : SearchAddress) (a : ℕ) → Seek gs r
+    → HaveShort (row_after Everyone (Program (Some a)) 0 gs numbers) (value_of r) a
 short_given gs numbers r a seek k in_row on active random =
     let there : k < length gs = subst (λ m. k < m) (row_length Everyone (Program (Some a)) 0 gs numbers) in_row in
     let p = programming.programs_at gs numbers r a seek k there in
@@ -258,73 +301,104 @@ visits_sent : (s : Stage) (k : Kept) (x : Search) (n : SearchAddress) (gs : List
 visits_sent stage.Free k x n gs numbers left c h v is taken seek = subst (λ d. IsSentTo Visiting stage.Free k true x n gs numbers left d h) (sym is) go where
   go : IsSentTo Visiting stage.Free k true x n gs numbers left (SearchHigh n.high) h
   go =
-      let less = visit_less k n v.more left 0 v.frames (omega arith) in
-      (less.0, less.1, (refl, visits_on stage.Free (stage.HighSent n.high) k n gs _ left less.0 v (leaving.core_after (SearchHigh n.high) gs numbers tt) tt refl less.2))
-visits_sent (stage.HighSent high) k x n gs numbers left c h v is taken seek = subst (λ d. IsSentTo Visiting (stage.HighSent high) k true x n gs numbers left d h) (some_is (SearchMiddle n.middle) c is) go where
-  go : IsSentTo Visiting (stage.HighSent high) k true x n gs numbers left (SearchMiddle n.middle) h
-  go =
-      let less = visit_less k n v.more left 1 v.frames (omega arith) in
-      (less.0, less.1, (refl, visits_on (stage.HighSent high) (stage.MiddleSent high n.middle) k n gs _ left less.0 v (leaving.core_after (SearchMiddle n.middle) gs numbers tt) tt (v.searched, refl) less.2))
-visits_sent (stage.MiddleSent high middle) k x n gs numbers left c h v is taken seek = subst (λ d. IsSentTo Visiting (stage.MiddleSent high middle) k true x n gs numbers left d h) (some_is (SearchLow n.low) c is) go where
-  go : IsSentTo Visiting (stage.MiddleSent high middle) k true x n gs numbers left (SearchLow n.low) h
-  go =
-      let less = visit_less k n v.more left 2 v.frames (omega arith) in (
+      let less = visit_less k n v.more left 0 v.frames (omega arith) in (
         less.0,
         less.1,
         (
           refl,
-          visits_on (stage.MiddleSent high middle) (stage.NumberSent (record { high = high; middle = middle; low = n.low })) k n gs _ left less.0 v
-              (leaving.core_after (SearchLow n.low) gs numbers tt) tt (whole n high middle v.searched.0 v.searched.1) less.2,
+          visits_on stage.Free (stage.HighSent n.high) k n gs _ left less.0 v
+              (leaving.core_after (SearchHigh n.high) gs numbers tt) tt refl less.2,
         ),
       )
+visits_sent (stage.HighSent high) k x n gs numbers left c h v is taken seek =
+    subst (λ d. IsSentTo Visiting (stage.HighSent high) k true x n gs numbers left d h) (some_is (SearchMiddle n.middle) c is) go where
+      go : IsSentTo Visiting (stage.HighSent high) k true x n gs numbers left (SearchMiddle n.middle) h
+      go =
+          let less = visit_less k n v.more left 1 v.frames (omega arith) in (
+            less.0,
+            less.1,
+            (
+              refl,
+              visits_on (stage.HighSent high) (stage.MiddleSent high n.middle) k n gs _ left less.0 v
+                  (leaving.core_after (SearchMiddle n.middle) gs numbers tt) tt (v.searched, refl) less.2,
+            ),
+          )
+visits_sent (stage.MiddleSent high middle) k x n gs numbers left c h v is taken seek =
+    subst (λ d. IsSentTo Visiting (stage.MiddleSent high middle) k true x n gs numbers left d h) (some_is (SearchLow n.low) c is) go where
+      go : IsSentTo Visiting (stage.MiddleSent high middle) k true x n gs numbers left (SearchLow n.low) h
+      go =
+          let less = visit_less k n v.more left 2 v.frames (omega arith) in (
+            less.0,
+            less.1,
+            (
+              refl,
+              visits_on (stage.MiddleSent high middle) (stage.NumberSent (record { high = high; middle = middle; low = n.low })) k n gs _ left less.0 v
+                  (leaving.core_after (SearchLow n.low) gs numbers tt) tt (whole n high middle v.searched.0 v.searched.1) less.2,
+            ),
+          )
 visits_sent (stage.NumberSent r) k x n gs numbers left c h v is taken seek =
     subst (λ d. IsTaken d gs numbers h → IsSentTo Visiting (stage.NumberSent r) k true x n gs numbers left d h) (some_is QueryShort c is) go taken where
       go : IsTaken QueryShort gs numbers h → IsSentTo Visiting (stage.NumberSent r) k true x n gs numbers left QueryShort h
       go t =
           let less = visit_less k n v.more left 3 v.frames (omega arith) in
-          let heard : h ≡ Byte (program_data None) = visit_heard gs n r v.more None h v.visited v.searched (seek r refl) (t.apart v.ready) (λ i there on active enabled random. v.unnamed i there on enabled) t.heard in
-          let there : queried r h ≡ stage.Unnamed r = ap (queried r) heard ∙ mask_queried r in
-          (less.0, less.1, rw there (refl, visits_on (stage.NumberSent r) (stage.Unnamed r) k n gs _ left less.0 v (leaving.core_after QueryShort gs numbers tt) tt v.searched less.2))
-visits_sent (stage.Unnamed r) k x n gs numbers left c h v is taken seek = subst (λ d. IsSentTo Visiting (stage.Unnamed r) k true x n gs numbers left d h) (sym is.3) go where
-  here : Seek gs r
-  here = seek r refl
+          let heard : h ≡ Byte (program_data None) =
+          visit_heard gs n r v.more None h v.visited v.searched (seek r refl) (t.apart v.ready)
+          (λ i there on active enabled random. v.unnamed i there on enabled) t.heard in
+          let there : queried r h ≡ stage.Unnamed r = ap (queried r) heard ∙ mask_queried r in (
+            less.0,
+            less.1,
+            rw there (
+              refl,
+              visits_on (stage.NumberSent r) (stage.Unnamed r) k n gs _ left less.0 v
+                  (leaving.core_after QueryShort gs numbers tt) tt v.searched less.2,
+            ),
+          )
+visits_sent (stage.Unnamed r) k x n gs numbers left c h v is taken seek =
+    subst (λ d. IsSentTo Visiting (stage.Unnamed r) k true x n gs numbers left d h) (sym is.3) go where
+      here : Seek gs r
+      here = seek r refl
 
-  same : value_of r ≡ value_of n
-  same = ap value_of (sym v.searched)
+      same : value_of r ≡ value_of n
+      same = ap value_of (sym v.searched)
 
-  frames : 7 + search_frames v.more ≤ left + 4
-  frames = enough v.frames where
-    enough : VisitFrames k n v.more (left + 4) → 7 + search_frames v.more ≤ left + 4
-    enough (inl e) = e.1
-    enough (inr e) = omega (arith, e)
+      frames : 7 + search_frames v.more ≤ left + 4
+      frames = enough v.frames where
+        enough : VisitFrames k n v.more (left + 4) → 7 + search_frames v.more ≤ left + 4
+        enough (inl e) = e.1
+        enough (inr e) = omega (arith, e)
 
-  go : IsSentTo Visiting (stage.Unnamed r) k true x n gs numbers left (Program (Some is.0)) h
-  go =
-      let less = one_less (7 + search_frames v.more) left 4 frames (omega arith) in (
-        less.0,
-        less.1,
-        (
-          refl,
-          record {
-            searched = sym v.searched;
-            ready = programming.programmed_opened gs numbers r is.0 here v.ready;
-            unnamed = subst (NoneNamedBut (row_after Everyone (Program (Some is.0)) 0 gs numbers)) same (programming.programmed_none_named gs numbers r is.0 here (withdrawing.none_named_but gs (value_of r) v.unnamed));
-            named = subst (λ m. HaveShort (row_after Everyone (Program (Some is.0)) 0 gs numbers) m is.0) same (short_given gs numbers r is.0 here);
-            address = is.1;
-            reserved = subst (λ m. Has k.reserved (is.0, m)) same is.2;
-            more = v.more;
-            visited = visited_on n gs (row_after Everyone (Program (Some is.0)) 0 gs numbers) v.more v.visited (λ m. programming.programmed_wants gs numbers r is.0 m here) (programming.programmed_count gs numbers r is.0 here);
-            frames = less.2;
-          },
-        ),
-      )
+      go : IsSentTo Visiting (stage.Unnamed r) k true x n gs numbers left (Program (Some is.0)) h
+      go =
+          let less = one_less (7 + search_frames v.more) left 4 frames (omega arith) in (
+            less.0,
+            less.1,
+            (
+              refl,
+              record {
+                searched = sym v.searched;
+                ready = programming.programmed_opened gs numbers r is.0 here v.ready;
+                unnamed = subst (NoneNamedBut (row_after Everyone (Program (Some is.0)) 0 gs numbers)) same
+                    (programming.programmed_none_named gs numbers r is.0 here (withdrawing.none_named_but gs (value_of r) v.unnamed));
+                named = subst (λ m. HaveShort (row_after Everyone (Program (Some is.0)) 0 gs numbers) m is.0) same (short_given gs numbers r is.0 here);
+                address = is.1;
+                reserved = subst (λ m. Has k.reserved (is.0, m)) same is.2;
+                more = v.more;
+                visited = visited_on n gs (row_after Everyone (Program (Some is.0)) 0 gs numbers) v.more v.visited
+                    (λ m. programming.programmed_wants gs numbers r is.0 m here) (programming.programmed_count gs numbers r is.0 here);
+                frames = less.2;
+              },
+            ),
+          )
 visits_sent _ k x n gs numbers left c h v is taken seek = absurd v.stage_is
 
 named_sent : (r : SearchAddress) (a : ℕ) (k : Kept) (x : Search) (n : SearchAddress) (gs : List Gear) (numbers : List ℕ) (left : ℕ) (h : Answer)
-    → Names (stage.Programmed r a) r a k n gs left → IsTaken QueryShort gs numbers h → Seek gs r → IsSentTo Visiting (stage.Programmed r a) k true x n gs numbers left QueryShort h
+    → Names (stage.Programmed r a) r a k n gs left → IsTaken QueryShort gs numbers h → Seek gs r
+    → IsSentTo Visiting (stage.Programmed r a) k true x n gs numbers left QueryShort h
 named_sent r a k x n gs numbers left h v t seek =
     let less = one_less (7 + search_frames v.more) left 5 v.frames (omega arith) in
-    let heard : h ≡ Byte (program_data (Some a)) = visit_heard gs n r v.more (Some a) h v.visited (sym v.searched) seek (t.apart v.ready) (λ i there on active enabled random. v.named i there on active random) t.heard in
+    let heard : h ≡ Byte (program_data (Some a)) =
+    visit_heard gs n r v.more (Some a) h v.visited (sym v.searched) seek (t.apart v.ready)
+    (λ i there on active enabled random. v.named i there on active random) t.heard in
     let there : verified r a h ≡ stage.Confirmed r a = ap (verified r a) heard ∙ verified_short r a v.address in
     let same : SameCore gs (row_after Everyone QueryShort 0 gs numbers) = leaving.core_after QueryShort gs numbers tt in (
       less.0,
@@ -351,7 +425,8 @@ withdraw_sent r a k x n gs numbers left h v seek =
     let less = one_less (7 + search_frames v.more) left 6 v.frames (omega arith) in
     let same : value_of n ≡ value_of r = ap value_of (sym v.searched) in
     let named : AreNamed gs (value_of r) = λ i there on enabled random. (a, v.named i there on (rw enabled refl) (random ∙ sym same)) in
-    let fewer : count_by is_wanted (row_after Everyone Withdraw 0 gs numbers) < count_by is_wanted gs = withdrawing.withdrawn_count gs numbers r seek (subst (λ m. wants gs m ≡ true) same v.visited.wanted) in
+    let fewer : count_by is_wanted (row_after Everyone Withdraw 0 gs numbers) < count_by is_wanted gs =
+    withdrawing.withdrawn_count gs numbers r seek (subst (λ m. wants gs m ≡ true) same v.visited.wanted) in
     let count : count_by is_wanted gs ≡ suc v.more = v.visited.count in
     let enough : 7 + search_frames v.more ≤ less.0 + 7 = less.2 in (
       less.0,
@@ -375,9 +450,11 @@ withdraw_sent r a k x n gs numbers left h v seek =
 visiting_sent : (s : Stage) (k : Kept) (x : Search) (n : SearchAddress) (gs : List Gear) (numbers : List ℕ) (left : ℕ) (c : Command) (h : Answer)
     → VisitsAt s k n gs left → Sends Visiting n k s c → IsTaken c gs numbers h → Seeks s gs → IsSentTo Visiting s k true x n gs numbers left c h
 visiting_sent (stage.Programmed r a) k x n gs numbers left c h v is taken seek =
-    subst (λ d. IsTaken d gs numbers h → IsSentTo Visiting (stage.Programmed r a) k true x n gs numbers left d h) (some_is QueryShort c is) (λ t. named_sent r a k x n gs numbers left h v t (seek r refl)) taken
+    subst (λ d. IsTaken d gs numbers h → IsSentTo Visiting (stage.Programmed r a) k true x n gs numbers left d h) (some_is QueryShort c is)
+    (λ t. named_sent r a k x n gs numbers left h v t (seek r refl)) taken
 visiting_sent (stage.Confirmed r a) k x n gs numbers left c h v is taken seek =
-    subst (λ d. IsSentTo Visiting (stage.Confirmed r a) k true x n gs numbers left d h) (some_is Withdraw c is) (withdraw_sent r a k x n gs numbers left h v (seek r refl))
+    subst (λ d. IsSentTo Visiting (stage.Confirmed r a) k true x n gs numbers left d h) (some_is Withdraw c is)
+    (withdraw_sent r a k x n gs numbers left h v (seek r refl))
 visiting_sent (stage.Withdrawn r a) k x n gs numbers left c h v is taken seek = absurd (cc)
 visiting_sent s k x n gs numbers left c h v is taken seek = visits_sent s k x n gs numbers left c h v is taken seek
 
@@ -392,19 +469,22 @@ ends_still AllFound k gs numbers well = λ i in_row on.
 ends_still BlockFull k gs numbers well = well
 ends_still GaveUp k gs numbers well = absurd well
 
-closing_sent : (e : End) (s : Stage) (k : Kept) (opened : Bool) (x : Search) (n : SearchAddress) (gs : List Gear) (numbers : List ℕ) (left : ℕ) (c : Command) (h : Answer)
+closing_sent : (e : End) (s : Stage) (k : Kept) (opened : Bool) (x : Search) (n : SearchAddress) (gs : List Gear) (numbers : List ℕ) (left : ℕ) (c : Command)
+    (h : Answer)
     → Closes e s k gs left → Sends (Closing e) n k s c → IsSentTo (Closing e) s k opened x n gs numbers left c h
-closing_sent e stage.Free k opened x n gs numbers left c h v is = subst (λ d. IsSentTo (Closing e) stage.Free k opened x n gs numbers left d h) (sym is) go where
-  go : IsSentTo (Closing e) stage.Free k opened x n gs numbers left Terminate h
-  go =
-      let less = one_less 1 left 0 v.frames (omega arith) in
-      (less.0, less.1, record { stage_is = tt; well = ends_still e k gs numbers v.well; frames = less.2 })
+closing_sent e stage.Free k opened x n gs numbers left c h v is =
+    subst (λ d. IsSentTo (Closing e) stage.Free k opened x n gs numbers left d h) (sym is) go where
+      go : IsSentTo (Closing e) stage.Free k opened x n gs numbers left Terminate h
+      go =
+          let less = one_less 1 left 0 v.frames (omega arith) in
+          (less.0, less.1, record { stage_is = tt; well = ends_still e k gs numbers v.well; frames = less.2 })
 closing_sent e stage.Terminated k opened x n gs numbers left c h v is = absurd (cc)
 closing_sent e _ k opened x n gs numbers left c h v is = absurd v.stage_is
 
 -- ---------------------------------------------------------------- of whatever transaction
 
-pub at_sent : (p : Purpose) (s : Stage) (k : Kept) (opened : Bool) (x : Search) (n : SearchAddress) (gs : List Gear) (numbers : List ℕ) (left : ℕ) (c : Command) (h : Answer)
+pub at_sent : (p : Purpose) (s : Stage) (k : Kept) (opened : Bool) (x : Search) (n : SearchAddress) (gs : List Gear) (numbers : List ℕ) (left : ℕ) (c : Command)
+    (h : Answer)
     → At p s k opened x n gs left → Sends p n k s c → IsTaken c gs numbers h → Seeks s gs → IsSentTo p s k opened x n gs numbers left c h
 at_sent Opening s k opened x n gs numbers left c h at is taken seek = opening_sent s k opened x n gs numbers left c h at is taken
 at_sent Probing s k opened x n gs numbers left c h at is taken seek =

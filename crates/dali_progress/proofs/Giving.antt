@@ -59,7 +59,8 @@ ordered t s o at allowed addressing caused = record {
   found = λ r b e. absurd (not_plain s (Withdrawn r b) at.plain (sym at.stage ∙ e) (λ x. x));
 }
 
-followed : (t : Machine) (s : Stage) (o : Order) → IsAt t s → ((c : Command) → turn_of t.course.purpose t.course.number s ≡ Some c → o ≡ Put LATER (frame_of c)) → IsFollowed t o
+followed : (t : Machine) (s : Stage) (o : Order) → IsAt t s → ((c : Command) → turn_of t.course.purpose t.course.number s ≡ Some c → o ≡ Put LATER (frame_of c))
+    → IsFollowed t o
 followed t s o at turns = record {
   sent = λ c e. turns c (subst (λ r. turn_of t.course.purpose t.course.number r ≡ Some c) at.stage e);
   told = λ b n e same. absurd (not_plain s (Spelled b (Some n)) at.plain (sym at.stage ∙ e) (λ x. x));
@@ -69,7 +70,8 @@ followed t s o at turns = record {
 }
 
 -- all inputs but one are answered so
-given : (m : Machine) (i : Input) (o : Order) → (i ≡ input.CommitFailed → ⊥) → IsOrdered (machine_told m i) o → BeginsWith (machine_after m i o).course o → IsFollowed (machine_told m i) o → IsGiven m i o
+given : (m : Machine) (i : Input) (o : Order) → (i ≡ input.CommitFailed → ⊥) → IsOrdered (machine_told m i) o → BeginsWith (machine_after m i o).course o
+    → IsFollowed (machine_told m i) o → IsGiven m i o
 given m input.CommitFailed o other answers begins follows = absurd (other refl)
 given m input.Start o other answers begins follows = record { answered = answers; begins = begins; followed = follows }
 given m (input.Heard h) o other answers begins follows = record { answered = answers; begins = begins; followed = follows }
@@ -84,9 +86,11 @@ none_some : {A : Type 0} (x : A) → None ≡ Some x → ⊥
 none_some x same = cc
 
 -- THE NEXT FRAME of the transaction that runs
-pub later_given : (m : Machine) (i : Input) (s : Stage) (x : Command) → (i ≡ input.CommitFailed → ⊥) → IsAt (machine_told m i) s → running_close (machine_told m i) ≡ None
+pub later_given : (m : Machine) (i : Input) (s : Stage) (x : Command) → (i ≡ input.CommitFailed → ⊥) → IsAt (machine_told m i) s
+    → running_close (machine_told m i) ≡ None
     → turn_of (machine_told m i).course.purpose (machine_told m i).course.number s ≡ Some x → ((machine_told m i).trace ≡ [] → ⊥)
-    → Lawful (machine_told m i).kept.block (machine_told m i).kept.reserved (machine_told m i).trace (frame_of x) → ((g : Forward) → command_of (frame_of x) ≡ Arc g → ⊥) → IsGiven m i (Put LATER (frame_of x))
+    → Lawful (machine_told m i).kept.block (machine_told m i).kept.reserved (machine_told m i).trace (frame_of x)
+    → ((g : Forward) → command_of (frame_of x) ≡ Arc g → ⊥) → IsGiven m i (Put LATER (frame_of x))
 later_given m i s x other at unclosed turn some lawful addressing =
     given m i (Put LATER (frame_of x)) other
     (ordered (machine_told m i) s (Put LATER (frame_of x)) at (inr (refl, some, lawful)) addressing
@@ -99,7 +103,8 @@ pub first_given : (m : Machine) (i : Input) (s : Stage) (x : Command) → (i ≡
     → turn_of (machine_told m i).course.purpose (machine_told m i).course.number s ≡ None
     → x ≡ first_of (next_course (machine_told m i)).purpose (next_course (machine_told m i)).number
     → IsCaused (machine_told m i) (next_course (machine_told m i)) (Put FIRST (frame_of x))
-    → Lawful (machine_told m i).kept.block (machine_told m i).kept.reserved [] (frame_of x) → ((g : Forward) → command_of (frame_of x) ≡ Arc g → ⊥) → IsGiven m i (Put FIRST (frame_of x))
+    → Lawful (machine_told m i).kept.block (machine_told m i).kept.reserved [] (frame_of x) → ((g : Forward) → command_of (frame_of x) ≡ Arc g → ⊥)
+    → IsGiven m i (Put FIRST (frame_of x))
 first_given m i s x other at turn first caused lawful addressing =
     given m i (Put FIRST (frame_of x)) other
     (ordered (machine_told m i) s (Put FIRST (frame_of x)) at (inl (refl, lawful)) addressing caused)
@@ -107,7 +112,8 @@ first_given m i s x other at turn first caused lawful addressing =
     (followed (machine_told m i) s (Put FIRST (frame_of x)) at (λ c e. absurd (none_some c (sym turn ∙ e))))
 
 -- THE END of a close
-pub done_given : (m : Machine) (i : Input) (e : End) → (i ≡ input.CommitFailed → ⊥) → IsAt (machine_told m i) Terminated → running_close (machine_told m i) ≡ Some e
+pub done_given : (m : Machine) (i : Input) (e : End) → (i ≡ input.CommitFailed → ⊥) → IsAt (machine_told m i) Terminated
+    → running_close (machine_told m i) ≡ Some e
     → turn_of (machine_told m i).course.purpose (machine_told m i).course.number Terminated ≡ None → IsGiven m i (Done e)
 done_given m i e other at closes turn =
     given m i (Done e) other

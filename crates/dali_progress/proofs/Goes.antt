@@ -83,14 +83,16 @@ pub record Goes (before : List Gear) (w : World) (q c : ℕ) (m : Machine) (left
 put_no_enrolment : (p : ℕ) (f : Forward) (last : Option Order) → last ≡ Some (Put p f) → IsNoEnrolment last
 put_no_enrolment p f last is b n e = let other : Some (Put p f) ≡ Some (Commit (Enrol b n)) = sym is ∙ e in cc
 
-heard_next : (before : List Gear) (m : Machine) (p : ℕ) (f : Forward) (h : Answer) (o : Order) (gs : List Gear) (left : ℕ) → m.last ≡ Some (Put p f) → IsGivenBy (machine_told m (input.Heard h)) o → IsKept m.kept → Hears before m f h gs left
+heard_next : (before : List Gear) (m : Machine) (p : ℕ) (f : Forward) (h : Answer) (o : Order) (gs : List Gear) (left : ℕ) → m.last ≡ Some (Put p f)
+    → IsGivenBy (machine_told m (input.Heard h)) o → IsKept m.kept → Hears before m f h gs left
     → IsNext before (machine_after m (input.Heard h) o) o gs left
 heard_next before m p f h o gs left is g kept hears =
     let told : machine_told m (input.Heard h) ≡ machine_heard m (Some f) h = ap (λ l. machine_heard m (frame_put l) h) is in
     subst (λ t. IsNext before (machine_ordered t o) o gs left) (sym told)
     (turned before (machine_heard m (Some f) h) o gs left (subst (λ t. IsGivenBy t o) told g) hears.stands kept (put_no_enrolment p f m.last is) hears.running)
 
-kept_next : (before : List Gear) (m : Machine) (x : Record) (o : Order) (gs : List Gear) (left : ℕ) → m.last ≡ Some (Commit x) → IsGivenBy (machine_told m input.Committed) o → IsKept m.kept → m.trace ≡ [] → IsCalm m × CommitsTo before m x gs left
+kept_next : (before : List Gear) (m : Machine) (x : Record) (o : Order) (gs : List Gear) (left : ℕ) → m.last ≡ Some (Commit x)
+    → IsGivenBy (machine_told m input.Committed) o → IsKept m.kept → m.trace ≡ [] → IsCalm m × CommitsTo before m x gs left
     → IsNext before (machine_after m input.Committed o) o gs left
 kept_next before m x o gs left is g kept free commits =
     let told : machine_told m input.Committed ≡ with_kept m x = ap (λ l. machine_committed m (record_ordered l)) is in
@@ -98,8 +100,10 @@ kept_next before m x o gs left is g kept free commits =
     (committed before m x o gs left commits.0 commits.1 free is kept.reserved (subst (λ t. IsGivenBy t o) told g))
 
 -- what is due, by the last order and by what was told
-acts : (before : List Gear) (w : World) (q c : ℕ) (m : Machine) (out : Option Record) (last : Option Order) (told : Option Input) (i : Input) (o : Order) (left : ℕ) → Moment w q c m out last told → m.last ≡ last
-    → IsDueOf last told i → Succeeds i → IsGivenBy (machine_told m i) o → IsKept m.kept → Holds before m last told w.gear left → IsNext before (machine_after m i o) o w.gear left
+acts : (before : List Gear) (w : World) (q c : ℕ) (m : Machine) (out : Option Record) (last : Option Order) (told : Option Input) (i : Input) (o : Order)
+    (left : ℕ) → Moment w q c m out last told → m.last ≡ last
+    → IsDueOf last told i → Succeeds i → IsGivenBy (machine_told m i) o → IsKept m.kept → Holds before m last told w.gear left
+    → IsNext before (machine_after m i o) o w.gear left
 acts before w q c m out None (Some input.Start) input.Start o left at is due good g kept holds =
     started before m o w.gear left g holds.calm holds.tabled holds.free is holds.nothing holds.unopened holds.opening holds.frames
 acts before w q c m out (Some (Put p f)) (Some (input.Heard h)) (input.Heard a) o left at is due good g kept holds =
@@ -140,16 +144,20 @@ slack_one (Commit x) = omega arith
 slack_one (Done e) = omega arith
 slack_one (Halt why) = omega arith
 
-acts_less : (before : List Gear) (w : World) (q c : ℕ) (m : Machine) (out : Option Record) (last : Option Order) (told : Option Input) (i : Input) (o : Order) (left : ℕ) → Moment w q c m out last told → m.last ≡ last
-    → IsDueOf last told i → Succeeds i → IsGivenBy (machine_told m i) o → IsKept m.kept → Holds before m last told w.gear left → slack (Some o) None + 1 ≤ slack last told
+acts_less : (before : List Gear) (w : World) (q c : ℕ) (m : Machine) (out : Option Record) (last : Option Order) (told : Option Input) (i : Input) (o : Order)
+    (left : ℕ) → Moment w q c m out last told → m.last ≡ last
+    → IsDueOf last told i → Succeeds i → IsGivenBy (machine_told m i) o → IsKept m.kept → Holds before m last told w.gear left
+    → slack (Some o) None + 1 ≤ slack last told
 acts_less before w q c m out None (Some input.Start) input.Start o left at is due good g kept holds =
     let none : slack (Some o) None ≡ 0 = slack_first o (next_course m) (started_begins m o g holds.calm holds.free is) in
     omega (arith, none)
-acts_less before w q c m out (Some (Put p f)) (Some (input.Heard h)) (input.Heard a) o left at is due good g kept holds = let one : slack (Some o) None ≤ 1 = slack_one o in omega (arith, one)
+acts_less before w q c m out (Some (Put p f)) (Some (input.Heard h)) (input.Heard a) o left at is due good g kept holds = let one : slack (Some o) None ≤ 1 =
+    slack_one o in omega (arith, one)
 acts_less before w q c m out (Some (Commit x)) None input.Committed o left at is due good g kept holds =
     let told : machine_told m input.Committed ≡ with_kept m x = ap (λ l. machine_committed m (record_ordered l)) is in
     let none : slack (Some o) None ≡ 0 =
-    slack_first o (next_course (with_kept m x)) (committed_begins before m x o w.gear left holds.0 holds.1 at.1 is kept.reserved (subst (λ t. IsGivenBy t o) told g)) in
+    slack_first o (next_course (with_kept m x)) (committed_begins before m x o w.gear left holds.0 holds.1 at.1 is kept.reserved
+    (subst (λ t. IsGivenBy t o) told g)) in
     omega (arith, none)
 acts_less before w q c m out last told input.CommitFailed o left at is due good g kept holds = absurd good
 acts_less before w q c m out None told input.Committed o left at is due good g kept holds = absurd due
@@ -167,10 +175,12 @@ acts_less before w q c m out (Some l) None i o left at is due good g kept holds 
 abbrev pub slack_in : World → ℕ → ℕ
 slack_in w c = slack (controller_at w c).last (controller_at w c).told
 
-pub acted_less : (before : List Gear) (w : World) (q c : ℕ) (m : Machine) (i : Input) (o : Order) (left : ℕ) → Goes before w q c m left → Succeeds i → Allowed w (event.Acted c i o) → IsGiven m i o → IsKept (controller_at w c).records
+pub acted_less : (before : List Gear) (w : World) (q c : ℕ) (m : Machine) (i : Input) (o : Order) (left : ℕ) → Goes before w q c m left → Succeeds i
+    → Allowed w (event.Acted c i o) → IsGiven m i o → IsKept (controller_at w c).records
     → slack_in (happens w (event.Acted c i o)) c + 1 ≤ slack_in w c
 acted_less before w q c m i o left goes good here given kept =
-    let less = acts_less before w q c m (controller_at w c).outstanding (controller_at w c).last (controller_at w c).told i o left goes.lone.moment goes.lone.last (due_of (controller_at w c) i here.due) good
+    let less = acts_less before w q c m (controller_at w c).outstanding (controller_at w c).last
+    (controller_at w c).told i o left goes.lone.moment goes.lone.last (due_of (controller_at w c) i here.due) good
     (given_by m i o (not_failed i good) given) (subst IsKept (sym goes.lone.kept) kept) goes.holds in
     rw (acted_last w c i o goes.lone.up, acted_told w c i o goes.lone.up) less
 
@@ -195,19 +205,26 @@ next_holds before m (Commit x) gs left next = next
 next_holds before m (Done e) gs left next = next
 next_holds before m (Halt why) gs left next = next
 
-pub goes_acted : (before : List Gear) (w : World) (q c : ℕ) (m : Machine) (i : Input) (o : Order) (left : ℕ) → Goes before w q c m left → Succeeds i → Allowed w (event.Acted c i o) → IsGiven m i o → IsKept (controller_at w c).records
+pub goes_acted : (before : List Gear) (w : World) (q c : ℕ) (m : Machine) (i : Input) (o : Order) (left : ℕ) → Goes before w q c m left → Succeeds i
+    → Allowed w (event.Acted c i o) → IsGiven m i o → IsKept (controller_at w c).records
     → Goes before (happens w (event.Acted c i o)) q c (machine_after m i o) left
 goes_acted before w q c m i o left goes good here given kept =
     let by : IsGivenBy (machine_told m i) o = given_by m i o (not_failed i good) given in
     let lone = lone_acted w q c m i o goes.lone good (addresses_by o by.ordered.addressing) here in
-    let next = acts before w q c m (controller_at w c).outstanding (controller_at w c).last (controller_at w c).told i o left goes.lone.moment goes.lone.last (due_of (controller_at w c) i here.due) good by
+    let next = acts before w q c m (controller_at w c).outstanding (controller_at w c).last (controller_at w c).told i o left goes.lone.moment goes.lone.last
+    (due_of (controller_at w c) i here.due) good by
     (subst IsKept (sym goes.lone.kept) kept) goes.holds in
-    record { lone = lone; holds = rw (acted_last w c i o goes.lone.up, acted_told w c i o goes.lone.up) (holds_next before (machine_after m i o) o w.gear left next) }
+    record {
+      lone = lone;
+      holds = rw (acted_last w c i o goes.lone.up, acted_told w c i o goes.lone.up)
+          (holds_next before (machine_after m i o) o w.gear left next);
+    }
 
 -- ---------------------------------------------------------------- its frame is sent
 
 -- no stage on the way is one of a search that led to no gear
-never_silent : (p : Purpose) (s : Stage) (k : Kept) (opened o : Bool) (x : Search) (n : SearchAddress) (gs : List Gear) (left : ℕ) → At p s k opened x n gs left → silent_after s o 0 ≡ 0
+never_silent : (p : Purpose) (s : Stage) (k : Kept) (opened o : Bool) (x : Search) (n : SearchAddress) (gs : List Gear) (left : ℕ) → At p s k opened x n gs left
+    → silent_after s o 0 ≡ 0
 never_silent Opening (stage.Unanswered r) k opened o x n gs left at = absurd at.stage_is
 never_silent Opening (stage.Inconclusive r other) k opened o x n gs left at = absurd at.stage_is
 never_silent Probing (stage.Unanswered r) k opened o x n gs left at = absurd at.1.stage_is
@@ -232,15 +249,18 @@ not_free t x e = go t (free_is_empty (t ++ x ∷ []) e) where
   go (y ∷ t) e = cc
 
 -- the machine stands so once it is told what was heard
-stands_heard : (before : List Gear) (m : Machine) (f : Forward) (h : Answer) (gs : List Gear) (numbers : List ℕ) (left l : ℕ) → Stands before m gs left → IsLawful m.trace f → IsTabledTo before (stage_of m.trace) m.course.number m.kept.enrolled gs numbers (command_of f) h
-    → At m.course.purpose (next_stage (stage_of m.trace) (command_of f) h) m.kept (opened_after (next_stage (stage_of m.trace) (command_of f) h) m.opened) m.course.search m.course.number (row_after Everyone (command_of f) 0 gs numbers) l
+stands_heard : (before : List Gear) (m : Machine) (f : Forward) (h : Answer) (gs : List Gear) (numbers : List ℕ) (left l : ℕ) → Stands before m gs left
+    → IsLawful m.trace f → IsTabledTo before (stage_of m.trace) m.course.number m.kept.enrolled gs numbers (command_of f) h
+    → At m.course.purpose (next_stage (stage_of m.trace) (command_of f) h) m.kept
+    (opened_after (next_stage (stage_of m.trace) (command_of f) h) m.opened) m.course.search m.course.number (row_after Everyone (command_of f) 0 gs numbers) l
     → Stands before (machine_heard m (Some f) h) (row_after Everyone (command_of f) 0 gs numbers) l
 stands_heard before m f h gs numbers left l st lawful tabled at =
     let more : stage_of (m.trace ++ entry f h ∷ []) ≡ next_stage (stage_of m.trace) (command_of f) h = stage_more m.trace (entry f h) in
     record {
       tries = no_tries _ m.tries st.tries;
       silent = rw (more, st.silent) (never_silent m.course.purpose (next_stage (stage_of m.trace) (command_of f) h) m.kept
-          (opened_after (next_stage (stage_of m.trace) (command_of f) h) m.opened) m.opened m.course.search m.course.number (row_after Everyone (command_of f) 0 gs numbers) l at);
+          (opened_after (next_stage (stage_of m.trace) (command_of f) h) m.opened) m.opened m.course.search m.course.number
+          (row_after Everyone (command_of f) 0 gs numbers) l at);
       trace = subst (λ s. IsTrace s (m.trace ++ entry f h ∷ [])) (sym more) (trace_more (stage_of m.trace) m.trace f h lawful st.trace);
       within = st.within;
       tabled = subst (λ s. AreTabled before (to_come s m.course.number m.kept.enrolled) (row_after Everyone (command_of f) 0 gs numbers)) (sym more) tabled;
@@ -253,7 +273,8 @@ pub record IsKnown (w : World) (c : ℕ) (f : Forward) (h : Answer) : Type 0 whe
   pub then : AreDrawn (happens w (event.Sent c f h))
   pub seeks : (r : SearchAddress) → number_at (stage_of w.trace) ≡ Some r → Seek w.gear r
 
-taken_of : (w : World) (c : ℕ) (f : Forward) (h : Answer) → Allowed w (event.Sent c f h) → IsKnown w c f h → h ≡ heard_of (answers_of Everyone (command_of f) 0 w.gear) → IsTaken (command_of f) w.gear w.left h
+taken_of : (w : World) (c : ℕ) (f : Forward) (h : Answer) → Allowed w (event.Sent c f h) → IsKnown w c f h
+    → h ≡ heard_of (answers_of Everyone (command_of f) 0 w.gear) → IsTaken (command_of f) w.gear w.left h
 taken_of w c f h here known heard = record {
   heard = heard;
   enough = here.draws;
@@ -261,31 +282,44 @@ taken_of w c f h here known heard = record {
   apart = opened_apart w known.drawn;
 }
 
-pub goes_sent : (before : List Gear) (w : World) (q c : ℕ) (m : Machine) (r : Request) (h : Answer) (left : ℕ) → Goes before w q c m left → next w.bus ≡ Some r → Allowed w (event.Sent r.sender r.frame h) → IsKnown w r.sender r.frame h
-    → h ≡ heard_of (answers_of Everyone (command_of r.frame) 0 w.gear) → (l : ℕ) × (left ≡ suc l) × Goes before (happens w (event.Sent r.sender r.frame h)) q c m l
+pub goes_sent : (before : List Gear) (w : World) (q c : ℕ) (m : Machine) (r : Request) (h : Answer) (left : ℕ) → Goes before w q c m left → next w.bus ≡ Some r
+    → Allowed w (event.Sent r.sender r.frame h) → IsKnown w r.sender r.frame h
+    → h ≡ heard_of (answers_of Everyone (command_of r.frame) 0 w.gear)
+    → (l : ℕ) × (left ≡ suc l) × Goes before (happens w (event.Sent r.sender r.frame h)) q c m l
 goes_sent before w q c m r h left goes is here known heard =
     let put = lone_next w q c m r goes.lone is in
     let at : r.sender ≡ c = put.3 in
-    subst (λ d. Allowed w (event.Sent d r.frame h) → IsKnown w d r.frame h → (l : ℕ) × (left ≡ suc l) × Goes before (happens w (event.Sent d r.frame h)) q c m l) (sym at)
+    subst (λ d. Allowed w (event.Sent d r.frame h) → IsKnown w d r.frame h → (l : ℕ) × (left ≡ suc l)
+    × Goes before (happens w (event.Sent d r.frame h)) q c m l) (sym at)
     (λ here known. go put.0 put.1 put.2 here known) here known
   where
-    go : (p : ℕ) → m.last ≡ Some (Put p r.frame) → (controller_at w c).told ≡ None → Allowed w (event.Sent c r.frame h) → IsKnown w c r.frame h → (l : ℕ) × (left ≡ suc l) × Goes before (happens w (event.Sent c r.frame h)) q c m l
+    go : (p : ℕ) → m.last ≡ Some (Put p r.frame) → (controller_at w c).told ≡ None → Allowed w (event.Sent c r.frame h) → IsKnown w c r.frame h
+        → (l : ℕ) × (left ≡ suc l) × Goes before (happens w (event.Sent c r.frame h)) q c m l
     go p last told here known =
         let lone = lone_sent w q c m p r.frame h goes.lone last told in
-        let holds : IsNext before m (Put p r.frame) w.gear left = next_holds before m (Put p r.frame) w.gear left (rw (sym goes.lone.last ∙ last, told) at goes.holds) in
+        let holds : IsNext before m (Put p r.frame) w.gear left =
+        next_holds before m (Put p r.frame) w.gear left (rw (sym goes.lone.last ∙ last, told) at goes.holds) in
         let same : w.trace ≡ m.trace = lone.3 in
-        let sent = at_sent m.course.purpose (stage_of m.trace) m.kept m.opened m.course.search m.course.number w.gear w.left left (command_of r.frame) h holds.0.at holds.1
+        let sent = at_sent m.course.purpose (stage_of m.trace) m.kept m.opened m.course.search m.course.number w.gear w.left left
+        (command_of r.frame) h holds.0.at holds.1
         (taken_of w c r.frame h here known heard) (subst (λ t. Seeks (stage_of t) w.gear) same known.seeks) in
-        let tabled = at_tabled before m.course.purpose (stage_of m.trace) m.kept m.opened _ m.course.search m.course.number w.gear w.left left sent.0 (command_of r.frame) h holds.0.at holds.1
+        let tabled = at_tabled before m.course.purpose (stage_of m.trace) m.kept m.opened _ m.course.search m.course.number w.gear w.left left sent.0
+        (command_of r.frame) h holds.0.at holds.1
         (subst (λ t. Seeks (stage_of t) w.gear) same known.seeks) sent.2 holds.0.tabled in
-        let lawful : IsLawful m.trace r.frame =
-        ((controller_at w c).records.block, (controller_at w c).records.reserved, subst (λ t. Lawful (controller_at w c).records.block (controller_at w c).records.reserved t r.frame) lone.2 (lawful_of w c r.frame here.may)) in (
+        let lawful : IsLawful m.trace r.frame = (
+          (controller_at w c).records.block,
+          (controller_at w c).records.reserved,
+          subst (λ t. Lawful (controller_at w c).records.block (controller_at w c).records.reserved t r.frame) lone.2 (lawful_of w c r.frame here.may),
+        ) in (
           sent.0,
           sent.1,
           record {
             lone = lone.0;
             holds = rw (sent_last w c r.frame h goes.lone.up ∙ sym goes.lone.last ∙ last, lone.1)
-                (record { stands = stands_heard before m r.frame h w.gear w.left left sent.0 holds.0 lawful tabled sent.2; running = not_free m.trace (entry r.frame h) });
+                (record {
+                  stands = stands_heard before m r.frame h w.gear w.left left sent.0 holds.0 lawful tabled sent.2;
+                  running = not_free m.trace (entry r.frame h);
+                });
           },
         )
 
@@ -294,5 +328,7 @@ pub sent_less : (before : List Gear) (w : World) (q c : ℕ) (m : Machine) (r : 
 sent_less before w q c m r h left goes is =
     let put = lone_next w q c m r goes.lone is in
     let last : (controller_at w c).last ≡ Some (Put put.0 r.frame) = sym goes.lone.last ∙ put.1 in
-    let lone = lone_sent w q c m put.0 r.frame h goes.lone put.1 put.2 in
-    (subst (λ d. slack_in (happens w (event.Sent d r.frame h)) c ≡ 2) (sym put.3) (rw (sent_last w c r.frame h goes.lone.up, lone.1, last) refl), rw (last, put.2) refl)
+    let lone = lone_sent w q c m put.0 r.frame h goes.lone put.1 put.2 in (
+      subst (λ d. slack_in (happens w (event.Sent d r.frame h)) c ≡ 2) (sym put.3) (rw (sent_last w c r.frame h goes.lone.up, lone.1, last) refl),
+      rw (last, put.2) refl,
+    )

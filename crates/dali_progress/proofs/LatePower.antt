@@ -14,7 +14,8 @@ use Rattle.dali_events.specs.Happens.{happens}
 use Rattle.dali_standing.specs.Standing.{machines_at}
 use Rattle.dali_world.specs.Site.{SiteState}
 use Rattle.dali_progress.specs.Rounds.{StartsAlone}
-use Rattle.dali_progress.proofs.Session.{block, highest, silent, given_first, given_initialise, given_initialise_again, given_randomise, given_randomise_again, given_high, given_middle, given_low, given_compare, given_close, given_done}
+use Rattle.dali_progress.proofs.Session.{block, highest, silent, given_first, given_initialise, given_initialise_again, given_randomise, given_randomise_again}
+use Rattle.dali_progress.proofs.Session.{given_high, given_middle, given_low, given_compare, given_close, given_done}
 use Rattle.dali_progress.proofs.Playing.{Plays, rounds_by, BreaksEnd}
 use Rattle.dali_progress.proofs.Needed.{plan, is_plan}
 
@@ -88,43 +89,90 @@ session_plays = (
               record { up = record { known = lit< tt; up = refl }; due = refl; order = inr (refl, refl, (Open, tt, (refl, tt, (refl, tt, (refl, tt, refl))))) },
               (refl, tt, given_randomise),
               (
-                record { up = record { known = lit< tt; up = refl }; may = inl (refl, (Open, tt, (refl, tt, (refl, tt, (refl, tt, refl))))); draws = lit≤ tt; heard = tt },
+                record {
+                  up = record { known = lit< tt; up = refl };
+                  may = inl (refl, (Open, tt, (refl, tt, (refl, tt, (refl, tt, refl)))));
+                  draws = lit≤ tt;
+                  heard = tt;
+                },
                 (request_of 0 1 (frame 0xA7 0), refl, refl, refl, refl),
                 (
-                  record { up = record { known = lit< tt; up = refl }; due = refl; order = inr (refl, refl, (Open, tt, (refl, tt, (refl, tt, (refl, tt, (refl, tt, refl)))))) },
+                  record {
+                    up = record { known = lit< tt; up = refl };
+                    due = refl;
+                    order = inr (refl, refl, (Open, tt, (refl, tt, (refl, tt, (refl, tt, (refl, tt, refl))))));
+                  },
                   (refl, tt, given_randomise_again),
                   (
-                    record { up = record { known = lit< tt; up = refl }; may = inl (refl, (Open, tt, (refl, tt, (refl, tt, (refl, tt, (refl, tt, refl)))))); draws = lit≤ tt; heard = tt },
+                    record {
+                      up = record { known = lit< tt; up = refl };
+                      may = inl (refl, (Open, tt, (refl, tt, (refl, tt, (refl, tt, (refl, tt, refl))))));
+                      draws = lit≤ tt;
+                      heard = tt;
+                    },
                     (request_of 0 1 (frame 0xA7 0), refl, refl, refl, refl),
                     (
                       record { up = record { known = lit< tt; up = refl }; due = refl; order = inl (refl, (block, [], (Probe highest, tt, refl))) },
                       (refl, tt, given_high),
                       (
-                        record { up = record { known = lit< tt; up = refl }; may = inr (refl, (block, [], (Probe highest, tt, refl))); draws = lit≤ tt; heard = tt },
+                        record {
+                          up = record { known = lit< tt; up = refl };
+                          may = inr (refl, (block, [], (Probe highest, tt, refl)));
+                          draws = lit≤ tt;
+                          heard = tt;
+                        },
                         (request_of 0 3 (frame 0xB1 0xFF), refl, refl, refl, refl),
                         (
                           record { up = record { known = lit< tt; up = refl }; due = refl; order = inr (refl, refl, (Probe highest, tt, (refl, tt, refl))) },
                           (refl, tt, given_middle),
                           (
-                            record { up = record { known = lit< tt; up = refl }; may = inl (refl, (Probe highest, tt, (refl, tt, refl))); draws = lit≤ tt; heard = tt },
+                            record {
+                              up = record { known = lit< tt; up = refl };
+                              may = inl (refl, (Probe highest, tt, (refl, tt, refl)));
+                              draws = lit≤ tt;
+                              heard = tt;
+                            },
                             (request_of 0 1 (frame 0xB3 0xFF), refl, refl, refl, refl),
                             (
-                              record { up = record { known = lit< tt; up = refl }; due = refl; order = inr (refl, refl, (Probe highest, tt, (refl, tt, (refl, tt, refl)))) },
+                              record {
+                                up = record { known = lit< tt; up = refl };
+                                due = refl;
+                                order = inr (refl, refl, (Probe highest, tt, (refl, tt, (refl, tt, refl))));
+                              },
                               (refl, tt, given_low),
                               (
-                                record { up = record { known = lit< tt; up = refl }; may = inl (refl, (Probe highest, tt, (refl, tt, (refl, tt, refl)))); draws = lit≤ tt; heard = tt },
+                                record {
+                                  up = record { known = lit< tt; up = refl };
+                                  may = inl (refl, (Probe highest, tt, (refl, tt, (refl, tt, refl))));
+                                  draws = lit≤ tt;
+                                  heard = tt;
+                                },
                                 (request_of 0 1 (frame 0xB5 0xFE), refl, refl, refl, refl),
                                 (
-                                  record { up = record { known = lit< tt; up = refl }; due = refl; order = inr (refl, refl, (Probe highest, tt, (refl, tt, (refl, tt, (refl, tt, refl))))) },
+                                  record {
+                                    up = record { known = lit< tt; up = refl };
+                                    due = refl;
+                                    order = inr (refl, refl, (Probe highest, tt, (refl, tt, (refl, tt, (refl, tt, refl)))));
+                                  },
                                   (refl, tt, given_compare),
                                   (
-                                    record { up = record { known = lit< tt; up = refl }; may = inl (refl, (Probe highest, tt, (refl, tt, (refl, tt, (refl, tt, refl))))); draws = lit≤ tt; heard = tt },
+                                    record {
+                                      up = record { known = lit< tt; up = refl };
+                                      may = inl (refl, (Probe highest, tt, (refl, tt, (refl, tt, (refl, tt, refl)))));
+                                      draws = lit≤ tt;
+                                      heard = tt;
+                                    },
                                     (request_of 0 1 (frame 0xA9 0), refl, refl, refl, refl),
                                     (
                                       record { up = record { known = lit< tt; up = refl }; due = refl; order = inl (refl, (block, [], (Close, tt, refl))) },
                                       (refl, tt, given_close),
                                       (
-                                        record { up = record { known = lit< tt; up = refl }; may = inr (refl, (block, [], (Close, tt, refl))); draws = lit≤ tt; heard = tt },
+                                        record {
+                                          up = record { known = lit< tt; up = refl };
+                                          may = inr (refl, (block, [], (Close, tt, refl)));
+                                          draws = lit≤ tt;
+                                          heard = tt;
+                                        },
                                         (request_of 0 3 (frame 0xA1 0), refl, refl, refl, refl),
                                         (
                                           record { up = record { known = lit< tt; up = refl }; due = refl; order = tt },

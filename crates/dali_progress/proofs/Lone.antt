@@ -1,4 +1,5 @@
-use Rattle.std.proofs.Common.{◌≡◌, ℕ, ◌<◌, ◌⊎◌, inl, inr, Bool, true, false, List, [], ◌∷◌, ◌++◌, refl, sym, ap, subst, ◌∙◌, arith, length-set, get_or-set_same, Option, Some, None}
+use Rattle.std.proofs.Common.{◌≡◌, ℕ, ◌<◌, ◌⊎◌, inl, inr, Bool, true, false, List, [], ◌∷◌, ◌++◌, refl, sym, ap, subst, ◌∙◌, arith, length-set, get_or-set_same}
+use Rattle.std.proofs.Common.{Option, Some, None}
 use Rattle.std.specs.Prelude.{◌==◌, if◌then◌else◌}
 use Rattle.std.proofs.lemmas.Bool.Decides.{nat_tests}
 use Rattle.dali_frame.specs.declared.frames.Forward.{Forward}
@@ -18,7 +19,8 @@ use Rattle.dali_controller.specs.Machine.{Machine, machine_heard, machine_commit
 use Rattle.dali_controller.specs.Orders.{machine_after}
 use Rattle.dali_events.specs.declared.event.Event.TheVariants as event
 use Rattle.dali_events.specs.World.{World, Controller, controller_at, nobody}
-use Rattle.dali_events.specs.Happens.{happens, entry, controller_informed, controller_acted, outstanding_told, outstanding_after, with_outstanding, kept_after, bus_acted, gives_up, told_sent, trace_running, goes_on, sent_by, is_arc}
+use Rattle.dali_events.specs.Happens.{happens, entry, controller_informed, controller_acted, outstanding_told, outstanding_after, with_outstanding, kept_after}
+use Rattle.dali_events.specs.Happens.{bus_acted, gives_up, told_sent, trace_running, goes_on, sent_by, is_arc}
 use Rattle.dali_events.specs.Allowed.{Allowed, IsUp, IsDue, IsCommit, MayOrder}
 use Rattle.dali_progress.specs.Rounds.{Succeeds}
 
@@ -100,7 +102,8 @@ comes : (w : World) (q c : ℕ) (t : List Entry) (o : Order) → Puts w c o → 
 comes w q c t (Put p f) (inl first) (inl own) = rw (first, own.0, same c) (inr (refl, refl, refl))
 comes w q c t (Put p f) (inl first) (inr free) = rw (first, free.0, free.1) (inr (refl, refl, refl))
 comes w q c t (Put p f) (inr later) (inl own) = rw (later.0, own.0, same c) (inl (refl, refl, own.1))
-comes w q c t (Put p f) (inr later) (inr free) = absurd (let owner : (still q None).owner ≡ Some c = subst (λ (b : Arbiter). b.owner ≡ Some c) free.0 later.1 in cc)
+comes w q c t (Put p f) (inr later) (inr free) =
+    absurd (let owner : (still q None).owner ≡ Some c = subst (λ (b : Arbiter). b.owner ≡ Some c) free.0 later.1 in cc)
 comes w q c t (Commit x) puts (inl own) = rw (own.0, same c) (refl, refl)
 comes w q c t (Commit x) puts (inr free) = rw (free.0, free.1) (refl, refl)
 comes w q c t (Done e) puts (inl own) = rw (own.0, same c) (refl, refl)
@@ -122,7 +125,8 @@ due_of k (input.Heard h) due = due
 due_of k input.Destroyed due = due
 due_of k input.Lapsed due = due
 
-before : (w : World) (q c : ℕ) (m : Machine) (out : Option Record) (last : Option Order) (told : Option Input) (i : Input) → m.last ≡ last → Succeeds i → IsDueOf last told i
+before : (w : World) (q c : ℕ) (m : Machine) (out : Option Record) (last : Option Order) (told : Option Input) (i : Input) → m.last ≡ last → Succeeds i
+    → IsDueOf last told i
     → Moment w q c m out last told → Before w q c (machine_told m i).trace
 before w q c m out None (Some input.Start) input.Start is good due at = inr at.0
 before w q c m out (Some (Put p f)) (Some (input.Heard h)) (input.Heard g) is good due at = rw is (go at) where
@@ -150,7 +154,8 @@ heard_kept : (m : Machine) (o : Option Forward) (h : Answer) → (machine_heard 
 heard_kept m (Some f) h = refl
 heard_kept m None h = refl
 
-committed_kept : (w : World) (q c : ℕ) (m : Machine) (k : Controller) (last : Option Order) (told : Option Input) → k.last ≡ last → k.told ≡ told → m.last ≡ last → IsCommit last → m.kept ≡ k.records
+committed_kept : (w : World) (q c : ℕ) (m : Machine) (k : Controller) (last : Option Order) (told : Option Input) → k.last ≡ last → k.told ≡ told
+    → m.last ≡ last → IsCommit last → m.kept ≡ k.records
     → Moment w q c m k.outstanding last told → (machine_committed m (record_ordered m.last)).kept ≡ with_outstanding k.records k.outstanding
 committed_kept w q c m k (Some (Commit x)) None at_last at_told is commit kept at = rw (is, at.2, kept) refl
 committed_kept w q c m k (Some (Commit x)) (Some i) at_last at_told is commit kept at = absurd at
@@ -184,7 +189,8 @@ came w q c m i (Commit x) out at = (at, refl, refl)
 came w q c m i (Done e) out at = at
 came w q c m i (Halt why) out at = at
 
-acted_there : (w : World) (c : ℕ) (i : Input) (o : Order) → IsUp w c → controller_at (happens w (event.Acted c i o)) c ≡ controller_acted (controller_at w c) i o
+acted_there : (w : World) (c : ℕ) (i : Input) (o : Order) → IsUp w c
+    → controller_at (happens w (event.Acted c i o)) c ≡ controller_acted (controller_at w c) i o
 acted_there w c i o up = get_or-set_same w.controllers c (controller_acted (controller_at w c) i o) nobody up.known
 
 pub acted_last : (w : World) (c : ℕ) (i : Input) (o : Order) → IsUp w c → (controller_at (happens w (event.Acted c i o)) c).last ≡ Some o
@@ -208,18 +214,21 @@ lone_acted w q c m i o l good addresses here =
       moment = subst (λ (k : Controller). Moment (happens w (event.Acted c i o)) q c (machine_after m i o) k.outstanding k.last k.told) (sym there)
           (came w q c m i o (outstanding_told (controller_at w c).outstanding i)
           (comes w q c (machine_told m i).trace o (puts w c (controller_informed (controller_at w c) i) o here.order)
-          (before w q c m (controller_at w c).outstanding (controller_at w c).last (controller_at w c).told i l.last good (due_of (controller_at w c) i here.due) l.moment)));
+          (before w q c m (controller_at w c).outstanding (controller_at w c).last (controller_at w c).told i l.last good
+          (due_of (controller_at w c) i here.due) l.moment)));
     }
 
 -- ---------------------------------------------------------------- its frame is sent
 
 -- the frame that is next is that of its last order
-request_is : (c n p : ℕ) (f : Forward) (r : Request) → Some (request_of c n f) ≡ Some r → (k : ℕ) × (Some (Put p f) ≡ Some (Put k r.frame)) × (no_input ≡ None) × (r.sender ≡ c)
+request_is : (c n p : ℕ) (f : Forward) (r : Request) → Some (request_of c n f) ≡ Some r
+    → (k : ℕ) × (Some (Put p f) ≡ Some (Put k r.frame)) × (no_input ≡ None) × (r.sender ≡ c)
 request_is c n p f r e =
     let here : request_of c n f ≡ r = cc in
     (p, ap (λ (x : Request). Some (Put p x.frame)) here, refl, sym (ap (λ (x : Request). x.sender) here))
 
-next_at : (w : World) (q c : ℕ) (m : Machine) (out : Option Record) (last : Option Order) (told : Option Input) (r : Request) → Moment w q c m out last told → next w.bus ≡ Some r
+next_at : (w : World) (q c : ℕ) (m : Machine) (out : Option Record) (last : Option Order) (told : Option Input) (r : Request) → Moment w q c m out last told
+    → next w.bus ≡ Some r
     → (p : ℕ) × (last ≡ Some (Put p r.frame)) × (told ≡ None) × (r.sender ≡ c)
 next_at w q c m out (Some (Put p f)) None r (inl later) is = request_is c LATER p f r (sym (ap next later.1) ∙ is)
 next_at w q c m out (Some (Put p f)) None r (inr first) is = request_is c FIRST p f r (sym (ap next first.1) ∙ is)
@@ -247,7 +256,8 @@ running_of : (w : World) (q c : ℕ) (m : Machine) (p : ℕ) (f : Forward) → W
 running_of w q c m p f (inl later) = rw (later.1, same c) later.2
 running_of w q c m p f (inr first) = rw (first.1) (sym first.3)
 
-bus_after : (q c p : ℕ) (f : Forward) (b : Arbiter) (more : Bool) → ((b ≡ with_later q c f) ⊎ (b ≡ with_first q c f)) → sent_by b c more ≡ still q (if more then Some c else None)
+bus_after : (q c p : ℕ) (f : Forward) (b : Arbiter) (more : Bool) → ((b ≡ with_later q c f) ⊎ (b ≡ with_first q c f))
+    → sent_by b c more ≡ still q (if more then Some c else None)
 bus_after q c p f b true (inl later) = rw later refl
 bus_after q c p f b false (inl later) = rw later refl
 bus_after q c p f b true (inr first) = rw first refl
@@ -263,10 +273,12 @@ heard_at w q c m p f h at = go (goes_on w c (trace_running w c ++ entry f h ∷ 
   go true is = inl (rw is (bus_after q c p f w.bus true (bus_waits w q c m p f at)), rw is (ap (λ t. t ++ entry f h ∷ []) (running_of w q c m p f at)))
   go false is = inr (rw is (bus_after q c p f w.bus false (bus_waits w q c m p f at)), rw is refl)
 
-waits_at : (w : World) (q c : ℕ) (m : Machine) (out : Option Record) (last : Option Order) (told : Option Input) (p : ℕ) (f : Forward) → last ≡ Some (Put p f) → told ≡ None → Moment w q c m out last told → Waits w q c m p f
+waits_at : (w : World) (q c : ℕ) (m : Machine) (out : Option Record) (last : Option Order) (told : Option Input) (p : ℕ) (f : Forward) → last ≡ Some (Put p f)
+    → told ≡ None → Moment w q c m out last told → Waits w q c m p f
 waits_at w q c m out last told p f is none at = rw (is, none) at at
 
-sent_there : (w : World) (c : ℕ) (f : Forward) (h : Answer) → IsUp w c → controller_at (happens w (event.Sent c f h)) c ≡ told_sent (trace_running w c) f h (controller_at w c)
+sent_there : (w : World) (c : ℕ) (f : Forward) (h : Answer) → IsUp w c
+    → controller_at (happens w (event.Sent c f h)) c ≡ told_sent (trace_running w c) f h (controller_at w c)
 sent_there w c f h up = get_or-set_same w.controllers c (told_sent (trace_running w c) f h (controller_at w c)) nobody up.known
 
 trace_is : (w : World) (q c : ℕ) (m : Machine) (p : ℕ) (f : Forward) → Waits w q c m p f → w.trace ≡ m.trace
@@ -276,15 +288,18 @@ trace_is w q c m p f (inr first) = first.2 ∙ sym first.3
 pub sent_last : (w : World) (c : ℕ) (f : Forward) (h : Answer) → IsUp w c → (controller_at (happens w (event.Sent c f h)) c).last ≡ (controller_at w c).last
 sent_last w c f h up = ap (λ (k : Controller). k.last) (sent_there w c f h up)
 
-pub lone_sent : (w : World) (q c : ℕ) (m : Machine) (p : ℕ) (f : Forward) (h : Answer) → IsLone w q c m → m.last ≡ Some (Put p f) → (controller_at w c).told ≡ None
-    → IsLone (happens w (event.Sent c f h)) q c m × ((controller_at (happens w (event.Sent c f h)) c).told ≡ Some (input.Heard h)) × (trace_running w c ≡ m.trace) × (w.trace ≡ m.trace)
+pub lone_sent : (w : World) (q c : ℕ) (m : Machine) (p : ℕ) (f : Forward) (h : Answer) → IsLone w q c m → m.last ≡ Some (Put p f)
+    → (controller_at w c).told ≡ None
+    → IsLone (happens w (event.Sent c f h)) q c m × ((controller_at (happens w (event.Sent c f h)) c).told ≡ Some (input.Heard h))
+    × (trace_running w c ≡ m.trace) × (w.trace ≡ m.trace)
 lone_sent w q c m p f h l is none =
     let there : controller_at (happens w (event.Sent c f h)) c ≡ told_sent (trace_running w c) f h (controller_at w c) = sent_there w c f h l.up in
     let last : (controller_at w c).last ≡ Some (Put p f) = sym l.last ∙ is in
     let waits : Waits w q c m p f = waits_at w q c m (controller_at w c).outstanding (controller_at w c).last (controller_at w c).told p f last none l.moment in
     let addresses : is_arc (command_of f) ≡ false = subst Addresses last l.addresses in
     let last_there : (controller_at (happens w (event.Sent c f h)) c).last ≡ Some (Put p f) = ap (λ (k : Controller). k.last) there ∙ last in
-    let told_there : (controller_at (happens w (event.Sent c f h)) c).told ≡ Some (input.Heard h) = ap (λ (k : Controller). k.told) there ∙ rw addresses refl in (
+    let told_there : (controller_at (happens w (event.Sent c f h)) c).told ≡ Some (input.Heard h) =
+    ap (λ (k : Controller). k.told) there ∙ rw addresses refl in (
       record {
         up = record {
           known = subst (λ n. c < n) (sym (length-set w.controllers c (told_sent (trace_running w c) f h (controller_at w c)))) l.up.known;

@@ -17,7 +17,8 @@ use Rattle.dali_events.proofs.Plans.{plan_is}
 use Rattle.dali_standing.specs.Standing.{machines_at}
 use Rattle.dali_world.specs.Site.{SiteState, world, site_logged, machines}
 use Rattle.dali_progress.specs.Rounds.{StartsAlone, Rounds, site_after}
-use Rattle.dali_progress.proofs.Session.{block, highest, silent, given_first, given_initialise, given_initialise_again, given_randomise, given_randomise_again, given_high, given_middle, given_low, given_compare, given_close, given_done}
+use Rattle.dali_progress.proofs.Session.{block, highest, silent, given_first, given_initialise, given_initialise_again, given_randomise, given_randomise_again}
+use Rattle.dali_progress.proofs.Session.{given_high, given_middle, given_low, given_compare, given_close, given_done}
 use Rattle.dali_progress.proofs.Playing.{Plays, rounds_by, BreaksEnd}
 
 -- UNDISTURBED MATTERS. Short histories of one controller that starts alone, in which all events but
@@ -93,34 +94,71 @@ before_compare = (
               record { up = record { known = lit< tt; up = refl }; due = refl; order = inr (refl, refl, (Open, tt, (refl, tt, (refl, tt, (refl, tt, refl))))) },
               (refl, tt, given_randomise),
               (
-                record { up = record { known = lit< tt; up = refl }; may = inl (refl, (Open, tt, (refl, tt, (refl, tt, (refl, tt, refl))))); draws = lit≤ tt; heard = tt },
+                record {
+                  up = record { known = lit< tt; up = refl };
+                  may = inl (refl, (Open, tt, (refl, tt, (refl, tt, (refl, tt, refl)))));
+                  draws = lit≤ tt;
+                  heard = tt;
+                },
                 (request_of 0 1 (frame 0xA7 0), refl, refl, refl, refl),
                 (
-                  record { up = record { known = lit< tt; up = refl }; due = refl; order = inr (refl, refl, (Open, tt, (refl, tt, (refl, tt, (refl, tt, (refl, tt, refl)))))) },
+                  record {
+                    up = record { known = lit< tt; up = refl };
+                    due = refl;
+                    order = inr (refl, refl, (Open, tt, (refl, tt, (refl, tt, (refl, tt, (refl, tt, refl))))));
+                  },
                   (refl, tt, given_randomise_again),
                   (
-                    record { up = record { known = lit< tt; up = refl }; may = inl (refl, (Open, tt, (refl, tt, (refl, tt, (refl, tt, (refl, tt, refl)))))); draws = lit≤ tt; heard = tt },
+                    record {
+                      up = record { known = lit< tt; up = refl };
+                      may = inl (refl, (Open, tt, (refl, tt, (refl, tt, (refl, tt, (refl, tt, refl))))));
+                      draws = lit≤ tt;
+                      heard = tt;
+                    },
                     (request_of 0 1 (frame 0xA7 0), refl, refl, refl, refl),
                     (
                       record { up = record { known = lit< tt; up = refl }; due = refl; order = inl (refl, (block, [], (Probe highest, tt, refl))) },
                       (refl, tt, given_high),
                       (
-                        record { up = record { known = lit< tt; up = refl }; may = inr (refl, (block, [], (Probe highest, tt, refl))); draws = lit≤ tt; heard = tt },
+                        record {
+                          up = record { known = lit< tt; up = refl };
+                          may = inr (refl, (block, [], (Probe highest, tt, refl)));
+                          draws = lit≤ tt;
+                          heard = tt;
+                        },
                         (request_of 0 3 (frame 0xB1 0xFF), refl, refl, refl, refl),
                         (
                           record { up = record { known = lit< tt; up = refl }; due = refl; order = inr (refl, refl, (Probe highest, tt, (refl, tt, refl))) },
                           (refl, tt, given_middle),
                           (
-                            record { up = record { known = lit< tt; up = refl }; may = inl (refl, (Probe highest, tt, (refl, tt, refl))); draws = lit≤ tt; heard = tt },
+                            record {
+                              up = record { known = lit< tt; up = refl };
+                              may = inl (refl, (Probe highest, tt, (refl, tt, refl)));
+                              draws = lit≤ tt;
+                              heard = tt;
+                            },
                             (request_of 0 1 (frame 0xB3 0xFF), refl, refl, refl, refl),
                             (
-                              record { up = record { known = lit< tt; up = refl }; due = refl; order = inr (refl, refl, (Probe highest, tt, (refl, tt, (refl, tt, refl)))) },
+                              record {
+                                up = record { known = lit< tt; up = refl };
+                                due = refl;
+                                order = inr (refl, refl, (Probe highest, tt, (refl, tt, (refl, tt, refl))));
+                              },
                               (refl, tt, given_low),
                               (
-                                record { up = record { known = lit< tt; up = refl }; may = inl (refl, (Probe highest, tt, (refl, tt, (refl, tt, refl)))); draws = lit≤ tt; heard = tt },
+                                record {
+                                  up = record { known = lit< tt; up = refl };
+                                  may = inl (refl, (Probe highest, tt, (refl, tt, (refl, tt, refl))));
+                                  draws = lit≤ tt;
+                                  heard = tt;
+                                },
                                 (request_of 0 1 (frame 0xB5 0xFE), refl, refl, refl, refl),
                                 (
-                                  record { up = record { known = lit< tt; up = refl }; due = refl; order = inr (refl, refl, (Probe highest, tt, (refl, tt, (refl, tt, (refl, tt, refl))))) },
+                                  record {
+                                    up = record { known = lit< tt; up = refl };
+                                    due = refl;
+                                    order = inr (refl, refl, (Probe highest, tt, (refl, tt, (refl, tt, (refl, tt, refl)))));
+                                  },
                                   (refl, tt, given_compare),
                                   tt,
                                 ),
@@ -186,7 +224,12 @@ unfolding command_of stage_of
 answer_is_lost = record {
   starts = starts;
   before = before_compare_rounds;
-  allowed = record { up = record { known = lit< tt; up = refl }; may = inl (refl, (Probe highest, tt, (refl, tt, (refl, tt, (refl, tt, refl))))); draws = lit≤ tt; heard = tt };
+  allowed = record {
+    up = record { known = lit< tt; up = refl };
+    may = inl (refl, (Probe highest, tt, (refl, tt, (refl, tt, (refl, tt, refl)))));
+    draws = lit≤ tt;
+    heard = tt;
+  };
   afterwards = rounds_by (site_logged (site_after site up_to_compare) compare) 0 ending lost_ending;
   ended = refl;
   untrue = λ all. let short = all 0 (lit< tt) refl in no_short short.0 short.1;
@@ -196,10 +239,16 @@ answer_is_lost = record {
 
 -- the same, but for the timer of the gear, which runs out before the COMPARE: nobody answers, and
 -- what is heard is what is answered
-expired_ending : Plays (world (site_logged (site_after site up_to_compare) (event.Expired 0))) (machines (site_logged (site_after site up_to_compare) (event.Expired 0))) 0 (compare ∷ ending)
+expired_ending : Plays (world (site_logged (site_after site up_to_compare) (event.Expired 0)))
+    (machines (site_logged (site_after site up_to_compare) (event.Expired 0))) 0 (compare ∷ ending)
 unfolding command_of stage_of
 expired_ending = (
-  record { up = record { known = lit< tt; up = refl }; may = inl (refl, (Probe highest, tt, (refl, tt, (refl, tt, (refl, tt, refl))))); draws = lit≤ tt; heard = tt },
+  record {
+    up = record { known = lit< tt; up = refl };
+    may = inl (refl, (Probe highest, tt, (refl, tt, (refl, tt, (refl, tt, refl)))));
+    draws = lit≤ tt;
+    heard = tt;
+  },
   (request_of 0 1 (frame 0xA9 0), refl, refl, refl, refl),
   (
     record { up = record { known = lit< tt; up = refl }; due = refl; order = inl (refl, (block, [], (Close, tt, refl))) },

@@ -90,10 +90,19 @@ before_draw = (
               record { up = record { known = lit< tt; up = refl }; due = refl; order = inr (refl, refl, (Open, tt, (refl, tt, (refl, tt, (refl, tt, refl))))) },
               (refl, tt, given_randomise),
               (
-                record { up = record { known = lit< tt; up = refl }; may = inl (refl, (Open, tt, (refl, tt, (refl, tt, (refl, tt, refl))))); draws = lit≤ tt; heard = tt },
+                record {
+                  up = record { known = lit< tt; up = refl };
+                  may = inl (refl, (Open, tt, (refl, tt, (refl, tt, (refl, tt, refl)))));
+                  draws = lit≤ tt;
+                  heard = tt;
+                },
                 (request_of 0 1 (frame 0xA7 0), refl, refl, refl, refl),
                 (
-                  record { up = record { known = lit< tt; up = refl }; due = refl; order = inr (refl, refl, (Open, tt, (refl, tt, (refl, tt, (refl, tt, (refl, tt, refl)))))) },
+                  record {
+                    up = record { known = lit< tt; up = refl };
+                    due = refl;
+                    order = inr (refl, refl, (Open, tt, (refl, tt, (refl, tt, (refl, tt, (refl, tt, refl))))));
+                  },
                   (refl, tt, given_randomise_again),
                   tt,
                 ),
@@ -126,9 +135,11 @@ next_is : next_request (site_after spent_site up_to_draw) ≡ Some (request_of 0
 unfolding command_of stage_of
 next_is = refl
 
-not_sent : (r : Request) (f : Forward) → next_request (site_after spent_site up_to_draw) ≡ Some r → f ≡ r.frame → HasDraws (world (site_after spent_site up_to_draw)) Everyone f → ⊥
+not_sent : (r : Request) (f : Forward) → next_request (site_after spent_site up_to_draw) ≡ Some r → f ≡ r.frame
+    → HasDraws (world (site_after spent_site up_to_draw)) Everyone f → ⊥
 not_sent r f is same draws =
-    no_draws (subst (λ g. HasDraws (world (site_after spent_site up_to_draw)) Everyone g) (same ∙ ap (λ (q : Request). q.frame) (some_same r (request_of 0 1 (frame 0xA7 0)) (sym is ∙ next_is))) draws)
+    no_draws (subst (λ g. HasDraws (world (site_after spent_site up_to_draw)) Everyone g)
+    (same ∙ ap (λ (q : Request). q.frame) (some_same r (request_of 0 1 (frame 0xA7 0)) (sym is ∙ next_is))) draws)
 
 no_round : (e : Event) → Allowed (world (site_after spent_site up_to_draw)) e → IsOfRound (site_after spent_site up_to_draw) 0 e → ⊥
 no_round (event.Acted d i o) allowed of = not_due i (subst (λ n. IsDue (controller_at (world (site_after spent_site up_to_draw)) n) i) of.0 allowed.due)

@@ -1,4 +1,5 @@
-use Rattle.std.proofs.Common.{◌≡◌, ℕ, ◌+◌, ◌*◌, ◌<◌, ◌≤◌, Bool, true, false, suc, List, [], ◌∷◌, ◌++◌, refl, sym, ap, subst, ◌∙◌, arith, length, Option, Some, None}
+use Rattle.std.proofs.Common.{◌≡◌, ℕ, ◌+◌, ◌*◌, ◌<◌, ◌≤◌, Bool, true, false, suc, List, [], ◌∷◌, ◌++◌, refl, sym, ap, subst, ◌∙◌, arith, length, Option, Some}
+use Rattle.std.proofs.Common.{None}
 use Rattle.std.specs.Prelude.{if◌then◌else◌, ◌&&◌}
 use Rattle.std.specs.List.{count_by}
 use Rattle.dali_frame.specs.declared.frames.Forward.{Forward}
@@ -67,7 +68,8 @@ needs_few reach c k (g ∷ gs) = go (takes reach k g && draws_a_number c g) (dra
 left_same : (reach : Reach) (c : Command) (k : ℕ) (gs : List Gear) (left : List ℕ) → draws_needed reach c k gs ≡ 0 → row_left reach c k gs left ≡ left
 left_same reach c k [] left none = refl
 left_same reach c k (g ∷ gs) left none = go (takes reach k g && draws_a_number c g) none (λ more. left_same reach c (k + 1) gs left more) where
-  go : (b : Bool) → (if b then 1 else 0) + draws_needed reach c (k + 1) gs ≡ 0 → (draws_needed reach c (k + 1) gs ≡ 0 → row_left reach c (k + 1) gs left ≡ left) → row_left reach c (k + 1) gs (left_after b left) ≡ left
+  go : (b : Bool) → (if b then 1 else 0) + draws_needed reach c (k + 1) gs ≡ 0 → (draws_needed reach c (k + 1) gs ≡ 0 → row_left reach c (k + 1) gs left ≡ left)
+      → row_left reach c (k + 1) gs (left_after b left) ≡ left
   go true none same = absurd (omega (arith, none))
   go false none same = same (omega (arith, none))
 
@@ -80,7 +82,8 @@ one_first k g half = go (g.powered) refl where
 
 none_first : (k : ℕ) (gs : List Gear) → AreOpening stage.Initialised gs → draws_needed Everyone Randomise k gs ≡ 0
 none_first k [] all = refl
-none_first k (g ∷ gs) all = sum (takes Everyone k g && draws_a_number Randomise g) (draws_needed Everyone Randomise (k + 1) gs) (one_first k g (λ on. (all 0 (omega arith) on).0))
+none_first k (g ∷ gs) all =
+    sum (takes Everyone k g && draws_a_number Randomise g) (draws_needed Everyone Randomise (k + 1) gs) (one_first k g (λ on. (all 0 (omega arith) on).0))
     (none_first (k + 1) gs (λ j in_row on. all (suc j) (omega (arith, in_row)) on)) where
       sum : (b : Bool) (n : ℕ) → b ≡ false → n ≡ 0 → (if b then 1 else 0) + n ≡ 0
       sum true n first more = absurd (cc)
@@ -105,7 +108,8 @@ closing_never e n k (stage.Unnamed r) (a, small, has, is) = cc
 closing_never e n k _ is = cc
 
 -- only an opening draws
-none_apart : (p : Purpose) (n : SearchAddress) (k : Kept) (s : Stage) (gs : List Gear) (c : Command) → (Sends p n k s Randomise → ⊥) → Sends p n k s c → draws_needed Everyone c 0 gs ≡ 0
+none_apart : (p : Purpose) (n : SearchAddress) (k : Kept) (s : Stage) (gs : List Gear) (c : Command) → (Sends p n k s Randomise → ⊥) → Sends p n k s c
+    → draws_needed Everyone c 0 gs ≡ 0
 none_apart p n k s gs c never is = needs_none Everyone c 0 gs (λ e. never (subst (λ d. Sends p n k s d) e is))
 
 enough_left : (gs : List Gear) (numbers : List ℕ) (c : Command) → length gs ≤ length numbers → draws_needed Everyone c 0 gs ≤ length numbers
@@ -114,7 +118,8 @@ enough_left gs numbers c enough = let few = needs_few Everyone c 0 gs in omega (
 enough_none : (x y : ℕ) → x ≡ 0 → x ≤ y
 enough_none x y none = omega (arith, none)
 
-opening_enough : (s : Stage) (k : Kept) (opened : Bool) (n : SearchAddress) (gs : List Gear) (numbers : List ℕ) (left : ℕ) (c : Command) → Opens s opened gs left → Sends Opening n k s c → HasDraws opened gs numbers
+opening_enough : (s : Stage) (k : Kept) (opened : Bool) (n : SearchAddress) (gs : List Gear) (numbers : List ℕ) (left : ℕ) (c : Command)
+    → Opens s opened gs left → Sends Opening n k s c → HasDraws opened gs numbers
     → draws_needed Everyone c 0 gs ≤ length numbers
 opening_enough stage.Free k opened n gs numbers left c o is has = enough_left gs numbers c (has o.stage_is)
 opening_enough stage.Terminated k opened n gs numbers left c o is has = enough_left gs numbers c (has o.stage_is)
@@ -124,20 +129,29 @@ opening_enough stage.RandomisedOnce k opened n gs numbers left c o is has = enou
 opening_enough stage.Opened k opened n gs numbers left c o is has = absurd (cc)
 opening_enough _ k opened n gs numbers left c o is has = absurd o.stage_is
 
-draws_enough : (p : Purpose) (s : Stage) (k : Kept) (opened : Bool) (x : Search) (n : SearchAddress) (gs : List Gear) (numbers : List ℕ) (left : ℕ) (c : Command) → At p s k opened x n gs left → Sends p n k s c → HasDraws opened gs numbers
+draws_enough : (p : Purpose) (s : Stage) (k : Kept) (opened : Bool) (x : Search) (n : SearchAddress) (gs : List Gear) (numbers : List ℕ) (left : ℕ)
+    (c : Command) → At p s k opened x n gs left → Sends p n k s c → HasDraws opened gs numbers
     → draws_needed Everyone c 0 gs ≤ length numbers
 draws_enough Opening s k opened x n gs numbers left c at is has = opening_enough s k opened n gs numbers left c at is has
-draws_enough Probing s k opened x n gs numbers left c at is has = enough_none (draws_needed Everyone c 0 gs) (length numbers) (none_apart Probing n k s gs c (probing_never n k s) is)
-draws_enough Visiting s k opened x n gs numbers left c at is has = enough_none (draws_needed Everyone c 0 gs) (length numbers) (none_apart Visiting n k s gs c (visiting_never n k s) is)
+draws_enough Probing s k opened x n gs numbers left c at is has =
+    enough_none (draws_needed Everyone c 0 gs) (length numbers) (none_apart Probing n k s gs c (probing_never n k s) is)
+draws_enough Visiting s k opened x n gs numbers left c at is has =
+    enough_none (draws_needed Everyone c 0 gs) (length numbers) (none_apart Visiting n k s gs c (visiting_never n k s) is)
 draws_enough (Resolving a) s k opened x n gs numbers left c at is has = absurd at
-draws_enough (Closing e) s k opened x n gs numbers left c at is has = enough_none (draws_needed Everyone c 0 gs) (length numbers) (none_apart (Closing e) n k s gs c (closing_never e n k s) is)
+draws_enough (Closing e) s k opened x n gs numbers left c at is has =
+    enough_none (draws_needed Everyone c 0 gs) (length numbers) (none_apart (Closing e) n k s gs c (closing_never e n k s) is)
 
 -- where the opening is still not complete, none was drawn
-opening_none : (s : Stage) (k : Kept) (opened : Bool) (n : SearchAddress) (gs : List Gear) (left : ℕ) (c : Command) (h : Answer) → Opens s opened gs left → Sends Opening n k s c → opened_after (next_stage s c h) opened ≡ false
+opening_none : (s : Stage) (k : Kept) (opened : Bool) (n : SearchAddress) (gs : List Gear) (left : ℕ) (c : Command) (h : Answer) → Opens s opened gs left
+    → Sends Opening n k s c → opened_after (next_stage s c h) opened ≡ false
     → draws_needed Everyone c 0 gs ≡ 0
 opening_none stage.Free k opened n gs left c h o is closed = needs_none Everyone c 0 gs (λ e. (let other : Terminate ≡ Randomise = sym is ∙ e in cc))
-opening_none stage.Terminated k opened n gs left c h o is closed = needs_none Everyone c 0 gs (λ e. (let other : Some (Initialise Unaddressed) ≡ Some Randomise = subst (λ d. Some (Initialise Unaddressed) ≡ Some d) e is in cc))
-opening_none stage.InitialisedOnce k opened n gs left c h o is closed = needs_none Everyone c 0 gs (λ e. (let other : Some (Initialise Unaddressed) ≡ Some Randomise = subst (λ d. Some (Initialise Unaddressed) ≡ Some d) e is in cc))
+opening_none stage.Terminated k opened n gs left c h o is closed =
+    needs_none Everyone c 0 gs (λ e. (let other : Some (Initialise Unaddressed) ≡ Some Randomise = subst (λ d. Some (Initialise Unaddressed) ≡ Some d) e is in
+    cc))
+opening_none stage.InitialisedOnce k opened n gs left c h o is closed =
+    needs_none Everyone c 0 gs (λ e. (let other : Some (Initialise Unaddressed) ≡ Some Randomise = subst (λ d. Some (Initialise Unaddressed) ≡ Some d) e is in
+    cc))
 opening_none stage.Initialised k opened n gs left c h o is closed =
     let same : Randomise ≡ c = cc in
     subst (λ d. draws_needed Everyone d 0 gs ≡ 0) same (none_first 0 gs o.gear)
@@ -148,7 +162,8 @@ opening_none stage.RandomisedOnce k opened n gs left c h o is closed =
 opening_none stage.Opened k opened n gs left c h o is closed = absurd (cc)
 opening_none _ k opened n gs left c h o is closed = absurd o.stage_is
 
-none_drawn : (p : Purpose) (s : Stage) (k : Kept) (opened : Bool) (x : Search) (n : SearchAddress) (gs : List Gear) (left : ℕ) (c : Command) (h : Answer) → At p s k opened x n gs left → Sends p n k s c → opened_after (next_stage s c h) opened ≡ false
+none_drawn : (p : Purpose) (s : Stage) (k : Kept) (opened : Bool) (x : Search) (n : SearchAddress) (gs : List Gear) (left : ℕ) (c : Command) (h : Answer)
+    → At p s k opened x n gs left → Sends p n k s c → opened_after (next_stage s c h) opened ≡ false
     → draws_needed Everyone c 0 gs ≡ 0
 none_drawn Opening s k opened x n gs left c h at is closed = opening_none s k opened n gs left c h at is closed
 none_drawn Probing s k opened x n gs left c h at is closed = none_apart Probing n k s gs c (probing_never n k s) is
@@ -162,24 +177,29 @@ was_closed _ opened closed = closed
 
 -- ---------------------------------------------------------------- event by event
 
-has_heard : (m : Machine) (p : ℕ) (f : Forward) (h : Answer) (before : List Gear) (gs : List Gear) (numbers : List ℕ) (left : ℕ) → m.last ≡ Some (Put p f) → IsNext before m (Put p f) gs left → HasDraws m.opened gs numbers
+has_heard : (m : Machine) (p : ℕ) (f : Forward) (h : Answer) (before : List Gear) (gs : List Gear) (numbers : List ℕ) (left : ℕ) → m.last ≡ Some (Put p f)
+    → IsNext before m (Put p f) gs left → HasDraws m.opened gs numbers
     → HasDraws (machine_told m (input.Heard h)).opened (row_after Everyone (command_of f) 0 gs numbers) (row_left Everyone (command_of f) 0 gs numbers)
 has_heard m p f h before gs numbers left last next has closed =
     let heard : machine_told m (input.Heard h) ≡ machine_heard m (Some f) h = ap (λ l. machine_heard m (frame_put l) h) last in
     let heard_so : opened_after (stage_of (m.trace ++ entry f h ∷ [])) m.opened ≡ false = sym (ap (λ (t : Machine). t.opened) heard) ∙ closed in
-    let after : opened_after (next_stage (stage_of m.trace) (command_of f) h) m.opened ≡ false = subst (λ s. opened_after s m.opened ≡ false) (stage_more m.trace (entry f h)) heard_so in
+    let after : opened_after (next_stage (stage_of m.trace) (command_of f) h) m.opened ≡ false =
+    subst (λ s. opened_after s m.opened ≡ false) (stage_more m.trace (entry f h)) heard_so in
     let none = none_drawn m.course.purpose (stage_of m.trace) m.kept m.opened m.course.search m.course.number gs left (command_of f) h next.0.at next.1 after in
     rw (row_length Everyone (command_of f) 0 gs numbers, left_same Everyone (command_of f) 0 gs numbers none) (has (was_closed _ m.opened after))
 
-sent_has : (before : List Gear) (w : World) (q c : ℕ) (m : Machine) (p : ℕ) (f : Forward) (h : Answer) (left : ℕ) → Goes before w q c m left → m.last ≡ Some (Put p f) → (controller_at w c).told ≡ None → HasDraws m.opened w.gear w.left
-    → HasDraws (informed_by m (controller_at (happens w (event.Sent c f h)) c).told).opened (happens w (event.Sent c f h)).gear (happens w (event.Sent c f h)).left
+sent_has : (before : List Gear) (w : World) (q c : ℕ) (m : Machine) (p : ℕ) (f : Forward) (h : Answer) (left : ℕ) → Goes before w q c m left
+    → m.last ≡ Some (Put p f) → (controller_at w c).told ≡ None → HasDraws m.opened w.gear w.left
+    → HasDraws (informed_by m (controller_at (happens w (event.Sent c f h)) c).told).opened (happens w (event.Sent c f h)).gear
+    (happens w (event.Sent c f h)).left
 sent_has before w q c m p f h left goes last told has =
     let lone = lone_sent w q c m p f h goes.lone last told in
     let next : IsNext before m (Put p f) w.gear left = next_holds before m (Put p f) w.gear left (rw (sym goes.lone.last ∙ last, told) at goes.holds) in
     rw (lone.1) (has_heard m p f h before w.gear w.left left last next has)
 
 -- what the controller acts on
-told_none : (w : World) (q c : ℕ) (m : Machine) (out : Option Record) (last : Option Order) (told : Option Input) → Moment w q c m out last told → IsCommit last → told ≡ None
+told_none : (w : World) (q c : ℕ) (m : Machine) (out : Option Record) (last : Option Order) (told : Option Input) → Moment w q c m out last told → IsCommit last
+    → told ≡ None
 told_none w q c m out (Some (Commit x)) None at commits = refl
 told_none w q c m out (Some (Commit x)) (Some i) at commits = absurd at
 told_none w q c m out None told at commits = absurd commits
@@ -191,7 +211,8 @@ committed_opened : (m : Machine) (x : Option Record) → (machine_committed m x)
 committed_opened m None = refl
 committed_opened m (Some x) = refl
 
-told_has : (w : World) (q c : ℕ) (m : Machine) (i : Input) → Moment w q c m (controller_at w c).outstanding (controller_at w c).last (controller_at w c).told → Succeeds i → IsDue (controller_at w c) i
+told_has : (w : World) (q c : ℕ) (m : Machine) (i : Input) → Moment w q c m (controller_at w c).outstanding (controller_at w c).last (controller_at w c).told
+    → Succeeds i → IsDue (controller_at w c) i
     → HasDraws (informed_by m (controller_at w c).told).opened w.gear w.left → HasDraws (machine_told m i).opened w.gear w.left
 told_has w q c m input.CommitFailed at good due has = absurd good
 told_has w q c m input.Committed at good due has =
@@ -204,7 +225,8 @@ told_has w q c m input.Destroyed at good due has = subst (λ t. HasDraws (inform
 told_has w q c m input.Lapsed at good due has = subst (λ t. HasDraws (informed_by m t).opened w.gear w.left) due has
 
 acted_has : (w : World) (c : ℕ) (m : Machine) (i : Input) (o : Order) → IsUp w c → HasDraws (machine_told m i).opened w.gear w.left
-    → HasDraws (informed_by (machine_after m i o) (controller_at (happens w (event.Acted c i o)) c).told).opened (happens w (event.Acted c i o)).gear (happens w (event.Acted c i o)).left
+    → HasDraws (informed_by (machine_after m i o) (controller_at (happens w (event.Acted c i o)) c).told).opened (happens w (event.Acted c i o)).gear
+    (happens w (event.Acted c i o)).left
 acted_has w c m i o up has = rw (acted_told w c i o up) has
 
 -- a site on which it is so
@@ -217,30 +239,38 @@ DrawsAt s c = (m : Machine) → machine_at s c ≡ Some m → DrawsBy c (world s
 same_some : (x : Option Machine) (m n : Machine) → x ≡ Some m → x ≡ Some n → m ≡ n
 same_some x m n one two = cc
 
-draws_logged : (s : SiteState) (c : ℕ) (e : Event) (m : Machine) → machine_at (site_logged s e) c ≡ Some m → DrawsBy c (happens (world s) e) m → DrawsAt (site_logged s e) c
+draws_logged : (s : SiteState) (c : ℕ) (e : Event) (m : Machine) → machine_at (site_logged s e) c ≡ Some m → DrawsBy c (happens (world s) e) m
+    → DrawsAt (site_logged s e) c
 draws_logged s c e m there has n at =
-    subst (λ (t : Machine). DrawsBy c (world (site_logged s e)) t) (same_some (machine_at (site_logged s e) c) m n there at) (subst (λ w. DrawsBy c w m) (sym (world_logged s e)) has)
+    subst (λ (t : Machine). DrawsBy c (world (site_logged s e)) t) (same_some (machine_at (site_logged s e) c) m n there at)
+    (subst (λ w. DrawsBy c w m) (sym (world_logged s e)) has)
 
-acted_draws : (before : List Gear) (s : SiteState) (c left : ℕ) (i : Input) (o : Order) → Runs before s c left → Allowed (world s) (event.Acted c i o) → Succeeds i → DrawsAt s c → DrawsAt (site_logged s (event.Acted c i o)) c
+acted_draws : (before : List Gear) (s : SiteState) (c left : ℕ) (i : Input) (o : Order) → Runs before s c left → Allowed (world s) (event.Acted c i o)
+    → Succeeds i → DrawsAt s c → DrawsAt (site_logged s (event.Acted c i o)) c
 acted_draws before s c left i o r here good has =
     draws_logged s c (event.Acted c i o) (machine_after r.machine i o) (acted_machine s c i o r.machine r.there)
     (acted_has (world s) c r.machine i o r.goes.lone.up (told_has (world s) s.queue c r.machine i r.goes.lone.moment good here.due (has r.machine r.there)))
 
-sent_draws : (before : List Gear) (s : SiteState) (c left p : ℕ) (f : Forward) (h : Answer) → (r : Runs before s c left) → r.machine.last ≡ Some (Put p f) → (controller_at (world s) c).told ≡ None → DrawsAt s c → DrawsAt (site_logged s (event.Sent c f h)) c
+sent_draws : (before : List Gear) (s : SiteState) (c left p : ℕ) (f : Forward) (h : Answer) → (r : Runs before s c left) → r.machine.last ≡ Some (Put p f)
+    → (controller_at (world s) c).told ≡ None → DrawsAt s c → DrawsAt (site_logged s (event.Sent c f h)) c
 sent_draws before s c left p f h r last told has =
     draws_logged s c (event.Sent c f h) r.machine (ap (λ ms. machine_in ms c) (machines_logged s (event.Sent c f h)) ∙ r.there)
-    (sent_has before (world s) s.queue c r.machine p f h left r.goes last told (subst (λ t. HasDraws (informed_by r.machine t).opened (world s).gear (world s).left) told (has r.machine r.there)))
+    (sent_has before (world s) s.queue c r.machine p f h left r.goes last told
+    (subst (λ t. HasDraws (informed_by r.machine t).opened (world s).gear (world s).left) told (has r.machine r.there)))
 
-draws_on : (before : List Gear) (s : SiteState) (c left : ℕ) (e : Event) → Runs before s c left → Allowed (world s) e → IsOfRound s c e → DrawsAt s c → DrawsAt (site_logged s e) c
+draws_on : (before : List Gear) (s : SiteState) (c left : ℕ) (e : Event) → Runs before s c left → Allowed (world s) e → IsOfRound s c e → DrawsAt s c
+    → DrawsAt (site_logged s e) c
 draws_on before s c left (event.Acted d i o) r here of has =
-    subst (λ n. Allowed (world s) (event.Acted n i o) → DrawsAt (site_logged s (event.Acted n i o)) c) (sym of.0) (λ now. acted_draws before s c left i o r now of.1 has) here
+    subst (λ n. Allowed (world s) (event.Acted n i o) → DrawsAt (site_logged s (event.Acted n i o)) c) (sym of.0)
+    (λ now. acted_draws before s c left i o r now of.1 has) here
 draws_on before s c left (event.Sent d f h) r here of has =
     let put = lone_next (world s) s.queue c r.machine of.0 r.goes.lone of.1 in
     subst (λ n. DrawsAt (site_logged s (event.Sent n f h)) c) (sym (of.2 ∙ put.3))
     (sent_draws before s c left put.0 f h r (subst (λ g. r.machine.last ≡ Some (Put put.0 g)) (sym of.3) put.1) put.2 has)
 draws_on before s c left _ r here of has = absurd of
 
-draws_all : (before : List Gear) (s : SiteState) (c left : ℕ) (es : List Event) → Runs before s c left → Rounds s c es → DrawsAt s c → DrawsAt (site_after s es) c
+draws_all : (before : List Gear) (s : SiteState) (c left : ℕ) (es : List Event) → Runs before s c left → Rounds s c es → DrawsAt s c
+    → DrawsAt (site_after s es) c
 draws_all before s c left [] r rounds has = has
 draws_all before s c left (e ∷ es) r rounds has =
     let on = runs_on before s c left e r rounds.0 rounds.1 in
@@ -255,15 +285,20 @@ spent_never before s c left u has (r, is, spent) =
     let w : World = world s in
     let put = lone_next (world s) s.queue c u.machine r u.goes.lone is in
     let m : Machine = u.machine in
-    let next : IsNext before u.machine (Put put.0 r.frame) (world s).gear left = next_holds before u.machine (Put put.0 r.frame) (world s).gear left (rw (sym u.goes.lone.last ∙ put.1, put.2) at u.goes.holds) in
-    let draws : HasDraws u.machine.opened (world s).gear (world s).left = subst (λ t. HasDraws (informed_by u.machine t).opened (world s).gear (world s).left) put.2 (has u.machine u.there) in
+    let next : IsNext before u.machine (Put put.0 r.frame) (world s).gear left =
+    next_holds before u.machine (Put put.0 r.frame) (world s).gear left (rw (sym u.goes.lone.last ∙ put.1, put.2) at u.goes.holds) in
+    let draws : HasDraws u.machine.opened (world s).gear (world s).left =
+    subst (λ t. HasDraws (informed_by u.machine t).opened (world s).gear (world s).left) put.2 (has u.machine u.there) in
     never (draws_needed Everyone (command_of r.frame) 0 (world s).gear) (length (world s).left)
-    (draws_enough m.course.purpose (stage_of m.trace) m.kept m.opened m.course.search m.course.number (world s).gear (world s).left left (command_of r.frame) next.0.at next.1 draws) spent
+    (draws_enough m.course.purpose (stage_of m.trace) m.kept m.opened m.course.search m.course.number (world s).gear (world s).left left
+    (command_of r.frame) next.0.at next.1 draws) spent
   where
     never : (x y : ℕ) → x ≤ y → y < x → ⊥
     never x y enough less = omega (arith, enough, less)
 
-pub never_spent : (s : SiteState) (c : ℕ) (es : List Event) → StartsAlone s c → length (world s).gear ≤ length (world s).left → Rounds s c es → IsPumpRefused (site_after s es) trouble.None refusal.DrawsSpent → ⊥
+pub never_spent : (s : SiteState) (c : ℕ) (es : List Event) → StartsAlone s c → length (world s).gear ≤ length (world s).left → Rounds s c es
+    → IsPumpRefused (site_after s es) trouble.None refusal.DrawsSpent → ⊥
 never_spent s c es alone enough rounds =
     let all = runs_after s c es alone rounds in
-    spent_never (world s).gear (site_after s es) c all.rest all.runs (draws_all (world s).gear s c (111 * count_by is_bare (world s).gear + 10) es (starts s c alone) rounds (starts_draws s c alone enough))
+    spent_never (world s).gear (site_after s es) c all.rest all.runs
+    (draws_all (world s).gear s c (111 * count_by is_bare (world s).gear + 10) es (starts s c alone) rounds (starts_draws s c alone enough))

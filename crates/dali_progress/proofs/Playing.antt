@@ -66,7 +66,8 @@ pub record BreaksEnd (s : SiteState) (c : ℕ) (front : List Event) (e : Event) 
   pub untrue : IsDone (after_both s front e back) c AllFound → ⊥
 
 -- then that event is of no round
-joined : (s : SiteState) (c : ℕ) (front : List Event) (e : Event) (back : List Event) → Rounds s c front → Allowed (world (site_after s front)) e → IsOfRound (site_after s front) c e
+joined : (s : SiteState) (c : ℕ) (front : List Event) (e : Event) (back : List Event) → Rounds s c front → Allowed (world (site_after s front)) e
+    → IsOfRound (site_after s front) c e
     → Rounds (site_logged (site_after s front) e) c back → Rounds s c (front ++ e ∷ back)
 joined s c [] e back before allowed of afterwards = (allowed, of, afterwards)
 joined s c (x ∷ front) e back before allowed of afterwards = (before.0, before.1, joined (site_logged s x) c front e back before.2 allowed of afterwards)
@@ -75,7 +76,8 @@ after_joined : (s : SiteState) (front : List Event) (e : Event) (back : List Eve
 after_joined s [] e back = refl
 after_joined s (x ∷ front) e back = after_joined (site_logged s x) front e back
 
-pub is_of_no_round : (s : SiteState) (c : ℕ) (front : List Event) (e : Event) (back : List Event) → BreaksEnd s c front e back → IsOfRound (site_after s front) c e → ⊥
+pub is_of_no_round : (s : SiteState) (c : ℕ) (front : List Event) (e : Event) (back : List Event) → BreaksEnd s c front e back
+    → IsOfRound (site_after s front) c e → ⊥
 is_of_no_round s c front e back b of =
     b.untrue (subst (λ t. IsDone t c AllFound) (after_joined s front e back)
     (ends s c (front ++ e ∷ back) AllFound b.starts (joined s c front e back b.before b.allowed of b.afterwards)

@@ -1,4 +1,5 @@
-use Rattle.std.proofs.Common.{◌≡◌, ℕ, ◌+◌, ◌*◌, ◌<◌, ◌≤◌, ◌⊎◌, inl, inr, Bool, true, false, zero, suc, List, [], ◌∷◌, ◌++◌, refl, sym, ap, subst, ◌∙◌, arith, length, Option, Some, None}
+use Rattle.std.proofs.Common.{◌≡◌, ℕ, ◌+◌, ◌*◌, ◌<◌, ◌≤◌, ◌⊎◌, inl, inr, Bool, true, false, zero, suc, List, [], ◌∷◌, ◌++◌, refl, sym, ap, subst, ◌∙◌, arith}
+use Rattle.std.proofs.Common.{length, Option, Some, None}
 use Rattle.std.specs.Prelude.{if◌then◌else◌, is_some}
 use Rattle.std.specs.List.{count_by}
 use Rattle.std.proofs.lemmas.List.{length_push, length-replicate}
@@ -39,7 +40,8 @@ use Rattle.dali_progress.proofs.Running.{Comes, comes_both, turn, turns_of, all_
 -- ---------------------------------------------------------------- what is due may be done
 
 -- where something is due for the controller, no request waits
-free_by : (w : World) (q c : ℕ) (m : Machine) (out : Option Record) (last : Option Order) (told : Option Input) → Moment w q c m out last told → (is_some told ≡ true) ⊎ IsCommit last → total w.bus ≡ 0
+free_by : (w : World) (q c : ℕ) (m : Machine) (out : Option Record) (last : Option Order) (told : Option Input) → Moment w q c m out last told
+    → (is_some told ≡ true) ⊎ IsCommit last → total w.bus ≡ 0
 free_by w q c m out None (Some input.Start) at has = ap total at.0.0 ∙ nothing_waits q None
 free_by w q c m out (Some (Put p f)) (Some (input.Heard h)) at has = heard_free w q c m f h at
 free_by w q c m out (Some (Put p f)) None at (inl told) = absurd (cc)
@@ -55,7 +57,8 @@ free_by w q c m out (Some (Done e)) (Some i) at has = absurd at
 free_by w q c m out (Some (Halt why)) (Some i) at has = absurd at
 
 -- nothing of a commit is ever told by the bus
-never_told : (w : World) (q c : ℕ) (m : Machine) (out : Option Record) (last : Option Order) (told : Option Input) → Moment w q c m out last told → (told ≡ Some input.Committed) ⊎ (told ≡ Some input.CommitFailed) → ⊥
+never_told : (w : World) (q c : ℕ) (m : Machine) (out : Option Record) (last : Option Order) (told : Option Input) → Moment w q c m out last told
+    → (told ≡ Some input.Committed) ⊎ (told ≡ Some input.CommitFailed) → ⊥
 never_told w q c m out last None at (inl is) = cc
 never_told w q c m out last None at (inr is) = cc
 never_told w q c m out None (Some input.Start) at (inl is) = cc
@@ -97,15 +100,21 @@ has_by k (Some (Halt why)) has = inl has
 turn_free : (s : SiteState) → IsWell s → has_turn (controller_at (world s) 0) ≡ true → total (world s).bus ≡ 0
 turn_free s well has =
     let k : Controller = controller_at (world s) 0 in
-    free_by (world s) s.queue 0 well.machine k.outstanding k.last k.told well.moment (has_by k k.last (subst (λ d. has_turn_by d k ≡ true) (due_last k well.up) has))
+    free_by (world s) s.queue 0 well.machine k.outstanding k.last k.told well.moment
+    (has_by k k.last (subst (λ d. has_turn_by d k ≡ true) (due_last k well.up) has))
 
-given_by : (n : Installation) (i : Input) (m : Installation) (last : Option Order) → IsWell n.site → (controller n 0).last ≡ last → IsGivenBy (due_after last) n 0 i m → IsDue (controller n 0) i × (m.site ≡ n.site)
+given_by : (n : Installation) (i : Input) (m : Installation) (last : Option Order) → IsWell n.site → (controller n 0).last ≡ last
+    → IsGivenBy (due_after last) n 0 i m → IsDue (controller n 0) i × (m.site ≡ n.site)
 given_by n i m (Some (Commit x)) well is given =
     (subst (λ j. IsDue (controller n 0) j) (sym given.0) (subst IsCommit (sym is) tt), ap (λ (y : Installation). y.site) given.1)
-given_by n i m None well is given = (told_due (world n.site) n.site.queue 0 well.machine (controller n 0) i well.moment given.0, ap (λ (y : Installation). y.site) given.1)
-given_by n i m (Some (Put p f)) well is given = (told_due (world n.site) n.site.queue 0 well.machine (controller n 0) i well.moment given.0, ap (λ (y : Installation). y.site) given.1)
-given_by n i m (Some (Done e)) well is given = (told_due (world n.site) n.site.queue 0 well.machine (controller n 0) i well.moment given.0, ap (λ (y : Installation). y.site) given.1)
-given_by n i m (Some (Halt why)) well is given = (told_due (world n.site) n.site.queue 0 well.machine (controller n 0) i well.moment given.0, ap (λ (y : Installation). y.site) given.1)
+given_by n i m None well is given =
+    (told_due (world n.site) n.site.queue 0 well.machine (controller n 0) i well.moment given.0, ap (λ (y : Installation). y.site) given.1)
+given_by n i m (Some (Put p f)) well is given =
+    (told_due (world n.site) n.site.queue 0 well.machine (controller n 0) i well.moment given.0, ap (λ (y : Installation). y.site) given.1)
+given_by n i m (Some (Done e)) well is given =
+    (told_due (world n.site) n.site.queue 0 well.machine (controller n 0) i well.moment given.0, ap (λ (y : Installation). y.site) given.1)
+given_by n i m (Some (Halt why)) well is given =
+    (told_due (world n.site) n.site.queue 0 well.machine (controller n 0) i well.moment given.0, ap (λ (y : Installation). y.site) given.1)
 
 given_due : (n : Installation) (i : Input) (m : Installation) → IsWell n.site → IsGiven n 0 i m → IsDue (controller n 0) i × (m.site ≡ n.site)
 given_due n i m well given = given_by n i m (controller n 0).last well refl (subst (λ d. IsGivenBy d n 0 i m) (due_last (controller n 0) well.up) given)
@@ -119,7 +128,8 @@ not_barred s refusal.ControllerDown well one barred =
     cc
 not_barred s _ well one barred = barred
 
-act_never : (s : SiteState) (i : Input) (e : Refusal) → IsWell s → length s.plan.blocks ≡ 1 → IsDue (controller_at (world s) 0) i → total (world s).bus ≡ 0 → IsActRefused s 0 i e → ⊥
+act_never : (s : SiteState) (i : Input) (e : Refusal) → IsWell s → length s.plan.blocks ≡ 1 → IsDue (controller_at (world s) 0) i → total (world s).bus ≡ 0
+    → IsActRefused s 0 i e → ⊥
 act_never s i refusal.NotDue well one has free refused = refused.1 has
 act_never s i refusal.QueueFull well one has free refused = crowded (total (world s).bus) s.queue free refused.2 well.waits where
   crowded : (x q : ℕ) → x ≡ 0 → x ≡ q → 0 < q → ⊥
@@ -144,7 +154,8 @@ go_never n m e well one has (inr (inr (up, i, given, refused))) =
     let what = given_due n i m well given in
     act_never n.site i e well one what.0 (turn_free n.site well has) (subst (λ s. IsActRefused s 0 i e) what.1 refused)
 
-turn_at : (n : Installation) (c : ℕ) (acted : Bool) (front : List ℕ) (between : Installation) (last : List ℕ) (m : Installation) → c < 1 → Turns n c acted front between → IsTurn between c None last m → IsTurn n 0 None last m
+turn_at : (n : Installation) (c : ℕ) (acted : Bool) (front : List ℕ) (between : Installation) (last : List ℕ) (m : Installation) → c < 1
+    → Turns n c acted front between → IsTurn between c None last m → IsTurn n 0 None last m
 turn_at n zero acted front between last m known (none, empty, is) turn = subst (λ x. IsTurn x 0 None last m) is turn
 turn_at n (suc c) acted front between last m known turns turn = absurd (omega (arith, known))
 
@@ -166,9 +177,10 @@ pump_refused s _ fits refused = absurd refused
 
 log_after : (s : SiteState) (es : List Event) → length (site_after s es).log ≡ length s.log + length es
 log_after s [] = omega arith
-log_after s (e ∷ es) = more (length (site_after (site_logged s e) es).log) (length (s.log ++ e ∷ [])) (length s.log) (length es) (log_after (site_logged s e) es) (length_push s.log e) where
-  more : (x y z n : ℕ) → x ≡ y + n → y ≡ z + 1 → x ≡ z + suc n
-  more x y z n one two = omega (arith, one, two)
+log_after s (e ∷ es) = more (length (site_after (site_logged s e) es).log) (length (s.log ++ e ∷ [])) (length s.log) (length es)
+    (log_after (site_logged s e) es) (length_push s.log e) where
+      more : (x y z n : ℕ) → x ≡ y + n → y ≡ z + 1 → x ≡ z + suc n
+      more x y z n one two = omega (arith, one, two)
 
 room_after : (s : SiteState) (es : List Event) → (site_after s es).room ≡ s.room
 room_after s [] = refl
@@ -178,13 +190,15 @@ queue_after : (s : SiteState) (es : List Event) → (site_after s es).queue ≡ 
 queue_after s [] = refl
 queue_after s (e ∷ es) = queue_after (site_logged s e) es
 
-well_after : (s t : SiteState) (k f : ℕ) → StartsAlone s 0 → 0 < s.queue → length s.log + 333 * count_by is_bare (world s).gear + 31 < s.room → Comes s t k f → IsWell t
+well_after : (s t : SiteState) (k f : ℕ) → StartsAlone s 0 → 0 < s.queue → length s.log + 333 * count_by is_bare (world s).gear + 31 < s.room → Comes s t k f
+    → IsWell t
 well_after s t k f alone waits fits comes = subst IsWell (sym comes.is) (record {
   up = all.runs.goes.lone.up.up;
   machine = all.runs.machine;
   moment = all.runs.goes.lone.moment;
   waits = subst (λ x. 0 < x) (sym (queue_after s comes.events)) waits;
-  fits = less (length (site_after s comes.events).log) (length s.log) (length comes.events) (count_by is_bare (world s).gear) (site_after s comes.events).room s.room
+  fits = less (length (site_after s comes.events).log) (length s.log) (length comes.events) (count_by is_bare (world s).gear)
+      (site_after s comes.events).room s.room
       (log_after s comes.events) (few_events s 0 comes.events alone comes.rounds) (room_after s comes.events) fits;
 }) where
   all : RunsAll (world s).gear s 0 (111 * count_by is_bare (world s).gear + 10) comes.events
@@ -200,10 +214,13 @@ pub record IsSpentOut (s t : SiteState) : Type 0 where
   pub comes : Comes s t rounds sent
   pub spent : IsPumpRefused t trouble.None refusal.DrawsSpent
 
-pub run_to : (limit : ℕ) (n : Installation) (sent : ℕ) (text : List ℕ) (m : Installation) → StartsAlone n.site 0 → controllers n ≡ 1 → 333 * count_by is_bare (world n.site).gear + 31 < limit → 0 < n.site.queue
-    → length n.site.log + 333 * count_by is_bare (world n.site).gear + 31 < n.site.room → Ran limit n sent text m → HasCommissioned n.site m.site 0 ⊎ IsSpentOut n.site m.site
+pub run_to : (limit : ℕ) (n : Installation) (sent : ℕ) (text : List ℕ) (m : Installation) → StartsAlone n.site 0 → controllers n ≡ 1
+    → 333 * count_by is_bare (world n.site).gear + 31 < limit → 0 < n.site.queue
+    → length n.site.log + 333 * count_by is_bare (world n.site).gear + 31 < n.site.room → Ran limit n sent text m
+    → HasCommissioned n.site m.site 0 ⊎ IsSpentOut n.site m.site
 run_to limit n sent text m alone one enough waits fits ran = go (run_ends limit n sent text m alone one enough ran) where
-  at : (u v : Installation) (k f g : ℕ) (last : List ℕ) → Comes n.site u.site k f → controllers u ≡ 1 → IsRoundOf u round.Refused last v → IsSpentOut n.site v.site
+  at : (u v : Installation) (k f g : ℕ) (last : List ℕ) → Comes n.site u.site k f → controllers u ≡ 1 → IsRoundOf u round.Refused last v
+      → IsSpentOut n.site v.site
   at u v k f g last comes only (inl refused) = absurd (turns_never u v last (well_after n.site u.site k f alone waits fits comes) only refused)
   at u v k f g last comes only (inr r) =
       let turns = turns_of u r.between r.acted r.front only r.turns in
@@ -219,8 +236,10 @@ run_to limit n sent text m alone one enough waits fits ran = go (run_ends limit 
       inr (at r.between m r.rounds sent 0 r.last comes (one_more n r.between r.rounds sent one comes) r.refused)
 
 -- A RUN WITH ROOM ENDS, but where the numbers are spent
-pub run_with_room : (limit : ℕ) (n : Installation) (sent : ℕ) (text : List ℕ) (m : Installation) → StartsAlone n.site 0 → controllers n ≡ 1 → 333 * count_by is_bare (world n.site).gear + 31 < limit → 0 < n.site.queue
-    → length n.site.log + 333 * count_by is_bare (world n.site).gear + 31 < n.site.room → Ran limit n sent text m → HasCommissioned n.site m.site 0 ⊎ IsPumpRefused m.site trouble.None refusal.DrawsSpent
+pub run_with_room : (limit : ℕ) (n : Installation) (sent : ℕ) (text : List ℕ) (m : Installation) → StartsAlone n.site 0 → controllers n ≡ 1
+    → 333 * count_by is_bare (world n.site).gear + 31 < limit → 0 < n.site.queue
+    → length n.site.log + 333 * count_by is_bare (world n.site).gear + 31 < n.site.room → Ran limit n sent text m
+    → HasCommissioned n.site m.site 0 ⊎ IsPumpRefused m.site trouble.None refusal.DrawsSpent
 run_with_room limit n sent text m alone one enough waits fits ran = go (run_to limit n sent text m alone one enough waits fits ran) where
   go : HasCommissioned n.site m.site 0 ⊎ IsSpentOut n.site m.site → HasCommissioned n.site m.site 0 ⊎ IsPumpRefused m.site trouble.None refusal.DrawsSpent
   go (inl ended) = inl ended
@@ -228,7 +247,8 @@ run_with_room limit n sent text m alone one enough waits fits ran = go (run_to l
 
 -- the gear of a new installation
 bare_few : (p : Plan) → count_by is_bare (world (opened_site p 64 65536)).gear ≤ p.gear
-bare_few p = subst (λ x. count_by is_bare (world (opened_site p 64 65536)).gear ≤ x) (length-replicate p.gear _) (count_by-le-length is_bare (world (opened_site p 64 65536)).gear)
+bare_few p = subst (λ x. count_by is_bare (world (opened_site p 64 65536)).gear ≤ x) (length-replicate p.gear _)
+    (count_by-le-length is_bare (world (opened_site p 64 65536)).gear)
 
 bare_enough : (p : Plan) (limit : ℕ) → 333 * p.gear + 31 < limit → 333 * count_by is_bare (world (opened_site p 64 65536)).gear + 31 < limit
 bare_enough p limit enough = more (count_by is_bare (world (opened_site p 64 65536)).gear) (bare_few p) where
@@ -241,22 +261,29 @@ bare_fits p few = fits (count_by is_bare (world (opened_site p 64 65536)).gear) 
   fits g less = omega (arith, less, few)
 
 -- and so does a run of a new installation
-pub new_runs : (limit : ℕ) (p : Plan) (b : Block) (sent : ℕ) (text : List ℕ) (m : Installation) → IsPlan p → p.blocks ≡ b ∷ [] → p.gear ≤ 128 → 333 * p.gear + 31 < limit → Ran limit (installation_of p) sent text m
+pub new_runs : (limit : ℕ) (p : Plan) (b : Block) (sent : ℕ) (text : List ℕ) (m : Installation) → IsPlan p → p.blocks ≡ b ∷ [] → p.gear ≤ 128
+    → 333 * p.gear + 31 < limit → Ran limit (installation_of p) sent text m
     → HasCommissioned (installation_of p).site m.site 0 ⊎ IsPumpRefused m.site trouble.None refusal.DrawsSpent
 new_runs limit p b sent text m plan blocks few enough ran =
-    run_with_room limit (installation_of p) sent text m (begins_alone p 64 65536 b plan blocks) (ap length blocks) (bare_enough p limit enough) (omega arith) (bare_fits p few) ran
+    run_with_room limit (installation_of p) sent text m (begins_alone p 64 65536 b plan blocks) (ap length blocks) (bare_enough p limit enough) (omega arith)
+    (bare_fits p few) ran
 
 -- A RUN WITH ROOM AND NUMBERS COMMISSIONS
-pub run_commissions : (limit : ℕ) (n : Installation) (sent : ℕ) (text : List ℕ) (m : Installation) → StartsAlone n.site 0 → controllers n ≡ 1 → 333 * count_by is_bare (world n.site).gear + 31 < limit → 0 < n.site.queue
-    → length n.site.log + 333 * count_by is_bare (world n.site).gear + 31 < n.site.room → length (world n.site).gear ≤ length (world n.site).left → Ran limit n sent text m → HasCommissioned n.site m.site 0
+pub run_commissions : (limit : ℕ) (n : Installation) (sent : ℕ) (text : List ℕ) (m : Installation) → StartsAlone n.site 0 → controllers n ≡ 1
+    → 333 * count_by is_bare (world n.site).gear + 31 < limit → 0 < n.site.queue
+    → length n.site.log + 333 * count_by is_bare (world n.site).gear + 31 < n.site.room → length (world n.site).gear ≤ length (world n.site).left
+    → Ran limit n sent text m → HasCommissioned n.site m.site 0
 run_commissions limit n sent text m alone one enough waits fits numbers ran = go (run_to limit n sent text m alone one enough waits fits ran) where
   go : HasCommissioned n.site m.site 0 ⊎ IsSpentOut n.site m.site → HasCommissioned n.site m.site 0
   go (inl ended) = ended
   go (inr out) =
-      absurd (never_spent n.site 0 out.comes.events alone numbers out.comes.rounds (subst (λ s. IsPumpRefused s trouble.None refusal.DrawsSpent) out.comes.is out.spent))
+      absurd (never_spent n.site 0 out.comes.events alone numbers out.comes.rounds
+      (subst (λ s. IsPumpRefused s trouble.None refusal.DrawsSpent) out.comes.is out.spent))
 
-pub new_commissions : (limit : ℕ) (p : Plan) (b : Block) (sent : ℕ) (text : List ℕ) (m : Installation) → IsPlan p → p.blocks ≡ b ∷ [] → p.gear ≤ 128 → p.gear ≤ length p.draws → 333 * p.gear + 31 < limit
+pub new_commissions : (limit : ℕ) (p : Plan) (b : Block) (sent : ℕ) (text : List ℕ) (m : Installation) → IsPlan p → p.blocks ≡ b ∷ [] → p.gear ≤ 128
+    → p.gear ≤ length p.draws → 333 * p.gear + 31 < limit
     → Ran limit (installation_of p) sent text m → HasCommissioned (installation_of p).site m.site 0
 new_commissions limit p b sent text m plan blocks few numbers enough ran =
-    run_commissions limit (installation_of p) sent text m (begins_alone p 64 65536 b plan blocks) (ap length blocks) (bare_enough p limit enough) (omega arith) (bare_fits p few)
+    run_commissions limit (installation_of p) sent text m (begins_alone p 64 65536 b plan blocks) (ap length blocks) (bare_enough p limit enough) (omega arith)
+    (bare_fits p few)
     (subst (λ x. x ≤ length p.draws) (sym (length-replicate p.gear _)) numbers) ran

@@ -1,4 +1,5 @@
-use Rattle.std.proofs.Common.{◌≡◌, ℕ, ◌+◌, ◌*◌, ◌<◌, ◌≤◌, ◌⊎◌, inl, inr, Bool, true, false, zero, suc, List, [], ◌∷◌, ◌++◌, refl, sym, ap, subst, ◌∙◌, arith, length, Option, Some, None, Ok}
+use Rattle.std.proofs.Common.{◌≡◌, ℕ, ◌+◌, ◌*◌, ◌<◌, ◌≤◌, ◌⊎◌, inl, inr, Bool, true, false, zero, suc, List, [], ◌∷◌, ◌++◌, refl, sym, ap, subst, ◌∙◌, arith}
+use Rattle.std.proofs.Common.{length, Option, Some, None, Ok}
 use Rattle.std.specs.Prelude.{if◌then◌else◌, ◌||◌}
 use Rattle.std.specs.List.{count_by}
 use Rattle.dali_special.specs.Command.{command_of}
@@ -84,7 +85,8 @@ comes_both s t u k l f g one two = record {
 
 -- with other numbers
 comes_as : (s t : SiteState) (k l f g : ℕ) → l ≤ k → f ≡ g → Comes s t k f → Comes s t l g
-comes_as s t k l f g less same comes = record { events = comes.events; rounds = comes.rounds; is = comes.is; many = fewer (length comes.events) comes.many; sent = comes.sent ∙ same }
+comes_as s t k l f g less same comes =
+    record { events = comes.events; rounds = comes.rounds; is = comes.is; many = fewer (length comes.events) comes.many; sent = comes.sent ∙ same }
   where
     fewer : (x : ℕ) → k ≤ x → l ≤ x
     fewer x many = omega (arith, less, many)
@@ -127,11 +129,21 @@ went : (n m : Installation) (o : Order) → Goes n 0 (Ok o) m → Comes n.site m
 went n m o goes = by goes.1 goes.2 goes.3 goes.4 where
   by : (i : Input) (given : Installation) → IsGiven n 0 i given → HasStepped given 0 i o m → Comes n.site m.site 1 0
   by i given is stepped =
-      let acted : HasActed n.site 0 i stepped.receipt m.site = subst (λ s. HasActed s 0 i stepped.receipt m.site) (given_site (due_of (controller n 0)) n 0 i given is) stepped.acted in
+      let acted : HasActed n.site 0 i stepped.receipt m.site =
+      subst (λ s. HasActed s 0 i stepped.receipt m.site) (given_site (due_of (controller n 0)) n 0 i given is) stepped.acted in
       let logs = acted.logs.0 in
       record {
         events = event.Acted 0 i stepped.receipt.order ∷ [];
-        rounds = (logs.allowed, (refl, given_well (due_of (controller n 0)) n 0 i given (λ failed. stored (controller n 0) logs.allowed.up.up (due_commit (controller n 0) i logs.allowed.due failed)) is, acted.ordered), tt);
+        rounds = (
+          logs.allowed,
+          (
+            refl,
+            given_well (due_of (controller n 0)) n 0 i given
+                (λ failed. stored (controller n 0) logs.allowed.up.up (due_commit (controller n 0) i logs.allowed.due failed)) is,
+            acted.ordered,
+          ),
+          tt,
+        );
         is = logs.logged;
         many = omega arith;
         sent = refl;
@@ -162,7 +174,8 @@ logs_count report.Idle = 0
 logs_count _ = 1
 
 -- where there is no trouble no frame is destroyed
-undisturbed : (s : SiteState) (set : GearSet) → (trouble.None ≡ trouble.Destroyed set) ⊎ ((trouble.None ≡ trouble.Collision) × (set ≡ nobody_at_all) × (collision (world s).bus.lists ≡ None)) → ⊥
+undisturbed : (s : SiteState) (set : GearSet)
+    → (trouble.None ≡ trouble.Destroyed set) ⊎ ((trouble.None ≡ trouble.Collision) × (set ≡ nobody_at_all) × (collision (world s).bus.lists ≡ None)) → ⊥
 undisturbed s set (inl is) = cc
 undisturbed s set (inr (is, nobody, none)) = cc
 
@@ -191,13 +204,15 @@ logs_some true sent (report.Destroyed c f) is = (omega arith, let same : sent �
 logs_some false sent (report.Collided c f d g) is = (omega arith, let same : sent ≡ false = cc in sym same)
 logs_some true sent (report.Collided c f d g) is = (omega arith, let same : sent ≡ false = cc in sym same)
 
-played : (n m : Installation) (sent : Bool) (text : List ℕ) → controllers n ≡ 1 → IsRound n (round.Played sent) text m → Comes n.site m.site 1 (if sent then 1 else 0)
+played : (n m : Installation) (sent : Bool) (text : List ℕ) → controllers n ≡ 1 → IsRound n (round.Played sent) text m
+    → Comes n.site m.site 1 (if sent then 1 else 0)
 played n m sent text one is =
     let turns = turns_of n is.between is.acted text one is.turns in
     let some = logs_some is.acted sent is.report is.ended in
     comes_as n.site m.site ((if is.acted then 1 else 0) + logs_count is.report) 1 (0 + (if is_sent is.report then 1 else 0)) (if sent then 1 else 0) some.0
     (zero_more (if is_sent is.report then 1 else 0) (if sent then 1 else 0) (ap (λ (x : Bool). if x then 1 else 0) some.1))
-    (comes_both n.site is.between.site m.site (if is.acted then 1 else 0) (logs_count is.report) 0 (if is_sent is.report then 1 else 0) (turn n is.between is.acted turns.last turns.turn) (pumped is.between.site m.site is.report is.pump.0))
+    (comes_both n.site is.between.site m.site (if is.acted then 1 else 0) (logs_count is.report) 0 (if is_sent is.report then 1 else 0)
+    (turn n is.between is.acted turns.last turns.turn) (pumped is.between.site m.site is.report is.pump.0))
   where
     zero_more : (x y : ℕ) → x ≡ y → 0 + x ≡ y
     zero_more x y same = omega (arith, same)
@@ -206,7 +221,8 @@ pub one_more : (n m : Installation) (k f : ℕ) → controllers n ≡ 1 → Come
 one_more n m k f one comes = ap (λ (p : Plan). length p.blocks) (ap (λ (x : SiteState). x.plan) comes.is ∙ plan_after n.site comes.events) ∙ one
 
 pub all_played : (n m : Installation) (k f : ℕ) (text : List ℕ) → controllers n ≡ 1 → replay.Rounds n k f text m → Comes n.site m.site k f
-all_played n m zero f text one (none, empty, is) = comes_as n.site m.site 0 0 0 f (omega arith) (sym none) (comes_none n.site m.site (ap (λ (x : Installation). x.site) is))
+all_played n m zero f text one (none, empty, is) =
+    comes_as n.site m.site 0 0 0 f (omega arith) (sym none) (comes_none n.site m.site (ap (λ (x : Installation). x.site) is))
 all_played n m (suc k) f text one (before, front, between, rounds, sent, last, is, more, whole) =
     let first = all_played n between k before front one rounds in
     comes_as n.site m.site (k + 1) (suc k) (before + (if sent then 1 else 0)) f (omega arith) (sym more)
@@ -215,7 +231,8 @@ all_played n m (suc k) f text one (before, front, between, rounds, sent, last, i
 -- ---------------------------------------------------------------- the end of a run
 
 -- NO MORE FRAMES are sent
-pub run_frames : (limit : ℕ) (n : Installation) (sent : ℕ) (text : List ℕ) (m : Installation) → StartsAlone n.site 0 → controllers n ≡ 1 → Ran limit n sent text m → sent ≤ 111 * count_by is_bare (world n.site).gear + 10
+pub run_frames : (limit : ℕ) (n : Installation) (sent : ℕ) (text : List ℕ) (m : Installation) → StartsAlone n.site 0 → controllers n ≡ 1
+    → Ran limit n sent text m → sent ≤ 111 * count_by is_bare (world n.site).gear + 10
 run_frames limit n sent text m alone one ran =
     let comes = all_played n ran.between ran.rounds sent ran.front one ran.played in
     few (count_by is_bare (world n.site).gear) (frames comes.events) comes.sent (bounded n.site 0 comes.events alone comes.rounds)
@@ -244,7 +261,8 @@ pub record IsOver (s t : SiteState) : Type 0 where
   pub turn : has_turn (controller_at (world s) 0) ≡ false
   pub next : next_request s ≡ None
 
-over_by : (n between m : Installation) (acted : Bool) (x : Report) (text : List ℕ) → round.Over ≡ came_of acted x → IsTurn n 0 (Some acted) text between → Pumps between.site trouble.None x m.site → IsOver n.site m.site
+over_by : (n between m : Installation) (acted : Bool) (x : Report) (text : List ℕ) → round.Over ≡ came_of acted x → IsTurn n 0 (Some acted) text between
+    → Pumps between.site trouble.None x m.site → IsOver n.site m.site
 over_by n between m false report.Idle text is turn pump =
     let same : between.site ≡ n.site = ap (λ (y : Installation). y.site) turn.2 in
     record { same = pump.1 ∙ same; turn = turn.0; next = subst (λ s. next_request s ≡ None) same pump.0 }
@@ -262,13 +280,16 @@ over n m text one is =
     over_by n is.between m is.acted is.report turns.last is.ended turns.turn is.pump.0
 
 -- and then the controller has ended
-over_ended : (s t : SiteState) (es : List Event) → StartsAlone s 0 → Rounds s 0 es → t ≡ site_after s es → has_turn (controller_at (world t) 0) ≡ false → next_request t ≡ None → HasCommissioned s t 0
+over_ended : (s t : SiteState) (es : List Event) → StartsAlone s 0 → Rounds s 0 es → t ≡ site_after s es → has_turn (controller_at (world t) 0) ≡ false
+    → next_request t ≡ None → HasCommissioned s t 0
 over_ended s t es alone rounds is turn next = subst (λ x. HasCommissioned s x 0) (sym is) (go (goes_on s 0 es alone rounds)) where
   go : GoesOn (site_after s es) 0 → HasCommissioned s (site_after s es) 0
   go (inl (e, ended)) = record { outcome = e; ended = ended; done = ends s 0 es e alone rounds ended; tabled = tabled s 0 es e alone rounds ended }
   go (inr (inl due)) =
-      let none : has_turn (controller_at (world (site_after s es)) 0) ≡ false = subst (λ (x : SiteState). has_turn (controller_at (world x) 0) ≡ false) is turn in
-      let some : has_turn (controller_at (world (site_after s es)) 0) ≡ true = due_turn (controller_at (world (site_after s es)) 0) due.input (runs_after s 0 es alone rounds).runs.goes.lone.up.up due.succeeds due.due in
+      let none : has_turn (controller_at (world (site_after s es)) 0) ≡ false =
+      subst (λ (x : SiteState). has_turn (controller_at (world x) 0) ≡ false) is turn in
+      let some : has_turn (controller_at (world (site_after s es)) 0) ≡ true =
+      due_turn (controller_at (world (site_after s es)) 0) due.input (runs_after s 0 es alone rounds).runs.goes.lone.up.up due.succeeds due.due in
       let both : true ≡ false = sym some ∙ none in
       absurd (cc)
   go (inr (inr (r, waits))) =
@@ -276,7 +297,8 @@ over_ended s t es alone rounds is turn next = subst (λ x. HasCommissioned s x 0
       absurd (cc)
 
 -- A RUN OF ENOUGH ROUNDS ENDS
-pub run_ends : (limit : ℕ) (n : Installation) (sent : ℕ) (text : List ℕ) (m : Installation) → StartsAlone n.site 0 → controllers n ≡ 1 → 333 * count_by is_bare (world n.site).gear + 31 < limit → Ran limit n sent text m
+pub run_ends : (limit : ℕ) (n : Installation) (sent : ℕ) (text : List ℕ) (m : Installation) → StartsAlone n.site 0 → controllers n ≡ 1
+    → 333 * count_by is_bare (world n.site).gear + 31 < limit → Ran limit n sent text m
     → HasCommissioned n.site m.site 0 ⊎ WasRefused n sent text m
 run_ends limit n sent text m alone one enough ran = go ran.ends where
   comes : Comes n.site ran.between.site ran.rounds sent
@@ -286,8 +308,12 @@ run_ends limit n sent text m alone one enough ran = go ran.ends where
   fewer g k x more many few is = omega (arith, more, many, few, is)
 
   go : replay.Ends limit ran.rounds ran.between ran.last m → HasCommissioned n.site m.site 0 ⊎ WasRefused n sent text m
-  go (inl (is, empty, same)) = absurd (fewer (count_by is_bare (world n.site).gear) ran.rounds (length comes.events) enough comes.many (few_events n.site 0 comes.events alone comes.rounds) is)
+  go (inl (is, empty, same)) =
+      absurd (fewer (count_by is_bare (world n.site).gear) ran.rounds (length comes.events) enough comes.many
+      (few_events n.site 0 comes.events alone comes.rounds) is)
   go (inr (below, inl last)) =
       let ended = over ran.between m ran.last (one_more n ran.between ran.rounds sent one comes) last in
-      inl (subst (λ t. HasCommissioned n.site t 0) (sym ended.same) (over_ended n.site ran.between.site comes.events alone comes.rounds comes.is ended.turn ended.next))
-  go (inr (below, inr refused)) = inr (record { rounds = ran.rounds; front = ran.front; between = ran.between; last = ran.last; played = ran.played; refused = refused; whole = ran.whole })
+      inl (subst (λ t. HasCommissioned n.site t 0) (sym ended.same)
+      (over_ended n.site ran.between.site comes.events alone comes.rounds comes.is ended.turn ended.next))
+  go (inr (below, inr refused)) =
+      inr (record { rounds = ran.rounds; front = ran.front; between = ran.between; last = ran.last; played = ran.played; refused = refused; whole = ran.whole })

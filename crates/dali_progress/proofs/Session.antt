@@ -5,7 +5,8 @@ use Rattle.dali_special.specs.Command.{command_of, frame}
 use Rattle.dali_special.specs.declared.command.Target.TheVariants.{Unaddressed}
 use Rattle.dali_special.specs.declared.command.Command.TheVariants.{Terminate, Initialise, Randomise, Compare, SearchHigh, SearchMiddle, SearchLow}
 use Rattle.dali_script.specs.declared.block.Block.{Block}
-use Rattle.dali_script.specs.declared.stage.Stage.TheVariants.{Free, Terminated, InitialisedOnce, Initialised, RandomisedOnce, Opened, HighSent, MiddleSent, NumberSent, Probed}
+use Rattle.dali_script.specs.declared.stage.Stage.TheVariants.{Free, Terminated, InitialisedOnce, Initialised, RandomisedOnce, Opened, HighSent, MiddleSent}
+use Rattle.dali_script.specs.declared.stage.Stage.TheVariants.{NumberSent, Probed}
 use Rattle.dali_script.specs.Records.{without_records}
 use Rattle.dali_script.specs.Scripts.{Open, Probe, Close}
 use Rattle.dali_script.specs.Stages.{stage_of}
@@ -73,50 +74,60 @@ heard e = cc
 
 pub given_first : IsGiven begun input.Start (Put 3 (frame 0xA1 0))
 unfolding command_of stage_of
-given_first = first_given begun input.Start Free Terminate (λ e. cc) (record { stage = refl; plain = tt; tries = refl; silent = refl; last = tt }) refl refl (refl, inl refl) (Open, tt, refl) (λ g e. cc)
+given_first = first_given begun input.Start Free Terminate (λ e. cc) (record { stage = refl; plain = tt; tries = refl; silent = refl; last = tt }) refl refl
+    (refl, inl refl) (Open, tt, refl) (λ g e. cc)
 
 pub given_initialise : IsGiven terminating silent (later 0xA5 0xFF)
 unfolding command_of stage_of
-given_initialise = later_given terminating silent Terminated (Initialise Unaddressed) heard (record { stage = refl; plain = tt; tries = refl; silent = refl; last = tt }) refl refl (λ e. cc) (Open, tt, (refl, tt, refl)) (λ g e. cc)
+given_initialise = later_given terminating silent Terminated (Initialise Unaddressed) heard
+    (record { stage = refl; plain = tt; tries = refl; silent = refl; last = tt }) refl refl (λ e. cc) (Open, tt, (refl, tt, refl)) (λ g e. cc)
 
 pub given_initialise_again : IsGiven initialising silent (later 0xA5 0xFF)
 unfolding command_of stage_of
-given_initialise_again = later_given initialising silent InitialisedOnce (Initialise Unaddressed) heard (record { stage = refl; plain = tt; tries = refl; silent = refl; last = tt }) refl refl (λ e. cc)
+given_initialise_again = later_given initialising silent InitialisedOnce (Initialise Unaddressed) heard
+    (record { stage = refl; plain = tt; tries = refl; silent = refl; last = tt }) refl refl (λ e. cc)
     (Open, tt, (refl, tt, (refl, tt, refl))) (λ g e. cc)
 
 pub given_randomise : IsGiven initialising_again silent (later 0xA7 0)
 unfolding command_of stage_of
-given_randomise = later_given initialising_again silent Initialised Randomise heard (record { stage = refl; plain = tt; tries = refl; silent = refl; last = tt }) refl refl (λ e. cc)
+given_randomise = later_given initialising_again silent Initialised Randomise heard
+    (record { stage = refl; plain = tt; tries = refl; silent = refl; last = tt }) refl refl (λ e. cc)
     (Open, tt, (refl, tt, (refl, tt, (refl, tt, refl)))) (λ g e. cc)
 
 pub given_randomise_again : IsGiven randomising silent (later 0xA7 0)
 unfolding command_of stage_of
-given_randomise_again = later_given randomising silent RandomisedOnce Randomise heard (record { stage = refl; plain = tt; tries = refl; silent = refl; last = tt }) refl refl (λ e. cc)
+given_randomise_again = later_given randomising silent RandomisedOnce Randomise heard
+    (record { stage = refl; plain = tt; tries = refl; silent = refl; last = tt }) refl refl (λ e. cc)
     (Open, tt, (refl, tt, (refl, tt, (refl, tt, (refl, tt, refl))))) (λ g e. cc)
 
 pub given_high : IsGiven randomising_again silent (Put 3 (frame 0xB1 0xFF))
 unfolding command_of stage_of
-given_high = first_given randomising_again silent Opened (SearchHigh 0xFF) heard (record { stage = refl; plain = tt; tries = refl; silent = refl; last = tt }) refl refl (refl, inl refl)
+given_high = first_given randomising_again silent Opened (SearchHigh 0xFF) heard (record { stage = refl; plain = tt; tries = refl; silent = refl; last = tt })
+    refl refl (refl, inl refl)
     (Probe highest, tt, refl) (λ g e. cc)
 
 pub given_middle : IsGiven searching_high silent (later 0xB3 0xFF)
 unfolding command_of stage_of
-given_middle = later_given searching_high silent (HighSent 0xFF) (SearchMiddle 0xFF) heard (record { stage = refl; plain = tt; tries = refl; silent = refl; last = tt }) refl refl (λ e. cc)
+given_middle = later_given searching_high silent (HighSent 0xFF) (SearchMiddle 0xFF) heard
+    (record { stage = refl; plain = tt; tries = refl; silent = refl; last = tt }) refl refl (λ e. cc)
     (Probe highest, tt, (refl, tt, refl)) (λ g e. cc)
 
 pub given_low : IsGiven searching_middle silent (later 0xB5 0xFE)
 unfolding command_of stage_of
-given_low = later_given searching_middle silent (MiddleSent 0xFF 0xFF) (SearchLow 0xFE) heard (record { stage = refl; plain = tt; tries = refl; silent = refl; last = tt }) refl refl (λ e. cc)
+given_low = later_given searching_middle silent (MiddleSent 0xFF 0xFF) (SearchLow 0xFE) heard
+    (record { stage = refl; plain = tt; tries = refl; silent = refl; last = tt }) refl refl (λ e. cc)
     (Probe highest, tt, (refl, tt, (refl, tt, refl))) (λ g e. cc)
 
 pub given_compare : IsGiven searching_low silent (later 0xA9 0)
 unfolding command_of stage_of
-given_compare = later_given searching_low silent (NumberSent highest) Compare heard (record { stage = refl; plain = tt; tries = refl; silent = refl; last = tt }) refl refl (λ e. cc)
+given_compare = later_given searching_low silent (NumberSent highest) Compare heard
+    (record { stage = refl; plain = tt; tries = refl; silent = refl; last = tt }) refl refl (λ e. cc)
     (Probe highest, tt, (refl, tt, (refl, tt, (refl, tt, refl)))) (λ g e. cc)
 
 pub given_close : IsGiven comparing silent (Put 3 (frame 0xA1 0))
 unfolding command_of stage_of
-given_close = first_given comparing silent (Probed highest Silence) Terminate heard (record { stage = refl; plain = tt; tries = refl; silent = refl; last = tt }) refl refl
+given_close = first_given comparing silent (Probed highest Silence) Terminate heard
+    (record { stage = refl; plain = tt; tries = refl; silent = refl; last = tt }) refl refl
     (inr (refl, (refl, (highest, refl, refl))), inr (refl, refl)) (Close, tt, refl) (λ g e. cc)
 
 pub given_done : IsGiven closing silent (Done AllFound)

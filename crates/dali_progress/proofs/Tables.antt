@@ -6,7 +6,8 @@ use Rattle.dali_frame.specs.Short.{short_of}
 use Rattle.dali_frame.specs.declared.numbers.SearchAddress.{SearchAddress}
 use Rattle.dali_frame.specs.Random.{value_of}
 use Rattle.dali_special.specs.declared.command.Command.{Command}
-use Rattle.dali_special.specs.declared.command.Command.TheVariants.{Terminate, Initialise, Randomise, Compare, Withdraw, SearchHigh, SearchMiddle, SearchLow, Program, QueryShort}
+use Rattle.dali_special.specs.declared.command.Command.TheVariants.{Terminate, Initialise, Randomise, Compare, Withdraw, SearchHigh, SearchMiddle, SearchLow}
+use Rattle.dali_special.specs.declared.command.Command.TheVariants.{Program, QueryShort}
 use Rattle.dali_special.specs.declared.command.Target.TheVariants.{Unaddressed}
 use Rattle.dali_gear.specs.declared.row.Reach.TheVariants.{Everyone}
 use Rattle.dali_gear.specs.Gear.{Gear, is_active, draws_a_number, gear_taken}
@@ -52,24 +53,29 @@ names_drawn g x still a short = (short, rw (still a short) refl)
 names_self : (g : Gear) → KeepsName g g
 names_self g a short = (short, refl)
 
-tabled_by : (before : List Gear) (xs : List Assignment) (gs hs : List Gear) → length hs ≡ length gs → ((k : ℕ) → k < length gs → KeepsName (gear_of gs k) (gear_of hs k)) → AreTabled before xs gs → AreTabled before xs hs
+tabled_by : (before : List Gear) (xs : List Assignment) (gs hs : List Gear) → length hs ≡ length gs
+    → ((k : ℕ) → k < length gs → KeepsName (gear_of gs k) (gear_of hs k)) → AreTabled before xs gs → AreTabled before xs hs
 tabled_by before xs gs hs same keeps tabled k a in_row short =
     let there : k < length gs = subst (λ n. k < n) same in_row in
     let kept = keeps k there a short in
     subst (λ r. ((gear_of before k).short ≡ Some a) ⊎ Has xs (a, r)) (sym kept.1) (tabled k a there kept.0)
 
-tabled_left : (before : List Gear) (xs : List Assignment) (gs : List Gear) (numbers : List ℕ) (c : Command) → LeavesNames c → AreTabled before xs gs → AreTabled before xs (row_after Everyone c 0 gs numbers)
+tabled_left : (before : List Gear) (xs : List Assignment) (gs : List Gear) (numbers : List ℕ) (c : Command) → LeavesNames c → AreTabled before xs gs
+    → AreTabled before xs (row_after Everyone c 0 gs numbers)
 tabled_left before xs gs numbers c leaves tabled =
-    tabled_by before xs gs (row_after Everyone c 0 gs numbers) (row_length Everyone c 0 gs numbers) (after_at c KeepsName (λ g off. names_self g) (λ g x on. names_taken c g x leaves) gs numbers) tabled
+    tabled_by before xs gs (row_after Everyone c 0 gs numbers) (row_length Everyone c 0 gs numbers)
+    (after_at c KeepsName (λ g off. names_self g) (λ g x on. names_taken c g x leaves) gs numbers) tabled
 
 -- RANDOMISE, where no gear with a short address draws
 abbrev StandsStill : Gear → Type 0
 StandsStill g = (a : ℕ) → g.short ≡ Some a → draws_a_number Randomise g ≡ false
 
-tabled_drawn : (before : List Gear) (xs : List Assignment) (gs : List Gear) (numbers : List ℕ) → OfPowered gs StandsStill → AreTabled before xs gs → AreTabled before xs (row_after Everyone Randomise 0 gs numbers)
+tabled_drawn : (before : List Gear) (xs : List Assignment) (gs : List Gear) (numbers : List ℕ) → OfPowered gs StandsStill → AreTabled before xs gs
+    → AreTabled before xs (row_after Everyone Randomise 0 gs numbers)
 tabled_drawn before xs gs numbers still tabled =
     tabled_by before xs gs (row_after Everyone Randomise 0 gs numbers) (row_length Everyone Randomise 0 gs numbers)
-    (λ k in_row. after_at Randomise (λ g h. (g.powered ≡ true → StandsStill g) → KeepsName g h) (λ g off was. names_self g) (λ g x on was. names_drawn g x (was on)) gs numbers k in_row (still k in_row)) tabled
+    (λ k in_row. after_at Randomise (λ g h. (g.powered ≡ true → StandsStill g) → KeepsName g h) (λ g off was. names_self g)
+    (λ g x on was. names_drawn g x (was on)) gs numbers k in_row (still k in_row)) tabled
 
 still_once : (gs : List Gear) → AreOpening stage.Initialised gs → OfPowered gs StandsStill
 still_once gs all k in_row on a short = rw ((all k in_row on).0) refl
@@ -84,34 +90,37 @@ still_twice gs all k in_row on a short = rw ((all k in_row on).0, (all k in_row 
 -- PROGRAM SHORT ADDRESS names the one that is visited
 tabled_given : (before : List Gear) (xs : List Assignment) (gs : List Gear) (numbers : List ℕ) (r : SearchAddress) (a : ℕ) → Seek gs r → AreTabled before xs gs
     → AreTabled before ((a, value_of r) ∷ xs) (row_after Everyone (Program (Some a)) 0 gs numbers)
-tabled_given before xs gs numbers r a seek tabled k b in_row short = go (gear_of gs k).powered refl (is_active (gear_of gs k).state) refl ((gear_of gs k).random == value_of r) refl where
-  there : k < length gs
-  there = subst (λ n. k < n) (row_length Everyone (Program (Some a)) 0 gs numbers) in_row
+tabled_given before xs gs numbers r a seek tabled k b in_row short =
+    go (gear_of gs k).powered refl (is_active (gear_of gs k).state) refl ((gear_of gs k).random == value_of r) refl where
+      there : k < length gs
+      there = subst (λ n. k < n) (row_length Everyone (Program (Some a)) 0 gs numbers) in_row
 
-  kept : (gear_of (row_after Everyone (Program (Some a)) 0 gs numbers) k).random ≡ (gear_of gs k).random
-  kept = (programming.programs_at gs numbers r a seek k there).same_random
+      kept : (gear_of (row_after Everyone (Program (Some a)) 0 gs numbers) k).random ≡ (gear_of gs k).random
+      kept = (programming.programs_at gs numbers r a seek k there).same_random
 
-  other : ((gear_of gs k).powered ≡ true → is_active (gear_of gs k).state ≡ true → (gear_of gs k).random ≡ value_of r → ⊥)
-      → ((gear_of before k).short ≡ Some b) ⊎ Has ((a, value_of r) ∷ xs) (b, (gear_of (row_after Everyone (Program (Some a)) 0 gs numbers) k).random)
-  other none = more (tabled k b there (sym ((programming.programs_at gs numbers r a seek k there).others none) ∙ short)) where
-    more : ((gear_of before k).short ≡ Some b) ⊎ Has xs (b, (gear_of gs k).random)
-        → ((gear_of before k).short ≡ Some b) ⊎ Has ((a, value_of r) ∷ xs) (b, (gear_of (row_after Everyone (Program (Some a)) 0 gs numbers) k).random)
-    more (inl had) = inl had
-    more (inr has) = inr (inr (subst (λ n. Has xs (b, n)) (sym kept) has))
+      other : ((gear_of gs k).powered ≡ true → is_active (gear_of gs k).state ≡ true → (gear_of gs k).random ≡ value_of r → ⊥)
+          → ((gear_of before k).short ≡ Some b) ⊎ Has ((a, value_of r) ∷ xs) (b, (gear_of (row_after Everyone (Program (Some a)) 0 gs numbers) k).random)
+      other none = more (tabled k b there (sym ((programming.programs_at gs numbers r a seek k there).others none) ∙ short)) where
+        more : ((gear_of before k).short ≡ Some b) ⊎ Has xs (b, (gear_of gs k).random)
+            → ((gear_of before k).short ≡ Some b) ⊎ Has ((a, value_of r) ∷ xs) (b, (gear_of (row_after Everyone (Program (Some a)) 0 gs numbers) k).random)
+        more (inl had) = inl had
+        more (inr has) = inr (inr (subst (λ n. Has xs (b, n)) (sym kept) has))
 
-  go : (p : Bool) → (gear_of gs k).powered ≡ p → (s : Bool) → is_active (gear_of gs k).state ≡ s → (t : Bool) → ((gear_of gs k).random == value_of r) ≡ t
-      → ((gear_of before k).short ≡ Some b) ⊎ Has ((a, value_of r) ∷ xs) (b, (gear_of (row_after Everyone (Program (Some a)) 0 gs numbers) k).random)
-  go false on s active t found = other (λ up awake random. (let no : false ≡ true = sym on ∙ up in cc))
-  go true on false active t found = other (λ up awake random. (let no : false ≡ true = sym active ∙ awake in cc))
-  go true on true active false found = other (λ up awake random. (let no : false ≡ true = sym found ∙ number_same (gear_of gs k).random (value_of r) random in cc))
-  go true on true active true found =
-      let random : (gear_of gs k).random ≡ value_of r = same_number (gear_of gs k).random (value_of r) found in
-      let given : (gear_of (row_after Everyone (Program (Some a)) 0 gs numbers) k).short ≡ Some a = (programming.programs_at gs numbers r a seek k there).programmed on active random in
-      let same : a ≡ b = one a b (sym given ∙ short) in
-      inr (inl (ap (λ m. (m, value_of r)) same ∙ ap (λ m. (b, m)) (sym (kept ∙ random))))
-    where
-      one : (m n : ℕ) → Some m ≡ Some n → m ≡ n
-      one m n e = cc
+      go : (p : Bool) → (gear_of gs k).powered ≡ p → (s : Bool) → is_active (gear_of gs k).state ≡ s → (t : Bool) → ((gear_of gs k).random == value_of r) ≡ t
+          → ((gear_of before k).short ≡ Some b) ⊎ Has ((a, value_of r) ∷ xs) (b, (gear_of (row_after Everyone (Program (Some a)) 0 gs numbers) k).random)
+      go false on s active t found = other (λ up awake random. (let no : false ≡ true = sym on ∙ up in cc))
+      go true on false active t found = other (λ up awake random. (let no : false ≡ true = sym active ∙ awake in cc))
+      go true on true active false found =
+          other (λ up awake random. (let no : false ≡ true = sym found ∙ number_same (gear_of gs k).random (value_of r) random in cc))
+      go true on true active true found =
+          let random : (gear_of gs k).random ≡ value_of r = same_number (gear_of gs k).random (value_of r) found in
+          let given : (gear_of (row_after Everyone (Program (Some a)) 0 gs numbers) k).short ≡ Some a =
+          (programming.programs_at gs numbers r a seek k there).programmed on active random in
+          let same : a ≡ b = one a b (sym given ∙ short) in
+          inr (inl (ap (λ m. (m, value_of r)) same ∙ ap (λ m. (b, m)) (sym (kept ∙ random))))
+        where
+          one : (m n : ℕ) → Some m ≡ Some n → m ≡ n
+          one m n e = cc
 
 -- ---------------------------------------------------------------- of whatever transaction
 
@@ -122,7 +131,8 @@ come_more (stage.Confirmed r a) n xs x has = inr has
 come_more (stage.Withdrawn r a) n xs x has = inr has
 come_more _ n xs x has = has
 
-pub tabled_over : (before : List Gear) (xs ys : List Assignment) (gs : List Gear) → ((x : Assignment) → Has xs x → Has ys x) → AreTabled before xs gs → AreTabled before ys gs
+pub tabled_over : (before : List Gear) (xs ys : List Assignment) (gs : List Gear) → ((x : Assignment) → Has xs x → Has ys x) → AreTabled before xs gs
+    → AreTabled before ys gs
 tabled_over before xs ys gs more tabled k a in_row short = go (tabled k a in_row short) where
   go : ((gear_of before k).short ≡ Some a) ⊎ Has xs (a, (gear_of gs k).random) → ((gear_of before k).short ≡ Some a) ⊎ Has ys (a, (gear_of gs k).random)
   go (inl had) = inl had
@@ -132,79 +142,108 @@ tabled_over before xs ys gs more tabled k a in_row short = go (tabled k a in_row
 abbrev pub IsTabledTo : List Gear → Stage → SearchAddress → List Assignment → List Gear → List ℕ → Command → Answer → Type 0
 IsTabledTo before s n xs gs numbers c h = AreTabled before (to_come (next_stage s c h) n xs) (row_after Everyone c 0 gs numbers)
 
-left_to : (before : List Gear) (s : Stage) (n : SearchAddress) (xs : List Assignment) (gs : List Gear) (numbers : List ℕ) (c d : Command) (h : Answer) → d ≡ c → LeavesNames d → AreTabled before xs gs
+left_to : (before : List Gear) (s : Stage) (n : SearchAddress) (xs : List Assignment) (gs : List Gear) (numbers : List ℕ) (c d : Command) (h : Answer) → d ≡ c
+    → LeavesNames d → AreTabled before xs gs
     → IsTabledTo before s n xs gs numbers c h
 left_to before s n xs gs numbers c d h is leaves tabled =
     subst (λ e. IsTabledTo before s n xs gs numbers e h) is
-    (tabled_over before xs (to_come (next_stage s d h) n xs) (row_after Everyone d 0 gs numbers) (come_more (next_stage s d h) n xs) (tabled_left before xs gs numbers d leaves tabled))
+    (tabled_over before xs (to_come (next_stage s d h) n xs) (row_after Everyone d 0 gs numbers) (come_more (next_stage s d h) n xs)
+    (tabled_left before xs gs numbers d leaves tabled))
 
 some_is : (x c : Command) → Some x ≡ Some c → x ≡ c
 some_is x c e = cc
 
-opening_tabled : (before : List Gear) (s : Stage) (k : Kept) (opened : Bool) (n : SearchAddress) (gs : List Gear) (numbers : List ℕ) (left : ℕ) (c : Command) (h : Answer) → Opens s opened gs left → Sends Opening n k s c
+opening_tabled : (before : List Gear) (s : Stage) (k : Kept) (opened : Bool) (n : SearchAddress) (gs : List Gear) (numbers : List ℕ) (left : ℕ) (c : Command)
+    (h : Answer) → Opens s opened gs left → Sends Opening n k s c
     → AreTabled before (to_come s n k.enrolled) gs → IsTabledTo before s n k.enrolled gs numbers c h
 opening_tabled before stage.Free k opened n gs numbers left c h o is tabled = left_to before stage.Free n k.enrolled gs numbers c Terminate h (sym is) tt tabled
-opening_tabled before stage.Terminated k opened n gs numbers left c h o is tabled = left_to before stage.Terminated n k.enrolled gs numbers c (Initialise Unaddressed) h (some_is (Initialise Unaddressed) c is) tt tabled
-opening_tabled before stage.InitialisedOnce k opened n gs numbers left c h o is tabled = left_to before stage.InitialisedOnce n k.enrolled gs numbers c (Initialise Unaddressed) h (some_is (Initialise Unaddressed) c is) tt tabled
+opening_tabled before stage.Terminated k opened n gs numbers left c h o is tabled =
+    left_to before stage.Terminated n k.enrolled gs numbers c (Initialise Unaddressed) h (some_is (Initialise Unaddressed) c is) tt tabled
+opening_tabled before stage.InitialisedOnce k opened n gs numbers left c h o is tabled =
+    left_to before stage.InitialisedOnce n k.enrolled gs numbers c (Initialise Unaddressed) h (some_is (Initialise Unaddressed) c is) tt tabled
 opening_tabled before stage.Initialised k opened n gs numbers left c h o is tabled =
-    subst (λ e. IsTabledTo before stage.Initialised n k.enrolled gs numbers e h) (some_is Randomise c is) (tabled_drawn before k.enrolled gs numbers (still_once gs o.gear) tabled)
+    subst (λ e. IsTabledTo before stage.Initialised n k.enrolled gs numbers e h) (some_is Randomise c is)
+    (tabled_drawn before k.enrolled gs numbers (still_once gs o.gear) tabled)
 opening_tabled before stage.RandomisedOnce k opened n gs numbers left c h o is tabled =
-    subst (λ e. IsTabledTo before stage.RandomisedOnce n k.enrolled gs numbers e h) (some_is Randomise c is) (tabled_drawn before k.enrolled gs numbers (still_twice gs o.gear) tabled)
+    subst (λ e. IsTabledTo before stage.RandomisedOnce n k.enrolled gs numbers e h) (some_is Randomise c is)
+    (tabled_drawn before k.enrolled gs numbers (still_twice gs o.gear) tabled)
 opening_tabled before stage.Opened k opened n gs numbers left c h o is tabled = absurd (cc)
 opening_tabled before _ k opened n gs numbers left c h o is tabled = absurd o.stage_is
 
-probing_tabled : (before : List Gear) (s : Stage) (k : Kept) (x : Search) (n : SearchAddress) (gs : List Gear) (numbers : List ℕ) (left : ℕ) (c : Command) (h : Answer) → Probes s x n gs left → Sends Probing n k s c
+probing_tabled : (before : List Gear) (s : Stage) (k : Kept) (x : Search) (n : SearchAddress) (gs : List Gear) (numbers : List ℕ) (left : ℕ) (c : Command)
+    (h : Answer) → Probes s x n gs left → Sends Probing n k s c
     → AreTabled before (to_come s n k.enrolled) gs → IsTabledTo before s n k.enrolled gs numbers c h
-probing_tabled before stage.Free k x n gs numbers left c h p is tabled = left_to before stage.Free n k.enrolled gs numbers c (SearchHigh n.high) h (sym is) tt tabled
-probing_tabled before (stage.HighSent high) k x n gs numbers left c h p is tabled = left_to before (stage.HighSent high) n k.enrolled gs numbers c (SearchMiddle n.middle) h (some_is (SearchMiddle n.middle) c is) tt tabled
-probing_tabled before (stage.MiddleSent high middle) k x n gs numbers left c h p is tabled = left_to before (stage.MiddleSent high middle) n k.enrolled gs numbers c (SearchLow n.low) h (some_is (SearchLow n.low) c is) tt tabled
-probing_tabled before (stage.NumberSent r) k x n gs numbers left c h p is tabled = left_to before (stage.NumberSent r) n k.enrolled gs numbers c Compare h (some_is Compare c is) tt tabled
+probing_tabled before stage.Free k x n gs numbers left c h p is tabled =
+    left_to before stage.Free n k.enrolled gs numbers c (SearchHigh n.high) h (sym is) tt tabled
+probing_tabled before (stage.HighSent high) k x n gs numbers left c h p is tabled =
+    left_to before (stage.HighSent high) n k.enrolled gs numbers c (SearchMiddle n.middle) h (some_is (SearchMiddle n.middle) c is) tt tabled
+probing_tabled before (stage.MiddleSent high middle) k x n gs numbers left c h p is tabled =
+    left_to before (stage.MiddleSent high middle) n k.enrolled gs numbers c (SearchLow n.low) h (some_is (SearchLow n.low) c is) tt tabled
+probing_tabled before (stage.NumberSent r) k x n gs numbers left c h p is tabled =
+    left_to before (stage.NumberSent r) n k.enrolled gs numbers c Compare h (some_is Compare c is) tt tabled
 probing_tabled before (stage.Probed r g) k x n gs numbers left c h p is tabled = absurd (cc)
 probing_tabled before _ k x n gs numbers left c h p is tabled = absurd p.stage_is
 
 -- what follows PROGRAM SHORT ADDRESS is its confirmation, where the visit goes on
-confirmed : (r : SearchAddress) (a : ℕ) (h : Answer) (k : Kept) (n : SearchAddress) (gs : List Gear) (left : ℕ) → VisitsAt (verified r a h) k n gs left → verified r a h ≡ stage.Confirmed r a
+confirmed : (r : SearchAddress) (a : ℕ) (h : Answer) (k : Kept) (n : SearchAddress) (gs : List Gear) (left : ℕ) → VisitsAt (verified r a h) k n gs left
+    → verified r a h ≡ stage.Confirmed r a
 confirmed r a Silence k n gs left at = absurd at.stage_is
 confirmed r a Damaged k n gs left at = absurd at.stage_is
 confirmed r a (Byte v) k n gs left at = go (short_of v) at where
   go : (o : Option ℕ) → VisitsAt (answered r a o) k n gs left → answered r a o ≡ stage.Confirmed r a
   go None at = absurd at.stage_is
   go (Some b) at = same (b == a) at where
-    same : (t : Bool) → VisitsAt (if t then stage.Confirmed r a else stage.Inconclusive r (Some b)) k n gs left → (if t then stage.Confirmed r a else stage.Inconclusive r (Some b)) ≡ stage.Confirmed r a
+    same : (t : Bool) → VisitsAt (if t then stage.Confirmed r a else stage.Inconclusive r (Some b)) k n gs left
+        → (if t then stage.Confirmed r a else stage.Inconclusive r (Some b)) ≡ stage.Confirmed r a
     same true at = refl
     same false at = absurd at.stage_is
 
-visiting_tabled : (before : List Gear) (s : Stage) (k : Kept) (n : SearchAddress) (gs : List Gear) (numbers : List ℕ) (left rest : ℕ) (c : Command) (h : Answer) → VisitsAt s k n gs left → Sends Visiting n k s c → Seeks s gs
-    → VisitsAt (next_stage s c h) k n (row_after Everyone c 0 gs numbers) rest → AreTabled before (to_come s n k.enrolled) gs → IsTabledTo before s n k.enrolled gs numbers c h
-visiting_tabled before stage.Free k n gs numbers left rest c h v is seek next tabled = left_to before stage.Free n k.enrolled gs numbers c (SearchHigh n.high) h (sym is) tt tabled
-visiting_tabled before (stage.HighSent high) k n gs numbers left rest c h v is seek next tabled = left_to before (stage.HighSent high) n k.enrolled gs numbers c (SearchMiddle n.middle) h (some_is (SearchMiddle n.middle) c is) tt tabled
-visiting_tabled before (stage.MiddleSent high middle) k n gs numbers left rest c h v is seek next tabled = left_to before (stage.MiddleSent high middle) n k.enrolled gs numbers c (SearchLow n.low) h (some_is (SearchLow n.low) c is) tt tabled
-visiting_tabled before (stage.NumberSent r) k n gs numbers left rest c h v is seek next tabled = left_to before (stage.NumberSent r) n k.enrolled gs numbers c QueryShort h (some_is QueryShort c is) tt tabled
+visiting_tabled : (before : List Gear) (s : Stage) (k : Kept) (n : SearchAddress) (gs : List Gear) (numbers : List ℕ) (left rest : ℕ) (c : Command) (h : Answer)
+    → VisitsAt s k n gs left → Sends Visiting n k s c → Seeks s gs
+    → VisitsAt (next_stage s c h) k n (row_after Everyone c 0 gs numbers) rest → AreTabled before (to_come s n k.enrolled) gs
+    → IsTabledTo before s n k.enrolled gs numbers c h
+visiting_tabled before stage.Free k n gs numbers left rest c h v is seek next tabled =
+    left_to before stage.Free n k.enrolled gs numbers c (SearchHigh n.high) h (sym is) tt tabled
+visiting_tabled before (stage.HighSent high) k n gs numbers left rest c h v is seek next tabled =
+    left_to before (stage.HighSent high) n k.enrolled gs numbers c (SearchMiddle n.middle) h (some_is (SearchMiddle n.middle) c is) tt tabled
+visiting_tabled before (stage.MiddleSent high middle) k n gs numbers left rest c h v is seek next tabled =
+    left_to before (stage.MiddleSent high middle) n k.enrolled gs numbers c (SearchLow n.low) h (some_is (SearchLow n.low) c is) tt tabled
+visiting_tabled before (stage.NumberSent r) k n gs numbers left rest c h v is seek next tabled =
+    left_to before (stage.NumberSent r) n k.enrolled gs numbers c QueryShort h (some_is QueryShort c is) tt tabled
 visiting_tabled before (stage.Unnamed r) k n gs numbers left rest c h v is seek next tabled =
     subst (λ e. IsTabledTo before (stage.Unnamed r) n k.enrolled gs numbers e h) (sym is.3)
-    (subst (λ (m : SearchAddress). AreTabled before ((is.0, value_of m) ∷ k.enrolled) (row_after Everyone (Program (Some is.0)) 0 gs numbers)) (sym v.searched) (tabled_given before k.enrolled gs numbers r is.0 (seek r refl) tabled))
+    (subst (λ (m : SearchAddress). AreTabled before ((is.0, value_of m) ∷ k.enrolled) (row_after Everyone (Program (Some is.0)) 0 gs numbers)) (sym v.searched)
+    (tabled_given before k.enrolled gs numbers r is.0 (seek r refl) tabled))
 visiting_tabled before (stage.Programmed r a) k n gs numbers left rest c h v is seek next tabled =
-    subst (λ e. VisitsAt (next_stage (stage.Programmed r a) e h) k n (row_after Everyone e 0 gs numbers) rest → IsTabledTo before (stage.Programmed r a) n k.enrolled gs numbers e h) (some_is QueryShort c is) go next where
-      go : VisitsAt (verified r a h) k n (row_after Everyone QueryShort 0 gs numbers) rest → IsTabledTo before (stage.Programmed r a) n k.enrolled gs numbers QueryShort h
+    subst (λ e. VisitsAt (next_stage (stage.Programmed r a) e h) k n (row_after Everyone e 0 gs numbers) rest
+    → IsTabledTo before (stage.Programmed r a) n k.enrolled gs numbers e h) (some_is QueryShort c is) go next where
+      go : VisitsAt (verified r a h) k n (row_after Everyone QueryShort 0 gs numbers) rest
+          → IsTabledTo before (stage.Programmed r a) n k.enrolled gs numbers QueryShort h
       go at =
-          subst (λ q. AreTabled before (to_come q n k.enrolled) (row_after Everyone QueryShort 0 gs numbers)) (sym (confirmed r a h k n (row_after Everyone QueryShort 0 gs numbers) rest at))
+          subst (λ q. AreTabled before (to_come q n k.enrolled) (row_after Everyone QueryShort 0 gs numbers))
+          (sym (confirmed r a h k n (row_after Everyone QueryShort 0 gs numbers) rest at))
           (tabled_left before ((a, value_of n) ∷ k.enrolled) gs numbers QueryShort tt tabled)
 visiting_tabled before (stage.Confirmed r a) k n gs numbers left rest c h v is seek next tabled =
-    subst (λ e. IsTabledTo before (stage.Confirmed r a) n k.enrolled gs numbers e h) (some_is Withdraw c is) (tabled_left before ((a, value_of n) ∷ k.enrolled) gs numbers Withdraw tt tabled)
+    subst (λ e. IsTabledTo before (stage.Confirmed r a) n k.enrolled gs numbers e h) (some_is Withdraw c is)
+    (tabled_left before ((a, value_of n) ∷ k.enrolled) gs numbers Withdraw tt tabled)
 visiting_tabled before (stage.Withdrawn r a) k n gs numbers left rest c h v is seek next tabled = absurd (cc)
 visiting_tabled before _ k n gs numbers left rest c h v is seek next tabled = absurd v.stage_is
 
-closing_tabled : (before : List Gear) (s : Stage) (k : Kept) (n : SearchAddress) (gs : List Gear) (numbers : List ℕ) (left : ℕ) (c : Command) (h : Answer) (e : End) → Closes e s k gs left → Sends (Closing e) n k s c
+closing_tabled : (before : List Gear) (s : Stage) (k : Kept) (n : SearchAddress) (gs : List Gear) (numbers : List ℕ) (left : ℕ) (c : Command) (h : Answer)
+    (e : End) → Closes e s k gs left → Sends (Closing e) n k s c
     → AreTabled before (to_come s n k.enrolled) gs → IsTabledTo before s n k.enrolled gs numbers c h
 closing_tabled before stage.Free k n gs numbers left c h e v is tabled = left_to before stage.Free n k.enrolled gs numbers c Terminate h (sym is) tt tabled
 closing_tabled before stage.Terminated k n gs numbers left c h e v is tabled = absurd (cc)
 closing_tabled before _ k n gs numbers left c h e v is tabled = absurd v.stage_is
 
-pub at_tabled : (before : List Gear) (p : Purpose) (s : Stage) (k : Kept) (opened now : Bool) (x : Search) (n : SearchAddress) (gs : List Gear) (numbers : List ℕ) (left rest : ℕ) (c : Command) (h : Answer)
+pub at_tabled : (before : List Gear) (p : Purpose) (s : Stage) (k : Kept) (opened now : Bool) (x : Search) (n : SearchAddress) (gs : List Gear)
+    (numbers : List ℕ) (left rest : ℕ) (c : Command) (h : Answer)
     → At p s k opened x n gs left → Sends p n k s c → Seeks s gs → At p (next_stage s c h) k now x n (row_after Everyone c 0 gs numbers) rest
     → AreTabled before (to_come s n k.enrolled) gs → IsTabledTo before s n k.enrolled gs numbers c h
-at_tabled before Opening s k opened now x n gs numbers left rest c h at is seek next tabled = opening_tabled before s k opened n gs numbers left c h at is tabled
+at_tabled before Opening s k opened now x n gs numbers left rest c h at is seek next tabled =
+    opening_tabled before s k opened n gs numbers left c h at is tabled
 at_tabled before Probing s k opened now x n gs numbers left rest c h at is seek next tabled = probing_tabled before s k x n gs numbers left c h at.1 is tabled
-at_tabled before Visiting s k opened now x n gs numbers left rest c h at is seek next tabled = visiting_tabled before s k n gs numbers left rest c h at.1 is seek next.1 tabled
+at_tabled before Visiting s k opened now x n gs numbers left rest c h at is seek next tabled =
+    visiting_tabled before s k n gs numbers left rest c h at.1 is seek next.1 tabled
 at_tabled before (Resolving a) s k opened now x n gs numbers left rest c h at is seek next tabled = absurd at
 at_tabled before (Closing e) s k opened now x n gs numbers left rest c h at is seek next tabled = closing_tabled before s k n gs numbers left c h e at is tabled

@@ -1,4 +1,5 @@
-use Rattle.std.proofs.Common.{◌≡◌, ℕ, ◌+◌, ◌*◌, ◌-◌, ◌<◌, ◌≤◌, ◌⊎◌, inl, inr, Bool, true, false, zero, suc, List, [], ◌∷◌, ◌++◌, refl, sym, ap, subst, ◌∙◌, arith, length, length-append, nat_lt, get_or, Option, Some, None}
+use Rattle.std.proofs.Common.{◌≡◌, ℕ, ◌+◌, ◌*◌, ◌-◌, ◌<◌, ◌≤◌, ◌⊎◌, inl, inr, Bool, true, false, zero, suc, List, [], ◌∷◌, ◌++◌, refl, sym, ap, subst, ◌∙◌}
+use Rattle.std.proofs.Common.{arith, length, length-append, nat_lt, get_or, Option, Some, None}
 use Rattle.std.specs.Prelude.{◌==◌, if◌then◌else◌}
 use Rattle.std.specs.List.{count_by}
 use Rattle.std.proofs.lemmas.Bool.Decides.{nat_tests}
@@ -47,7 +48,8 @@ use Rattle.dali_events.specs.Wanted.{is_wanted, wants, is_bare, OfPowered, IsOpe
 use Rattle.dali_events.proofs.Wanted as wanted
 use Rattle.dali_events.proofs.Opened as opening
 use Rattle.dali_progress.specs.Rounds.{AreTabled}
-use Rattle.dali_progress.proofs.Stands.{to_come, search_frames, probe_frames, Opens, Probes, VisitFrames, Visits, Leaves, VisitsAt, EndsWell, Closes, At, IsWithin, Stands, Sends}
+use Rattle.dali_progress.proofs.Stands.{to_come, search_frames, probe_frames, Opens, Probes, VisitFrames, Visits, Leaves, VisitsAt, EndsWell, Closes, At}
+use Rattle.dali_progress.proofs.Stands.{IsWithin, Stands, Sends}
 use Rattle.dali_progress.proofs.Frames.{value_sought}
 use Rattle.dali_progress.proofs.Tables.{tabled_over}
 
@@ -100,16 +102,19 @@ never_eight n none e = omega (arith, none, e)
 
 -- ---------------------------------------------------------------- a later frame, and a first one
 
-goes_later : (before : List Gear) (t : Machine) (o : Order) (c : Command) (gs : List Gear) (left : ℕ) → Stands before t gs left → o ≡ Put LATER (frame_of c) → IsSpelled c
+goes_later : (before : List Gear) (t : Machine) (o : Order) (c : Command) (gs : List Gear) (left : ℕ) → Stands before t gs left → o ≡ Put LATER (frame_of c)
+    → IsSpelled c
     → Sends t.course.purpose t.course.number t.kept (stage_of t.trace) c → IsNext before (machine_ordered t o) o gs left
 goes_later before t o c gs left st is spelled sends = subst (λ q. IsNext before (machine_ordered t q) q gs left) (sym is) (
   record { tries = st.tries; silent = st.silent; trace = st.trace; within = st.within; tabled = st.tabled; at = st.at },
   subst (λ d. Sends t.course.purpose t.course.number t.kept (stage_of t.trace) d) (sym (read_written c spelled)) sends,
 )
 
-goes_first : (before : List Gear) (t : Machine) (o : Order) (gs : List Gear) (left : ℕ) → IsCalm t → AreTabled before t.kept.enrolled gs → o ≡ beginning (next_course t)
+goes_first : (before : List Gear) (t : Machine) (o : Order) (gs : List Gear) (left : ℕ) → IsCalm t → AreTabled before t.kept.enrolled gs
+    → o ≡ beginning (next_course t)
     → IsSpelled (first_of (next_course t).purpose (next_course t).number)
-    → At (next_course t).purpose stage.Free t.kept t.opened (next_course t).search (next_course t).number gs left → IsNext before (machine_ordered t o) o gs left
+    → At (next_course t).purpose stage.Free t.kept t.opened (next_course t).search (next_course t).number gs left
+    → IsNext before (machine_ordered t o) o gs left
 goes_first before t o gs left calm tabled is spelled at = subst (λ q. IsNext before (machine_ordered t q) q gs left) (sym is) (
   record {
     tries = calm.tries;
@@ -119,23 +124,28 @@ goes_first before t o gs left calm tabled is spelled at = subst (λ q. IsNext be
     tabled = subst (λ s. AreTabled before (to_come s (next_course t).number t.kept.enrolled) gs) (sym stage_none) tabled;
     at = subst (λ s. At (next_course t).purpose s t.kept t.opened (next_course t).search (next_course t).number gs left) (sym stage_none) at;
   },
-  subst (λ s. Sends (next_course t).purpose (next_course t).number t.kept s (command_of (frame_of (first_of (next_course t).purpose (next_course t).number)))) (sym stage_none)
+  subst (λ s. Sends (next_course t).purpose (next_course t).number t.kept s (command_of (frame_of (first_of (next_course t).purpose (next_course t).number))))
+      (sym stage_none)
       (read_written (first_of (next_course t).purpose (next_course t).number) spelled),
 )
 
 -- of a course that is known
-goes_by : (before : List Gear) (t : Machine) (o : Order) (cs : Course) (gs : List Gear) (left : ℕ) → IsCalm t → AreTabled before t.kept.enrolled gs → o ≡ beginning (next_course t) → next_course t ≡ cs
-    → IsSpelled (first_of cs.purpose cs.number) → At cs.purpose stage.Free t.kept t.opened cs.search cs.number gs left → IsNext before (machine_ordered t o) o gs left
+goes_by : (before : List Gear) (t : Machine) (o : Order) (cs : Course) (gs : List Gear) (left : ℕ) → IsCalm t → AreTabled before t.kept.enrolled gs
+    → o ≡ beginning (next_course t) → next_course t ≡ cs
+    → IsSpelled (first_of cs.purpose cs.number) → At cs.purpose stage.Free t.kept t.opened cs.search cs.number gs left
+    → IsNext before (machine_ordered t o) o gs left
 goes_by before t o cs gs left calm tabled is same spelled at =
     goes_first before t o gs left calm tabled is (subst (λ (d : Course). IsSpelled (first_of d.purpose d.number)) (sym same) spelled)
     (subst (λ (d : Course). At d.purpose stage.Free t.kept t.opened d.search d.number gs left) (sym same) at)
 
 -- the finding of a transaction by its stage
-found_none : (before : List Gear) (t : Machine) (gs : List Gear) (left : ℕ) (s : Stage) → Stands before t gs left → stage_of t.trace ≡ s → finding_at s ≡ None → finding_of t.trace ≡ None
+found_none : (before : List Gear) (t : Machine) (gs : List Gear) (left : ℕ) (s : Stage) → Stands before t gs left → stage_of t.trace ≡ s → finding_at s ≡ None
+    → finding_of t.trace ≡ None
 found_none before t gs left s st is none = st.trace.finding ∙ ap finding_at is ∙ none
 
 -- the table by its stage
-tabled_at : (before : List Gear) (t : Machine) (gs : List Gear) (left : ℕ) (s : Stage) → Stands before t gs left → stage_of t.trace ≡ s → AreTabled before (to_come s t.course.number t.kept.enrolled) gs
+tabled_at : (before : List Gear) (t : Machine) (gs : List Gear) (left : ℕ) (s : Stage) → Stands before t gs left → stage_of t.trace ≡ s
+    → AreTabled before (to_come s t.course.number t.kept.enrolled) gs
 tabled_at before t gs left s st is = subst (λ q. AreTabled before (to_come q t.course.number t.kept.enrolled) gs) is st.tabled
 
 -- ---------------------------------------------------------------- a new search
@@ -158,7 +168,8 @@ begins_search c gs left ready unnamed enough = record {
   frames = search_at_first gs left enough;
 }
 
-searches_anew : (before : List Gear) (t : Machine) (o : Order) (gs : List Gear) (left : ℕ) → IsCalm t → AreTabled before t.kept.enrolled gs → o ≡ beginning (next_course t) → next_course t ≡ searching_anew t.course → t.opened ≡ true
+searches_anew : (before : List Gear) (t : Machine) (o : Order) (gs : List Gear) (left : ℕ) → IsCalm t → AreTabled before t.kept.enrolled gs
+    → o ≡ beginning (next_course t) → next_course t ≡ searching_anew t.course → t.opened ≡ true
     → IsOpened gs → NoneNamed gs → search_frames (count_by is_wanted gs) ≤ left → IsNext before (machine_ordered t o) o gs left
 searches_anew before t o gs left calm tabled is same opened ready unnamed enough =
     goes_by before t o (searching_anew t.course) gs left calm tabled is same tt (opened, begins_search t.course gs left ready unnamed enough)
@@ -170,22 +181,29 @@ goes_on_anew t opened = rw opened refl
 -- ---------------------------------------------------------------- the opening
 
 -- its next frame
-turns_later : (before : List Gear) (t : Machine) (o : Order) (p : Purpose) (s : Stage) (c : Command) (gs : List Gear) (left : ℕ) → IsGivenBy t o → Stands before t gs left → t.course.purpose ≡ p → stage_of t.trace ≡ s
+turns_later : (before : List Gear) (t : Machine) (o : Order) (p : Purpose) (s : Stage) (c : Command) (gs : List Gear) (left : ℕ) → IsGivenBy t o
+    → Stands before t gs left → t.course.purpose ≡ p → stage_of t.trace ≡ s
     → turn_of p t.course.number s ≡ Some c → IsSpelled c → Sends p t.course.number t.kept s c → IsNext before (machine_ordered t o) o gs left
 turns_later before t o p s c gs left g st purpose is turn spelled sends =
     goes_later before t o c gs left st (given.turns t o c g (rw (purpose, is) turn)) spelled (rw (purpose, is) sends)
 
-opening_turns : (before : List Gear) (t : Machine) (o : Order) (s : Stage) (gs : List Gear) (left : ℕ) → IsGivenBy t o → Stands before t gs left → IsNoEnrolment t.last → t.course.purpose ≡ Opening → stage_of t.trace ≡ s → (s ≡ stage.Free → ⊥)
+opening_turns : (before : List Gear) (t : Machine) (o : Order) (s : Stage) (gs : List Gear) (left : ℕ) → IsGivenBy t o → Stands before t gs left
+    → IsNoEnrolment t.last → t.course.purpose ≡ Opening → stage_of t.trace ≡ s → (s ≡ stage.Free → ⊥)
     → Opens s t.opened gs left → IsNext before (machine_ordered t o) o gs left
 opening_turns before t o stage.Free gs left g st last purpose is running opens = absurd (running refl)
-opening_turns before t o stage.Terminated gs left g st last purpose is running opens = turns_later before t o Opening stage.Terminated _ gs left g st purpose is refl tt refl
-opening_turns before t o stage.InitialisedOnce gs left g st last purpose is running opens = turns_later before t o Opening stage.InitialisedOnce _ gs left g st purpose is refl tt refl
-opening_turns before t o stage.Initialised gs left g st last purpose is running opens = turns_later before t o Opening stage.Initialised _ gs left g st purpose is refl tt refl
-opening_turns before t o stage.RandomisedOnce gs left g st last purpose is running opens = turns_later before t o Opening stage.RandomisedOnce _ gs left g st purpose is refl tt refl
+opening_turns before t o stage.Terminated gs left g st last purpose is running opens =
+    turns_later before t o Opening stage.Terminated _ gs left g st purpose is refl tt refl
+opening_turns before t o stage.InitialisedOnce gs left g st last purpose is running opens =
+    turns_later before t o Opening stage.InitialisedOnce _ gs left g st purpose is refl tt refl
+opening_turns before t o stage.Initialised gs left g st last purpose is running opens =
+    turns_later before t o Opening stage.Initialised _ gs left g st purpose is refl tt refl
+opening_turns before t o stage.RandomisedOnce gs left g st last purpose is running opens =
+    turns_later before t o Opening stage.RandomisedOnce _ gs left g st purpose is refl tt refl
 opening_turns before t o stage.Opened gs left g st last purpose is running opens =
     let count : count_by is_wanted gs ≡ count_by is_bare gs = opening.opened_count gs opens.gear in
     let enough : 5 + search_frames (count_by is_bare gs) ≤ left + 5 = opens.frames in
-    searches_anew before t o gs left (calm_of before t gs left st) (tabled_at before t gs left stage.Opened st is) (given.begins_after t o stage.Opened g is tt (found_none before t gs left stage.Opened st is refl) last (never_eight t.tries st.tries))
+    searches_anew before t o gs left (calm_of before t gs left st) (tabled_at before t gs left stage.Opened st is)
+    (given.begins_after t o stage.Opened g is tt (found_none before t gs left stage.Opened st is refl) last (never_eight t.tries st.tries))
     (ap (begins_at t) is) opens.stage_is (opening.opened_is gs opens.gear) (opening.opened_none_named gs opens.gear) (omega (arith, count, enough))
 opening_turns before t o _ gs left g st last purpose is running opens = absurd opens.stage_is
 
@@ -208,10 +226,12 @@ length_more : (answers : List (ℕ × Bool)) (p : ℕ) (b : Bool) → length (an
 length_more answers p b = length-append answers ((p, b) ∷ [])
 
 -- so a search that was answered does not go on
-again_some : (x : Search) (said : Bool) (has : ℕ → Bool) → IsNarrowing (answered x said) → (answered x said).step ≡ Again → Agrees has (answered x said).answers → ((m : ℕ) → has m ≡ true → ⊥) → ⊥
+again_some : (x : Search) (said : Bool) (has : ℕ → Bool) → IsNarrowing (answered x said) → (answered x said).step ≡ Again → Agrees has (answered x said).answers
+    → ((m : ℕ) → has m ≡ true → ⊥) → ⊥
 again_some x said has n running agrees none =
     let top : highest (answered x said).answers ≡ 0xFFFFFF = none_said has (answered x said).answers none agrees in
-    let less : lowest (answered x said).answers < highest (answered x said).answers = again_less (lowest (answered x said).answers) (highest (answered x said).answers) (sym n.step_is ∙ running) in
+    let less : lowest (answered x said).answers < highest (answered x said).answers =
+    again_less (lowest (answered x said).answers) (highest (answered x said).answers) (sym n.step_is ∙ running) in
     let count : length (answered x said).answers ≡ 0 = n.untouched top less in
     let more : length (answered x said).answers ≡ length x.answers + 1 = length_more x.answers x.probe said in
     omega (arith, count, more)
@@ -221,7 +241,8 @@ nobody_wanted gs none m e =
     let some : 0 < count_by is_wanted gs = wanted.count_some gs m e in
     omega (arith, none, some)
 
-again_frames : (gs : List Gear) (x : Search) (said : Bool) (left n : ℕ) → IsNarrowing (answered x said) → (answered x said).step ≡ Again → Agrees (wants gs) (answered x said).answers → count_by is_wanted gs ≡ n
+again_frames : (gs : List Gear) (x : Search) (said : Bool) (left n : ℕ) → IsNarrowing (answered x said) → (answered x said).step ≡ Again
+    → Agrees (wants gs) (answered x said).answers → count_by is_wanted gs ≡ n
     → probe_frames (length x.answers) n ≤ left + 4 → probe_frames (length (answered x said).answers) n ≤ left + 0
 again_frames gs x said left zero narrowing running agrees count enough = absurd (again_some x said (wants gs) narrowing running agrees (nobody_wanted gs count))
 again_frames gs x said left (suc n) narrowing running agrees count enough =
@@ -239,9 +260,11 @@ more_wanted zero some = absurd (omega (arith, some))
 more_wanted (suc more) some = (more, refl)
 
 -- the number that was found is wanted, and is a random address
-found_wanted : (gs : List Gear) (x : Search) (r : ℕ) → IsOpened gs → IsNarrowing x → Agrees (wants gs) x.answers → x.step ≡ Found r → (wants gs r ≡ true) × (r < MASK24)
+found_wanted : (gs : List Gear) (x : Search) (r : ℕ) → IsOpened gs → IsNarrowing x → Agrees (wants gs) x.answers → x.step ≡ Found r
+    → (wants gs r ≡ true) × (r < MASK24)
 found_wanted gs x r ready narrowing agrees is =
-    let says : Says (wants gs) (Found r) = subst (Says (wants gs)) is (searching.says_least x narrowing (wants gs) (λ m e. wanted.wanted_below gs m ready e) agrees) in
+    let says : Says (wants gs) (Found r) =
+    subst (Says (wants gs)) is (searching.says_least x narrowing (wants gs) (λ m e. wanted.wanted_below gs m ready e) agrees) in
     (says.0, subst (λ s. NumberOf s (λ m. m < 0xFFFFFF)) is (searching.finds_below x narrowing))
 
 -- where nobody is left, every gear with power has a short address
@@ -252,7 +275,8 @@ all_have gs x ready narrowing agrees is k in_row on = go (get_or gs k fresh).sho
 
   go : (o : Option ℕ) → (get_or gs k fresh).short ≡ o → HasShort (get_or gs k fresh)
   go (Some a) e = (a, e)
-  go None e = absurd (nobody (get_or gs k fresh).random (wanted.wants_by gs (get_or gs k fresh).random k in_row (wanted.is_wanted_by (get_or gs k fresh) on (ready.bare k in_row on e)) refl))
+  go None e = absurd (nobody (get_or gs k fresh).random
+      (wanted.wants_by gs (get_or gs k fresh).random k in_row (wanted.is_wanted_by (get_or gs k fresh) on (ready.bare k in_row on e)) refl))
 
 found_frames : (answers n left more : ℕ) → probe_frames answers n ≤ left + 4 → n ≡ suc more → 11 + search_frames more ≤ left + 0
 found_frames answers zero left more enough is = absurd (omega (arith, is))
@@ -263,10 +287,13 @@ close_frames answers zero left enough = omega (arith, enough)
 close_frames answers (suc n) left enough = omega (arith, enough)
 
 -- what an answer leads to
-probed_at : (s : Step) (k : Kept) (c : Course) (said : Bool) (gs : List Gear) (left : ℕ) → (answered c.search said).step ≡ s → IsOpened gs → NoneNamed gs → IsNarrowing (answered c.search said)
+probed_at : (s : Step) (k : Kept) (c : Course) (said : Bool) (gs : List Gear) (left : ℕ) → (answered c.search said).step ≡ s → IsOpened gs → NoneNamed gs
+    → IsNarrowing (answered c.search said)
     → Agrees (wants gs) (answered c.search said).answers → probe_frames (length c.search.answers) (count_by is_wanted gs) ≤ left + 4
-    → IsSpelled (first_of (after_step s (record c { search = answered c.search said })).purpose (after_step s (record c { search = answered c.search said })).number)
-    × At (after_step s (record c { search = answered c.search said })).purpose stage.Free k true (after_step s (record c { search = answered c.search said })).search
+    → IsSpelled (first_of (after_step s (record c { search = answered c.search said })).purpose
+    (after_step s (record c { search = answered c.search said })).number)
+    × At (after_step s (record c { search = answered c.search said })).purpose stage.Free k true
+    (after_step s (record c { search = answered c.search said })).search
     (after_step s (record c { search = answered c.search said })).number gs left
 probed_at Again k c said gs left is ready unnamed narrowing agrees enough = (
   tt,
@@ -295,7 +322,13 @@ probed_at (Found r) k c said gs left is ready unnamed narrowing agrees enough =
           ready = ready;
           unnamed = unnamed;
           more = more.0;
-          visited = record { wanted = subst (λ m. wants gs m ≡ true) (sym (value_sought r)) found.0; number = r; number_is = refl; drawn = found.1; count = more.1 };
+          visited = record {
+            wanted = subst (λ m. wants gs m ≡ true) (sym (value_sought r)) found.0;
+            number = r;
+            number_is = refl;
+            drawn = found.1;
+            count = more.1;
+          };
           frames = inr (found_frames (length c.search.answers) (count_by is_wanted gs) left more.0 enough more.1);
         },
       ),
@@ -309,19 +342,26 @@ probed_at Nobody k c said gs left is ready unnamed narrowing agrees enough = (
   },
 )
 
-probing_turns : (before : List Gear) (t : Machine) (o : Order) (s : Stage) (gs : List Gear) (left : ℕ) → IsGivenBy t o → Stands before t gs left → IsNoEnrolment t.last → t.course.purpose ≡ Probing → stage_of t.trace ≡ s → (s ≡ stage.Free → ⊥)
+probing_turns : (before : List Gear) (t : Machine) (o : Order) (s : Stage) (gs : List Gear) (left : ℕ) → IsGivenBy t o → Stands before t gs left
+    → IsNoEnrolment t.last → t.course.purpose ≡ Probing → stage_of t.trace ≡ s → (s ≡ stage.Free → ⊥)
     → t.opened ≡ true → Probes s t.course.search t.course.number gs left → IsNext before (machine_ordered t o) o gs left
 probing_turns before t o stage.Free gs left g st last purpose is running opened p = absurd (running refl)
-probing_turns before t o (stage.HighSent high) gs left g st last purpose is running opened p = turns_later before t o Probing (stage.HighSent high) _ gs left g st purpose is refl tt refl
-probing_turns before t o (stage.MiddleSent high middle) gs left g st last purpose is running opened p = turns_later before t o Probing (stage.MiddleSent high middle) _ gs left g st purpose is refl tt refl
-probing_turns before t o (stage.NumberSent r) gs left g st last purpose is running opened p = turns_later before t o Probing (stage.NumberSent r) _ gs left g st purpose is refl tt refl
+probing_turns before t o (stage.HighSent high) gs left g st last purpose is running opened p =
+    turns_later before t o Probing (stage.HighSent high) _ gs left g st purpose is refl tt refl
+probing_turns before t o (stage.MiddleSent high middle) gs left g st last purpose is running opened p =
+    turns_later before t o Probing (stage.MiddleSent high middle) _ gs left g st purpose is refl tt refl
+probing_turns before t o (stage.NumberSent r) gs left g st last purpose is running opened p =
+    turns_later before t o Probing (stage.NumberSent r) _ gs left g st purpose is refl tt refl
 probing_turns before t o (stage.Probed r h) gs left g st last purpose is running opened p =
     let c : Course = t.course in
     let narrowing : IsNarrowing (answered t.course.search (is_yes h)) = searching.goes_on t.course.search (is_yes h) p.searches.narrowing p.searches.running in
-    let agrees : Agrees (wants gs) (answered t.course.search (is_yes h)).answers = agrees_more (wants gs) t.course.search.answers t.course.search.probe (is_yes h) p.searches.agrees p.stage_is in
+    let agrees : Agrees (wants gs) (answered t.course.search (is_yes h)).answers =
+    agrees_more (wants gs) t.course.search.answers t.course.search.probe (is_yes h) p.searches.agrees p.stage_is in
     let there = probed_at (answered t.course.search (is_yes h)).step t.kept t.course (is_yes h) gs left refl p.ready p.unnamed narrowing agrees p.frames in
-    goes_by before t o (probed t.course h) gs left (calm_of before t gs left st) (tabled_at before t gs left (stage.Probed r h) st is) (given.begins_after t o (stage.Probed r h) g is tt (found_none before t gs left (stage.Probed r h) st is refl) last (never_eight t.tries st.tries))
-    (ap (begins_at t) is) there.0 (subst (λ b. At (probed t.course h).purpose stage.Free t.kept b (probed t.course h).search (probed t.course h).number gs left) (sym opened) there.1)
+    goes_by before t o (probed t.course h) gs left (calm_of before t gs left st) (tabled_at before t gs left (stage.Probed r h) st is)
+    (given.begins_after t o (stage.Probed r h) g is tt (found_none before t gs left (stage.Probed r h) st is refl) last (never_eight t.tries st.tries))
+    (ap (begins_at t) is) there.0 (subst (λ b. At (probed t.course h).purpose stage.Free t.kept b (probed t.course h).search (probed t.course h).number gs left)
+    (sym opened) there.1)
 probing_turns before t o _ gs left g st last purpose is running opened p = absurd p.stage_is
 
 -- ---------------------------------------------------------------- a visit
@@ -336,7 +376,8 @@ has_random xs a n has = has_map (λ (q : Assignment). q.1) xs (a, n) has
 has_address : (xs : List Assignment) (a n : ℕ) → Has xs (a, n) → HasAddress xs a
 has_address xs a n has = has_map (λ (q : Assignment). q.0) xs (a, n) has
 
-unnamed_turns : (before : List Gear) (t : Machine) (o : Order) (r : SearchAddress) (gs : List Gear) (left : ℕ) → IsGivenBy t o → Stands before t gs left → IsKept t.kept → t.course.purpose ≡ Visiting → stage_of t.trace ≡ stage.Unnamed r
+unnamed_turns : (before : List Gear) (t : Machine) (o : Order) (r : SearchAddress) (gs : List Gear) (left : ℕ) → IsGivenBy t o → Stands before t gs left
+    → IsKept t.kept → t.course.purpose ≡ Visiting → stage_of t.trace ≡ stage.Unnamed r
     → t.opened ≡ true → Visits (stage.Unnamed r) t.kept t.course.number gs left → IsNext before (machine_ordered t o) o gs left
 unnamed_turns before t o r gs left g st kept purpose is opened v = go (given.unnamed t o r g is) where
   same : value_of r ≡ value_of t.course.number
@@ -370,23 +411,28 @@ unnamed_turns before t o r gs left g st kept purpose is opened v = go (given.unn
   )
   go (inr (inr e)) =
       let next : next_course t ≡ closing_by t.course BlockFull = ap (begins_at t) is in
-      goes_by before t o (closing_by t.course BlockFull) gs left (calm_of before t gs left st) (tabled_at before t gs left (stage.Unnamed r) st is) (e.2 ∙ sym (ap beginning next)) next tt (record { stage_is = tt; well = e.1; frames = some v.frames })
+      goes_by before t o (closing_by t.course BlockFull) gs left (calm_of before t gs left st) (tabled_at before t gs left (stage.Unnamed r) st is)
+      (e.2 ∙ sym (ap beginning next)) next tt (record { stage_is = tt; well = e.1; frames = some v.frames })
 
 -- what is enrolled is reserved, so nothing contradicts what is reserved
 no_contradiction : (k : Kept) (b n : ℕ) → IsKept k → IsWithin k → Has k.reserved (b, n) → Contradicts k.enrolled b n → ⊥
 no_contradiction k b n kept within has (inl is) =
-    is.2 (ap (λ (q : Assignment). q.1) (same_member (λ (q : Assignment). q.0) k.reserved (b, is.0) (b, n) kept.reserved.address_once (within (b, is.0) is.1) has refl))
+    is.2 (ap (λ (q : Assignment). q.1) (same_member (λ (q : Assignment). q.0) k.reserved (b, is.0) (b, n) kept.reserved.address_once
+    (within (b, is.0) is.1) has refl))
 no_contradiction k b n kept within has (inr is) =
-    is.2 (ap (λ (q : Assignment). q.0) (same_member (λ (q : Assignment). q.1) k.reserved (is.0, n) (b, n) kept.reserved.random_once (within (is.0, n) is.1) has refl))
+    is.2 (ap (λ (q : Assignment). q.0) (same_member (λ (q : Assignment). q.1) k.reserved (is.0, n) (b, n) kept.reserved.random_once
+    (within (is.0, n) is.1) has refl))
 
-withdrawn_turns : (before : List Gear) (t : Machine) (o : Order) (r : SearchAddress) (a : ℕ) (gs : List Gear) (left : ℕ) → IsGivenBy t o → Stands before t gs left → IsKept t.kept → t.course.purpose ≡ Visiting → stage_of t.trace ≡ stage.Withdrawn r a
+withdrawn_turns : (before : List Gear) (t : Machine) (o : Order) (r : SearchAddress) (a : ℕ) (gs : List Gear) (left : ℕ) → IsGivenBy t o
+    → Stands before t gs left → IsKept t.kept → t.course.purpose ≡ Visiting → stage_of t.trace ≡ stage.Withdrawn r a
     → t.opened ≡ true → Leaves r a t.kept t.course.number gs left → IsNext before (machine_ordered t o) o gs left
 withdrawn_turns before t o r a gs left g st kept purpose is opened v = go o g (g.ordered.found r a is) where
   reserved : Has t.kept.reserved (a, value_of r)
   reserved = subst (λ (m : SearchAddress). Has t.kept.reserved (a, value_of m)) (sym v.searched) v.reserved
 
   tabled : AreTabled before ((a, value_of r) ∷ t.kept.enrolled) gs
-  tabled = subst (λ (m : SearchAddress). AreTabled before ((a, value_of m) ∷ t.kept.enrolled) gs) (sym v.searched) (tabled_at before t gs left (stage.Withdrawn r a) st is)
+  tabled = subst (λ (m : SearchAddress). AreTabled before ((a, value_of m) ∷ t.kept.enrolled) gs) (sym v.searched)
+      (tabled_at before t gs left (stage.Withdrawn r a) st is)
 
   twice : (x : Assignment) → Has ((a, value_of r) ∷ t.kept.enrolled) x → Has t.kept.enrolled (a, value_of r) → Has t.kept.enrolled x
   twice x (inl same) has = subst (Has t.kept.enrolled) same has
@@ -394,40 +440,55 @@ withdrawn_turns before t o r a gs left g st kept purpose is opened v = go o g (g
 
   go : (q : Order) → IsGivenBy t q → AfterFinding t a (value_of r) q → IsNext before (machine_ordered t q) q gs left
   go (Put p f) g has =
-      searches_anew before t (Put p f) gs left (calm_of before t gs left st) (tabled_over before ((a, value_of r) ∷ t.kept.enrolled) t.kept.enrolled gs (λ x h. twice x h has) tabled) (given.withdrawn_known t (Put p f) r a g is kept.enrolled has) (ap (begins_at t) is ∙ goes_on_anew t opened) opened v.ready v.unnamed v.frames
-  go (Commit x) g has = subst (λ y. IsNext before (machine_ordered t (Commit y)) (Commit y) gs left) (sym has)
-      (record { tries = st.tries; silent = st.silent; within = st.within }, record { opened = opened; ready = v.ready; unnamed = v.unnamed; reserved = reserved; tabled = tabled; frames = v.frames })
+      searches_anew before t (Put p f) gs left (calm_of before t gs left st)
+      (tabled_over before ((a, value_of r) ∷ t.kept.enrolled) t.kept.enrolled gs (λ x h. twice x h has) tabled)
+      (given.withdrawn_known t (Put p f) r a g is kept.enrolled has) (ap (begins_at t) is ∙ goes_on_anew t opened) opened v.ready v.unnamed v.frames
+  go (Commit x) g has = subst (λ y. IsNext before (machine_ordered t (Commit y)) (Commit y) gs left) (sym has) (
+    record { tries = st.tries; silent = st.silent; within = st.within },
+    record { opened = opened; ready = v.ready; unnamed = v.unnamed; reserved = reserved; tabled = tabled; frames = v.frames },
+  )
   go (Done e) g has = absurd has
   go (Halt why) g has = absurd (no_contradiction t.kept a (value_of r) kept st.within reserved has)
 
-visiting_turns : (before : List Gear) (t : Machine) (o : Order) (s : Stage) (gs : List Gear) (left : ℕ) → IsGivenBy t o → Stands before t gs left → IsKept t.kept → t.course.purpose ≡ Visiting → stage_of t.trace ≡ s → (s ≡ stage.Free → ⊥)
+visiting_turns : (before : List Gear) (t : Machine) (o : Order) (s : Stage) (gs : List Gear) (left : ℕ) → IsGivenBy t o → Stands before t gs left
+    → IsKept t.kept → t.course.purpose ≡ Visiting → stage_of t.trace ≡ s → (s ≡ stage.Free → ⊥)
     → t.opened ≡ true → VisitsAt s t.kept t.course.number gs left → IsNext before (machine_ordered t o) o gs left
 visiting_turns before t o stage.Free gs left g st kept purpose is running opened v = absurd (running refl)
-visiting_turns before t o (stage.HighSent high) gs left g st kept purpose is running opened v = turns_later before t o Visiting (stage.HighSent high) _ gs left g st purpose is refl tt refl
-visiting_turns before t o (stage.MiddleSent high middle) gs left g st kept purpose is running opened v = turns_later before t o Visiting (stage.MiddleSent high middle) _ gs left g st purpose is refl tt refl
-visiting_turns before t o (stage.NumberSent r) gs left g st kept purpose is running opened v = turns_later before t o Visiting (stage.NumberSent r) _ gs left g st purpose is refl tt refl
+visiting_turns before t o (stage.HighSent high) gs left g st kept purpose is running opened v =
+    turns_later before t o Visiting (stage.HighSent high) _ gs left g st purpose is refl tt refl
+visiting_turns before t o (stage.MiddleSent high middle) gs left g st kept purpose is running opened v =
+    turns_later before t o Visiting (stage.MiddleSent high middle) _ gs left g st purpose is refl tt refl
+visiting_turns before t o (stage.NumberSent r) gs left g st kept purpose is running opened v =
+    turns_later before t o Visiting (stage.NumberSent r) _ gs left g st purpose is refl tt refl
 visiting_turns before t o (stage.Unnamed r) gs left g st kept purpose is running opened v = unnamed_turns before t o r gs left g st kept purpose is opened v
-visiting_turns before t o (stage.Programmed r a) gs left g st kept purpose is running opened v = turns_later before t o Visiting (stage.Programmed r a) _ gs left g st purpose is refl tt refl
-visiting_turns before t o (stage.Confirmed r a) gs left g st kept purpose is running opened v = turns_later before t o Visiting (stage.Confirmed r a) _ gs left g st purpose is refl tt refl
-visiting_turns before t o (stage.Withdrawn r a) gs left g st kept purpose is running opened v = withdrawn_turns before t o r a gs left g st kept purpose is opened v
+visiting_turns before t o (stage.Programmed r a) gs left g st kept purpose is running opened v =
+    turns_later before t o Visiting (stage.Programmed r a) _ gs left g st purpose is refl tt refl
+visiting_turns before t o (stage.Confirmed r a) gs left g st kept purpose is running opened v =
+    turns_later before t o Visiting (stage.Confirmed r a) _ gs left g st purpose is refl tt refl
+visiting_turns before t o (stage.Withdrawn r a) gs left g st kept purpose is running opened v =
+    withdrawn_turns before t o r a gs left g st kept purpose is opened v
 visiting_turns before t o _ gs left g st kept purpose is running opened v = absurd v.stage_is
 
 -- ---------------------------------------------------------------- the close
 
-closing_turns : (before : List Gear) (t : Machine) (o : Order) (e : End) (s : Stage) (gs : List Gear) (left : ℕ) → IsGivenBy t o → Stands before t gs left → t.course.purpose ≡ Closing e → stage_of t.trace ≡ s → (s ≡ stage.Free → ⊥)
+closing_turns : (before : List Gear) (t : Machine) (o : Order) (e : End) (s : Stage) (gs : List Gear) (left : ℕ) → IsGivenBy t o → Stands before t gs left
+    → t.course.purpose ≡ Closing e → stage_of t.trace ≡ s → (s ≡ stage.Free → ⊥)
     → Closes e s t.kept gs left → IsNext before (machine_ordered t o) o gs left
 closing_turns before t o e stage.Free gs left g st purpose is running v = absurd (running refl)
 closing_turns before t o e stage.Terminated gs left g st purpose is running v =
-    let ends : o ≡ Done e = given.closed t o e g (ap closing_of purpose) is (found_none before t gs left stage.Terminated st is refl) (never_eight t.tries st.tries) in
+    let ends : o ≡ Done e =
+    given.closed t o e g (ap closing_of purpose) is (found_none before t gs left stage.Terminated st is refl) (never_eight t.tries st.tries) in
     subst (λ q. IsNext before (machine_ordered t q) q gs left) (sym ends) (v.well, tabled_at before t gs left stage.Terminated st is)
 closing_turns before t o e _ gs left g st purpose is running v = absurd v.stage_is
 
 -- ---------------------------------------------------------------- of whatever transaction
 
 -- after a frame that was heard
-pub turned : (before : List Gear) (t : Machine) (o : Order) (gs : List Gear) (left : ℕ) → IsGivenBy t o → Stands before t gs left → IsKept t.kept → IsNoEnrolment t.last → (stage_of t.trace ≡ stage.Free → ⊥) → IsNext before (machine_ordered t o) o gs left
+pub turned : (before : List Gear) (t : Machine) (o : Order) (gs : List Gear) (left : ℕ) → IsGivenBy t o → Stands before t gs left → IsKept t.kept
+    → IsNoEnrolment t.last → (stage_of t.trace ≡ stage.Free → ⊥) → IsNext before (machine_ordered t o) o gs left
 turned before t o gs left g st kept last running = go t.course.purpose refl st.at where
-  go : (p : Purpose) → t.course.purpose ≡ p → At p (stage_of t.trace) t.kept t.opened t.course.search t.course.number gs left → IsNext before (machine_ordered t o) o gs left
+  go : (p : Purpose) → t.course.purpose ≡ p → At p (stage_of t.trace) t.kept t.opened t.course.search t.course.number gs left
+      → IsNext before (machine_ordered t o) o gs left
   go Opening purpose at = opening_turns before t o (stage_of t.trace) gs left g st last purpose refl running at
   go Probing purpose at = probing_turns before t o (stage_of t.trace) gs left g st last purpose refl running at.0 at.1
   go Visiting purpose at = visiting_turns before t o (stage_of t.trace) gs left g st kept purpose refl running at.0 at.1
@@ -448,11 +509,13 @@ no_enrolment_yet b n e = cc
 pub started_begins : (t : Machine) (o : Order) → IsGivenBy t o → IsCalm t → t.trace ≡ [] → t.last ≡ None → o ≡ beginning (next_course t)
 started_begins t o g calm free last = given.begins_free t o g free (subst IsNoEnrolment (sym last) no_enrolment_yet) (never_eight t.tries calm.tries)
 
-pub started : (before : List Gear) (t : Machine) (o : Order) (gs : List Gear) (left : ℕ) → IsGivenBy t o → IsCalm t → AreTabled before t.kept.enrolled gs → t.trace ≡ [] → t.last ≡ None → t.kept.reserved ≡ [] → t.opened ≡ false → t.course.purpose ≡ Opening
+pub started : (before : List Gear) (t : Machine) (o : Order) (gs : List Gear) (left : ℕ) → IsGivenBy t o → IsCalm t → AreTabled before t.kept.enrolled gs
+    → t.trace ≡ [] → t.last ≡ None → t.kept.reserved ≡ [] → t.opened ≡ false → t.course.purpose ≡ Opening
     → 5 + search_frames (count_by is_bare gs) ≤ left → IsNext before (machine_ordered t o) o gs left
 started before t o gs left g calm tabled free last none unopened purpose enough =
     let stage : stage_of t.trace ≡ stage.Free = ap stage_of free ∙ stage_none in
-    let next : next_course t ≡ opening_of t.course = ap (begins_at t) stage ∙ rw (last, unopened) (ap (visit_or_opening t.course) (nothing_unfinished t.kept (64 - t.course.from) t.course.from none)) in
+    let next : next_course t ≡ opening_of t.course =
+    ap (begins_at t) stage ∙ rw (last, unopened) (ap (visit_or_opening t.course) (nothing_unfinished t.kept (64 - t.course.from) t.course.from none)) in
     goes_by before t o (opening_of t.course) gs left calm tabled
     (started_begins t o g calm free last)
     next tt (record { stage_is = unopened; gear = λ k in_row on. tt; frames = omega (arith, enough) })
@@ -479,10 +542,13 @@ entry_last : (xs : List Assignment) (y x : Assignment) → Has (y ∷ xs) x → 
 entry_last xs y x (inl same) = subst (Has (xs ++ y ∷ [])) same (has_last xs y)
 entry_last xs y x (inr has) = has_left xs (y ∷ []) x has
 
-reserved_begins : (m : Machine) (a r : ℕ) (o : Order) → IsCalm m → m.trace ≡ [] → m.last ≡ Some (Commit (Reserve a r)) → IsGivenBy (with_kept m (Reserve a r)) o → o ≡ beginning (next_course (with_kept m (Reserve a r)))
-reserved_begins m a r o calm free last g = given.begins_free (with_kept m (Reserve a r)) o g free (no_enrolment a r m.last last) (never_eight m.tries calm.tries)
+reserved_begins : (m : Machine) (a r : ℕ) (o : Order) → IsCalm m → m.trace ≡ [] → m.last ≡ Some (Commit (Reserve a r)) → IsGivenBy (with_kept m (Reserve a r)) o
+    → o ≡ beginning (next_course (with_kept m (Reserve a r)))
+reserved_begins m a r o calm free last g =
+    given.begins_free (with_kept m (Reserve a r)) o g free (no_enrolment a r m.last last) (never_eight m.tries calm.tries)
 
-reserved_next : (before : List Gear) (m : Machine) (a r : ℕ) (o : Order) (gs : List Gear) (left : ℕ) → IsCalm m → Reserves before m r gs left → m.trace ≡ [] → m.last ≡ Some (Commit (Reserve a r))
+reserved_next : (before : List Gear) (m : Machine) (a r : ℕ) (o : Order) (gs : List Gear) (left : ℕ) → IsCalm m → Reserves before m r gs left → m.trace ≡ []
+    → m.last ≡ Some (Commit (Reserve a r))
     → IsGivenBy (with_kept m (Reserve a r)) o → IsNext before (machine_ordered (with_kept m (Reserve a r)) o) o gs left
 reserved_next before m a r o gs left calm v free last g =
     let stage : stage_of m.trace ≡ stage.Free = ap stage_of free ∙ stage_none in
@@ -498,17 +564,30 @@ reserved_next before m a r o gs left calm v free last g =
         ready = v.ready;
         unnamed = v.unnamed;
         more = v.more;
-        visited = record { wanted = subst (λ n. wants gs n ≡ true) (sym (value_sought r)) v.wanted; number = r; number_is = refl; drawn = v.drawn; count = v.count };
-        frames = inl (subst (HasRandom (m.kept.reserved ++ (a, r) ∷ [])) (sym (value_sought r)) (has_random (m.kept.reserved ++ (a, r) ∷ []) a r (has_last m.kept.reserved (a, r))), omega (arith, v.frames));
+        visited = record {
+          wanted = subst (λ n. wants gs n ≡ true) (sym (value_sought r)) v.wanted;
+          number = r;
+          number_is = refl;
+          drawn = v.drawn;
+          count = v.count;
+        };
+        frames = inl (
+          subst (HasRandom (m.kept.reserved ++ (a, r) ∷ [])) (sym (value_sought r))
+              (has_random (m.kept.reserved ++ (a, r) ∷ []) a r (has_last m.kept.reserved (a, r))),
+          omega (arith, v.frames),
+        );
       },
     )
 
-enrolled_begins : (before : List Gear) (m : Machine) (b r : ℕ) (o : Order) (gs : List Gear) (left : ℕ) → Enrols before m b r gs left → m.trace ≡ [] → m.last ≡ Some (Commit (Enrol b r)) → IsMap m.kept.reserved
+enrolled_begins : (before : List Gear) (m : Machine) (b r : ℕ) (o : Order) (gs : List Gear) (left : ℕ) → Enrols before m b r gs left → m.trace ≡ []
+    → m.last ≡ Some (Commit (Enrol b r)) → IsMap m.kept.reserved
     → IsGivenBy (with_kept m (Enrol b r)) o → o ≡ beginning (next_course (with_kept m (Enrol b r)))
 enrolled_begins before m b r o gs left v free last map g =
-    given.enrolled (with_kept m (Enrol b r)) o b r g last free (λ a has. ap (λ (q : Assignment). q.0) (same_member (λ (q : Assignment). q.1) m.kept.reserved (a, r) (b, r) map.random_once has v.reserved refl))
+    given.enrolled (with_kept m (Enrol b r)) o b r g last free
+    (λ a has. ap (λ (q : Assignment). q.0) (same_member (λ (q : Assignment). q.1) m.kept.reserved (a, r) (b, r) map.random_once has v.reserved refl))
 
-enrolled_next : (before : List Gear) (m : Machine) (b r : ℕ) (o : Order) (gs : List Gear) (left : ℕ) → IsCalm m → Enrols before m b r gs left → m.trace ≡ [] → m.last ≡ Some (Commit (Enrol b r)) → IsMap m.kept.reserved
+enrolled_next : (before : List Gear) (m : Machine) (b r : ℕ) (o : Order) (gs : List Gear) (left : ℕ) → IsCalm m → Enrols before m b r gs left → m.trace ≡ []
+    → m.last ≡ Some (Commit (Enrol b r)) → IsMap m.kept.reserved
     → IsGivenBy (with_kept m (Enrol b r)) o → IsNext before (machine_ordered (with_kept m (Enrol b r)) o) o gs left
 enrolled_next before m b r o gs left calm v free last map g =
     let stage : stage_of m.trace ≡ stage.Free = ap stage_of free ∙ stage_none in
@@ -519,14 +598,16 @@ enrolled_next before m b r o gs left calm v free last map g =
     (ap (begins_at (with_kept m (Enrol b r))) stage ∙ ap (at_rest (with_kept m (Enrol b r))) last ∙ goes_on_anew (with_kept m (Enrol b r)) v.opened)
     v.opened v.ready v.unnamed v.frames
 
-pub committed : (before : List Gear) (m : Machine) (x : Record) (o : Order) (gs : List Gear) (left : ℕ) → IsCalm m → CommitsTo before m x gs left → m.trace ≡ [] → m.last ≡ Some (Commit x) → IsMap m.kept.reserved
+pub committed : (before : List Gear) (m : Machine) (x : Record) (o : Order) (gs : List Gear) (left : ℕ) → IsCalm m → CommitsTo before m x gs left → m.trace ≡ []
+    → m.last ≡ Some (Commit x) → IsMap m.kept.reserved
     → IsGivenBy (with_kept m x) o → IsNext before (machine_ordered (with_kept m x) o) o gs left
 committed before m (Reserve a r) o gs left calm v free last map g = reserved_next before m a r o gs left calm v free last g
 committed before m (Enrol b r) o gs left calm v free last map g = enrolled_next before m b r o gs left calm v free last map g
 committed before m (Release a r) o gs left calm v free last map g = absurd v
 
 -- a frame is put then
-pub committed_begins : (before : List Gear) (m : Machine) (x : Record) (o : Order) (gs : List Gear) (left : ℕ) → IsCalm m → CommitsTo before m x gs left → m.trace ≡ [] → m.last ≡ Some (Commit x) → IsMap m.kept.reserved
+pub committed_begins : (before : List Gear) (m : Machine) (x : Record) (o : Order) (gs : List Gear) (left : ℕ) → IsCalm m → CommitsTo before m x gs left
+    → m.trace ≡ [] → m.last ≡ Some (Commit x) → IsMap m.kept.reserved
     → IsGivenBy (with_kept m x) o → o ≡ beginning (next_course (with_kept m x))
 committed_begins before m (Reserve a r) o gs left calm v free last map g = reserved_begins m a r o calm free last g
 committed_begins before m (Enrol b r) o gs left calm v free last map g = enrolled_begins before m b r o gs left v free last map g

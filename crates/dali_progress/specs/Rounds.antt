@@ -42,7 +42,11 @@ pub record StartsAlone (s : SiteState) (c : ℕ) : Type 0 where
 -- every gear with power takes it, and what they answer is heard.
 abbrev pub Succeeds : Input → Type 0
 Succeeds input.CommitFailed = ⊥
-Succeeds _ = Unit {0}
+Succeeds input.Start = Unit {0}
+Succeeds (input.Heard h) = Unit {0}
+Succeeds input.Destroyed = Unit {0}
+Succeeds input.Lapsed = Unit {0}
+Succeeds input.Committed = Unit {0}
 
 abbrev pub IsOfRound : SiteState → ℕ → Event → Type 0
 IsOfRound s c (event.Acted d i o) = (d ≡ c) × Succeeds i × MayAnswer (machine_at s c) i o

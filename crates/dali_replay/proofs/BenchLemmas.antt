@@ -20,5 +20,6 @@ below (x ∷ xs) all zero d here = all x (inl refl)
 below (x ∷ xs) all (suc k) d here = below xs (λ r has. all r (inr has)) k d (omega arith)
 
 -- what is left of numbers that are below FFFFFF
-pub left_below : (xs : List ℕ) (n m : ℕ) → ((r : ℕ) → Has xs r → r < MASK24) → (k d : ℕ) → k < length (take n (drop m xs)) → get_or (take n (drop m xs)) k d < MASK24
+pub left_below : (xs : List ℕ) (n m : ℕ) → ((r : ℕ) → Has xs r → r < MASK24) → (k d : ℕ) → k < length (take n (drop m xs))
+    → get_or (take n (drop m xs)) k d < MASK24
 left_below xs n m all = below (take n (drop m xs)) (λ r has. all r (has_drop m xs r (has_take n (drop m xs) r has)))

@@ -16,11 +16,13 @@ use Rattle.dali_replay.specs.Installation.{Store, Installation, no_store, store_
 
 -- ---------------------------------------------------------------- what `act` says
 
-pub acted_of : (s : SiteState) (c : ℕ) (i : Input) (r : Receipt) (t : SiteState) (result : Result Receipt Refusal) → result ≡ Ok r → Acts s c i result t → HasActed s c i r t
+pub acted_of : (s : SiteState) (c : ℕ) (i : Input) (r : Receipt) (t : SiteState) (result : Result Receipt Refusal) → result ≡ Ok r → Acts s c i result t
+    → HasActed s c i r t
 unfolding Acts
 acted_of s c i r t result is acts = (subst (λ (x : Result Receipt Refusal). IfOk x (λ y. HasActed s c i y t)) is acts.0)
 
-pub refused_of : (s : SiteState) (c : ℕ) (i : Input) (e : Refusal) (t : SiteState) (result : Result Receipt Refusal) → result ≡ Err e → Acts s c i result t → IsActRefused s c i e
+pub refused_of : (s : SiteState) (c : ℕ) (i : Input) (e : Refusal) (t : SiteState) (result : Result Receipt Refusal) → result ≡ Err e → Acts s c i result t
+    → IsActRefused s c i e
 unfolding Acts
 refused_of s c i e t result is acts = (subst (λ (x : Result Receipt Refusal). IfErr x (IsActRefused s c i)) is acts.1)
 
@@ -52,13 +54,15 @@ pub stores_there : (n : Installation) (c : ℕ) → IsInstalled n → c < length
 stores_there n c inst there = rw (inst.count) there
 
 -- and its block
-pub block_read : (n : Installation) (c : ℕ) (x : Store) → IsInstalled n → x ≡ get_or n.stores c x → c < length n.site.plan.blocks → x.keep.block ≡ block_at n.site.plan c
+pub block_read : (n : Installation) (c : ℕ) (x : Store) → IsInstalled n → x ≡ get_or n.stores c x → c < length n.site.plan.blocks
+    → x.keep.block ≡ block_at n.site.plan c
 block_read n c x inst read there =
     let here : c < length n.stores = rw (inst.count) there in
     rw (store_read n c x read here) (inst.block c here)
 
 -- a refused `up` leaves the store as it was read
-pub up_refused : (n : Installation) (c d : ℕ) (t : SiteState) (copy : Kept) (was mid : Store) (e : Refusal) → d ≡ c → IsUpRefused n.site d copy e → copy ≡ was.keep → mid ≡ was
+pub up_refused : (n : Installation) (c d : ℕ) (t : SiteState) (copy : Kept) (was mid : Store) (e : Refusal) → d ≡ c → IsUpRefused n.site d copy e
+    → copy ≡ was.keep → mid ≡ was
     → was ≡ store_at n d → t ≡ n.site → IsUpRefused n.site c (store_at n c).keep e × ((record { site = t; stores = set n.stores d mid }) ≡ n)
 up_refused n c d t copy was mid e number refused kept same read site =
     let held : copy ≡ (store_at n d).keep = kept ∙ ap (λ (y : Store). y.keep) read in
@@ -68,7 +72,8 @@ up_refused n c d t copy was mid e number refused kept same read site =
     )
 
 -- a step, from its parts
-pub stepped_of : (n m : Installation) (c : ℕ) (i : Input) (r : Receipt) (o p : Order) (was x : Store) → HasActed n.site c i r m.site → o ≡ r.order → p ≡ r.order → was ≡ store_at n c
+pub stepped_of : (n m : Installation) (c : ℕ) (i : Input) (r : Receipt) (o p : Order) (was x : Store) → HasActed n.site c i r m.site → o ≡ r.order → p ≡ r.order
+    → was ≡ store_at n c
     → x ≡ (record { keep = was.keep; pending = record_ordered (Some p) }) → m.stores ≡ set n.stores c x → HasStepped n c i o m
 stepped_of n m c i r o p was x acted same also read next stores = record {
   receipt = r;

@@ -23,7 +23,8 @@ parses : {E : Type 0} (word : List ℕ) (r : Result ℕ E) → starts_plain word
     → OkIff r ((all_ascii_digits word ≡ true) × (0 < length word) × (digits_value 10 word < 2 ^ 32)) (digits_value 10 word)
 parses word r plain h = parse_plain own 32 word r h (no_plus word plain)
 
-pub number_some : (E : Type 0) (word : List ℕ) (n : ℕ) → starts_plain word ≡ true → ParsesUnsigned {E = E} 32 10 word (Ok n) → n ≤ 1000000 → Some n ≡ number_in word
+pub number_some : (E : Type 0) (word : List ℕ) (n : ℕ) → starts_plain word ≡ true → ParsesUnsigned {E = E} 32 10 word (Ok n) → n ≤ 1000000
+    → Some n ≡ number_in word
 number_some E word n plain h small =
     let is = parses {E = E} word (Ok n) plain h in
     let digits : all_ascii_digits word ≡ true = is.0.0 in
@@ -31,7 +32,8 @@ number_some E word n plain h small =
     let le : nat_le (digits_value 10 word) 1000000 ≡ true = grind (arith, nat_tests) in
     rw (plain, digits, le) (ap Some value)
 
-pub number_large : (E : Type 0) (word : List ℕ) (n : ℕ) → starts_plain word ≡ true → ParsesUnsigned {E = E} 32 10 word (Ok n) → 1000000 < n → None ≡ number_in word
+pub number_large : (E : Type 0) (word : List ℕ) (n : ℕ) → starts_plain word ≡ true → ParsesUnsigned {E = E} 32 10 word (Ok n) → 1000000 < n
+    → None ≡ number_in word
 number_large E word n plain h large =
     let is = parses {E = E} word (Ok n) plain h in
     let digits : all_ascii_digits word ≡ true = is.0.0 in
@@ -53,7 +55,8 @@ number_err {E = E} word e plain h = go (all_ascii_digits word) refl where
       let le : nat_le (digits_value 10 word) 1000000 ≡ false = grind (arith, nat_tests) in
       rw (plain, digits, le) refl
     where
-      small : (b : Bool) → nat_lt (digits_value 10 word) (2 ^ 32) ≡ b → 0 < length word → all_ascii_digits word ≡ true → nat_lt (digits_value 10 word) (2 ^ 32) ≡ false
+      small : (b : Bool) → nat_lt (digits_value 10 word) (2 ^ 32) ≡ b → 0 < length word → all_ascii_digits word ≡ true
+          → nat_lt (digits_value 10 word) (2 ^ 32) ≡ false
       small false is some digits' = is
       small true is some digits' =
           let lt : digits_value 10 word < 2 ^ 32 = grind (arith, nat_tests) in

@@ -6,7 +6,8 @@ use Rattle.dali_replay.specs.declared.replay.ReplayFault.{ReplayFault}
 use Rattle.dali_replay.specs.declared.replay.ReplayFault.TheVariants.{BadLine, BadPlan, Memory, Read, Write}
 use Rattle.dali_replay.specs.Bench.{start}
 use Rattle.dali_replay.specs.Installation.{Installation, installation_of}
-use Rattle.dali_replay.specs.Replay.{NumberedLines, End, Setting, Output, Plays, PlaysSite, PlaysSetting, Replays, Tells, HavePlayed, played, nothing, setting_of}
+use Rattle.dali_replay.specs.Replay.{NumberedLines, End, Setting, Output, Plays, PlaysSite, PlaysSetting, Replays, Tells, HavePlayed, played, nothing}
+use Rattle.dali_replay.specs.Replay.{setting_of}
 
 -- WHAT A RUN SAYS stays true where the bytes that were written are passed on.
 
@@ -42,7 +43,8 @@ module _ (a b c : Option (List ℕ)) (kept : Keeps b c) where
   site_kept n lines (Err Read) h = h
   site_kept n lines (Err Write) h = tt
 
-  setting_kept : (is_bench : Bool) (p : Plan) (lines : NumberedLines) (r : Result (Unit {0}) ReplayFault) → PlaysSetting is_bench p lines a b r → PlaysSetting is_bench p lines a c r
+  setting_kept : (is_bench : Bool) (p : Plan) (lines : NumberedLines) (r : Result (Unit {0}) ReplayFault) → PlaysSetting is_bench p lines a b r
+      → PlaysSetting is_bench p lines a c r
   setting_kept true p lines r h = plays_kept (played (start p.gear p.draws) lines) r h
   setting_kept false p lines r h = site_kept (installation_of p) lines r h
 
@@ -58,6 +60,7 @@ module _ (a b c : Option (List ℕ)) (kept : Keeps b c) where
   tells_kept s (Err Read) h = keeps_kept a b c h kept
   tells_kept s (Err Write) h = tt
 
-  pub tells_passed : (left : Option (List ℕ)) (r : Result (Unit {0}) ReplayFault) → IfSome left (λ input. Tells (setting_of input) a b r) → IfSome left (λ input. Tells (setting_of input) a c r)
+  pub tells_passed : (left : Option (List ℕ)) (r : Result (Unit {0}) ReplayFault) → IfSome left (λ input. Tells (setting_of input) a b r)
+      → IfSome left (λ input. Tells (setting_of input) a c r)
   tells_passed None r h = tt
   tells_passed (Some input) r h = tells_kept (setting_of input) r h

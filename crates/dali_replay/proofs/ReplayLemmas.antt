@@ -17,7 +17,8 @@ use Rattle.dali_replay.specs.Bench.{BenchState, start, after}
 use Rattle.dali_replay.specs.BenchReport.{report}
 use Rattle.dali_replay.specs.Installation.{Installation, installation_of}
 use Rattle.dali_replay.specs.SiteReport.{Says}
-use Rattle.dali_replay.specs.Replay.{NumberedLines, End, Setting, Output, Plays, PlaysSite, PlaysSetting, PlansNot, Replays, Tells, Chain, HavePlayed, IsBadAt, played, setting_of}
+use Rattle.dali_replay.specs.Replay.{NumberedLines, End, Setting, Output, Plays, PlaysSite, PlaysSetting, PlansNot, Replays, Tells, Chain, HavePlayed, IsBadAt}
+use Rattle.dali_replay.specs.Replay.{played, setting_of}
 
 -- ---------------------------------------------------------------- texts
 
@@ -50,7 +51,8 @@ plays_more a b c text more (Err Read) first second = absurd second
 plays_more a b c text more (Err Write) first second = tt
 
 -- one line was played
-pub plays_line : (w : BenchState) (lines rest : NumberedLines) (n : ℕ) (line : List ℕ) (asked : BenchLine) (a b c : Option (List ℕ)) (r : Result (Unit {0}) ReplayFault)
+pub plays_line : (w : BenchState) (lines rest : NumberedLines) (n : ℕ) (line : List ℕ) (asked : BenchLine) (a b c : Option (List ℕ))
+    (r : Result (Unit {0}) ReplayFault)
     → lines ≡ (n, line) ∷ rest → bench_line_of (words_of line) ≡ Some asked → Appends a b (report w asked)
     → Plays (played (after w asked) rest) b c r → Plays (played w lines) a c r
 plays_line w lines rest n line asked a b c r next reads wrote more =
@@ -74,8 +76,17 @@ plays_memory a o r is = subst (λ (s : Result (Unit {0}) ReplayFault). Plays o a
 -- one line more at the end of a chain
 chain_more : (n u m : Installation) (front : NumberedLines) (line : ℕ × List ℕ) (asked : SiteLine) (text more : List ℕ)
     → Chain n front text u → site_line_of (words_of line.1) ≡ Some asked → Says u asked more m → Chain n (front ++ line ∷ []) (text ++ more) m
-chain_more n u m [] line asked text more played reads says =
-    (asked, more, m, [], reads, subst (λ (x : Installation). Says x asked more m) played.1 says, (refl, refl), ap (λ xs. xs ++ more) played.0 ∙ sym (append-nil more))
+chain_more n u m [] line asked text more played reads says = (
+  asked,
+  more,
+  m,
+  [],
+  reads,
+  subst (λ (x : Installation). Says x asked more m) played.1 says,
+  (refl, refl),
+  ap (λ xs. xs ++ more) played.0
+      ∙ sym (append-nil more),
+)
 chain_more n u m (first ∷ front) line asked text more played reads says = (
   played.0,
   played.1,
@@ -92,7 +103,8 @@ pub have_played_none : (n : Installation) (lines : NumberedLines) (a : Option (L
 have_played_none n lines a = record { front = []; text = []; split = refl; chain = (refl, refl); wrote = appends_none a }
 
 -- one line more was played
-pub have_played_more : (n u m : Installation) (lines left rest : NumberedLines) (k : ℕ) (line : List ℕ) (asked : SiteLine) (more : List ℕ) (a b c : Option (List ℕ))
+pub have_played_more : (n u m : Installation) (lines left rest : NumberedLines) (k : ℕ) (line : List ℕ) (asked : SiteLine) (more : List ℕ)
+    (a b c : Option (List ℕ))
     → HavePlayed n lines left u a b → left ≡ (k, line) ∷ rest → site_line_of (words_of line) ≡ Some asked → Says u asked more m → Appends b c more
     → HavePlayed n lines rest m a c
 have_played_more n u m lines left rest k line asked more a b c before next reads says wrote = record {
@@ -108,7 +120,8 @@ pub site_bad_line : (n u : Installation) (lines left rest : NumberedLines) (k : 
 site_bad_line n u lines left rest k line a b before next reads =
     (u, left, subst (λ (xs : NumberedLines). IsBadAt k xs) (sym next) (refl, reads), before)
 
-pub site_done : (n u : Installation) (lines left : NumberedLines) (a b : Option (List ℕ)) → HavePlayed n lines left u a b → left ≡ [] → PlaysSite {A = Unit {0}} n lines a b (Ok tt)
+pub site_done : (n u : Installation) (lines left : NumberedLines) (a b : Option (List ℕ)) → HavePlayed n lines left u a b → left ≡ []
+    → PlaysSite {A = Unit {0}} n lines a b (Ok tt)
 site_done n u lines left a b before done = (u, subst (λ (xs : NumberedLines). HavePlayed n lines xs u a b) done before)
 
 pub site_memory : (n u : Installation) (lines left : NumberedLines) (a b : Option (List ℕ)) (r : Result (Unit {0}) ReplayFault)
@@ -129,7 +142,8 @@ plan_refused gear blocks draws plan_error.DrawTooLarge is not = is
 plan_refused gear blocks draws plan_error.DrawTwice is not = is
 
 -- memory ran out before the first text
-setting_memory : (B : Type 0) (a : Option (List ℕ)) (is_bench : Bool) (p : Plan) (lines : NumberedLines) → PlaysSetting {A = B} is_bench p lines a a (Err Memory)
+setting_memory : (B : Type 0) (a : Option (List ℕ)) (is_bench : Bool) (p : Plan) (lines : NumberedLines)
+    → PlaysSetting {A = B} is_bench p lines a a (Err Memory)
 setting_memory B a true p lines = ([], (played (start p.gear p.draws) lines).text, refl, appends_none a)
 setting_memory B a false p lines = (installation_of p, lines, have_played_none (installation_of p) lines a)
 
@@ -138,7 +152,8 @@ replays_memory B a (Err end) = ([], [], refl, appends_none a)
 replays_memory B a (Ok s) = setting_memory B a s.0.0 s.0.1 s.1
 
 -- a plan that is not made
-pub replays_no_plan : (B : Type 0) (a : Option (List ℕ)) (s : Result (Setting × NumberedLines) End) (e : ReplayFault) → PlansNot s e → Replays {A = B} s a a (Err e)
+pub replays_no_plan : (B : Type 0) (a : Option (List ℕ)) (s : Result (Setting × NumberedLines) End) (e : ReplayFault) → PlansNot s e
+    → Replays {A = B} s a a (Err e)
 replays_no_plan B a s (BadLine n) not = rw not (refl, appends_none a)
 replays_no_plan B a s (BadPlan e) not = rw not (refl, appends_none a)
 replays_no_plan B a s Memory not = replays_memory B a s
@@ -146,11 +161,13 @@ replays_no_plan B a s Read not = absurd not
 replays_no_plan B a s Write not = absurd not
 
 -- what playing says, where the lines set up a bench or a site
-pub replays_bench : (a c : Option (List ℕ)) (s : Result (Setting × NumberedLines) End) (is_bench : Bool) (p : Plan) (lines : NumberedLines) (w : BenchState) (r : Result (Unit {0}) ReplayFault)
+pub replays_bench : (a c : Option (List ℕ)) (s : Result (Setting × NumberedLines) End) (is_bench : Bool) (p : Plan) (lines : NumberedLines) (w : BenchState)
+    (r : Result (Unit {0}) ReplayFault)
     → s ≡ Ok ((is_bench, p), lines) → is_bench ≡ true → w ≡ start p.gear p.draws → Plays (played w lines) a c r → Replays s a c r
 replays_bench a c s is_bench p lines w r is bench begun plays = rw (is, bench, ← begun) plays
 
-pub replays_site : (a c : Option (List ℕ)) (s : Result (Setting × NumberedLines) End) (is_bench : Bool) (p : Plan) (lines : NumberedLines) (n : Installation) (r : Result (Unit {0}) ReplayFault)
+pub replays_site : (a c : Option (List ℕ)) (s : Result (Setting × NumberedLines) End) (is_bench : Bool) (p : Plan) (lines : NumberedLines) (n : Installation)
+    (r : Result (Unit {0}) ReplayFault)
     → s ≡ Ok ((is_bench, p), lines) → is_bench ≡ false → n ≡ installation_of p → PlaysSite n lines a c r → Replays s a c r
 replays_site a c s is_bench p lines n r is site begun plays = rw (is, site, ← begun) plays
 
@@ -166,10 +183,12 @@ replays_never_read (Ok s) old new h = go s.0.0 h where
   go true h' = h'
   go false h' = h'
 
-pub never_read : (s : Result (Setting × NumberedLines) End) (old new : Option (List ℕ)) (r : Result (Unit {0}) ReplayFault) → Replays s old new r → IsErrOf r Read → ⊥
+pub never_read : (s : Result (Setting × NumberedLines) End) (old new : Option (List ℕ)) (r : Result (Unit {0}) ReplayFault) → Replays s old new r
+    → IsErrOf r Read → ⊥
 never_read s old new r h is = replays_never_read s old new (subst (λ (x : Result (Unit {0}) ReplayFault). Replays s old new x) is h)
 
-pub tells_of_replays : (s : Result (Setting × NumberedLines) End) (old new : Option (List ℕ)) (r : Result (Unit {0}) ReplayFault) → Replays s old new r → Tells s old new r
+pub tells_of_replays : (s : Result (Setting × NumberedLines) End) (old new : Option (List ℕ)) (r : Result (Unit {0}) ReplayFault) → Replays s old new r
+    → Tells s old new r
 tells_of_replays s old new (Ok x) h = h
 tells_of_replays s old new (Err (BadLine n)) h = h
 tells_of_replays s old new (Err (BadPlan e)) h = h
@@ -191,6 +210,7 @@ tells_fault : (a : Option (List ℕ)) (input : List ℕ) (e : ReplayFault) → (
 tells_fault a input e (inl is) = rw is (replays_memory (Unit {0}) a (setting_of input))
 tells_fault a input e (inr is) = rw is (keeps_same a)
 
-pub tells_unread : (left a : Option (List ℕ)) (e : ReplayFault) (r : Result (Unit {0}) ReplayFault) → r ≡ Err e → (e ≡ Memory) ⊎ (e ≡ Read) → IfSome left (λ input. Tells (setting_of input) a a r)
+pub tells_unread : (left a : Option (List ℕ)) (e : ReplayFault) (r : Result (Unit {0}) ReplayFault) → r ≡ Err e → (e ≡ Memory) ⊎ (e ≡ Read)
+    → IfSome left (λ input. Tells (setting_of input) a a r)
 tells_unread None a e r is fault = tt
 tells_unread (Some input) a e r is fault = rw is (tells_fault a input e fault)

@@ -1,4 +1,5 @@
-use Rattle.std.proofs.Common.{◌≡◌, ℕ, suc, ◌+◌, ◌<◌, ◌≤◌, inl, inr, Bool, true, false, List, [], ◌++◌, Option, Some, None, Ok, Err, refl, sym, ap, subst, ◌∙◌, add-one, arith}
+use Rattle.std.proofs.Common.{◌≡◌, ℕ, suc, ◌+◌, ◌<◌, ◌≤◌, inl, inr, Bool, true, false, List, [], ◌++◌, Option, Some, None, Ok, Err, refl, sym, ap, subst, ◌∙◌}
+use Rattle.std.proofs.Common.{add-one, arith}
 use Rattle.std.specs.Prelude.{if◌then◌else◌, ◌||◌}
 use mathlib.Core.List.{append_assoc}
 use Rattle.std.proofs.lemmas.List.{append-nil}
@@ -20,7 +21,8 @@ pub writes_none : (old : List ℕ) (Is : List ℕ → Type 0) → Is [] → Writ
 writes_none old Is is = ([], sym (append-nil old), is)
 
 -- a text, and one more
-pub writes_more : (old between new : List ℕ) (front last : List ℕ) (Is : List ℕ → Type 0) → between ≡ old ++ front → new ≡ between ++ last → Is (front ++ last) → Writes old new Is
+pub writes_more : (old between new : List ℕ) (front last : List ℕ) (Is : List ℕ → Type 0) → between ≡ old ++ front → new ≡ between ++ last → Is (front ++ last)
+    → Writes old new Is
 writes_more old between new front last Is first second is =
     (front ++ last, second ∙ ap (λ xs. xs ++ last) first ∙ append_assoc old front last, is)
 
@@ -52,7 +54,8 @@ so_far_more n u m c before went turn old between new so_far is wrote = rw add-on
 })
 
 -- a turn that is refused
-pub so_far_refused : (n u m : Installation) (c : ℕ) (before : Bool) (turn : Option Bool) (old between new : List ℕ) → AreSoFar n c before u old between → c < controllers n
+pub so_far_refused : (n u m : Installation) (c : ℕ) (before : Bool) (turn : Option Bool) (old between new : List ℕ) → AreSoFar n c before u old between
+    → c < controllers n
     → turn ≡ None → Writes between new (λ more. IsTurn u c turn more m) → Writes old new (λ more. AreTurns n None more m)
 so_far_refused n u m c before turn old between new so_far known is wrote =
     writes_more old between new so_far.turns.0 wrote.0 (λ more. AreTurns n None more m) so_far.turns.1 wrote.1 (record {
@@ -68,7 +71,8 @@ so_far_refused n u m c before turn old between new so_far known is wrote =
     })
 
 -- all had their turns
-pub so_far_all : (n m : Installation) (c : ℕ) (acted : Bool) (old new : List ℕ) → AreSoFar n c acted m old new → c ≡ controllers n → Writes old new (λ more. AreTurns n (Some acted) more m)
+pub so_far_all : (n m : Installation) (c : ℕ) (acted : Bool) (old new : List ℕ) → AreSoFar n c acted m old new → c ≡ controllers n
+    → Writes old new (λ more. AreTurns n (Some acted) more m)
 so_far_all n m c acted old new so_far is = subst (λ (k : ℕ). Writes old new (λ more. Turns n k acted more m)) is so_far.turns
 
 -- ---------------------------------------------------------------- a round
@@ -84,20 +88,24 @@ never_refused true (report.Destroyed c f) is = cc
 never_refused false (report.Collided c f d g) is = cc
 never_refused true (report.Collided c f d g) is = cc
 
-round_of : (n m : Installation) (text : List ℕ) (acted : Bool) (x : Report) (came : Round) → came ≡ came_of acted x → IsRound n came text m → IsRoundOf n came text m
+round_of : (n m : Installation) (text : List ℕ) (acted : Bool) (x : Report) (came : Round) → came ≡ came_of acted x → IsRound n came text m
+    → IsRoundOf n came text m
 round_of n m text acted x (round.Played sent) is h = h
 round_of n m text acted x round.Over is h = h
 round_of n m text acted x round.Refused is h = absurd (never_refused acted x is)
 
-pub round_played : (n u m : Installation) (old new : List ℕ) (acted : Bool) (x : Report) (came : Round) → Writes old new (λ more. AreTurns n (Some acted) more u) → PumpsOn u trouble.None (Ok x) m
+pub round_played : (n u m : Installation) (old new : List ℕ) (acted : Bool) (x : Report) (came : Round)
+    → Writes old new (λ more. AreTurns n (Some acted) more u) → PumpsOn u trouble.None (Ok x) m
     → came ≡ came_of acted x → Writes old new (λ more. IsRoundOf n came more m)
 round_played n u m old new acted x came turns pump is =
     (turns.0, turns.1, round_of n m turns.0 acted x came is (record { acted = acted; between = u; report = x; turns = turns.2; pump = pump; ended = is }))
 
-pub round_turn_refused : (n m : Installation) (old new : List ℕ) → Writes old new (λ more. AreTurns n None more m) → Writes old new (λ more. IsRoundOf n round.Refused more m)
+pub round_turn_refused : (n m : Installation) (old new : List ℕ) → Writes old new (λ more. AreTurns n None more m)
+    → Writes old new (λ more. IsRoundOf n round.Refused more m)
 round_turn_refused n m old new turns = (turns.0, turns.1, inl turns.2)
 
-pub round_bus_refused : (n u m : Installation) (old between new : List ℕ) (acted : Bool) (e : Refusal) → Writes old between (λ more. AreTurns n (Some acted) more u) → PumpsOn u trouble.None (Err e) m
+pub round_bus_refused : (n u m : Installation) (old between new : List ℕ) (acted : Bool) (e : Refusal)
+    → Writes old between (λ more. AreTurns n (Some acted) more u) → PumpsOn u trouble.None (Err e) m
     → new ≡ between ++ refused_text e → Writes old new (λ more. IsRoundOf n round.Refused more m)
 round_bus_refused n u m old between new acted e turns refused wrote =
     writes_more old between new turns.0 (refused_text e) (λ more. IsRoundOf n round.Refused more m) turns.1 wrote (inr (record {
@@ -115,8 +123,10 @@ round_bus_refused n u m old between new acted e turns refused wrote =
 pub rounds_none : (n : Installation) (text : List ℕ) → Writes text text (λ more. Rounds n 0 0 more n)
 rounds_none n text = writes_none text (λ more. Rounds n 0 0 more n) (refl, refl, refl)
 
-pub rounds_more : (n u m : Installation) (k frames added : ℕ) (sent : Bool) (came : Round) (old between new : List ℕ) → Writes old between (λ more. Rounds n k frames more u)
-    → added ≡ (if sent then 1 else 0) → came ≡ round.Played sent → Writes between new (λ more. IsRoundOf u came more m) → Writes old new (λ more. Rounds n (k + 1) (frames + added) more m)
+pub rounds_more : (n u m : Installation) (k frames added : ℕ) (sent : Bool) (came : Round) (old between new : List ℕ)
+    → Writes old between (λ more. Rounds n k frames more u)
+    → added ≡ (if sent then 1 else 0) → came ≡ round.Played sent → Writes between new (λ more. IsRoundOf u came more m)
+    → Writes old new (λ more. Rounds n (k + 1) (frames + added) more m)
 rounds_more n u m k frames added sent came old between new so_far is played wrote = rw (add-one, is)
     (writes_more old between new so_far.0 wrote.0 (λ more. Rounds n (suc k) (frames + (if sent then 1 else 0)) more m) so_far.1 wrote.1
     (frames, so_far.0, u, so_far.2, sent, wrote.0, subst (λ (x : Round). IsRoundOf u x wrote.0 m) played wrote.2, refl, refl))
@@ -127,7 +137,8 @@ counts_one true added is = omega arith
 counts_one false added is = omega arith
 
 -- they end after a round, or at the limit
-ran_then : (n u m : Installation) (limit k frames : ℕ) (old between new : List ℕ) → Writes old between (λ more. Rounds n k frames more u) → Writes between new (λ more. Ends limit k u more m)
+ran_then : (n u m : Installation) (limit k frames : ℕ) (old between new : List ℕ) → Writes old between (λ more. Rounds n k frames more u)
+    → Writes between new (λ more. Ends limit k u more m)
     → Writes old new (λ more. Ran limit n frames more m)
 ran_then n u m limit k frames old between new so_far wrote =
     writes_more old between new so_far.0 wrote.0 (λ more. Ran limit n frames more m) so_far.1 wrote.1 (record {
@@ -140,13 +151,15 @@ ran_then n u m limit k frames old between new so_far wrote =
       whole = refl;
     })
 
-pub ran_over : (n u m : Installation) (limit k frames : ℕ) (came : Round) (old between new : List ℕ) → Writes old between (λ more. Rounds n k frames more u) → k < limit → came ≡ round.Over
+pub ran_over : (n u m : Installation) (limit k frames : ℕ) (came : Round) (old between new : List ℕ) → Writes old between (λ more. Rounds n k frames more u)
+    → k < limit → came ≡ round.Over
     → Writes between new (λ more. IsRoundOf u came more m) → Writes old new (λ more. Ran limit n frames more m)
 ran_over n u m limit k frames came old between new so_far below is wrote =
     ran_then n u m limit k frames old between new so_far
     (wrote.0, wrote.1, inr (below, inl (subst (λ (x : Round). IsRoundOf u x wrote.0 m) is wrote.2)))
 
-pub ran_refused : (n u m : Installation) (limit k frames : ℕ) (came : Round) (old between new : List ℕ) → Writes old between (λ more. Rounds n k frames more u) → k < limit → came ≡ round.Refused
+pub ran_refused : (n u m : Installation) (limit k frames : ℕ) (came : Round) (old between new : List ℕ) → Writes old between (λ more. Rounds n k frames more u)
+    → k < limit → came ≡ round.Refused
     → Writes between new (λ more. IsRoundOf u came more m) → Writes old new (λ more. Ran limit n frames more m)
 ran_refused n u m limit k frames came old between new so_far below is wrote =
     ran_then n u m limit k frames old between new so_far
@@ -158,7 +171,8 @@ ran_to_limit n u limit k frames old between so_far is =
     ran_then n u u limit k frames old between between so_far (writes_none between (λ more. Ends limit k u more u) (inl (is, refl, refl)))
 
 -- a run, and its report
-pub runs_of : (n m : Installation) (limit frames : ℕ) (old between new : List ℕ) → Writes old between (λ more. Ran limit n frames more m) → new ≡ between ++ ran_text frames
+pub runs_of : (n m : Installation) (limit frames : ℕ) (old between new : List ℕ) → Writes old between (λ more. Ran limit n frames more m)
+    → new ≡ between ++ ran_text frames
     → Writes old new (λ more. Runs limit n more m)
 runs_of n m limit frames old between new ran wrote =
     writes_more old between new ran.0 (ran_text frames) (λ more. Runs limit n more m) ran.1 wrote (frames, ran.0, ran.2, refl)

@@ -77,7 +77,9 @@ AreTurns n None text m = IsTurnRefused n text m
 -- whether a report counts as a frame: it was sent, and not destroyed
 abbrev pub is_sent : Report → Bool
 is_sent (report.Sent c f h) = true
-is_sent _ = false
+is_sent report.Idle = false
+is_sent (report.Destroyed c f) = false
+is_sent (report.Collided c f d g) = false
 
 -- what came of a round: it is over where nobody had a turn and no request was next
 abbrev pub came_of : Bool → Report → Round

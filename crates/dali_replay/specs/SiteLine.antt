@@ -3,7 +3,7 @@ use Rattle.std.specs.Prelude.{if◌then◌else◌, option_map, option_and_then}
 use Rattle.std.specs.Result.{result_ok}
 use Rattle.dali_frame.specs.Hex.{forward_of}
 use Rattle.dali_frame.specs.declared.frames.Forward.{Forward}
-use Rattle.dali_standing.specs.declared.trouble.Trouble.{Trouble}
+use Rattle.dali_standing.specs.Troubles.{trouble_named, destroying_named}
 use Rattle.dali_standing.specs.declared.trouble.Trouble.TheVariants as trouble
 use Rattle.dali_replay.specs.declared.site_line.SiteLine.{SiteLine}
 use Rattle.dali_replay.specs.declared.site_line.SiteLine.TheVariants.{Go, Store, Fail, Pump, Lapse}
@@ -18,14 +18,6 @@ alone_of name =
     else if bytes_eq name (codes "lapse") then Some Lapse
     else if bytes_eq name (codes "quiet") then Some Quiet
     else if bytes_eq name (codes "show") then Some Show
-    else None
-
--- `pump WORD`
-abbrev pub trouble_of : List ℕ → Option Trouble
-trouble_of word =
-    if bytes_eq word (codes "lost") then Some trouble.AnswerLost
-    else if bytes_eq word (codes "noise") then Some trouble.Noise
-    else if bytes_eq word (codes "collision") then Some trouble.Collision
     else None
 
 -- the lines of a name and a number: of a controller, and the others
@@ -48,7 +40,7 @@ numbered_line_of name n =
 
 abbrev pub one_word_of : List ℕ → List ℕ → Option SiteLine
 one_word_of name word =
-    if bytes_eq name (codes "pump") then option_map (λ t. Pump t) (trouble_of word)
+    if bytes_eq name (codes "pump") then option_map (λ t. Pump t) (trouble_named word)
     else option_and_then (numbered_line_of name) (number_in word)
 
 -- `arc c HHHH`
@@ -60,9 +52,7 @@ arc_of (Some c) None = None
 -- `pump destroyed L`
 abbrev pub destroyed_of : List ℕ → List ℕ → Option SiteLine
 destroyed_of word set =
-    if bytes_eq word (codes "destroyed")
-    then option_map (λ set. Pump (trouble.Destroyed set)) (set_of set)
-    else None
+    option_and_then (λ gear. option_map (λ t. Pump t) (destroying_named word gear)) (set_of set)
 
 -- the lines of a name and two more words
 abbrev pub two_words_of : List ℕ → List ℕ → List ℕ → Option SiteLine

@@ -11,14 +11,10 @@ use Rattle.dali_gear.specs.declared.state.InitialisationState.TheVariants.{Disab
 use Rattle.dali_gear.specs.declared.state.InitialisationState.TheVariants.{Withdrawn}
 use Rattle.dali_gear.specs.Gear.{Gear}
 use Rattle.dali_script.specs.declared.records.Record.{Record}
-use Rattle.dali_script.specs.declared.records.Record.TheVariants.{Reserve, Enrol, Release}
-use Rattle.dali_script.specs.Records.{Assignment}
+use Rattle.dali_script.specs.Records.{Assignment, address_of, random_of}
+use Rattle.dali_script.specs.Names.{record_name, end_name, fault_name}
 use Rattle.dali_script.specs.declared.orders.Order.{Order}
 use Rattle.dali_script.specs.declared.orders.Order.TheVariants.{Put, Commit, Done, Halt}
-use Rattle.dali_script.specs.declared.orders.End.{End}
-use Rattle.dali_script.specs.declared.orders.End.TheVariants.{AllFound, BlockFull, GaveUp}
-use Rattle.dali_script.specs.declared.orders.Fault.{Fault}
-use Rattle.dali_script.specs.declared.orders.Fault.TheVariants.{Conflict, Store}
 use Rattle.dali_standing.specs.declared.refusal.Refusal.{Refusal}
 use Rattle.dali_standing.specs.declared.trouble.Report.{Report}
 use Rattle.dali_standing.specs.declared.trouble.Report.TheVariants as report
@@ -91,22 +87,10 @@ answer_or_refusal text (Err e) = refused_text e
 
 -- ---------------------------------------------------------------- orders
 
-abbrev pub assignment_text : List ℕ → ℕ → ℕ → List ℕ
-assignment_text name a r = name ++ (decimal a ++ (codes " " ++ random_text r))
-
 abbrev pub commit_text : Record → List ℕ
-commit_text (Reserve a r) = assignment_text (codes "reserve ") a r
-commit_text (Enrol a r) = assignment_text (codes "enrol ") a r
-commit_text (Release a r) = assignment_text (codes "release ") a r
-
-abbrev pub end_text : End → List ℕ
-end_text AllFound = codes "all-found"
-end_text BlockFull = codes "block-full"
-end_text GaveUp = codes "gave-up"
-
-abbrev pub fault_text : Fault → List ℕ
-fault_text Conflict = codes "conflict"
-fault_text Store = codes "store"
+commit_text x =
+    record_name x
+    ++ (codes " " ++ (decimal (address_of x) ++ (codes " " ++ random_text (random_of x))))
 
 abbrev pub put_text : ℕ → Forward → List ℕ
 put_text p f = codes "put " ++ (decimal p ++ (codes " " ++ forward_text f))
@@ -114,8 +98,8 @@ put_text p f = codes "put " ++ (decimal p ++ (codes " " ++ forward_text f))
 abbrev pub order_text : Order → List ℕ
 order_text (Put p f) = put_text p f
 order_text (Commit x) = codes "commit " ++ commit_text x
-order_text (Done e) = codes "done " ++ end_text e
-order_text (Halt w) = codes "halt " ++ fault_text w
+order_text (Done e) = codes "done " ++ end_name e
+order_text (Halt w) = codes "halt " ++ fault_name w
 
 -- `c: ORDER`
 abbrev pub ordered_text : ℕ → Order → List ℕ

@@ -78,7 +78,9 @@ fn came_of(acted: bool, report: Report) -> Round
 {
     match report {
         Report::Idle if !acted => Round::Over,
-        _ => Round::Played(is_sent(report)),
+        Report::Idle | Report::Sent(..) | Report::Destroyed(..) | Report::Collided(..) => {
+            Round::Played(is_sent(report))
+        }
     }
 }
 

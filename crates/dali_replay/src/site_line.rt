@@ -2,7 +2,7 @@
 
 ghost use Rattle.std.specs.Prelude.{◌≡◌, map};
 ghost use Rattle.dali_replay.specs.Lines.{words_of};
-ghost use Rattle.dali_replay.specs.SiteLine.{alone_of, trouble_of, controller_line_of, numbered_line_of, one_word_of};
+ghost use Rattle.dali_replay.specs.SiteLine.{alone_of, controller_line_of, numbered_line_of, one_word_of};
 ghost use Rattle.dali_replay.specs.SiteLine.{two_words_of, destroyed_of, site_line_of};
 
 use crate::lines::words;
@@ -57,20 +57,6 @@ fn alone(name: &[u8]) -> Option<SiteLine>
     }
 }
 
-fn trouble_of(word: &[u8]) -> Option<Trouble>
-    ensures { result ≡ trouble_of word.now }
-{
-    if word == b"lost".as_slice() {
-        Some(Trouble::AnswerLost)
-    } else if word == b"noise".as_slice() {
-        Some(Trouble::Noise)
-    } else if word == b"collision".as_slice() {
-        Some(Trouble::Collision)
-    } else {
-        None
-    }
-}
-
 fn controller_line(name: &[u8], c: u32) -> Option<SiteLine>
     ensures { result ≡ controller_line_of name.now c }
 {
@@ -109,7 +95,7 @@ fn one_word(name: &[u8], word: &[u8]) -> Option<SiteLine>
     ensures { result ≡ one_word_of name.now word.now }
 {
     if name == b"pump".as_slice() {
-        Some(SiteLine::Pump(trouble_of(word)?))
+        Some(SiteLine::Pump(Trouble::of_name(word)?))
     } else {
         numbered_line(name, number_in(word)?)
     }
@@ -133,11 +119,8 @@ fn two_words(name: &[u8], first: &[u8], second: &[u8]) -> Option<SiteLine>
 fn destroyed(word: &[u8], set: &[u8]) -> Option<SiteLine>
     ensures { result ≡ destroyed_of word.now set.now }
 {
-    if word == b"destroyed".as_slice() {
-        Some(SiteLine::Pump(Trouble::Destroyed(set_of(set)?)))
-    } else {
-        None
-    }
+    let set = set_of(set)?;
+    Some(SiteLine::Pump(Trouble::of_name_and_set(word, set)?))
 }
 
 fn of_words(words: &[&[u8]]) -> Option<SiteLine>

@@ -3,16 +3,16 @@
 
 ghost use Rattle.std.specs.Prelude.{◌≡◌, ◌++◌, OnOk, string_bytes};
 ghost use Rattle.dali_replay.specs.Text.{heard_text, power_text, state_text, short_text, condition_text};
-ghost use Rattle.dali_replay.specs.Text.{addresses_text, gear_text, gear_texts, ok_text, refused_text, assignment_text};
-ghost use Rattle.dali_replay.specs.Text.{commit_text, end_text, fault_text, put_text, order_text, ordered_text};
+ghost use Rattle.dali_replay.specs.Text.{addresses_text, gear_text, gear_texts, ok_text, refused_text};
+ghost use Rattle.dali_replay.specs.Text.{commit_text, put_text, order_text, ordered_text};
 ghost use Rattle.dali_replay.specs.Text.{kept_text, offered_text, destroyed_text, sent_text, report_text};
 ghost use Rattle.dali_replay.specs.Text.{collided_text, owner_text, lapse_text, ran_text, entry_text, entries_text};
 ghost use Rattle.dali_replay.specs.Text.{table_text};
 ghost use Rattle.dali_frame.specs.Hex.{forward_text};
 
-use dali_frame::{Answer, Forward, Priority, Random24, Short};
+use dali_frame::{Answer, Forward, Priority, Short};
 use dali_gear::{Gear, InitialisationState, Row};
-use dali_script::{End, Fault, Order, Pair, Record};
+use dali_script::{Order, Pair, Record};
 use dali_world::{Refusal, Report};
 use std::alloc::AllocError;
 use std::str;
@@ -127,46 +127,13 @@ pub fn push_refused(text: &mut String, error: Refusal) -> Result<(), AllocError>
     text.push_str("\n")
 }
 
-fn push_record(text: &mut String, added: Record) -> Result<(), AllocError>
-    ensures { OnOk result (string_bytes text.new ≡ string_bytes text.old ++ commit_text added) }
+fn push_record(text: &mut String, added: &Record) -> Result<(), AllocError>
+    ensures { OnOk result (string_bytes text.new ≡ string_bytes text.old ++ commit_text added.now) }
 {
-    match added {
-        Record::Reserve(address, random) => push_assignment(text, "reserve ", address, random),
-        Record::Enrol(address, random) => push_assignment(text, "enrol ", address, random),
-        Record::Release(address, random) => push_assignment(text, "release ", address, random),
-    }
-}
-
-fn push_assignment(
-    text: &mut String,
-    name: &str,
-    address: Short,
-    random: Random24,
-) -> Result<(), AllocError>
-    ensures { OnOk result (string_bytes text.new ≡ string_bytes text.old ++ assignment_text name.now address random) }
-{
-    text.push_str(name)?;
-    let number = address.number();
-    write!(text, "{number} {random}")
-}
-
-fn end_name(end: End) -> &'static str
-    ensures { result.now ≡ end_text end }
-{
-    match end {
-        End::AllFound => "all-found",
-        End::BlockFull => "block-full",
-        End::GaveUp => "gave-up",
-    }
-}
-
-fn fault_name(fault: Fault) -> &'static str
-    ensures { result.now ≡ fault_text fault }
-{
-    match fault {
-        Fault::Conflict => "conflict",
-        Fault::Store => "store",
-    }
+    text.push_str(added.name())?;
+    let number = added.address().number();
+    let random = added.random();
+    write!(text, " {number} {random}")
 }
 
 fn push_put(text: &mut String, priority: u8, frame: Forward) -> Result<(), AllocError>
@@ -182,14 +149,14 @@ fn push_order(text: &mut String, order: Order) -> Result<(), AllocError>
         Order::Put(priority, frame) => push_put(text, priority.number(), frame),
         Order::Commit(record) => {
             text.push_str("commit ")?;
-            push_record(text, record)
+            push_record(text, &record)
         }
         Order::Done(end) => {
-            let name = end_name(end);
+            let name = end.name();
             write!(text, "done {name}")
         }
         Order::Halt(fault) => {
-            let name = fault_name(fault);
+            let name = fault.name();
             write!(text, "halt {name}")
         }
     }

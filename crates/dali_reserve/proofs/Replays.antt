@@ -72,7 +72,8 @@ pub records_after : {E : Type 0} (old new : Kept) (x : Record) (r : Result (Unit
 records_after old new x (Err e) short fits may ok err has = subst HasRecords (sym err) has
 records_after old new x (Ok u) short fits may ok err has = (has.0 ++ x ∷ [], replay_after old new x short fits (may.0 refl) ok has.0 has.1)
 
-pub replay_ok : {E : Type 0} (old new : Kept) (x : Record) (r : Result (Unit {0}) E) (u : Unit {0}) → r ≡ Ok u → address_of x < 64 → Fits old.block x → (IsOk r ↔ MayAdd old x)
+pub replay_ok : {E : Type 0} (old new : Kept) (x : Record) (r : Result (Unit {0}) E) (u : Unit {0}) → r ≡ Ok u → address_of x < 64 → Fits old.block x
+    → (IsOk r ↔ MayAdd old x)
     → OnOk r (new ≡ with_record old x) → (xs : List Record) → IsReplay old.block xs old → IsReplay new.block (xs ++ x ∷ []) new
 replay_ok old new x (Err e) u is short fits may ok xs held = cc
 replay_ok old new x (Ok v) u is short fits may ok xs held = replay_after old new x short fits (may.0 refl) ok xs held

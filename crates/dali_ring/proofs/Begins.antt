@@ -1,5 +1,6 @@
 -- Slots in which nothing waits.
-use Rattle.std.proofs.Common.{◌≡◌, ◌≢◌, ℕ, zero, suc, ◌+◌, ◌<◌, ◌≤◌, List, [], ◌∷◌, length, refl, sym, ap, ◌∙◌, arith, subst, get_or, set, replicate, ⊎_elim, length-append}
+use Rattle.std.proofs.Common.{◌≡◌, ◌≢◌, ℕ, zero, suc, ◌+◌, ◌<◌, ◌≤◌, List, [], ◌∷◌, length, refl, sym, ap, ◌∙◌, arith, subst, get_or, set, replicate, ⊎_elim}
+use Rattle.std.proofs.Common.{length-append}
 use Rattle.std.proofs.lemmas.List.{get_or_append_left, get_or_at, length-set, get_or-set_same, get_or-set_other, length-replicate}
 use Rattle.std.proofs.lemmas.Bool.{cases_eq}
 use Rattle.std.specs.declared.option.Option.{Option}
@@ -21,7 +22,8 @@ module _ (X : Type 0) where
   fresh_slot zero i low = absurd (omega arith)
   fresh_slot (suc m) i low = ⊎_elim
       (λ (same : i ≡ m). rw same (get_or_at (fresh_to {X = X} m) (empty (m + 1)) [] (empty 0) m (fresh_length m)))
-      (λ other. get_or_append_left (fresh_to {X = X} m) (empty (m + 1) ∷ []) (empty 0) i (omega (arith, fresh_length m, other)) ∙ fresh_slot m i (omega (arith, other)))
+      (λ other. get_or_append_left (fresh_to {X = X} m) (empty (m + 1) ∷ []) (empty 0) i (omega (arith, fresh_length m, other))
+      ∙ fresh_slot m i (omega (arith, other)))
       (cases_eq i m)
 
 module _ {X : Type 0} where
@@ -68,7 +70,8 @@ module _ {X : Type 0} where
     chain : (k i : ℕ) → i + k ≡ last → Leads (link_at two) (item_at two) n last i (replicate k None)
     chain zero i is = omega (arith, is)
     chain (suc k) i is =
-        let here : slot_at two i ≡ empty (i + 1) = same_else i (λ e. absurd (omega (arith, e, is))) (λ e. absurd (omega (arith, e, is, before))) ∙ b.free i (omega (arith, is, before)) in
+        let here : slot_at two i ≡ empty (i + 1) =
+        same_else i (λ e. absurd (omega (arith, e, is))) (λ e. absurd (omega (arith, e, is, before))) ∙ b.free i (omega (arith, is, before)) in
         let link : link_at two i ≡ i + 1 = ap (λ (q : Slot X). q.link) here in
         rw link (omega (arith, is, before), no_item (i + 1) (omega (arith, is, before)), chain k (i + 1) (omega (arith, is)))
       where
@@ -77,7 +80,8 @@ module _ {X : Type 0} where
             (λ other. ap (λ (q : Slot X). q.item) (same_else j other (λ e. absurd (omega (arith, e, low))) ∙ b.free j low)) (cases_eq j last)
 
     root_is : (p : ℕ) → p < 5 → link_at two (n + p) ≡ n + p
-    root_is p low = ap (λ (q : Slot X). q.link) (same_else (n + p) (λ e. absurd (omega (arith, e, before))) (λ e. absurd (omega (arith, e, low))) ∙ b.begin p low)
+    root_is p low = ap (λ (q : Slot X). q.link) (same_else (n + p) (λ e. absurd (omega (arith, e, before))) (λ e. absurd (omega (arith, e, low)))
+        ∙ b.begin p low)
 
     abbrev tails : List ℕ
     tails = n ∷ (n + 1) ∷ (n + 2) ∷ (n + 3) ∷ (n + 4) ∷ last ∷ []
@@ -86,7 +90,8 @@ module _ {X : Type 0} where
     free_list =
         let link : link_at two (n + 5) ≡ 0 = ap (λ (q : Slot X). q.link) at_root in
         let nothing : Option X = None in
-        let whole : replicate (suc last) nothing ≡ replicate n nothing = (let count : suc last ≡ n = omega (arith, before) in ap (λ k. replicate k nothing) count) in
+        let whole : replicate (suc last) nothing ≡ replicate n nothing =
+        (let count : suc last ≡ n = omega (arith, before) in ap (λ k. replicate k nothing) count) in
         subst (λ xs. IsList (link_at two) (item_at two) n (n + 5) last (n + 5) xs) whole
         (rw link (omega (arith, before), first, chain last 0 (omega arith)), ap (λ (q : Slot X). q.link) at_last)
       where
@@ -102,7 +107,8 @@ module _ {X : Type 0} where
       lists = go;
       whole = let nothing : Option X = None in sum_six {X = X} (replicate 5 []) (replicate n None) ∙ omega (arith, length-replicate n nothing);
     } where
-      go : (p : ℕ) → p < 6 → IsList (link_at two) (item_at two) n (n + p) (get_or tails p 0) (n + p) (get_or (six {X = X} (replicate 5 []) (replicate n None)) p [])
+      go : (p : ℕ) → p < 6
+          → IsList (link_at two) (item_at two) n (n + p) (get_or tails p 0) (n + p) (get_or (six {X = X} (replicate 5 []) (replicate n None)) p [])
       go zero low = let here : n + 0 ≡ n = omega arith in (here, ap (link_at two) (sym here) ∙ root_is 0 (omega arith))
       go (suc zero) low = (refl, root_is 1 (omega arith))
       go (suc (suc zero)) low = (refl, root_is 2 (omega arith))

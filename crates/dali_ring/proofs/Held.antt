@@ -69,7 +69,8 @@ three_val u v w = vstruct (vcons u (vcons v (vcons w vnil)))
 
 -- a tuple is its three values, each of which is one machine value
 pub makes_three : {M : Type 1} {𝓤 : Ura M} (𝓛 : Logic 𝓤) (A B C : RattleType) (x : A.Denot) (y : B.Denot) (z : C.Denot) (u v w : Val)
-    → ent 𝓤 (sem 𝓛 (owns (A ∷ B ∷ C ∷ []) (x, (y, (z, tt))) (u ∷ [], (v ∷ [], (w ∷ [], tt))))) (sem 𝓛 ((Tuple (A ∷ B ∷ C ∷ [])).own_val (x, y, z) (three_val u v w ∷ [])))
+    → ent 𝓤 (sem 𝓛 (owns (A ∷ B ∷ C ∷ []) (x, (y, (z, tt))) (u ∷ [], (v ∷ [], (w ∷ [], tt)))))
+    (sem 𝓛 ((Tuple (A ∷ B ∷ C ∷ [])).own_val (x, y, z) (three_val u v w ∷ [])))
 makes_three 𝓛 A B C x y z u v w =
     let all : List Val = three_val u v w ∷ [] in
     let values : Valss (A ∷ B ∷ C ∷ []) = (u ∷ [], (v ∷ [], (w ∷ [], tt))) in
@@ -147,5 +148,6 @@ module _ (E : El) {M : Type 1} {𝓤 : Ura M} (𝓛 : Logic 𝓤) (b : ℕ) wher
       → ent 𝓤 (sem 𝓛 (elements_shared (R E) xs b o κ)) (sem 𝓛 (shared_of (R E) (item_of xs i inside).0 b (place s o i) κ))
   shown κ o i [] inside = absurd (not-suc-le-zero inside)
   shown κ o zero (x ∷ xs) inside = fst∗ 𝓤 (sem 𝓛 (shared_of (R E) x b o κ)) (sem 𝓛 (elements_shared (R E) xs b (o + s) κ))
-  shown κ o (suc i) (x ∷ xs) inside = via 𝓤 (sem 𝓛 (elements_shared (R E) xs b (o + s) κ)) (snd∗ 𝓤 (sem 𝓛 (shared_of (R E) x b o κ)) (sem 𝓛 (elements_shared (R E) xs b (o + s) κ)))
+  shown κ o (suc i) (x ∷ xs) inside =
+      via 𝓤 (sem 𝓛 (elements_shared (R E) xs b (o + s) κ)) (snd∗ 𝓤 (sem 𝓛 (shared_of (R E) x b o κ)) (sem 𝓛 (elements_shared (R E) xs b (o + s) κ)))
       (shown κ (o + s) i xs (le_of_suc-le-suc inside))

@@ -1,5 +1,6 @@
 -- A slot that moves, in the slots themselves.
-use Rattle.std.proofs.Common.{◌≡◌, ◌≢◌, ℕ, suc, ◌+◌, ◌<◌, ◌≤◌, List, [], ◌∷◌, ◌++◌, length, refl, sym, ap, ◌∙◌, arith, subst, get_or, set, ⊎_elim, length-append}
+use Rattle.std.proofs.Common.{◌≡◌, ◌≢◌, ℕ, suc, ◌+◌, ◌<◌, ◌≤◌, List, [], ◌∷◌, ◌++◌, length, refl, sym, ap, ◌∙◌, arith, subst, get_or, set, ⊎_elim}
+use Rattle.std.proofs.Common.{length-append}
 use Rattle.std.proofs.lemmas.List.{get_or-set_same, get_or-set_other, length-set}
 use Rattle.std.proofs.lemmas.List.Sums.{sum_by-set}
 use Rattle.std.proofs.lemmas.Bool.{cases_eq}
@@ -27,11 +28,20 @@ module _ {X : Type 0} (s : List (Slot X)) (n : ℕ) (tails : List ℕ) (ls : Lis
   pub lines_are : lines s n ≡ ls
   lines_are = go ls refl h.six where
     go : (xs : List (List (Option X))) → xs ≡ ls → length xs ≡ 6 → lines s n ≡ ls
-    go (a ∷ b ∷ c ∷ d ∷ e ∷ f ∷ []) is six = rw (line_is 0 (omega arith), line_is 1 (omega arith), line_is 2 (omega arith), line_is 3 (omega arith), line_is 4 (omega arith), line_is 5 (omega arith)) (rw (← is) refl)
+    go (a ∷ b ∷ c ∷ d ∷ e ∷ f ∷ []) is six =
+        rw (
+          line_is 0 (omega arith),
+          line_is 1 (omega arith),
+          line_is 2 (omega arith),
+          line_is 3 (omega arith),
+          line_is 4 (omega arith),
+          line_is 5 (omega arith),
+        ) (rw (← is) refl)
     go _ is six = absurd (omega (arith, six))
 
   pub tail_within : (p : ℕ) → p < 6 → get_or tails p 0 < length s
-  tail_within p low = within (link_at s) (item_at s) n (length s) (get_or tails p 0) (n + p) (get_or ls p []) (omega (arith, h.slots)) (omega (arith, h.slots)) (h.lists p low).0
+  tail_within p low = within (link_at s) (item_at s) n (length s) (get_or tails p 0) (n + p) (get_or ls p []) (omega (arith, h.slots)) (omega (arith, h.slots))
+      (h.lists p low).0
 
 -- what a list has at a place after two writes
 two_first : {X : Type 0} (xs : List X) (i j : ℕ) (x y d : X) → j < length xs → get_or (set (set xs i x) j y) j d ≡ y
@@ -83,17 +93,20 @@ module _ {X : Type 0} (s : List (Slot X)) (n from to b : ℕ) (tails : List ℕ)
 
   b_at : b ≢ at
   b_at same =
-      let o = one_way (link_at s) n (n + from) (n + from) (suc (more rest 0)) (more rest 0) at (omega arith) (omega arith) (subst (λ j. Far (link_at s) n (n + from) (suc (more rest 0)) j) same far_b) far_at in
+      let o = one_way (link_at s) n (n + from) (n + from) (suc (more rest 0)) (more rest 0) at (omega arith) (omega arith)
+      (subst (λ j. Far (link_at s) n (n + from) (suc (more rest 0)) j) same far_b) far_at in
       absurd (omega (arith, o.0))
 
   b_c : b ≢ c
   b_c same =
-      let o = one_way (link_at s) n (n + from) (n + to) (suc (more rest 0)) 0 c (omega arith) (omega arith) (subst (λ j. Far (link_at s) n (n + from) (suc (more rest 0)) j) same far_b) last.1 in
+      let o = one_way (link_at s) n (n + from) (n + to) (suc (more rest 0)) 0 c (omega arith) (omega arith)
+      (subst (λ j. Far (link_at s) n (n + from) (suc (more rest 0)) j) same far_b) last.1 in
       absurd (omega (arith, o.0))
 
   at_c : at ≢ c
   at_c same =
-      let o = one_way (link_at s) n (n + from) (n + to) (more rest 0) 0 c (omega arith) (omega arith) (subst (λ j. Far (link_at s) n (n + from) (more rest 0) j) same far_at) last.1 in
+      let o = one_way (link_at s) n (n + from) (n + to) (more rest 0) 0 c (omega arith) (omega arith)
+      (subst (λ j. Far (link_at s) n (n + from) (more rest 0) j) same far_at) last.1 in
       absurd (unlike (omega (arith, o.1)))
 
   abbrev A : Slot X
@@ -128,7 +141,8 @@ module _ {X : Type 0} (s : List (Slot X)) (n from to b : ℕ) (tails : List ℕ)
       (λ ub. ⊎_elim (λ (is : i ≡ c). rw is (ap (λ (q : Slot X). q.item) read_c)) (λ uc. ap (λ (q : Slot X). q.item) (read_other i ub ua uc)) (cases_eq i c))
       (cases_eq i b)
 
-  the_move : Move (link_at s) (link_at after) (item_at s) (item_at after) n (n + from) (n + to) t (n + from) b c (n + to) us rest (get_or (lines s n) to []) x new
+  the_move : Move (link_at s) (link_at after) (item_at s) (item_at after) n (n + from) (n + to) t (n + from) b c (n + to) us rest
+      (get_or (lines s n) to []) x new
   the_move = record {
     le = omega arith;
     lg = omega arith;
@@ -158,29 +172,56 @@ module _ {X : Type 0} (s : List (Slot X)) (n from to b : ℕ) (tails : List ℕ)
     slots = omega (arith, h.slots, length-set (set (set s b A) c C) at B, length-set (set s b A) c C, length-set s b A);
     ends = omega (arith, h.ends, length-set (set tails from l) to at, length-set tails from l);
     lists = λ q low. ⊎_elim
-        (λ (same : q ≡ to). rw (same, two_first tails from to l at 0 (omega (arith, h.ends)), two_first (lines s n) from to (us ++ rest) (get_or (lines s n) to [] ++ new ∷ []) [] (omega arith))
-        (grown (link_at s) (link_at after) (item_at s) (item_at after) n (n + from) (n + to) t (n + from) b c (n + to) us rest (get_or (lines s n) to []) x new the_move))
+        (λ (same : q ≡ to). rw (
+          same,
+          two_first tails from to l at 0 (omega (arith, h.ends)),
+          two_first (lines s n) from to (us ++ rest) (get_or (lines s n) to [] ++ new ∷ []) [] (omega arith),
+        )
+        (grown (link_at s) (link_at after) (item_at s) (item_at after) n (n + from) (n + to) t (n + from) b c (n + to) us rest
+        (get_or (lines s n) to []) x new the_move))
         (λ ut. ⊎_elim
-        (λ (same : q ≡ from). rw (same, two_second tails from to l at 0 (omega (arith, h.ends)) unlike, two_second (lines s n) from to (us ++ rest) (get_or (lines s n) to [] ++ new ∷ []) [] (omega arith) unlike, ← is)
-        (left (link_at s) (link_at after) (item_at s) (item_at after) n (n + from) (n + to) t (n + from) b c (n + to) us rest (get_or (lines s n) to []) x new the_move))
+        (λ (same : q ≡ from). rw (
+          same,
+          two_second tails from to l at 0 (omega (arith, h.ends)) unlike,
+          two_second (lines s n) from to (us ++ rest) (get_or (lines s n) to [] ++ new ∷ []) [] (omega arith) unlike,
+          ← is,
+        )
+        (left (link_at s) (link_at after) (item_at s) (item_at after) n (n + from) (n + to) t (n + from) b c (n + to) us rest
+        (get_or (lines s n) to []) x new the_move))
         (λ uf. rw (two_other tails from to q l at 0 uf ut, two_other (lines s n) from to q (us ++ rest) (get_or (lines s n) to [] ++ new ∷ []) [] uf ut)
-        (others (link_at s) (link_at after) (item_at s) (item_at after) n (n + from) (n + to) t (n + from) b c (n + to) us rest (get_or (lines s n) to []) x new the_move
-        (n + q) (get_or tails q 0) (n + q) (get_or (lines s n) q []) (omega arith) (λ same. uf (omega (arith, same))) (λ same. ut (omega (arith, same))) (h.lists q low)))
+        (others (link_at s) (link_at after) (item_at s) (item_at after) n (n + from) (n + to) t (n + from) b c (n + to) us rest
+        (get_or (lines s n) to []) x new the_move
+        (n + q) (get_or tails q 0) (n + q) (get_or (lines s n) q []) (omega arith) (λ same. uf (omega (arith, same))) (λ same. ut (omega (arith, same)))
+        (h.lists q low)))
         (cases_eq q from)) (cases_eq q to);
     whole =
         let one : sum_by length (set (lines s n) from (us ++ rest)) + length (get_or (lines s n) from []) ≡ sum_by length (lines s n) + length (us ++ rest)
         = sum_by-set length (lines s n) from (us ++ rest) [] (omega arith) in
-        let two : sum_by length (set (set (lines s n) from (us ++ rest)) to (get_or (lines s n) to [] ++ new ∷ [])) + length (get_or (set (lines s n) from (us ++ rest)) to [])
+        let two : sum_by length (set (set (lines s n) from (us ++ rest)) to (get_or (lines s n) to [] ++ new ∷ [])) + length
+        (get_or (set (lines s n) from (us ++ rest)) to [])
         ≡ sum_by length (set (lines s n) from (us ++ rest)) + length (get_or (lines s n) to [] ++ new ∷ [])
-        = sum_by-set length (set (lines s n) from (us ++ rest)) to (get_or (lines s n) to [] ++ new ∷ []) [] (omega (arith, length-set (lines s n) from (us ++ rest))) in
-        let three : get_or (set (lines s n) from (us ++ rest)) to [] ≡ get_or (lines s n) to [] = get_or-set_other (lines s n) from to (us ++ rest) [] (λ e. unlike (sym e)) in
+        = sum_by-set length (set (lines s n) from (us ++ rest)) to (get_or (lines s n) to [] ++ new ∷ []) []
+        (omega (arith, length-set (lines s n) from (us ++ rest))) in
+        let three : get_or (set (lines s n) from (us ++ rest)) to [] ≡ get_or (lines s n) to [] =
+        get_or-set_other (lines s n) from to (us ++ rest) [] (λ e. unlike (sym e)) in
         let four : length (get_or (lines s n) from []) ≡ length (us ++ x ∷ rest) = ap length p.items in
-        omega (arith, one, two, ap length three, four, h.whole, length-append us rest, length-append us (x ∷ rest), length-append (get_or (lines s n) to []) (new ∷ []));
+        omega (
+          arith,
+          one,
+          two,
+          ap length three,
+          four,
+          h.whole,
+          length-append us rest,
+          length-append us (x ∷ rest),
+          length-append (get_or (lines s n) to []) (new ∷ []),
+        );
   }
 
   -- the way to the slot before the one that moved
   pub still : Leads (link_at after) (item_at after) n b (n + from) us
-  still = started (link_at s) (link_at after) (item_at s) (item_at after) n (n + from) (n + to) t (n + from) b c (n + to) us rest (get_or (lines s n) to []) x new the_move
+  still = started (link_at s) (link_at after) (item_at s) (item_at after) n (n + from) (n + to) t (n + from) b c (n + to) us rest
+      (get_or (lines s n) to []) x new the_move
 
   -- the same, as the code reads and writes
   pub moved : (first second : Slot X) → slice_get s b ≡ Some first → slice_get s first.link ≡ Some second
@@ -193,7 +234,8 @@ module _ {X : Type 0} (s : List (Slot X)) (n from to b : ℕ) (tails : List ℕ)
       let e1 : slot_at s b ≡ first = get_or_from_slice_get s b first none f1 in
       let e2 : slot_at s at ≡ second = ap (λ (q : Slot X). slot_at s q.link) e1 ∙ get_or_from_slice_get s first.link second none f2 in
       let e3 : slot_at one c ≡ slot_at s c = ap (λ xs. slot_at xs c) w1 ∙ get_or-set_other s b c _ none (λ is. b_c (sym is)) in
-      let same : last_left rest b t ≡ l = left_is l (λ low. low_is (subst (λ (q : Slot X). q.link < n) e2 low)) (λ high. high_is (subst (λ (q : Slot X). n ≤ q.link) e2 high)) in
+      let same : last_left rest b t ≡ l =
+      left_is l (λ low. low_is (subst (λ (q : Slot X). q.link < n) e2 low)) (λ high. high_is (subst (λ (q : Slot X). n ≤ q.link) e2 high)) in
       rw (w3, w2, e3, w1, ← e1, ← e2) (held l same, still)
 
   pub first_low : (first : Slot X) → slice_get s b ≡ Some first → first.link < n

@@ -1,5 +1,6 @@
 -- The lists of a ring where the oldest item leaves, and the first list that is not empty.
-use Rattle.std.proofs.Common.{◌≡◌, ℕ, zero, suc, ◌+◌, ◌-◌, ◌<◌, ◌≤◌, List, [], ◌∷◌, ◌++◌, length, refl, sym, ap, ◌∙◌, arith, subst, get_or, set, drop, true, false}
+use Rattle.std.proofs.Common.{◌≡◌, ℕ, zero, suc, ◌+◌, ◌-◌, ◌<◌, ◌≤◌, List, [], ◌∷◌, ◌++◌, length, refl, sym, ap, ◌∙◌, arith, subst, get_or, set, drop, true}
+use Rattle.std.proofs.Common.{false}
 use Rattle.std.proofs.lemmas.List.Sums.{sum_by-set}
 use Rattle.std.specs.List.{sum_by, slice_get}
 use Rattle.std.specs.declared.option.Option.{Option}
@@ -26,7 +27,8 @@ module _ {X : Type 0} (s : List (Slot X)) (n : ℕ) (tails : List ℕ) (l : IsLi
     go [] is yet = absurd (cc)
     go (y ∷ ys) is yet = ([], y, ys, record { items = sym is; way = refl })
 
-  module _ (s2 : List (Slot X)) (n2 : ℕ) (left : (us : List X) (x : X) (rest : List X) → IsAt s n p (n + p) us (x ∷ rest) → waiting s2 n2 ≡ set (waiting s n) p (us ++ rest)) where
+  module _ (s2 : List (Slot X)) (n2 : ℕ) (left : (us : List X) (x : X) (rest : List X) → IsAt s n p (n + p) us (x ∷ rest)
+      → waiting s2 n2 ≡ set (waiting s n) p (us ++ rest)) where
     pub popped : waiting s2 n2 ≡ set (waiting s n) p (drop 1 xs)
     popped = go xs refl some where
       go : (ys : List X) → ys ≡ xs → is_some (slice_get ys 0) ≡ true → waiting s2 n2 ≡ set (waiting s n) p (drop 1 xs)
@@ -38,7 +40,8 @@ module _ {X : Type 0} (s : List (Slot X)) (n : ℕ) (tails : List ℕ) (l : IsLi
       go : (ys : List X) → ys ≡ xs → is_some (slice_get ys 0) ≡ true → k - 1 ≡ sum_by length (waiting s2 n2)
       go [] not yet = absurd (cc)
       go (y ∷ ys) same yet =
-          let one : sum_by length (set (waiting s n) p (drop 1 xs)) + length xs ≡ sum_by length (waiting s n) + length (drop 1 xs) = sum_by-set length (waiting s n) p (drop 1 xs) [] (omega (arith, l.five)) in
+          let one : sum_by length (set (waiting s n) p (drop 1 xs)) + length xs ≡ sum_by length (waiting s n) + length (drop 1 xs) =
+          sum_by-set length (waiting s n) p (drop 1 xs) [] (omega (arith, l.five)) in
           let two : length xs ≡ suc (length ys) = ap length (sym same) in
           let three : length (drop 1 xs) ≡ length ys = ap (λ zs. length (drop 1 zs)) (sym same) in
           let four : sum_by length (waiting s2 n2) ≡ sum_by length (set (waiting s n) p (drop 1 xs)) = ap (sum_by length) popped in
@@ -60,7 +63,8 @@ best_found ([] ∷ ls) zero k is = absurd (cc)
 best_found ((x ∷ more) ∷ ls) zero k is = refl
 best_found (l ∷ ls) (suc i) k is = best_found ls i k is
 
-pub best_next : {X : Type 0} (ls : List (List X)) (i k : ℕ) → is_some (slice_get (get_or ls i []) 0) ≡ false → first_from k (drop i ls) ≡ first_from (k + 1) (drop (suc i) ls)
+pub best_next : {X : Type 0} (ls : List (List X)) (i k : ℕ) → is_some (slice_get (get_or ls i []) 0) ≡ false
+    → first_from k (drop i ls) ≡ first_from (k + 1) (drop (suc i) ls)
 best_next [] zero k is = refl
 best_next [] (suc i) k is = refl
 best_next ([] ∷ ls) zero k is = refl

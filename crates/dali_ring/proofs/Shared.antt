@@ -30,5 +30,6 @@ module _ {M : Type 1} {𝓤 : Ura M} (𝓛 : Logic 𝓤) (l : Lft) (R : RattleTy
       (λ κ ts. Shares-less 𝓛 R R.lives l inc (L.shares 𝓛) x κ ts b o) (lends_each xs b (o + type_size R) n)
 
   pub lends_block : (p : Ptr) (n : ℕ) (xs : List R.Denot) → Lends 𝓛 (block_owns R p n xs) (block_lends R p n xs) l
-  lends_block (block_ptr b o) n xs = Lends-both 𝓛 (fits R n) (filled R b o n xs) (said (fits R n)) (elements_shared R xs b o) l (Lends-said 𝓛 (fits R n) tt l) (lends_each xs b o n)
+  lends_block (block_ptr b o) n xs =
+      Lends-both 𝓛 (fits R n) (filled R b o n xs) (said (fits R n)) (elements_shared R xs b o) l (Lends-said 𝓛 (fits R n) tt l) (lends_each xs b o n)
   lends_block null_ptr n xs = Lends-false 𝓛 (said ffalse) l

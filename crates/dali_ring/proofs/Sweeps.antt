@@ -1,5 +1,6 @@
 -- A list that a sender's items leave, slot by slot.
-use Rattle.std.proofs.Common.{◌≡◌, ◌≢◌, ℕ, suc, ◌+◌, ◌<◌, ◌≤◌, List, [], ◌∷◌, ◌++◌, length, refl, sym, ap, ◌∙◌, arith, subst, get_or, set, map, true, false, ◌==◌, append_assoc, length-append}
+use Rattle.std.proofs.Common.{◌≡◌, ◌≢◌, ℕ, suc, ◌+◌, ◌<◌, ◌≤◌, List, [], ◌∷◌, ◌++◌, length, refl, sym, ap, ◌∙◌, arith, subst, get_or, set, map, true, false}
+use Rattle.std.proofs.Common.{◌==◌, append_assoc, length-append}
 use Rattle.std.proofs.lemmas.List.{set-set, set-get_or, map-append, length-map}
 use Rattle.std.proofs.lemmas.List.Sums.{sum_by-set}
 use Rattle.std.proofs.lemmas.Bool.Decides.{nat_tests}
@@ -13,7 +14,8 @@ use Rattle.dali_ring.proofs.Ways.{joined, followed}
 use Rattle.dali_ring.proofs.Waiting.{behind_is, free_length, first_at}
 
 -- List p of the slots s0, of which the sender's items before slot b have left: the slots are s now.
-pub record Swept {X : Type 0} (from : X → ℕ) (sender : ℕ) (s0 : List (Slot X)) (n0 : ℕ) (s : List (Slot X)) (n : ℕ) (tails : List ℕ) (p b gone : ℕ) (us rest : List X) : Type 0 where
+pub record Swept {X : Type 0} (from : X → ℕ) (sender : ℕ) (s0 : List (Slot X)) (n0 : ℕ) (s : List (Slot X)) (n : ℕ) (tails : List ℕ) (p b gone : ℕ)
+    (us rest : List X) : Type 0 where
   pub linked : IsLinked s n tails
   pub same : n ≡ n0
   pub at : IsAt s n p b us rest
@@ -43,10 +45,12 @@ module _ {X : Type 0} (s : List (Slot X)) (n : ℕ) (tails : List ℕ) (p b : �
   -- how many are left to be looked at
   pub left_is : (us rest : List X) → IsLinked s n tails → IsAt s n p b us rest → length (follow (link_at s) (item_at s) n n b) ≡ length rest
   left_is us rest l at =
-      let one : sum_by length (set (waiting s n) p []) + length (get_or (waiting s n) p []) ≡ sum_by length (waiting s n) + 0 = sum_by-set length (waiting s n) p [] [] (omega (arith, low, l.five)) in
+      let one : sum_by length (set (waiting s n) p []) + length (get_or (waiting s n) p []) ≡ sum_by length (waiting s n) + 0 =
+      sum_by-set length (waiting s n) p [] [] (omega (arith, low, l.five)) in
       let two : length (get_or (waiting s n) p []) ≡ length us + length rest = ap length at.items ∙ length-append us rest in
       let fits : length (map (λ (x : X). Some x) rest) ≤ n = omega (arith, one, two, free_length s n tails l, length-map rest (λ (x : X). Some x)) in
-      ap length (followed (link_at s) (item_at s) n (n + p) (get_or tails p 0) b n (map Some rest) (omega arith) (behind_is s n tails l p b us rest low at) fits)
+      ap length (followed (link_at s) (item_at s) n (n + p) (get_or tails p 0) b n (map Some rest) (omega arith)
+      (behind_is s n tails l p b us rest low at) fits)
       ∙ length-map rest (λ (x : X). Some x)
 
 module _ {X : Type 0} (from : X → ℕ) (sender : ℕ) (s0 : List (Slot X)) (n0 : ℕ) (s : List (Slot X)) (n : ℕ) (tails : List ℕ) (p b gone : ℕ) (low : p < 5) where
@@ -66,7 +70,8 @@ module _ {X : Type 0} (from : X → ℕ) (sender : ℕ) (s0 : List (Slot X)) (n0
   swept_out us (x ∷ rest) item w is mine s2 n2 tails2 l2 same now2 at2 =
       let this : item ≡ x = cc in
       let test : (from x == sender) ≡ true = grind (arith, nat_tests, ap from this, mine) in
-      let one : sum_by length (set (waiting s n) p (us ++ rest)) + length (get_or (waiting s n) p []) ≡ sum_by length (waiting s n) + length (us ++ rest) = sum_by-set length (waiting s n) p (us ++ rest) [] (omega (arith, low, w.linked.five)) in
+      let one : sum_by length (set (waiting s n) p (us ++ rest)) + length (get_or (waiting s n) p []) ≡ sum_by length (waiting s n) + length (us ++ rest) =
+      sum_by-set length (waiting s n) p (us ++ rest) [] (omega (arith, low, w.linked.five)) in
       let two : length (get_or (waiting s n) p []) ≡ length us + suc (length rest) = ap length w.at.items ∙ length-append us (x ∷ rest) in
       let three : waiting s2 n2 ≡ set (waiting s n) p (us ++ rest) = now2 us x rest w.at in
       let four : length (us ++ rest) ≡ length us + length rest = length-append us rest in

@@ -1,6 +1,7 @@
 -- The five lists that wait, and the free slots, as six lists.
 use Rattle.std.proofs.Common.{◌≡◌, ℕ, ◌+◌, ◌<◌, ◌≤◌, List, [], ◌∷◌, ◌++◌, length, refl, sym, ap, ◌∙◌, arith, subst, get_or, set, map, take}
-use Rattle.std.proofs.lemmas.List.{set-append_left, set_at, map-set, map-append, get_or_append_left, get_or_at, length-map, length-set, get_or-map, get_or-set_same}
+use Rattle.std.proofs.lemmas.List.{set-append_left, set_at, map-set, map-append, get_or_append_left, get_or_at, length-map, length-set, get_or-map}
+use Rattle.std.proofs.lemmas.List.{get_or-set_same}
 use Rattle.std.proofs.lemmas.Option.{get_or_from_slice_get}
 use Rattle.std.specs.List.{slice_get}
 use Rattle.std.proofs.lemmas.List.Sums.{sum_by-append, sum_by-cons}
@@ -37,7 +38,8 @@ module _ {X : Type 0} where
   pub set_free : (qs : List (List X)) (fs gs : List (Option X)) → length qs ≡ 5 → set (six qs fs) 5 gs ≡ six qs gs
   set_free qs fs gs five = set_at (map (map Some) qs) fs [] gs 5 (omega (arith, length-map qs (map Some), five))
 
-  pub set_waiting : (qs : List (List X)) (fs : List (Option X)) (p : ℕ) (xs : List X) → length qs ≡ 5 → p < 5 → set (six qs fs) p (map Some xs) ≡ six (set qs p xs) fs
+  pub set_waiting : (qs : List (List X)) (fs : List (Option X)) (p : ℕ) (xs : List X) → length qs ≡ 5 → p < 5
+      → set (six qs fs) p (map Some xs) ≡ six (set qs p xs) fs
   set_waiting qs fs p xs five low =
       set-append_left (map (map Some) qs) (fs ∷ []) p (map Some xs) (omega (arith, length-map qs (map Some), five))
       ∙ ap (λ l. l ++ fs ∷ []) (sym (map-set (map Some) qs p xs))
@@ -46,7 +48,8 @@ module _ {X : Type 0} where
   somes_six (a ∷ b ∷ c ∷ d ∷ e ∷ []) fs five = rw (somes_map a, somes_map b, somes_map c, somes_map d, somes_map e) refl
   somes_six _ fs five = absurd (omega (arith, five))
 
-  module _ (s : List (Slot X)) (n : ℕ) (tails : List ℕ) (qs : List (List X)) (fs : List (Option X)) (five : length qs ≡ 5) (h : Holds s n tails (six qs fs)) where
+  module _ (s : List (Slot X)) (n : ℕ) (tails : List ℕ) (qs : List (List X)) (fs : List (Option X)) (five : length qs ≡ 5)
+      (h : Holds s n tails (six qs fs)) where
     pub waiting_is : waiting s n ≡ qs
     waiting_is = ap (λ l. map somes (take 5 l)) (lines_are s n tails (six qs fs) h) ∙ somes_six qs fs five
 
@@ -75,7 +78,8 @@ module _ {X : Type 0} where
     -- a place in a list that waits, as one of six
     pub place_is : (p b : ℕ) (us rest : List X) (x : X) → p < 5 → IsAt s n p b us (x ∷ rest) → IsBefore s n p b (map Some us) (Some x) (map Some rest)
     place_is p b us rest x low at = record {
-      items = ap (λ ls. get_or ls p []) lines_six ∙ get_waiting (waiting s n) (line s n 5) p l.five low ∙ ap (map Some) at.items ∙ map-append Some us (x ∷ rest);
+      items = ap (λ ls. get_or ls p []) lines_six ∙ get_waiting (waiting s n) (line s n 5) p l.five low ∙ ap (map Some) at.items
+          ∙ map-append Some us (x ∷ rest);
       way = at.way;
     }
 
@@ -116,7 +120,8 @@ module _ {X : Type 0} (s : List (Slot X)) (n : ℕ) (tails : List ℕ) (l : IsLi
       ∙ ap (λ xs. set (six qs gs) p (xs ++ Some item ∷ [])) (list_is p low)
       ∙ ap (λ xs. set (six qs gs) p xs) (sym (map-append Some (get_or qs p []) (item ∷ [])))
       ∙ set_waiting qs gs p (get_or qs p [] ++ item ∷ []) l.five low in
-      let held : Holds s2 n2 tails2 (six (set qs p (get_or qs p [] ++ item ∷ [])) gs) = subst (λ ls. Holds s2 n2 tails2 ls) now (move place.0 place.1 place.2 place.3) in (
+      let held : Holds s2 n2 tails2 (six (set qs p (get_or qs p [] ++ item ∷ [])) gs) =
+      subst (λ ls. Holds s2 n2 tails2 ls) now (move place.0 place.1 place.2 place.3) in (
         waiting_is s2 n2 tails2 (set qs p (get_or qs p [] ++ item ∷ [])) gs (five_set p _) held,
         linked_is s2 n2 tails2 (set qs p (get_or qs p [] ++ item ∷ [])) gs (five_set p _) held (omega (arith, l.least)) (omega (arith, l.most)),
       )
@@ -155,7 +160,8 @@ module _ {X : Type 0} (s : List (Slot X)) (n : ℕ) (tails : List ℕ) (l : IsLi
   first_at p = record { items = refl; way = refl }
 
 -- what is read behind a place
-module _ {X : Type 0} (s : List (Slot X)) (n : ℕ) (tails : List ℕ) (l : IsLinked s n tails) (p b : ℕ) (us rest : List X) (low : p < 5) (at : IsAt s n p b us rest) where
+module _ {X : Type 0} (s : List (Slot X)) (n : ℕ) (tails : List ℕ) (l : IsLinked s n tails) (p b : ℕ) (us rest : List X) (low : p < 5)
+    (at : IsAt s n p b us rest) where
   pub read_some : (first second : Slot X) → slice_get s b ≡ Some first → first.link < n → slice_get s first.link ≡ Some second → second.item ≡ slice_get rest 0
   read_some first second f1 less f2 =
       let none : Slot X = record { link = 0; item = None } in
@@ -163,7 +169,8 @@ module _ {X : Type 0} (s : List (Slot X)) (n : ℕ) (tails : List ℕ) (l : IsLi
       let e2 : slot_at s (link_at s b) ≡ second = ap (λ (q : Slot X). slot_at s q.link) e1 ∙ get_or_from_slice_get s first.link second none f2 in
       let e3 : link_at s b < n = subst (λ (q : Slot X). q.link < n) (sym e1) less in
       sym (ap (λ (q : Slot X). q.item) e2) ∙ go rest e3 (behind_is s n tails l p b us rest low at) where
-        go : (ys : List X) → link_at s b < n → IsList (link_at s) (item_at s) n (n + p) (get_or tails p 0) b (map Some ys) → item_at s (link_at s b) ≡ slice_get ys 0
+        go : (ys : List X) → link_at s b < n → IsList (link_at s) (item_at s) n (n + p) (get_or tails p 0) b (map Some ys)
+            → item_at s (link_at s b) ≡ slice_get ys 0
         go [] lt is = absurd (omega (arith, lt, ap (link_at s) is.0, is.1))
         go (y ∷ ys) lt is = is.0.1
 

@@ -42,19 +42,22 @@ other_address_is_not_given : Lawful block reserved (searched_with (sent 0xBB 0 (
 unfolding block reserved sent searched_with command_of stage_of
 other_address_is_not_given lawful =
     let t = searched_with (sent 0xBB 0 (Byte 0xFF) ∷ []) in
-    let test : follows block reserved (stage_of t) (command_of (frame 0xB7 0x0B)) ≡ true = follows_test block reserved (stage_of t) (command_of (frame 0xB7 0x0B)) (follows_lawful block reserved t (frame 0xB7 0x0B) lawful) in
+    let test : follows block reserved (stage_of t) (command_of (frame 0xB7 0x0B)) ≡ true =
+    follows_test block reserved (stage_of t) (command_of (frame 0xB7 0x0B)) (follows_lawful block reserved t (frame 0xB7 0x0B) lawful) in
     cc
 
 no_program_without_query : Lawful block reserved (searched_with []) (frame 0xB7 0x09) → ⊥
 unfolding block reserved sent searched_with command_of stage_of
 no_program_without_query lawful =
     let t = searched_with [] in
-    let test : follows block reserved (stage_of t) (command_of (frame 0xB7 0x09)) ≡ true = follows_test block reserved (stage_of t) (command_of (frame 0xB7 0x09)) (follows_lawful block reserved t (frame 0xB7 0x09) lawful) in
+    let test : follows block reserved (stage_of t) (command_of (frame 0xB7 0x09)) ≡ true =
+    follows_test block reserved (stage_of t) (command_of (frame 0xB7 0x09)) (follows_lawful block reserved t (frame 0xB7 0x09) lawful) in
     cc
 
 no_withdraw_after_damage : Lawful block reserved (searched_with (sent 0xBB 0 Damaged ∷ [])) (frame 0xAB 0) → ⊥
 unfolding block reserved sent searched_with command_of stage_of
 no_withdraw_after_damage lawful =
     let t = searched_with (sent 0xBB 0 Damaged ∷ []) in
-    let test : follows block reserved (stage_of t) (command_of (frame 0xAB 0)) ≡ true = follows_test block reserved (stage_of t) (command_of (frame 0xAB 0)) (follows_lawful block reserved t (frame 0xAB 0) lawful) in
+    let test : follows block reserved (stage_of t) (command_of (frame 0xAB 0)) ≡ true =
+    follows_test block reserved (stage_of t) (command_of (frame 0xAB 0)) (follows_lawful block reserved t (frame 0xAB 0) lawful) in
     cc

@@ -9,21 +9,25 @@ use Rattle.dali_frame.specs.Random.{value_of}
 use Rattle.dali_special.specs.declared.command.Target.TheVariants.{Unaddressed}
 use Rattle.dali_special.specs.declared.command.Part.TheVariants.{High, Middle, Low}
 use Rattle.dali_special.specs.declared.command.Command.{Command}
-use Rattle.dali_special.specs.declared.command.Command.TheVariants.{Terminate, Initialise, Randomise, Compare, Withdraw, SearchHigh, SearchMiddle, SearchLow, Program, QueryShort, RandomByte, Arc}
+use Rattle.dali_special.specs.declared.command.Command.TheVariants.{Terminate, Initialise, Randomise, Compare, Withdraw, SearchHigh, SearchMiddle, SearchLow}
+use Rattle.dali_special.specs.declared.command.Command.TheVariants.{Program, QueryShort, RandomByte, Arc}
 use Rattle.dali_special.specs.Command.{MASK, command_of, IsSpelled}
 use Rattle.dali_special.proofs.Table.{read_spelled}
 use Rattle.dali_script.specs.declared.block.Block.{Block}
 use Rattle.dali_script.specs.declared.trace.Entry.{Entry}
 use Rattle.dali_script.specs.declared.stage.Stage.{Stage}
-use Rattle.dali_script.specs.declared.stage.Stage.TheVariants.{Free, Terminated, InitialisedOnce, Initialised, RandomisedOnce, HighSent, MiddleSent, NumberSent, Found, Unnamed, Inconclusive, Programmed, Confirmed, HighAsked, MiddleAsked, Spelled}
+use Rattle.dali_script.specs.declared.stage.Stage.TheVariants.{Free, Terminated, InitialisedOnce, Initialised, RandomisedOnce, HighSent, MiddleSent, NumberSent}
+use Rattle.dali_script.specs.declared.stage.Stage.TheVariants.{Found, Unnamed, Inconclusive, Programmed, Confirmed, HighAsked, MiddleAsked, Spelled}
 use Rattle.dali_script.specs.declared.finding.Finding.{Finding}
 use Rattle.dali_script.specs.declared.finding.Finding.TheVariants.{Queried, Resolved}
 use Rattle.dali_script.specs.Records.{Assignment}
 use Rattle.dali_script.specs.Scripts.{Step, steps, IsFront, Lawful, IsLawful}
-use Rattle.dali_script.specs.Findings.{search_after, at_power_on, search_from, search_of, Asked, nothing, asked_after, asked_from, asked_of, found_by, later, finding_from, finding_of}
+use Rattle.dali_script.specs.Findings.{search_after, at_power_on, search_from, search_of, Asked, nothing, asked_after, asked_from, asked_of, found_by, later}
+use Rattle.dali_script.specs.Findings.{finding_from, finding_of}
 use Rattle.dali_script.proofs.Transactions.{self, equal, middle_next, low_next, middle_same, low_same, Tracks, tracks, follows_lawful, stage_none, stage_more}
 use Rattle.dali_script.proofs.Senders.{sent_more}
-use Rattle.dali_script.specs.Stages.{named, queried, answered, verified, byte_heard, bytes_heard, number_heard, next_stage, stage_from, stage_of, Follows, finding_at, IsSearched, IsAsked, IsTrace}
+use Rattle.dali_script.specs.Stages.{named, queried, answered, verified, byte_heard, bytes_heard, number_heard, next_stage, stage_from, stage_of, Follows}
+use Rattle.dali_script.specs.Stages.{finding_at, IsSearched, IsAsked, IsTrace}
 
 -- What is kept beside the stage of a trace: the search address, what queries of a random address were heard as, and the
 -- finding. They grow by a frame, and the stage of a lawful trace says them.
@@ -61,7 +65,8 @@ finding_from_more r q (x ∷ t) e =
     ap (λ o. later (found_by r q (command_of x.frame) x.heard) o) (finding_from_more n p t e)
     ∙ later_later (found_by r q (command_of x.frame) x.heard) (finding_from n p t) (found_by (search_from n t) (asked_from p t) (command_of e.frame) e.heard)
 
-pub finding_more : (t : List Entry) (e : Entry) → finding_of (t ++ e ∷ []) ≡ later (finding_of t) (found_by (search_of t) (asked_of t) (command_of e.frame) e.heard)
+pub finding_more : (t : List Entry) (e : Entry)
+    → finding_of (t ++ e ∷ []) ≡ later (finding_of t) (found_by (search_of t) (asked_of t) (command_of e.frame) e.heard)
 finding_more t e = finding_from_more at_power_on nothing t e
 
 -- what a stage says, after one more frame
@@ -102,7 +107,8 @@ high_says a (Byte v) q = refl
 high_says a Silence q = refl
 high_says a Damaged q = refl
 
-middle_says : (a : ℕ) (high : Option ℕ) (h : Answer) (q : Asked) → IsAsked (HighAsked a high) q → IsAsked (MiddleAsked a (bytes_heard high h)) (asked_after (RandomByte a Middle) h q)
+middle_says : (a : ℕ) (high : Option ℕ) (h : Answer) (q : Asked) → IsAsked (HighAsked a high) q
+    → IsAsked (MiddleAsked a (bytes_heard high h)) (asked_after (RandomByte a Middle) h q)
 middle_says a (Some high) (Byte v) q is = rw (is, self a) refl
 middle_says a (Some high) Silence q is = refl
 middle_says a (Some high) Damaged q is = refl
@@ -127,13 +133,16 @@ says_middle a c high h r q found same k =
     subst (λ n. Says (next_stage (HighAsked a high) (RandomByte n Middle) h) r (asked_after (RandomByte n Middle) h q) found) (sym same)
     (subst (λ s. Says s r (asked_after (RandomByte a Middle) h q) found) (sym (middle_next a high h)) at)
 
-says_low : (a c : ℕ) (bytes : Option (ℕ × ℕ)) (h : Answer) (r : SearchAddress) (q : Asked) (found : Option Finding) → c ≡ a → Says (MiddleAsked a bytes) r q found
+says_low : (a c : ℕ) (bytes : Option (ℕ × ℕ)) (h : Answer) (r : SearchAddress) (q : Asked) (found : Option Finding) → c ≡ a
+    → Says (MiddleAsked a bytes) r q found
     → Says (next_stage (MiddleAsked a bytes) (RandomByte c Low) h) r (asked_after (RandomByte c Low) h q) (later found (found_by r q (RandomByte c Low) h))
 says_low a c bytes h r q found same k =
     let is : later found (found_by r q (RandomByte a Low) h) ≡ option_map (λ n. Resolved a n) (number_heard bytes h) =
     ap (λ o. later o (found_by r q (RandomByte a Low) h)) k.finding ∙ none_later (found_by r q (RandomByte a Low) h) ∙ low_says r a bytes h q k.asked in
-    let at : Says (Spelled a (number_heard bytes h)) r (asked_after (RandomByte a Low) h q) (later found (found_by r q (RandomByte a Low) h)) = record { searched = tt; asked = tt; finding = is } in
-    subst (λ n. Says (next_stage (MiddleAsked a bytes) (RandomByte n Low) h) r (asked_after (RandomByte n Low) h q) (later found (found_by r q (RandomByte n Low) h))) (sym same)
+    let at : Says (Spelled a (number_heard bytes h)) r (asked_after (RandomByte a Low) h q) (later found (found_by r q (RandomByte a Low) h)) =
+    record { searched = tt; asked = tt; finding = is } in
+    subst (λ n. Says (next_stage (MiddleAsked a bytes) (RandomByte n Low) h) r (asked_after (RandomByte n Low) h q)
+    (later found (found_by r q (RandomByte n Low) h))) (sym same)
     (subst (λ s. Says s r (asked_after (RandomByte a Low) h q) (later found (found_by r q (RandomByte a Low) h))) (sym (low_next a bytes h)) at)
 
 says_more : (b : Block) (xs : List Assignment) (s : Stage) (c : Command) (h : Answer) (r : SearchAddress) (q : Asked) (found : Option Finding)
@@ -156,7 +165,8 @@ says_more b xs (NumberSent n) Compare h r q found on k = record { searched = k.s
 says_more b xs (NumberSent n) QueryShort h r q found on k = says_at (queried n h) r n q nothing found h k.searched k.finding (queried_says n q nothing h)
 says_more b xs (Found n c) Withdraw h r q found on k = record { searched = k.searched; asked = tt; finding = k.finding }
 says_more b xs (Unnamed n) (Program (Some a)) h r q found on k = record { searched = k.searched; asked = tt; finding = k.finding }
-says_more b xs (Programmed n a) QueryShort h r q found on k = says_at (verified n a h) r n q nothing found h k.searched k.finding (verified_says n q nothing a h)
+says_more b xs (Programmed n a) QueryShort h r q found on k =
+    says_at (verified n a h) r n q nothing found h k.searched k.finding (verified_says n q nothing a h)
 says_more b xs (Confirmed n a) Withdraw h r q found on k = record { searched = k.searched; asked = tt; finding = k.finding }
 says_more b xs (HighAsked a high) (RandomByte c Middle) h r q found on k = says_middle a c high h r q found (middle_same a c high on.leads_on) k
 says_more b xs (MiddleAsked a bytes) (RandomByte c Low) h r q found on k = says_low a c bytes h r q found (low_same a c bytes on.leads_on) k
@@ -183,7 +193,8 @@ trace_more s t f h lawful k =
     }
 
 -- WHAT A FRONT OF A SCRIPT SAYS
-says_from : (b : Block) (xs : List Assignment) (t : List Entry) (s : Stage) (f : Forward) (ss : List Step) (r : SearchAddress) (q : Asked) (found : Option Finding)
+says_from : (b : Block) (xs : List Assignment) (t : List Entry) (s : Stage) (f : Forward) (ss : List Step) (r : SearchAddress) (q : Asked)
+    (found : Option Finding)
     → IsFront t f ss → Tracks b xs s ss → Says s r q found → Says (stage_from s t) (search_from r t) (asked_from q t) (later found (finding_from r q t))
 unfolding Tracks
 says_from b xs [] s f [] r q found front tr k = absurd front
@@ -207,7 +218,8 @@ says_from b xs (e ∷ t) s f (step ∷ more) r q found front tr k =
 says_lawful : (b : Block) (xs : List Assignment) (t : List Entry) (f : Forward) → Lawful b xs t f → Says (stage_of t) (search_of t) (asked_of t) (finding_of t)
 unfolding stage_of
 says_lawful b xs t f lawful =
-    let says = says_from b xs t Free f (steps lawful.0) at_power_on nothing None lawful.2 (tracks b xs lawful.0 lawful.1) (record { searched = tt; asked = tt; finding = refl }) in
+    let says = says_from b xs t Free f (steps lawful.0) at_power_on nothing None lawful.2 (tracks b xs lawful.0 lawful.1)
+    (record { searched = tt; asked = tt; finding = refl }) in
     record { searched = says.searched; asked = says.asked; finding = sym (none_later (finding_of t)) ∙ says.finding }
 
 -- the stage's search address is what the frames have set
@@ -226,11 +238,14 @@ finding_lawful b xs t f lawful = (says_lawful b xs t f lawful).finding
 says_after : (b : Block) (xs : List Assignment) (t : List Entry) (e : Entry) → Lawful b xs t e.frame
     → Says (next_stage (stage_of t) (command_of e.frame) e.heard) (search_of (t ++ e ∷ [])) (asked_of (t ++ e ∷ [])) (finding_of (t ++ e ∷ []))
 says_after b xs t e lawful =
-    let more = says_more b xs (stage_of t) (command_of e.frame) e.heard (search_of t) (asked_of t) (finding_of t) (follows_lawful b xs t e.frame lawful) (says_lawful b xs t e.frame lawful) in
+    let more = says_more b xs (stage_of t) (command_of e.frame) e.heard (search_of t) (asked_of t) (finding_of t) (follows_lawful b xs t e.frame lawful)
+    (says_lawful b xs t e.frame lawful) in
     rw (searched_more t e, asked_more t e, finding_more t e) more
 
-pub searched_after : (b : Block) (xs : List Assignment) (t : List Entry) (e : Entry) → Lawful b xs t e.frame → IsSearched (stage_of (t ++ e ∷ [])) (search_of (t ++ e ∷ []))
+pub searched_after : (b : Block) (xs : List Assignment) (t : List Entry) (e : Entry) → Lawful b xs t e.frame
+    → IsSearched (stage_of (t ++ e ∷ [])) (search_of (t ++ e ∷ []))
 searched_after b xs t e lawful = rw (stage_more t e) (says_after b xs t e lawful).searched
 
-pub finding_after : (b : Block) (xs : List Assignment) (t : List Entry) (e : Entry) → Lawful b xs t e.frame → finding_of (t ++ e ∷ []) ≡ finding_at (stage_of (t ++ e ∷ []))
+pub finding_after : (b : Block) (xs : List Assignment) (t : List Entry) (e : Entry) → Lawful b xs t e.frame
+    → finding_of (t ++ e ∷ []) ≡ finding_at (stage_of (t ++ e ∷ []))
 finding_after b xs t e lawful = rw (stage_more t e) (says_after b xs t e lawful).finding

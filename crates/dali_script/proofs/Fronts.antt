@@ -1,4 +1,5 @@
-use Rattle.std.proofs.Common.{◌≡◌, ℕ, ◌+◌, ◌<◌, ◌≤◌, ◌⊎◌, inl, inr, Bool, true, false, Option, Some, None, List, [], ◌∷◌, ◌++◌, refl, sym, ap, subst, ◌∙◌, arith, length, map, get_or, ◌≢◌, replicate, take, drop, set, ◌-◌, length-set, take-take, get_or-set_same, get_or-set_other}
+use Rattle.std.proofs.Common.{◌≡◌, ℕ, ◌+◌, ◌<◌, ◌≤◌, ◌⊎◌, inl, inr, Bool, true, false, Option, Some, None, List, [], ◌∷◌, ◌++◌, refl, sym, ap, subst, ◌∙◌}
+use Rattle.std.proofs.Common.{arith, length, map, get_or, ◌≢◌, replicate, take, drop, set, ◌-◌, length-set, take-take, get_or-set_same, get_or-set_other}
 use Rattle.std.specs.Prelude.{suc, ◌↔◌, IsSome, IfSome, MatchOption}
 use Rattle.std.proofs.lemmas.Bool.{cases_eq}
 use Rattle.std.specs.List.{remove}
@@ -41,7 +42,8 @@ key_last key [] p = inl refl
 key_last key (x ∷ xs) p = inr (key_last key xs p)
 
 -- WITHIN A BLOCK
-pub within_more : (b : Block) (xs : List Assignment) (i : ℕ) (p : Assignment) → i < length xs → p ≡ get_or xs i p → ((a : ℕ) → HasAddress (take i xs) a → InBlock b a) → InBlock b p.0
+pub within_more : (b : Block) (xs : List Assignment) (i : ℕ) (p : Assignment) → i < length xs → p ≡ get_or xs i p
+    → ((a : ℕ) → HasAddress (take i xs) a → InBlock b a) → InBlock b p.0
     → (a : ℕ) → HasAddress (take (i + 1) xs) a → InBlock b a
 within_more b xs i p inside is all here a has = go (key_cases (λ q. q.0) (take i xs) p a (subst (λ ys. HasAddress ys a) (take_next xs i p inside is) has)) where
   go : HasAddress (take i xs) a ⊎ (p.0 ≡ a) → InBlock b a
@@ -52,20 +54,30 @@ within_more b xs i p inside is all here a has = go (key_cases (λ q. q.0) (take 
 pub enrolled_none : AreEnrolled []
 enrolled_none = record { map = map_none; drawn = λ r has. absurd has }
 
-pub enrolled_more : (xs : List Assignment) (i : ℕ) (p : Assignment) → i < length xs → p ≡ get_or xs i p → AreEnrolled (take i xs) → IsFresh (take i xs) p × (p.0 < 64) × (p.1 < MASK24)
+pub enrolled_more : (xs : List Assignment) (i : ℕ) (p : Assignment) → i < length xs → p ≡ get_or xs i p → AreEnrolled (take i xs)
+    → IsFresh (take i xs) p × (p.0 < 64) × (p.1 < MASK24)
     → AreEnrolled (take (i + 1) xs)
 enrolled_more xs i p inside is are next = subst AreEnrolled (sym (take_next xs i p inside is)) (record {
   map = map_more (take i xs) p.0 p.1 are.map next.0.0 next.0.1 next.1;
   drawn = all_more (λ q. q.1) (λ n. n < MASK24) (take i xs) p are.drawn next.2;
 })
 
-pub next_enrolled : (xs : List Assignment) (i : ℕ) (p : Assignment) → i < length xs → p ≡ get_or xs i p → AreEnrolled xs → IsFresh (take i xs) p × (p.0 < 64) × (p.1 < MASK24)
-next_enrolled xs i p inside is are = (next_fresh xs i p are.map inside is, are.map.short p.0 (address_at xs i p inside is), are.drawn p.1 (random_at xs i p inside is))
+pub next_enrolled : (xs : List Assignment) (i : ℕ) (p : Assignment) → i < length xs → p ≡ get_or xs i p → AreEnrolled xs
+    → IsFresh (take i xs) p × (p.0 < 64) × (p.1 < MASK24)
+next_enrolled xs i p inside is are =
+    (next_fresh xs i p are.map inside is, are.map.short p.0 (address_at xs i p inside is), are.drawn p.1 (random_at xs i p inside is))
 
 pub marks_none : Marks [] (replicate 64 false)
-marks_none = record { all = refl; marked = λ a small. (λ is. absurd (let no : false ≡ true = sym (get_or-replicate 64 a false false small) ∙ is in cc), λ has. absurd has) }
+marks_none = record {
+  all = refl;
+  marked = λ a small. (
+    λ is. absurd (let no : false ≡ true = sym (get_or-replicate 64 a false false small) ∙ is in cc),
+    λ has. absurd has,
+  );
+}
 
-pub marks_more : (xs : List Assignment) (i : ℕ) (p : Assignment) (marks : List Bool) → i < length xs → p ≡ get_or xs i p → p.0 < 64 → Marks (take i xs) marks → Marks (take (i + 1) xs) (set marks p.0 true)
+pub marks_more : (xs : List Assignment) (i : ℕ) (p : Assignment) (marks : List Bool) → i < length xs → p ≡ get_or xs i p → p.0 < 64 → Marks (take i xs) marks
+    → Marks (take (i + 1) xs) (set marks p.0 true)
 marks_more xs i p marks inside is small m = subst (λ ys. Marks ys (set marks p.0 true)) (sym (take_next xs i p inside is)) (record {
   all = length-set marks p.0 true ∙ m.all;
   marked = λ a below. (only a below (cases_eq a p.0), other a below (cases_eq a p.0));
@@ -90,7 +102,8 @@ marks_more xs i p marks inside is small m = subst (λ ys. Marks ys (set marks p.
 pub seen_none : Seen [] (replicate 256 false)
 seen_none = record { all = refl; marked = λ r has. absurd has }
 
-pub seen_more : (xs : List Assignment) (i : ℕ) (p : Assignment) (n : ℕ) (seen : List Bool) → i < length xs → p ≡ get_or xs i p → n ≡ low_of p.1 → Seen (take i xs) seen → Seen (take (i + 1) xs) (set seen n true)
+pub seen_more : (xs : List Assignment) (i : ℕ) (p : Assignment) (n : ℕ) (seen : List Bool) → i < length xs → p ≡ get_or xs i p → n ≡ low_of p.1
+    → Seen (take i xs) seen → Seen (take (i + 1) xs) (set seen n true)
 seen_more xs i p n seen inside is last m = subst (λ ys. Seen ys (set seen n true)) (sym (take_next xs i p inside is)) (record {
   all = length-set seen n true ∙ m.all;
   marked = λ r has. marked r (cases_eq (low_of r) n) (key_cases (λ q. q.1) before p r has);
@@ -110,7 +123,8 @@ seen_more xs i p n seen inside is last m = subst (λ ys. Seen ys (set seen n tru
   marked r (inr not_it) (inr same) = absurd (not_it (sym (last ∙ ap low_of same)))
 
 -- WHAT A TEST OF A NUMBER SAYS
-pub short_found : (o : Option ℕ) (xs : List Assignment) (a r : ℕ) → IsSome o ↔ (a < 64) → IfSome o (λ s. s ≡ a) → a < 64 → Has xs (a, r) → MatchOption o (HasRandom xs r → ⊥) (λ s. Has xs (s, r))
+pub short_found : (o : Option ℕ) (xs : List Assignment) (a r : ℕ) → IsSome o ↔ (a < 64) → IfSome o (λ s. s ≡ a) → a < 64 → Has xs (a, r)
+    → MatchOption o (HasRandom xs r → ⊥) (λ s. Has xs (s, r))
 short_found None xs a r range value small has = absurd (let some : false ≡ true = range.1 small in cc)
 short_found (Some s) xs a r range value small has = subst (λ n. Has xs (n, r)) (sym value) has
 

@@ -46,7 +46,8 @@ any_by_member test (y ∷ xs) x (inr h) e = second_of_either (test y) (list_any 
 pub member_by_any : {A : Type 0} (test : A → Bool) (xs : List A) → list_any test xs ≡ true → (x : A) × Has xs x × (test x ≡ true)
 member_by_any {A} test [] e = absurd (cc)
 member_by_any {A} test (y ∷ xs) e = go (either_true (test y) (list_any test xs) e) (member_by_any test xs) where
-  go : (test y ≡ true) ⊎ (list_any test xs ≡ true) → (list_any test xs ≡ true → (x : A) × Has xs x × (test x ≡ true)) → (x : A) × Has (y ∷ xs) x × (test x ≡ true)
+  go : (test y ≡ true) ⊎ (list_any test xs ≡ true) → (list_any test xs ≡ true → (x : A) × Has xs x × (test x ≡ true))
+      → (x : A) × Has (y ∷ xs) x × (test x ≡ true)
   go (inl here) later = (y, inl refl, here)
   go (inr more) later = let found = later more in (found.0, inr found.1, found.2)
 
@@ -111,13 +112,15 @@ may_give_from b xs r a e =
         (low, high)
 
 -- over records that are kept, the reservation of a number says all of it
-pub give_some : (b : Block) (xs : List Assignment) (n c a : ℕ) → IsMap xs → AllDrawn xs → ((d : ℕ) → HasAddress xs d → InBlock b d) → Has xs (c, n) → (c == a) ≡ may_give b xs n a
+pub give_some : (b : Block) (xs : List Assignment) (n c a : ℕ) → IsMap xs → AllDrawn xs → ((d : ℕ) → HasAddress xs d → InBlock b d) → Has xs (c, n)
+    → (c == a) ≡ may_give b xs n a
 give_some b xs n c a m drawn within h = go (c == a) refl where
   go : (t : Bool) → (c == a) ≡ t → t ≡ may_give b xs n a
   go true is =
       let same : c ≡ a = grind (arith, nat_tests) in
       let here : Has xs (a, n) = subst (λ d. Has xs (d, n)) same h in
-      sym (both _ _ (both _ _ (below_by n MASK24 (drawn n (has_map (λ q. q.1) xs (a, n) here))) (in_block_by b a (within a (has_map (λ q. q.0) xs (a, n) here)))) (test_of_pair xs a n here))
+      sym (both _ _ (both _ _ (below_by n MASK24 (drawn n (has_map (λ q. q.1) xs (a, n) here)))
+      (in_block_by b a (within a (has_map (λ q. q.0) xs (a, n) here)))) (test_of_pair xs a n here))
   go false is = sym (not_second _ _ (false_of_not _ (λ e.
       let same : c ≡ a = one_address xs c a n m.random_once h (pair_of_test xs a n e) in
       grind (arith, nat_tests))))
@@ -125,7 +128,8 @@ give_some b xs n c a m drawn within h = go (c == a) refl where
 pub give_none : (b : Block) (xs : List Assignment) (n a : ℕ) → (HasRandom xs n → ⊥) → false ≡ may_give b xs n a
 give_none b xs n a none = sym (not_second _ _ (false_of_not _ (λ e. none (has_map (λ q. q.1) xs (a, n) (pair_of_test xs a n e)))))
 
-pub give_some_to : (b : Block) (xs : List Assignment) (n c : ℕ) → IsMap xs → AllDrawn xs → ((d : ℕ) → HasAddress xs d → InBlock b d) → Has xs (c, n) → true ≡ may_give_some b xs n
+pub give_some_to : (b : Block) (xs : List Assignment) (n c : ℕ) → IsMap xs → AllDrawn xs → ((d : ℕ) → HasAddress xs d → InBlock b d) → Has xs (c, n)
+    → true ≡ may_give_some b xs n
 give_some_to b xs n c m drawn within h = sym (both _ _ (below_by n MASK24 (drawn n (has_map (λ q. q.1) xs (c, n) h)))
     (any_by_member (λ p. in_block b p.0 && (p.1 == n)) xs (c, n) h (both _ _ (in_block_by b c (within c (has_map (λ q. q.0) xs (c, n) h))) (self n)))) where
       self : (k : ℕ) → (k == k) ≡ true
@@ -148,9 +152,10 @@ goes_on_by b xs n (Some c) m drawn within h = give_some_to b xs n c m drawn with
 
 pub may_give_some_by : (b : Block) (xs : List Assignment) (r : SearchAddress) (a : ℕ) → MayGive b xs r a → may_give_some b xs (value_of r) ≡ true
 may_give_some_by b xs r a g = both _ _ (below_by (value_of r) MASK24 g.drawn)
-    (any_by_member (λ p. in_block b p.0 && (p.1 == value_of r)) xs (a, value_of r) g.reserved_for (both _ _ (in_block_by b a g.within) (self (value_of r)))) where
-      self : (k : ℕ) → (k == k) ≡ true
-      self k = grind (arith, nat_tests)
+    (any_by_member (λ p. in_block b p.0 && (p.1 == value_of r)) xs (a, value_of r) g.reserved_for (both _ _ (in_block_by b a g.within) (self (value_of r))))
+  where
+    self : (k : ℕ) → (k == k) ≡ true
+    self k = grind (arith, nat_tests)
 
 pub may_give_some_from : (b : Block) (xs : List Assignment) (r : SearchAddress) → may_give_some b xs (value_of r) ≡ true → (a : ℕ) × MayGive b xs r a
 may_give_some_from b xs r e =
@@ -163,7 +168,8 @@ may_give_some_from b xs r e =
         let numbered : (p.1 == value_of r) ≡ true = second_of_both (in_block b p.0) (p.1 == value_of r) t in
         let within : in_block b p.0 ≡ true = first_of_both (in_block b p.0) (p.1 == value_of r) t in
         let same : p.1 ≡ value_of r = equal p.1 (value_of r) numbered in
-        let whole : may_give b xs (value_of r) p.0 ≡ true = both _ _ (both _ _ drawn within) (test_of_pair xs p.0 (value_of r) (moved xs p.0 (value_of r) p refl same h)) in
+        let whole : may_give b xs (value_of r) p.0 ≡ true =
+        both _ _ (both _ _ drawn within) (test_of_pair xs p.0 (value_of r) (moved xs p.0 (value_of r) p refl same h)) in
         (p.0, may_give_from b xs r p.0 whole)
       where
         equal : (m n : ℕ) → (m == n) ≡ true → m ≡ n

@@ -4,5 +4,6 @@ pub mod Giving
 pub mod Transactions
 pub mod Senders
 pub mod Found
+pub mod Codes
 mod Fronts
 mod Examples

@@ -1,4 +1,6 @@
-use Rattle.std.proofs.Common.{◌≡◌, ℕ, ◌+◌, ◌<◌, ◌≤◌, ◌⊎◌, inl, inr, Bool, true, false, Option, Some, None, List, [], ◌∷◌, ◌++◌, refl, sym, ap, subst, ◌∙◌, arith, length, length-append, map, get_or, nat_eq, Decides, Result, Ok, Err, ◌≢◌, replicate, take, drop, set, length-set, get_or-set_same, get_or-set_other}
+use Rattle.std.proofs.Common.{◌≡◌, ℕ, ◌+◌, ◌<◌, ◌≤◌, ◌⊎◌, inl, inr, Bool, true, false, Option, Some, None, List, [], ◌∷◌, ◌++◌, refl, sym, ap, subst, ◌∙◌}
+use Rattle.std.proofs.Common.{arith, length, length-append, map, get_or, nat_eq, Decides, Result, Ok, Err, ◌≢◌, replicate, take, drop, set, length-set}
+use Rattle.std.proofs.Common.{get_or-set_same, get_or-set_other}
 use Rattle.std.specs.Prelude.{◌==◌, ◌&&◌, not, cond, ◌↔◌, MatchOption, OnOk, OnErr, if◌then◌else◌, zero, suc}
 use Rattle.std.specs.Option.{is_some}
 use Rattle.std.proofs.lemmas.Bool.{cases_eq}
@@ -8,7 +10,8 @@ use Rattle.dali_frame.specs.Random.{MASK24}
 use Rattle.dali_script.specs.declared.block.Block.{Block}
 use Rattle.dali_script.specs.declared.records.Record.{Record}
 use Rattle.dali_script.specs.declared.records.Record.TheVariants.{Reserve, Enrol, Release}
-use Rattle.dali_script.specs.Records.{Kept, IsKept, without_records, Fits, MayAdd, address_of, with_record, Assignment, Has, IsOnce, addresses, randoms, HasAddress, HasRandom, InBlock, IsMap, Marks, is_pair, without_pair, IsFresh}
+use Rattle.dali_script.specs.Records.{Kept, IsKept, without_records, Fits, MayAdd, address_of, with_record, Assignment, Has, IsOnce, addresses, randoms}
+use Rattle.dali_script.specs.Records.{HasAddress, HasRandom, InBlock, IsMap, Marks, is_pair, without_pair, IsFresh}
 
 -- membership and an append
 pub has_last : {A : Type 0} (xs : List A) (x : A) → Has (xs ++ x ∷ []) x
@@ -112,7 +115,8 @@ all_more key P xs p all one n h = go (has_cases (map key xs) (key p) n (subst (�
   go (inr e) = subst P e one
 
 -- also where it may not have been added
-pub all_after : {E : Type 0} (key : Assignment → ℕ) (P : ℕ → Type 0) (old new : List Assignment) (p : Assignment) (r : Result (Unit {0}) E) → ((n : ℕ) → Has (map key old) n → P n)
+pub all_after : {E : Type 0} (key : Assignment → ℕ) (P : ℕ → Type 0) (old new : List Assignment) (p : Assignment) (r : Result (Unit {0}) E)
+    → ((n : ℕ) → Has (map key old) n → P n)
     → P (key p) → OnOk r (new ≡ old ++ p ∷ []) → OnErr r (new ≡ old) → (n : ℕ) → Has (map key new) n → P n
 all_after key P old new p (Err e) all one ok err = subst (λ xs. (n : ℕ) → Has (map key xs) n → P n) (sym err) all
 all_after key P old new p (Ok u) all one ok err = subst (λ xs. (n : ℕ) → Has (map key xs) n → P n) (sym ok) (all_more key P old p all one)
@@ -148,7 +152,8 @@ pub pair_there : (xs : List Assignment) (i a : ℕ) (p : Assignment) → i < len
 pair_there xs i a p h is same = subst (λ m. Has xs (m, p.1)) same (subst (λ q. Has xs q) (sym is) (has_at xs i p h))
 
 -- what a search says of an address, and of a number
-pub address_found : (xs : List Assignment) (a : ℕ) (o : Option ℕ) → MatchOption o (HasAddress xs a → ⊥) (λ r. Has xs (a, r)) → (is_some o ≡ true) ↔ HasAddress xs a
+pub address_found : (xs : List Assignment) (a : ℕ) (o : Option ℕ) → MatchOption o (HasAddress xs a → ⊥) (λ r. Has xs (a, r))
+    → (is_some o ≡ true) ↔ HasAddress xs a
 address_found xs a None none = (λ e. absurd (cc), λ h. absurd (none h))
 address_found xs a (Some r) here = (λ e. has_map (λ p. p.0) xs (a, r) here, λ h. refl)
 
@@ -158,7 +163,10 @@ random_found xs r (Some a) here = (λ e. has_map (λ p. p.1) xs (a, r) here, λ 
 
 -- two pairs are equal where their parts are
 pub pairs_decide : (p q : Assignment) → Decides (nat_eq p.0 q.0 && nat_eq p.1 q.1) (p ≡ q)
-pairs_decide p q = (λ e. both p q (let first : p.0 ≡ q.0 = grind (arith, nat_tests) in first) (let second : p.1 ≡ q.1 = grind (arith, nat_tests) in second), λ e. subst (λ r. (nat_eq p.0 r.0 && nat_eq p.1 r.1) ≡ true) e (self p)) where
+pairs_decide p q = (
+  λ e. both p q (let first : p.0 ≡ q.0 = grind (arith, nat_tests) in first) (let second : p.1 ≡ q.1 = grind (arith, nat_tests) in second),
+  λ e. subst (λ r. (nat_eq p.0 r.0 && nat_eq p.1 r.1) ≡ true) e (self p),
+) where
   both : (p q : Assignment) → p.0 ≡ q.0 → p.1 ≡ q.1 → p ≡ q
   both p q first second = ap (λ a. (a, p.1)) first ∙ ap (λ r. (q.0, r)) second
 
@@ -205,7 +213,8 @@ without_none x (z ∷ xs) none = go (is_pair x z) refl (without_none x xs (λ h.
 pub key_left : (key : Assignment → ℕ) (x : Assignment) (xs : List Assignment) (n : ℕ) → Has (map key (without_pair x xs)) n → Has (map key xs) n
 key_left key x [] n h = h
 key_left key x (z ∷ xs) n h = go (is_pair x z) h (key_left key x xs n) where
-  go : (b : Bool) → Has (map key (cond (not b) (z ∷ without_pair x xs) (without_pair x xs))) n → (Has (map key (without_pair x xs)) n → Has (map key xs) n) → Has (map key (z ∷ xs)) n
+  go : (b : Bool) → Has (map key (cond (not b) (z ∷ without_pair x xs) (without_pair x xs))) n → (Has (map key (without_pair x xs)) n → Has (map key xs) n)
+      → Has (map key (z ∷ xs)) n
   go true k rest = inr (rest k)
   go false (inl e) rest = inl e
   go false (inr k) rest = inr (rest k)
@@ -232,7 +241,8 @@ map_left x xs m = record {
   room = let fewer : length (without_pair x xs) ≤ length xs = length_left x xs in let room : length xs ≤ 64 = m.room in omega arith;
 }
 
-pub all_left : {E : Type 0} (key : Assignment → ℕ) (P : ℕ → Type 0) (old new : List Assignment) (x : Assignment) (r : Result (Unit {0}) E) → ((n : ℕ) → Has (map key old) n → P n)
+pub all_left : {E : Type 0} (key : Assignment → ℕ) (P : ℕ → Type 0) (old new : List Assignment) (x : Assignment) (r : Result (Unit {0}) E)
+    → ((n : ℕ) → Has (map key old) n → P n)
     → OnOk r (new ≡ without_pair x old) → OnErr r (new ≡ old) → (n : ℕ) → Has (map key new) n → P n
 all_left key P old new x (Err e) all ok err = subst (λ xs. (n : ℕ) → Has (map key xs) n → P n) (sym err) all
 all_left key P old new x (Ok u) all ok err = subst (λ xs. (n : ℕ) → Has (map key xs) n → P n) (sym ok) (λ n h. all n (key_left key x old n h))
@@ -252,7 +262,8 @@ without_place x (z ∷ xs) (suc i) d o h is = go (is_pair x z) refl (without_pla
   there : Has xs x
   there = subst (λ p. Has xs p) is (has_at xs i d (omega arith))
 
-  go : (b : Bool) → is_pair x z ≡ b → take i xs ++ drop (suc i) xs ≡ without_pair x xs → z ∷ take i xs ++ drop (suc i) xs ≡ cond (not b) (z ∷ without_pair x xs) (without_pair x xs)
+  go : (b : Bool) → is_pair x z ≡ b → take i xs ++ drop (suc i) xs ≡ without_pair x xs
+      → z ∷ take i xs ++ drop (suc i) xs ≡ cond (not b) (z ∷ without_pair x xs) (without_pair x xs)
   go true same rest = absurd (o.0 (subst (λ p. Has (addresses xs) p.0) (sym ((pairs_decide z x).0 same)) (has_map (λ p. p.0) xs x there)))
   go false same rest = ap (λ ys. z ∷ ys) rest
 
@@ -295,10 +306,12 @@ pub reserved_fits : (k : Kept) (a r : ℕ) → IsKept k → Has k.reserved (a, r
 reserved_fits k a r kept has = (kept.within a (has_map (λ p. p.0) k.reserved (a, r) has), kept.reserved_drawn r (has_map (λ p. p.1) k.reserved (a, r) has))
 
 -- An element stands in no earlier place of a list in which its key stands once.
-pub once_before : (key : Assignment → ℕ) (xs : List Assignment) (i : ℕ) (d : Assignment) → IsOnce (map key xs) → i < length xs → Has (map key (take i xs)) (key (get_or xs i d)) → ⊥
+pub once_before : (key : Assignment → ℕ) (xs : List Assignment) (i : ℕ) (d : Assignment) → IsOnce (map key xs) → i < length xs
+    → Has (map key (take i xs)) (key (get_or xs i d)) → ⊥
 once_before key [] i d once h has = absurd (omega arith)
 once_before key (x ∷ xs) zero d once h has = has
-once_before key (x ∷ xs) (suc i) d once h (inl same) = once.0 (subst (Has (map key xs)) (sym same) (has_map key xs (get_or xs i d) (has_at xs i d (omega arith))))
+once_before key (x ∷ xs) (suc i) d once h (inl same) =
+    once.0 (subst (Has (map key xs)) (sym same) (has_map key xs (get_or xs i d) (has_at xs i d (omega arith))))
 once_before key (x ∷ xs) (suc i) d once h (inr more) = once_before key xs i d once.1 (omega arith) more
 
 pub next_there : (xs : List Assignment) (i : ℕ) (p : Assignment) → i < length xs → p ≡ get_or xs i p → Has xs p

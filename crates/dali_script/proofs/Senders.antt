@@ -1,4 +1,5 @@
-use Rattle.std.proofs.Common.{◌≡◌, ℕ, ◌+◌, ◌<◌, ◌≤◌, true, Option, Some, None, List, [], ◌∷◌, ◌++◌, refl, sym, subst, arith, length, length-append, append-nil, get_or, take, inl}
+use Rattle.std.proofs.Common.{◌≡◌, ℕ, ◌+◌, ◌<◌, ◌≤◌, true, Option, Some, None, List, [], ◌∷◌, ◌++◌, refl, sym, subst, arith, length, length-append, append-nil}
+use Rattle.std.proofs.Common.{get_or, take, inl}
 use Rattle.std.specs.Prelude.{zero, suc, IfSome}
 use Rattle.std.specs.Prelude.{nat_lt}
 use mathlib.Core.List.{append_assoc}

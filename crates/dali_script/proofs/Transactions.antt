@@ -1,4 +1,5 @@
-use Rattle.std.proofs.Common.{◌≡◌, ◌⊎◌, inl, inr, ℕ, ◌<◌, ◌≤◌, Bool, true, false, List, [], ◌∷◌, ◌++◌, refl, sym, ap, subst, ◌∙◌, arith, length, lit<, lit≤, Option, Some, None}
+use Rattle.std.proofs.Common.{◌≡◌, ◌⊎◌, inl, inr, ℕ, ◌<◌, ◌≤◌, Bool, true, false, List, [], ◌∷◌, ◌++◌, refl, sym, ap, subst, ◌∙◌, arith, length, lit<, lit≤}
+use Rattle.std.proofs.Common.{Option, Some, None}
 use Rattle.std.specs.Prelude.{◌==◌, if◌then◌else◌, unwrap_or, is_some, IfSome}
 use Rattle.std.proofs.lemmas.Bool.Decides.{nat_tests}
 use Rattle.dali_frame.specs.declared.frames.Forward.{Forward}
@@ -11,23 +12,29 @@ use Rattle.dali_special.specs.declared.command.Target.TheVariants.{Unaddressed}
 use Rattle.dali_special.specs.declared.command.Target.{Target}
 use Rattle.dali_special.specs.declared.command.Part.TheVariants.{High, Middle, Low}
 use Rattle.dali_special.specs.declared.command.Command.{Command}
-use Rattle.dali_special.specs.declared.command.Command.TheVariants.{Terminate, Initialise, Randomise, Compare, Withdraw, SearchHigh, SearchMiddle, SearchLow, Program, QueryShort, RandomByte, Arc}
+use Rattle.dali_special.specs.declared.command.Command.TheVariants.{Terminate, Initialise, Randomise, Compare, Withdraw, SearchHigh, SearchMiddle, SearchLow}
+use Rattle.dali_special.specs.declared.command.Command.TheVariants.{Program, QueryShort, RandomByte, Arc}
 use Rattle.dali_special.specs.Command.{MASK, command_of, frame_of, IsSpelled}
 use Rattle.dali_special.proofs.Table.{code_of_short, short_of_code, short_small, read_spelled, read_written}
 use Rattle.dali_script.specs.declared.block.Block.{Block}
 use Rattle.dali_script.specs.declared.trace.Entry.{Entry}
 use Rattle.dali_script.specs.declared.stage.Stage.{Stage}
-use Rattle.dali_script.specs.declared.stage.Stage.TheVariants.{Free, Terminated, InitialisedOnce, Initialised, RandomisedOnce, Opened, HighSent, MiddleSent, NumberSent, Probed, Found, Unnamed, Unanswered, Inconclusive, Programmed, Confirmed, Withdrawn, HighAsked, MiddleAsked, Spelled, Over}
+use Rattle.dali_script.specs.declared.stage.Stage.TheVariants.{Free, Terminated, InitialisedOnce, Initialised, RandomisedOnce, Opened, HighSent, MiddleSent}
+use Rattle.dali_script.specs.declared.stage.Stage.TheVariants.{NumberSent, Probed, Found, Unnamed, Unanswered, Inconclusive, Programmed, Confirmed, Withdrawn}
+use Rattle.dali_script.specs.declared.stage.Stage.TheVariants.{HighAsked, MiddleAsked, Spelled, Over}
 use Rattle.dali_script.specs.Records.{Assignment, HasAddress}
-use Rattle.dali_script.specs.Scripts.{no_address, some_address, address, IsHeard, Step, sends, queries, search_at, Script, Open, Probe, Look, Give, Resolve, Close, ArcPower, steps, MayGive, MaySend, IsFront, Lawful, IsFirst, IsComplete, IsFrame, GoesOn}
+use Rattle.dali_script.specs.Scripts.{no_address, some_address, address, IsHeard, Step, sends, queries, search_at, Script, Open, Probe, Look, Give, Resolve}
+use Rattle.dali_script.specs.Scripts.{Close, ArcPower, steps, MayGive, MaySend, IsFront, Lawful, IsFirst, IsComplete, IsFrame, GoesOn}
 use Rattle.dali_script.proofs.Lists.{has_map}
 use Rattle.dali_script.proofs.Giving.{first_of_both, second_of_both, may_give_by, may_give_from, may_give_some_by, may_give_some_from}
-use Rattle.dali_script.specs.Stages.{leads, given, may_give_if, follows, may_follow, named, queried, answered, verified, byte_heard, bytes_heard, number_heard, next_stage, stage_from, stage_of, Follows}
+use Rattle.dali_script.specs.Stages.{leads, given, may_give_if, follows, may_follow, named, queried, answered, verified, byte_heard, bytes_heard, number_heard}
+use Rattle.dali_script.specs.Stages.{next_stage, stage_from, stage_of, Follows}
 
 pub turn : {b : Block} {xs : List Assignment} {s : Stage} {c : Command} → is_some (leads s c Silence) ≡ true → given s c ≡ None → Follows b xs s c
 turn {b} {xs} {s} {c} on none = record { leads_on = on; may = rw none tt }
 
-pub gives : {b : Block} {xs : List Assignment} {s : Stage} {c : Command} → is_some (leads s c Silence) ≡ true → IfSome (given s c) (λ g. MayGive b xs g.0 g.1) → Follows b xs s c
+pub gives : {b : Block} {xs : List Assignment} {s : Stage} {c : Command} → is_some (leads s c Silence) ≡ true → IfSome (given s c) (λ g. MayGive b xs g.0 g.1)
+    → Follows b xs s c
 gives {b} {xs} {s} {c} on may = record { leads_on = on; may = may }
 
 -- LAWFUL FRAMES FOLLOW. From a stage on, steps keep to what may come next.
@@ -95,10 +102,14 @@ tracks_low : (b : Block) (xs : List Assignment) (a : ℕ) (bytes : Option (ℕ �
 unfolding Tracks
 tracks_low b xs a bytes = (turn (rw (self a) refl) refl, λ spelled h w. tt)
 
-tracks_middle : (b : Block) (xs : List Assignment) (a : ℕ) (high : Option ℕ) → Tracks b xs (HighAsked a high) (sends (RandomByte a Middle) ∷ sends (RandomByte a Low) ∷ [])
+tracks_middle : (b : Block) (xs : List Assignment) (a : ℕ) (high : Option ℕ)
+    → Tracks b xs (HighAsked a high) (sends (RandomByte a Middle) ∷ sends (RandomByte a Low) ∷ [])
 unfolding Tracks
-tracks_middle b xs a high =
-    (turn (rw (self a) refl) refl, λ spelled h w. subst (λ s. Tracks b xs s (sends (RandomByte a Low) ∷ [])) (sym (middle_next a high h)) (tracks_low b xs a (bytes_heard high h)))
+tracks_middle b xs a high = (
+  turn (rw (self a) refl) refl,
+  λ spelled h w. subst (λ s. Tracks b xs s (sends (RandomByte a Low) ∷ [])) (sym (middle_next a high h))
+      (tracks_low b xs a (bytes_heard high h)),
+)
 
 pub tracks : (b : Block) (xs : List Assignment) (s : Script) → MaySend b xs s → Tracks b xs Free (steps s)
 unfolding Tracks
@@ -142,8 +153,10 @@ data Rest (b : Block) (xs : List Assignment) : Stage → List Step → Type 0 wh
   at_initialised_once : Rest b xs InitialisedOnce (sends (Initialise Unaddressed) ∷ sends Randomise ∷ sends Randomise ∷ [])
   at_initialised : Rest b xs Initialised (sends Randomise ∷ sends Randomise ∷ [])
   at_randomised_once : Rest b xs RandomisedOnce (sends Randomise ∷ [])
-  at_high : (high middle low : ℕ) (ss : List Step) → Tail b xs (record { high = high; middle = middle; low = low }) ss → Rest b xs (HighSent high) (sends (SearchMiddle middle) ∷ sends (SearchLow low) ∷ ss)
-  at_middle : (high middle low : ℕ) (ss : List Step) → Tail b xs (record { high = high; middle = middle; low = low }) ss → Rest b xs (MiddleSent high middle) (sends (SearchLow low) ∷ ss)
+  at_high : (high middle low : ℕ) (ss : List Step) → Tail b xs (record { high = high; middle = middle; low = low }) ss
+      → Rest b xs (HighSent high) (sends (SearchMiddle middle) ∷ sends (SearchLow low) ∷ ss)
+  at_middle : (high middle low : ℕ) (ss : List Step) → Tail b xs (record { high = high; middle = middle; low = low }) ss
+      → Rest b xs (MiddleSent high middle) (sends (SearchLow low) ∷ ss)
   at_number : (r : SearchAddress) (ss : List Step) → Tail b xs r ss → Rest b xs (NumberSent r) ss
   at_found : (r : SearchAddress) (c : ℕ) → Rest b xs (Found r c) (sends Withdraw ∷ [])
   at_unnamed : (r : SearchAddress) (a : ℕ) → MayGive b xs r a → Rest b xs (Unnamed r) (sends (Program (Some a)) ∷ queries (address a) ∷ sends Withdraw ∷ [])
@@ -173,18 +186,22 @@ whole b xs r _ probing = at_free (Probe r) tt
 whole b xs r _ looking = at_free (Look r) tt
 whole b xs r _ (giving a may) = at_free (Give r a) may
 
-before_number : (b : Block) (xs : List Assignment) (high middle low : ℕ) (r : SearchAddress) (h : Answer) (ss : List Step) → r ≡ record { high = high; middle = middle; low = low }
+before_number : (b : Block) (xs : List Assignment) (high middle low : ℕ) (r : SearchAddress) (h : Answer) (ss : List Step)
+    → r ≡ record { high = high; middle = middle; low = low }
     → Rest b xs (NumberSent r) ss → Before b xs (MiddleSent high middle) (SearchLow low) h ss
 before_number b xs high middle low _ h _ is (at_number r ss tail) =
     (sends (SearchLow low), refl, tt, at_middle high middle low ss (subst (λ n. Tail b xs n ss) is tail))
 
-before_found : (b : Block) (xs : List Assignment) (r : SearchAddress) (c : ℕ) (h : Answer) (ss : List Step) → IsHeard some_address h → Rest b xs (Found r c) ss → Before b xs (NumberSent r) QueryShort h ss
+before_found : (b : Block) (xs : List Assignment) (r : SearchAddress) (c : ℕ) (h : Answer) (ss : List Step) → IsHeard some_address h → Rest b xs (Found r c) ss
+    → Before b xs (NumberSent r) QueryShort h ss
 before_found b xs _ _ h _ heard (at_found r c) = (queries some_address, refl, heard, at_number r _ looking)
 
-before_unnamed : (b : Block) (xs : List Assignment) (r : SearchAddress) (h : Answer) (ss : List Step) → IsHeard no_address h → Rest b xs (Unnamed r) ss → Before b xs (NumberSent r) QueryShort h ss
+before_unnamed : (b : Block) (xs : List Assignment) (r : SearchAddress) (h : Answer) (ss : List Step) → IsHeard no_address h → Rest b xs (Unnamed r) ss
+    → Before b xs (NumberSent r) QueryShort h ss
 before_unnamed b xs _ h _ heard (at_unnamed r a may) = (queries no_address, refl, heard, at_number r _ (giving a may))
 
-before_queried : (b : Block) (xs : List Assignment) (r : SearchAddress) (h : Answer) (ss : List Step) → Rest b xs (queried r h) ss → Before b xs (NumberSent r) QueryShort h ss
+before_queried : (b : Block) (xs : List Assignment) (r : SearchAddress) (h : Answer) (ss : List Step) → Rest b xs (queried r h) ss
+    → Before b xs (NumberSent r) QueryShort h ss
 before_queried b xs r Silence ss k = absurd (nothing_unanswered b xs r ss k)
 before_queried b xs r Damaged ss k = absurd (nothing_inconclusive b xs r None ss k)
 before_queried b xs r (Byte v) ss k = go (short_of v) (v == MASK) refl refl k where
@@ -193,10 +210,12 @@ before_queried b xs r (Byte v) ss k = go (short_of v) (v == MASK) refl refl k wh
   go None true short mask k = before_unnamed b xs r (Byte v) ss (ap (λ n. Byte n) (let same : v ≡ MASK = grind (arith, nat_tests) in same)) k
   go None false short mask k = absurd (nothing_inconclusive b xs r None ss k)
 
-before_confirmed : (b : Block) (xs : List Assignment) (r : SearchAddress) (a : ℕ) (h : Answer) (ss : List Step) → IsHeard (address a) h → Rest b xs (Confirmed r a) ss → Before b xs (Programmed r a) QueryShort h ss
+before_confirmed : (b : Block) (xs : List Assignment) (r : SearchAddress) (a : ℕ) (h : Answer) (ss : List Step) → IsHeard (address a) h
+    → Rest b xs (Confirmed r a) ss → Before b xs (Programmed r a) QueryShort h ss
 before_confirmed b xs _ _ h _ heard (at_confirmed r a may) = (queries (address a), refl, heard, at_programmed r a may)
 
-before_verified : (b : Block) (xs : List Assignment) (r : SearchAddress) (a : ℕ) (h : Answer) (ss : List Step) → Rest b xs (verified r a h) ss → Before b xs (Programmed r a) QueryShort h ss
+before_verified : (b : Block) (xs : List Assignment) (r : SearchAddress) (a : ℕ) (h : Answer) (ss : List Step) → Rest b xs (verified r a h) ss
+    → Before b xs (Programmed r a) QueryShort h ss
 before_verified b xs r a Silence ss k = absurd (nothing_inconclusive b xs r None ss k)
 before_verified b xs r a Damaged ss k = absurd (nothing_inconclusive b xs r None ss k)
 before_verified b xs r a (Byte v) ss k = go (short_of v) refl k where
@@ -204,27 +223,35 @@ before_verified b xs r a (Byte v) ss k = go (short_of v) refl k where
   go None short k = absurd (nothing_inconclusive b xs r None ss k)
   go (Some c) short k = same (c == a) refl k where
     same : (m : Bool) → (c == a) ≡ m → Rest b xs (if m then Confirmed r a else Inconclusive r (Some c)) ss → Before b xs (Programmed r a) QueryShort (Byte v) ss
-    same true is k = before_confirmed b xs r a (Byte v) ss (ap (λ n. Byte n) (sym (code_of_short v c short) ∙ ap (λ n. code_of n) (let e : c ≡ a = grind (arith, nat_tests) in e))) k
+    same true is k = before_confirmed b xs r a (Byte v) ss
+        (ap (λ n. Byte n) (sym (code_of_short v c short) ∙ ap (λ n. code_of n) (let e : c ≡ a = grind (arith, nat_tests) in e))) k
     same false is k = absurd (nothing_inconclusive b xs r (Some c) ss k)
 
-before_high_asked : (b : Block) (xs : List Assignment) (a : ℕ) (high : Option ℕ) (h : Answer) (ss : List Step) → Rest b xs (HighAsked a high) ss → Before b xs Free (RandomByte a High) h ss
+before_high_asked : (b : Block) (xs : List Assignment) (a : ℕ) (high : Option ℕ) (h : Answer) (ss : List Step) → Rest b xs (HighAsked a high) ss
+    → Before b xs Free (RandomByte a High) h ss
 before_high_asked b xs _ _ h _ (at_high_asked a high) = (_, refl, tt, at_free (Resolve a) tt)
 
-before_middle_asked : (b : Block) (xs : List Assignment) (a : ℕ) (high : Option ℕ) (bytes : Option (ℕ × ℕ)) (h : Answer) (ss : List Step) → Rest b xs (MiddleAsked a bytes) ss
+before_middle_asked : (b : Block) (xs : List Assignment) (a : ℕ) (high : Option ℕ) (bytes : Option (ℕ × ℕ)) (h : Answer) (ss : List Step)
+    → Rest b xs (MiddleAsked a bytes) ss
     → Before b xs (HighAsked a high) (RandomByte a Middle) h ss
 before_middle_asked b xs _ high _ h _ (at_middle_asked a bytes) = (_, refl, tt, at_high_asked a high)
 
-before_middle : (b : Block) (xs : List Assignment) (a c : ℕ) (high : Option ℕ) (h : Answer) (ss : List Step) → Rest b xs (next_stage (HighAsked a high) (RandomByte c Middle) h) ss
+before_middle : (b : Block) (xs : List Assignment) (a c : ℕ) (high : Option ℕ) (h : Answer) (ss : List Step)
+    → Rest b xs (next_stage (HighAsked a high) (RandomByte c Middle) h) ss
     → Before b xs (HighAsked a high) (RandomByte c Middle) h ss
 before_middle b xs a c high h ss k = go (c == a) refl k where
-  go : (t : Bool) → (c == a) ≡ t → Rest b xs (unwrap_or (if t then Some (MiddleAsked a (bytes_heard high h)) else None) Over) ss → Before b xs (HighAsked a high) (RandomByte c Middle) h ss
-  go true is k = subst (λ n. Before b xs (HighAsked a high) (RandomByte n Middle) h ss) (sym (equal c a is)) (before_middle_asked b xs a high (bytes_heard high h) h ss k)
+  go : (t : Bool) → (c == a) ≡ t → Rest b xs (unwrap_or (if t then Some (MiddleAsked a (bytes_heard high h)) else None) Over) ss
+      → Before b xs (HighAsked a high) (RandomByte c Middle) h ss
+  go true is k = subst (λ n. Before b xs (HighAsked a high) (RandomByte n Middle) h ss) (sym (equal c a is))
+      (before_middle_asked b xs a high (bytes_heard high h) h ss k)
   go false is k = absurd (nothing_over b xs ss k)
 
-before_low : (b : Block) (xs : List Assignment) (a c : ℕ) (bytes : Option (ℕ × ℕ)) (h : Answer) (ss : List Step) → Rest b xs (next_stage (MiddleAsked a bytes) (RandomByte c Low) h) ss
+before_low : (b : Block) (xs : List Assignment) (a c : ℕ) (bytes : Option (ℕ × ℕ)) (h : Answer) (ss : List Step)
+    → Rest b xs (next_stage (MiddleAsked a bytes) (RandomByte c Low) h) ss
     → Before b xs (MiddleAsked a bytes) (RandomByte c Low) h ss
 before_low b xs a c bytes h ss k = go (c == a) k where
-  go : (t : Bool) → Rest b xs (unwrap_or (if t then Some (Spelled a (number_heard bytes h)) else None) Over) ss → Before b xs (MiddleAsked a bytes) (RandomByte c Low) h ss
+  go : (t : Bool) → Rest b xs (unwrap_or (if t then Some (Spelled a (number_heard bytes h)) else None) Over) ss
+      → Before b xs (MiddleAsked a bytes) (RandomByte c Low) h ss
   go true k = absurd (nothing_spelled b xs a (number_heard bytes h) ss k)
   go false k = absurd (nothing_over b xs ss k)
 
@@ -237,7 +264,8 @@ before b xs InitialisedOnce (Initialise Unaddressed) h _ at_initialised = (_, re
 before b xs Initialised Randomise h _ at_randomised_once = (_, refl, tt, at_initialised)
 before b xs RandomisedOnce Randomise h ss k = elim k [ ]
 before b xs (HighSent _) (SearchMiddle _) h _ (at_middle high middle low ss tail) = (_, refl, tt, at_high high middle low ss tail)
-before b xs (MiddleSent high middle) (SearchLow low) h ss k = before_number b xs high middle low (record { high = high; middle = middle; low = low }) h ss refl k
+before b xs (MiddleSent high middle) (SearchLow low) h ss k =
+    before_number b xs high middle low (record { high = high; middle = middle; low = low }) h ss refl k
 before b xs (NumberSent r) Compare h ss k = elim k [ ]
 before b xs (NumberSent r) QueryShort h ss k = before_queried b xs r h ss k
 before b xs (Found r c) Withdraw h ss k = elim k [ ]
@@ -386,10 +414,12 @@ Next b xs s = (c : Command) × IsSpelled c × IsFrame (frame_of c) × Follows b 
 next_program : (b : Block) (xs : List Assignment) (r : SearchAddress) (a : ℕ) → a < 64 → MayGive b xs r a → Next b xs (Unnamed r)
 next_program b xs r a small may = (Program (Some a), small, (lit< tt, omega arith), gives refl may)
 
-next_query : (b : Block) (xs : List Assignment) (s : Stage) (a : ℕ) → a < 64 → is_some (leads s (RandomByte a Middle) Silence) ≡ true → given s (RandomByte a Middle) ≡ None → Next b xs s
+next_query : (b : Block) (xs : List Assignment) (s : Stage) (a : ℕ) → a < 64 → is_some (leads s (RandomByte a Middle) Silence) ≡ true
+    → given s (RandomByte a Middle) ≡ None → Next b xs s
 next_query b xs s a small on none = (RandomByte a Middle, small, (omega arith, lit< tt), turn on none)
 
-next_last : (b : Block) (xs : List Assignment) (s : Stage) (a : ℕ) → a < 64 → is_some (leads s (RandomByte a Low) Silence) ≡ true → given s (RandomByte a Low) ≡ None → Next b xs s
+next_last : (b : Block) (xs : List Assignment) (s : Stage) (a : ℕ) → a < 64 → is_some (leads s (RandomByte a Low) Silence) ≡ true
+    → given s (RandomByte a Low) ≡ None → Next b xs s
 next_last b xs s a small on none = (RandomByte a Low, small, (omega arith, lit< tt), turn on none)
 
 pub next_at : (b : Block) (xs : List Assignment) → ((a : ℕ) → HasAddress xs a → a < 64) → (s : Stage) → Small s → may_follow b xs s ≡ true → Next b xs s
@@ -417,7 +447,8 @@ next_at b xs small (MiddleAsked a bytes) here e = next_last b xs (MiddleAsked a 
 next_at b xs small (Spelled a number) here e = absurd (cc)
 next_at b xs small Over here e = absurd (cc)
 
-pub goes_on_at : (b : Block) (xs : List Assignment) (t : List Entry) → ((a : ℕ) → HasAddress xs a → a < 64) → may_follow b xs (stage_of t) ≡ true → GoesOn b xs t
+pub goes_on_at : (b : Block) (xs : List Assignment) (t : List Entry) → ((a : ℕ) → HasAddress xs a → a < 64) → may_follow b xs (stage_of t) ≡ true
+    → GoesOn b xs t
 goes_on_at b xs t small e =
     let next = next_at b xs small (stage_of t) (small_stage t) e in
     let read : command_of (frame_of next.0) ≡ next.0 = read_written next.0 next.1 in
@@ -564,22 +595,26 @@ first_of b xs _ _ k e = absurd (let none = k.leads_on in cc)
 
 -- and a transaction begins with no other frame
 pub first_frames : (b : Block) (xs : List Assignment) (f : Forward) → Lawful b xs [] f
-    → (command_of f ≡ Terminate) ⊎ (((high : ℕ) × (command_of f ≡ SearchHigh high)) ⊎ (((g : Forward) × (command_of f ≡ Arc g)) ⊎ ((a : ℕ) × (command_of f ≡ RandomByte a High))))
+    → (command_of f ≡ Terminate) ⊎ (((high : ℕ) × (command_of f ≡ SearchHigh high))
+    ⊎ (((g : Forward) × (command_of f ≡ Arc g)) ⊎ ((a : ℕ) × (command_of f ≡ RandomByte a High))))
 first_frames b xs f lawful = first_of b xs (stage_of []) (command_of f) (follows_lawful b xs [] f lawful) stage_none
 
 pub begins_by : (b : Block) (xs : List Assignment) (f : Forward)
-    → (command_of f ≡ Terminate) ⊎ (((high : ℕ) × (command_of f ≡ SearchHigh high)) ⊎ (((g : Forward) × (command_of f ≡ Arc g)) ⊎ ((a : ℕ) × (command_of f ≡ RandomByte a High)))) → Lawful b xs [] f
+    → (command_of f ≡ Terminate) ⊎ (((high : ℕ) × (command_of f ≡ SearchHigh high))
+    ⊎ (((g : Forward) × (command_of f ≡ Arc g)) ⊎ ((a : ℕ) × (command_of f ≡ RandomByte a High)))) → Lawful b xs [] f
 begins_by b xs f (inl e) = (Close, tt, e)
 begins_by b xs f (inr (inl e)) = (Probe (record { high = e.0; middle = 0; low = 0 }), tt, e.1)
 begins_by b xs f (inr (inr (inl e))) = (ArcPower e.0, tt, e.1)
 begins_by b xs f (inr (inr (inr e))) = (Resolve e.0, tt, e.1)
 
 pub first_commands : (f : Forward) → IsFirst f
-    → (command_of f ≡ Terminate) ⊎ (((high : ℕ) × (command_of f ≡ SearchHigh high)) ⊎ (((g : Forward) × (command_of f ≡ Arc g)) ⊎ ((a : ℕ) × (command_of f ≡ RandomByte a High))))
+    → (command_of f ≡ Terminate) ⊎ (((high : ℕ) × (command_of f ≡ SearchHigh high))
+    ⊎ (((g : Forward) × (command_of f ≡ Arc g)) ⊎ ((a : ℕ) × (command_of f ≡ RandomByte a High))))
 first_commands f first = first_frames first.0 first.1 f first.2
 
 pub first_by : (f : Forward)
-    → (command_of f ≡ Terminate) ⊎ (((high : ℕ) × (command_of f ≡ SearchHigh high)) ⊎ (((g : Forward) × (command_of f ≡ Arc g)) ⊎ ((a : ℕ) × (command_of f ≡ RandomByte a High)))) → IsFirst f
+    → (command_of f ≡ Terminate) ⊎ (((high : ℕ) × (command_of f ≡ SearchHigh high))
+    ⊎ (((g : Forward) × (command_of f ≡ Arc g)) ⊎ ((a : ℕ) × (command_of f ≡ RandomByte a High)))) → IsFirst f
 first_by f is = (record { first = 0; last = 0 }, [], begins_by (record { first = 0; last = 0 }) [] f is)
 
 -- whoever sends it

@@ -8,3 +8,4 @@ pub mod Findings
 pub mod Stages
 pub mod Laws
 pub mod Due
+pub mod Names

@@ -8,6 +8,7 @@ ghost use Rattle.dali_script.specs.Laws.{LawfulFramesFollowAtTheStage, TracesGro
 ghost use Rattle.dali_script.specs.Laws.{StagesSayWhatWasSentAndFound, TransactionsBeginOnce};
 ghost use Rattle.dali_script.specs.Laws.{OpeningsBeginWithTerminate, GearAreSearchedAnew, TransactionsEnd};
 ghost use Rattle.dali_script.specs.Laws.{RecordsStayKept};
+ghost use Rattle.dali_script.specs.Names.{AreReadBack};
 
 /// A frame may follow a trace exactly where its command follows at the stage of the trace.
 pub fn lawful_frames_follow_at_the_stage()
@@ -51,4 +52,9 @@ pub fn transactions_end()
 /// and a number has one address.
 pub fn records_stay_kept()
     ensures { RecordsStayKept }
+{}
+
+/// The code of a record, of an end and of a fault is read as what has it, and no other code is.
+pub fn codes_are_read_back()
+    ensures { AreReadBack }
 {}

@@ -45,6 +45,44 @@ pub enum End {
     GaveUp,
 }
 
+impl End {
+    ghost use Rattle.dali_script.specs.Names.{end_name, end_code, end_by};
+
+    /// What it is called in reports and on pages.
+    pub fn name(self) -> &'static str
+        ensures { result.now ≡ end_name self }
+    {
+        match self {
+            End::AllFound => "all-found",
+            End::BlockFull => "block-full",
+            End::GaveUp => "gave-up",
+        }
+    }
+
+    /// Its code in a struct for C.
+    pub fn code(self) -> u8
+        ensures { result ≡ end_code self }
+    {
+        match self {
+            End::AllFound => 1,
+            End::BlockFull => 2,
+            End::GaveUp => 3,
+        }
+    }
+
+    /// The end that has this code, if one has it.
+    pub fn of_code(code: u8) -> Option<End>
+        ensures { result ≡ end_by code }
+    {
+        match code {
+            1 => Some(End::AllFound),
+            2 => Some(End::BlockFull),
+            3 => Some(End::GaveUp),
+            _ => None,
+        }
+    }
+}
+
 /// Why a machine cannot go on.
 #[derive(Clone, Copy, Debug, PartialEq, Eq)]
 pub enum Fault {
@@ -52,6 +90,41 @@ pub enum Fault {
     Conflict,
     /// A record could not be kept.
     Store,
+}
+
+impl Fault {
+    ghost use Rattle.dali_script.specs.Names.{fault_name, fault_code, fault_by};
+
+    /// What it is called in reports and on pages.
+    pub fn name(self) -> &'static str
+        ensures { result.now ≡ fault_name self }
+    {
+        match self {
+            Fault::Conflict => "conflict",
+            Fault::Store => "store",
+        }
+    }
+
+    /// Its code in a struct for C.
+    pub fn code(self) -> u8
+        ensures { result ≡ fault_code self }
+    {
+        match self {
+            Fault::Conflict => 1,
+            Fault::Store => 2,
+        }
+    }
+
+    /// The fault that has this code, if one has it.
+    pub fn of_code(code: u8) -> Option<Fault>
+        ensures { result ≡ fault_by code }
+    {
+        match code {
+            1 => Some(Fault::Conflict),
+            2 => Some(Fault::Store),
+            _ => None,
+        }
+    }
 }
 
 /// What a machine waits for.

@@ -1,4 +1,5 @@
 ghost use Rattle.std.specs.Prelude.{◌≡◌};
+ghost use Rattle.dali_script.specs.Names.{record_name, record_code, record_by};
 ghost use Rattle.dali_script.specs.Records.{address_of, random_of};
 ghost use Rattle.dali_script.specs.Refusals.{number_of_add};
 
@@ -17,6 +18,40 @@ pub enum Record {
 }
 
 impl Record {
+    /// What it is called in reports and on pages.
+    pub fn name(self) -> &'static str
+        ensures { result.now ≡ record_name self }
+    {
+        match self {
+            Record::Reserve(..) => "reserve",
+            Record::Enrol(..) => "enrol",
+            Record::Release(..) => "release",
+        }
+    }
+
+    /// The code of its kind, in the table of a store and in a struct for C.
+    pub fn code(self) -> u8
+        ensures { result ≡ record_code self }
+    {
+        match self {
+            Record::Reserve(..) => 1,
+            Record::Enrol(..) => 2,
+            Record::Release(..) => 3,
+        }
+    }
+
+    /// The record of the kind that has this code, with these addresses. None where no kind has it.
+    pub fn of_code(code: u8, address: Short, random: Random24) -> Option<Record>
+        ensures { result ≡ record_by code address random }
+    {
+        match code {
+            1 => Some(Record::Reserve(address, random)),
+            2 => Some(Record::Enrol(address, random)),
+            3 => Some(Record::Release(address, random)),
+            _ => None,
+        }
+    }
+
     /// The short address.
     pub fn address(self) -> Short
         ensures { result ≡ address_of self }

@@ -4,7 +4,8 @@ use Rattle.std.proofs.lemmas.Bool.Decides.{nat_tests}
 use Rattle.dali_search.specs.declared.step.Step.TheVariants.{Again, Found, Nobody}
 use Rattle.dali_search.specs.Least.{Search, at_first, lowest, highest, step_between, probe_between, next_probe, answered, IsBelow, Agrees, Says, NumberOf}
 use Rattle.dali_search.specs.Narrowing.{IsNarrowing}
-use Rattle.dali_search.proofs.Narrowing.{lowest_yes, lowest_no, highest_yes, highest_no, narrows_at_first, narrows_more, probe_inside, least_told, more_to_come, below_told}
+use Rattle.dali_search.proofs.Narrowing.{lowest_yes, lowest_no, highest_yes, highest_no, narrows_at_first, narrows_more, probe_inside, least_told, more_to_come}
+use Rattle.dali_search.proofs.Narrowing.{below_told}
 
 -- WHAT IS TRUE OF EACH SEARCH THAT WAS ANSWERED, over the definitions alone
 
@@ -35,7 +36,8 @@ asked_next low high p = go (nat_lt low high) (low == 0xFFFFFF) (probe_between lo
 
 pub goes_on : (s : Search) (said : Bool) → IsNarrowing s → s.step ≡ Again → IsNarrowing (answered s said)
 goes_on s said n running =
-    narrows_more (lowest s.answers) (highest s.answers) (lowest (answered s said).answers) (highest (answered s said).answers) s (answered s said) said n running refl
+    narrows_more (lowest s.answers) (highest s.answers) (lowest (answered s said).answers) (highest (answered s said).answers) s
+    (answered s said) said n running refl
     (left_low s said n running) (left_high s said n running) refl
     (asked_next (lowest (answered s said).answers) (highest (answered s said).answers) s.probe)
 
@@ -63,7 +65,8 @@ nobody_from low high e = go (nat_lt low high) (low == 0xFFFFFF) refl e where
 
 pub nobody : (s : Search) (said : Bool) → IsNarrowing s → s.step ≡ Again → (answered s said).step ≡ Nobody → (said ≡ false) × (s.probe ≡ 0xFFFFFE)
 nobody s said n running e = go said (left_low s said n running) (nobody_from _ _ e) where
-  go : (said : Bool) → lowest (s.answers ++ (s.probe, said) ∷ []) ≡ (if said then lowest s.answers else s.probe + 1) → lowest (s.answers ++ (s.probe, said) ∷ []) ≡ 0xFFFFFF
+  go : (said : Bool) → lowest (s.answers ++ (s.probe, said) ∷ []) ≡ (if said then lowest s.answers else s.probe + 1)
+      → lowest (s.answers ++ (s.probe, said) ∷ []) ≡ 0xFFFFFF
       → (said ≡ false) × (s.probe ≡ 0xFFFFFE)
   go true is none =
       let inside = probe_inside (lowest s.answers) (highest s.answers) s n running in

@@ -1,4 +1,5 @@
-use Rattle.std.proofs.Common.{◌≡◌, ℕ, ◌+◌, ◌-◌, ◌*◌, ◌^◌, ◌<◌, ◌≤◌, Bool, true, false, [], ◌∷◌, ◌++◌, refl, sym, ap, subst, ◌∙◌, arith, nat_lt, nat_le, length, length-append, add-one, inl, inr}
+use Rattle.std.proofs.Common.{◌≡◌, ℕ, ◌+◌, ◌-◌, ◌*◌, ◌^◌, ◌<◌, ◌≤◌, Bool, true, false, [], ◌∷◌, ◌++◌, refl, sym, ap, subst, ◌∙◌, arith, nat_lt, nat_le, length}
+use Rattle.std.proofs.Common.{length-append, add-one, inl, inr}
 use Rattle.std.specs.Prelude.{◌==◌, ◌/◌, ◌⊎◌, if◌then◌else◌, zero, suc}
 use Rattle.std.proofs.lemmas.Bool.Decides.{nat_tests}
 use Rattle.dali_search.specs.Least.{Search, lowest, highest, step_between, probe_between}
@@ -23,16 +24,22 @@ told_left (suc k) n small =
         → (lowest (answers_of k n ++ (asked_of (left_of k n), if nat_lt (asked_of (left_of k n)) n then false else true) ∷ []) ≡ (left_by (left_of k n) n).0)
         × (highest (answers_of k n ++ (asked_of (left_of k n), if nat_lt (asked_of (left_of k n)) n then false else true) ∷ []) ≡ (left_by (left_of k n) n).1)
     go true less before asked =
-        rw (narrowed_no (left_of k n) n less, less)
-        (lowest_no (answers_of k n) (asked_of (left_of k n)) (subst (λ l. l ≤ asked_of (left_of k n) + 1) (sym before.0) asked.0), highest_no (answers_of k n) (asked_of (left_of k n)) ∙ before.1)
+        rw (narrowed_no (left_of k n) n less, less) (
+          lowest_no (answers_of k n) (asked_of (left_of k n)) (subst (λ l. l ≤ asked_of (left_of k n) + 1) (sym before.0) asked.0),
+          highest_no (answers_of k n) (asked_of (left_of k n)) ∙ before.1,
+        )
     go false less before asked =
-        rw (narrowed_yes (left_of k n) n less, less)
-        (lowest_yes (answers_of k n) (asked_of (left_of k n)) ∙ before.0, highest_yes (answers_of k n) (asked_of (left_of k n)) (subst (λ h. asked_of (left_of k n) ≤ h) (sym before.1) asked.1))
+        rw (narrowed_yes (left_of k n) n less, less) (
+          lowest_yes (answers_of k n) (asked_of (left_of k n)) ∙ before.0,
+          highest_yes (answers_of k n) (asked_of (left_of k n))
+              (subst (λ h. asked_of (left_of k n) ≤ h) (sym before.1) asked.1),
+        )
 
 -- after an answer FFFFFF is left only where it is the least
 pub left_top : (k n : ℕ) → n ≤ 0xFFFFFF → (left_of (suc k) n).1 ≡ 0xFFFFFF → (left_of (suc k) n).0 ≡ 0xFFFFFF
 left_top k n small top = go (nat_lt (asked_of (left_of k n)) n) refl (left_within k n small) top where
-  go : (b : Bool) → nat_lt (asked_of (left_of k n)) n ≡ b → ((left_of k n).0 ≤ n) × (n ≤ (left_of k n).1) × ((left_of k n).1 ≤ 0xFFFFFF) → (left_by (left_of k n) n).1 ≡ 0xFFFFFF → (left_by (left_of k n) n).0 ≡ 0xFFFFFF
+  go : (b : Bool) → nat_lt (asked_of (left_of k n)) n ≡ b → ((left_of k n).0 ≤ n) × (n ≤ (left_of k n).1) × ((left_of k n).1 ≤ 0xFFFFFF)
+      → (left_by (left_of k n) n).1 ≡ 0xFFFFFF → (left_by (left_of k n) n).0 ≡ 0xFFFFFF
   go true less within top =
       let high : (left_of k n).1 ≡ 0xFFFFFF = rw (narrowed_no (left_of k n) n less) at top in
       rw (narrowed_no (left_of k n) n less) (at_top (left_of k n).0 (left_of k n).1 high)
@@ -57,7 +64,8 @@ half_left low high n left order few whole from = go (nat_lt (probe_between low h
   twice : 2 ^ suc left ≡ 2 * 2 ^ left
   twice = grind arith
 
-  go : (b : Bool) → nat_lt (probe_between low high) n ≡ b → (c : Bool) → (high == 0xFFFFFF) ≡ c → (left_by (low, high) n).1 < (left_by (low, high) n).0 + 2 ^ left
+  go : (b : Bool) → nat_lt (probe_between low high) n ≡ b → (c : Bool) → (high == 0xFFFFFF) ≡ c
+      → (left_by (low, high) n).1 < (left_by (low, high) n).0 + 2 ^ left
   go true less true is =
       let top : high ≡ 0xFFFFFF = grind (arith, nat_tests) in
       let asked : probe_between low high ≡ 0xFFFFFE = ap (λ t. if t then 0xFFFFFE else (low + high) / 2) is in
@@ -85,7 +93,8 @@ pub left_few : (k n left : ℕ) → n ≤ 0xFFFFFF → k + left ≡ 25 → (left
 left_few zero n left small sum = let all : left ≡ 25 = omega (arith, sum) in subst (λ m. 0xFFFFFF < 0 + 2 ^ m) (sym all) (omega arith)
 left_few (suc k) n left small sum =
     let within = left_within k n small in
-    half_left (left_of k n).0 (left_of k n).1 n left (omega (arith, within.0, within.1)) (left_few k n (suc left) small (omega (arith, sum))) (whole k sum) within.0
+    half_left (left_of k n).0 (left_of k n).1 n left (omega (arith, within.0, within.1)) (left_few k n (suc left) small (omega (arith, sum)))
+    (whole k sum) within.0
   where
     whole : (j : ℕ) → suc j + left ≡ 25 → (left_of j n).1 ≡ 0xFFFFFF → ((left_of j n).0 ≡ 0) × (left ≡ 24) ⊎ ((left_of j n).0 ≡ 0xFFFFFF)
     whole zero sum top = inl (refl, omega (arith, sum))
@@ -101,7 +110,8 @@ pub record IsLed (k n low high : ℕ) : Type 0 where
 pub led_none : (n : ℕ) → IsLed 0 n 0 0xFFFFFF
 led_none n = record { low_is = refl; high_is = refl; below = omega arith; above = omega arith }
 
-pub led_more : (k n low high asked next_low next_high : ℕ) (said : Bool) → n < 2 ^ 24 → IsLed k n low high → asked ≡ probe_between low high → said ≡ nat_le n asked
+pub led_more : (k n low high asked next_low next_high : ℕ) (said : Bool) → n < 2 ^ 24 → IsLed k n low high → asked ≡ probe_between low high
+    → said ≡ nat_le n asked
     → next_low ≡ (if said then low else asked + 1) → next_high ≡ (if said then asked else high) → IsLed (k + 1) n next_low next_high
 led_more k n low high asked next_low next_high said small led is said_is low_is high_is =
     let within = left_within (suc k) n (omega (arith, small)) in
@@ -114,7 +124,8 @@ led_more k n low high asked next_low next_high said small led is said_is low_is 
       above = rw both.1 (omega (arith, within.2));
     })
   where
-    go : (b : Bool) → nat_lt (asked_of (left_of k n)) n ≡ b → asked_of (left_of k n) ≡ asked → (next_low ≡ (left_by (left_of k n) n).0) × (next_high ≡ (left_by (left_of k n) n).1)
+    go : (b : Bool) → nat_lt (asked_of (left_of k n)) n ≡ b → asked_of (left_of k n) ≡ asked
+        → (next_low ≡ (left_by (left_of k n) n).0) × (next_high ≡ (left_by (left_of k n) n).1)
     go true less from =
         let told : said ≡ false = said_is ∙ (let past : nat_le n asked ≡ false = grind (arith, nat_tests) in past) in
         rw (narrowed_no (left_of k n) n less, from)
@@ -132,7 +143,8 @@ answers_length (suc k) n =
     omega (arith, more, answers_length k n)
 
 -- between their answers searches are so
-pub is_search : (k low high p : ℕ) (step : Step) → Narrows low high (record { answers = answers_of k low; probe = p; step = step }) → IsSearch (record { answers = answers_of k low; probe = p; step = step })
+pub is_search : (k low high p : ℕ) (step : Step) → Narrows low high (record { answers = answers_of k low; probe = p; step = step })
+    → IsSearch (record { answers = answers_of k low; probe = p; step = step })
 is_search k low high p step n = record {
   narrows = rw (n.low_is, n.high_is) n;
   told = rw (n.low_is, answers_length k low) refl;
@@ -143,8 +155,10 @@ untouched_led : (k n : ℕ) → n ≤ 0xFFFFFF → (left_of k n).1 ≡ 0xFFFFFF 
 untouched_led zero n small top less = refl
 untouched_led (suc k) n small top less = absurd (omega (arith, top, left_top k n small top, less))
 
-pub narrows_led : (k n low high p : ℕ) (step : Step) → k ≤ 25 → n < 2 ^ 24 → low ≡ (left_of k n).0 → high ≡ (left_of k n).1 → low ≡ n → p < 0xFFFFFF → step ≡ step_between low high
-    → (step ≡ Again → p ≡ probe_between low high) → Narrows low high (record { answers = answers_of k low; probe = p; step = step }) × (left_of k low ≡ (low, high))
+pub narrows_led : (k n low high p : ℕ) (step : Step) → k ≤ 25 → n < 2 ^ 24 → low ≡ (left_of k n).0 → high ≡ (left_of k n).1 → low ≡ n → p < 0xFFFFFF
+    → step ≡ step_between low high
+    → (step ≡ Again → p ≡ probe_between low high)
+    → Narrows low high (record { answers = answers_of k low; probe = p; step = step }) × (left_of k low ≡ (low, high))
 narrows_led k n low high p step most small low_is high_is same below step_is probe_is =
     subst (λ m. Narrows low high (record { answers = answers_of k m; probe = p; step = step }) × (left_of k m ≡ (low, high))) (sym same) (
       record {
@@ -209,19 +223,24 @@ is_of k n p s is count least probe = record {
   ends = ap (λ l. probe_between l (highest s.answers)) least ∙ ap (λ h. probe_between n h) high
 
   same : s ≡ record { answers = answers_of k n; probe = p; step = step_between n (left_of k n).1 }
-  same = ap (λ xs. record { answers = xs; probe = s.probe; step = s.step }) answers ∙ ap (λ q. record { answers = answers_of k n; probe = q; step = s.step }) probe
+  same = ap (λ xs. record { answers = xs; probe = s.probe; step = s.step }) answers
+      ∙ ap (λ q. record { answers = answers_of k n; probe = q; step = s.step }) probe
       ∙ ap (λ t. record { answers = answers_of k n; probe = p; step = t }) step
 
 -- a probe is the number to ask next, unless there is nothing more to ask
-pub asks_next : (low high p : ℕ) (t : Bool) → t ≡ (if nat_lt low high then p == probe_between low high else true) → t ≡ true → step_between low high ≡ Again → p ≡ probe_between low high
+pub asks_next : (low high p : ℕ) (t : Bool) → t ≡ (if nat_lt low high then p == probe_between low high else true) → t ≡ true → step_between low high ≡ Again
+    → p ≡ probe_between low high
 asks_next low high p t is asked again = go (nat_lt low high) (low == 0xFFFFFF) (sym is ∙ asked) again where
-  go : (b c : Bool) → (if b then p == probe_between low high else true) ≡ true → (if b then Again else (if c then Nobody else Found low)) ≡ Again → p ≡ probe_between low high
+  go : (b c : Bool) → (if b then p == probe_between low high else true) ≡ true → (if b then Again else (if c then Nobody else Found low)) ≡ Again
+      → p ≡ probe_between low high
   go true c same again = grind (arith, nat_tests)
   go false true same again = cc
   go false false same again = cc
 
-pub asks_other : (low high p : ℕ) (t : Bool) → t ≡ (if nat_lt low high then p == probe_between low high else true) → t ≡ false → (step_between low high ≡ Again → p ≡ probe_between low high) → ⊥
+pub asks_other : (low high p : ℕ) (t : Bool) → t ≡ (if nat_lt low high then p == probe_between low high else true) → t ≡ false
+    → (step_between low high ≡ Again → p ≡ probe_between low high) → ⊥
 asks_other low high p t is asked running = go (nat_lt low high) (low == 0xFFFFFF) (sym is ∙ asked) running where
-  go : (b c : Bool) → (if b then p == probe_between low high else true) ≡ false → ((if b then Again else (if c then Nobody else Found low)) ≡ Again → p ≡ probe_between low high) → ⊥
+  go : (b c : Bool) → (if b then p == probe_between low high else true) ≡ false
+      → ((if b then Again else (if c then Nobody else Found low)) ≡ Again → p ≡ probe_between low high) → ⊥
   go true c other running = let same : p ≡ probe_between low high = running refl in grind (arith, nat_tests)
   go false c other running = cc

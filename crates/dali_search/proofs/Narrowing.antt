@@ -1,9 +1,11 @@
-use Rattle.std.proofs.Common.{◌≡◌, ℕ, ◌+◌, ◌*◌, ◌/◌, ◌^◌, ◌<◌, ◌≤◌, Bool, true, false, List, [], ◌∷◌, ◌++◌, refl, sym, ap, subst, ◌∙◌, arith, length, length-append, add-one, nat_lt, max, min}
+use Rattle.std.proofs.Common.{◌≡◌, ℕ, ◌+◌, ◌*◌, ◌/◌, ◌^◌, ◌<◌, ◌≤◌, Bool, true, false, List, [], ◌∷◌, ◌++◌, refl, sym, ap, subst, ◌∙◌, arith, length}
+use Rattle.std.proofs.Common.{length-append, add-one, nat_lt, max, min}
 use Rattle.std.specs.Prelude.{◌==◌, if◌then◌else◌, zero, suc}
 use Rattle.std.proofs.lemmas.Bool.Decides.{nat_tests}
 use Rattle.dali_search.specs.declared.step.Step.{Step}
 use Rattle.dali_search.specs.declared.step.Step.TheVariants.{Again, Found, Nobody}
-use Rattle.dali_search.specs.Least.{Search, IsBelow, HasAtMost, Agrees, IsLeast, Says, NumberOf, lowest, highest, step_between, step_after, probe_between, probe_after}
+use Rattle.dali_search.specs.Least.{Search, IsBelow, HasAtMost, Agrees, IsLeast, Says, NumberOf, lowest, highest, step_between, step_after, probe_between}
+use Rattle.dali_search.specs.Least.{probe_after}
 use Rattle.dali_search.specs.Narrowing.{Narrows, left_of, answers_of}
 use Rattle.dali_search.proofs.Heard.{heard_more}
 
@@ -66,7 +68,8 @@ within_highest has ((q, true) ∷ xs) agrees small = go (nat_lt q (highest xs)) 
       let least : highest xs ≡ min q (highest xs) = grind (arith, nat_tests) in
       subst (HasAtMost has) least (later (subst (λ h. h < 0xFFFFFF) (sym least) small))
 
-pub says_after : (has : ℕ → Bool) (xs : List (ℕ × Bool)) (low high : ℕ) → lowest xs ≡ low → highest xs ≡ high → low ≤ high → high ≤ 0xFFFFFF → IsBelow has 0xFFFFFF → Agrees has xs
+pub says_after : (has : ℕ → Bool) (xs : List (ℕ × Bool)) (low high : ℕ) → lowest xs ≡ low → highest xs ≡ high → low ≤ high → high ≤ 0xFFFFFF
+    → IsBelow has 0xFFFFFF → Agrees has xs
     → Says has (step_between low high)
 says_after has xs low high low_is high_is order top below agrees = go (nat_lt low high) refl where
   above : (m : ℕ) → has m ≡ true → low ≤ m
@@ -178,7 +181,8 @@ narrows_more low high next_low next_high s t said n running answers low_is high_
     let few = few_more low high s.probe (length s.answers) less n.top asked (λ e. n.untouched e less) first_low n.few.0 n.few.1 n.few.2 in
     go said answers low_is high_is less asked first_low inside one_more few
   where
-    go : (said : Bool) → t.answers ≡ s.answers ++ (s.probe, said) ∷ [] → next_low ≡ (if said then low else s.probe + 1) → next_high ≡ (if said then s.probe else high)
+    go : (said : Bool) → t.answers ≡ s.answers ++ (s.probe, said) ∷ [] → next_low ≡ (if said then low else s.probe + 1)
+        → next_high ≡ (if said then s.probe else high)
         → low < high → s.probe ≡ probe_between low high → (high ≡ 0xFFFFFF → low ≡ 0) → low ≤ s.probe × s.probe < high → length t.answers ≡ length s.answers + 1
         → (rest : ℕ) × (length s.answers + 1 + rest ≡ 25) × (s.probe < low + 2 ^ rest) × (high < (s.probe + 1) + 2 ^ rest)
         → Narrows next_low next_high t
@@ -253,5 +257,8 @@ pub stands_more : (k low high next_low next_high p q : ℕ) (step next : Step) (
     → Narrows next_low next_high (record { answers = answers_of (k + 1) next_low; probe = q; step = next }) × (left_of (k + 1) next_low ≡ (next_low, next_high))
 stands_more k low high next_low next_high p q step next said n running here low_is high_is next_is q_is =
     let s : Search = record { answers = answers_of k low; probe = p; step = step } in
-    let heard = heard_next k low high next_low next_high s said n running here low_is high_is in
-    (narrows_more low high next_low next_high s (record { answers = answers_of (k + 1) next_low; probe = q; step = next }) said n running heard.1 low_is high_is next_is q_is, heard.0)
+    let heard = heard_next k low high next_low next_high s said n running here low_is high_is in (
+      narrows_more low high next_low next_high s (record { answers = answers_of (k + 1) next_low; probe = q; step = next })
+          said n running heard.1 low_is high_is next_is q_is,
+      heard.0,
+    )

@@ -8,8 +8,10 @@ use Rattle.dali_special.specs.declared.command.Target.TheVariants.{All, Addresse
 use Rattle.dali_special.specs.declared.command.Part.{Part}
 use Rattle.dali_special.specs.declared.command.Part.TheVariants.{High, Middle, Low}
 use Rattle.dali_special.specs.declared.command.Command.{Command}
-use Rattle.dali_special.specs.declared.command.Command.TheVariants.{Terminate, Initialise, Randomise, Compare, Withdraw, SearchHigh, SearchMiddle, SearchLow, Program, Verify, QueryShort, RandomByte, Arc, Other}
-use Rattle.dali_special.specs.Command.{MASK, Row, without_data_of, target_of, target_data, program_of, rows, row_of, part_of, part_code, query_by, query_of, special_of, command_of, frame_of, frame, IsSpelled}
+use Rattle.dali_special.specs.declared.command.Command.TheVariants.{Terminate, Initialise, Randomise, Compare, Withdraw, SearchHigh, SearchMiddle, SearchLow}
+use Rattle.dali_special.specs.declared.command.Command.TheVariants.{Program, Verify, QueryShort, RandomByte, Arc, Other}
+use Rattle.dali_special.specs.Command.{MASK, Row, without_data_of, target_of, target_data, program_of, rows, row_of, part_of, part_code, query_by, query_of}
+use Rattle.dali_special.specs.Command.{special_of, command_of, frame_of, frame, IsSpelled}
 
 -- the code of a short address is read as it, and is neither 00 nor FF
 pub short_of_code : (a : ℕ) → a < 64 → short_of (code_of a) ≡ Some a
@@ -76,7 +78,8 @@ without_data_written address command is byte c e = go (byte == 0) refl e where
 pub code_of_short : (byte a : ℕ) → short_of byte ≡ Some a → code_of a ≡ byte
 code_of_short byte a e = grind (arith, nat_tests)
 
-target_written : (byte : ℕ) (o : Option Target) (c : Command) → target_of byte ≡ o → option_map (λ target. Initialise target) o ≡ Some c → frame_of c ≡ frame 0xA5 byte
+target_written : (byte : ℕ) (o : Option Target) (c : Command) → target_of byte ≡ o → option_map (λ target. Initialise target) o ≡ Some c
+    → frame_of c ≡ frame 0xA5 byte
 target_written byte None c is e = cc
 target_written byte (Some target) c is e =
     let same : Initialise target ≡ c = cc in
@@ -178,7 +181,8 @@ code_of_part byte part e = go (byte == 0xC2) (byte == 0xC3) (byte == 0xC4) refl 
       ap part_code (sym same) ∙ number
   go false false false high middle low is = cc
 
-query_written : (address byte : ℕ) (s : Option ℕ) (p : Option Part) (c : Command) → short_of address ≡ s → part_of byte ≡ p → query_by s p ≡ Some c → frame_of c ≡ frame address byte
+query_written : (address byte : ℕ) (s : Option ℕ) (p : Option Part) (c : Command) → short_of address ≡ s → part_of byte ≡ p → query_by s p ≡ Some c
+    → frame_of c ≡ frame address byte
 query_written address byte None p c short part e = cc
 query_written address byte (Some a) None c short part e = cc
 query_written address byte (Some a) (Some asked) c short part e =
@@ -222,7 +226,9 @@ of_short_spelled command is byte c e = go (short_of byte) refl e where
 
 initialise_spelled : ReadsSpelled (λ byte. option_map (λ target. Initialise target) (target_of byte))
 initialise_spelled byte c e = go (byte == 0) (byte == MASK) e where
-  go : (z m : Bool) → option_map (λ target. Initialise target) (if z then Some All else if m then Some Unaddressed else option_map (λ a. Addressed a) (short_of byte)) ≡ Some c → IsSpelled c
+  go : (z m : Bool)
+      → option_map (λ target. Initialise target) (if z then Some All else if m then Some Unaddressed else option_map (λ a. Addressed a) (short_of byte))
+      ≡ Some c → IsSpelled c
   go true m e' = let same : Initialise All ≡ c = cc in subst IsSpelled same tt
   go false true e' = let same : Initialise Unaddressed ≡ c = cc in subst IsSpelled same tt
   go false false e' = addressed (short_of byte) refl e' where

@@ -1,7 +1,9 @@
 -- What the three texts make of a connection.
-use Rattle.std.proofs.Common.{◌≡◌, inl, inr, ℕ, ◌+◌, ℤ, List, [], ◌∷◌, ◌++◌, map, flat_map, length, false, None, Ok, IsTrue, IsPermutation, refl, sym, ap, subst, ◌∙◌, arith, append-nil}
+use Rattle.std.proofs.Common.{◌≡◌, inl, inr, ℕ, ◌+◌, ℤ, List, [], ◌∷◌, ◌++◌, map, flat_map, length, false, None, Ok, IsTrue, IsPermutation, refl, sym, ap}
+use Rattle.std.proofs.Common.{subst, ◌∙◌, arith, append-nil}
 use Rattle.std.specs.Prelude.{if◌then◌else◌}
-use Rattle.std.proofs.lemmas.List.Sorted.{IsPermutation-refl, IsPermutation-sym, IsPermutation-map, IsPermutation-trans, IsPermutation-append_left, IsPermutation-to_front}
+use Rattle.std.proofs.lemmas.List.Sorted.{IsPermutation-refl, IsPermutation-sym, IsPermutation-map, IsPermutation-trans, IsPermutation-append_left}
+use Rattle.std.proofs.lemmas.List.Sorted.{IsPermutation-to_front}
 use Rattle.sqlite.specs.declared.types.Value.TheVariants.{Null, Int}
 use Rattle.sqlite.specs.Order.{Row, column}
 use Rattle.sqlite.specs.Tree.{Trees}
@@ -24,20 +26,23 @@ use Rattle.dali_script.specs.declared.records.Record.{Record}
 use Rattle.dali_sqlite.specs.Table.{record_table, record_schema, no_schema}
 use Rattle.dali_sqlite.specs.Rows.{row_of, rows_after, shown_of, four_of}
 use Rattle.dali_sqlite.specs.Stored.{HasTable, Holds, Lists}
-use Rattle.dali_sqlite.proofs.Texts.{create_text, create_is, create_plain, insert_text, insert_is, insert_plain, select_text, select_is, select_plain, terms, query}
+use Rattle.dali_sqlite.proofs.Texts.{create_text, create_is, create_plain, insert_text, insert_is, insert_plain, select_text, select_is, select_plain, terms}
+use Rattle.dali_sqlite.proofs.Texts.{query}
 use Rattle.dali_sqlite.proofs.Open.{same_has}
 use Rattle.dali_sqlite.proofs.Ordered.{keyed, in_order, rows_more}
 use Rattle.dali_sqlite.proofs.Inserted.{gave, the_same, given, put_in, inserts}
 
 -- ---- CREATE TABLE
 
-made : (old : State) (after : Database) (tally : Tally) (text : List ℕ) → old.now.schema ≡ no_schema → text ≡ create_text → Does old.step_limit (mode_of old) [] old.now text None CreateTable (Ok (tally, after))
+made : (old : State) (after : Database) (tally : Tally) (text : List ℕ) → old.now.schema ≡ no_schema → text ≡ create_text
+    → Does old.step_limit (mode_of old) [] old.now text None CreateTable (Ok (tally, after))
     → (after.schema ≡ record_schema) × (after.trees 0 ≡ [])
 made old after tally text has is does =
     let all = gave does in
     let first = gave all.1 in
     let table = first.1 in
-    let both : Ok table.table ≡ Ok record_table = sym (subst (λ t. Rattle.sqlite.specs.Compile.table_defined_by t ≡ Ok table.table) is table.defined) ∙ create_is.2 in
+    let both : Ok table.table ≡ Ok record_table =
+    sym (subst (λ t. Rattle.sqlite.specs.Compile.table_defined_by t ≡ Ok table.table) is table.defined) ∙ create_is.2 in
     let same : table.table ≡ record_table = cc in
     let schema : first.0.schema ≡ record_schema = table.is ∙ ap (λ s. created s table.table) has ∙ ap (created no_schema) same in
     let plain : lacks_sequence first.0.schema ≡ false = ap lacks_sequence schema in
@@ -45,14 +50,16 @@ made old after tally text has is does =
     (ap (λ (d : Database). d.schema) now ∙ schema, ap (λ (d : Database). d.trees 0) now ∙ subst (λ s. first.0.trees (next_tree s) ≡ []) has table.empty)
 
 -- what a write outside a transaction shows, it has committed
-wrote : (old new : State) → Shows old new new.now (if old.in_transaction then old.committed else new.now) old.in_transaction → old.in_transaction ≡ false → new.now.schema ≡ record_schema → HasTable new
+wrote : (old new : State) → Shows old new new.now (if old.in_transaction then old.committed else new.now) old.in_transaction → old.in_transaction ≡ false
+    → new.now.schema ≡ record_schema → HasTable new
 wrote old new shown autocommit schema = record {
   table = schema;
   autocommit = shown.mode ∙ autocommit;
   committed = sym (shown.committed_is ∙ ap (λ b. if b then old.committed else new.now) autocommit);
 }
 
-pub creates : (old new : State) (count : ℕ) → old.now.schema ≡ no_schema → old.in_transaction ≡ false → Executes create_text [] old new (Ok count) → Holds new []
+pub creates : (old new : State) (count : ℕ) → old.now.schema ≡ no_schema → old.in_transaction ≡ false → Executes create_text [] old new (Ok count)
+    → Holds new []
 creates old new count has autocommit ran =
     let w = runs_as create_text [] old new no_schema has CreateTable create_is.0 create_plain count ran in
     let after = made old new.now w.tally (statement_of create_text (understood no_schema create_text)) has create_is.1 w.changed in
@@ -60,27 +67,32 @@ creates old new count has autocommit ran =
 
 -- ---- INSERT
 
-pub lists_more : (trees after : Trees) (xs : List Record) (x : Record) (row : Row) → shown_of row ≡ row_of (length xs + 1) x → Lists trees xs → IsPermutation (after 0) (row ∷ trees 0) → Lists after (xs ++ x ∷ [])
+pub lists_more : (trees after : Trees) (xs : List Record) (x : Record) (row : Row) → shown_of row ≡ row_of (length xs + 1) x → Lists trees xs
+    → IsPermutation (after 0) (row ∷ trees 0) → Lists after (xs ++ x ∷ [])
 lists_more trees after xs x row is held more =
     let new = row_of (length xs + 1) x in
-    let mapped : IsPermutation (map shown_of (after 0)) (new ∷ map shown_of (trees 0)) = subst (λ r. IsPermutation (map shown_of (after 0)) (r ∷ map shown_of (trees 0))) is (IsPermutation-map shown_of _ _ more) in
+    let mapped : IsPermutation (map shown_of (after 0)) (new ∷ map shown_of (trees 0)) =
+    subst (λ r. IsPermutation (map shown_of (after 0)) (r ∷ map shown_of (trees 0))) is (IsPermutation-map shown_of _ _ more) in
     let last = IsPermutation-trans _ _ _ mapped (IsPermutation-sym _ _ (IsPermutation-to_front (map shown_of (trees 0)) new)) in
     let grown = IsPermutation-trans _ _ _ last (IsPermutation-append_left (new ∷ []) _ _ held) in
     let place : length xs + 1 ≡ 0 + length xs + 1 = omega arith in
     subst (IsPermutation (map shown_of (after 0))) (ap (λ at. rows_after 0 xs ++ row_of at x ∷ []) place ∙ sym (rows_more 0 xs x)) grown
 
-pub adds : (old new : State) (count : ℕ) (seq kind address random : ℤ) (xs : List Record) (x : Record) → Int seq ∷ Int kind ∷ Int address ∷ Int random ∷ [] ≡ row_of (length xs + 1) x
+pub adds : (old new : State) (count : ℕ) (seq kind address random : ℤ) (xs : List Record) (x : Record)
+    → Int seq ∷ Int kind ∷ Int address ∷ Int random ∷ [] ≡ row_of (length xs + 1) x
     → Executes insert_text (Int seq ∷ Int kind ∷ Int address ∷ Int random ∷ []) old new (Ok count) → Holds old xs → Holds new (xs ++ x ∷ [])
 adds old new count seq kind address random xs x is ran held =
     let w = runs_as insert_text _ old new record_schema held.has.table (Insert 0 (Values terms 5)) insert_is insert_plain count ran in
-    let after = inserts old.step_limit (mode_of old) old.now new.now (statement_of insert_text (understood record_schema insert_text)) w.tally seq kind address random held.has.table w.changed in
+    let after = inserts old.step_limit (mode_of old) old.now new.now (statement_of insert_text (understood record_schema insert_text))
+    w.tally seq kind address random held.has.table w.changed in
     record {
       has = wrote old new w.shown held.has.autocommit after.0;
       rows = lists_more old.now.trees new.now.trees xs x (put_in seq kind address random) is held.rows after.1;
     }
 
 -- what a stop may leave: what it might have left before, or one record more
-pub stops : (old : State) (seq kind address random : ℤ) (xs : List Record) (x : Record) → Int seq ∷ Int kind ∷ Int address ∷ Int random ∷ [] ≡ row_of (length xs + 1) x → Holds old xs → (trees : Trees)
+pub stops : (old : State) (seq kind address random : ℤ) (xs : List Record) (x : Record)
+    → Int seq ∷ Int kind ∷ Int address ∷ Int random ∷ [] ≡ row_of (length xs + 1) x → Holds old xs → (trees : Trees)
     → CommitsBy insert_text (Int seq ∷ Int kind ∷ Int address ∷ Int random ∷ []) old trees → Lists trees (xs ++ x ∷ [])
 unfolding CommitsBy
 stops old seq kind address random xs x is held trees commits =
@@ -89,10 +101,16 @@ stops old seq kind address random xs x is held trees commits =
     let plain = subst IsPlain (sym known) insert_plain in
     let command : commits.0.command ≡ Insert 0 (Values terms 5) = ap command_of known ∙ insert_is in
     elim (commits.2) [
-      | inl ends ↦ absurd (elim (ends.0) [ inl commit ↦ (let impossible = sym command ∙ commit in cc) | inr release ↦ (let impossible = sym command ∙ release.2 in cc) ])
+      | inl ends ↦ absurd (elim (ends.0) [
+        | inl commit ↦ (let impossible = sym command ∙ commit in cc)
+        | inr release ↦
+            (let impossible = sym command ∙ release.2 in cc)
+      ])
       | inr writes ↦
-          let after = inserts old.step_limit (mode_of old) old.now writes.2 (text_of insert_text commits.0) writes.1 seq kind address random held.has.table (rw (plain.0, command, plain.1, append-nil params) at writes.3) in
-          subst (λ db. Lists db (xs ++ x ∷ [])) (sym writes.5) (lists_more old.now.trees writes.2.trees xs x (put_in seq kind address random) is held.rows after.1)
+          let after = inserts old.step_limit (mode_of old) old.now writes.2 (text_of insert_text commits.0) writes.1 seq kind address random held.has.table
+          (rw (plain.0, command, plain.1, append-nil params) at writes.3) in
+          subst (λ db. Lists db (xs ++ x ∷ [])) (sym writes.5)
+          (lists_more old.now.trees writes.2.trees xs x (put_in seq kind address random) is held.rows after.1)
     ]
 
 -- ---- SELECT
@@ -108,12 +126,14 @@ shows_unchanged old new rows has shown =
     let plain = subst IsPlain (sym known) select_plain in
     (rw plain.0 at shown.2).3
 
-pub selects_same : (old new : State) (rows : List Row) → Shown select_text [] old new rows → HasTable old → (new.now ≡ old.now) × HasTable new × IsTrue new.is_open
+pub selects_same : (old new : State) (rows : List Row) → Shown select_text [] old new rows → HasTable old
+    → (new.now ≡ old.now) × HasTable new × IsTrue new.is_open
 selects_same old new rows shown has =
     let same = shows_unchanged old new rows has.table shown in
     (same.0.now_is, same_has old new same.0.now_is (same.0.committed_is ∙ sym has.committed) (same.0.mode ∙ has.autocommit) has, same.0.is_open)
 
-answer_of : (old new : State) (rows : List Row) → old.now.schema ≡ record_schema → Shown select_text [] old new rows → IsAnswer query (overlay old.now.trees []) [] rows
+answer_of : (old new : State) (rows : List Row) → old.now.schema ≡ record_schema → Shown select_text [] old new rows
+    → IsAnswer query (overlay old.now.trees []) [] rows
 answer_of old new rows has shown = (reads_as select_text [] old new record_schema has _ select_is.0 select_plain select_is.1 rows shown).answer Null
 
 module _ (trees : Trees) (rows : List Row) (a : IsAnswer query (overlay trees []) [] rows) where
@@ -128,7 +148,9 @@ module _ (trees : Trees) (rows : List Row) (a : IsAnswer query (overlay trees []
   all_shown =
       let values = λ (o : Output). o.1 in
       let same = subst (λ kept. IsPermutation (map values kept) (map values a.ordered)) kept_is (IsPermutation-map values _ _ a.same) in
-      subst (IsPermutation (map shown_of (trees 0))) (sym a.shown) (subst (λ all. IsPermutation all (map values a.ordered)) (map-map values keyed (map shown_of (trees 0)) ∙ map-map (λ row. row) shown_of (trees 0)) same)
+      subst (IsPermutation (map shown_of (trees 0))) (sym a.shown)
+      (subst (λ all. IsPermutation all (map values a.ordered)) (map-map values keyed (map shown_of (trees 0)) ∙ map-map (λ row. row) shown_of (trees 0))
+      same)
 
   -- and in the order of the list that is held
   shown_in_order : (xs : List Record) → Lists trees xs → rows ≡ rows_after 0 xs
@@ -141,15 +163,18 @@ four_rows n [] = refl
 four_rows n (x ∷ xs) = ap (λ more. row_of (n + 1) x ∷ more) (four_rows (n + 1) xs)
 
 -- what was read of a table that holds a list is the list's rows
-pub selects_exactly : (old new : State) (rows : List Row) → Shown select_text [] old new rows → (xs : List Record) → Holds old xs → map four_of rows ≡ rows_after 0 xs
+pub selects_exactly : (old new : State) (rows : List Row) → Shown select_text [] old new rows → (xs : List Record) → Holds old xs
+    → map four_of rows ≡ rows_after 0 xs
 selects_exactly old new rows shown xs held =
     ap (map four_of) (shown_in_order old.now.trees rows (answer_of old new rows held.has.table shown) xs held.rows) ∙ four_rows 0 xs
 
 -- and where they are the rows of a list, the table holds it
-pub selects_found : (old new : State) (rows : List Row) → Shown select_text [] old new rows → HasTable old → (xs : List Record) → map four_of rows ≡ rows_after 0 xs → Holds new xs
+pub selects_found : (old new : State) (rows : List Row) → Shown select_text [] old new rows → HasTable old → (xs : List Record)
+    → map four_of rows ≡ rows_after 0 xs → Holds new xs
 selects_found old new rows shown has xs is =
     let same = selects_same old new rows shown has in
     let all = IsPermutation-map four_of _ _ (all_shown old.now.trees rows (answer_of old new rows has.table shown)) in
     let listed : Lists old.now.trees xs =
-    subst (IsPermutation (map shown_of (old.now.trees 0))) is (subst (λ some. IsPermutation some (map four_of rows)) (map-map four_of shown_of (old.now.trees 0)) all) in
+    subst (IsPermutation (map shown_of (old.now.trees 0))) is
+    (subst (λ some. IsPermutation some (map four_of rows)) (map-map four_of shown_of (old.now.trees 0)) all) in
     record { has = same.1; rows = subst (λ (d : Database). Lists d.trees xs) (sym same.0) listed }

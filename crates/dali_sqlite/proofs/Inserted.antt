@@ -1,5 +1,6 @@
 -- What the three texts do.
-use Rattle.std.proofs.Common.{◌≡◌, ◌⊎◌, inl, inr, ℕ, ℤ, List, [], ◌∷◌, Bool, true, false, not, cond, Option, None, Ok, Err, Result, Ordering, Less, Equal, Greater, is_eq, IsPermutation, refl, sym, ap, subst, ◌∙◌}
+use Rattle.std.proofs.Common.{◌≡◌, ◌⊎◌, inl, inr, ℕ, ℤ, List, [], ◌∷◌, Bool, true, false, not, cond, Option, None, Ok, Err, Result, Ordering, Less, Equal}
+use Rattle.std.proofs.Common.{Greater, is_eq, IsPermutation, refl, sym, ap, subst, ◌∙◌}
 use Rattle.std.proofs.lemmas.Bool.{or_parts}
 use Rattle.std.specs.Prelude.{◌&&◌}
 use Rattle.std.specs.Ordering.{match_ordering}
@@ -26,7 +27,8 @@ use Rattle.dali_sqlite.proofs.Texts.{terms}
 
 -- ---- a row with a new rowid, put where it belongs, is one row more
 
-found_new : (new r : Row) (rows : List Row) (o : Ordering) → value_cmp (rowid r) (rowid new) ≡ o → is_eq o ≡ false → IsPermutation (put_row new rows) (new ∷ rows)
+found_new : (new r : Row) (rows : List Row) (o : Ordering) → value_cmp (rowid r) (rowid new) ≡ o → is_eq o ≡ false
+    → IsPermutation (put_row new rows) (new ∷ rows)
     → IsPermutation (match_ordering o (r ∷ put_row new rows) (new ∷ rows) (new ∷ r ∷ rows)) (new ∷ r ∷ rows)
 found_new new r rows Less is apart later = IsPermutation-trans _ _ _ (IsPermutation-cons r _ _ later) (IsPermutation-middle (r ∷ []) new rows)
 found_new new r rows Equal is apart later = absurd cc
@@ -86,9 +88,11 @@ inserts limit mode db after text tally seq kind address random has does =
     let trees : done.0.trees ≡ written.0 = ap (λ (it : Written). it.trees) (the_same counted.2) ∙ the_same counted.1 in
     let edit = edit_of db.trees record_table [] Chosen 0 sourced.0 in
     let applies = one_step record_schema _ db.trees written.0 edit refl written.1 in
-    let news : edit.news ≡ new ∷ [] = ap (λ all. (edit_of db.trees record_table [] Chosen 0 all).news) sourced.1.1 ∙ rw (whole seq, whole kind, whole address, whole random, nothing) refl in
+    let news : edit.news ≡ new ∷ [] =
+    ap (λ all. (edit_of db.trees record_table [] Chosen 0 all).news) sourced.1.1 ∙ rw (whole seq, whole kind, whole address, whole random, nothing) refl in
     let free = fresh_one (is_taken (db.trees 0) new) (rw news at applies.fresh) in
     let rows : written.0 0 ≡ put_row new (db.trees 0) = applies.rows ∙ rw news refl in (
       ap (λ (d : Database). d.schema) now,
-      subst (λ rows. IsPermutation rows (new ∷ db.trees 0)) (sym (ap (λ (d : Database). d.trees 0) now ∙ ap (λ (t : Trees). t 0) trees ∙ rows)) (put_new new (db.trees 0) free),
+      subst (λ rows. IsPermutation rows (new ∷ db.trees 0)) (sym (ap (λ (d : Database). d.trees 0) now ∙ ap (λ (t : Trees). t 0) trees ∙ rows))
+          (put_new new (db.trees 0) free),
     )

@@ -24,14 +24,16 @@ counted rows xs is = sym (length-map rows four_of) ∙ ap length is ∙ length_r
 pub replayed_block : (block : Block) (first kept : Kept) (xs : List Record) → first ≡ without_records block → kept ≡ replay_of first xs → kept.block ≡ block
 replayed_block block first kept xs none is = ap (λ (k : Kept). k.block) is ∙ block_replayed first xs ∙ ap (λ (k : Kept). k.block) none
 
-pub replayed : (block : Block) (first kept : Kept) (xs : List Record) → first ≡ without_records block → AreGood first xs → kept ≡ replay_of first xs → IsReplay kept.block xs kept
+pub replayed : (block : Block) (first kept : Kept) (xs : List Record) → first ≡ without_records block → AreGood first xs → kept ≡ replay_of first xs
+    → IsReplay kept.block xs kept
 replayed block first kept xs none good is =
     let same : first ≡ without_records kept.block = none ∙ ap without_records (sym (replayed_block block first kept xs none is)) in
     record { good = subst (λ k. AreGood k xs) same good; value = is ∙ ap (λ k. replay_of k xs) same }
 
 -- ---- of the one list that is held
 
-pub stored : (s : State) (kept : Kept) (count : ℕ) (must_read : Bool) (xs : List Record) → Holds s xs → (must_read ≡ false → IsKnown kept count xs) → IsStored s kept count must_read
+pub stored : (s : State) (kept : Kept) (count : ℕ) (must_read : Bool) (xs : List Record) → Holds s xs → (must_read ≡ false → IsKnown kept count xs)
+    → IsStored s kept count must_read
 stored s kept count must_read xs held known = record {
   records = xs;
   held = held;
@@ -39,12 +41,14 @@ stored s kept count must_read xs held known = record {
 }
 
 -- the same list is held, and nothing else is known of it
-pub still_stored : (old new : State) (kept : Kept) (count : ℕ) (must_read : Bool) → ((xs : List Record) → Holds old xs → Holds new xs) → IsStored old kept count must_read → IsStored new kept count must_read
+pub still_stored : (old new : State) (kept : Kept) (count : ℕ) (must_read : Bool) → ((xs : List Record) → Holds old xs → Holds new xs)
+    → IsStored old kept count must_read → IsStored new kept count must_read
 still_stored old new kept count must_read same sound =
     stored new kept count must_read sound.records (same sound.records sound.held) (λ read. sound.known read sound.records sound.held)
 
 -- one record more is held and known
-pub more_stored : (old new : State) (kept now : Kept) (count next : ℕ) (x : Record) → address_of x < 64 → Fits kept.block x → MayAdd kept x → now ≡ with_record kept x → next ≡ count + 1
+pub more_stored : (old new : State) (kept now : Kept) (count next : ℕ) (x : Record) → address_of x < 64 → Fits kept.block x → MayAdd kept x
+    → now ≡ with_record kept x → next ≡ count + 1
     → ((xs : List Record) → count ≡ length xs → Holds old xs → Holds new (xs ++ x ∷ [])) → IsStored old kept count false → IsStored new now next false
 more_stored old new kept now count next x short fits may is more adds sound =
     let xs = sound.records in

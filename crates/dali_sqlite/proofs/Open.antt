@@ -3,11 +3,13 @@ use Rattle.std.proofs.Common.{◌≡◌, ◌⊎◌, inl, inr, ℕ, List, Bool, t
 use Rattle.std.specs.Prelude.{MatchBool}
 use Rattle.sqlite.specs.Order.{Row}
 use Rattle.sqlite.specs.Command.{Command}
-use Rattle.sqlite.specs.Command.TheVariants.{Select, Insert, InsertOr, Update, Delete, CreateTable, CreateIndex, DropTable, DropIndex, Begin, Commit, Rollback, Savepoint as Save, Release, RollbackTo, Nothing, CreateView, DropView, Rows}
+use Rattle.sqlite.specs.Command.TheVariants.{Select, Insert, InsertOr, Update, Delete, CreateTable, CreateIndex, DropTable, DropIndex, Begin, Commit, Rollback}
+use Rattle.sqlite.specs.Command.TheVariants.{Savepoint as Save, Release, RollbackTo, Nothing, CreateView, DropView, Rows}
 use Rattle.sqlite_schema.specs.declared.command.Returning.{Returning}
 use Rattle.sqlite.specs.declared.error.Error.{Error}
 use Rattle.sqlite.specs.Effect.{Database}
-use Rattle.sqlite.specs.State.{State, IsUnchanged, IsRolledBack, Runs, RunsCommand, IsNotRun, ExecutesIn, Executes, shows_rows, FailsToShow, FailsToQuery, ShowsRows, Shown, Survives, HasCleanDisk}
+use Rattle.sqlite.specs.State.{State, IsUnchanged, IsRolledBack, Runs, RunsCommand, IsNotRun, ExecutesIn, Executes, shows_rows, FailsToShow, FailsToQuery}
+use Rattle.sqlite.specs.State.{ShowsRows, Shown, Survives, HasCleanDisk}
 use Rattle.sqlite.specs.Tree.{Trees}
 use Rattle.dali_script.specs.declared.records.Record.{Record}
 use Rattle.dali_sqlite.specs.Stored.{HasTable, Holds, Lists, IsUp}
@@ -20,7 +22,8 @@ pub stays_open : (old new : State) → Stays old new → IsTrue new.is_open → 
 stays_open old new (inl same) up = same.0.was_open
 stays_open old new (inr undone) up = undone.was_open up
 
-runs_open : (old new : State) (returning : Option Returning) (command : Command) (text : List ℕ) (params : Row) (count : ℕ) → Runs old new returning command text params count
+runs_open : (old new : State) (returning : Option Returning) (command : Command) (text : List ℕ) (params : Row) (count : ℕ)
+    → Runs old new returning command text params count
     → IsTrue new.is_open → IsTrue old.is_open
 runs_open old new returning (Select q names) text params count h up = absurd h
 runs_open old new returning (Insert at from) text params count h up = h.shown.was_open
@@ -66,12 +69,14 @@ unfolding ExecutesIn
 executes_stays sql params old new e (inl none) = not_run_stays old new sql params e none
 executes_stays sql params old new e (inr ran) = alone_stays (shows_rows false ran.0) old new sql ran.0 _ e _ ran.2
 
-pub executes_open : (sql : List ℕ) (params : Row) (old new : State) (r : Result ℕ Error) → Executes sql params old new r → IsTrue new.is_open → IsTrue old.is_open
+pub executes_open : (sql : List ℕ) (params : Row) (old new : State) (r : Result ℕ Error) → Executes sql params old new r → IsTrue new.is_open
+    → IsTrue old.is_open
 unfolding ExecutesIn
 executes_open sql params old new (Ok count) ran up = alone_open (shows_rows false ran.0) old new sql ran.0 _ count _ ran.2 up
 executes_open sql params old new (Err e) h up = stays_open old new (executes_stays sql params old new e h) up
 
-fails_to_show : (old new : State) (sql : List ℕ) (c : _) (params : Row) (e : Error) (returning : Option Returning) → FailsToShow old new sql c params e returning → Stays old new
+fails_to_show : (old new : State) (sql : List ℕ) (c : _) (params : Row) (e : Error) (returning : Option Returning)
+    → FailsToShow old new sql c params e returning → Stays old new
 fails_to_show old new sql c params e None h = inl h.3
 fails_to_show old new sql c params e (Some what) h = command_stays old new sql c params e h
 
@@ -80,7 +85,8 @@ unfolding FailsToQuery
 query_stays sql params old new e (inl none) = not_run_stays old new sql params e none
 query_stays sql params old new e (inr ran) = fails_to_show old new sql ran.0 _ e ran.0.returning ran.2
 
-shows_open : (old new : State) (sql : List ℕ) (c : _) (params : Row) (rows : List Row) (returning : Option Returning) → ShowsRows old new sql c params rows returning → IsTrue old.is_open
+shows_open : (old new : State) (sql : List ℕ) (c : _) (params : Row) (rows : List Row) (returning : Option Returning)
+    → ShowsRows old new sql c params rows returning → IsTrue old.is_open
 shows_open old new sql c params rows None h = h.3.0.was_open
 shows_open old new sql c params rows (Some what) h = h.1.shown.was_open
 
@@ -93,9 +99,11 @@ was_up old new P survives opened up = (omega (arith, survives.clean, up.0), open
 
 -- what shows the same, and has committed it, holds the same
 pub same_has : (old new : State) → new.now ≡ old.now → new.committed ≡ old.now → new.in_transaction ≡ false → HasTable old → HasTable new
-same_has old new now committed autocommit has = record { table = ap (λ (d : Database). d.schema) now ∙ has.table; autocommit = autocommit; committed = now ∙ sym committed }
+same_has old new now committed autocommit has =
+    record { table = ap (λ (d : Database). d.schema) now ∙ has.table; autocommit = autocommit; committed = now ∙ sym committed }
 
-pub stays_same : (old new : State) → Stays old new → IsTrue new.is_open → old.in_transaction ≡ false → old.now ≡ old.committed → (new.now ≡ old.now) × (new.committed ≡ old.now) × (new.in_transaction ≡ false)
+pub stays_same : (old new : State) → Stays old new → IsTrue new.is_open → old.in_transaction ≡ false → old.now ≡ old.committed
+    → (new.now ≡ old.now) × (new.committed ≡ old.now) × (new.in_transaction ≡ false)
 stays_same old new (inl same) up autocommit committed = (same.0.now_is, same.0.committed_is ∙ sym committed, same.0.mode ∙ autocommit)
 stays_same old new (inr undone) up autocommit committed = ((undone.undone up).0 ∙ sym committed, (undone.undone up).1 ∙ sym committed, undone.autocommit)
 

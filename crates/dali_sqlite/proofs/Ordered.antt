@@ -1,5 +1,6 @@
 -- The rows of a list rise by their first value, so a list is known from its rows, and from them in any order.
-use Rattle.std.proofs.Common.{◌≡◌, ℕ, zero, suc, ◌+◌, ◌<◌, ◌≤◌, pos, List, [], ◌∷◌, ◌++◌, map, length, Ordering, Less, is_lt, IsPermutation, IsSorted, refl, sym, ap, ◌∙◌, arith}
+use Rattle.std.proofs.Common.{Some, ◌≡◌, ℕ, zero, suc, ◌+◌, ◌<◌, ◌≤◌, pos, List, [], ◌∷◌, ◌++◌, map, length, Ordering, Less, is_lt, IsPermutation, IsSorted, refl}
+use Rattle.std.proofs.Common.{sym, ap, ◌∙◌, arith}
 use Rattle.std.specs.List.{AllByRecursion}
 use Rattle.std.specs.Cmp.{IsTotalOrder}
 use Rattle.std.specs.Ordering.{ordering_reverse}
@@ -14,7 +15,9 @@ use Rattle.sqlite.specs.Query.{Output, output_cmp}
 use Rattle.sqlite_sql.proofs.QueryLemmas.{output_cmp_total}
 use Rattle.sqlite_keyed.proofs.SortLemmas.{sorted_unique}
 use Rattle.dali_script.specs.declared.records.Record.{Record}
-use Rattle.dali_script.specs.declared.records.Record.TheVariants.{Reserve, Enrol, Release}
+use Rattle.dali_script.specs.Records.{address_of, random_of}
+use Rattle.dali_script.specs.Names.{record_code}
+use Rattle.dali_script.proofs.Codes.{record_there}
 use Rattle.dali_sqlite.specs.Rows.{row_of, rows_after}
 use Rattle.dali_sqlite.specs.Stored.{Lists}
 use Rattle.dali_sqlite.proofs.Texts.{query}
@@ -54,15 +57,12 @@ module _ {A : Type 0} (cmp : A → A → Ordering) (total : IsTotalOrder cmp) wh
       let next : suc k + 1 ≡ suc (k + 1) = omega arith in rw next (sorted_from (y ∷ xs) up.1 k d (omega arith) (omega arith))
 
 pub same_record : (n : ℕ) (x y : Record) → row_of n x ≡ row_of n y → x ≡ y
-same_record n (Reserve a r) (Reserve b s) is = cc
-same_record n (Enrol a r) (Enrol b s) is = cc
-same_record n (Reserve a r) (Enrol b s) is = absurd (let kinds : ◌≡◌ {A = ℕ} 1 2 = cc in omega arith)
-same_record n (Enrol a r) (Reserve b s) is = absurd (let kinds : ◌≡◌ {A = ℕ} 2 1 = cc in omega arith)
-same_record n (Release a r) (Release b s) is = cc
-same_record n (Release a r) (Reserve b s) is = absurd (let kinds : ◌≡◌ {A = ℕ} 3 1 = cc in omega arith)
-same_record n (Release a r) (Enrol b s) is = absurd (let kinds : ◌≡◌ {A = ℕ} 3 2 = cc in omega arith)
-same_record n (Reserve a r) (Release b s) is = absurd (let kinds : ◌≡◌ {A = ℕ} 1 3 = cc in omega arith)
-same_record n (Enrol a r) (Release b s) is = absurd (let kinds : ◌≡◌ {A = ℕ} 2 3 = cc in omega arith)
+same_record n x y is =
+    let code : record_code x ≡ record_code y = cc in
+    let address : address_of x ≡ address_of y = cc in
+    let random : random_of x ≡ random_of y = cc in
+    let same : Some x ≡ Some y = sym (record_there x) ∙ (rw (code, address, random) (record_there y)) in
+    cc
 
 pub same_records : (n : ℕ) (xs ys : List Record) → rows_after n xs ≡ rows_after n ys → xs ≡ ys
 same_records n [] [] is = refl
@@ -76,9 +76,11 @@ same_records n (x ∷ xs) (y ∷ ys) is =
     cc
 
 -- the rows of a list, keyed and in an order that is sorted, are in the order of the list
-pub in_order : (xs : List Record) (ordered : List Output) → IsPermutation (map keyed (rows_after 0 xs)) ordered → IsSorted by_seq ordered → map (λ (o : Output). o.1) ordered ≡ rows_after 0 xs
+pub in_order : (xs : List Record) (ordered : List Output) → IsPermutation (map keyed (rows_after 0 xs)) ordered → IsSorted by_seq ordered
+    → map (λ (o : Output). o.1) ordered ≡ rows_after 0 xs
 in_order xs ordered same sorted =
-    ap (map (λ (o : Output). o.1)) (sorted_unique by_seq (output_cmp_total query) (map keyed (rows_after 0 xs)) ordered (rows_rise 0 xs) same sorted) ∙ unkeyed (rows_after 0 xs)
+    ap (map (λ (o : Output). o.1)) (sorted_unique by_seq (output_cmp_total query) (map keyed (rows_after 0 xs)) ordered (rows_rise 0 xs) same sorted)
+    ∙ unkeyed (rows_after 0 xs)
 
 -- ONE LIST has the rows of a table.
 pub one_list : (trees : Trees) (xs ys : List Record) → Lists trees xs → Lists trees ys → xs ≡ ys

@@ -14,7 +14,8 @@ Makes kept rows before xs = (map four_of rows ≡ rows_after before xs) × AreGo
 
 pub record HasTaken (first kept : Kept) (rows : List Row) (before : ℕ) : Type 0 where
   pub left : (xs : List Record) → Makes first rows 0 xs → (more : List Record) × Makes kept (drop before rows) before more
-  pub whole : (more : List Record) → Makes kept (drop before rows) before more → (xs : List Record) × Makes first rows 0 xs × (replay_of kept more ≡ replay_of first xs)
+  pub whole : (more : List Record) → Makes kept (drop before rows) before more
+      → (xs : List Record) × Makes first rows 0 xs × (replay_of kept more ≡ replay_of first xs)
 
 pub taken_none : (first : Kept) (rows : List Row) → HasTaken first first rows 0
 taken_none first rows = record { left = λ xs makes. (xs, makes); whole = λ xs makes. (xs, makes, refl) }
@@ -29,11 +30,13 @@ next_is kept row rows before (x ∷ xs) makes =
     let others : map four_of rows ≡ rows_after (before + 1) xs = cc in
     (x, one, makes.1.0, xs, (others, makes.1.1))
 
-module _ (first kept : Kept) (rows : List Row) (before : ℕ) (row : Row) (within : before < length rows) (is : row ≡ get_or rows before row) (taken : HasTaken first kept rows before) where
+module _ (first kept : Kept) (rows : List Row) (before : ℕ) (row : Row) (within : before < length rows) (is : row ≡ get_or rows before row)
+    (taken : HasTaken first kept rows before) where
   dropped : drop before rows ≡ row ∷ drop (before + 1) rows
   dropped = drop_more rows before row within ∙ ap (λ r. r ∷ drop (before + 1) rows) (sym is)
 
-  pub taken_more : (new : Kept) (x : Record) → four_of row ≡ row_of (before + 1) x → IsGood kept x → new ≡ with_record kept x → HasTaken first new rows (before + 1)
+  pub taken_more : (new : Kept) (x : Record) → four_of row ≡ row_of (before + 1) x → IsGood kept x → new ≡ with_record kept x
+      → HasTaken first new rows (before + 1)
   taken_more new x one good now = record {
     left = λ xs makes.
         let some = taken.left xs makes in
@@ -53,7 +56,8 @@ module _ (first kept : Kept) (rows : List Row) (before : ℕ) (row : Row) (withi
       let next = next_is kept row (drop (before + 1) rows) before some.0 (subst (λ rs. Makes kept rs before some.0) dropped some.1) in
       bad next.0 next.1 next.2
 
-pub taken_all : (first kept : Kept) (rows : List Row) (before : ℕ) → length rows ≤ before → HasTaken first kept rows before → (xs : List Record) × (map four_of rows ≡ rows_after 0 xs) × AreGood first xs × (kept ≡ replay_of first xs)
+pub taken_all : (first kept : Kept) (rows : List Row) (before : ℕ) → length rows ≤ before → HasTaken first kept rows before
+    → (xs : List Record) × (map four_of rows ≡ rows_after 0 xs) × AreGood first xs × (kept ≡ replay_of first xs)
 taken_all first kept rows before most taken =
     let none : Makes kept (drop before rows) before [] = rw (drop_all before rows most) (refl, tt) in
     let all = taken.whole [] none in

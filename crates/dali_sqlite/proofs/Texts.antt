@@ -43,7 +43,8 @@ query = record {
   offset = lit (Int (pos 0));
 }
 
-pub create_is : (command_of (understood no_schema create_text) ≡ CreateTable) × (statement_of create_text (understood no_schema create_text) ≡ create_text) × (table_defined_by create_text ≡ Ok record_table)
+pub create_is : (command_of (understood no_schema create_text) ≡ CreateTable) × (statement_of create_text (understood no_schema create_text) ≡ create_text)
+    × (table_defined_by create_text ≡ Ok record_table)
 unfolding understood everything
 create_is = (refl, refl, refl)
 
@@ -59,7 +60,8 @@ pub insert_plain : IsPlain (understood record_schema insert_text)
 unfolding understood everything
 insert_plain = (refl, refl)
 
-pub select_is : (command_of (understood record_schema select_text) ≡ Select (record { lets = []; body = query }) (codes "seq" ∷ codes "kind" ∷ codes "address" ∷ codes "random" ∷ []))
+pub select_is : (command_of (understood record_schema select_text) ≡ Select (record { lets = []; body = query })
+    (codes "seq" ∷ codes "kind" ∷ codes "address" ∷ codes "random" ∷ []))
     × (reads_listing record_schema select_text ≡ false)
 unfolding understood everything
 select_is = (refl, refl)

@@ -2,20 +2,15 @@ use Rattle.std.specs.Prelude.{◌≡◌, ℕ, ◌+◌, pos, List, [], ◌∷◌}
 use Rattle.sqlite.specs.declared.types.Value.TheVariants.{Int}
 use Rattle.sqlite.specs.Order.{Row, column}
 use Rattle.dali_script.specs.declared.records.Record.{Record}
-use Rattle.dali_script.specs.declared.records.Record.TheVariants.{Reserve, Enrol, Release}
 use Rattle.dali_script.specs.Records.{address_of, random_of}
-
--- the column kind
-abbrev pub kind_of : Record → ℕ
-kind_of (Reserve a r) = 1
-kind_of (Enrol a r) = 2
-kind_of (Release a r) = 3
+use Rattle.dali_script.specs.Names.{record_code}
 
 -- A RECORD AS A ROW: its place in the list, from 1 on, its kind, its short address and its random
 -- address.
 abbrev pub row_of : ℕ → Record → Row
 row_of seq x =
-    Int (pos seq) ∷ Int (pos (kind_of x)) ∷ Int (pos (address_of x)) ∷ Int (pos (random_of x)) ∷ []
+    Int (pos seq) ∷ Int (pos (record_code x)) ∷ Int (pos (address_of x))
+    ∷ Int (pos (random_of x)) ∷ []
 
 -- the rows of a list of records, of which so many came before
 abbrev pub rows_after : ℕ → List Record → List Row
@@ -33,6 +28,6 @@ four_of row = column row 0 ∷ column row 1 ∷ column row 2 ∷ column row 3 �
 
 -- the values after the first are those of the record
 pub record Spells (row : Row) (x : Record) : Type 0 where
-  pub kind : column row 1 ≡ Int (pos (kind_of x))
+  pub kind : column row 1 ≡ Int (pos (record_code x))
   pub address : column row 2 ≡ Int (pos (address_of x))
   pub random : column row 3 ≡ Int (pos (random_of x))

@@ -5,31 +5,13 @@ ghost use Rattle.dali_script.specs.declared.records.Record.{Record};
 ghost use Rattle.dali_script.specs.Records.{address_of, random_of, with_record};
 ghost use Rattle.dali_reserve.specs.declared.error.KeepError.TheVariants.{BadStore};
 ghost use Rattle.dali_reserve.specs.Store.{replay_of, IsGood, AreGood};
-ghost use Rattle.dali_sqlite.specs.Rows.{kind_of, row_of, rows_after, four_of, Spells};
+ghost use Rattle.dali_sqlite.specs.Rows.{row_of, rows_after, four_of, Spells};
 
 use dali_frame::{Random24, Short};
 use dali_reserve::KeepError;
 use dali_script::{Kept, Record};
 use sqlite::Row;
 use sqlite::types::ValueRef;
-
-/// The kind that the table has of a reservation, of an enrolment, and of the release of a reservation.
-const RESERVE: u32 = 1;
-
-const ENROL: u32 = 2;
-
-const RELEASE: u32 = 3;
-
-/// The column `kind` of a record.
-pub fn kind_of(added: &Record) -> u32
-    ensures { result ≡ kind_of added.now }
-{
-    match *added {
-        Record::Reserve(..) => RESERVE,
-        Record::Enrol(..) => ENROL,
-        Record::Release(..) => RELEASE,
-    }
-}
 
 /// The whole number in a column.
 fn number(row: &Row, at: usize) -> Option<i64>
@@ -65,12 +47,8 @@ fn record_in(row: &Row) -> Option<Record>
 {
     let address = address(row)?;
     let random = random(row)?;
-    match u32::try_from(number(row, 1)?).ok()? {
-        RESERVE => Some(Record::Reserve(address, random)),
-        ENROL => Some(Record::Enrol(address, random)),
-        RELEASE => Some(Record::Release(address, random)),
-        _ => None,
-    }
+    let kind = u8::try_from(number(row, 1)?).ok()?;
+    Record::of_code(kind, address, random)
 }
 
 /// The record of a row of which so many come before.

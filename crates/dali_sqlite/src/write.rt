@@ -6,7 +6,6 @@ ghost use Rattle.dali_script.specs.declared.records.Record.{Record};
 ghost use Rattle.dali_sqlite.specs.Stored.{Lists, Holds, IsUp};
 ghost use Rattle.dali_sqlite.specs.Refused.{HasFailed};
 
-use crate::rows::kind_of;
 use crate::statements::insert;
 use dali_reserve::KeepError;
 use dali_script::Record;
@@ -37,6 +36,12 @@ pub fn write<S: Alter>(
     }
     let seq = (count + 1) as i64;
     let address = u32::from(added.address().number());
-    insert(conn, seq, kind_of(added), address, added.random().value())?;
+    insert(
+        conn,
+        seq,
+        u32::from(added.code()),
+        address,
+        added.random().value(),
+    )?;
     Ok(count + 1)
 }

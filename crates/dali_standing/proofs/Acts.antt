@@ -111,15 +111,18 @@ pub placed_start : (b : Bool) (t : List Entry) (k : Controller) (m : Machine) �
 placed_start true t k m e placed = elim (subst (λ l. IsOwning t k m l k.told) e placed) [ ]
 placed_start false t k m e placed = subst (λ l. IsApart k m l k.told) e placed
 
-pub placed_commit : (b : Bool) (t : List Entry) (k : Controller) (m : Machine) (x : Record) → k.last ≡ Some (Commit x) → IsPlacedBy b t k (Some m) → m.trace ≡ []
+pub placed_commit : (b : Bool) (t : List Entry) (k : Controller) (m : Machine) (x : Record) → k.last ≡ Some (Commit x) → IsPlacedBy b t k (Some m)
+    → m.trace ≡ []
 placed_commit true t k m x e placed = elim (subst (λ l. IsOwning t k m l k.told) e placed) [ ]
 placed_commit false t k m x e placed = subst (λ l. IsApart k m l k.told) e placed
 
 heard_trace : (m : Machine) (p : ℕ) (f : Forward) (h : Answer) → m.last ≡ Some (Put p f) → (machine_told m (input.Heard h)).trace ≡ m.trace ++ entry f h ∷ []
 heard_trace m p f h e = rw e refl
 
-placed_heard : (b : Bool) (t : List Entry) (k : Controller) (m : Machine) (p : ℕ) (f : Forward) (h : Answer) → k.told ≡ Some (input.Heard h) → k.last ≡ Some (Put p f)
-    → IsPlacedBy b t k (Some m) → (b ≡ true → t ≡ m.trace ++ entry f h ∷ []) × (b ≡ false → may_follow k.records.block k.records.reserved (stage_of (m.trace ++ entry f h ∷ [])) ≡ false)
+placed_heard : (b : Bool) (t : List Entry) (k : Controller) (m : Machine) (p : ℕ) (f : Forward) (h : Answer) → k.told ≡ Some (input.Heard h)
+    → k.last ≡ Some (Put p f)
+    → IsPlacedBy b t k (Some m)
+    → (b ≡ true → t ≡ m.trace ++ entry f h ∷ []) × (b ≡ false → may_follow k.records.block k.records.reserved (stage_of (m.trace ++ entry f h ∷ [])) ≡ false)
 placed_heard true t k m p f h is e placed =
     (λ _. subst (λ o. IsOwning t k m (Some (Put p f)) o) is (subst (λ l. IsOwning t k m l k.told) e placed), λ x. absurd (cc))
 placed_heard false t k m p f h is e placed =
@@ -131,7 +134,8 @@ owns_heard w c k m t p f h told_h last placed is g some may = go (owns w.bus.own
   go : (b : Bool) → owns w.bus.owner c ≡ b → (w.bus.owner ≡ Some c) × (t.trace ≡ w.trace)
   go true e = (owner_is w.bus.owner c e, is ∙ sym ((placed_heard (owns w.bus.owner c) w.trace k m p f h told_h last placed).0 e))
   go false e = absurd (over k.records.block k.records.reserved (stage_of t.trace) _
-      (subst (λ u. may_follow k.records.block k.records.reserved (stage_of u) ≡ false) (sym is) ((placed_heard (owns w.bus.owner c) w.trace k m p f h told_h last placed).1 e))
+      (subst (λ u. may_follow k.records.block k.records.reserved (stage_of u) ≡ false) (sym is)
+      ((placed_heard (owns w.bus.owner c) w.trace k m p f h told_h last placed).1 e))
       (follows_lawful k.records.block k.records.reserved t.trace g may))
 
 -- ---------------------------------------------------------------- what may be ordered
@@ -177,7 +181,8 @@ bus_kept m input.Start p f bus e = elim bus [ ]
 bus_kept m input.Committed p f bus e = elim bus [ ]
 bus_kept m input.CommitFailed p f bus e = elim bus [ ]
 
-bus_records : (k : Controller) (i : Input) → IsOfBus i → ((controller_informed k i).records ≡ k.records) × ((controller_informed k i).outstanding ≡ k.outstanding)
+bus_records : (k : Controller) (i : Input) → IsOfBus i
+    → ((controller_informed k i).records ≡ k.records) × ((controller_informed k i).outstanding ≡ k.outstanding)
 bus_records k (input.Heard h) bus = (refl, refl)
 bus_records k input.Destroyed bus = (refl, refl)
 bus_records k input.Lapsed bus = (refl, refl)
@@ -185,9 +190,11 @@ bus_records k input.Start bus = elim bus [ ]
 bus_records k input.Committed bus = elim bus [ ]
 bus_records k input.CommitFailed bus = elim bus [ ]
 
-owns_told : (w : World) (c : ℕ) (k : Controller) (m : Machine) (i : Input) (p : ℕ) (f : Forward) → IsOfBus i → k.told ≡ Some i → m.last ≡ k.last → k.last ≡ Some (Put p f)
+owns_told : (w : World) (c : ℕ) (k : Controller) (m : Machine) (i : Input) (p : ℕ) (f : Forward) → IsOfBus i → k.told ≡ Some i → m.last ≡ k.last
+    → k.last ≡ Some (Put p f)
     → IsPlacedBy (owns w.bus.owner c) w.trace k (Some m) → OwnsWith w c (controller_informed k i) (machine_told m i)
-owns_told w c k m (input.Heard h) p f bus is same e placed = owns_heard w c k m (machine_told m (input.Heard h)) p f h is e placed (heard_trace m p f h (same ∙ e))
+owns_told w c k m (input.Heard h) p f bus is same e placed =
+    owns_heard w c k m (machine_told m (input.Heard h)) p f h is e placed (heard_trace m p f h (same ∙ e))
 owns_told w c k m input.Destroyed p f bus is same e placed = owns_none w c (controller_informed k input.Destroyed) (machine_told m input.Destroyed) refl
 owns_told w c k m input.Lapsed p f bus is same e placed = owns_none w c (controller_informed k input.Lapsed) (machine_told m input.Lapsed) refl
 owns_told w c k m input.Start p f bus is same e placed = elim bus [ ]
@@ -241,7 +248,8 @@ stored_trace m last (Some i) commit told =
     let x = committed_last last commit in absurd (let none = subst (λ l. accepts (due_after l) i ≡ true) x.1 told in cc)
 
 -- what a machine orders leaves its place as it must be
-still_found : (t : Machine) (found : Option Finding) (here : Bool) → later found (finding_of t.trace) ≡ found → later found (finding_of (if here then t.trace else [])) ≡ found
+still_found : (t : Machine) (found : Option Finding) (here : Bool) → later found (finding_of t.trace) ≡ found
+    → later found (finding_of (if here then t.trace else [])) ≡ found
 still_found t found true is = is
 still_found t found false is = refl
 
@@ -251,13 +259,15 @@ found_ordered t (Commit x) found is = refl
 found_ordered t (Done e) found is = refl
 found_ordered t (Halt why) found is = refl
 
-outstanding_ordered : (t : Machine) (o : Order) (outstanding : Option Record) → IsAllowed t o → outstanding ≡ None → IsOutstanding t.kept (Some o) (outstanding_after outstanding o)
+outstanding_ordered : (t : Machine) (o : Order) (outstanding : Option Record) → IsAllowed t o → outstanding ≡ None
+    → IsOutstanding t.kept (Some o) (outstanding_after outstanding o)
 outstanding_ordered t (Put p f) outstanding may none = none
 outstanding_ordered t (Commit x) outstanding may none = (refl, may.fits, may.may)
 outstanding_ordered t (Done e) outstanding may none = tt
 outstanding_ordered t (Halt why) outstanding may none = tt
 
-ordered_running : (t : Machine) (o : Order) (outstanding : Option Record) (found : Option Finding) → IsAllowed t o → later found (finding_of t.trace) ≡ found → outstanding ≡ None
+ordered_running : (t : Machine) (o : Order) (outstanding : Option Record) (found : Option Finding) → IsAllowed t o → later found (finding_of t.trace) ≡ found
+    → outstanding ≡ None
     → IsRunning (seat_by (Up (machine_ordered t o)) (outstanding_after outstanding o) found None).controller (machine_ordered t o)
 ordered_running t o outstanding found may is none = record {
   kept = refl;
@@ -278,20 +288,27 @@ running_acted m outstanding found told i o tied due answer = go i due answer whe
   bus_none : (i : Input) → IsOfBus i → k.told ≡ Some i → outstanding ≡ None
   bus_none i bus is = put_outstanding k.records k.last outstanding (bus_put i k.last bus (told_accepted k.last k.told i is tied.told)) tied.outstanding
 
-  go : (i : Input) → IsDue k i → IsAnswered m i o → IsRunning (seat_by (Up (machine_after m i o)) (outstanding_after (outstanding_told outstanding i) o) found None).controller (machine_after m i o)
+  go : (i : Input) → IsDue k i → IsAnswered m i o
+      → IsRunning (seat_by (Up (machine_after m i o)) (outstanding_after (outstanding_told outstanding i) o) found None).controller (machine_after m i o)
   go input.Committed commit order =
       let same : (informed_by m told).trace ≡ m.trace = stored_trace m k.last told commit tied.told in
       ordered_running (machine_told m input.Committed) o None found order.allowed
       (subst (λ t. later found (finding_of t) ≡ found) (same ∙ sym (committed_trace m (record_ordered m.last))) tied.found) refl
   go input.CommitFailed commit halts =
-      subst (λ p. IsRunning (seat_by (Up (machine_after m input.CommitFailed p)) (outstanding_after outstanding p) found None).controller (machine_after m input.CommitFailed p)) (sym halts)
+      subst (λ p. IsRunning (seat_by (Up (machine_after m input.CommitFailed p)) (outstanding_after outstanding p) found None).controller
+      (machine_after m input.CommitFailed p)) (sym halts)
       (record { kept = refl; last = refl; told = tt; outstanding = tt; found = refl; enrolling = tt })
   go input.Start is order =
       ordered_running (machine_told m input.Start) o outstanding found order.allowed (found_told k m input.Start is tied.found)
       (subst (λ l. IsOutstanding k.records l outstanding) (start_first k.last (told_accepted k.last k.told input.Start is tied.told)) tied.outstanding)
-  go (input.Heard h) is order = ordered_running (machine_told m (input.Heard h)) o outstanding found order.allowed (found_told k m (input.Heard h) is tied.found) (bus_none (input.Heard h) tt is)
-  go input.Destroyed is order = ordered_running (machine_told m input.Destroyed) o outstanding found order.allowed (found_told k m input.Destroyed is tied.found) (bus_none input.Destroyed tt is)
-  go input.Lapsed is order = ordered_running (machine_told m input.Lapsed) o outstanding found order.allowed (found_told k m input.Lapsed is tied.found) (bus_none input.Lapsed tt is)
+  go (input.Heard h) is order =
+      ordered_running (machine_told m (input.Heard h)) o outstanding found order.allowed (found_told k m (input.Heard h) is tied.found)
+      (bus_none (input.Heard h) tt is)
+  go input.Destroyed is order =
+      ordered_running (machine_told m input.Destroyed) o outstanding found order.allowed (found_told k m input.Destroyed is tied.found)
+      (bus_none input.Destroyed tt is)
+  go input.Lapsed is order =
+      ordered_running (machine_told m input.Lapsed) o outstanding found order.allowed (found_told k m input.Lapsed is tied.found) (bus_none input.Lapsed tt is)
 
 pub seat_acted : (place : Place) (outstanding : Option Record) (found : Option Finding) (told : Option Input) (i : Input) (o : Order)
     → IsSeat place outstanding found told → IsDue (seat_by place outstanding found told).controller i → MayAnswer (machine_in place) i o
@@ -299,7 +316,8 @@ pub seat_acted : (place : Place) (outstanding : Option Record) (found : Option F
 seat_acted (Down k) outstanding found told i o seat due answer = elim answer [ ]
 seat_acted (Up m) outstanding found told i o seat due answer = running_acted m outstanding found told i o seat due answer.answered
 
-informed_bus : (w : World) (c : ℕ) (k : Controller) (m : Machine) (i : Input) → IsOfBus i → k.told ≡ Some i → IsRunning k m → IsPlacedBy (owns w.bus.owner c) w.trace k (Some m)
+informed_bus : (w : World) (c : ℕ) (k : Controller) (m : Machine) (i : Input) → IsOfBus i → k.told ≡ Some i → IsRunning k m
+    → IsPlacedBy (owns w.bus.owner c) w.trace k (Some m)
     → AreInformed w c (controller_informed k i) (machine_told m i)
 informed_bus w c k m i bus is tied placed =
     let put : IsPut k.last = bus_put i k.last bus (told_accepted k.last k.told i is tied.told) in
@@ -311,7 +329,8 @@ informed_bus w c k m i bus is tied placed =
       owns_with = owns_told w c k m i put.0 put.1 bus is tied.last put.2 placed;
     }
 
-informed_start : (w : World) (c : ℕ) (k : Controller) (m : Machine) → k.told ≡ Some input.Start → IsRunning k m → IsPlacedBy (owns w.bus.owner c) w.trace k (Some m)
+informed_start : (w : World) (c : ℕ) (k : Controller) (m : Machine) → k.told ≡ Some input.Start → IsRunning k m
+    → IsPlacedBy (owns w.bus.owner c) w.trace k (Some m)
     → AreInformed w c (controller_informed k input.Start) (machine_told m input.Start)
 informed_start w c k m is tied placed =
     let none : k.last ≡ None = start_first k.last (told_accepted k.last k.told input.Start is tied.told) in
@@ -354,7 +373,8 @@ no_arc : (x : Command) → ((g : Forward) → x ≡ Arc g → ⊥) → is_arc x 
 no_arc (Arc g) none = absurd (none g refl)
 no_arc _ none = refl
 
-left_by : (w : World) (c : ℕ) (k : Controller) (t : Machine) (o : Order) → AreInformed w c k t → IsAllowed t o → IsAddressing o → IsLeft w c k (machine_ordered t o) o
+left_by : (w : World) (c : ℕ) (k : Controller) (t : Machine) (o : Order) → AreInformed w c k t → IsAllowed t o → IsAddressing o
+    → IsLeft w c k (machine_ordered t o) o
 left_by w c k t (Put p f) both (inl may) scripted = (no_arc (command_of f) scripted, inr (may.0, rw may.0 refl, (t.kept.block, t.kept.reserved, may.1)))
 left_by w c k t (Put p f) both (inr may) scripted =
     let lawful : Lawful k.records.block k.records.reserved t.trace f = subst (λ r. Lawful r.block r.reserved t.trace f) both.kept may.2 in
@@ -369,7 +389,8 @@ pub record IsOrderedAt (w : World) (c : ℕ) (k : Controller) (m : Machine) (i :
   pub may : MayOrder w c (controller_informed k i) o
   pub left : IsLeft w c (controller_informed k i) (machine_after m i o) o
 
-ordered_at : (w : World) (c : ℕ) (k : Controller) (m : Machine) (i : Input) (o : Order) → AreInformed w c (controller_informed k i) (machine_told m i) → IsOrdered (machine_told m i) o → IsOrderedAt w c k m i o
+ordered_at : (w : World) (c : ℕ) (k : Controller) (m : Machine) (i : Input) (o : Order) → AreInformed w c (controller_informed k i) (machine_told m i)
+    → IsOrdered (machine_told m i) o → IsOrderedAt w c k m i o
 ordered_at w c k m i o both order = record {
   may = may_order_by w c (controller_informed k i) (machine_told m i) o both order.allowed;
   left = left_by w c (controller_informed k i) (machine_told m i) o both order.allowed order.addressing;
@@ -377,8 +398,10 @@ ordered_at w c k m i o both order = record {
 
 pub may_order : (w : World) (c : ℕ) (k : Controller) (m : Machine) (i : Input) (o : Order) → IsDue k i → IsRunning k m → IsAnswered m i o
     → IsPlacedBy (owns w.bus.owner c) w.trace k (Some m) → IsOrderedAt w c k m i o
-may_order w c k m (input.Heard h) o due tied answer placed = ordered_at w c k m (input.Heard h) o (informed_bus w c k m (input.Heard h) tt due tied placed) answer
-may_order w c k m input.Destroyed o due tied answer placed = ordered_at w c k m input.Destroyed o (informed_bus w c k m input.Destroyed tt due tied placed) answer
+may_order w c k m (input.Heard h) o due tied answer placed =
+    ordered_at w c k m (input.Heard h) o (informed_bus w c k m (input.Heard h) tt due tied placed) answer
+may_order w c k m input.Destroyed o due tied answer placed =
+    ordered_at w c k m input.Destroyed o (informed_bus w c k m input.Destroyed tt due tied placed) answer
 may_order w c k m input.Lapsed o due tied answer placed = ordered_at w c k m input.Lapsed o (informed_bus w c k m input.Lapsed tt due tied placed) answer
 may_order w c k m input.Start o due tied answer placed = ordered_at w c k m input.Start o (informed_start w c k m due tied placed) answer
 may_order w c k m input.Committed o due tied answer placed = ordered_at w c k m input.Committed o (informed_committed w c k m due tied placed) answer

@@ -1,4 +1,5 @@
-use Rattle.std.proofs.Common.{◌≡◌, ℕ, ◌<◌, ◌≤◌, ◌⊎◌, inl, inr, Bool, true, false, not, List, [], ◌∷◌, ◌++◌, refl, sym, ap, subst, ◌∙◌, length, length-set, get_or, Option, Some, None, IfSome, ◌↔◌}
+use Rattle.std.proofs.Common.{◌≡◌, ℕ, ◌<◌, ◌≤◌, ◌⊎◌, inl, inr, Bool, true, false, not, List, [], ◌∷◌, ◌++◌, refl, sym, ap, subst, ◌∙◌, length, length-set}
+use Rattle.std.proofs.Common.{get_or, Option, Some, None, IfSome, ◌↔◌}
 use Rattle.std.specs.Prelude.{if◌then◌else◌}
 use Rattle.std.proofs.lemmas.List.{get_or_read_under, length-map}
 use Rattle.dali_frame.specs.declared.frames.Forward.{Forward}
@@ -8,7 +9,8 @@ use Rattle.dali_gear.specs.declared.gear_set.GearSet.{GearSet}
 use Rattle.dali_gear.specs.declared.row.Reach.TheVariants.{Everyone, Only}
 use Rattle.dali_gear.specs.Row.{answers_of, draws_needed, heard_of}
 use Rattle.dali_arbiter.specs.declared.request.Request.{Request}
-use Rattle.dali_arbiter.specs.Arbiter.{Arbiter, owns, total, next, request_of, bus_lapsed, bus_offered, bus_sent, bus_destroyed, bus_collided, collision, bus_silenced, bus_freed, bus_muted}
+use Rattle.dali_arbiter.specs.Arbiter.{Arbiter, owns, total, next, request_of, bus_lapsed, bus_offered, bus_sent, bus_destroyed, bus_collided, collision}
+use Rattle.dali_arbiter.specs.Arbiter.{bus_silenced, bus_freed, bus_muted}
 use Rattle.dali_script.specs.declared.trace.Entry.{Entry}
 use Rattle.dali_script.specs.Scripts.{IsLawful, IsFirst}
 use Rattle.dali_script.specs.Stages.{stage_of, may_follow}
@@ -25,13 +27,16 @@ use Rattle.dali_events.specs.Allowed.{Allowed, IsUp, Hears, MaySend, IsDue, IsAr
 use Rattle.dali_standing.specs.FittedGear.{FittedGear, taken_at}
 use Rattle.dali_script.specs.Records.{Kept}
 use Rattle.dali_standing.specs.Seats.{Seat, Agrees, IsRunning, IsTied, MayAnswer, acted_at, told_at, down_at, up_at, trace_of}
-use Rattle.dali_standing.specs.Standing.{Seated, seat_in, empty_seat, seated, running_told, running_at, running_by, Standing, flat, stand_of, controller_on, machine_in, machines_after, Moves, MayBeSent}
-use Rattle.dali_standing.proofs.Seats.{seat_at, world_of, with_seat, running_in, goes_on_in, has_acted, has_offered, has_sent, has_lost, has_collided, has_lapsed, has_gone_down, has_come_up, IsMove}
+use Rattle.dali_standing.specs.Standing.{Seated, seat_in, empty_seat, seated, running_told, running_at, running_by, Standing, flat, stand_of, controller_on}
+use Rattle.dali_standing.specs.Standing.{machine_in, machines_after, Moves, MayBeSent}
+use Rattle.dali_standing.proofs.Seats.{seat_at, world_of, with_seat, running_in, goes_on_in, has_acted, has_offered, has_sent, has_lost, has_collided}
+use Rattle.dali_standing.proofs.Seats.{has_lapsed, has_gone_down, has_come_up, IsMove}
 use Rattle.dali_standing.specs.Settled.{IsAccepted, IsHearing, IsOwning, IsPlacedBy, IsPlaced, IsPlacedOn, Settled}
 use Rattle.dali_standing.specs.declared.trouble.Trouble.{Trouble}
 use Rattle.dali_standing.specs.declared.trouble.Trouble.TheVariants as trouble
 use Rattle.dali_standing.specs.Troubles.{heard_under, nobody_at_all}
-use Rattle.dali_standing.proofs.Moves.{MaySendAt, is_up, controller_in, machine_of, up_there, place_elsewhere, moves_acted, moves_offered, moves_sent, moves_lost, moves_collided, moves_lapsed, moves_down, moves_up}
+use Rattle.dali_standing.proofs.Moves.{MaySendAt, is_up, controller_in, machine_of, up_there, place_elsewhere, moves_acted, moves_offered, moves_sent}
+use Rattle.dali_standing.proofs.Moves.{moves_lost, moves_collided, moves_lapsed, moves_down, moves_up}
 use Rattle.dali_special.specs.declared.command.Command.TheVariants.{Arc}
 use Rattle.dali_special.proofs.Table.{arc_of}
 use Rattle.dali_controller.specs.Machine.{Machine}
@@ -39,7 +44,8 @@ use Rattle.dali_events.proofs.Growing.{plain_hearing}
 use Rattle.dali_events.proofs.Sending.{lawful_of}
 use Rattle.dali_standing.proofs.Placing.{running_is, owner_acted}
 use Rattle.dali_standing.proofs.Acts.{owner_owns}
-use Rattle.dali_standing.proofs.Settling.{next_at, owner_put, is_collision, is_arc_of, arc_tells, may_ask, accepted, settled_acted, settled_offered, settled_sent, settled_lost, settled_collided, settled_lapsed, settled_down, settled_up}
+use Rattle.dali_standing.proofs.Settling.{next_at, owner_put, is_collision, is_arc_of, arc_tells, may_ask, accepted, settled_acted, settled_offered}
+use Rattle.dali_standing.proofs.Settling.{settled_sent, settled_lost, settled_collided, settled_lapsed, settled_down, settled_up}
 
 -- WHAT A CALL DID, from what its parts did: the event moves what stood, and what stands is settled.
 pub record IsDone (was : Standing) (e : Event) (new : Seated) : Type 0 where
@@ -84,7 +90,8 @@ runs_settled s settled idle = go s.bus.owner refl where
 done_running : (was : Standing) (e : Event) (fitted : FittedGear) (bus : Arbiter) (t : List Entry) (seats : List Seat) → (bus.owner ≡ None → t ≡ [])
     → IsDone was e (record { fitted = fitted; bus = bus; trace = t; seats = seats }) → IsDone was e (seated fitted bus seats)
 done_running was e fitted bus t seats idle done =
-    subst (λ u. IsDone was e (record { fitted = fitted; bus = bus; trace = u; seats = seats })) (runs_settled (record { fitted = fitted; bus = bus; trace = t; seats = seats }) done.settled idle) done
+    subst (λ u. IsDone was e (record { fitted = fitted; bus = bus; trace = u; seats = seats }))
+    (runs_settled (record { fitted = fitted; bus = bus; trace = t; seats = seats }) done.settled idle) done
 
 -- nothing runs where nobody owns the bus
 idle_now : (s : Seated) → Runs s → s.bus.owner ≡ None → s.trace ≡ []
@@ -115,7 +122,8 @@ moved s e new is w ms same =
           let allowed_w : Allowed w e = subst (λ (g : Standing). Allowed (with_draws g w.drawn) e) same (allowed w.drawn) in
           let world_w : with_draws (flat new) (happens w e).drawn ≡ happens w e =
           subst (λ (g : Standing). with_draws (flat new) (happens (with_draws g w.drawn) e).drawn ≡ happens (with_draws g w.drawn) e) same (world w.drawn) in
-          let machines_w : (flat new).machines ≡ machines_after w ms e = subst (λ (g : Standing). (flat new).machines ≡ machines_after (with_draws g w.drawn) g.machines e) same (machines w.drawn) in
+          let machines_w : (flat new).machines ≡ machines_after w ms e =
+          subst (λ (g : Standing). (flat new).machines ≡ machines_after (with_draws g w.drawn) g.machines e) same (machines w.drawn) in
           (allowed_w, ap (λ (v : World). stand_of v (flat new).machines) world_w ∙ ap (stand_of (happens w e)) machines_w)
 
 -- the controller of a place, and its machine
@@ -156,7 +164,13 @@ acted_done s was c i o at seat bus bus' trace view settled up due read tied answ
     let answer_here = subst (λ (p : Seat). MayAnswer p.machine i o) is answer in
     subst (λ (w : Standing). IsDone w (event.Acted c i o) (record { fitted = s.fitted; bus = bus'; trace = trace; seats = with_seat s.seats c seat })) view
     (done_as (flat s) (event.Acted c i o) (has_acted s c i o) _
-    (rw (bus'_is, bus_is, trace_is, seat_is) (ap (λ (p : Seat). record { fitted = s.fitted; bus = put_after (if gives_up s.bus c o then bus_lapsed s.bus else s.bus) c o; trace = (if gives_up s.bus c o then [] else s.trace); seats = with_seat s.seats c (acted_at p i o) }) is))
+    (rw (bus'_is, bus_is, trace_is, seat_is) (ap (λ (p : Seat). record {
+      fitted = s.fitted;
+      bus = put_after (if gives_up s.bus c o then bus_lapsed s.bus else s.bus) c o;
+      trace = (if gives_up s.bus c o then [] else s.trace);
+      seats =
+          with_seat s.seats c (acted_at p i o);
+    }) is))
     (record {
       moves = moved s _ _ (moves_acted s c i o here due_here tied_here answer_here (settled.places c));
       settled = settled_acted s c i o settled here due_here tied_here answer_here;
@@ -169,7 +183,8 @@ pub act_done : (s : Seated) (was : Standing) (c : ℕ) (i : Input) (o : Order) (
     → IsDone was (event.Acted c i o) (seated s.fitted bus' (with_seat s.seats c seat))
 act_done s was c i o at seat bus bus' view settled runs up due read tied answer seat_is bus_is bus'_is =
     let trace : List Entry = (if gives_up s.bus c o then [] else s.trace) in
-    let owner : bus'.owner ≡ (if gives_up s.bus c o then None else s.bus.owner) = ap (λ (b : Arbiter). b.owner) (bus'_is ∙ ap (λ (b : Arbiter). put_after b c o) bus_is) ∙ owner_acted s.bus c o in
+    let owner : bus'.owner ≡ (if gives_up s.bus c o then None else s.bus.owner) =
+    ap (λ (b : Arbiter). b.owner) (bus'_is ∙ ap (λ (b : Arbiter). put_after b c o) bus_is) ∙ owner_acted s.bus c o in
     done_running was (event.Acted c i o) s.fitted bus' trace (with_seat s.seats c seat) (λ e. idle_if (gives_up s.bus c o) s runs (sym owner ∙ e))
     (acted_done s was c i o at seat bus bus' trace view settled up due read tied answer seat_is bus_is refl bus'_is)
 
@@ -187,9 +202,11 @@ offered_done : (s : Seated) (was : Standing) (c : ℕ) (f : Forward) (bus : Arbi
 offered_done s was c f bus view settled up arc is =
     let here : (seat_at s c).controller.up ≡ true = subst (λ (k : Controller). k.up ≡ true) (on_place s was c view) up in
     subst (λ (w : Standing). IsDone w (event.Offered c f) (record { fitted = s.fitted; bus = bus; trace = s.trace; seats = s.seats })) view
-    (done_as (flat s) (event.Offered c f) (has_offered s c f) _ (rw is refl) (record { moves = moved s _ _ (moves_offered s c f here arc); settled = settled_offered s c f settled here arc }))
+    (done_as (flat s) (event.Offered c f) (has_offered s c f) _ (rw is refl)
+    (record { moves = moved s _ _ (moves_offered s c f here arc); settled = settled_offered s c f settled here arc }))
 
-pub offer_done : (s : Seated) (was : Standing) (c : ℕ) (f : Forward) (bus : Arbiter) → flat s ≡ was → Settled s → Runs s → (controller_on was c).up ≡ true → IsArc f
+pub offer_done : (s : Seated) (was : Standing) (c : ℕ) (f : Forward) (bus : Arbiter) → flat s ≡ was → Settled s → Runs s → (controller_on was c).up ≡ true
+    → IsArc f
     → bus ≡ bus_offered s.bus (request_of c 2 f) → IsDone was (event.Offered c f) (seated s.fitted bus s.seats)
 offer_done s was c f bus view settled runs up arc is =
     let owner : bus.owner ≡ s.bus.owner = ap (λ (b : Arbiter). b.owner) is in
@@ -204,7 +221,8 @@ pub sender_there : (s : Seated) (was : Standing) (r : Request) → flat s ≡ wa
 sender_there s was r view settled first = up_there s.seats r.sender (next_at s r settled (next_here s was r view first)).up
 
 -- its frame may be pushed
-pub frame_follows : (s : Seated) (was : Standing) (r : Request) (t : List Entry) → flat s ≡ was → Settled s → next was.bus ≡ Some r → t ≡ (if owns s.bus.owner r.sender then s.trace else [])
+pub frame_follows : (s : Seated) (was : Standing) (r : Request) (t : List Entry) → flat s ≡ was → Settled s → next was.bus ≡ Some r
+    → t ≡ (if owns s.bus.owner r.sender then s.trace else [])
     → IsLawful t r.frame
 frame_follows s was r t view settled first is =
     let n = next_at s r settled (next_here s was r view first) in
@@ -212,7 +230,8 @@ frame_follows s was r t view settled first is =
     subst (λ u. IsLawful u r.frame) (sym is) (_, _, lawful)
 
 abbrev IsKind : Seated → Request → Type 0
-IsKind s r = ((is_arc (command_of r.frame) ≡ false) × ((seat_at s r.sender).controller.told ≡ None) × ((seat_at s r.sender).controller.last ≡ Some (Put r.priority r.frame)))
+IsKind s r = ((is_arc (command_of r.frame) ≡ false) × ((seat_at s r.sender).controller.told ≡ None)
+    × ((seat_at s r.sender).controller.last ≡ Some (Put r.priority r.frame)))
     ⊎ ((is_arc (command_of r.frame) ≡ true) × (s.bus.owner ≡ None))
 
 -- the frames that its transaction has so far are its machine's
@@ -220,30 +239,38 @@ same_if : (b : Bool) (t u : List Entry) → (if b then t else []) ≡ u → (if 
 same_if true t u e = sym e
 same_if false t u e = refl
 
-pub sender_runs : (s : Seated) (was : Standing) (r : Request) (at : Seat) (t : List Entry) (owned : Bool) → flat s ≡ was → Settled s → next was.bus ≡ Some r → at ≡ get_or s.seats r.sender at
+pub sender_runs : (s : Seated) (was : Standing) (r : Request) (at : Seat) (t : List Entry) (owned : Bool) → flat s ≡ was → Settled s → next was.bus ≡ Some r
+    → at ≡ get_or s.seats r.sender at
     → owned ≡ owns s.bus.owner r.sender → t ≡ (if owned then trace_of at.machine else []) → t ≡ (if owns s.bus.owner r.sender then s.trace else [])
 sender_runs s was r at t owned view settled first read owned_is t_is =
     let n = next_at s r settled (next_here s was r view first) in
     let is : at ≡ seat_at s r.sender = place_read s.seats r.sender at read (up_there s.seats r.sender n.up) in
-    t_is ∙ ap (λ b. if b then trace_of at.machine else []) owned_is ∙ ap (λ (p : Seat). if owns s.bus.owner r.sender then trace_of p.machine else []) is ∙ go n.kind where
+    t_is ∙ ap (λ b. if b then trace_of at.machine else []) owned_is ∙ ap (λ (p : Seat). if owns s.bus.owner r.sender then trace_of p.machine else []) is
+    ∙ go n.kind where
       go : IsKind s r → (if owns s.bus.owner r.sender then trace_of (seat_at s r.sender).machine else []) ≡ (if owns s.bus.owner r.sender then s.trace else [])
       go (inl k) = same_if (owns s.bus.owner r.sender) s.trace (trace_of (seat_at s r.sender).machine)
           (running_is (owns s.bus.owner r.sender) s.trace (seat_at s r.sender) r.priority r.frame k.1 k.2 (settled.places r.sender))
       go (inr k) = rw k.1 refl
 
 -- its sender waits for it
-pub sender_hears : (s : Seated) (was : Standing) (r : Request) (at : Seat) (h : Answer) (t u : List Entry) → flat s ≡ was → Settled s → next was.bus ≡ Some r → at ≡ get_or s.seats r.sender at
+pub sender_hears : (s : Seated) (was : Standing) (r : Request) (at : Seat) (h : Answer) (t u : List Entry) → flat s ≡ was → Settled s → next was.bus ≡ Some r
+    → at ≡ get_or s.seats r.sender at
     → t ≡ (if owns s.bus.owner r.sender then s.trace else []) → u ≡ t ++ entry r.frame h ∷ [] → IsHearing at r.frame h u
 sender_hears s was r at h t u view settled first read t_is u_is scripted =
     let n = next_at s r settled (next_here s was r view first) in
     let is : at ≡ seat_at s r.sender = place_read s.seats r.sender at read (up_there s.seats r.sender n.up) in
-    let known : (frame_put (seat_at s r.sender).controller.last ≡ Some r.frame) × ((seat_at s r.sender).controller.told ≡ None) × (u ≡ trace_of (seat_at s r.sender).machine ++ entry r.frame h ∷ []) = go n.kind in
-    subst (λ (p : Seat). (frame_put p.controller.last ≡ Some r.frame) × (p.controller.told ≡ None) × (u ≡ trace_of p.machine ++ entry r.frame h ∷ [])) (sym is) known where
-      go : IsKind s r → (frame_put (seat_at s r.sender).controller.last ≡ Some r.frame) × ((seat_at s r.sender).controller.told ≡ None) × (u ≡ trace_of (seat_at s r.sender).machine ++ entry r.frame h ∷ [])
+    let known : (frame_put (seat_at s r.sender).controller.last ≡ Some r.frame) × ((seat_at s r.sender).controller.told ≡ None)
+    × (u ≡ trace_of (seat_at s r.sender).machine ++ entry r.frame h ∷ []) = go n.kind in
+    subst (λ (p : Seat). (frame_put p.controller.last ≡ Some r.frame) × (p.controller.told ≡ None) × (u ≡ trace_of p.machine ++ entry r.frame h ∷ []))
+    (sym is) known where
+      go : IsKind s r
+          → (frame_put (seat_at s r.sender).controller.last ≡ Some r.frame) × ((seat_at s r.sender).controller.told ≡ None)
+          × (u ≡ trace_of (seat_at s r.sender).machine ++ entry r.frame h ∷ [])
       go (inl k) = (
         rw k.2 refl,
         k.1,
-        u_is ∙ ap (λ v. v ++ entry r.frame h ∷ []) (t_is ∙ running_is (owns s.bus.owner r.sender) s.trace (seat_at s r.sender) r.priority r.frame k.1 k.2 (settled.places r.sender)),
+        u_is ∙ ap (λ v. v ++ entry r.frame h ∷ []) (t_is ∙ running_is (owns s.bus.owner r.sender) s.trace (seat_at s r.sender) r.priority r.frame k.1 k.2
+            (settled.places r.sender)),
       )
       go (inr k) = absurd (let no = k.0 in cc)
 
@@ -259,11 +286,16 @@ sender_loses s was r at view settled first read scripted =
 
 -- what is told does not hang on whose trace it is called
 told_running : (s : Seated) (r : Request) (h : Answer) → Settled s → next s.bus ≡ Some r
-    → told_at (told_sent (trace_of (seat_at s r.sender).machine) r.frame h) (seat_at s r.sender) ≡ told_at (told_sent (running_in s r.sender) r.frame h) (seat_at s r.sender)
+    → told_at (told_sent (trace_of (seat_at s r.sender).machine) r.frame h) (seat_at s r.sender)
+    ≡ told_at (told_sent (running_in s r.sender) r.frame h) (seat_at s r.sender)
 told_running s r h settled first = go (next_at s r settled first).kind where
-  go : IsKind s r → told_at (told_sent (trace_of (seat_at s r.sender).machine) r.frame h) (seat_at s r.sender) ≡ told_at (told_sent (running_in s r.sender) r.frame h) (seat_at s r.sender)
-  go (inl k) = ap (λ t. told_at (told_sent t r.frame h) (seat_at s r.sender)) (sym (running_is (owns s.bus.owner r.sender) s.trace (seat_at s r.sender) r.priority r.frame k.1 k.2 (settled.places r.sender)))
-  go (inr k) = arc_tells (trace_of (seat_at s r.sender).machine) r.frame h (seat_at s r.sender) k.0 ∙ sym (arc_tells (running_in s r.sender) r.frame h (seat_at s r.sender) k.0)
+  go : IsKind s r
+      → told_at (told_sent (trace_of (seat_at s r.sender).machine) r.frame h) (seat_at s r.sender)
+      ≡ told_at (told_sent (running_in s r.sender) r.frame h) (seat_at s r.sender)
+  go (inl k) = ap (λ t. told_at (told_sent t r.frame h) (seat_at s r.sender))
+      (sym (running_is (owns s.bus.owner r.sender) s.trace (seat_at s r.sender) r.priority r.frame k.1 k.2 (settled.places r.sender)))
+  go (inr k) = arc_tells (trace_of (seat_at s r.sender).machine) r.frame h (seat_at s r.sender) k.0
+      ∙ sym (arc_tells (running_in s r.sender) r.frame h (seat_at s r.sender) k.0)
 
 sent_is : (b : Arbiter) (r : Request) (more : Bool) → next b ≡ Some r → bus_sent b more ≡ sent_by b r.sender more
 sent_is b r true first = rw first refl
@@ -273,12 +305,14 @@ not_not : (b c : Bool) → c ≡ not b → not c ≡ b
 not_not true c e = rw e refl
 not_not false c e = rw e refl
 
-sent_done : (s : Seated) (was : Standing) (r : Request) (h : Answer) (at seat : Seat) (fitted : FittedGear) (bus : Arbiter) (t u v : List Entry) (done : Bool) → flat s ≡ was → Settled s → next was.bus ≡ Some r
+sent_done : (s : Seated) (was : Standing) (r : Request) (h : Answer) (at seat : Seat) (fitted : FittedGear) (bus : Arbiter) (t u v : List Entry) (done : Bool)
+    → flat s ≡ was → Settled s → next was.bus ≡ Some r
     → draws_needed Everyone (command_of r.frame) 0 was.gear ≤ length was.left → Hears (answers_of Everyone (command_of r.frame) 0 s.fitted.gear) h
     → at ≡ get_or s.seats r.sender at → fitted ≡ taken_at Everyone (command_of r.frame) s.fitted
     → t ≡ (if owns s.bus.owner r.sender then s.trace else []) → u ≡ t ++ entry r.frame h ∷ []
     → seat ≡ told_at (told_sent (trace_of at.machine) r.frame h) at
-    → done ≡ not (may_follow seat.controller.records.block seat.controller.records.reserved (stage_of u)) → v ≡ (if not done then u else []) → bus ≡ bus_sent s.bus (not done)
+    → done ≡ not (may_follow seat.controller.records.block seat.controller.records.reserved (stage_of u)) → v ≡ (if not done then u else [])
+    → bus ≡ bus_sent s.bus (not done)
     → IsDone was (event.Sent r.sender r.frame h) (record { fitted = fitted; bus = bus; trace = v; seats = with_seat s.seats r.sender seat })
 sent_done s was r h at seat fitted bus t u v done view settled first draws heard read fitted_is t_is u_is seat_is done_is v_is bus_is =
     let here = next_here s was r view first in
@@ -287,15 +321,19 @@ sent_done s was r h at seat fitted bus t u v done view settled first draws heard
     let seat_so : seat ≡ told_at (told_sent (running_in s r.sender) r.frame h) (seat_at s r.sender) =
     seat_is ∙ ap (λ (p : Seat). told_at (told_sent (trace_of p.machine) r.frame h) p) is ∙ told_running s r h settled here in
     let u_so : u ≡ running_in s r.sender ++ entry r.frame h ∷ [] = u_is ∙ ap (λ x. x ++ entry r.frame h ∷ []) t_is in
-    let more_so : not done ≡ goes_on_in s r.sender (running_in s r.sender ++ entry r.frame h ∷ []) = not_not (goes_on_in s r.sender (running_in s r.sender ++ entry r.frame h ∷ [])) done
-    (done_is ∙ ap (λ (p : Seat). not (may_follow p.controller.records.block p.controller.records.reserved (stage_of u))) seat_so ∙ ap (λ x. not (goes_on_in s r.sender x)) u_so) in
+    let more_so : not done ≡ goes_on_in s r.sender (running_in s r.sender ++ entry r.frame h ∷ []) =
+    not_not (goes_on_in s r.sender (running_in s r.sender ++ entry r.frame h ∷ [])) done
+    (done_is ∙ ap (λ (p : Seat). not (may_follow p.controller.records.block p.controller.records.reserved (stage_of u))) seat_so
+    ∙ ap (λ x. not (goes_on_in s r.sender x)) u_so) in
     let draws_here = subst (λ (w : Standing). draws_needed Everyone (command_of r.frame) 0 w.gear ≤ length w.left) (sym view) draws in
-    subst (λ (w : Standing). IsDone w (event.Sent r.sender r.frame h) (record { fitted = fitted; bus = bus; trace = v; seats = with_seat s.seats r.sender seat })) view
+    subst (λ (w : Standing). IsDone w (event.Sent r.sender r.frame h)
+    (record { fitted = fitted; bus = bus; trace = v; seats = with_seat s.seats r.sender seat })) view
     (done_as (flat s) (event.Sent r.sender r.frame h) (has_sent s r.sender r.frame h) _
     (rw (fitted_is, bus_is ∙ sent_is s.bus r (not done) here, v_is, u_so, seat_so, more_so) refl)
     (record { moves = moved s _ _ (moves_sent s r.sender r.frame h n.up n.may draws_here heard); settled = settled_sent s r h settled here }))
 
-pub send_done : (s : Seated) (was : Standing) (r : Request) (h : Answer) (at seat : Seat) (fitted : FittedGear) (bus : Arbiter) (t u : List Entry) (done : Bool) → flat s ≡ was → Settled s → next was.bus ≡ Some r
+pub send_done : (s : Seated) (was : Standing) (r : Request) (h : Answer) (at seat : Seat) (fitted : FittedGear) (bus : Arbiter) (t u : List Entry) (done : Bool)
+    → flat s ≡ was → Settled s → next was.bus ≡ Some r
     → draws_needed Everyone (command_of r.frame) 0 was.gear ≤ length was.left → Hears (answers_of Everyone (command_of r.frame) 0 s.fitted.gear) h
     → at ≡ get_or s.seats r.sender at → fitted ≡ taken_at Everyone (command_of r.frame) s.fitted
     → t ≡ (if owns s.bus.owner r.sender then s.trace else []) → u ≡ t ++ entry r.frame h ∷ []
@@ -303,13 +341,17 @@ pub send_done : (s : Seated) (was : Standing) (r : Request) (h : Answer) (at sea
     → done ≡ not (may_follow seat.controller.records.block seat.controller.records.reserved (stage_of u)) → bus ≡ bus_sent s.bus (not done)
     → IsDone was (event.Sent r.sender r.frame h) (seated fitted bus (with_seat s.seats r.sender seat))
 send_done s was r h at seat fitted bus t u done view settled first draws heard read fitted_is t_is u_is seat_is done_is bus_is =
-    let owner : bus.owner ≡ (if not done then Some r.sender else None) = ap (λ (b : Arbiter). b.owner) (bus_is ∙ sent_is s.bus r (not done) (next_here s was r view first)) in
-    done_running was (event.Sent r.sender r.frame h) fitted bus (if not done then u else []) (with_seat s.seats r.sender seat) (λ e. idle_sent (not done) r.sender u (sym owner ∙ e))
+    let owner : bus.owner ≡ (if not done then Some r.sender else None) =
+    ap (λ (b : Arbiter). b.owner) (bus_is ∙ sent_is s.bus r (not done) (next_here s was r view first)) in
+    done_running was (event.Sent r.sender r.frame h) fitted bus (if not done then u else []) (with_seat s.seats r.sender seat)
+    (λ e. idle_sent (not done) r.sender u (sym owner ∙ e))
     (sent_done s was r h at seat fitted bus t u _ done view settled first draws heard read fitted_is t_is u_is seat_is done_is refl bus_is)
 
-lost_done : (s : Seated) (was : Standing) (r : Request) (set : GearSet) (at seat : Seat) (fitted : FittedGear) (bus : Arbiter) (t : List Entry) → flat s ≡ was → Settled s → next was.bus ≡ Some r
+lost_done : (s : Seated) (was : Standing) (r : Request) (set : GearSet) (at seat : Seat) (fitted : FittedGear) (bus : Arbiter) (t : List Entry) → flat s ≡ was
+    → Settled s → next was.bus ≡ Some r
     → draws_needed (Only set) (command_of r.frame) 0 was.gear ≤ length was.left
-    → at ≡ get_or s.seats r.sender at → fitted ≡ taken_at (Only set) (command_of r.frame) s.fitted → seat ≡ told_at (told_destroyed r.frame) at → bus ≡ bus_destroyed s.bus → t ≡ []
+    → at ≡ get_or s.seats r.sender at → fitted ≡ taken_at (Only set) (command_of r.frame) s.fitted → seat ≡ told_at (told_destroyed r.frame) at
+    → bus ≡ bus_destroyed s.bus → t ≡ []
     → IsDone was (event.Destroyed r.sender r.frame set) (record { fitted = fitted; bus = bus; trace = t; seats = with_seat s.seats r.sender seat })
 lost_done s was r set at seat fitted bus t view settled first draws read fitted_is seat_is bus_is t_is =
     let here = next_here s was r view first in
@@ -317,13 +359,16 @@ lost_done s was r set at seat fitted bus t view settled first draws read fitted_
     let is : at ≡ seat_at s r.sender = place_read s.seats r.sender at read (up_there s.seats r.sender n.up) in
     let seat_so : seat ≡ told_at (told_destroyed r.frame) (seat_at s r.sender) = seat_is ∙ ap (λ (p : Seat). told_at (told_destroyed r.frame) p) is in
     let draws_here = subst (λ (w : Standing). draws_needed (Only set) (command_of r.frame) 0 w.gear ≤ length w.left) (sym view) draws in
-    subst (λ (w : Standing). IsDone w (event.Destroyed r.sender r.frame set) (record { fitted = fitted; bus = bus; trace = t; seats = with_seat s.seats r.sender seat })) view
+    subst (λ (w : Standing). IsDone w (event.Destroyed r.sender r.frame set)
+    (record { fitted = fitted; bus = bus; trace = t; seats = with_seat s.seats r.sender seat })) view
     (done_as (flat s) (event.Destroyed r.sender r.frame set) (has_lost s r.sender r.frame set) _ (rw (fitted_is, bus_is, t_is, seat_so) refl)
     (record { moves = moved s _ _ (moves_lost s r.sender r.frame set n.up n.may draws_here); settled = settled_lost s r set settled here }))
 
-pub destroy_done : (s : Seated) (was : Standing) (r : Request) (set : GearSet) (at seat : Seat) (fitted : FittedGear) (bus : Arbiter) → flat s ≡ was → Settled s → next was.bus ≡ Some r
+pub destroy_done : (s : Seated) (was : Standing) (r : Request) (set : GearSet) (at seat : Seat) (fitted : FittedGear) (bus : Arbiter) → flat s ≡ was → Settled s
+    → next was.bus ≡ Some r
     → draws_needed (Only set) (command_of r.frame) 0 was.gear ≤ length was.left
-    → at ≡ get_or s.seats r.sender at → fitted ≡ taken_at (Only set) (command_of r.frame) s.fitted → seat ≡ told_at (told_destroyed r.frame) at → bus ≡ bus_destroyed s.bus
+    → at ≡ get_or s.seats r.sender at → fitted ≡ taken_at (Only set) (command_of r.frame) s.fitted → seat ≡ told_at (told_destroyed r.frame) at
+    → bus ≡ bus_destroyed s.bus
     → IsDone was (event.Destroyed r.sender r.frame set) (seated fitted bus (with_seat s.seats r.sender seat))
 destroy_done s was r set at seat fitted bus view settled first draws read fitted_is seat_is bus_is =
     done_running was (event.Destroyed r.sender r.frame set) fitted bus [] (with_seat s.seats r.sender seat) (λ e. refl)
@@ -344,9 +389,11 @@ may_hear answers what plain h plain_is is = subst (λ x. Hears answers x) (sym (
 alone_is : (b : Arbiter) → collision b.lists ≡ None → bus_collided b ≡ bus_destroyed b
 alone_is b none = rw none refl
 
-pub alone_done : (s : Seated) (was : Standing) (r : Request) (at seat : Seat) (fitted : FittedGear) (bus : Arbiter) → flat s ≡ was → Settled s → next was.bus ≡ Some r
+pub alone_done : (s : Seated) (was : Standing) (r : Request) (at seat : Seat) (fitted : FittedGear) (bus : Arbiter) → flat s ≡ was → Settled s
+    → next was.bus ≡ Some r
     → draws_needed (Only nobody_at_all) (command_of r.frame) 0 was.gear ≤ length was.left → collision s.bus.lists ≡ None
-    → at ≡ get_or s.seats r.sender at → fitted ≡ taken_at (Only nobody_at_all) (command_of r.frame) s.fitted → seat ≡ told_at (told_destroyed r.frame) at → bus ≡ bus_collided s.bus
+    → at ≡ get_or s.seats r.sender at → fitted ≡ taken_at (Only nobody_at_all) (command_of r.frame) s.fitted → seat ≡ told_at (told_destroyed r.frame) at
+    → bus ≡ bus_collided s.bus
     → IsDone was (event.Destroyed r.sender r.frame nobody_at_all) (seated fitted bus (with_seat s.seats r.sender seat))
 alone_done s was r at seat fitted bus view settled first draws none read fitted_is seat_is bus_is =
     destroy_done s was r nobody_at_all at seat fitted bus view settled first draws read fitted_is seat_is (bus_is ∙ alone_is s.bus none)
@@ -364,12 +411,15 @@ first_lost s was r at seat view settled first read seat_is =
     let is : at ≡ seat_at s r.sender = place_read s.seats r.sender at read (up_there s.seats r.sender n.up) in
     ap (λ (p : Seat). with_seat s.seats r.sender p) (seat_is ∙ ap (λ (p : Seat). told_at (told_destroyed r.frame) p) is)
 
-pub rival_there : (s : Seated) (was : Standing) (r q : Request) → flat s ≡ was → Settled s → next was.bus ≡ Some r → collision s.bus.lists ≡ Some q → q.sender < length s.seats
+pub rival_there : (s : Seated) (was : Standing) (r q : Request) → flat s ≡ was → Settled s → next was.bus ≡ Some r → collision s.bus.lists ≡ Some q
+    → q.sender < length s.seats
 rival_there s was r q view settled first both =
     let k = is_collision s r q settled (next_here s was r view first) both in
-    subst (λ n. q.sender < n) (length-set s.seats r.sender (told_at (told_destroyed r.frame) (seat_at s r.sender))) (up_there (has_lost s r.sender r.frame nobody_at_all).seats q.sender k.second.up)
+    subst (λ n. q.sender < n) (length-set s.seats r.sender (told_at (told_destroyed r.frame) (seat_at s r.sender)))
+    (up_there (has_lost s r.sender r.frame nobody_at_all).seats q.sender k.second.up)
 
-pub rival_loses : (s : Seated) (was : Standing) (r q : Request) (at seat at' : Seat) → flat s ≡ was → Settled s → next was.bus ≡ Some r → collision s.bus.lists ≡ Some q
+pub rival_loses : (s : Seated) (was : Standing) (r q : Request) (at seat at' : Seat) → flat s ≡ was → Settled s → next was.bus ≡ Some r
+    → collision s.bus.lists ≡ Some q
     → at ≡ get_or s.seats r.sender at → seat ≡ told_at (told_destroyed r.frame) at → at' ≡ get_or (with_seat s.seats r.sender seat) q.sender at'
     → is_arc (command_of q.frame) ≡ false → frame_put at'.controller.last ≡ Some q.frame
 rival_loses s was r q at seat at' view settled first both read seat_is read' scripted =
@@ -379,10 +429,13 @@ rival_loses s was r q at seat at' view settled first both read seat_is read' scr
     sender_loses lost (flat lost) q at' refl (settled_lost s r nobody_at_all settled here) k.then_next
     (subst (λ (ps : List Seat). at' ≡ get_or ps q.sender at') (first_lost s was r at seat view settled first read seat_is) read') scripted
 
-collided_done : (s : Seated) (was : Standing) (r q : Request) (at seat at' seat' : Seat) (bus : Arbiter) (t : List Entry) → flat s ≡ was → Settled s → next was.bus ≡ Some r → collision s.bus.lists ≡ Some q
-    → at ≡ get_or s.seats r.sender at → seat ≡ told_at (told_destroyed r.frame) at → at' ≡ get_or (with_seat s.seats r.sender seat) q.sender at' → seat' ≡ told_at (told_destroyed q.frame) at'
+collided_done : (s : Seated) (was : Standing) (r q : Request) (at seat at' seat' : Seat) (bus : Arbiter) (t : List Entry) → flat s ≡ was → Settled s
+    → next was.bus ≡ Some r → collision s.bus.lists ≡ Some q
+    → at ≡ get_or s.seats r.sender at → seat ≡ told_at (told_destroyed r.frame) at → at' ≡ get_or (with_seat s.seats r.sender seat) q.sender at'
+    → seat' ≡ told_at (told_destroyed q.frame) at'
     → bus ≡ bus_collided s.bus → t ≡ []
-    → IsDone was (event.Collided r.sender r.frame q.sender q.frame) (record { fitted = s.fitted; bus = bus; trace = t; seats = with_seat (with_seat s.seats r.sender seat) q.sender seat' })
+    → IsDone was (event.Collided r.sender r.frame q.sender q.frame)
+    (record { fitted = s.fitted; bus = bus; trace = t; seats = with_seat (with_seat s.seats r.sender seat) q.sender seat' })
 collided_done s was r q at seat at' seat' bus t view settled first both read seat_is read' seat'_is bus_is t_is =
     let here = next_here s was r view first in
     let k = is_collision s r q settled here both in
@@ -393,16 +446,22 @@ collided_done s was r q at seat at' seat' bus t view settled first both read sea
     let seat'_so : seat' ≡ told_at (told_destroyed q.frame) (seat_at lost q.sender) = seat'_is ∙ ap (λ (p : Seat). told_at (told_destroyed q.frame) p) at'_so in
     let there : q.sender < length s.seats = rival_there s was r q view settled first both in
     let up_q : (seat_at s q.sender).controller.up ≡ true =
-    subst (λ (p : Seat). p.controller.up ≡ true) (place_elsewhere s.seats r.sender q.sender (told_at (told_destroyed r.frame) (seat_at s r.sender)) (λ e. k.apart (sym e))) k.second.up in
-    subst (λ (w : Standing). IsDone w (event.Collided r.sender r.frame q.sender q.frame) (record { fitted = s.fitted; bus = bus; trace = t; seats = with_seat (with_seat s.seats r.sender seat) q.sender seat' })) view
-    (done_as (flat s) (event.Collided r.sender r.frame q.sender q.frame) (has_collided s r.sender r.frame q.sender q.frame) _ (rw (bus_is, t_is, seats_so, seat'_so) refl)
+    subst (λ (p : Seat). p.controller.up ≡ true) (place_elsewhere s.seats r.sender q.sender (told_at (told_destroyed r.frame) (seat_at s r.sender))
+    (λ e. k.apart (sym e))) k.second.up in
+    subst (λ (w : Standing). IsDone w (event.Collided r.sender r.frame q.sender q.frame)
+    (record { fitted = s.fitted; bus = bus; trace = t; seats = with_seat (with_seat s.seats r.sender seat) q.sender seat' })) view
+    (done_as (flat s) (event.Collided r.sender r.frame q.sender q.frame) (has_collided s r.sender r.frame q.sender q.frame) _
+    (rw (bus_is, t_is, seats_so, seat'_so) refl)
     (record {
-      moves = moved s _ _ (moves_collided s r.sender r.frame q.sender q.frame k.free k.apart k.first.up up_q (first_frame s r k.free k.first.may) (first_frame lost q refl k.second.may));
+      moves = moved s _ _ (moves_collided s r.sender r.frame q.sender q.frame k.free k.apart k.first.up up_q (first_frame s r k.free k.first.may)
+          (first_frame lost q refl k.second.may));
       settled = settled_collided s r q settled here both;
     }))
 
-pub collide_done : (s : Seated) (was : Standing) (r q : Request) (at seat at' seat' : Seat) (bus : Arbiter) → flat s ≡ was → Settled s → next was.bus ≡ Some r → collision s.bus.lists ≡ Some q
-    → at ≡ get_or s.seats r.sender at → seat ≡ told_at (told_destroyed r.frame) at → at' ≡ get_or (with_seat s.seats r.sender seat) q.sender at' → seat' ≡ told_at (told_destroyed q.frame) at'
+pub collide_done : (s : Seated) (was : Standing) (r q : Request) (at seat at' seat' : Seat) (bus : Arbiter) → flat s ≡ was → Settled s → next was.bus ≡ Some r
+    → collision s.bus.lists ≡ Some q
+    → at ≡ get_or s.seats r.sender at → seat ≡ told_at (told_destroyed r.frame) at → at' ≡ get_or (with_seat s.seats r.sender seat) q.sender at'
+    → seat' ≡ told_at (told_destroyed q.frame) at'
     → bus ≡ bus_collided s.bus
     → IsDone was (event.Collided r.sender r.frame q.sender q.frame) (seated s.fitted bus (with_seat (with_seat s.seats r.sender seat) q.sender seat'))
 collide_done s was r q at seat at' seat' bus view settled first both read seat_is read' seat'_is bus_is =
@@ -411,20 +470,25 @@ collide_done s was r q at seat at' seat' bus view settled first both read seat_i
 
 -- ---------------------------------------------------------------- the owner loses the bus, controllers go down and come up
 
-lapsed_done : (s : Seated) (was : Standing) (c : ℕ) (at seat : Seat) (bus : Arbiter) (t : List Entry) → flat s ≡ was → Settled s → s.bus.owner ≡ Some c → at ≡ get_or s.seats c at → seat ≡ told_at told_lapsed at
+lapsed_done : (s : Seated) (was : Standing) (c : ℕ) (at seat : Seat) (bus : Arbiter) (t : List Entry) → flat s ≡ was → Settled s → s.bus.owner ≡ Some c
+    → at ≡ get_or s.seats c at → seat ≡ told_at told_lapsed at
     → bus ≡ bus_lapsed s.bus → t ≡ [] → IsDone was event.Lapsed (record { fitted = s.fitted; bus = bus; trace = t; seats = with_seat s.seats c seat })
 lapsed_done s was c at seat bus t view settled own read seat_is bus_is t_is =
     let is : at ≡ seat_at s c = place_read s.seats c at read (up_there s.seats c (owner_put s c settled own).0) in
     subst (λ (w : Standing). IsDone w event.Lapsed (record { fitted = s.fitted; bus = bus; trace = t; seats = with_seat s.seats c seat })) view
-    (done_as (flat s) event.Lapsed (has_lapsed s) _ (rw (bus_is, t_is, seat_is, own) (ap (λ (p : Seat). record { fitted = s.fitted; bus = bus_lapsed s.bus; trace = []; seats = with_seat s.seats c (told_at told_lapsed p) }) is))
+    (done_as (flat s) event.Lapsed (has_lapsed s) _ (rw (bus_is, t_is, seat_is, own)
+    (ap (λ (p : Seat). record { fitted = s.fitted; bus = bus_lapsed s.bus; trace = []; seats = with_seat s.seats c (told_at told_lapsed p) }) is))
     (record { moves = moved s _ _ (moves_lapsed s); settled = settled_lapsed s settled }))
 
-pub lapse_done : (s : Seated) (was : Standing) (c : ℕ) (at seat : Seat) (bus : Arbiter) → flat s ≡ was → Settled s → s.bus.owner ≡ Some c → at ≡ get_or s.seats c at → seat ≡ told_at told_lapsed at
+pub lapse_done : (s : Seated) (was : Standing) (c : ℕ) (at seat : Seat) (bus : Arbiter) → flat s ≡ was → Settled s → s.bus.owner ≡ Some c
+    → at ≡ get_or s.seats c at → seat ≡ told_at told_lapsed at
     → bus ≡ bus_lapsed s.bus → IsDone was event.Lapsed (seated s.fitted bus (with_seat s.seats c seat))
 lapse_done s was c at seat bus view settled own read seat_is bus_is =
-    done_running was event.Lapsed s.fitted bus [] (with_seat s.seats c seat) (λ e. refl) (lapsed_done s was c at seat bus [] view settled own read seat_is bus_is refl)
+    done_running was event.Lapsed s.fitted bus [] (with_seat s.seats c seat) (λ e. refl)
+    (lapsed_done s was c at seat bus [] view settled own read seat_is bus_is refl)
 
-gone_down_done : (s : Seated) (was : Standing) (c : ℕ) (at seat : Seat) (bus : Arbiter) (t : List Entry) → flat s ≡ was → Settled s → (controller_on was c).up ≡ true
+gone_down_done : (s : Seated) (was : Standing) (c : ℕ) (at seat : Seat) (bus : Arbiter) (t : List Entry) → flat s ≡ was → Settled s
+    → (controller_on was c).up ≡ true
     → at ≡ get_or s.seats c at → seat ≡ down_at at → bus ≡ bus_silenced s.bus c → t ≡ (if owns s.bus.owner c then [] else s.trace)
     → IsDone was (event.Down c) (record { fitted = s.fitted; bus = bus; trace = t; seats = with_seat s.seats c seat })
 gone_down_done s was c at seat bus t view settled up read seat_is bus_is t_is =
@@ -432,7 +496,12 @@ gone_down_done s was c at seat bus t view settled up read seat_is bus_is t_is =
     let is : at ≡ seat_at s c = place_read s.seats c at read (up_there s.seats c here) in
     subst (λ (w : Standing). IsDone w (event.Down c) (record { fitted = s.fitted; bus = bus; trace = t; seats = with_seat s.seats c seat })) view
     (done_as (flat s) (event.Down c) (has_gone_down s c) _
-    (rw (bus_is, t_is, seat_is) (ap (λ (p : Seat). record { fitted = s.fitted; bus = bus_silenced s.bus c; trace = (if owns s.bus.owner c then [] else s.trace); seats = with_seat s.seats c (down_at p) }) is))
+    (rw (bus_is, t_is, seat_is) (ap (λ (p : Seat). record {
+      fitted = s.fitted;
+      bus = bus_silenced s.bus c;
+      trace = (if owns s.bus.owner c then [] else s.trace);
+      seats = with_seat s.seats c (down_at p);
+    }) is))
     (record { moves = moved s _ _ (moves_down s c here); settled = settled_down s c settled here }))
 
 -- who owns the bus then
@@ -446,13 +515,17 @@ pub down_done : (s : Seated) (was : Standing) (c : ℕ) (at seat : Seat) (bus : 
     → at ≡ get_or s.seats c at → seat ≡ down_at at → bus ≡ bus_silenced s.bus c → IsDone was (event.Down c) (seated s.fitted bus (with_seat s.seats c seat))
 down_done s was c at seat bus view settled runs up read seat_is bus_is =
     let owner : bus.owner ≡ (if owns s.bus.owner c then None else s.bus.owner) = ap (λ (b : Arbiter). b.owner) bus_is ∙ owner_silenced s.bus c in
-    done_running was (event.Down c) s.fitted bus (if owns s.bus.owner c then [] else s.trace) (with_seat s.seats c seat) (λ e. idle_if (owns s.bus.owner c) s runs (sym owner ∙ e))
+    done_running was (event.Down c) s.fitted bus (if owns s.bus.owner c then [] else s.trace) (with_seat s.seats c seat)
+    (λ e. idle_if (owns s.bus.owner c) s runs (sym owner ∙ e))
     (gone_down_done s was c at seat bus _ view settled up read seat_is bus_is refl)
 
-came_up_done : (s : Seated) (was : Standing) (c : ℕ) (kept : Bool) (at seat : Seat) → flat s ≡ was → Settled s → c < length was.controllers → (controller_on was c).up ≡ false → HasOutstanding (controller_on was c) kept
-    → at ≡ get_or s.seats c at → seat ≡ up_at c kept at → IsDone was (event.Up c kept) (record { fitted = s.fitted; bus = s.bus; trace = s.trace; seats = with_seat s.seats c seat })
+came_up_done : (s : Seated) (was : Standing) (c : ℕ) (kept : Bool) (at seat : Seat) → flat s ≡ was → Settled s → c < length was.controllers
+    → (controller_on was c).up ≡ false → HasOutstanding (controller_on was c) kept
+    → at ≡ get_or s.seats c at → seat ≡ up_at c kept at
+    → IsDone was (event.Up c kept) (record { fitted = s.fitted; bus = s.bus; trace = s.trace; seats = with_seat s.seats c seat })
 came_up_done s was c kept at seat view settled there down has read seat_is =
-    let there_s : c < length s.seats = subst (λ n. c < n) (length-map s.seats (λ p. p.controller)) (subst (λ (w : Standing). c < length w.controllers) (sym view) there) in
+    let there_s : c < length s.seats =
+    subst (λ n. c < n) (length-map s.seats (λ p. p.controller)) (subst (λ (w : Standing). c < length w.controllers) (sym view) there) in
     let down_s : (seat_at s c).controller.up ≡ false = subst (λ (k : Controller). k.up ≡ false) (on_place s was c view) down in
     let has_s : HasOutstanding (seat_at s c).controller kept = subst (λ (k : Controller). HasOutstanding k kept) (on_place s was c view) has in
     let is : at ≡ seat_at s c = place_read s.seats c at read there_s in
@@ -462,25 +535,32 @@ came_up_done s was c kept at seat view settled there down has read seat_is =
     (record { moves = moved s _ _ (moves_up s c kept there_s down_s has_s); settled = settled_up s c kept settled there_s down_s }))
 
 -- a seat that came up with what agrees
-came_up : (s : Seated) (was : Standing) (c : ℕ) (copy : Kept) (kept : Bool) (at seat : Seat) → flat s ≡ was → c < length was.controllers → Agrees (controller_on was c) copy kept
+came_up : (s : Seated) (was : Standing) (c : ℕ) (copy : Kept) (kept : Bool) (at seat : Seat) → flat s ≡ was → c < length was.controllers
+    → Agrees (controller_on was c) copy kept
     → at ≡ get_or s.seats c at → ((k : Bool) → Agrees at.controller copy k → seat ≡ up_at c k at) → seat ≡ up_at c kept at
 came_up s was c copy kept at seat view there agrees read up =
-    let there_s : c < length s.seats = subst (λ n. c < n) (length-map s.seats (λ p. p.controller)) (subst (λ (w : Standing). c < length w.controllers) (sym view) there) in
+    let there_s : c < length s.seats =
+    subst (λ n. c < n) (length-map s.seats (λ p. p.controller)) (subst (λ (w : Standing). c < length w.controllers) (sym view) there) in
     let is : at ≡ seat_at s c = place_read s.seats c at read there_s in
     up kept (subst (λ (p : Seat). Agrees p.controller copy kept) (sym is) (subst (λ (k : Controller). Agrees k copy kept) (on_place s was c view) agrees))
 
-up_done : (s : Seated) (was : Standing) (c : ℕ) (kept : Bool) (at seat : Seat) → flat s ≡ was → Settled s → Runs s → c < length was.controllers → (controller_on was c).up ≡ false
-    → HasOutstanding (controller_on was c) kept → at ≡ get_or s.seats c at → seat ≡ up_at c kept at → IsDone was (event.Up c kept) (seated s.fitted s.bus (with_seat s.seats c seat))
+up_done : (s : Seated) (was : Standing) (c : ℕ) (kept : Bool) (at seat : Seat) → flat s ≡ was → Settled s → Runs s → c < length was.controllers
+    → (controller_on was c).up ≡ false
+    → HasOutstanding (controller_on was c) kept → at ≡ get_or s.seats c at → seat ≡ up_at c kept at
+    → IsDone was (event.Up c kept) (seated s.fitted s.bus (with_seat s.seats c seat))
 up_done s was c kept at seat view settled runs there down has read seat_is =
-    done_running was (event.Up c kept) s.fitted s.bus s.trace (with_seat s.seats c seat) (idle_now s runs) (came_up_done s was c kept at seat view settled there down has read seat_is)
+    done_running was (event.Up c kept) s.fitted s.bus s.trace (with_seat s.seats c seat) (idle_now s runs)
+    (came_up_done s was c kept at seat view settled there down has read seat_is)
 
-pub up_settles : (s : Seated) (was : Standing) (c : ℕ) (copy : Kept) (kept : Bool) (at seat : Seat) → flat s ≡ was → Settled s → Runs s → c < length was.controllers → (controller_on was c).up ≡ false
+pub up_settles : (s : Seated) (was : Standing) (c : ℕ) (copy : Kept) (kept : Bool) (at seat : Seat) → flat s ≡ was → Settled s → Runs s
+    → c < length was.controllers → (controller_on was c).up ≡ false
     → Agrees (controller_on was c) copy kept → at ≡ get_or s.seats c at → ((k : Bool) → Agrees at.controller copy k → seat ≡ up_at c k at)
     → Settled (seated s.fitted s.bus (with_seat s.seats c seat))
 up_settles s was c copy kept at seat view settled runs there down agrees read up =
     (up_done s was c kept at seat view settled runs there down agrees.0 read (came_up s was c copy kept at seat view there agrees read up)).settled
 
-pub up_moves : (s : Seated) (was : Standing) (c : ℕ) (copy : Kept) (at seat : Seat) → flat s ≡ was → Settled s → Runs s → c < length was.controllers → (controller_on was c).up ≡ false
+pub up_moves : (s : Seated) (was : Standing) (c : ℕ) (copy : Kept) (at seat : Seat) → flat s ≡ was → Settled s → Runs s → c < length was.controllers
+    → (controller_on was c).up ≡ false
     → at ≡ get_or s.seats c at → ((k : Bool) → Agrees at.controller copy k → seat ≡ up_at c k at)
     → (k : Bool) → Agrees (controller_on was c) copy k → Moves was (event.Up c k) (flat (seated s.fitted s.bus (with_seat s.seats c seat)))
 up_moves s was c copy at seat view settled runs there down read up k agrees =
@@ -505,13 +585,16 @@ arc_power f = (λ e. let g = is_arc_of (command_of f) e in g.1 ∙ ap Arc (arc_o
 
 -- ---------------------------------------------------------------- a controller that acted, before it did
 
-pub was_placed : (s : Seated) (was : Standing) (c : ℕ) (at : Seat) → flat s ≡ was → Settled s → (controller_on was c).up ≡ true → at ≡ get_or s.seats c at → IsTied at.controller at.machine → IsPlacedOn was c
+pub was_placed : (s : Seated) (was : Standing) (c : ℕ) (at : Seat) → flat s ≡ was → Settled s → (controller_on was c).up ≡ true → at ≡ get_or s.seats c at
+    → IsTied at.controller at.machine → IsPlacedOn was c
 was_placed s was c at view settled up read tied m machine =
     let here : (seat_at s c).controller.up ≡ true = subst (λ (k : Controller). k.up ≡ true) (on_place s was c view) up in
     let is : at ≡ seat_at s c = place_read s.seats c at read (up_there s.seats c here) in
     let has : (seat_at s c).machine ≡ Some m = sym (on_machine s was c view) ∙ machine in
-    let tied_here : IsRunning (seat_at s c).controller m = subst (λ o. IsTied (seat_at s c).controller o) has (subst (λ (p : Seat). IsTied p.controller p.machine) is tied) in
-    let placed : IsPlacedBy (owns s.bus.owner c) s.trace (seat_at s c).controller (Some m) = subst (λ o. IsPlacedBy (owns s.bus.owner c) s.trace (seat_at s c).controller o) has (settled.places c) in
+    let tied_here : IsRunning (seat_at s c).controller m =
+    subst (λ o. IsTied (seat_at s c).controller o) has (subst (λ (p : Seat). IsTied p.controller p.machine) is tied) in
+    let placed : IsPlacedBy (owns s.bus.owner c) s.trace (seat_at s c).controller (Some m) =
+    subst (λ o. IsPlacedBy (owns s.bus.owner c) s.trace (seat_at s c).controller o) has (settled.places c) in
     let both : IsRunning (controller_on was c) m × IsPlacedBy (owns s.bus.owner c) s.trace (controller_on was c) (Some m) =
     subst (λ (k : Controller). IsRunning k m × IsPlacedBy (owns s.bus.owner c) s.trace k (Some m)) (sym (on_place s was c view)) (tied_here, placed) in
     subst (λ (w : Standing). IsRunning (controller_on was c) m × IsPlacedBy (owns w.bus.owner c) w.trace (controller_on was c) (Some m)) view both

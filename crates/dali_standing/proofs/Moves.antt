@@ -1,4 +1,5 @@
-use Rattle.std.proofs.Common.{◌≡◌, ℕ, ◌+◌, ◌<◌, ◌≤◌, Bool, true, false, List, [], ◌∷◌, refl, sym, ap, subst, ◌∙◌, arith, length, map, get_or, set, get_or-set_same, get_or-set_other, Option, Some, None}
+use Rattle.std.proofs.Common.{◌≡◌, ℕ, ◌+◌, ◌<◌, ◌≤◌, Bool, true, false, List, [], ◌∷◌, refl, sym, ap, subst, ◌∙◌, arith, length, map, get_or, set}
+use Rattle.std.proofs.Common.{get_or-set_same, get_or-set_other, Option, Some, None}
 use Rattle.std.specs.Prelude.{zero, suc}
 use Rattle.std.specs.Option.{option_map}
 use Rattle.std.proofs.lemmas.List.{length-map}
@@ -20,12 +21,14 @@ use Rattle.dali_controller.specs.Machine.{Machine, at_first}
 use Rattle.dali_controller.specs.Orders.{machine_after}
 use Rattle.dali_events.specs.declared.event.Event.TheVariants as event
 use Rattle.dali_events.specs.World.{World, Controller, nobody, controllers_changed, gear_changed, controller_begun, start}
-use Rattle.dali_events.specs.Happens.{happens, controller_informed, controller_acted, told_sent, told_destroyed, told_lapsed, owner_told, gear_powered, gone_down, come_up}
+use Rattle.dali_events.specs.Happens.{happens, controller_informed, controller_acted, told_sent, told_destroyed, told_lapsed, owner_told, gear_powered}
+use Rattle.dali_events.specs.Happens.{gone_down, come_up}
 use Rattle.dali_events.specs.Allowed.{Hears, IsUp, IsDue, IsArc, MaySend, MayOrder, HasOutstanding}
 use Rattle.dali_standing.specs.FittedGear.{changed_at}
 use Rattle.dali_standing.specs.Seats.{Seat, IsTied, MayAnswer, acted_at, down_at, up_at, told_at}
 use Rattle.dali_standing.specs.Standing.{Seated, empty_seat, seat_in, controllers_of, machines_of, machine_in, flat, stand_of, seats_from, machines_at}
-use Rattle.dali_standing.proofs.Seats.{seat_at, world_of, with_seat, running_in, has_acted, has_offered, has_sent, has_lost, has_collided, owner_lapsed, has_lapsed, with_gear, has_gone_down, has_come_up, IsMove, seated_at}
+use Rattle.dali_standing.proofs.Seats.{seat_at, world_of, with_seat, running_in, has_acted, has_offered, has_sent, has_lost, has_collided, owner_lapsed}
+use Rattle.dali_standing.proofs.Seats.{has_lapsed, with_gear, has_gone_down, has_come_up, IsMove, seated_at}
 use Rattle.dali_standing.specs.Settled.{IsPlaced}
 use Rattle.dali_standing.proofs.Acts.{may_order}
 
@@ -84,17 +87,22 @@ is_up s c drawn up = record {
 
 -- ---------------------------------------------------------------- a controller acts
 
-acted_world : (s : Seated) (c : ℕ) (i : Input) (o : Order) (drawn : List (ℕ × ℕ)) → world_of (has_acted s c i o) drawn ≡ happens (world_of s drawn) (event.Acted c i o)
+acted_world : (s : Seated) (c : ℕ) (i : Input) (o : Order) (drawn : List (ℕ × ℕ))
+    → world_of (has_acted s c i o) drawn ≡ happens (world_of s drawn) (event.Acted c i o)
 acted_world s c i o drawn = rw (changed_is s.seats c (λ k. controller_acted k i o) (acted_at (seat_at s c) i o) refl) refl
 
 acted_machines : (seats : List Seat) (c : ℕ) (i : Input) (o : Order)
-    → machines_of (with_seat seats c (acted_at (seat_in seats c) i o)) ≡ set (machines_of seats) c (option_map (λ m. machine_after m i o) (machine_in (machines_of seats) c))
-acted_machines seats c i o = machines_set seats c (acted_at (seat_in seats c) i o) ∙ ap (λ m. set (machines_of seats) c (option_map (λ n. machine_after n i o) m)) (sym (machine_of seats c))
+    → machines_of (with_seat seats c (acted_at (seat_in seats c) i o)) ≡ set (machines_of seats) c
+    (option_map (λ m. machine_after m i o) (machine_in (machines_of seats) c))
+acted_machines seats c i o =
+    machines_set seats c (acted_at (seat_in seats c) i o) ∙ ap (λ m. set (machines_of seats) c (option_map (λ n. machine_after n i o) m))
+    (sym (machine_of seats c))
 
 may_order_at : (w : World) (c : ℕ) (p : Seat) (i : Input) (o : Order) → IsDue p.controller i → IsTied p.controller p.machine → MayAnswer p.machine i o
     → IsPlaced (owns w.bus.owner c) w.trace p → MayOrder w c (controller_informed p.controller i) o
 may_order_at w c p i o due tied answer placed = go p.machine tied answer placed where
-  go : (m : Option Machine) → IsTied p.controller m → MayAnswer m i o → IsPlaced (owns w.bus.owner c) w.trace (record { controller = p.controller; machine = m })
+  go : (m : Option Machine) → IsTied p.controller m → MayAnswer m i o
+      → IsPlaced (owns w.bus.owner c) w.trace (record { controller = p.controller; machine = m })
       → MayOrder w c (controller_informed p.controller i) o
   go None tied answer placed = elim answer [ ]
   go (Some m) tied answer placed = (may_order w c p.controller m i o due tied answer.answered placed).may
@@ -106,7 +114,8 @@ moves_acted s c i o up due tied answer placed = record {
   allowed = λ drawn. record {
     up = is_up s c drawn up;
     due = subst (λ (k : Controller). IsDue k i) (sym (controller_in s.seats c)) due;
-    order = subst (λ (k : Controller). MayOrder (world_of s drawn) c (controller_informed k i) o) (sym (controller_in s.seats c)) (may_order_at (world_of s drawn) c (seat_at s c) i o due tied answer placed);
+    order = subst (λ (k : Controller). MayOrder (world_of s drawn) c (controller_informed k i) o) (sym (controller_in s.seats c))
+        (may_order_at (world_of s drawn) c (seat_at s c) i o due tied answer placed);
   };
   world = λ drawn. acted_world s c i o drawn;
   machines = λ drawn. acted_machines s.seats c i o;
@@ -123,7 +132,8 @@ MaySendAt s c f = (drawn : List (ℕ × ℕ)) → MaySend (world_of s drawn) c f
 
 sent_world : (s : Seated) (c : ℕ) (f : Forward) (h : Answer) (drawn : List (ℕ × ℕ))
     → world_of (has_sent s c f h) (happens (world_of s drawn) (event.Sent c f h)).drawn ≡ happens (world_of s drawn) (event.Sent c f h)
-sent_world s c f h drawn = rw (changed_is s.seats c (told_sent (running_in s c) f h) (told_at (told_sent (running_in s c) f h) (seat_at s c)) refl, controller_in s.seats c) refl
+sent_world s c f h drawn =
+    rw (changed_is s.seats c (told_sent (running_in s c) f h) (told_at (told_sent (running_in s c) f h) (seat_at s c)) refl, controller_in s.seats c) refl
 
 pub moves_sent : (s : Seated) (c : ℕ) (f : Forward) (h : Answer) → (seat_at s c).controller.up ≡ true → MaySendAt s c f
     → draws_needed Everyone (command_of f) 0 s.fitted.gear ≤ length s.fitted.left → Hears (answers_of Everyone (command_of f) 0 s.fitted.gear) h
@@ -147,18 +157,22 @@ moves_lost s c f set up may draws = record {
 }
 
 collided_places : (seats : List Seat) (c d : ℕ) (f g : Forward)
-    → controllers_of (with_seat (with_seat seats c (told_at (told_destroyed f) (seat_in seats c))) d (told_at (told_destroyed g) (seat_in (with_seat seats c (told_at (told_destroyed f) (seat_in seats c))) d)))
+    → controllers_of (with_seat (with_seat seats c (told_at (told_destroyed f) (seat_in seats c))) d
+    (told_at (told_destroyed g) (seat_in (with_seat seats c (told_at (told_destroyed f) (seat_in seats c))) d)))
     ≡ controllers_changed (controllers_changed (controllers_of seats) c (told_destroyed f)) d (told_destroyed g)
 collided_places seats c d f g =
-    changed_is (with_seat seats c (told_at (told_destroyed f) (seat_in seats c))) d (told_destroyed g) (told_at (told_destroyed g) (seat_in (with_seat seats c (told_at (told_destroyed f) (seat_in seats c))) d)) refl
+    changed_is (with_seat seats c (told_at (told_destroyed f) (seat_in seats c))) d (told_destroyed g)
+    (told_at (told_destroyed g) (seat_in (with_seat seats c (told_at (told_destroyed f) (seat_in seats c))) d)) refl
     ∙ ap (λ cs. controllers_changed cs d (told_destroyed g)) (changed_is seats c (told_destroyed f) (told_at (told_destroyed f) (seat_in seats c)) refl)
 
 pub moves_collided : (s : Seated) (c : ℕ) (f : Forward) (d : ℕ) (g : Forward) → s.bus.owner ≡ None → (c ≡ d → ⊥)
-    → (seat_at s c).controller.up ≡ true → (seat_at s d).controller.up ≡ true → IsFirst f → IsFirst g → IsMove s (event.Collided c f d g) (has_collided s c f d g)
+    → (seat_at s c).controller.up ≡ true → (seat_at s d).controller.up ≡ true → IsFirst f → IsFirst g
+    → IsMove s (event.Collided c f d g) (has_collided s c f d g)
 moves_collided s c f d g free apart up_c up_d first second = record {
   allowed = λ drawn. record { free = free; apart = apart; first_up = is_up s c drawn up_c; second_up = is_up s d drawn up_d; first = first; second = second };
   world = λ drawn. rw (collided_places s.seats c d f g) refl;
-  machines = λ drawn. machines_same (with_seat s.seats c (told_at (told_destroyed f) (seat_at s c))) d _ refl ∙ machines_same s.seats c (told_at (told_destroyed f) (seat_at s c)) refl;
+  machines = λ drawn. machines_same (with_seat s.seats c (told_at (told_destroyed f) (seat_at s c))) d _ refl
+      ∙ machines_same s.seats c (told_at (told_destroyed f) (seat_at s c)) refl;
 }
 
 lapsed_places : (seats : List Seat) (o : Option ℕ) → controllers_of (owner_lapsed seats o) ≡ owner_told (controllers_of seats) o
@@ -181,7 +195,8 @@ moves_lapsed s = record {
 pub moves_quiet : (s : Seated) → IsMove s event.Quiet (with_gear s (changed_at (map gear_quieted s.fitted.gear) s.fitted))
 moves_quiet s = record { allowed = λ drawn. tt; world = λ drawn. refl; machines = λ drawn. refl }
 
-pub moves_power : (s : Seated) (g : ℕ) (on : Bool) → IsMove s (event.Power g on) (with_gear s (changed_at (gear_changed s.fitted.gear g (gear_powered on)) s.fitted))
+pub moves_power : (s : Seated) (g : ℕ) (on : Bool)
+    → IsMove s (event.Power g on) (with_gear s (changed_at (gear_changed s.fitted.gear g (gear_powered on)) s.fitted))
 moves_power s g on = record { allowed = λ drawn. tt; world = λ drawn. refl; machines = λ drawn. refl }
 
 pub moves_expired : (s : Seated) (g : ℕ) → IsMove s (event.Expired g) (with_gear s (changed_at (gear_changed s.fitted.gear g gear_expired) s.fitted))
@@ -207,7 +222,8 @@ moves_up s c kept there down has = record {
     subst (λ (k : Controller). HasOutstanding k kept) (sym (controller_in s.seats c)) has,
   );
   world = λ drawn. rw (changed_is s.seats c (come_up kept) (up_at c kept (seat_at s c)) refl) refl;
-  machines = λ drawn. machines_set s.seats c (up_at c kept (seat_at s c)) ∙ ap (λ (k : Controller). set (machines_of s.seats) c (Some (at_first c (come_up kept k).records))) (sym (controller_in s.seats c));
+  machines = λ drawn. machines_set s.seats c (up_at c kept (seat_at s c))
+      ∙ ap (λ (k : Controller). set (machines_of s.seats) c (Some (at_first c (come_up kept k).records))) (sym (controller_in s.seats c));
 }
 
 -- ---------------------------------------------------------------- the start

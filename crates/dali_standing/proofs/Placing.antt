@@ -30,7 +30,8 @@ placed_apart t u p placed = go p.machine placed where
 
 -- the others, where the bus is as it was for them, or is another's before and after
 pub placed_other : (b c : Bool) (t u : List Entry) (p q : Seat) → q ≡ p → ((c ≡ b) × (u ≡ t)) ⊎ ((b ≡ false) × (c ≡ false)) → IsPlaced b t p → IsPlaced c u q
-placed_other b c t u p q same (inl is) placed = subst (λ (x : Seat). IsPlaced c u x) (sym same) (subst (λ v. IsPlaced c v p) (sym is.1) (subst (λ d. IsPlaced d t p) (sym is.0) placed))
+placed_other b c t u p q same (inl is) placed =
+    subst (λ (x : Seat). IsPlaced c u x) (sym same) (subst (λ v. IsPlaced c v p) (sym is.1) (subst (λ d. IsPlaced d t p) (sym is.0) placed))
 placed_other b c t u p q same (inr is) placed =
     subst (λ (x : Seat). IsPlaced c u x) (sym same) (subst (λ d. IsPlaced d u p) (sym is.1) (placed_apart t u p (subst (λ d. IsPlaced d t p) is.0 placed)))
 
@@ -69,7 +70,8 @@ pub placed_acted : (w : World) (c : ℕ) (p : Seat) (i : Input) (o : Order) → 
     → IsPlaced (owns w.bus.owner c) w.trace p → IsPlaced (owns (bus_acted w.bus c o).owner c) (if gives_up w.bus c o then [] else w.trace) (acted_at p i o)
 placed_acted w c p i o due tied answer placed = go p.machine tied answer placed where
   go : (m : Option Machine) → IsTied p.controller m → MayAnswer m i o → IsPlacedBy (owns w.bus.owner c) w.trace p.controller m
-      → IsPlaced (owns (bus_acted w.bus c o).owner c) (if gives_up w.bus c o then [] else w.trace) (acted_at (record { controller = p.controller; machine = m }) i o)
+      → IsPlaced (owns (bus_acted w.bus c o).owner c) (if gives_up w.bus c o then [] else w.trace)
+      (acted_at (record { controller = p.controller; machine = m }) i o)
   go None tied answer placed = elim answer [ ]
   go (Some m) tied answer placed = placed_left w c p.controller m i o (may_order w c p.controller m i o due tied answer.answered placed).left
 
@@ -94,9 +96,11 @@ first_holds false y e = e
 abbrev pub IsOthers : Option ℕ → List Entry → Option ℕ → List Entry → ℕ → Type 0
 IsOthers o t o' t' d = ((owns o' d ≡ owns o d) × (t' ≡ t)) ⊎ ((owns o d ≡ false) × (owns o' d ≡ false))
 
-pub acted_other : (b : Arbiter) (t : List Entry) (c d : ℕ) (o : Order) → (d ≡ c → ⊥) → IsOthers b.owner t (bus_acted b c o).owner (if gives_up b c o then [] else t) d
+pub acted_other : (b : Arbiter) (t : List Entry) (c d : ℕ) (o : Order) → (d ≡ c → ⊥)
+    → IsOthers b.owner t (bus_acted b c o).owner (if gives_up b c o then [] else t) d
 acted_other b t c d o other =
-    subst (λ q. IsOthers b.owner t q (if gives_up b c o then [] else t) d) (sym (owner_acted b c o)) (go (gives_up b c o) (λ e. owner_is b.owner c (first_holds (owns b.owner c) (not (keeps_bus o)) e))) where
+    subst (λ q. IsOthers b.owner t q (if gives_up b c o then [] else t) d) (sym (owner_acted b c o))
+    (go (gives_up b c o) (λ e. owner_is b.owner c (first_holds (owns b.owner c) (not (keeps_bus o)) e))) where
       go : (x : Bool) → (x ≡ true → b.owner ≡ Some c) → IsOthers b.owner t (if x then None else b.owner) (if x then [] else t) d
       go true own = inr (other_owns b.owner c d other (own refl), refl)
       go false own = inl (refl, refl)
@@ -110,15 +114,20 @@ running_is b t p q f untold last placed = go b p.machine placed where
   go : (x : Bool) (m : Option Machine) → IsPlacedBy x t p.controller m → (if x then t else []) ≡ trace_of m
   go true None placed = absurd (let no : true ≡ false = placed.0 in cc)
   go false None placed = absurd (let no : p.controller.last ≡ None = placed.1 in cc)
-  go true (Some m) placed = (subst (λ o. IsOwning t p.controller m (Some (Put q f)) o) untold (subst (λ l. IsOwning t p.controller m l p.controller.told) last placed)).1
-  go false (Some m) placed = sym (subst (λ o. IsApart p.controller m (Some (Put q f)) o) untold (subst (λ l. IsApart p.controller m l p.controller.told) last placed)).1
+  go true (Some m) placed =
+      (subst (λ o. IsOwning t p.controller m (Some (Put q f)) o) untold (subst (λ l. IsOwning t p.controller m l p.controller.told) last placed)).1
+  go false (Some m) placed =
+      sym (subst (λ o. IsApart p.controller m (Some (Put q f)) o) untold (subst (λ l. IsApart p.controller m l p.controller.told) last placed)).1
 
 -- the sender of a frame was told what was heard
-heard_placed : (b : Bool) (u : List Entry) (k : Controller) (m : Option Machine) (q : ℕ) (f : Forward) (h : Answer) → k.told ≡ Some (input.Heard h) → k.last ≡ Some (Put q f)
-    → (m ≡ None → ⊥) → u ≡ trace_of m ++ entry f h ∷ [] → may_follow k.records.block k.records.reserved (stage_of u) ≡ b → IsPlacedBy b (if b then u else []) k m
+heard_placed : (b : Bool) (u : List Entry) (k : Controller) (m : Option Machine) (q : ℕ) (f : Forward) (h : Answer) → k.told ≡ Some (input.Heard h)
+    → k.last ≡ Some (Put q f)
+    → (m ≡ None → ⊥) → u ≡ trace_of m ++ entry f h ∷ [] → may_follow k.records.block k.records.reserved (stage_of u) ≡ b
+    → IsPlacedBy b (if b then u else []) k m
 heard_placed b u k None q f h told last there is more = absurd (there refl)
 heard_placed true u k (Some m) q f h told last there is more = rw (told, last) is
-heard_placed false u k (Some m) q f h told last there is more = rw (told, last) (subst (λ v. may_follow k.records.block k.records.reserved (stage_of v) ≡ false) is more)
+heard_placed false u k (Some m) q f h told last there is more =
+    rw (told, last) (subst (λ v. may_follow k.records.block k.records.reserved (stage_of v) ≡ false) is more)
 
 pub machine_there : (b : Bool) (t : List Entry) (p : Seat) (o : Order) → p.controller.last ≡ Some o → IsPlaced b t p → p.machine ≡ None → ⊥
 machine_there b t p o last placed none = let no : p.controller.last ≡ None = (subst (λ m. IsPlacedBy b t p.controller m) none placed).1 in cc
@@ -127,16 +136,22 @@ owns_self : (x : Bool) (c : ℕ) → owns (if x then Some c else None) c ≡ x
 owns_self true c = grind (arith, nat_tests)
 owns_self false c = refl
 
-pub placed_sent : (o : Option ℕ) (c : ℕ) (t : List Entry) (p : Seat) (q : ℕ) (f : Forward) (h : Answer) (more : Bool) → is_arc (command_of f) ≡ false → p.controller.told ≡ None → p.controller.last ≡ Some (Put q f)
-    → IsPlaced (owns o c) t p → may_follow p.controller.records.block p.controller.records.reserved (stage_of ((if owns o c then t else []) ++ entry f h ∷ [])) ≡ more
-    → IsPlaced (owns (if more then Some c else None) c) (if more then (if owns o c then t else []) ++ entry f h ∷ [] else []) (told_at (told_sent (if owns o c then t else []) f h) p)
+pub placed_sent : (o : Option ℕ) (c : ℕ) (t : List Entry) (p : Seat) (q : ℕ) (f : Forward) (h : Answer) (more : Bool) → is_arc (command_of f) ≡ false
+    → p.controller.told ≡ None → p.controller.last ≡ Some (Put q f)
+    → IsPlaced (owns o c) t p
+    → may_follow p.controller.records.block p.controller.records.reserved (stage_of ((if owns o c then t else []) ++ entry f h ∷ [])) ≡ more
+    → IsPlaced (owns (if more then Some c else None) c) (if more then (if owns o c then t else []) ++ entry f h ∷ [] else [])
+    (told_at (told_sent (if owns o c then t else []) f h) p)
 placed_sent o c t p q f h more scripted untold last placed goes =
-    subst (λ b. IsPlaced b (if more then (if owns o c then t else []) ++ entry f h ∷ [] else []) (told_at (told_sent (if owns o c then t else []) f h) p)) (sym (owns_self more c))
-    (heard_placed more _ (told_sent (if owns o c then t else []) f h p.controller) p.machine q f h (rw scripted refl) last (machine_there (owns o c) t p (Put q f) last placed)
+    subst (λ b. IsPlaced b (if more then (if owns o c then t else []) ++ entry f h ∷ [] else []) (told_at (told_sent (if owns o c then t else []) f h) p))
+    (sym (owns_self more c))
+    (heard_placed more _ (told_sent (if owns o c then t else []) f h p.controller) p.machine q f h (rw scripted refl) last
+    (machine_there (owns o c) t p (Put q f) last placed)
     (ap (λ u. u ++ entry f h ∷ []) (running_is (owns o c) t p q f untold last placed)) goes)
 
 -- a controller that was told that it lost its frame, or the bus, owns no bus
-pub placed_told : (t u : List Entry) (b : Bool) (p p' : Seat) (q : ℕ) (f : Forward) (i : Input) → IsPlaced b t p → p.controller.last ≡ Some (Put q f) → p'.machine ≡ p.machine → p'.controller.last ≡ p.controller.last
+pub placed_told : (t u : List Entry) (b : Bool) (p p' : Seat) (q : ℕ) (f : Forward) (i : Input) → IsPlaced b t p → p.controller.last ≡ Some (Put q f)
+    → p'.machine ≡ p.machine → p'.controller.last ≡ p.controller.last
     → p'.controller.told ≡ Some i → (i ≡ input.Destroyed) ⊎ (i ≡ input.Lapsed) → IsPlaced false u p'
 placed_told t u b p p' q f i placed last same_m same_l told which =
     subst (λ m. IsPlacedBy false u p'.controller m) (sym same_m) (go p.machine (machine_there b t p (Put q f) last placed)) where

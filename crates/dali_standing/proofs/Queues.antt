@@ -1,4 +1,5 @@
-use Rattle.std.proofs.Common.{◌≡◌, ℕ, ◌+◌, ◌<◌, ◌≤◌, ◌⊎◌, inl, inr, Bool, true, false, not, List, [], ◌∷◌, ◌++◌, length, map, filter, take, Option, Some, None, refl, sym, ap, subst, ◌∙◌, arith, suc, ◌==◌}
+use Rattle.std.proofs.Common.{◌≡◌, ℕ, ◌+◌, ◌<◌, ◌≤◌, ◌⊎◌, inl, inr, Bool, true, false, not, List, [], ◌∷◌, ◌++◌, length, map, filter, take, Option, Some, None}
+use Rattle.std.proofs.Common.{refl, sym, ap, subst, ◌∙◌, arith, suc, ◌==◌}
 use Rattle.std.specs.Prelude.{◌&&◌, if◌then◌else◌, is_some}
 use Rattle.std.specs.List.{AllByRecursion}
 use Rattle.std.proofs.lemmas.Bool.Decides.{nat_tests}
@@ -7,7 +8,8 @@ use Rattle.std.proofs.lemmas.List.{append-nil}
 use Rattle.dali_frame.specs.declared.frames.Forward.{Forward}
 use Rattle.dali_special.specs.Command.{command_of}
 use Rattle.dali_arbiter.specs.declared.request.Request.{Request}
-use Rattle.dali_arbiter.specs.Arbiter.{Arbiter, owns, request_of, idle, bus_offered, put_last, bus_freed, first_emptied, bus_lapsed, without_first, bus_taken, next, first_waiting, collision, bus_collided, bus_destroyed, bus_silenced, bus_muted, without_sender}
+use Rattle.dali_arbiter.specs.Arbiter.{Arbiter, owns, request_of, idle, bus_offered, put_last, bus_freed, first_emptied, bus_lapsed, without_first, bus_taken}
+use Rattle.dali_arbiter.specs.Arbiter.{next, first_waiting, collision, bus_collided, bus_destroyed, bus_silenced, bus_muted, without_sender}
 use Rattle.dali_arbiter.proofs.Collisions.{unequal, collision_first, first_of_all, collision_apart}
 use Rattle.dali_script.specs.declared.orders.Input.{Input}
 use Rattle.dali_script.specs.declared.orders.Order.{Order}
@@ -111,7 +113,8 @@ picked_added test r n (l ∷ lists) none holds least most =
       go (inl is) later =
           let test_is : (r.priority == n) ≡ true = rw is (same_test n) in
           let low : r.priority < n + 1 = omega arith in
-          rw (test_is, put_beyond r (n + 1) lists low, none_right (filter test l) (picked_requests test lists) none, filter-append test l (r ∷ []), here, holds) refl
+          rw (test_is, put_beyond r (n + 1) lists low, none_right (filter test l) (picked_requests test lists) none, filter-append test l (r ∷ []), here, holds)
+          refl
       go (inr other) later = rw (apart_test r.priority n other, here) (later other)
 
 -- the first of the first list that is not empty was taken
@@ -121,8 +124,11 @@ picked_first test [] r e = absurd (cc)
 picked_first test ([] ∷ lists) r e = picked_first test lists r e
 picked_first test ((x ∷ xs) ∷ lists) r e =
     let same : x ≡ r = cc in
-    subst (λ y. filter test (x ∷ xs) ++ picked_requests test lists ≡ (if test y then y ∷ (filter test xs ++ picked_requests test lists) else (filter test xs ++ picked_requests test lists))) same (go (test x)) where
-      go : (b : Bool) → (if b then x ∷ filter test xs else filter test xs) ++ picked_requests test lists ≡ (if b then x ∷ (filter test xs ++ picked_requests test lists) else (filter test xs ++ picked_requests test lists))
+    subst (λ y. filter test (x ∷ xs) ++ picked_requests test lists
+    ≡ (if test y then y ∷ (filter test xs ++ picked_requests test lists) else (filter test xs ++ picked_requests test lists))) same (go (test x)) where
+      go : (b : Bool)
+          → (if b then x ∷ filter test xs else filter test xs) ++ picked_requests test lists
+          ≡ (if b then x ∷ (filter test xs ++ picked_requests test lists) else (filter test xs ++ picked_requests test lists))
       go true = refl
       go false = refl
 
@@ -208,12 +214,14 @@ taken_free rest place r served first = record {
   arc = λ arc none. taken_other (is_scripted r.sender) rest r first (scripted_arc r.sender r arc) ∙ served.1 r.sender;
   owned = λ o e. absurd (cc);
 } where
-  is : is_arc (command_of r.frame) ≡ false → awaited_requests r.sender (place r.sender).controller ≡ r ∷ picked_requests (is_scripted r.sender) (without_first rest)
+  is : is_arc (command_of r.frame) ≡ false
+      → awaited_requests r.sender (place r.sender).controller ≡ r ∷ picked_requests (is_scripted r.sender) (without_first rest)
   is scripted = sym (served.1 r.sender) ∙ taken_own (is_scripted r.sender) rest r first (scripted_own r.sender r refl scripted)
 
   short : is_arc (command_of r.frame) ≡ false → picked_requests (is_scripted r.sender) (without_first rest) ≡ []
   short scripted =
-      (awaited_one r.sender (place r.sender).controller.told (place r.sender).controller.last r (picked_requests (is_scripted r.sender) (without_first rest)) (sym (is scripted))).0
+      (awaited_one r.sender (place r.sender).controller.told (place r.sender).controller.last r (picked_requests (is_scripted r.sender) (without_first rest))
+      (sym (is scripted))).0
 
 taken_owned : (x : Request) (rest : List (List Request)) (o : ℕ) (place : ℕ → Seat) (r : Request) → IsServed ((x ∷ []) ∷ rest) (Some o) place
     → x ≡ r → r.sender ≡ o → IsTaken ((x ∷ []) ∷ rest) (Some o) place r
@@ -287,7 +295,8 @@ served_same lists owner place place' c served elsewhere same = served_alike list
   go d (inr other) = moved place place' d (elsewhere d other)
 
 -- the start
-pub served_start : (capacity : ℕ) (place : ℕ → Seat) → ((c : ℕ) → awaited_requests c (place c).controller ≡ []) → IsServed (idle capacity).lists (idle capacity).owner place
+pub served_start : (capacity : ℕ) (place : ℕ → Seat) → ((c : ℕ) → awaited_requests c (place c).controller ≡ [])
+    → IsServed (idle capacity).lists (idle capacity).owner place
 served_start capacity place none = (refl, λ c. sym (none c))
 
 -- ---------------------------------------------------------------- a frame left the bus
@@ -308,7 +317,8 @@ module _ (lists : List (List Request)) (owner : Option ℕ) (place place' : ℕ 
     go d (inl e) = subst (λ n. picked_requests (is_scripted n) left.rest ≡ awaited_requests n (place' n).controller) (sym e) (own gone)
     go d (inr other) = left.others d other ∙ moved place place' d (elsewhere d other)
 
-  left_free : IsTaken lists owner place r → Elsewhere place place' r.sender → Gone owner place place' r → IsServed (first_emptied (without_first lists)) None place'
+  left_free : IsTaken lists owner place r → Elsewhere place place' r.sender → Gone owner place place' r
+      → IsServed (first_emptied (without_first lists)) None place'
   left_free left elsewhere gone = subst (λ ls. IsServed (first_emptied ls) None place') (sym left.whole) (left_rest left elsewhere gone)
 
   left_first : IsTaken lists owner place r → Elsewhere place place' r.sender → Gone owner place place' r → IsServed (without_first lists) None place'
@@ -317,7 +327,8 @@ module _ (lists : List (List Request)) (owner : Option ℕ) (place place' : ℕ 
   left_owned : IsTaken lists owner place r → Elsewhere place place' r.sender → is_arc (command_of r.frame) ≡ false
       → awaited_requests r.sender (place' r.sender).controller ≡ [] → IsServed (without_first lists) (Some r.sender) place'
   left_owned left elsewhere scripted none = subst (λ ls. IsServed ls (Some r.sender) place') (sym left.whole) (sym none, λ d. go d (decided d r.sender)) where
-    go : (d : ℕ) → (d ≡ r.sender) ⊎ (d ≡ r.sender → ⊥) → picked_requests (is_scripted d) left.rest ≡ (if r.sender == d then [] else awaited_requests d (place' d).controller)
+    go : (d : ℕ) → (d ≡ r.sender) ⊎ (d ≡ r.sender → ⊥)
+        → picked_requests (is_scripted d) left.rest ≡ (if r.sender == d then [] else awaited_requests d (place' d).controller)
     go d (inl e) =
         subst (λ n. picked_requests (is_scripted n) left.rest ≡ (if r.sender == n then [] else awaited_requests n (place' n).controller)) (sym e)
         (left.own scripted ∙ sym (rest_owned (r.sender == r.sender) (awaited_requests r.sender (place' r.sender).controller) (same_test r.sender)))
@@ -329,7 +340,8 @@ module _ (lists : List (List Request)) (owner : Option ℕ) (place place' : ℕ 
 pub served_sent : (b : Arbiter) (place place' : ℕ → Seat) (r : Request) (more : Bool) → IsServed b.lists b.owner place → next b ≡ Some r
     → Elsewhere place place' r.sender → Gone b.owner place place' r → (is_arc (command_of r.frame) ≡ true → more ≡ false)
     → IsServed (sent_by b r.sender more).lists (sent_by b r.sender more).owner place'
-served_sent b place place' r false served first elsewhere gone last = left_free b.lists b.owner place place' r (taken_is b.lists b.owner place r served first) elsewhere gone
+served_sent b place place' r false served first elsewhere gone last =
+    left_free b.lists b.owner place place' r (taken_is b.lists b.owner place r served first) elsewhere gone
 served_sent b place place' r true served first elsewhere (inl g) last =
     left_owned b.lists b.owner place place' r (taken_is b.lists b.owner place r served first) elsewhere g.0 g.1
 served_sent b place place' r true served first elsewhere (inr g) last = absurd (cc (last g.0))
@@ -337,7 +349,8 @@ served_sent b place place' r true served first elsewhere (inr g) last = absurd (
 -- a frame was destroyed
 pub served_destroyed : (b : Arbiter) (place place' : ℕ → Seat) (r : Request) → IsServed b.lists b.owner place → next b ≡ Some r
     → Elsewhere place place' r.sender → Gone b.owner place place' r → IsServed (bus_destroyed b).lists (bus_destroyed b).owner place'
-served_destroyed b place place' r served first elsewhere gone = left_free b.lists b.owner place place' r (taken_is b.lists b.owner place r served first) elsewhere gone
+served_destroyed b place place' r served first elsewhere gone =
+    left_free b.lists b.owner place place' r (taken_is b.lists b.owner place r served first) elsewhere gone
 
 -- two frames collided: the one that is next left, and then the other
 module _ (lists : List (List Request)) (place place' : ℕ → Seat) (r q : Request) where
@@ -409,7 +422,8 @@ served_idle b place free served = idle_served b.lists place (subst (λ o. IsServ
 
 -- ---------------------------------------------------------------- a controller goes down
 
-without_awaited : (c o : ℕ) (told : Option Input) (last : Option Order) → (o ≡ c → ⊥) → without_sender c (awaited_requests_by o told last) ≡ awaited_requests_by o told last
+without_awaited : (c o : ℕ) (told : Option Input) (last : Option Order) → (o ≡ c → ⊥)
+    → without_sender c (awaited_requests_by o told last) ≡ awaited_requests_by o told last
 without_awaited c o None (Some (Put p f)) other = rw (apart_test o c other) refl
 without_awaited c o None (Some (Commit x)) other = refl
 without_awaited c o None (Some (Done x)) other = refl
@@ -417,7 +431,8 @@ without_awaited c o None (Some (Halt x)) other = refl
 without_awaited c o None None other = refl
 without_awaited c o (Some i) last other = refl
 
-without_owners : (owner : Option ℕ) (place : ℕ → Seat) (c : ℕ) → owns owner c ≡ false → without_sender c (owners_request owner place) ≡ owners_request owner place
+without_owners : (owner : Option ℕ) (place : ℕ → Seat) (c : ℕ) → owns owner c ≡ false
+    → without_sender c (owners_request owner place) ≡ owners_request owner place
 without_owners None place c apart = refl
 without_owners (Some o) place c apart = without_awaited c o (place o).controller.told (place o).controller.last (unequal o c apart)
 
@@ -430,7 +445,8 @@ muted_owned [] place place' c served elsewhere none = elim served [ ]
 muted_owned (first ∷ rest) place place' c served elsewhere none = (refl, λ d. go d (decided d c)) where
   go : (d : ℕ) → (d ≡ c) ⊎ (d ≡ c → ⊥) → picked_requests (is_scripted d) (map (without_sender c) rest) ≡ awaited_requests d (place' d).controller
   go d (inl e) =
-      subst (λ n. picked_requests (is_scripted n) (map (without_sender c) rest) ≡ awaited_requests n (place' n).controller) (sym e) (muted_own c rest ∙ sym none)
+      subst (λ n. picked_requests (is_scripted n) (map (without_sender c) rest) ≡ awaited_requests n (place' n).controller) (sym e)
+      (muted_own c rest ∙ sym none)
   go d (inr other) =
       muted_other c (is_scripted d) rest (apart_of c d other) ∙ served.1 d
       ∙ rest_free (c == d) (awaited_requests d (place d).controller) (apart_test c d (λ e. other (sym e))) ∙ moved place place' d (elsewhere d other)
@@ -440,9 +456,11 @@ muted_apart : (lists : List (List Request)) (owner : Option ℕ) (place place' :
 muted_apart [] owner place place' c apart served elsewhere none = elim served [ ]
 muted_apart (first ∷ rest) owner place place' c apart served elsewhere none =
     (ap (without_sender c) served.0 ∙ without_owners owner place c apart ∙ owners_elsewhere owner place place' c apart elsewhere, λ d. go d (decided d c)) where
-      go : (d : ℕ) → (d ≡ c) ⊎ (d ≡ c → ⊥) → picked_requests (is_scripted d) (map (without_sender c) rest) ≡ (if owns owner d then [] else awaited_requests d (place' d).controller)
+      go : (d : ℕ) → (d ≡ c) ⊎ (d ≡ c → ⊥)
+          → picked_requests (is_scripted d) (map (without_sender c) rest) ≡ (if owns owner d then [] else awaited_requests d (place' d).controller)
       go d (inl e) =
-          subst (λ n. picked_requests (is_scripted n) (map (without_sender c) rest) ≡ (if owns owner n then [] else awaited_requests n (place' n).controller)) (sym e)
+          subst (λ n. picked_requests (is_scripted n) (map (without_sender c) rest) ≡ (if owns owner n then [] else awaited_requests n (place' n).controller))
+          (sym e)
           (muted_own c rest ∙ sym none ∙ sym (rest_free (owns owner c) (awaited_requests c (place' c).controller) apart))
       go d (inr other) =
           muted_other c (is_scripted d) rest (apart_of c d other) ∙ served.1 d
@@ -451,7 +469,8 @@ muted_apart (first ∷ rest) owner place place' c apart served elsewhere none =
 pub served_silenced : (b : Arbiter) (place place' : ℕ → Seat) (c : ℕ) → IsServed b.lists b.owner place → Elsewhere place place' c
     → awaited_requests c (place' c).controller ≡ [] → IsServed (bus_silenced b c).lists (bus_silenced b c).owner place'
 served_silenced b place place' c served elsewhere none = go (owns b.owner c) refl where
-  go : (t : Bool) → owns b.owner c ≡ t → IsServed (if t then bus_freed (bus_muted b c) else bus_muted b c).lists (if t then bus_freed (bus_muted b c) else bus_muted b c).owner place'
+  go : (t : Bool) → owns b.owner c ≡ t
+      → IsServed (if t then bus_freed (bus_muted b c) else bus_muted b c).lists (if t then bus_freed (bus_muted b c) else bus_muted b c).owner place'
   go true e = muted_owned b.lists place place' c (subst (λ o. IsServed b.lists o place) (owned_is b.owner c e) served) elsewhere none
   go false e = muted_apart b.lists b.owner place place' c e served elsewhere none
 
@@ -485,7 +504,8 @@ module _ (place place' : ℕ → Seat) (c : ℕ) (f : Forward) where
     beyond : put_last (request_of c 1 f) 2 rest ≡ rest
     beyond = put_beyond (request_of c 1 f) 2 rest (omega arith)
 
-    go : (d : ℕ) → (d ≡ c) ⊎ (d ≡ c → ⊥) → (if c == d then [] else awaited_requests d (place d).controller) ≡ (if c == d then [] else awaited_requests d (place' d).controller)
+    go : (d : ℕ) → (d ≡ c) ⊎ (d ≡ c → ⊥)
+        → (if c == d then [] else awaited_requests d (place d).controller) ≡ (if c == d then [] else awaited_requests d (place' d).controller)
     go d (inl e) =
         let test : (c == d) ≡ true = rw e (same_test c) in
         rest_owned (c == d) (awaited_requests d (place d).controller) test ∙ sym (rest_owned (c == d) (awaited_requests d (place' d).controller) test)
@@ -506,7 +526,8 @@ module _ (place place' : ℕ → Seat) (c : ℕ) (f : Forward) where
         go : (d : ℕ) → (d ≡ c) ⊎ (d ≡ c → ⊥)
             → picked_requests (is_scripted d) (put_last (request_of c 3 f) 2 rest) ≡ (if owns owner d then [] else awaited_requests d (place' d).controller)
         go d (inl e) =
-            subst (λ n. picked_requests (is_scripted n) (put_last (request_of c 3 f) 2 rest) ≡ (if owns owner n then [] else awaited_requests n (place' n).controller)) (sym e)
+            subst (λ n. picked_requests (is_scripted n) (put_last (request_of c 3 f) 2 rest)
+            ≡ (if owns owner n then [] else awaited_requests n (place' n).controller)) (sym e)
             (added ∙ sym new ∙ sym (rest_free (owns owner c) (awaited_requests c (place' c).controller) apart))
         go d (inr other) =
             picked_other (is_scripted d) (request_of c 3 f) 2 rest (scripted_other d (request_of c 3 f) other) ∙ served.1 d
@@ -547,10 +568,12 @@ pub served_acted : (b : Arbiter) (place place' : ℕ → Seat) (c : ℕ) (o : Or
 served_acted b place place' c (Put p f) five served elsewhere none new asks = go asks.1 where
   go : ((p ≡ 1) × (owns b.owner c ≡ true)) ⊎ (p ≡ 3) → IsServed (bus_acted b c (Put p f)).lists (bus_acted b c (Put p f)).owner place'
   go (inl first) =
-      subst (λ n. awaited_requests c (place' c).controller ≡ request_of c n f ∷ [] → IsServed (bus_acted b c (Put n f)).lists (bus_acted b c (Put n f)).owner place')
+      subst (λ n. awaited_requests c (place' c).controller ≡ request_of c n f ∷ []
+      → IsServed (bus_acted b c (Put n f)).lists (bus_acted b c (Put n f)).owner place')
       (sym first.0) (acted_owned b place place' c served elsewhere none f first.1) new
   go (inr third) =
-      subst (λ n. awaited_requests c (place' c).controller ≡ request_of c n f ∷ [] → IsServed (bus_acted b c (Put n f)).lists (bus_acted b c (Put n f)).owner place')
+      subst (λ n. awaited_requests c (place' c).controller ≡ request_of c n f ∷ []
+      → IsServed (bus_acted b c (Put n f)).lists (bus_acted b c (Put n f)).owner place')
       (sym third) (acted_third b place place' c served elsewhere none f five asks.0) new
 served_acted b place place' c (Commit x) five served elsewhere none new asks = acted_quiet b place place' c served elsewhere none new (owns b.owner c) refl
 served_acted b place place' c (Done x) five served elsewhere none new asks = acted_quiet b place place' c served elsewhere none new (owns b.owner c) refl
@@ -583,7 +606,8 @@ five_acted b c o five = go o (before (gives_up b c o)) where
   before true = five_lapsed b five
   before false = five
 
-  go : (x : Order) → length (if gives_up b c o then bus_lapsed b else b).lists ≡ 5 → length (put_after (if gives_up b c o then bus_lapsed b else b) c x).lists ≡ 5
+  go : (x : Order) → length (if gives_up b c o then bus_lapsed b else b).lists ≡ 5
+      → length (put_after (if gives_up b c o then bus_lapsed b else b) c x).lists ≡ 5
   go (Put p f) is = five_offered (if gives_up b c o then bus_lapsed b else b) (request_of c p f) is
   go (Commit x) is = is
   go (Done x) is = is
@@ -641,10 +665,12 @@ all_without P [] all = tt
 all_without P ([] ∷ lists) all = (tt, all_without P lists all.1)
 all_without P ((x ∷ xs) ∷ lists) all = (all.0.1, all.1)
 
-quiet_of : (P Q : Request → Type 0) (c : ℕ) (l : List Request) → ((r : Request) → (r.sender ≡ c → ⊥) → P r → Q r) → AllByRecursion P l → AllByRecursion Q (without_sender c l)
+quiet_of : (P Q : Request → Type 0) (c : ℕ) (l : List Request) → ((r : Request) → (r.sender ≡ c → ⊥) → P r → Q r) → AllByRecursion P l
+    → AllByRecursion Q (without_sender c l)
 quiet_of P Q c [] more all = tt
 quiet_of P Q c (x ∷ xs) more all = go (x.sender == c) refl (quiet_of P Q c xs more all.1) where
-  go : (b : Bool) → (x.sender == c) ≡ b → AllByRecursion Q (without_sender c xs) → AllByRecursion Q (if not b then x ∷ without_sender c xs else without_sender c xs)
+  go : (b : Bool) → (x.sender == c) ≡ b → AllByRecursion Q (without_sender c xs)
+      → AllByRecursion Q (if not b then x ∷ without_sender c xs else without_sender c xs)
   go true e later = later
   go false e later = (more x (unequal x.sender c e) all.0, later)
 
@@ -673,7 +699,8 @@ up_start capacity place = (tt, (tt, (tt, (tt, (tt, tt)))))
 pub up_lapsed : (b : Arbiter) (place : ℕ → Seat) → AreUp b.lists place → AreUp (bus_lapsed b).lists place
 up_lapsed b place all = all_emptied (UpAt place) b.lists all
 
-pub up_offered : (b : Arbiter) (place : ℕ → Seat) (r : Request) → AreUp b.lists place → (place r.sender).controller.up ≡ true → AreUp (bus_offered b r).lists place
+pub up_offered : (b : Arbiter) (place : ℕ → Seat) (r : Request) → AreUp b.lists place → (place r.sender).controller.up ≡ true
+    → AreUp (bus_offered b r).lists place
 up_offered b place r all is = all_put (UpAt place) r 1 b.lists all is
 
 pub up_acted : (b : Arbiter) (place : ℕ → Seat) (c : ℕ) (o : Order) → AreUp b.lists place → (place c).controller.up ≡ true → AreUp (bus_acted b c o).lists place
@@ -682,7 +709,8 @@ up_acted b place c o all is = go o (before (gives_up b c o)) where
   before true = up_lapsed b place all
   before false = all
 
-  go : (x : Order) → AreUp (if gives_up b c o then bus_lapsed b else b).lists place → AreUp (put_after (if gives_up b c o then bus_lapsed b else b) c x).lists place
+  go : (x : Order) → AreUp (if gives_up b c o then bus_lapsed b else b).lists place
+      → AreUp (put_after (if gives_up b c o then bus_lapsed b else b) c x).lists place
   go (Put p f) then_all = up_offered (if gives_up b c o then bus_lapsed b else b) place (request_of c p f) then_all is
   go (Commit x) then_all = then_all
   go (Done x) then_all = then_all

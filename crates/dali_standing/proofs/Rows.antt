@@ -1,4 +1,5 @@
-use Rattle.std.proofs.Common.{◌≡◌, ℕ, ◌+◌, ◌<◌, List, [], ◌∷◌, ◌++◌, map, take, drop, length, get_or, set, refl, sym, ap, subst, ◌∙◌, arith, Option, Some, None, Bool, true, false, inl, inr, zero-add}
+use Rattle.std.proofs.Common.{◌≡◌, ℕ, ◌+◌, ◌<◌, List, [], ◌∷◌, ◌++◌, map, take, drop, length, get_or, set, refl, sym, ap, subst, ◌∙◌, arith, Option, Some, None}
+use Rattle.std.proofs.Common.{Bool, true, false, inl, inr, zero-add}
 use Rattle.std.specs.Prelude.{◌&&◌, if◌then◌else◌, zero, suc}
 use Rattle.std.proofs.lemmas.List.{drop-drop, drop_more, drop-set-lt, take_more_set, length-append, append-nil}
 use Rattle.std.proofs.Math.Seq.{take-length, drop-length}
@@ -63,10 +64,13 @@ has_room reach x gs n d gifts whole a here some so_far =
 -- what is left are the numbers that were left, without those that were drawn
 left_is : (reach : Reach) (x : Command) (k : ℕ) (gs : List Gear) (left : List ℕ) → row_left reach x k gs left ≡ drop (draws_needed reach x k gs) left
 left_is reach x k [] left = refl
-left_is reach x k (g ∷ gs) left = left_go (takes reach k g && draws_a_number x g) (row_left reach x (k + 1) gs) (draws_needed reach x (k + 1) gs) left (λ xs. left_is reach x (k + 1) gs xs) where
-  left_go : (b : Bool) (rest : List ℕ → List ℕ) (n : ℕ) (left : List ℕ) → ((xs : List ℕ) → rest xs ≡ drop n xs) → rest (left_after b left) ≡ drop ((if b then 1 else 0) + n) left
-  left_go true rest n left is = is (drop 1 left) ∙ drop-drop n 1 left
-  left_go false rest n left is = is left ∙ ap (λ k. drop k left) (sym (zero-add n))
+left_is reach x k (g ∷ gs) left =
+    left_go (takes reach k g && draws_a_number x g) (row_left reach x (k + 1) gs) (draws_needed reach x (k + 1) gs) left
+    (λ xs. left_is reach x (k + 1) gs xs) where
+      left_go : (b : Bool) (rest : List ℕ → List ℕ) (n : ℕ) (left : List ℕ) → ((xs : List ℕ) → rest xs ≡ drop n xs)
+          → rest (left_after b left) ≡ drop ((if b then 1 else 0) + n) left
+      left_go true rest n left is = is (drop 1 left) ∙ drop-drop n 1 left
+      left_go false rest n left is = is left ∙ ap (λ k. drop k left) (sym (zero-add n))
 
 left_then : (reach : Reach) (x : Command) (gs : List Gear) (draws : List ℕ) (used drawn : ℕ) → drawn ≡ draws_needed reach x 0 gs
     → drop (used + drawn) draws ≡ row_left reach x 0 gs (drop used draws)

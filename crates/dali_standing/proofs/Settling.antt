@@ -1,4 +1,5 @@
-use Rattle.std.proofs.Common.{◌≡◌, ℕ, ◌+◌, ◌<◌, ◌≤◌, ◌⊎◌, inl, inr, Bool, true, false, List, [], ◌∷◌, ◌++◌, refl, sym, ap, subst, ◌∙◌, arith, length, nat_eq, sum_by, is_some, Option, Some, None}
+use Rattle.std.proofs.Common.{◌≡◌, ℕ, ◌+◌, ◌<◌, ◌≤◌, ◌⊎◌, inl, inr, Bool, true, false, List, [], ◌∷◌, ◌++◌, refl, sym, ap, subst, ◌∙◌, arith, length, nat_eq}
+use Rattle.std.proofs.Common.{sum_by, is_some, Option, Some, None}
 use Rattle.std.specs.Prelude.{◌==◌, if◌then◌else◌, zero, suc}
 use Rattle.std.proofs.lemmas.Bool.Decides.{nat_tests}
 use Rattle.std.proofs.lemmas.List.Sums.{sum_by-cons}
@@ -10,7 +11,8 @@ use Rattle.dali_special.specs.Command.{command_of}
 use Rattle.std.specs.Option.{option_map}
 use Rattle.dali_gear.specs.declared.gear_set.GearSet.{GearSet}
 use Rattle.dali_arbiter.specs.declared.request.Request.{Request}
-use Rattle.dali_arbiter.specs.Arbiter.{Arbiter, owns, total, next, request_of, offer_refusal, is_barred, bus_lapsed, first_emptied, collision, bus_collided, bus_destroyed, bus_silenced, bus_freed, bus_muted}
+use Rattle.dali_arbiter.specs.Arbiter.{Arbiter, owns, total, next, request_of, offer_refusal, is_barred, bus_lapsed, first_emptied, collision, bus_collided}
+use Rattle.dali_arbiter.specs.Arbiter.{bus_destroyed, bus_silenced, bus_freed, bus_muted}
 use Rattle.dali_script.specs.declared.block.Block.{Block}
 use Rattle.dali_script.specs.declared.trace.Entry.{Entry}
 use Rattle.dali_events.specs.Plan.{Plan}
@@ -30,13 +32,18 @@ use Rattle.dali_events.specs.Happens.{entry, controller_informed, gives_up, bus_
 use Rattle.dali_events.specs.Allowed.{IsDue, IsCommit, IsArc}
 use Rattle.dali_standing.specs.Seats.{Seat, IsTied, MayAnswer, acted_at, told_at, down_at, up_at, begun_at}
 use Rattle.dali_standing.specs.Standing.{Seated, seat_in, seats_from, empty_seat}
-use Rattle.dali_standing.proofs.Seats.{seat_at, world_of, with_seat, running_in, goes_on_in, owner_lapsed, has_acted, has_offered, has_sent, has_lost, has_collided, has_lapsed, has_gone_down, has_come_up, seated_at}
-use Rattle.dali_standing.specs.Settled.{IsOwning, IsApart, IsPlacedBy, IsPlaced, awaited_requests, awaited_requests_by, IsServed, IsSettled, IsAccepted, Settled}
+use Rattle.dali_standing.proofs.Seats.{seat_at, world_of, with_seat, running_in, goes_on_in, owner_lapsed, has_acted, has_offered, has_sent, has_lost}
+use Rattle.dali_standing.proofs.Seats.{has_collided, has_lapsed, has_gone_down, has_come_up, seated_at}
+use Rattle.dali_standing.specs.Settled.{IsOwning, IsApart, IsPlacedBy, IsPlaced, awaited_requests, awaited_requests_by, IsServed, IsSettled, IsAccepted}
+use Rattle.dali_standing.specs.Settled.{Settled}
 use Rattle.dali_standing.proofs.Acts.{IsLeft, may_order, owner_owns, owner_is, other_owns, committed_last}
 use Rattle.dali_standing.proofs.Moves.{MaySendAt, controller_in, place_here, place_elsewhere, up_there}
 use Rattle.dali_standing.proofs.Placing.{kept_bus, IsOthers, placed_apart, placed_other, placed_acted, acted_other, placed_sent, placed_told}
 use Rattle.dali_arbiter.proofs.Collisions.{collision_differs, rival_next, collided_is}
-use Rattle.dali_standing.proofs.Queues.{Elsewhere, MayAsk, Gone, next_is, next_owned, collision_owned, served_same, served_start, served_sent, served_destroyed, served_lapsed, served_idle, served_silenced, served_offered, served_acted, five_lapsed, five_offered, five_acted, five_destroyed, five_sent, five_silenced, up_more, up_lapsed, up_offered, up_acted, up_destroyed, up_sent, up_silenced, up_start, next_up}
+use Rattle.dali_standing.proofs.Queues.{Elsewhere, MayAsk, Gone, next_is, next_owned, collision_owned, served_same, served_start, served_sent, served_destroyed}
+use Rattle.dali_standing.proofs.Queues.{served_lapsed, served_idle, served_silenced, served_offered, served_acted, five_lapsed, five_offered, five_acted}
+use Rattle.dali_standing.proofs.Queues.{five_destroyed, five_sent, five_silenced, up_more, up_lapsed, up_offered, up_acted, up_destroyed, up_sent, up_silenced}
+use Rattle.dali_standing.proofs.Queues.{up_start, next_up}
 use Rattle.dali_standing.specs.Troubles.{nobody_at_all}
 
 -- BUS AND CONTROLLERS STAY SETTLED, whatever happens on a site.
@@ -49,10 +56,12 @@ places_changed seats c p o o' t t' there here others placed d = go (nat_eq d c) 
   go : (b : Bool) → nat_eq d c ≡ b → IsPlaced (owns o' d) t' (seat_in (with_seat seats c p) d)
   go true e =
       let same : c ≡ d = grind (arith, nat_tests) in
-      subst (λ n. IsPlaced (owns o' n) t' (seat_in (with_seat seats c p) n)) same (subst (λ (q : Seat). IsPlaced (owns o' c) t' q) (sym (place_here seats c p there)) here)
+      subst (λ n. IsPlaced (owns o' n) t' (seat_in (with_seat seats c p) n)) same
+      (subst (λ (q : Seat). IsPlaced (owns o' c) t' q) (sym (place_here seats c p there)) here)
   go false e =
       let other : d ≡ c → ⊥ = grind (arith, nat_tests) in
-      placed_other (owns o d) (owns o' d) t t' (seat_in seats d) (seat_in (with_seat seats c p) d) (place_elsewhere seats c d p other) (others d other) (placed d)
+      placed_other (owns o d) (owns o' d) t t' (seat_in seats d) (seat_in (with_seat seats c p) d) (place_elsewhere seats c d p other) (others d other)
+      (placed d)
 
 elsewhere_changed : (seats : List Seat) (c : ℕ) (p : Seat) → Elsewhere (seat_in seats) (seat_in (with_seat seats c p)) c
 elsewhere_changed seats c p d other = place_elsewhere seats c d p other
@@ -77,7 +86,8 @@ up_changed seats c p there here d up = go (nat_eq d c) refl where
   go : (b : Bool) → nat_eq d c ≡ b → (seat_in (with_seat seats c p) d).controller.up ≡ true
   go true e =
       let same : c ≡ d = grind (arith, nat_tests) in
-      subst (λ n. (seat_in (with_seat seats c p) n).controller.up ≡ true) same (subst (λ (q : Seat). q.controller.up ≡ true) (sym (place_here seats c p there)) here)
+      subst (λ n. (seat_in (with_seat seats c p) n).controller.up ≡ true) same
+      (subst (λ (q : Seat). q.controller.up ≡ true) (sym (place_here seats c p there)) here)
   go false e =
       let other : d ≡ c → ⊥ = grind (arith, nat_tests) in
       subst (λ (q : Seat). q.controller.up ≡ true) (sym (place_elsewhere seats c d p other)) up
@@ -88,7 +98,8 @@ mapped_running (Some m) f = refl
 
 -- ---------------------------------------------------------------- the request that is next
 
-awaits_from : (c : ℕ) (told : Option Input) (last : Option Order) (r : Request) → awaited_requests_by c told last ≡ r ∷ [] → (told ≡ None) × (last ≡ Some (Put r.priority r.frame))
+awaits_from : (c : ℕ) (told : Option Input) (last : Option Order) (r : Request) → awaited_requests_by c told last ≡ r ∷ []
+    → (told ≡ None) × (last ≡ Some (Put r.priority r.frame))
 awaits_from c None None r e = absurd (cc)
 awaits_from c None (Some (Put p f)) r e = let is : request_of c p f ≡ r = cc in (refl, ap (λ (q : Request). Some (Put q.priority q.frame)) is)
 awaits_from c None (Some (Commit x)) r e = absurd (cc)
@@ -101,7 +112,8 @@ pub record IsNextAt (s : Seated) (r : Request) : Type 0 where
   pub up : (seat_at s r.sender).controller.up ≡ true
   pub may : MaySendAt s r.sender r.frame
   pub owner : (d : ℕ) → (d ≡ r.sender → ⊥) → owns s.bus.owner d ≡ false
-  pub kind : ((is_arc (command_of r.frame) ≡ false) × ((seat_at s r.sender).controller.told ≡ None) × ((seat_at s r.sender).controller.last ≡ Some (Put r.priority r.frame)))
+  pub kind : ((is_arc (command_of r.frame) ≡ false) × ((seat_at s r.sender).controller.told ≡ None)
+      × ((seat_at s r.sender).controller.last ≡ Some (Put r.priority r.frame)))
       ⊎ ((is_arc (command_of r.frame) ≡ true) × (s.bus.owner ≡ None))
 
 owning_sends : (t : List Entry) (k : Controller) (m : Option Machine) (p : ℕ) (f : Forward) → k.told ≡ None → k.last ≡ Some (Put p f) → IsPlacedBy true t k m
@@ -110,7 +122,8 @@ owning_sends t k None p f told last placed = absurd (let no : true ≡ false = p
 owning_sends t k (Some m) p f told last placed =
     let known = subst (λ o. IsOwning t k m (Some (Put p f)) o) told (subst (λ l. IsOwning t k m l k.told) last placed) in (known.2, known.3)
 
-apart_sends : (t : List Entry) (k : Controller) (m : Option Machine) (p : ℕ) (f : Forward) → k.told ≡ None → k.last ≡ Some (Put p f) → IsPlacedBy false t k m → IsFirst f
+apart_sends : (t : List Entry) (k : Controller) (m : Option Machine) (p : ℕ) (f : Forward) → k.told ≡ None → k.last ≡ Some (Put p f) → IsPlacedBy false t k m
+    → IsFirst f
 apart_sends t k None p f told last placed = absurd (let no : k.last ≡ None = placed.1 in cc)
 apart_sends t k (Some m) p f told last placed =
     let known = subst (λ o. IsApart k m (Some (Put p f)) o) told (subst (λ l. IsApart k m l k.told) last placed) in known.2
@@ -124,13 +137,19 @@ owned_next s r d settled first own =
     let owned = next_owned s.bus (seat_in s.seats) r d settled.served first own in
     let is : d ≡ r.sender = sym owned.0 in
     let mine : s.bus.owner ≡ Some r.sender = own ∙ ap Some is in
-    let awaits : awaited_requests r.sender (seat_at s r.sender).controller ≡ r ∷ [] = subst (λ n. awaited_requests n (seat_at s n).controller ≡ r ∷ []) is owned.1 in
+    let awaits : awaited_requests r.sender (seat_at s r.sender).controller ≡ r ∷ [] =
+    subst (λ n. awaited_requests n (seat_at s n).controller ≡ r ∷ []) is owned.1 in
     let put = awaits_from r.sender (seat_at s r.sender).controller.told (seat_at s r.sender).controller.last r awaits in
-    let placed : IsPlaced true s.trace (seat_at s r.sender) = subst (λ b. IsPlaced b s.trace (seat_at s r.sender)) (owner_owns s.bus.owner r.sender mine) (settled.places r.sender) in
+    let placed : IsPlaced true s.trace (seat_at s r.sender) =
+    subst (λ b. IsPlaced b s.trace (seat_at s r.sender)) (owner_owns s.bus.owner r.sender mine) (settled.places r.sender) in
     let sends = owning_sends s.trace (seat_at s r.sender).controller (seat_at s r.sender).machine r.priority r.frame put.0 put.1 placed in
     record {
       up = next_up s.bus (seat_in s.seats) r settled.up first;
-      may = λ drawn. inl (mine, subst (λ (k : Controller). Lawful k.records.block k.records.reserved s.trace r.frame) (sym (controller_in s.seats r.sender)) sends.0);
+      may = λ drawn. inl (
+        mine,
+        subst (λ (k : Controller). Lawful k.records.block k.records.reserved s.trace r.frame)
+            (sym (controller_in s.seats r.sender)) sends.0,
+      );
       owner = λ e other. other_owns s.bus.owner r.sender e other mine;
       kind = inl (sends.1, put.0, put.1);
     }
@@ -150,7 +169,8 @@ free_next s r settled first free = go (is_arc (command_of r.frame)) refl where
   go false scripted =
       let awaits = next_is s.bus (seat_in s.seats) r settled.served first scripted in
       let put = awaits_from r.sender (seat_at s r.sender).controller.told (seat_at s r.sender).controller.last r awaits in
-      let placed : IsPlaced false s.trace (seat_at s r.sender) = subst (λ b. IsPlaced b s.trace (seat_at s r.sender)) (none_owns r.sender) (settled.places r.sender) in
+      let placed : IsPlaced false s.trace (seat_at s r.sender) =
+      subst (λ b. IsPlaced b s.trace (seat_at s r.sender)) (none_owns r.sender) (settled.places r.sender) in
       record {
         up = next_up s.bus (seat_in s.seats) r settled.up first;
         may = λ drawn. inr (free, apart_sends s.trace (seat_at s r.sender).controller (seat_at s r.sender).machine r.priority r.frame put.0 put.1 placed);
@@ -180,9 +200,11 @@ arc_ends : (s : Seated) (r : Request) (h : Answer) → is_arc (command_of r.fram
     → goes_on_in s r.sender (running_in s r.sender ++ entry r.frame h ∷ []) ≡ false
 arc_ends s r h arc free = rw free (arc_is_over (seat_at s r.sender).controller.records r.frame h arc)
 
-arc_more : (s : Seated) (r : Request) (h : Answer) → IsNextAt s r → is_arc (command_of r.frame) ≡ true → goes_on_in s r.sender (running_in s r.sender ++ entry r.frame h ∷ []) ≡ false
+arc_more : (s : Seated) (r : Request) (h : Answer) → IsNextAt s r → is_arc (command_of r.frame) ≡ true
+    → goes_on_in s r.sender (running_in s r.sender ++ entry r.frame h ∷ []) ≡ false
 arc_more s r h n arc = go n.kind where
-  go : ((is_arc (command_of r.frame) ≡ false) × ((seat_at s r.sender).controller.told ≡ None) × ((seat_at s r.sender).controller.last ≡ Some (Put r.priority r.frame)))
+  go : ((is_arc (command_of r.frame) ≡ false) × ((seat_at s r.sender).controller.told ≡ None)
+      × ((seat_at s r.sender).controller.last ≡ Some (Put r.priority r.frame)))
       ⊎ ((is_arc (command_of r.frame) ≡ true) × (s.bus.owner ≡ None)) → goes_on_in s r.sender (running_in s r.sender ++ entry r.frame h ∷ []) ≡ false
   go (inl k) = absurd (let no = k.0 in cc)
   go (inr k) = arc_ends s r h arc k.1
@@ -216,9 +238,11 @@ left_asks w c k m (Halt why) is = tt
 pub may_ask : (w : World) (c : ℕ) (p : Seat) (i : Input) (o : Order) → IsDue p.controller i → IsTied p.controller p.machine → MayAnswer p.machine i o
     → IsPlaced (owns w.bus.owner c) w.trace p → MayAsk w.bus.owner c o
 may_ask w c p i o due tied answer placed = go p.machine tied answer placed where
-  go : (m : Option Machine) → IsTied p.controller m → MayAnswer m i o → IsPlaced (owns w.bus.owner c) w.trace (record { controller = p.controller; machine = m }) → MayAsk w.bus.owner c o
+  go : (m : Option Machine) → IsTied p.controller m → MayAnswer m i o
+      → IsPlaced (owns w.bus.owner c) w.trace (record { controller = p.controller; machine = m }) → MayAsk w.bus.owner c o
   go None tied answer placed = elim answer [ ]
-  go (Some m) tied answer placed = left_asks w c (controller_informed p.controller i) (machine_after m i o) o (may_order w c p.controller m i o due tied answer.answered placed).left
+  go (Some m) tied answer placed =
+      left_asks w c (controller_informed p.controller i) (machine_after m i o) o (may_order w c p.controller m i o due tied answer.answered placed).left
 
 emptied_less : (lists : List (List Request)) → sum_by length (first_emptied lists) ≤ sum_by length lists
 emptied_less [] = omega arith
@@ -259,7 +283,8 @@ settled_acted s c i o settled up due tied answer =
       five = five_acted s.bus c o settled.five;
       running = running_changed s.seats c p there (settled.running c ∙ sym (mapped_running (seat_at s c).machine (λ m. machine_after m i o))) settled.running;
       places = places_changed s.seats c p s.bus.owner (bus_acted s.bus c o).owner s.trace (if gives_up s.bus c o then [] else s.trace) there
-          (placed_acted (world_of s []) c (seat_at s c) i o due tied answer (settled.places c)) (λ d other. acted_other s.bus s.trace c d o other) settled.places;
+          (placed_acted (world_of s []) c (seat_at s c) i o due tied answer (settled.places c))
+          (λ d other. acted_other s.bus s.trace c d o other) settled.places;
       served = served_acted s.bus (seat_in s.seats) (seat_in (with_seat s.seats c p)) c o settled.five settled.served (elsewhere_changed s.seats c p)
           (due_awaits c (seat_at s c).controller i due) (ap (λ (q : Seat). awaited_requests c q.controller) (place_here s.seats c p there)) asks;
       up = up_more (bus_acted s.bus c o).lists (seat_in s.seats) (seat_in (with_seat s.seats c p)) (up_changed s.seats c p there up)
@@ -290,7 +315,8 @@ gone_sender s r p n scripted arc = go n.kind where
   here : seat_in (with_seat s.seats r.sender p) r.sender ≡ p
   here = place_here s.seats r.sender p there
 
-  go : ((is_arc (command_of r.frame) ≡ false) × ((seat_at s r.sender).controller.told ≡ None) × ((seat_at s r.sender).controller.last ≡ Some (Put r.priority r.frame)))
+  go : ((is_arc (command_of r.frame) ≡ false) × ((seat_at s r.sender).controller.told ≡ None)
+      × ((seat_at s r.sender).controller.last ≡ Some (Put r.priority r.frame)))
       ⊎ ((is_arc (command_of r.frame) ≡ true) × (s.bus.owner ≡ None)) → Gone s.bus.owner (seat_in s.seats) (seat_in (with_seat s.seats r.sender p)) r
   go (inl k) = inl (k.0, ap (λ (q : Seat). awaited_requests r.sender q.controller) here ∙ scripted k.0)
   go (inr k) = inr (k.0, here ∙ arc k.0, k.1)
@@ -305,12 +331,14 @@ sent_here : (s : Seated) (r : Request) (h : Answer) (n : IsNextAt s r) → IsPla
     (if goes_on_in s r.sender (running_in s r.sender ++ entry r.frame h ∷ []) then running_in s r.sender ++ entry r.frame h ∷ [] else [])
     (told_at (told_sent (running_in s r.sender) r.frame h) (seat_at s r.sender))
 sent_here s r h n placed = go n.kind where
-  go : ((is_arc (command_of r.frame) ≡ false) × ((seat_at s r.sender).controller.told ≡ None) × ((seat_at s r.sender).controller.last ≡ Some (Put r.priority r.frame)))
+  go : ((is_arc (command_of r.frame) ≡ false) × ((seat_at s r.sender).controller.told ≡ None)
+      × ((seat_at s r.sender).controller.last ≡ Some (Put r.priority r.frame)))
       ⊎ ((is_arc (command_of r.frame) ≡ true) × (s.bus.owner ≡ None))
       → IsPlaced (owns (if goes_on_in s r.sender (running_in s r.sender ++ entry r.frame h ∷ []) then Some r.sender else None) r.sender)
       (if goes_on_in s r.sender (running_in s r.sender ++ entry r.frame h ∷ []) then running_in s r.sender ++ entry r.frame h ∷ [] else [])
       (told_at (told_sent (running_in s r.sender) r.frame h) (seat_at s r.sender))
-  go (inl k) = placed_sent s.bus.owner r.sender s.trace (seat_at s r.sender) r.priority r.frame h (goes_on_in s r.sender (running_in s r.sender ++ entry r.frame h ∷ [])) k.0 k.1 k.2 placed refl
+  go (inl k) = placed_sent s.bus.owner r.sender s.trace (seat_at s r.sender) r.priority r.frame h
+      (goes_on_in s r.sender (running_in s r.sender ++ entry r.frame h ∷ [])) k.0 k.1 k.2 placed refl
   go (inr k) =
       let over : goes_on_in s r.sender (running_in s r.sender ++ entry r.frame h ∷ []) ≡ false = arc_ends s r h k.0 k.1 in
       rw over (subst (λ (q : Seat). IsPlaced false [] q) (sym (arc_tells (running_in s r.sender) r.frame h (seat_at s r.sender) k.0))
@@ -325,10 +353,13 @@ settled_sent s r h settled first =
     record {
       five = five_sent s.bus r.sender more settled.five;
       running = running_changed s.seats r.sender p there (settled.running r.sender) settled.running;
-      places = places_changed s.seats r.sender p s.bus.owner (if more then Some r.sender else None) s.trace (if more then running_in s r.sender ++ entry r.frame h ∷ [] else []) there
-          (sent_here s r h n (settled.places r.sender)) (λ d other. others_after s r n more s.trace (if more then running_in s r.sender ++ entry r.frame h ∷ [] else []) d other) settled.places;
+      places = places_changed s.seats r.sender p s.bus.owner (if more then Some r.sender else None) s.trace
+          (if more then running_in s r.sender ++ entry r.frame h ∷ [] else []) there
+          (sent_here s r h n (settled.places r.sender))
+          (λ d other. others_after s r n more s.trace (if more then running_in s r.sender ++ entry r.frame h ∷ [] else []) d other) settled.places;
       served = served_sent s.bus (seat_in s.seats) (seat_in (with_seat s.seats r.sender p)) r more settled.served first (elsewhere_changed s.seats r.sender p)
-          (gone_sender s r p n (λ scripted. told_awaits r.sender p.controller.told p.controller.last (input.Heard h) (rw scripted refl)) (λ arc. arc_tells (running_in s r.sender) r.frame h (seat_at s r.sender) arc))
+          (gone_sender s r p n (λ scripted. told_awaits r.sender p.controller.told p.controller.last (input.Heard h) (rw scripted refl))
+          (λ arc. arc_tells (running_in s r.sender) r.frame h (seat_at s r.sender) arc))
           (arc_more s r h n);
       up = up_more (sent_by s.bus r.sender more).lists (seat_in s.seats) (seat_in (with_seat s.seats r.sender p)) (up_changed s.seats r.sender p there n.up)
           (up_sent s.bus (seat_in s.seats) r.sender more settled.up);
@@ -337,9 +368,11 @@ settled_sent s r h settled first =
 lost_here : (s : Seated) (r : Request) (n : IsNextAt s r) → IsPlaced (owns s.bus.owner r.sender) s.trace (seat_at s r.sender)
     → IsPlaced false [] (told_at (told_destroyed r.frame) (seat_at s r.sender))
 lost_here s r n placed = go n.kind where
-  go : ((is_arc (command_of r.frame) ≡ false) × ((seat_at s r.sender).controller.told ≡ None) × ((seat_at s r.sender).controller.last ≡ Some (Put r.priority r.frame)))
+  go : ((is_arc (command_of r.frame) ≡ false) × ((seat_at s r.sender).controller.told ≡ None)
+      × ((seat_at s r.sender).controller.last ≡ Some (Put r.priority r.frame)))
       ⊎ ((is_arc (command_of r.frame) ≡ true) × (s.bus.owner ≡ None)) → IsPlaced false [] (told_at (told_destroyed r.frame) (seat_at s r.sender))
-  go (inl k) = placed_told s.trace [] (owns s.bus.owner r.sender) (seat_at s r.sender) (told_at (told_destroyed r.frame) (seat_at s r.sender)) r.priority r.frame input.Destroyed placed k.2 refl refl
+  go (inl k) = placed_told s.trace [] (owns s.bus.owner r.sender) (seat_at s r.sender)
+      (told_at (told_destroyed r.frame) (seat_at s r.sender)) r.priority r.frame input.Destroyed placed k.2 refl refl
       (rw k.0 refl) (inl refl)
   go (inr k) = subst (λ (q : Seat). IsPlaced false [] q) (sym (arc_loses r.frame (seat_at s r.sender) k.0))
       (placed_apart s.trace [] (seat_at s r.sender) (subst (λ o. IsPlaced (owns o r.sender) s.trace (seat_at s r.sender)) k.1 placed))
@@ -355,7 +388,8 @@ settled_lost s r set settled first =
       places = places_changed s.seats r.sender p s.bus.owner None s.trace [] there (lost_here s r n (settled.places r.sender))
           (λ d other. others_after s r n false s.trace [] d other) settled.places;
       served = served_destroyed s.bus (seat_in s.seats) (seat_in (with_seat s.seats r.sender p)) r settled.served first (elsewhere_changed s.seats r.sender p)
-          (gone_sender s r p n (λ scripted. told_awaits r.sender p.controller.told p.controller.last input.Destroyed (rw scripted refl)) (λ arc. arc_loses r.frame (seat_at s r.sender) arc));
+          (gone_sender s r p n (λ scripted. told_awaits r.sender p.controller.told p.controller.last input.Destroyed (rw scripted refl))
+          (λ arc. arc_loses r.frame (seat_at s r.sender) arc));
       up = up_more (bus_destroyed s.bus).lists (seat_in s.seats) (seat_in (with_seat s.seats r.sender p)) (up_changed s.seats r.sender p there n.up)
           (up_destroyed s.bus (seat_in s.seats) settled.up);
     }
@@ -404,7 +438,8 @@ settled_collided s r q settled first both =
 
 owning_put : (t : List Entry) (p : Seat) → IsPlaced true t p → (q : ℕ) × (f : Forward) × (p.controller.last ≡ Some (Put q f))
 owning_put t p placed = go p.machine p.controller.last refl p.controller.told refl placed where
-  go : (m : Option Machine) (last : Option Order) → p.controller.last ≡ last → (told : Option Input) → p.controller.told ≡ told → IsPlacedBy true t p.controller m
+  go : (m : Option Machine) (last : Option Order) → p.controller.last ≡ last → (told : Option Input) → p.controller.told ≡ told
+      → IsPlacedBy true t p.controller m
       → (q : ℕ) × (f : Forward) × (p.controller.last ≡ Some (Put q f))
   go None last e told is placed = absurd (let no : true ≡ false = placed.0 in cc)
   go (Some m) (Some (Put q f)) e told is placed = (q, f, e)
@@ -445,7 +480,8 @@ settled_lapsed s settled = go s.bus.owner refl where
             (λ d other. inr (other_owns s.bus.owner c d other own, refl)) settled.places;
         served = served_lapsed s.bus (seat_in s.seats) (seat_in (with_seat s.seats c p)) c settled.served own (elsewhere_changed s.seats c p)
             (ap (λ (q : Seat). awaited_requests c q.controller) (place_here s.seats c p there));
-        up = up_more (bus_lapsed s.bus).lists (seat_in s.seats) (seat_in (with_seat s.seats c p)) (up_changed s.seats c p there put.0) (up_lapsed s.bus (seat_in s.seats) settled.up);
+        up = up_more (bus_lapsed s.bus).lists (seat_in s.seats) (seat_in (with_seat s.seats c p)) (up_changed s.seats c p there put.0)
+            (up_lapsed s.bus (seat_in s.seats) settled.up);
       }
 
 -- ---------------------------------------------------------------- controllers go down and come up
@@ -477,7 +513,8 @@ settled_down s c settled up =
     }
 
 -- a controller that is down waits for nothing, and does not own the bus
-down_rests : (s : Seated) (c : ℕ) → Settled s → (seat_at s c).controller.up ≡ false → (owns s.bus.owner c ≡ false) × (awaited_requests c (seat_at s c).controller ≡ [])
+down_rests : (s : Seated) (c : ℕ) → Settled s → (seat_at s c).controller.up ≡ false
+    → (owns s.bus.owner c ≡ false) × (awaited_requests c (seat_at s c).controller ≡ [])
 down_rests s c settled down = go (seat_at s c).machine refl (settled.places c) where
   none_awaits : (told : Option Input) → awaited_requests_by c told None ≡ []
   none_awaits None = refl
@@ -504,7 +541,8 @@ settled_up s c kept settled there down =
 -- ---------------------------------------------------------------- the start
 
 -- each place at the start is that of a controller that has not begun, or an empty one
-begun_or_empty : (P : Seat → Type 0) → ((c : ℕ) (b : Block) → P (begun_at c b)) → P empty_seat → (d : ℕ) (bs : List Block) (c : ℕ) → P (seat_in (seats_from d bs) c)
+begun_or_empty : (P : Seat → Type 0) → ((c : ℕ) (b : Block) → P (begun_at c b)) → P empty_seat → (d : ℕ) (bs : List Block) (c : ℕ)
+    → P (seat_in (seats_from d bs) c)
 begun_or_empty P begun empty d [] c = empty
 begun_or_empty P begun empty d (b ∷ bs) zero = begun d b
 begun_or_empty P begun empty d (b ∷ bs) (suc c) = begun_or_empty P begun empty (d + 1) bs c
@@ -514,6 +552,7 @@ settled_start p capacity = record {
   five = refl;
   running = λ c. begun_or_empty (λ q. q.controller.up ≡ is_some q.machine) (λ d b. refl) refl 0 p.blocks c;
   places = λ c. begun_or_empty (λ q. IsPlaced false [] q) (λ d b. refl) (refl, refl) 0 p.blocks c;
-  served = served_start capacity (seat_in (seats_from 0 p.blocks)) (λ c. begun_or_empty (λ q. awaited_requests c q.controller ≡ []) (λ d b. refl) refl 0 p.blocks c);
+  served = served_start capacity (seat_in (seats_from 0 p.blocks))
+      (λ c. begun_or_empty (λ q. awaited_requests c q.controller ≡ []) (λ d b. refl) refl 0 p.blocks c);
   up = up_start capacity (seat_in (seats_from 0 p.blocks));
 }

@@ -115,7 +115,14 @@ machines_after w ms (event.Acted c i o) =
 machines_after w ms (event.Down c) = slice_set ms c None
 machines_after w ms (event.Up c kept) =
     slice_set ms c (Some (at_first c (come_up kept (controller_at w c)).records))
-machines_after w ms _ = ms
+machines_after w ms (event.Offered c f) = ms
+machines_after w ms (event.Sent c f h) = ms
+machines_after w ms (event.Destroyed c f set) = ms
+machines_after w ms (event.Collided c f d g) = ms
+machines_after w ms event.Lapsed = ms
+machines_after w ms event.Quiet = ms
+machines_after w ms (event.Power g on) = ms
+machines_after w ms (event.Expired g) = ms
 
 -- the machines of controllers that have these blocks, from controller c on, before their start
 abbrev pub machines_at : ℕ → List Block → List (Option Machine)

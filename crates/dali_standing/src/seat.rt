@@ -73,7 +73,9 @@ impl Seat {
     {
         match input {
             Input::Committed | Input::CommitFailed => matches!(self.last(), Some(Order::Commit(_))),
-            _ => self.told == Some(input),
+            Input::Start | Input::Heard(_) | Input::Destroyed | Input::Lapsed => {
+                self.told == Some(input)
+            }
         }
     }
 

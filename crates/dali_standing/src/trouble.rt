@@ -32,7 +32,39 @@ pub enum Report {
 }
 
 impl Trouble {
+    ghost use Rattle.std.specs.Prelude.{IfSome, Some};
     ghost use Rattle.dali_standing.specs.Troubles.{heard_under, reach_under};
+    ghost use Rattle.dali_standing.specs.Troubles.{trouble_name, trouble_named, destroying_named, StandsAlone};
+
+    /// The trouble with a name in a script, of those that stand alone: `lost`, `noise` or `collision`.
+    pub fn of_name(name: &[u8]) -> Option<Trouble>
+        ensures value { result ≡ trouble_named name.now }
+        ensures named { IfSome result (λ trouble. trouble_name trouble ≡ name.now) }
+        ensures read { (trouble : Trouble) → StandsAlone trouble → trouble_name trouble ≡ name.now
+            → result ≡ Some trouble }
+    {
+        if name == b"lost".as_slice() {
+            Some(Trouble::AnswerLost)
+        } else if name == b"noise".as_slice() {
+            Some(Trouble::Noise)
+        } else if name == b"collision".as_slice() {
+            Some(Trouble::Collision)
+        } else {
+            None
+        }
+    }
+
+    /// The trouble with a name before a set of gear: `destroyed`.
+    pub fn of_name_and_set(name: &[u8], set: GearSet) -> Option<Trouble>
+        ensures value { result ≡ destroying_named name.now set }
+        ensures named { IfSome result (λ trouble. trouble_name trouble ≡ name.now) }
+    {
+        if name == b"destroyed".as_slice() {
+            Some(Trouble::Destroyed(set))
+        } else {
+            None
+        }
+    }
 
     /// Which gear a frame reaches.
     pub fn reach(&self) -> Reach

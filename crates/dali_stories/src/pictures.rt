@@ -225,7 +225,7 @@ fn a_page_says_what_was_found(rt: HostRuntime) -> Result<(), Fail> {
 event 34: controller 0 heard FF, asks at priority 3 to send B11F SEARCHADDRH
 event 218: controller 0 heard FF, commits: reserve short address 0 for 123456
 event 233: controller 0 heard silence, commits: enrol short address 0 for 123456
-event 444: controller 0 heard silence, done: block full
+event 444: controller 0 heard silence, done: block-full
 ",
     )
 }

@@ -23,5 +23,6 @@ none_large (x ∷ xs) below =
     rw (small, none_large xs (λ k d inside. below (suc k) d (omega arith))) refl
 
 -- so a plan is refused with them only where it is refused without them
-pub refused_without : (gear : ℕ) (blocks : List (ℕ × ℕ)) (most : ℕ) (numbers : List ℕ) → AreDrawn most numbers → StandOnce numbers → refusal_of gear blocks numbers ≡ refusal_of gear blocks []
+pub refused_without : (gear : ℕ) (blocks : List (ℕ × ℕ)) (most : ℕ) (numbers : List ℕ) → AreDrawn most numbers → StandOnce numbers
+    → refusal_of gear blocks numbers ≡ refusal_of gear blocks []
 refused_without gear blocks most numbers drawn once = rw (none_large numbers drawn.below, once) refl

@@ -2,30 +2,27 @@
 
 use dali_line::Outcome;
 use dali_replay::{push_gear, push_table};
-use dali_script::{End, Fault};
 use dali_world::SiteState;
 use std::alloc::{AllocError, Global};
 
-fn outcome_name(outcome: Outcome) -> &'static str {
+/// How a worker ended: what is said before the name of it, and the name.
+fn outcome_words(outcome: Outcome) -> (&'static str, &'static str) {
     match outcome {
-        Outcome::Ended(End::AllFound) => "all-found",
-        Outcome::Ended(End::BlockFull) => "block-full",
-        Outcome::Ended(End::GaveUp) => "gave-up",
-        Outcome::Halted(Fault::Conflict) => "halt conflict",
-        Outcome::Halted(Fault::Store) => "halt store",
-        Outcome::Down => "down",
-        Outcome::Refused(_) => "refused",
-        Outcome::TurnsSpent => "turns-spent",
-        Outcome::Stopped => "stopped",
-        Outcome::NoMemory => "no-memory",
+        Outcome::Ended(end) => ("", end.name()),
+        Outcome::Halted(fault) => ("halt ", fault.name()),
+        Outcome::Down => ("", "down"),
+        Outcome::Refused(_) => ("", "refused"),
+        Outcome::TurnsSpent => ("", "turns-spent"),
+        Outcome::Stopped => ("", "stopped"),
+        Outcome::NoMemory => ("", "no-memory"),
     }
 }
 
 /// How each worker ended, in order of the controllers' numbers.
 fn push_outcomes(text: &mut String, outcomes: &[Outcome]) -> Result<(), AllocError> {
     for (c, outcome) in outcomes.iter().enumerate() {
-        let name = outcome_name(*outcome);
-        write!(text, "controller {c}: {name}\n")?;
+        let (before, name) = outcome_words(*outcome);
+        write!(text, "controller {c}: {before}{name}\n")?;
     }
     Ok(())
 }

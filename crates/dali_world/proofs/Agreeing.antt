@@ -19,7 +19,8 @@ use Rattle.dali_events.specs.Laws.{HasFound, FindingsAgree}
 use Rattle.dali_events.proofs.Agreeing.{findings_agree_in}
 use Rattle.dali_standing.specs.Seats.{IsRunning}
 use Rattle.dali_standing.specs.Settled.{IsPlacedBy}
-use Rattle.dali_standing.proofs.Acts.{start_first, IsOfBus, IsPut, bus_put, committed_last, told_accepted, placed_start, placed_commit, later_some, bus_kept, found_told}
+use Rattle.dali_standing.proofs.Acts.{start_first, IsOfBus, IsPut, bus_put, committed_last, told_accepted, placed_start, placed_commit, later_some, bus_kept}
+use Rattle.dali_standing.proofs.Acts.{found_told}
 
 -- NO MACHINE OF A SITE HALTS WITH A CONFLICT.
 
@@ -31,16 +32,21 @@ IsItsFinding k t x = (k.finding ≡ Some x) × (t.kept ≡ k.records)
 none_found : (k : Controller) (t : Machine) (x : Finding) → t.trace ≡ [] → finding_of t.trace ≡ Some x → IsItsFinding k t x
 none_found k t x none found = absurd (let no : finding_of [] ≡ Some x = subst (λ u. finding_of u ≡ Some x) none found in cc)
 
-found_bus : (k : Controller) (m : Machine) (i : Input) (x : Finding) → IsOfBus i → k.told ≡ Some i → IsRunning k m → finding_of (machine_told m i).trace ≡ Some x
+found_bus : (k : Controller) (m : Machine) (i : Input) (x : Finding) → IsOfBus i → k.told ≡ Some i → IsRunning k m
+    → finding_of (machine_told m i).trace ≡ Some x
     → IsItsFinding k (machine_told m i) x
 found_bus k m i x bus is tied found =
-    let put : IsPut k.last = bus_put i k.last bus (told_accepted k.last k.told i is tied.told) in
-    (later_some k.finding (finding_of (machine_told m i).trace) x found (found_told k m i is tied.found), bus_kept m i put.0 put.1 bus (tied.last ∙ put.2) ∙ tied.kept)
+    let put : IsPut k.last = bus_put i k.last bus (told_accepted k.last k.told i is tied.told) in (
+      later_some k.finding (finding_of (machine_told m i).trace) x found (found_told k m i is tied.found),
+      bus_kept m i put.0 put.1 bus (tied.last ∙ put.2)
+          ∙ tied.kept,
+    )
 
 committed_trace : (m : Machine) (x : Record) → m.last ≡ Some (Commit x) → (machine_told m input.Committed).trace ≡ m.trace
 committed_trace m x e = rw e refl
 
-its_finding : (owning : Bool) (t : List Entry) (k : Controller) (m : Machine) (i : Input) (x : Finding) → IsDue k i → IsRunning k m → IsPlacedBy owning t k (Some m)
+its_finding : (owning : Bool) (t : List Entry) (k : Controller) (m : Machine) (i : Input) (x : Finding) → IsDue k i → IsRunning k m
+    → IsPlacedBy owning t k (Some m)
     → finding_of (machine_told m i).trace ≡ Some x → IsItsFinding k (machine_told m i) x
 its_finding owning t k m (input.Heard h) x due tied placed found = found_bus k m (input.Heard h) x tt due tied found
 its_finding owning t k m input.Destroyed x due tied placed found = found_bus k m input.Destroyed x tt due tied found
@@ -63,7 +69,8 @@ not_contradicted w c b r agree found (inr other) =
 pair_is : (p : Assignment) → p ≡ (p.0, p.1)
 pair_is p = refl
 
-no_conflict_at : (w : World) (c : ℕ) (m : Machine) (i : Input) (owning : Bool) (t : List Entry) → FindingsAgree w → c < length w.controllers → IsDue (controller_at w c) i
+no_conflict_at : (w : World) (c : ℕ) (m : Machine) (i : Input) (owning : Bool) (t : List Entry) → FindingsAgree w → c < length w.controllers
+    → IsDue (controller_at w c) i
     → IsRunning (controller_at w c) m → IsPlacedBy owning t (controller_at w c) (Some m) → IsOrdered (machine_told m i) (Halt fault.Conflict) → ⊥
 no_conflict_at w c m i owning t agree there due tied placed order =
     let cause = order.caused in

@@ -35,7 +35,8 @@ kept_block k input.Lapsed = refl
 kept_block k input.CommitFailed = refl
 
 -- what is reserved after an input fits, and so does its release
-with_outstanding_fits : (k : Kept) (o : Option Record) (a r : ℕ) → IsKept k → ((x : Record) → o ≡ Some x → Fits k.block x) → Has (with_outstanding k o).reserved (a, r) → Fits k.block (Release a r)
+with_outstanding_fits : (k : Kept) (o : Option Record) (a r : ℕ) → IsKept k → ((x : Record) → o ≡ Some x → Fits k.block x)
+    → Has (with_outstanding k o).reserved (a, r) → Fits k.block (Release a r)
 with_outstanding_fits k None a r kept new has = reserved_fits k a r kept has
 with_outstanding_fits k (Some (Enrol b n)) a r kept new has = reserved_fits k a r kept has
 with_outstanding_fits k (Some (Release b n)) a r kept new has = reserved_fits k a r kept (without_has (b, n) k.reserved (a, r) has)
@@ -44,7 +45,8 @@ with_outstanding_fits k (Some (Reserve b n)) a r kept new has = go (has_cases k.
   go (inl there) = reserved_fits k a r kept there
   go (inr same) = subst (λ (p : Assignment). Fits k.block (Release p.0 p.1)) same (new (Reserve b n) refl)
 
-released_fits : (k : Controller) (i : Input) (a r : ℕ) → IsKept k.records → ((x : Record) → k.outstanding ≡ Some x → Fits k.records.block x) → Has (kept_after k i).reserved (a, r)
+released_fits : (k : Controller) (i : Input) (a r : ℕ) → IsKept k.records → ((x : Record) → k.outstanding ≡ Some x → Fits k.records.block x)
+    → Has (kept_after k i).reserved (a, r)
     → Fits k.records.block (Release a r)
 released_fits k input.Committed a r kept new has = with_outstanding_fits k.records k.outstanding a r kept new has
 released_fits k input.Start a r kept new has = reserved_fits k.records a r kept has
@@ -53,13 +55,15 @@ released_fits k input.Destroyed a r kept new has = reserved_fits k.records a r k
 released_fits k input.Lapsed a r kept new has = reserved_fits k.records a r kept has
 released_fits k input.CommitFailed a r kept new has = reserved_fits k.records a r kept has
 
-fits_commit : (k : Controller) (i : Input) (b : Block) (x : Record) → k.records.block ≡ b → IsKept k.records → ((y : Record) → k.outstanding ≡ Some y → Fits k.records.block y)
+fits_commit : (k : Controller) (i : Input) (b : Block) (x : Record) → k.records.block ≡ b → IsKept k.records
+    → ((y : Record) → k.outstanding ≡ Some y → Fits k.records.block y)
     → MayCommit (controller_informed k i) x → Fits b x
 fits_commit k i b (Reserve a r) is kept new may = (subst (λ (c : Block). InBlock c a) (kept_block k i ∙ is) may.0, may.1)
 fits_commit k i b (Enrol a r) is kept new may = may.1
 fits_commit k i b (Release a r) is kept new may = subst (λ (c : Block). Fits c (Release a r)) is (released_fits k i a r kept new may.0)
 
-fits_order : (w : World) (c : ℕ) (k : Controller) (i : Input) (b : Block) (o : Order) → k.records.block ≡ b → IsKept k.records → ((y : Record) → k.outstanding ≡ Some y → Fits k.records.block y)
+fits_order : (w : World) (c : ℕ) (k : Controller) (i : Input) (b : Block) (o : Order) → k.records.block ≡ b → IsKept k.records
+    → ((y : Record) → k.outstanding ≡ Some y → Fits k.records.block y)
     → MayOrder w c (controller_informed k i) o → IfSome (record_ordered (Some o)) (Fits b)
 fits_order w c k i b (Put p f) is kept new may = tt
 fits_order w c k i b (Commit x) is kept new may = fits_commit k i b x is kept new may.1

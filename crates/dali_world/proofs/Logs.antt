@@ -1,4 +1,5 @@
-use Rattle.std.proofs.Common.{◌≡◌, ℕ, ◌+◌, ◌<◌, ◌≤◌, ◌⊎◌, inl, inr, Bool, true, false, List, [], ◌∷◌, ◌++◌, refl, sym, ap, subst, ◌∙◌, arith, length, length-append, length-set, set, get_or, get_or-set_same, get_or-set_other, nat_eq, Option, Some, None}
+use Rattle.std.proofs.Common.{◌≡◌, ℕ, ◌+◌, ◌<◌, ◌≤◌, ◌⊎◌, inl, inr, Bool, true, false, List, [], ◌∷◌, ◌++◌, refl, sym, ap, subst, ◌∙◌, arith, length}
+use Rattle.std.proofs.Common.{length-append, length-set, set, get_or, get_or-set_same, get_or-set_other, nat_eq, Option, Some, None}
 use Rattle.std.specs.Prelude.{◌==◌, if◌then◌else◌, zero, suc}
 use Rattle.std.proofs.lemmas.Bool.Decides.{nat_tests}
 use Rattle.std.proofs.lemmas.List.{length-map, length-replicate, append-nil}
@@ -35,14 +36,16 @@ use Rattle.dali_standing.specs.Settled.{IsPlacedBy, IsPlacedOn}
 use Rattle.dali_world.proofs.Agreeing.{no_conflict}
 use Rattle.dali_script.specs.declared.orders.Order.TheVariants.{Halt}
 use Rattle.dali_script.specs.declared.orders.Fault.TheVariants as fault
-use Rattle.dali_world.specs.Site.{SiteState, world, site_logged, machines_all, machines, machine_at, is_step_of, share_of, IsSite, opened_site, HasRoom, IsCrowded, Logs, Receipt, HasActed, IsSpent, IsSendable}
+use Rattle.dali_world.specs.Site.{SiteState, world, site_logged, machines_all, machines, machine_at, is_step_of, share_of, IsSite, opened_site, HasRoom}
+use Rattle.dali_world.specs.Site.{IsCrowded, Logs, Receipt, HasActed, IsSpent, IsSendable}
 use Rattle.dali_standing.specs.Troubles.{reach_under}
 use Rattle.dali_standing.specs.declared.trouble.Trouble.{Trouble}
 use Rattle.dali_standing.specs.declared.trouble.Trouble.TheVariants as trouble
 
 -- A LOG GROWS BY ONE EVENT, and all that is read from it follows.
 
-pub machines_more : (w : World) (ms : List (Option Machine)) (es : List Event) (e : Event) → machines_all w ms (es ++ e ∷ []) ≡ machines_after (after_all w es) (machines_all w ms es) e
+pub machines_more : (w : World) (ms : List (Option Machine)) (es : List Event) (e : Event)
+    → machines_all w ms (es ++ e ∷ []) ≡ machines_after (after_all w es) (machines_all w ms es) e
 machines_more w ms [] e = refl
 machines_more w ms (f ∷ es) e = machines_more (happens w f) (machines_after w ms f) es e
 
@@ -67,30 +70,37 @@ IsCounted old e new = (length new ≡ 4) × ((c : ℕ) → c < 4 → get_or new 
 pub uncounted : (shares : List ℕ) (e : Event) → length shares ≡ 4 → ((c : ℕ) → is_step_of c e ≡ false) → IsCounted shares e shares
 uncounted shares e four none = (four, λ c there. rw (none c) (omega arith))
 
-pub counted_step : (shares new : List ℕ) (e : Event) (d : ℕ) → length shares ≡ 4 → d < 4 → new ≡ set shares d (get_or shares d 0 + 1) → ((c : ℕ) → is_step_of c e ≡ (d == c)) → IsCounted shares e new
-counted_step shares new e d four there is step =
-    (ap length is ∙ length-set shares d _ ∙ four, λ c in_four. subst (λ (xs : List ℕ). get_or xs c 0 ≡ get_or shares c 0 + (if is_step_of c e then 1 else 0)) (sym is) (rw (step c) (go c (nat_eq c d) refl))) where
-      here : d < length shares
-      here = subst (λ n. d < n) (sym four) there
+pub counted_step : (shares new : List ℕ) (e : Event) (d : ℕ) → length shares ≡ 4 → d < 4 → new ≡ set shares d (get_or shares d 0 + 1)
+    → ((c : ℕ) → is_step_of c e ≡ (d == c)) → IsCounted shares e new
+counted_step shares new e d four there is step = (
+  ap length is ∙ length-set shares d _ ∙ four,
+  λ c in_four. subst (λ (xs : List ℕ). get_or xs c 0 ≡ get_or shares c 0 + (if is_step_of c e then 1 else 0))
+      (sym is) (rw (step c) (go c (nat_eq c d) refl)),
+) where
+  here : d < length shares
+  here = subst (λ n. d < n) (sym four) there
 
-      go : (c : ℕ) (b : Bool) → nat_eq c d ≡ b → get_or (set shares d (get_or shares d 0 + 1)) c 0 ≡ get_or shares c 0 + (if d == c then 1 else 0)
-      go c true e =
-          let same : d ≡ c = grind (arith, nat_tests) in
-          subst (λ n. get_or (set shares d (get_or shares d 0 + 1)) n 0 ≡ get_or shares n 0 + (if d == n then 1 else 0)) same
-          (get_or-set_same shares d _ 0 here ∙ let yes : (d == d) ≡ true = grind (arith, nat_tests) in rw yes refl)
-      go c false e =
-          let other : c ≡ d → ⊥ = grind (arith, nat_tests) in
-          let no : (d == c) ≡ false = grind (arith, nat_tests) in
-          get_or-set_other shares d c _ 0 other ∙ rw no (omega arith)
+  go : (c : ℕ) (b : Bool) → nat_eq c d ≡ b → get_or (set shares d (get_or shares d 0 + 1)) c 0 ≡ get_or shares c 0 + (if d == c then 1 else 0)
+  go c true e =
+      let same : d ≡ c = grind (arith, nat_tests) in
+      subst (λ n. get_or (set shares d (get_or shares d 0 + 1)) n 0 ≡ get_or shares n 0 + (if d == n then 1 else 0)) same
+      (get_or-set_same shares d _ 0 here ∙ let yes : (d == d) ≡ true = grind (arith, nat_tests) in rw yes refl)
+  go c false e =
+      let other : c ≡ d → ⊥ = grind (arith, nat_tests) in
+      let no : (d == c) ≡ false = grind (arith, nat_tests) in
+      get_or-set_other shares d c _ 0 other ∙ rw no (omega arith)
 
 -- ---------------------------------------------------------------- one event more
 
 -- an event that moves what stands is allowed in the world of the site
-pub allowed_in : (s : SiteState) (old new : Standing) (shares : List ℕ) (room : ℕ) (e : Event) → IsSite s old shares room → Moves old e new → Allowed (world s) e
+pub allowed_in : (s : SiteState) (old new : Standing) (shares : List ℕ) (room : ℕ) (e : Event) → IsSite s old shares room → Moves old e new
+    → Allowed (world s) e
 allowed_in s old new shares room e site moves = (moves (world s) (machines s) site.stands).0
 
-pub goes_on : (s : SiteState) (old new : Standing) (shares shares' : List ℕ) (room room' : ℕ) (log' : List Event) (e : Event) → IsSite s old shares room → Moves old e new → length s.log < s.room
-    → log' ≡ s.log ++ e ∷ [] → room' ≡ room → IsCounted shares e shares' → IsSite (record { plan = s.plan; queue = s.queue; room = s.room; log = log' }) new shares' room'
+pub goes_on : (s : SiteState) (old new : Standing) (shares shares' : List ℕ) (room room' : ℕ) (log' : List Event) (e : Event) → IsSite s old shares room
+    → Moves old e new → length s.log < s.room
+    → log' ≡ s.log ++ e ∷ [] → room' ≡ room → IsCounted shares e shares'
+    → IsSite (record { plan = s.plan; queue = s.queue; room = s.room; log = log' }) new shares' room'
 goes_on s old new shares shares' room room' log' e site moves free log_is room_is counted =
     subst (λ (l : List Event). IsSite (record { plan = s.plan; queue = s.queue; room = s.room; log = l }) new shares' room') (sym log_is)
     (subst (λ n. IsSite (site_logged s e) new shares' n) (sym room_is) (record {
@@ -117,7 +127,8 @@ goes_on s old new shares shares' room room' log' e site moves free log_is room_i
 
 -- ---------------------------------------------------------------- the start
 
-pub opens : (p : Plan) (queue room capacity : ℕ) (standing : Standing) (shares : List ℕ) → IsPlan p → p.gear ≤ 128 → length p.blocks ≤ 4 → room ≤ capacity → room ≤ 65536
+pub opens : (p : Plan) (queue room capacity : ℕ) (standing : Standing) (shares : List ℕ) → IsPlan p → p.gear ≤ 128 → length p.blocks ≤ 4 → room ≤ capacity
+    → room ≤ 65536
     → standing ≡ stand_of (start p queue) (machines_at 0 p.blocks) → shares ≡ 0 ∷ 0 ∷ 0 ∷ 0 ∷ [] → IsSite (opened_site p queue room) standing shares capacity
 opens p queue room capacity standing shares plan few_gear few_controllers reserved most is none = record {
   run = record { plan = plan; allowed = tt };
@@ -144,7 +155,8 @@ opens p queue room capacity standing shares plan few_gear few_controllers reserv
 -- ---------------------------------------------------------------- what a call did to a site
 
 -- `was` is the site as its caller sees it, and s the same by its parts
-pub site_logs : (s was : SiteState) (old new : Standing) (shares : List ℕ) (room : ℕ) (log' : List Event) (e : Event) → s ≡ was → IsSite s old shares room → HasRoom was → Moves old e new
+pub site_logs : (s was : SiteState) (old new : Standing) (shares : List ℕ) (room : ℕ) (log' : List Event) (e : Event) → s ≡ was → IsSite s old shares room
+    → HasRoom was → Moves old e new
     → log' ≡ s.log ++ e ∷ [] → Logs was e (record { plan = s.plan; queue = s.queue; room = s.room; log = log' })
 site_logs s was old new shares room log' e view site free moves log_is =
     subst (λ (w : SiteState). Logs w e (record { plan = s.plan; queue = s.queue; room = s.room; log = log' })) view (record {
@@ -153,48 +165,60 @@ site_logs s was old new shares room log' e view site free moves log_is =
       logged = ap (λ (l : List Event). record { plan = s.plan; queue = s.queue; room = s.room; log = l }) log_is;
     })
 
-pub site_goes_on : (s was : SiteState) (old new : Standing) (shares : List ℕ) (room room' : ℕ) (log' : List Event) (e : Event) → s ≡ was → IsSite s old shares room → HasRoom was → Moves old e new
-    → log' ≡ s.log ++ e ∷ [] → room' ≡ room → ((c : ℕ) → is_step_of c e ≡ false) → IsSite (record { plan = s.plan; queue = s.queue; room = s.room; log = log' }) new shares room'
+pub site_goes_on : (s was : SiteState) (old new : Standing) (shares : List ℕ) (room room' : ℕ) (log' : List Event) (e : Event) → s ≡ was
+    → IsSite s old shares room → HasRoom was → Moves old e new
+    → log' ≡ s.log ++ e ∷ [] → room' ≡ room → ((c : ℕ) → is_step_of c e ≡ false)
+    → IsSite (record { plan = s.plan; queue = s.queue; room = s.room; log = log' }) new shares room'
 site_goes_on s was old new shares room room' log' e view site free moves log_is room_is nobodys =
-    goes_on s old new shares shares room room' log' e site moves (subst (λ (w : SiteState). HasRoom w) (sym view) free) log_is room_is (uncounted shares e site.four nobodys)
+    goes_on s old new shares shares room room' log' e site moves (subst (λ (w : SiteState). HasRoom w) (sym view) free) log_is room_is
+    (uncounted shares e site.four nobodys)
 
 -- a step of controller d
-pub step_goes_on : (s was : SiteState) (old new : Standing) (shares shares' : List ℕ) (room room' : ℕ) (log' : List Event) (e : Event) (d : ℕ) → s ≡ was → IsSite s old shares room → HasRoom was → Moves old e new
+pub step_goes_on : (s was : SiteState) (old new : Standing) (shares shares' : List ℕ) (room room' : ℕ) (log' : List Event) (e : Event) (d : ℕ) → s ≡ was
+    → IsSite s old shares room → HasRoom was → Moves old e new
     → log' ≡ s.log ++ e ∷ [] → room' ≡ room → d < 4 → shares' ≡ set shares d (get_or shares d 0 + 1) → ((c : ℕ) → is_step_of c e ≡ (d == c))
     → IsSite (record { plan = s.plan; queue = s.queue; room = s.room; log = log' }) new shares' room'
 step_goes_on s was old new shares shares' room room' log' e d view site free moves log_is room_is there shares_is step =
-    goes_on s old new shares shares' room room' log' e site moves (subst (λ (w : SiteState). HasRoom w) (sym view) free) log_is room_is (counted_step shares shares' e d site.four there shares_is step)
+    goes_on s old new shares shares' room room' log' e site moves (subst (λ (w : SiteState). HasRoom w) (sym view) free) log_is room_is
+    (counted_step shares shares' e d site.four there shares_is step)
 
-pub step_few : (s was : SiteState) (old : Standing) (shares : List ℕ) (room d : ℕ) → s ≡ was → IsSite s old shares room → HasRoom was → d < 4 → get_or shares d 0 < 65536
+pub step_few : (s was : SiteState) (old : Standing) (shares : List ℕ) (room d : ℕ) → s ≡ was → IsSite s old shares room → HasRoom was → d < 4
+    → get_or shares d 0 < 65536
 step_few s was old shares room d view site free there =
     let fits = share_fits d s.log in
     let here : HasRoom s = subst (λ (w : SiteState). HasRoom w) (sym view) free in
     let most = site.most in
     rw (site.counted d there) (omega arith)
 
-pub step_number : (s : SiteState) (old : Standing) (shares : List ℕ) (room d number : ℕ) (log' : List Event) (e : Event) → IsSite s old shares room → d < 4 → number ≡ get_or shares d 0 + 1
+pub step_number : (s : SiteState) (old : Standing) (shares : List ℕ) (room d number : ℕ) (log' : List Event) (e : Event) → IsSite s old shares room → d < 4
+    → number ≡ get_or shares d 0 + 1
     → log' ≡ s.log ++ e ∷ [] → is_step_of d e ≡ true → number ≡ share_of d log'
 step_number s old shares room d number log' e site there is log_is step =
-    is ∙ ap (λ n. n + 1) (site.counted d there) ∙ sym (ap (share_of d) log_is ∙ share_more d s.log e ∙ ap (λ (b : Bool). share_of d s.log + (if b then 1 else 0)) step)
+    is ∙ ap (λ n. n + 1) (site.counted d there) ∙ sym (ap (share_of d) log_is ∙ share_more d s.log e
+    ∙ ap (λ (b : Bool). share_of d s.log + (if b then 1 else 0)) step)
 
 self_same : (c : ℕ) → (c == c) ≡ true
 self_same c = grind (arith, nat_tests)
 
-pub not_crowded : (s was : SiteState) (old : Standing) (shares : List ℕ) (room : ℕ) → s ≡ was → IsSite s old shares room → total old.bus < old.bus.capacity → IsCrowded was → ⊥
+pub not_crowded : (s was : SiteState) (old : Standing) (shares : List ℕ) (room : ℕ) → s ≡ was → IsSite s old shares room → total old.bus < old.bus.capacity
+    → IsCrowded was → ⊥
 not_crowded s was old shares room view site free crowded =
     let here : IsCrowded s = subst (λ (w : SiteState). IsCrowded w) (sym view) crowded in
     let less : total (world s).bus < (world s).bus.capacity = subst (λ (t : Standing). total t.bus < t.bus.capacity) site.stands free in
     let same = site.queue in
     omega arith
 
-pub act_site : (s was : SiteState) (old new : Standing) (shares shares' : List ℕ) (room number c : ℕ) (i : Input) (o : Order) (r : Receipt) (log' : List Event) → s ≡ was → IsSite s old shares room
-    → total old.bus < old.bus.capacity → HasRoom was → Moves old (event.Acted c i o) new → MayAnswer (machine_in old.machines c) i o → log' ≡ s.log ++ event.Acted c i o ∷ [] → c < 4
+pub act_site : (s was : SiteState) (old new : Standing) (shares shares' : List ℕ) (room number c : ℕ) (i : Input) (o : Order) (r : Receipt) (log' : List Event)
+    → s ≡ was → IsSite s old shares room
+    → total old.bus < old.bus.capacity → HasRoom was → Moves old (event.Acted c i o) new → MayAnswer (machine_in old.machines c) i o
+    → log' ≡ s.log ++ event.Acted c i o ∷ [] → c < 4
     → number ≡ get_or shares c 0 + 1 → r ≡ record { controller = c; input = i; order = o; number = number }
     → HasActed was c i r (record { plan = s.plan; queue = s.queue; room = s.room; log = log' })
 act_site s was old new shares shares' room number c i o r log' view site quiet free moves answer log_is there number_is r_is =
     rw r_is (record {
       logs = (site_logs s was old new shares room log' (event.Acted c i o) view site free moves log_is, not_crowded s was old shares room view site quiet);
-      ordered = subst (λ (w : SiteState). MayAnswer (machine_at w c) i o) view (subst (λ (t : Standing). MayAnswer (machine_in t.machines c) i o) site.stands answer);
+      ordered = subst (λ (w : SiteState). MayAnswer (machine_at w c) i o) view
+          (subst (λ (t : Standing). MayAnswer (machine_in t.machines c) i o) site.stands answer);
       controller = refl;
       input = refl;
       number = step_number s old shares room c number log' (event.Acted c i o) site there number_is log_is (self_same c);
@@ -202,7 +226,8 @@ act_site s was old new shares shares' room number c i o r log' view site quiet f
 
 -- ---------------------------------------------------------------- gifts have room
 
-draws_there : (s : SiteState) (r : Request) (t : Trouble) → (IsSpent s r t → ⊥) → draws_needed (reach_under t) (command_of r.frame) 0 (world s).gear ≤ length (world s).left
+draws_there : (s : SiteState) (r : Request) (t : Trouble) → (IsSpent s r t → ⊥)
+    → draws_needed (reach_under t) (command_of r.frame) 0 (world s).gear ≤ length (world s).left
 draws_there s r t enough = grind (arith, enough)
 
 everyone : (t : Trouble) → IsSendable t → reach_under t ≡ Everyone
@@ -215,7 +240,8 @@ everyone trouble.Collision is = elim is [ ]
 abbrev HasGiftRoom : Standing → Reach → Request → Type 0
 HasGiftRoom old reach r = length (old.gifts ++ stored_of reach (command_of r.frame) 0 old.gear) ≤ length old.gear
 
-pub sent_room : (s was : SiteState) (old : Standing) (shares : List ℕ) (room : ℕ) (r : Request) (t : Trouble) → s ≡ was → IsSite s old shares room → IsUp (world was) r.sender × MaySend (world was) r.sender r.frame
+pub sent_room : (s was : SiteState) (old : Standing) (shares : List ℕ) (room : ℕ) (r : Request) (t : Trouble) → s ≡ was → IsSite s old shares room
+    → IsUp (world was) r.sender × MaySend (world was) r.sender r.frame
     → (IsSpent was r t → ⊥) → IsSendable t → HasGiftRoom old Everyone r
 sent_room s was old shares room r t view site may enough sendable =
     let enough_s : IsSpent s r t → ⊥ = subst (λ (w : SiteState). IsSpent w r t → ⊥) (sym view) enough in
@@ -225,20 +251,24 @@ sent_room s was old shares room r t view site may enough sendable =
     subst (λ (o : Standing). HasGiftRoom o Everyone r) (sym site.stands)
     (gifts_fit_after s.plan s.queue s.log (event.Sent r.sender r.frame Silence) site.run (record { up = may_s.0; may = may_s.1; draws = draws; heard = tt }))
 
-pub lost_room : (s was : SiteState) (old : Standing) (shares : List ℕ) (room : ℕ) (r : Request) (set : GearSet) → s ≡ was → IsSite s old shares room → IsUp (world was) r.sender × MaySend (world was) r.sender r.frame
+pub lost_room : (s was : SiteState) (old : Standing) (shares : List ℕ) (room : ℕ) (r : Request) (set : GearSet) → s ≡ was → IsSite s old shares room
+    → IsUp (world was) r.sender × MaySend (world was) r.sender r.frame
     → (IsSpent was r (trouble.Destroyed set) → ⊥) → HasGiftRoom old (Only set) r
 lost_room s was old shares room r set view site may enough =
     let enough_s : IsSpent s r (trouble.Destroyed set) → ⊥ = subst (λ (w : SiteState). IsSpent w r (trouble.Destroyed set) → ⊥) (sym view) enough in
     let may_s = subst (λ (w : SiteState). IsUp (world w) r.sender × MaySend (world w) r.sender r.frame) (sym view) may in
     subst (λ (o : Standing). HasGiftRoom o (Only set) r) (sym site.stands)
-    (gifts_fit_after s.plan s.queue s.log (event.Destroyed r.sender r.frame set) site.run (record { up = may_s.0; may = may_s.1; draws = draws_there s r (trouble.Destroyed set) enough_s }))
+    (gifts_fit_after s.plan s.queue s.log (event.Destroyed r.sender r.frame set) site.run
+    (record { up = may_s.0; may = may_s.1; draws = draws_there s r (trouble.Destroyed set) enough_s }))
 
 -- the request that is next may be sent
-pub request_may : (s was : SiteState) (old : Standing) (shares : List ℕ) (room : ℕ) (r : Request) → s ≡ was → IsSite s old shares room → MayBeSent old r → IsUp (world was) r.sender × MaySend (world was) r.sender r.frame
+pub request_may : (s was : SiteState) (old : Standing) (shares : List ℕ) (room : ℕ) (r : Request) → s ≡ was → IsSite s old shares room → MayBeSent old r
+    → IsUp (world was) r.sender × MaySend (world was) r.sender r.frame
 request_may s was old shares room r view site may =
     subst (λ (w : SiteState). IsUp (world w) r.sender × MaySend (world w) r.sender r.frame) view (may (world s) (machines s) site.stands)
 
-pub world_lists : (s was : SiteState) (old : Standing) (shares : List ℕ) (room : ℕ) (q : Request) → s ≡ was → IsSite s old shares room → collision old.bus.lists ≡ Some q → collision (world was).bus.lists ≡ Some q
+pub world_lists : (s was : SiteState) (old : Standing) (shares : List ℕ) (room : ℕ) (q : Request) → s ≡ was → IsSite s old shares room
+    → collision old.bus.lists ≡ Some q → collision (world was).bus.lists ≡ Some q
 world_lists s was old shares room q view site is =
     subst (λ (w : SiteState). collision (world w).bus.lists ≡ Some q) view (subst (λ (t : Standing). collision t.bus.lists ≡ Some q) site.stands is)
 
@@ -249,7 +279,8 @@ sendable_of t (inr (inr e)) = rw e tt
 
 -- ---------------------------------------------------------------- no machine halts with a conflict
 
-pub never_conflicts : (s was : SiteState) (old : Standing) (shares : List ℕ) (room c : ℕ) (i : Input) → s ≡ was → IsSite s old shares room → c < length was.plan.blocks → IsDue (controller_on old c) i
+pub never_conflicts : (s was : SiteState) (old : Standing) (shares : List ℕ) (room c : ℕ) (i : Input) → s ≡ was → IsSite s old shares room
+    → c < length was.plan.blocks → IsDue (controller_on old c) i
     → IsPlacedOn old c → MayAnswer (machine_in old.machines c) i (Halt fault.Conflict) → ⊥
 never_conflicts s was old shares room c i view site there due placed answer = go (machine_in old.machines c) refl answer where
   there_s : c < length (world s).controllers
@@ -262,7 +293,8 @@ never_conflicts s was old shares room c i view site there due placed answer = go
   go None has answer = elim answer [ ]
   go (Some m) has answer =
       let known = subst (λ (k : Controller). IsRunning k m × IsPlacedBy (owns old.bus.owner c) old.trace k (Some m)) is (placed m has) in
-      no_conflict s.plan s.queue s.log c m i (owns old.bus.owner c) old.trace site.run there_s (subst (λ (k : Controller). IsDue k i) is due) known.0 known.1 answer.answered
+      no_conflict s.plan s.queue s.log c m i (owns old.bus.owner c) old.trace site.run there_s
+      (subst (λ (k : Controller). IsDue k i) is due) known.0 known.1 answer.answered
 
 -- ---------------------------------------------------------------- a machine keeps its controller's records
 
@@ -271,7 +303,8 @@ pub own_records : (s was : SiteState) (old : Standing) (shares : List ℕ) (room
 own_records s was old shares room c view site placed m has =
     let has_s : machine_in (machines s) c ≡ Some m = subst (λ (w : SiteState). machine_at w c ≡ Some m) (sym view) has in
     let has_old : machine_in old.machines c ≡ Some m = ap (λ (t : Standing). machine_in t.machines c) site.stands ∙ has_s in
-    (placed m has_old).0.kept ∙ ap (λ (t : Standing). (controller_on t c).records) site.stands ∙ ap (λ (w : SiteState). (controller_at (world w) c).records) view
+    (placed m has_old).0.kept ∙ ap (λ (t : Standing). (controller_on t c).records) site.stands
+    ∙ ap (λ (w : SiteState). (controller_at (world w) c).records) view
 
 -- ---------------------------------------------------------------- the promise, of the world now
 

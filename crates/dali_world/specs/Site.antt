@@ -69,7 +69,15 @@ machine_at s c = machine_in (machines s) c
 abbrev pub is_step_of : ℕ → Event → Bool
 is_step_of c (event.Acted d i o) = d == c
 is_step_of c (event.Offered d f) = d == c
-is_step_of c _ = false
+is_step_of c (event.Sent d f h) = false
+is_step_of c (event.Destroyed d f set) = false
+is_step_of c (event.Collided d f e g) = false
+is_step_of c event.Lapsed = false
+is_step_of c event.Quiet = false
+is_step_of c (event.Power g on) = false
+is_step_of c (event.Expired g) = false
+is_step_of c (event.Down d) = false
+is_step_of c (event.Up d kept) = false
 
 -- THE SHARE of controller c in a log: how many of its events are steps of c
 abbrev pub share_of : ℕ → List Event → ℕ

@@ -22,5 +22,8 @@ returns-in-Some-step-clause-done c m i holds is due =
         is = sym c.in-Some-step.ensures.state;
       };
       fits = c.in-Some-step.ensures.fits;
-    } in
-    (refl, subst (λ j. Steps m j after c.of.result) told (subst (λ (n : Machine). Steps n c.in-Some.told after c.of.result) (sym (c.requires.once m holds)) steps))
+    } in (
+      refl,
+      subst (λ j. Steps m j after c.of.result) told
+          (subst (λ (n : Machine). Steps n c.in-Some.told after c.of.result) (sym (c.requires.once m holds)) steps),
+    )

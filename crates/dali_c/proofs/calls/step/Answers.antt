@@ -9,5 +9,6 @@ keep-requires-clause-may c = rw c.kept_by-added.ensures (kept_may c.args.state.n
 pub step-requires : goal.step-requires
 step-requires c = (
   kept_of c.args.records.now,
-  before_is c.args.state.now (kept_of c.args.records.now) (kept_of c.keep.new.self) c.known.result c.kept_by-added.result c.args.told c.requires.whole c.kept_by-added.ensures c.keep.ensures.added c.known.ensures,
+  before_is c.args.state.now (kept_of c.args.records.now) (kept_of c.keep.new.self)
+      c.known.result c.kept_by-added.result c.args.told c.requires.whole c.kept_by-added.ensures c.keep.ensures.added c.known.ensures,
 )

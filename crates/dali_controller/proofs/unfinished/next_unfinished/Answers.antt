@@ -16,5 +16,6 @@ returns-in-Some-clause-next c =
     let k = c.args.kept.now in
     let small : c.loop-address.address < 64 = omega arith in
     let here : c.in_ok-of.field-0 ≡ c.loop-address.address = c.in_ok-of.ensures.value in
-    let some : unfinished_at k c.loop-address.address ≡ Some c.in-Some.random = subst (λ a. unfinished_at k a ≡ Some c.in-Some.random) here (sym c.in-Some.ensures.unfinished) in
+    let some : unfinished_at k c.loop-address.address ≡ Some c.in-Some.random =
+    subst (λ a. unfinished_at k a ≡ Some c.in-Some.random) here (sym c.in-Some.ensures.unfinished) in
     sym (c.loop-address.invariant ∙ one_found k c.loop-address.address c.in-Some.random small some)

@@ -5,7 +5,8 @@ use Rattle.dali_picture.proofs.played.run_bench.Given as goal
 
 abbrev pub invariant-loop-line : goal.invariant-loop-line
 invariant-loop-line l = record {
-  played : Left l.fn.bench (numbered_after l.fn.script.read l.fn.script.rest.now) l.fn.log.items l.bench (numbered_after l.script.read l.script.rest.now) l.log.items;
+  played : Left l.fn.bench (numbered_after l.fn.script.read l.fn.script.rest.now) l.fn.log.items l.bench
+      (numbered_after l.script.read l.script.rest.now) l.log.items;
   range : l.script.read + length l.script.rest.now ≤ 1048576;
 }
 

@@ -7,8 +7,10 @@ use Rattle.dali_replay.proofs.heading.drawn_of.Given as goal
 
 abbrev pub invariant-loop-rest : goal.invariant-loop-rest
 invariant-loop-rest l = record {
-  draws : option_map (λ more. l.draws.items ++ more) (randoms_of (parts_after 32 (option_map (λ rest. rest.now) l.rest))) ≡ randoms_of (parts_after 32 (option_map (λ rest. rest.now) l.initial.rest));
-  count : length l.draws.items + length (parts_after 32 (option_map (λ rest. rest.now) l.rest)) ≡ length (parts_after 32 (option_map (λ rest. rest.now) l.initial.rest));
+  draws : option_map (λ more. l.draws.items ++ more) (randoms_of (parts_after 32 (option_map (λ rest. rest.now) l.rest)))
+      ≡ randoms_of (parts_after 32 (option_map (λ rest. rest.now) l.initial.rest));
+  count : length l.draws.items + length (parts_after 32 (option_map (λ rest. rest.now) l.rest))
+      ≡ length (parts_after 32 (option_map (λ rest. rest.now) l.initial.rest));
   few : length l.draws.items ≤ 1024;
 }
 

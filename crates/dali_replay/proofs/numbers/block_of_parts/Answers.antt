@@ -5,4 +5,5 @@ use Rattle.dali_replay.proofs.numbers.block_of_parts.Goals as goal
 
 pub returns-in_default : goal.returns-in_default
 returns-in_default c =
-    no_block_below (map (λ part. part.now) c.args.parts.now) (subst (λ (n : ℕ). n < 2) (sym (length-map c.args.parts.now (λ part. part.now))) c.in_default.len_below)
+    no_block_below (map (λ part. part.now) c.args.parts.now)
+    (subst (λ (n : ℕ). n < 2) (sym (length-map c.args.parts.now (λ part. part.now))) c.in_default.len_below)

@@ -6,7 +6,8 @@ use Rattle.dali_replay.proofs.replay.play_bench.Given as goal
 
 abbrev pub invariant-loop-line : goal.invariant-loop-line
 invariant-loop-line g l = record {
-  leads : Leads (played l.fn.bench (numbered_after l.fn.script.read l.fn.script.rest.now)) (g.W.Write.contents l.fn.writer) (g.W.Write.contents l.writer) (played l.bench (numbered_after l.script.read l.script.rest.now));
+  leads : Leads (played l.fn.bench (numbered_after l.fn.script.read l.fn.script.rest.now)) (g.W.Write.contents l.fn.writer) (g.W.Write.contents l.writer)
+      (played l.bench (numbered_after l.script.read l.script.rest.now));
   range : l.script.read + length l.script.rest.now ≤ 1048576;
 }
 

@@ -5,7 +5,8 @@ use Rattle.dali_replay.proofs.replay.play_site.Goals as goal
 
 pub returns-in_default-site_line_of : goal.returns-in_default-site_line_of
 returns-in_default-site_line_of g c =
-    rw c.number.ensures (site_bad_line _ _ _ _ _ _ c.in-Some.line.now _ _ c.loop-line.invariant.played c.in-Some.ensures.line (sym c.in_default-site_line_of.ensures))
+    rw c.number.ensures (site_bad_line _ _ _ _ _ _ c.in-Some.line.now _ _ c.loop-line.invariant.played c.in-Some.ensures.line
+    (sym c.in_default-site_line_of.ensures))
 
 pub returns-in_err-report_site : goal.returns-in_err-report_site
 returns-in_err-report_site g c =

@@ -9,14 +9,16 @@ take_turn-requires c =
 pub returns-in_default : goal.returns-in_default
 returns-in_default c =
     let known : c.loop-c.c < length c.args.installation.now.site.plan.blocks = rw (← c.controllers-c-end.ensures.value) c.loop-c-test.true in
-    so_far_refused c.args.installation.now c.loop-c.installation c.take_turn.new.installation c.loop-c.c c.loop-c.acted c.in_ok-went.field-0 _ _ _ c.loop-c.invariant known c.in_default.is c.in_ok-went.ensures
+    so_far_refused c.args.installation.now c.loop-c.installation c.take_turn.new.installation c.loop-c.c c.loop-c.acted c.in_ok-went.field-0 _ _ _
+    c.loop-c.invariant known c.in_default.is c.in_ok-went.ensures
 
 pub loop-c-init : goal.loop-c-init
 loop-c-init c = so_far_none _ _
 
 pub loop-c-preserved : goal.loop-c-preserved
 loop-c-preserved c =
-    so_far_more c.args.installation.now c.loop-c.installation c.take_turn.new.installation c.loop-c.c c.loop-c.acted c.in-Some.went c.in_ok-went.field-0 _ _ _ c.loop-c.invariant c.in-Some.is c.in_ok-went.ensures
+    so_far_more c.args.installation.now c.loop-c.installation c.take_turn.new.installation c.loop-c.c c.loop-c.acted c.in-Some.went c.in_ok-went.field-0 _ _ _
+    c.loop-c.invariant c.in-Some.is c.in_ok-went.ensures
 
 pub returns : goal.returns
 returns c =

@@ -81,7 +81,9 @@ allocate_spec 𝓤 𝓛 𝓜 𝓡 wired T A L K g d dd met md =
     let κ : Lft = z.0.0.0 in let q : Share = z.0.1.0 in
     let s = step E in let al : ℕ = capped (align (elτ E)) in
     let asks = FitsInBlock (R E) n in
-    let Told : Out.Denot → Type 0 = λ r. IfOk r (λ t. (t.1.origin ≡ t.0.pointer) × (t.1.count ≡ n) × (t.1.items ≡ []) × (t.2.origin ≡ t.0.pointer) × (t.2.count ≡ n) × (t.2.alloc ≡ handle)) in
+    let Told : Out.Denot → Type 0 =
+    λ r. IfOk r (λ t. (t.1.origin ≡ t.0.pointer) × (t.1.count ≡ n) × (t.1.items ≡ []) × (t.2.origin ≡ t.0.pointer) × (t.2.count ≡ n) × (t.2.alloc ≡ handle))
+    in
     qed 𝓛 ((raw (alive 𝓛 S.signature z.0.0 z.0.1) ⊛ ‵ (owns (types_at S.signature.params z.0.0) a vss))
     ∷ (raw (fact 𝓤 (z.0.0.1.0 ⊑ T.lives)) ⊛ raw (fact 𝓤 (z.0.0.1.1.0 ⊑ A.lives)) ⊛ raw (fact 𝓤 asks)) ∷ []) ∵
     move ! (1 ∷ []) $ split ! $ drop ! $ split ! $ heard ! (z.0.0.1.1.0 ⊑ A.lives) (λ within. heard ! asks (λ asked.
@@ -96,12 +98,16 @@ allocate_spec 𝓤 𝓛 𝓜 𝓡 wired T A L K g d dd met md =
     let En : Env 𝓤 𝓛.H = env fn.locals l in
     let both = head (after 2 fn.body) in
     let Then = any_q (after_seq 𝓤 𝓛.H (Wp 𝓤 𝓛.H C Λ En (after 3 fn.body) (at_return 𝓤 𝓛.H En Post)) (at_return 𝓤 𝓛.H En Post)) in
-    sets ! (is ! (bin ! (get ! refl) (size_word !) (record { fits = subst (λ (k : ℕ). k < 2 ^ 64) (sym (uncapped n s bytes)) bytes })) (ap (vint w64) (uncapped n s bytes)))
+    sets ! (is ! (bin ! (get ! refl) (size_word !) (record { fits = subst (λ (k : ℕ). k < 2 ^ 64) (sym (uncapped n s bytes)) bytes }))
+    (ap (vint w64) (uncapped n s bytes)))
     refl (tt, record { fits = bytes }) $
     use2 𝓛 (raw ((Takes Z 𝓛 𝓜.mem 𝓡.returns).pre y))
-    (Takes-goes Z 𝓛 𝓜.mem 𝓡.returns κ q at handle (Incl-trans z.0.2.0 within) (n * s) al (block_ty E n) (block_size E n bytes) (block_align E n) bytes (capped_fits (align (elτ E)))) $
-    calls_at ! (fm 𝓛 𝓜 𝓡) (Takes Z 𝓛 𝓜.mem 𝓡.returns) (met.allocate dd) y (and_then ! (get ! refl) (and_then ! (get ! refl) (and_then ! (align_word !) (no_more !)))) (λ v.
-    use1 𝓛 (later (raw (Answered Z 𝓛 𝓜.mem 𝓡.returns handle (block_ty E n) v) ⊛ ‵ (flft κ q))) (Takes-gives Z 𝓛 𝓜.mem 𝓡.returns κ q at handle (n * s) al (block_ty E n) v) $
+    (Takes-goes Z 𝓛 𝓜.mem 𝓡.returns κ q at handle (Incl-trans z.0.2.0 within) (n * s) al (block_ty E n) (block_size E n bytes) (block_align E n) bytes
+    (capped_fits (align (elτ E)))) $
+    calls_at ! (fm 𝓛 𝓜 𝓡) (Takes Z 𝓛 𝓜.mem 𝓡.returns) (met.allocate dd) y
+    (and_then ! (get ! refl) (and_then ! (get ! refl) (and_then ! (align_word !) (no_more !)))) (λ v.
+    use1 𝓛 (later (raw (Answered Z 𝓛 𝓜.mem 𝓡.returns handle (block_ty E n) v) ⊛ ‵ (flft κ q)))
+    (Takes-gives Z 𝓛 𝓜.mem 𝓡.returns κ q at handle (n * s) al (block_ty E n) v) $
     await ! tt $ split ! $ answers Z ! 𝓜.mem 𝓡.returns handle (block_ty E n) v
     (λ b o e.
     let r : Ptr = block_ptr b o in
@@ -113,8 +119,10 @@ allocate_spec 𝓤 𝓛 𝓜 𝓡 wired T A L K g d dd met md =
     let good = first_Good (layout Parts) parts typed in
     let made : Val = live 0 (vcons parts vnil) in
     -- [the room; the token of the block; the token of the `&`; the other tokens]
-    lands_as ! e refl (Answer-typed true b o) $ first ! $ switches_on ! (get_tag ! (vrt ! refl (fld ! refl (stop !))) (whole !)) $ exec ! C Λ En (arm_body 0 both) Then $
-    sets ! (of_opd ! (get_in ! (vrt ! refl (fld ! refl (stop !))) (in_variant ! 0 0 refl refl (whole !)))) refl (tt, tt) $ sets ! (of_opd ! (get ! refl)) refl (tt, tt) $
+    lands_as ! e refl (Answer-typed true b o) $ first ! $ switches_on ! (get_tag ! (vrt ! refl (fld ! refl (stop !))) (whole !)) $ exec ! C Λ En
+    (arm_body 0 both) Then $
+    sets ! (of_opd ! (get_in ! (vrt ! refl (fld ! refl (stop !))) (in_variant ! 0 0 refl refl (whole !)))) refl (tt, tt) $ sets ! (of_opd ! (get ! refl)) refl
+    (tt, tt) $
     sets ! (agg ! (and_then ! (get ! refl) (no_more !))) refl (word-Good [] r) $
     sets ! (agg ! (no_more !)) refl (tt, tt) $ sets ! (agg ! (and_then ! (get ! refl) (no_more !))) refl (tt, (tt, tt)) $
     sets ! (agg ! (no_more !)) refl (tt, tt) $ sets ! (agg ! (and_then ! (get ! refl) (no_more !))) refl (tt, (tt, tt)) $
@@ -134,7 +142,8 @@ allocate_spec 𝓤 𝓛 𝓜 𝓡 wired T A L K g d dd met md =
     let Refusal : RattleType = Struct (shape refusal.the_type) in
     let made : Val = live 1 (vcons (vstruct vnil) vnil) in
     -- [the token of the `&`; the other tokens]
-    lands_as ! e refl (Answer-typed false 0 0) $ first ! $ switches_on ! (get_tag ! (vrt ! refl (fld ! refl (stop !))) (whole !)) $ exec ! C Λ En (arm_body 1 both) Then $
+    lands_as ! e refl (Answer-typed false 0 0) $ first ! $ switches_on ! (get_tag ! (vrt ! refl (fld ! refl (stop !))) (whole !)) $ exec ! C Λ En
+    (arm_body 1 both) Then $
     sets ! (of_opd ! (get_in ! (vrt ! refl (fld ! refl (stop !))) (in_variant ! 1 0 refl refl (whole !)))) refl (tt, tt) $
     sets_last ! (agg ! (and_then ! (lit ! tt) (and_then ! (get ! refl) (no_more !)))) refl (tt, (record { fits = lit< tt }, (tt, tt))) $
     exec ! C Λ En (after 3 fn.body) (at_ret En Post) $ sets ! (of_opd ! (get ! refl)) refl (tt, (record { fits = lit< tt }, (tt, tt))) $

@@ -25,7 +25,8 @@ use prog.Capped.{capped_fits}
 use prog.Memory.{align, capped}
 use prog.Wp.{Env, WpFn}
 use types.ByLocal.{alloc_all, pass_all, free_all, look_at, get, get_in, sets, is, lands_last, env}
-use types.Kit.{‵, raw, ◌⊛◌, given, later, prop, at_ret, ◌$◌, ◌∵◌, !, qed, by, move, keep, drop, use1, split, join, group, learn, await, regoal, rewrite, fsplit, fjoin, feq_i, flt_l}
+use types.Kit.{‵, raw, ◌⊛◌, given, later, prop, at_ret, ◌$◌, ◌∵◌, !, qed, by, move, keep, drop, use1, split, join, group, learn, await, regoal, rewrite, fsplit}
+use types.Kit.{fjoin, feq_i, flt_l}
 use types.Part.{whole, sub}
 use types.Run.{stop, fld, unit_lit, of_opd, bin, size_word, align_word, and_then, no_more, first, blocks, exec, returns, enter}
 use Rattle.core.proofs.alloc.Calls.{Al, Goes-blank, token, Gives, at_gives, Gives-goes, Gives-Gives}
@@ -58,8 +59,13 @@ free_spec 𝓤 𝓛 𝓜 𝓡 wired T A L K g d dd met md =
     let places-slot = plain (λ _. places.the_row (R E)) in
     let release-slot = plain (λ _. release.the_row (R E) (P E Z) g) in
     let S = ended T A g d dd in
-    let stays : Stays S.signature.params S.kept =
-    (stay_dropped alloc-slot yes, (stay_dropped origin-slot no, (stay_dropped count-slot yes, (stay_dropped places-slot no, (stay_dropped release-slot no, tt))))) in
+    let stays : Stays S.signature.params S.kept = (
+      stay_dropped alloc-slot yes,
+      (
+        stay_dropped origin-slot no,
+        (stay_dropped count-slot yes, (stay_dropped places-slot no, (stay_dropped release-slot no, tt))),
+      ),
+    ) in
     let c = clauses T A g d dd 𝓛 𝓜.mem 𝓡.returns in
     proved_at 𝓛 S stays c 𝓜 𝓡 (
       Goes-dropped 𝓛 3 alloc-slot yes (λ κs x f. refl),
@@ -99,13 +105,16 @@ free_spec 𝓤 𝓛 𝓜 𝓡 wired T A L K g d dd met md =
     rewrite ! 1 (λ (u : A.Denot × Ptr × ℕ). ‵ (release_owns (R E) (token Z u.0) u.1 u.2)) (λ j. (free.2 j, (free.0 ∙ e) j, free.1 j)) refl $
     first ! $ blocks ! $
     sets ! (is ! (of_opd ! (get_in ! (fld ! refl (stop !)) (sub ! 0 refl (whole !)))) (ap ptr_val e)) refl (tt, tt) $
-    sets ! (is ! (bin ! (get ! refl) (size_word !) (record { fits = subst (λ (k : ℕ). k < 2 ^ 64) (sym (uncapped n s bytes)) bytes })) (ap (vint w64) (uncapped n s bytes)))
+    sets ! (is ! (bin ! (get ! refl) (size_word !) (record { fits = subst (λ (k : ℕ). k < 2 ^ 64) (sym (uncapped n s bytes)) bytes }))
+    (ap (vint w64) (uncapped n s bytes)))
     refl (tt, record { fits = bytes }) $
     group ! 4 $ use1 𝓛 (raw ((Gives Z 𝓛 𝓜.mem 𝓡.returns).pre y))
-    (Gives-goes Z 𝓛 𝓜.mem 𝓡.returns κ q at handle (Incl-trans z.0.2.0 within) b o (n * s) al (block_ty E n) (block_size E n bytes) (block_align E n) bytes (capped_fits (align (elτ E)))) $
+    (Gives-goes Z 𝓛 𝓜.mem 𝓡.returns κ q at handle (Incl-trans z.0.2.0 within) b o (n * s) al (block_ty E n) (block_size E n bytes) (block_align E n) bytes
+    (capped_fits (align (elτ E)))) $
     calls_at_last ! (fm 𝓛 𝓜 𝓡) (Gives Z 𝓛 𝓜.mem 𝓡.returns) (met.deallocate dd) y
     (and_then ! (get ! refl) (and_then ! (get ! refl) (and_then ! (get ! refl) (and_then ! (align_word !) (no_more !))))) (λ v.
-    use1 𝓛 (later (given (v ≡ vunit) (‵ (flft κ q)))) (Gives-Gives Z 𝓛 𝓜.mem 𝓡.returns κ q at handle b o (n * s) al (block_ty E n) v) $ await ! tt $ learn ! (λ is_unit.
+    use1 𝓛 (later (given (v ≡ vunit) (‵ (flft κ q)))) (Gives-Gives Z 𝓛 𝓜.mem 𝓡.returns κ q at handle b o (n * s) al (block_ty E n) v) $ await ! tt $ learn !
+    (λ is_unit.
     lands_last ! refl (subst (λ (u : Val). So (has_ty ty_unit u) × WT u) (sym is_unit) (tt, tt)) $
     exec ! C Λ En (after 1 fn.body) (at_ret En Post) $ sets ! (of_opd ! (unit_lit !)) refl (tt, tt) $
     returns ! (look_at ! 0 refl) $ free_all ! refl $

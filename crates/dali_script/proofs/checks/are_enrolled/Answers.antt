@@ -9,7 +9,8 @@ loop-place-init c = record { before = enrolled_none; taken = marks_none; seen = 
 pub returns-then-not-is_next : goal.returns-then-not-is_next
 returns-then-not-is_next c = (
   λ e. absurd (cc),
-  λ are. sym c.if-not-is_next.true ∙ c.is_next.ensures.1 (next_enrolled c.args.pairs.now c.loop-place.place c.index-pairs-place.result c.loop-place-test.true c.index-pairs-place.is are),
+  λ are. sym c.if-not-is_next.true ∙ c.is_next.ensures.1
+      (next_enrolled c.args.pairs.now c.loop-place.place c.index-pairs-place.result c.loop-place-test.true c.index-pairs-place.is are),
 )
 
 pub loop-place-preserved : goal.loop-place-preserved
@@ -21,6 +22,8 @@ loop-place-preserved c =
     let address : c.from.result ≡ p.0 = cc in
     record {
       before = enrolled_more xs c.loop-place.place p c.loop-place-test.true c.index-pairs-place.is c.loop-place.invariant.before next;
-      taken = rw address (marks_more xs c.loop-place.place p c.loop-place.taken c.loop-place-test.true c.index-pairs-place.is next.1 c.loop-place.invariant.taken);
-      seen = seen_more xs c.loop-place.place p c.from-in-loop-place.result c.loop-place.seen c.loop-place-test.true c.index-pairs-place.is last c.loop-place.invariant.seen;
+      taken = rw address (marks_more xs c.loop-place.place p c.loop-place.taken c.loop-place-test.true c.index-pairs-place.is next.1
+          c.loop-place.invariant.taken);
+      seen = seen_more xs c.loop-place.place p c.from-in-loop-place.result c.loop-place.seen c.loop-place-test.true c.index-pairs-place.is last
+          c.loop-place.invariant.seen;
     }

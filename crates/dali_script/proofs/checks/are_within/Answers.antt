@@ -8,10 +8,13 @@ pub returns-then-address-first : goal.returns-then-address-first
 returns-then-address-first c = (
   λ e. absurd (cc),
   λ all.
-      let here : InBlock c.args.block c.pair-item.result.0 = all c.pair-item.result.0 (address_at c.args.pairs.now _ c.pair-item.result c.loop-pair-test.true c.pair-item.is) in
+      let here : InBlock c.args.block c.pair-item.result.0 =
+      all c.pair-item.result.0 (address_at c.args.pairs.now _ c.pair-item.result c.loop-pair-test.true c.pair-item.is) in
       elim c.then-address-first.branch [
-        | then-address-first-via-then-address-first w ↦ absurd (omega (arith, here.0, here.1, c.loop-pair.invariant.first, c.address-address.ensures, w.if-address-first))
-        | then-address-first-via-else-address-first+then-last-address w ↦ absurd (omega (arith, here.0, here.1, c.loop-pair.invariant.last, c.address-address.ensures, w.if-last-address))
+        | then-address-first-via-then-address-first w ↦ absurd
+            (omega (arith, here.0, here.1, c.loop-pair.invariant.first, c.address-address.ensures, w.if-address-first))
+        | then-address-first-via-else-address-first+then-last-address w ↦ absurd
+            (omega (arith, here.0, here.1, c.loop-pair.invariant.last, c.address-address.ensures, w.if-last-address))
       ],
 )
 
@@ -22,5 +25,6 @@ loop-pair-preserved c =
     record {
       first = c.loop-pair.invariant.first;
       last = c.loop-pair.invariant.last;
-      within = within_more c.args.block c.args.pairs.now c.loop-pair.pair-index c.pair-item.result c.loop-pair-test.true c.pair-item.is c.loop-pair.invariant.within (first, last);
+      within = within_more c.args.block c.args.pairs.now c.loop-pair.pair-index c.pair-item.result c.loop-pair-test.true c.pair-item.is
+          c.loop-pair.invariant.within (first, last);
     }

@@ -15,7 +15,8 @@ loop-pair-init c = marking_none c.args.pairs.now
 pub loop-pair-preserved : goal.loop-pair-preserved
 loop-pair-preserved c =
     rw (c.from.ensures, c.address.ensures)
-    (marking_more c.args.pairs.now c.loop-pair.pair-index c.pair-item.result c.loop-pair.marks c.loop-pair-test.true c.pair-item.is (small c) c.loop-pair.invariant)
+    (marking_more c.args.pairs.now c.loop-pair.pair-index c.pair-item.result c.loop-pair.marks c.loop-pair-test.true c.pair-item.is
+    (small c) c.loop-pair.invariant)
 
 pub returns : goal.returns
 returns c =

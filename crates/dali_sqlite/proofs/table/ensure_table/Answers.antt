@@ -26,4 +26,5 @@ returns-clause-has g c up = if_ok c.create.result _ _ (λ made ours. elim ours [
 
 pub returns-clause-same : goal.returns-clause-same
 returns-clause-same g c up =
-    if_ok c.create.result _ _ (λ made xs held. absurd (never_missing c.args.conn.now.schema c.has_table.result c.has_table.ensures c.if-has_table.false held.has.table)) (c.create.ensures.made up.0)
+    if_ok c.create.result _ _ (λ made xs held. absurd (never_missing c.args.conn.now.schema c.has_table.result c.has_table.ensures c.if-has_table.false
+    held.has.table)) (c.create.ensures.made up.0)

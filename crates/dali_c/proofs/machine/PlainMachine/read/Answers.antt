@@ -10,7 +10,8 @@ pub returns-then-is_whole : goal.returns-then-is_whole
 returns-then-is_whole c =
     let p = c.args.self.now in
     let s = c.in_ok-state.state in
-    let whole : IsWhole (machine_with s (kept_of p.records)) = subst (λ k. IsWhole (machine_with s k)) c.in_ok-records.ensures.1 (c.is_whole.ensures.0 c.if-is_whole.true) in
+    let whole : IsWhole (machine_with s (kept_of p.records)) =
+    subst (λ k. IsWhole (machine_with s k)) c.in_ok-records.ensures.1 (c.is_whole.ensures.0 c.if-is_whole.true) in
     read_of p s (record { spells = c.in_ok-state.ensures.spelled; records = c.in_ok-records.ensures.0; whole = whole })
 
 pub returns-else-is_whole : goal.returns-else-is_whole

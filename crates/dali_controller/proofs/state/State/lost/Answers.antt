@@ -8,7 +8,8 @@ use Rattle.dali_controller.proofs.state.State.lost.Goals as goal
 pub returns-then-self-eq-TRIES-clause-next : goal.returns-then-self-eq-TRIES-clause-next
 returns-then-self-eq-TRIES-clause-next c =
     let is : c.args.self.now.tries + 1 ≡ 8 = grind (arith, nat_tests) in
-    lost_ended (with_kept c.args.self.now c.args.kept.now) c.new-self.result _ _ c.requires.whole c.requires.put c.new-self.ensures is c.done.ensures.order c.done.ensures.state
+    lost_ended (with_kept c.args.self.now c.args.kept.now) c.new-self.result _ _ c.requires.whole c.requires.put c.new-self.ensures is c.done.ensures.order
+    c.done.ensures.state
 
 pub begin-requires : goal.begin-requires
 begin-requires c =

@@ -15,7 +15,8 @@ ask-requires-clause-place c =
     let in_notes : i < length notes.items = omega (arith, notes.ok.0) in
     let in_places : i < length places.items = omega (arith, places.ok.0) in
     let same = ap (λ p. p.places) c.pass.view_is ∙ c.requires ∙ sym c.self.view_is in
-    same_at (λ n. n.cell) cell_name notes.items places.items i c.index_mut.result.now c.index.result.now same in_notes in_places c.index_mut.ensures.value c.index.ensures
+    same_at (λ n. n.cell) cell_name notes.items places.items i c.index_mut.result.now c.index.result.now same in_notes in_places c.index_mut.ensures.value
+    c.index.ensures
 
 pub ask-requires-clause-own : goal.ask-requires-clause-own
 ask-requires-clause-own c =
@@ -24,7 +25,8 @@ ask-requires-clause-own c =
     let x = c.index_mut.result.now in
     let within : i < length notes.items = omega (arith, notes.ok.0) in
     let at : i ≡ c.args.address = omega (arith, c.from-at.ensures, c.number.ensures.value) in
-    subst (IsOfAddress x.known) at (subst (λ o. IsOfAddress o i) (value_at (λ n. n.known) notes.items i x within c.index_mut.ensures.value None) (c.pass.invariant.1 i))
+    subst (IsOfAddress x.known) at (subst (λ o. IsOfAddress o i) (value_at (λ n. n.known) notes.items i x within c.index_mut.ensures.value None)
+    (c.pass.invariant.1 i))
 
 pub invariant_of-pass : goal.invariant_of-pass
 invariant_of-pass c =

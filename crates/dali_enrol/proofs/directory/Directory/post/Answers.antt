@@ -15,7 +15,8 @@ offer-requires-clause-place c =
     let in_notes : i < length notes.items = omega (arith, notes.ok.0) in
     let in_places : i < length places.items = omega (arith, places.ok.0) in
     let same = ap (λ p. p.places) c.pass.view_is ∙ c.requires ∙ sym c.self.view_is in
-    same_at (λ n. n.cell) cell_name notes.items places.items i c.index_mut.result.now c.index.result.now same in_notes in_places c.index_mut.ensures.value c.index.ensures
+    same_at (λ n. n.cell) cell_name notes.items places.items i c.index_mut.result.now c.index.result.now same in_notes in_places c.index_mut.ensures.value
+    c.index.ensures
 
 pub offer-requires-clause-own : goal.offer-requires-clause-own
 offer-requires-clause-own c =
@@ -24,7 +25,8 @@ offer-requires-clause-own c =
     let x = c.index_mut.result.now in
     let within : i < length notes.items = omega (arith, notes.ok.0) in
     let at : i ≡ c.args.card.value.short = c.from-at.ensures ∙ c.number.ensures.value ∙ c.short.ensures ∙ ap (λ e. e.short) c.deref.ensures in
-    subst (IsOfAddress x.known) at (subst (λ o. IsOfAddress o i) (value_at (λ n. n.known) notes.items i x within c.index_mut.ensures.value None) (c.pass.invariant.1 i))
+    subst (IsOfAddress x.known) at (subst (λ o. IsOfAddress o i) (value_at (λ n. n.known) notes.items i x within c.index_mut.ensures.value None)
+    (c.pass.invariant.1 i))
 
 pub invariant_of-pass : goal.invariant_of-pass
 invariant_of-pass c =
@@ -51,7 +53,8 @@ returns-clause-posted c =
     let within : i < length notes.items = omega (arith, notes.ok.0) in
     let at : i ≡ c.args.card.value.short = c.from-at.ensures ∙ c.number.ensures.value ∙ c.short.ensures ∙ ap (λ e. e.short) c.deref.ensures in
     let known = known_set (λ n. n.known) notes.items i y within in
-    on_ok_weaker c.offer.result (λ h. subst (λ k. get_or (map (λ n. n.known) (set notes.items i y)) k None ≡ Some c.args.card.value) at (known ∙ h.1)) c.offer.ensures.posted
+    on_ok_weaker c.offer.result (λ h. subst (λ k. get_or (map (λ n. n.known) (set notes.items i y)) k None ≡ Some c.args.card.value) at (known ∙ h.1))
+    c.offer.ensures.posted
 
 pub returns-clause-kept : goal.returns-clause-kept
 returns-clause-kept c =

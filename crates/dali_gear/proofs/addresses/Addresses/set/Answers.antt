@@ -4,5 +4,6 @@ use Rattle.dali_gear.proofs.addresses.Addresses.set.Goals as goal
 
 pub returns : goal.returns
 returns c =
-    address_set c.self.inside c.args.number c.args.address (search (rules, addresses_len)) (search (rules, addresses_len)) (search (rules, addresses_len)) (search (rules, addresses_len))
+    address_set c.self.inside c.args.number c.args.address (search (rules, addresses_len)) (search (rules, addresses_len)) (search (rules, addresses_len))
+    (search (rules, addresses_len))
     ∙ ap (λ xs. set xs c.args.number c.args.address) c.self.view_is

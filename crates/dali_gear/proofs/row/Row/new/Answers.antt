@@ -19,4 +19,9 @@ returns c = factory_is (record {
 }) c.args.count refl c.requires refl refl c.masked.ensures c.masked-2.ensures refl refl
 
 pub invariant_of-result : goal.invariant_of-result
-invariant_of-result c = record { few = c.requires; random = search rules; search = search rules; unpaired = λ none k below. get_or-replicate 128 k false false (let few = c.requires in omega arith) }
+invariant_of-result c = record {
+  few = c.requires;
+  random = search rules;
+  search = search rules;
+  unpaired = λ none k below. get_or-replicate 128 k false false (let few = c.requires in omega arith);
+}

@@ -15,7 +15,8 @@ returns c =
       paired = search (rules, row_len);
       first = search (rules, row_len);
     }) c.args.stays (rw (← c.self.view_is) at c.requires.one)
-    ∙ ap (λ gs. set gs c.args.number (record (get_or gs c.args.number fresh) { half = if c.args.stays then (get_or gs c.args.number fresh).half else None })) c.self.view_is
+    ∙ ap (λ gs. set gs c.args.number (record (get_or gs c.args.number fresh) { half = if c.args.stays then (get_or gs c.args.number fresh).half else None }))
+    c.self.view_is
 
 pub invariant_of-self : goal.invariant_of-self
 invariant_of-self c = record {

@@ -3,7 +3,8 @@ use Rattle.std.proofs.lemmas.List.{take_rest}
 use Rattle.std.specs.Prelude.{unwrap_or}
 use Rattle.dali_gear.specs.Gear.{fresh}
 use Rattle.dali_gear.specs.Row.{one_after}
-use Rattle.dali_gear.proofs.RowLemmas.{rest_is, next_is, Turn, gear_more, drawn_more, counted_more, summed_more, byte_bound, bit_bound, one_unpaired, unpaired_set}
+use Rattle.dali_gear.proofs.RowLemmas.{rest_is, next_is, Turn, gear_more, drawn_more, counted_more, summed_more, byte_bound, bit_bound, one_unpaired}
+use Rattle.dali_gear.proofs.RowLemmas.{unpaired_set}
 use Rattle.dali_gear.proofs.row.Row.take_each.Goals as goal
 
 pub loop-number-preserved : goal.loop-number-preserved
@@ -26,7 +27,8 @@ loop-number-preserved c =
       untouched = rw gear (rest_is c.loop-number.self c.args.self.now c.loop-number.number _ c.loop-number.invariant.untouched);
       gear = rw (gear, c.from-drawn.ensures) (gear_more _ _ _ _ _ _ _ _ _ _ _ turn c.loop-number.invariant.gear);
       drawn = rw c.from-drawn.ensures (drawn_more _ _ _ _ _ _ _ _ _ _ _ turn c.loop-number.invariant.drawn);
-      counted = rw (c.from-answers.ensures, c.is_some.ensures) (counted_more _ _ _ _ _ _ _ _ _ turn _ c.take_at-effect.ensures.answer _ _ c.loop-number.invariant.counted);
+      counted = rw (c.from-answers.ensures, c.is_some.ensures)
+          (counted_more _ _ _ _ _ _ _ _ _ turn _ c.take_at-effect.ensures.answer _ _ c.loop-number.invariant.counted);
       summed =
           let before = c.loop-number.invariant.summed in
           let byte = byte_bound c.take_at-effect.result.answer (search rules) in (
@@ -37,7 +39,8 @@ loop-number-preserved c =
           );
       few = let bit = bit_bound c.is_some.result in search rules;
       unpaired = λ off. rw gear (unpaired_set c.loop-number.self c.loop-number.number _ (c.loop-number.invariant.unpaired off)
-          (one_unpaired (old.powered && c.includes.result) c.args.command.now left old (c.requires.unpaired off).0 (c.loop-number.invariant.unpaired off c.loop-number.number)));
+          (one_unpaired (old.powered && c.includes.result) c.args.command.now left old (c.requires.unpaired off).0
+          (c.loop-number.invariant.unpaired off c.loop-number.number)));
       len = ap (λ gs. length gs) gear ∙ length-set c.loop-number.self c.loop-number.number _ ∙ c.loop-number.invariant.len;
     }
 

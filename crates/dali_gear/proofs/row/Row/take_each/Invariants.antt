@@ -7,7 +7,8 @@ use Rattle.dali_gear.proofs.row.Row.take_each.Given as goal
 abbrev pub invariant-loop-number : goal.invariant-loop-number
 invariant-loop-number l = record {
   untouched : drop l.number l.self ≡ drop l.number l.fn.self;
-  gear : take l.number l.self ++ row_after l.reach l.command l.number (drop l.number l.fn.self) (drop l.drawn l.draws) ≡ row_after l.reach l.command 0 l.fn.self l.draws;
+  gear : take l.number l.self ++ row_after l.reach l.command l.number (drop l.number l.fn.self) (drop l.drawn l.draws)
+      ≡ row_after l.reach l.command 0 l.fn.self l.draws;
   drawn : l.drawn + draws_needed l.reach l.command l.number (drop l.number l.fn.self) ≡ draws_needed l.reach l.command 0 l.fn.self;
   counted : l.answers + length (answers_of l.reach l.command l.number (drop l.number l.fn.self)) ≡ length (answers_of l.reach l.command 0 l.fn.self);
   summed : (bytes : ℕ) × (bytes + total (answers_of l.reach l.command l.number (drop l.number l.fn.self)) ≡ total (answers_of l.reach l.command 0 l.fn.self))

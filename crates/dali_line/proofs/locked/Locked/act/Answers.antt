@@ -6,4 +6,7 @@ use Rattle.dali_line.proofs.locked.Locked.act.Goals as goal
 pub invariant_of-self-2 : goal.invariant_of-self-2
 invariant_of-self-2 g c =
     let step = c.in_ok-receipt.ensures.step in
-    record { exact = step_counted _ _ _ _ (event.Acted c.controller-c.result c.args.input c.in_ok-receipt.receipt.order) _ _ c.audit.new.self.exact c.raise.ensures.tally c.controller-c.ensures step.0 refl (λ d. refl) step.1 }
+    record {
+      exact = step_counted _ _ _ _ (event.Acted c.controller-c.result c.args.input c.in_ok-receipt.receipt.order)
+          _ _ c.audit.new.self.exact c.raise.ensures.tally c.controller-c.ensures step.0 refl (λ d. refl) step.1;
+    }

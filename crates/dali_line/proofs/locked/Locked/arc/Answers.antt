@@ -17,4 +17,7 @@ invariant_of-self-2 g c =
     let known = logs.allowed.0.known in
     let few = c.audit.ensures.few in
     let there : c.controller.result < 4 = omega arith in
-    record { exact = step_counted _ _ _ _ (event.Offered c.controller.result c.args.frame) _ _ c.audit.new.self.exact c.raise.ensures.tally c.controller.ensures there refl (λ d. refl) logs.logged }
+    record {
+      exact = step_counted _ _ _ _ (event.Offered c.controller.result c.args.frame)
+          _ _ c.audit.new.self.exact c.raise.ensures.tally c.controller.ensures there refl (λ d. refl) logs.logged;
+    }

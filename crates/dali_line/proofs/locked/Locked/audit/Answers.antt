@@ -11,5 +11,6 @@ returns-clause-found g c =
     record {
       sound = record { run = c.is_safe.ensures.run; safe = c.is_safe.ensures.safe };
       promise = c.is_safe.ensures.promise;
-      share = sym (c.audit.ensures.exact ∙ ap (λ (t : Tally). count_at t c.args.port.now.controller) c.args.self.now.exact ∙ count_at-counts_of s.plan s.queue s.log _ c.is_safe.ensures.run few);
+      share = sym (c.audit.ensures.exact ∙ ap (λ (t : Tally). count_at t c.args.port.now.controller) c.args.self.now.exact
+          ∙ count_at-counts_of s.plan s.queue s.log _ c.is_safe.ensures.run few);
     }

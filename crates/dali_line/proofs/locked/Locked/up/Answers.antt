@@ -8,10 +8,15 @@ use Rattle.dali_line.proofs.Counts.{other_counted}
 use Rattle.dali_line.proofs.locked.Locked.up.Goals as goal
 
 pub invariant_of-self : goal.invariant_of-self
-invariant_of-self g c = record { exact = other_counted _ _ _ _ (event.Up c.args.c c.in-Ok.ensures.up.0) c.audit_driver.new.self.exact c.raise_driver.ensures.tally refl (λ d. refl) c.in-Ok.ensures.up.2.logged }
+invariant_of-self g c = record {
+  exact = other_counted _ _ _ _ (event.Up c.args.c c.in-Ok.ensures.up.0)
+      c.audit_driver.new.self.exact c.raise_driver.ensures.tally refl (λ d. refl) c.in-Ok.ensures.up.2.logged;
+}
 
 pub returns-in-Ok-clause-settled : goal.returns-in-Ok-clause-settled
 returns-in-Ok-clause-settled g c =
     let free = c.if-is_barred.ensures.free refl c.in-Ok.ensures.up.2.allowed.0 in
-    let found = subst (λ (s : SiteState). MayComeUp (state_of c.audit_driver.new.self.commits c.args.c) (controller_at (world s) c.args.c).records c.args.copy.now) c.audit_driver.ensures.site free in
-    subst (λ (x : List CommitState). MayComeUp (state_of x c.args.c) (controller_at (world c.args.self.now.site) c.args.c).records c.args.copy.now) c.audit_driver.ensures.commits found
+    let found = subst (λ (s : SiteState). MayComeUp (state_of c.audit_driver.new.self.commits c.args.c)
+    (controller_at (world s) c.args.c).records c.args.copy.now) c.audit_driver.ensures.site free in
+    subst (λ (x : List CommitState). MayComeUp (state_of x c.args.c) (controller_at (world c.args.self.now.site) c.args.c).records c.args.copy.now)
+    c.audit_driver.ensures.commits found

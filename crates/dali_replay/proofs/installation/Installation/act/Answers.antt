@@ -18,9 +18,11 @@ await_commit-requires c =
 pub returns-clause-stepped : goal.returns-clause-stepped
 returns-clause-stepped c =
     let n : Installation = record { site = c.self.inside.site; stores = c.self.inside.stores.items } in
-    rw (← c.self.view_is) (stepped_of n _ c.args.c c.args.input c.in_ok-receipt.receipt c.order-2.result c.order.result c.index_mut.result.now c.await_commit.new.self
+    rw (← c.self.view_is) (stepped_of n _ c.args.c c.args.input c.in_ok-receipt.receipt c.order-2.result c.order.result c.index_mut.result.now
+    c.await_commit.new.self
     (acted_of _ _ _ _ _ _ refl c.in_ok-receipt.ensures.answer) c.order-2.ensures c.order.ensures
-    (store_read n c.args.c c.index_mut.result.now c.index_mut.ensures.value (stores_there n c.args.c c.self.invariant (rw (← c.self.view_is) at c.requires.known)))
+    (store_read n c.args.c c.index_mut.result.now c.index_mut.ensures.value
+    (stores_there n c.args.c c.self.invariant (rw (← c.self.view_is) at c.requires.known)))
     c.await_commit.ensures refl)
 
 pub invariant_of-self-2 : goal.invariant_of-self-2
@@ -29,4 +31,5 @@ invariant_of-self-2 c =
     let there : c.args.c < length n.stores = stores_there n c.args.c c.self.invariant (rw (← c.self.view_is) at c.requires.known) in
     act_installed n.site c.act.new.self n.stores c.args.c c.args.input c.in_ok-receipt.receipt c.order.result c.index_mut.result.now c.await_commit.new.self
     (acted_of _ _ _ _ _ _ refl c.in_ok-receipt.ensures.answer) c.order.ensures there
-    (store_read n c.args.c c.index_mut.result.now c.index_mut.ensures.value there) (rw (← c.self.view_is) at c.requires.made) c.await_commit.ensures c.self.invariant
+    (store_read n c.args.c c.index_mut.result.now c.index_mut.ensures.value there)
+    (rw (← c.self.view_is) at c.requires.made) c.await_commit.ensures c.self.invariant

@@ -11,7 +11,8 @@ fits c = subst (λ (k : Kept). Fits k.block c.args.added) (sym c.self.view_is) c
 
 kept : (c : goal.Joined-add) → HasRecords c.add.new.self
 kept c =
-    records_after c.self.inside.kept c.add.new.self c.args.added c.add.result c.add.ensures.short (fits c) c.add.ensures.success c.add.ensures.ok c.add.ensures.err c.self.invariant
+    records_after c.self.inside.kept c.add.new.self c.args.added c.add.result c.add.ensures.short
+    (fits c) c.add.ensures.success c.add.ensures.ok c.add.ensures.err c.self.invariant
 
 pub invariant_of-self : goal.invariant_of-self
 invariant_of-self c = kept c
@@ -22,7 +23,8 @@ returns-clause-adds c = elim c.match-add.branch [
       subst
       (λ (k : Kept). (xs : List Record) → IsReplay k.block xs k → IsReplay c.add.new.self.block (xs ++ c.args.added ∷ []) c.add.new.self)
       c.self.view_is
-      (replay_ok c.self.inside.kept c.add.new.self c.args.added c.add.result w.in-Ok.field-0 w.in-Ok.is c.add.ensures.short (fits c) c.add.ensures.success c.add.ensures.ok)
+      (replay_ok c.self.inside.kept c.add.new.self c.args.added c.add.result w.in-Ok.field-0 w.in-Ok.is c.add.ensures.short
+      (fits c) c.add.ensures.success c.add.ensures.ok)
       )
   | in-Err-AddressTaken w ↦ rw w.result-is tt
   | in-Err-RandomTaken w ↦ rw w.result-is tt

@@ -55,8 +55,13 @@ get_spec 𝓤 𝓛 𝓜 𝓡 wired T L =
     let S = ended T in
     let stays : Stays S.signature.params S.kept = (stay_dropped self-slot yes, (stay_dropped origin-slot no, (stay_dropped (plain (λ _. usize)) yes, tt))) in
     let c = clauses T 𝓛 𝓜.mem 𝓡.returns in
-    proved_at 𝓛 S stays c 𝓜 𝓡
-    (Goes-dropped 𝓛 2 self-slot yes (λ κs x f. refl), (Goes-dropped 𝓛 2 origin-slot no (λ κs x f. refl), (Goes-dropped 𝓛 2 (plain (λ _. usize)) yes (λ κs x f. refl), tt)))
+    proved_at 𝓛 S stays c 𝓜 𝓡 (
+      Goes-dropped 𝓛 2 self-slot yes (λ κs x f. refl),
+      (
+        Goes-dropped 𝓛 2 origin-slot no (λ κs x f. refl),
+        (Goes-dropped 𝓛 2 (plain (λ _. usize)) yes (λ κs x f. refl), tt),
+      ),
+    )
     (#get (args E)) fn (code.unfolded 𝓤 𝓛.H 𝓜 𝓡 wired (T, tt)) (λ z are.
     let Post : Val → SProp 𝓤 = (walk_of 𝓛 S stays c).post z in
     let a = z.0.3 in let vss = z.0.4 in

@@ -26,7 +26,8 @@ use mir.Syntax.{Fn, w64}
 use mir.Val.{Val, vptr, vint, vunit}
 use prog.Wp.{Env, WpFn}
 use types.ByLocal.{alloc_all, pass_all, free_all, look_at, get, get_in, through, sets, take_at, give_at, env}
-use types.Kit.{‵, raw, ◌⊛◌, prop, at_ret, ◌$◌, ◌∵◌, !, qed, by, move, drop, use0, use1, use2, split, join, regoal, rewrite, fsplit, fsplit3, fjoin, fjoin3, feq_i, flt_i, flt_l}
+use types.Kit.{‵, raw, ◌⊛◌, prop, at_ret, ◌$◌, ◌∵◌, !, qed, by, move, drop, use0, use1, use2, split, join, regoal, rewrite, fsplit, fsplit3, fjoin, fjoin3}
+use types.Kit.{feq_i, flt_i, flt_l}
 use types.Part.{whole, sub}
 use types.Run.{init, stop, fld, unit_lit, of_opd, bin, size_lit, assigns_last, first, blocks, exec, returns, enter}
 use Rattle.std.specs.Prelude.{length}
@@ -54,7 +55,8 @@ put_spec 𝓤 𝓛 𝓜 𝓡 wired T L =
     let origin-slot = plain (λ _. origin.the_row (R E)) in
     let S = ended T in
     let stays : Stays S.signature.params S.kept =
-    (stay_ref (0 ∷ []) tt (plain (λ _. Self)), (stay_dropped origin-slot no, (stay_dropped (plain (λ _. usize)) yes, (stay_dropped (plain (λ _. R E)) no, tt)))) in
+    (stay_ref (0 ∷ []) tt (plain (λ _. Self)), (stay_dropped origin-slot no, (stay_dropped (plain (λ _. usize)) yes, (stay_dropped (plain (λ _. R E)) no, tt))))
+    in
     let c = clauses T 𝓛 𝓜.mem 𝓡.returns in
     proved_at 𝓛 S stays c 𝓜 𝓡 (
       Goes-ref 𝓛 2 0 tt (plain (λ _. Self)),
@@ -80,7 +82,8 @@ put_spec 𝓤 𝓛 𝓜 𝓡 wired T L =
     rewrite ! 0 (λ (us : List Val). ‵ (T.own_val item us)) given.1 refl $ move ! (3 ∷ []) $
     use1 𝓛 (‵ (flft κ q) ⊛ ‵ (flft z.0.0.1.0 z.0.1.1.0) ⊛ ‵ ftrue) (id⊢ 𝓤 _) $ split ! $ move ! (3 ∷ 4 ∷ 0 ∷ 2 ∷ []) $
     -- [what `self` is seen at; its borrow; the token; what the item owns; the other tokens]
-    regoal ! (λ (us : List Val). prop (WpFn 𝓤 𝓛.H C Λ fn us Post)) (λ j. are.0.0 j ++ (origin_is (R E) start vss.1.0 are.1.0 j ++ (are.1.1.0.0 j ++ (given.1 j ++ [])))) refl $
+    regoal ! (λ (us : List Val). prop (WpFn 𝓤 𝓛.H C Λ fn us Post))
+    (λ j. are.0.0 j ++ (origin_is (R E) start vss.1.0 are.1.0 j ++ (are.1.1.0.0 j ++ (given.1 j ++ [])))) refl $
     enter ! C Λ fn (vptr at.0 at.1 ∷ word start.pointer ∷ vint w64 i ∷ v ∷ []) Post $
     alloc_all ! (λ l. pass_all ! refl ((tt, tt), (word-Good [] start.pointer, ((tt, record { fits = are.1.1.0.1 }), (good, tt)))) $
     let En : Env 𝓤 𝓛.H = env fn.locals l in
@@ -104,7 +107,8 @@ put_spec 𝓤 𝓛 𝓜 𝓡 wired T L =
     move ! (1 ∷ 0 ∷ []) $ fjoin ! $ move ! (1 ∷ 0 ∷ []) $ closes ! tt Self new us at.0 at.1 $
     returns ! (look_at ! 0 refl) $ free_all ! refl $
     -- [what `self` is seen at; its borrow; the token; the other tokens]
-    feq_i ! (List Val) vss.0 (vptr at.0 at.1 ∷ []) are.0.0 $ fjoin3 ! $ nothing ! $ nothing ! $ fjoin ! $ nothing ! $ fjoin ! $ nothing ! $ fjoin ! $ move ! (1 ∷ 0 ∷ []) $ fjoin ! $
+    feq_i ! (List Val) vss.0 (vptr at.0 at.1 ∷ []) are.0.0 $ fjoin3 ! $ nothing ! $ nothing ! $ fjoin ! $ nothing ! $ fjoin ! $ nothing ! $ fjoin ! $ move !
+    (1 ∷ 0 ∷ []) $ fjoin ! $
     move ! (1 ∷ 2 ∷ []) $ join ! $ feq_i ! (List Val) (vunit ∷ []) (vunit ∷ []) refl $
     use0 𝓛 (raw (fact 𝓤 (new.items ≡ put_at i item p.items))) (fact_i 𝓤 (new.items ≡ put_at i item p.items) (emp 𝓤) refl) $
     use0 𝓛 (raw (fact 𝓤 ((new.origin ≡ p.origin) × (new.count ≡ p.count)))) (fact_i 𝓤 ((new.origin ≡ p.origin) × (new.count ≡ p.count)) (emp 𝓤) (refl, refl)) $

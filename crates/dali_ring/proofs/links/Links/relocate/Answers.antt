@@ -5,22 +5,27 @@ use Rattle.dali_ring.proofs.links.Links.relocate.Goals as goal
 use Rattle.dali_ring.proofs.links.Links.relocate.Goals.{then-next-self, else-next-self}
 
 pub read-at-requires : goal.read-at-requires
-read-at-requires g c = let p = c.requires.place in b_within _ _ _ c.args.to _ _ p.0 p.2 p.1 None c.requires.held c.requires.from c.requires.to c.requires.other p.3
+read-at-requires g c = let p =
+    c.requires.place in b_within _ _ _ c.args.to _ _ p.0 p.2 p.1 None c.requires.held c.requires.from c.requires.to c.requires.other p.3
 
 pub read-next-requires : goal.read-next-requires
 read-next-requires g c =
     let p = c.requires.place in
-    let low : c.read-at.result.link < c.args.self.now.capacity = first_low _ _ _ c.args.to _ _ p.0 p.2 p.1 None c.requires.held c.requires.from c.requires.to c.requires.other p.3 _ c.read-at.ensures in
+    let low : c.read-at.result.link < c.args.self.now.capacity =
+    first_low _ _ _ c.args.to _ _ p.0 p.2 p.1 None c.requires.held c.requires.from c.requires.to c.requires.other p.3 _ c.read-at.ensures in
     omega (arith, c.requires.held.slots)
 
 pub relink-requires : goal.relink-requires
-relink-requires g c = let p = c.requires.place in b_within _ _ _ c.args.to _ _ p.0 p.2 p.1 None c.requires.held c.requires.from c.requires.to c.requires.other p.3
+relink-requires g c = let p =
+    c.requires.place in b_within _ _ _ c.args.to _ _ p.0 p.2 p.1 None c.requires.held c.requires.from c.requires.to c.requires.other p.3
 
 pub write-requires : goal.write-requires
 write-requires g c =
     let p = c.requires.place in
-    let low : c.read-at.result.link < c.args.self.now.capacity = first_low _ _ _ c.args.to _ _ p.0 p.2 p.1 None c.requires.held c.requires.from c.requires.to c.requires.other p.3 _ c.read-at.ensures in
-    let same : length c.relink-2.new.self ≡ length c.args.self.now.slots = ap length c.relink-2.ensures ∙ length-set _ _ _ ∙ ap length c.relink.ensures ∙ length-set _ _ _ in
+    let low : c.read-at.result.link < c.args.self.now.capacity =
+    first_low _ _ _ c.args.to _ _ p.0 p.2 p.1 None c.requires.held c.requires.from c.requires.to c.requires.other p.3 _ c.read-at.ensures in
+    let same : length c.relink-2.new.self ≡ length c.args.self.now.slots =
+    ap length c.relink-2.ensures ∙ length-set _ _ _ ∙ ap length c.relink.ensures ∙ length-set _ _ _ in
     omega (arith, c.requires.held.slots, same)
 
 pub returns-clause-held : goal.returns-clause-held

@@ -33,12 +33,14 @@ read-before-requires g c = let i = c.loop-item.invariant in place_within _ _ _ i
 pub loop-item-smaller : goal.loop-item-smaller
 loop-item-smaller g c =
     let i = c.loop-item.invariant in
-    (swept_on _ _ _ _ _ _ _ _ _ _ c.requires.list i.0 i.1 _ i.2 (c.in-Some.ensures i.0 i.1 i.2.at) (λ e. c.if-sender.false (c.sender.ensures ∙ e)) _ c.read-before.ensures).1
+    (swept_on _ _ _ _ _ _ _ _ _ _ c.requires.list i.0 i.1 _ i.2 (c.in-Some.ensures i.0 i.1 i.2.at)
+    (λ e. c.if-sender.false (c.sender.ensures ∙ e)) _ c.read-before.ensures).1
 
 pub loop-item-preserved : goal.loop-item-preserved
 loop-item-preserved g c =
     let i = c.loop-item.invariant in
-    (swept_on _ _ _ _ _ _ _ _ _ _ c.requires.list i.0 i.1 _ i.2 (c.in-Some.ensures i.0 i.1 i.2.at) (λ e. c.if-sender.false (c.sender.ensures ∙ e)) _ c.read-before.ensures).0
+    (swept_on _ _ _ _ _ _ _ _ _ _ c.requires.list i.0 i.1 _ i.2 (c.in-Some.ensures i.0 i.1 i.2.at)
+    (λ e. c.if-sender.false (c.sender.ensures ∙ e)) _ c.read-before.ensures).0
 
 pub returns-clause-waiting : goal.returns-clause-waiting
 returns-clause-waiting g c =

@@ -9,4 +9,5 @@ returns-then-is_some g c =
 
 pub loop-number-preserved : goal.loop-number-preserved
 loop-number-preserved g c =
-    best_on _ _ _ c.loop-number.number _ c.self.view_is c.from.ensures c.loop-number.auto.number _ c.first.ensures c.loop-number.invariant (sym c.if-is_some.ensures)
+    best_on _ _ _ c.loop-number.number _ c.self.view_is c.from.ensures c.loop-number.auto.number _ c.first.ensures c.loop-number.invariant
+    (sym c.if-is_some.ensures)

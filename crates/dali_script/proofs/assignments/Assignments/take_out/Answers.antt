@@ -19,15 +19,20 @@ is_map c = rw (left c) (map_left (c.args.address, c.args.random) (pairs_in c.sel
 pub invariant_of-self : goal.invariant_of-self
 invariant_of-self c =
     let found = rw (c.pairs.ensures.value, ← c.self.view_is, c.of.ensures.pair) at c.in-Some.ensures in
-    let less : length (remove (pairs_in c.self.inside.pairs) c.in-Some.place) + 1 ≡ length (pairs_in c.self.inside.pairs) = length-remove (pairs_in c.self.inside.pairs) c.in-Some.place found.0 in
-    let same : length (pairs_in c.remove.new.self) ≡ c.remove.new.self.count = omega (arith, less, ap length c.remove.ensures.pairs, c.self.invariant.2, c.remove.ensures.count) in
+    let less : length (remove (pairs_in c.self.inside.pairs) c.in-Some.place) + 1 ≡ length (pairs_in c.self.inside.pairs) =
+    length-remove (pairs_in c.self.inside.pairs) c.in-Some.place found.0 in
+    let same : length (pairs_in c.remove.new.self) ≡ c.remove.new.self.count =
+    omega (arith, less, ap length c.remove.ensures.pairs, c.self.invariant.2, c.remove.ensures.count) in
     let map = is_map c in
     (omega (arith, same, map.room), map, same)
 
 pub returns-in-Some-clause-success : goal.returns-in-Some-clause-success
 returns-in-Some-clause-success c =
-    let found = rw (c.pairs.ensures.value, ← c.self.view_is, c.of.ensures.pair) at c.in-Some.ensures in
-    (λ _. rw (← c.self.view_is) (has_place (pairs_in c.self.inside.pairs) c.in-Some.place (c.args.address, c.args.random) (c.args.address, c.args.random) found.0 found.1), λ _. refl)
+    let found = rw (c.pairs.ensures.value, ← c.self.view_is, c.of.ensures.pair) at c.in-Some.ensures in (
+      λ _. rw (← c.self.view_is) (has_place (pairs_in c.self.inside.pairs) c.in-Some.place (c.args.address, c.args.random)
+          (c.args.address, c.args.random) found.0 found.1),
+      λ _. refl,
+    )
 
 pub returns-in-Some-clause-ok : goal.returns-in-Some-clause-ok
 returns-in-Some-clause-ok c = rw (← c.self.view_is) (left c)

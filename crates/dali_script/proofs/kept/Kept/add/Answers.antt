@@ -12,9 +12,11 @@ invariant_of-self c =
     record {
       reserved = c.insert.ensures.map;
       enrolled = kept.enrolled;
-      reserved_drawn = all_after (λ p. p.1) (λ n. n < MASK24) k.reserved c.insert.new.self (c.in-Reserve.address, c.in-Reserve.random) c.insert.result kept.reserved_drawn fits.1 c.insert.ensures.ok c.insert.ensures.err;
+      reserved_drawn = all_after (λ p. p.1) (λ n. n < MASK24) k.reserved c.insert.new.self
+          (c.in-Reserve.address, c.in-Reserve.random) c.insert.result kept.reserved_drawn fits.1 c.insert.ensures.ok c.insert.ensures.err;
       enrolled_drawn = kept.enrolled_drawn;
-      within = all_after (λ p. p.0) (InBlock k.table.block) k.reserved c.insert.new.self (c.in-Reserve.address, c.in-Reserve.random) c.insert.result kept.within fits.0 c.insert.ensures.ok c.insert.ensures.err;
+      within = all_after (λ p. p.0) (InBlock k.table.block) k.reserved c.insert.new.self
+          (c.in-Reserve.address, c.in-Reserve.random) c.insert.result kept.within fits.0 c.insert.ensures.ok c.insert.ensures.err;
     }
 
 pub invariant_of-self-in-Enrol : goal.invariant_of-self-in-Enrol
@@ -26,7 +28,9 @@ invariant_of-self-in-Enrol c =
       reserved = kept.reserved;
       enrolled = c.insert-in-Enrol.ensures.map;
       reserved_drawn = kept.reserved_drawn;
-      enrolled_drawn = all_after (λ p. p.1) (λ n. n < MASK24) k.table.entries c.insert-in-Enrol.new.self.entries (c.in-Enrol.address, c.in-Enrol.random) c.insert-in-Enrol.result kept.enrolled_drawn fits c.insert-in-Enrol.ensures.added c.insert-in-Enrol.ensures.unchanged;
+      enrolled_drawn = all_after (λ p. p.1) (λ n. n < MASK24) k.table.entries c.insert-in-Enrol.new.self.entries
+          (c.in-Enrol.address, c.in-Enrol.random) c.insert-in-Enrol.result kept.enrolled_drawn fits c.insert-in-Enrol.ensures.added
+          c.insert-in-Enrol.ensures.unchanged;
       within = subst (λ b. (a : ℕ) → HasAddress k.reserved a → InBlock b a) (sym c.insert-in-Enrol.ensures.block) kept.within;
     }
 
@@ -37,7 +41,9 @@ invariant_of-self-in-Release c =
     record {
       reserved = c.take_out.ensures.map;
       enrolled = kept.enrolled;
-      reserved_drawn = all_left (λ p. p.1) (λ n. n < MASK24) k.reserved c.take_out.new.self (c.in-Release.address, c.in-Release.random) c.take_out.result kept.reserved_drawn c.take_out.ensures.ok c.take_out.ensures.err;
+      reserved_drawn = all_left (λ p. p.1) (λ n. n < MASK24) k.reserved c.take_out.new.self
+          (c.in-Release.address, c.in-Release.random) c.take_out.result kept.reserved_drawn c.take_out.ensures.ok c.take_out.ensures.err;
       enrolled_drawn = kept.enrolled_drawn;
-      within = all_left (λ p. p.0) (InBlock k.table.block) k.reserved c.take_out.new.self (c.in-Release.address, c.in-Release.random) c.take_out.result kept.within c.take_out.ensures.ok c.take_out.ensures.err;
+      within = all_left (λ p. p.0) (InBlock k.table.block) k.reserved c.take_out.new.self
+          (c.in-Release.address, c.in-Release.random) c.take_out.result kept.within c.take_out.ensures.ok c.take_out.ensures.err;
     }

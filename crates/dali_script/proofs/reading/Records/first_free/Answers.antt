@@ -7,7 +7,8 @@ use Rattle.dali_script.proofs.reading.Records.first_free.Goals as goal
 pub loop-number-preserved : goal.loop-number-preserved
 loop-number-preserved c =
     let small : c.loop-number.number < 64 = omega arith in
-    let has : HasAddress c.self.inside.reserved.now c.loop-number.number = (c.marks-taken.ensures.marked c.loop-number.number small).0 c.if-not-taken-number.false in
+    let has : HasAddress c.self.inside.reserved.now c.loop-number.number =
+    (c.marks-taken.ensures.marked c.loop-number.number small).0 c.if-not-taken-number.false in
     reserved_more c.args.self.now.block c.args.self.now.reserved c.loop-number.number c.loop-number.invariant
     (subst (λ k. HasAddress k.reserved c.loop-number.number) c.self.view_is has)
 

@@ -6,4 +6,5 @@ pub returns : goal.returns
 returns c =
     let k = c.args.self.now in
     let kept = c.reserved_for.ensures.kept in
-    c.is_some.ensures ∙ goes_on_by k.block k.reserved c.args.random c.reserved_for.result kept.reserved kept.reserved_drawn kept.within c.reserved_for.ensures.value
+    c.is_some.ensures ∙ goes_on_by k.block k.reserved c.args.random c.reserved_for.result kept.reserved kept.reserved_drawn kept.within
+    c.reserved_for.ensures.value

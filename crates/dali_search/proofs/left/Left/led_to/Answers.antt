@@ -7,5 +7,7 @@ loop-init c = led_none c.value-least.result
 
 pub loop-preserved : goal.loop-preserved
 loop-preserved c =
-    led_more c.loop.counter c.value-least.result c.loop.left.low c.loop.left.high c.probe-asked.result _ _ (nat_le c.value-least.result c.value.result) (rw c.value-least.ensures.value c.value-least.ensures.range)
-    c.loop.invariant c.probe-asked.ensures (ap (λ a. nat_le c.value-least.result a) c.value.ensures.value) c.narrowed-left.ensures.low c.narrowed-left.ensures.high
+    led_more c.loop.counter c.value-least.result c.loop.left.low c.loop.left.high c.probe-asked.result _ _ (nat_le c.value-least.result c.value.result)
+    (rw c.value-least.ensures.value c.value-least.ensures.range)
+    c.loop.invariant c.probe-asked.ensures (ap (λ a. nat_le c.value-least.result a) c.value.ensures.value)
+    c.narrowed-left.ensures.low c.narrowed-left.ensures.high

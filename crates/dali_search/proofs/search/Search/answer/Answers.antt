@@ -9,12 +9,14 @@ returns-in_default-clause-below c = below_told _ _ _ c.self.invariant.0
 
 pub invariant_of-self : goal.invariant_of-self
 invariant_of-self c =
-    stands_more c.self.inside.answers c.self.inside.left.low c.self.inside.left.high _ _ c.self.inside.probe _ c.self.inside.step _ c.args.yes c.self.invariant.0 c.in-Again.is c.self.invariant.1
+    stands_more c.self.inside.answers c.self.inside.left.low c.self.inside.left.high _ _ c.self.inside.probe _ c.self.inside.step _ c.args.yes
+    c.self.invariant.0 c.in-Again.is c.self.invariant.1
     c.narrowed-self-inside.ensures.low c.narrowed-self-inside.ensures.high c.step-self-inside.ensures c.probe_after-self-inside.ensures
 
 pub returns-clause-asked : goal.returns-clause-asked
 returns-clause-asked c = λ _. rw (← c.self.view_is)
-    (heard_told c.self.inside.answers c.self.inside.left.low c.self.inside.left.high _ _ c.self.inside.probe c.self.inside.step c.args.yes c.self.invariant.0 c.in-Again.is c.self.invariant.1
+    (heard_told c.self.inside.answers c.self.inside.left.low c.self.inside.left.high _ _ c.self.inside.probe c.self.inside.step c.args.yes c.self.invariant.0
+    c.in-Again.is c.self.invariant.1
     c.narrowed-self-inside.ensures.low c.narrowed-self-inside.ensures.high)
 
 pub returns-clause-count : goal.returns-clause-count

@@ -9,5 +9,6 @@ returns-clause-sound g c sound up =
     let old = state g.S.Store c.args.self.now.conn in
     let kept = c.args.self.now.kept in
     let read : IsStored old kept c.args.self.now.count false = subst (IsStored old kept c.args.self.now.count) c.if-self.false sound in
-    more_stored old (state g.S.Store c.write.new.conn) kept c.add.new.self c.args.self.now.count c.in_ok-self.field-0 c.args.added c.add.ensures.short c.requires (c.in-Ok.ensures.success.0 refl)
+    more_stored old (state g.S.Store c.write.new.conn) kept c.add.new.self c.args.self.now.count c.in_ok-self.field-0 c.args.added c.add.ensures.short
+    c.requires (c.in-Ok.ensures.success.0 refl)
     c.in-Ok.ensures.ok c.in_ok-self.ensures.count (c.in_ok-self.ensures.added up.0) read

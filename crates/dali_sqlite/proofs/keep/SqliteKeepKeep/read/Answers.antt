@@ -5,7 +5,8 @@ use Rattle.dali_sqlite.proofs.keep.SqliteKeepKeep.read.Goals as goal
 
 pub returns-in_err-kept-clause-sound : goal.returns-in_err-kept-clause-sound
 returns-in_err-kept-clause-sound g c sound up =
-    still_stored (state g.S.Store c.args.self.now.conn) (state g.S.Store c.replay.new.conn) c.args.self.now.kept c.args.self.now.count c.args.self.now.must_read (c.replay.ensures.same up) sound
+    still_stored (state g.S.Store c.args.self.now.conn) (state g.S.Store c.replay.new.conn) c.args.self.now.kept c.args.self.now.count c.args.self.now.must_read
+    (c.replay.ensures.same up) sound
 
 pub returns-clause-sound : goal.returns-clause-sound
 returns-clause-sound g c sound up =

@@ -24,7 +24,8 @@ pub invariant_of-self : goal.invariant_of-self
 invariant_of-self c =
     let running = sender_runs _ _ c.args.request _ c.running-running.result c.owns-owned.result c.self.view_is c.self.invariant c.requires.next
     c.index_mut-seat.ensures.value c.owns-owned.ensures c.running-running.ensures in
-    (send_done _ _ c.args.request c.heard-heard.result _ _ _ _ c.running-running.result c.push.new.self c.complete-more.result c.self.view_is c.self.invariant c.requires.next c.requires.draws
+    (send_done _ _ c.args.request c.heard-heard.result _ _ _ _ c.running-running.result c.push.new.self c.complete-more.result c.self.view_is c.self.invariant
+    c.requires.next c.requires.draws
     (may_hear _ c.args.trouble c.take-plain.result c.heard-heard.result c.take-plain.ensures.answer c.heard-heard.ensures)
     c.index_mut-seat.ensures.value c.take-plain.ensures.state running c.push.ensures c.hear.ensures
     (rw c.kept.ensures at c.complete-more.ensures.stage) c.sent.ensures).settled
@@ -33,7 +34,8 @@ pub returns-clause-moves : goal.returns-clause-moves
 returns-clause-moves c =
     let running = sender_runs _ _ c.args.request _ c.running-running.result c.owns-owned.result c.self.view_is c.self.invariant c.requires.next
     c.index_mut-seat.ensures.value c.owns-owned.ensures c.running-running.ensures in
-    (send_done _ _ c.args.request c.heard-heard.result _ _ _ _ c.running-running.result c.push.new.self c.complete-more.result c.self.view_is c.self.invariant c.requires.next c.requires.draws
+    (send_done _ _ c.args.request c.heard-heard.result _ _ _ _ c.running-running.result c.push.new.self c.complete-more.result c.self.view_is c.self.invariant
+    c.requires.next c.requires.draws
     (may_hear _ c.args.trouble c.take-plain.result c.heard-heard.result c.take-plain.ensures.answer c.heard-heard.ensures)
     c.index_mut-seat.ensures.value c.take-plain.ensures.state running c.push.ensures c.hear.ensures
     (rw c.kept.ensures at c.complete-more.ensures.stage) c.sent.ensures).moves

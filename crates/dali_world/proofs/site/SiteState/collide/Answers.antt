@@ -9,7 +9,8 @@ collide-requires-clause-room c = lost_room _ _ _ _ _ c.args.request nobody_at_al
 
 pub invariant_of-self : goal.invariant_of-self
 invariant_of-self c =
-    site_goes_on _ _ _ _ _ _ _ _ (event.Collided c.args.request.sender c.args.request.frame c.in-Some.other.sender c.in-Some.other.frame) c.self.view_is c.self.invariant c.requires.room
+    site_goes_on _ _ _ _ _ _ _ _ (event.Collided c.args.request.sender c.args.request.frame c.in-Some.other.sender c.in-Some.other.frame)
+    c.self.view_is c.self.invariant c.requires.room
     (rw c.in-Some.is at c.collide.ensures.moves) c.append.ensures.items c.append.ensures.capacity (λ d. refl)
 
 pub invariant_of-self-in-None : goal.invariant_of-self-in-None
@@ -23,6 +24,7 @@ returns-in-Some c = (
   refl,
   refl,
   (c.in-Some.other, world_lists _ _ _ _ _ c.in-Some.other c.self.view_is c.self.invariant (sym c.collide.ensures.other ∙ c.in-Some.is), refl, refl),
-  site_logs _ _ _ _ _ _ _ (event.Collided c.args.request.sender c.args.request.frame c.in-Some.other.sender c.in-Some.other.frame) c.self.view_is c.self.invariant c.requires.room
+  site_logs _ _ _ _ _ _ _ (event.Collided c.args.request.sender c.args.request.frame c.in-Some.other.sender c.in-Some.other.frame)
+      c.self.view_is c.self.invariant c.requires.room
       (rw c.in-Some.is at c.collide.ensures.moves) c.append.ensures.items,
 )

@@ -4,7 +4,8 @@ use Rattle.dali_world.proofs.Logs.{site_goes_on, sent_room}
 use Rattle.dali_world.proofs.site.SiteState.send.Goals as goal
 
 pub send-heard-requires-clause-room : goal.send-heard-requires-clause-room
-send-heard-requires-clause-room c = sent_room _ _ _ _ _ c.args.request c.args.trouble c.self.view_is c.self.invariant c.requires.may c.requires.draws c.requires.sendable
+send-heard-requires-clause-room c =
+    sent_room _ _ _ _ _ c.args.request c.args.trouble c.self.view_is c.self.invariant c.requires.may c.requires.draws c.requires.sendable
 
 pub invariant_of-self : goal.invariant_of-self
 invariant_of-self c =
