@@ -35,13 +35,8 @@ pub fn write<S: Alter>(
         return Err(KeepError::StoreFailed);
     }
     let seq = (count + 1) as i64;
+    let kind = u32::from(added.code());
     let address = u32::from(added.address().number());
-    insert(
-        conn,
-        seq,
-        u32::from(added.code()),
-        address,
-        added.random().value(),
-    )?;
+    insert(conn, seq, kind, address, added.random().value())?;
     Ok(count + 1)
 }
