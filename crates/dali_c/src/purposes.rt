@@ -5,6 +5,7 @@ ghost use Rattle.dali_c.specs.Purposes.{purpose_of};
 
 use dali_controller::Purpose;
 use dali_frame::Short;
+use dali_script::End;
 
 /// The purpose with this code; `detail` is the short address that is asked, or the end of a close.
 pub(crate) fn purpose_of(code: u8, detail: u8) -> Option<Purpose>
