@@ -126,6 +126,18 @@ pub unfinished_is : (k : Kept) (a r : ℕ) (o : Option ℕ) → Some r ≡ numbe
 unfinished_is k a r o reserved enrolled =
     ap (unless_enrolled k.enrolled) (sym reserved) ∙ ap (λ x. if is_some x then None else Some r) (sym enrolled)
 
+-- one whose number is surely enrolled is finished
+pub surely_finished : (k : Kept) (a : ℕ) → ((r : ℕ) → Has k.reserved (a, r) → HasRandom k.enrolled r) → unfinished_at k a ≡ None
+surely_finished k a sure = go (number_at k.reserved a) (found_number k.reserved a) where
+  is_enrolled : (r : ℕ) (o : Option ℕ) → MatchOption o (HasRandom k.enrolled r → ⊥) (λ b. Has k.enrolled (b, r)) → HasRandom k.enrolled r
+      → (if is_some o then None else Some r) ≡ None
+  is_enrolled r None none there = absurd (none there)
+  is_enrolled r (Some b) found there = refl
+
+  go : (o : Option ℕ) → MatchOption o (HasAddress k.reserved a → ⊥) (λ r. Has k.reserved (a, r)) → unless_enrolled k.enrolled o ≡ None
+  go None none = refl
+  go (Some r) there = is_enrolled r (address_for k.enrolled r) (found_address k.enrolled r) (sure r there)
+
 -- the next one is looked for one address after the other
 pub one_passed : (k : Kept) (a : ℕ) → a < 64 → unfinished_at k a ≡ None → unfinished_among k (64 - a) a ≡ unfinished_among k (64 - (a + 1)) (a + 1)
 one_passed k a small none =

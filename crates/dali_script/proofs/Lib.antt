@@ -5,5 +5,6 @@ pub mod Transactions
 pub mod Senders
 pub mod Found
 pub mod Codes
+mod Matching
 mod Fronts
 mod Examples

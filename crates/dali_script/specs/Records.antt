@@ -47,6 +47,13 @@ pub record Marks (xs : List Assignment) (marks : List Bool) : Type 0 where
   pub all : length marks ≡ 64
   pub marked : (a : ℕ) → a < 64 → (slice_index_or marks a false ≡ true) ↔ HasAddress xs a
 
+-- The same of whether a pair has it for a number that none of the others may have: where it is not
+-- marked, they have the number.
+pub record MayBeUnmatched (xs ys : List Assignment) (marks : List Bool) : Type 0 where
+  pub all : length marks ≡ 64
+  pub matched :
+      (a r : ℕ) → Has xs (a, r) → slice_index_or marks a false ≡ false → HasRandom ys r
+
 -- the short address lies in the block
 abbrev pub InBlock : Block → ℕ → Type 0
 InBlock b a = (b.first ≤ a) × (a ≤ b.last)

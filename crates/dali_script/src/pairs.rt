@@ -1,8 +1,8 @@
 //! Lists of pairs: how they lie in memory, and how one is found in them.
 
-ghost use Rattle.std.specs.Prelude.{◌≡◌, ◌+◌, ◌<◌, ◌≤◌, ◌↔◌, [], ◌∷◌, ◌++◌, length, IsTrue};
+ghost use Rattle.std.specs.Prelude.{◌≡◌, ◌+◌, ◌<◌, ◌≤◌, ◌↔◌, [], ◌∷◌, ◌++◌, length, true, IsTrue};
 ghost use Rattle.std.specs.Prelude.{Some, None, IfSome, MatchOption, slice_index_or, remove};
-ghost use Rattle.dali_script.specs.Records.{Has, HasAddress, HasRandom, Marks, IsFresh};
+ghost use Rattle.dali_script.specs.Records.{Has, HasAddress, HasRandom, Marks, MayBeUnmatched, IsFresh};
 ghost use Rattle.dali_script.specs.Pairs.{pairs_in, AreShort};
 
 use crate::pair::Pair;
@@ -168,6 +168,33 @@ pub(crate) fn marks(pairs: &[Pair]) -> [bool; ROOM]
         marks[usize::from(pair.address())] = true;
     }
     marks
+}
+
+/// For each of the 64 short addresses, whether a pair may have it for a random address that none of the others has.
+///
+/// It goes over both lists side by side, once. Where it marks nothing that is sure; it may mark more, where the others
+/// stand in another order.
+pub(crate) fn maybe_unmatched(pairs: &[Pair], others: &[Pair]) -> [bool; ROOM]
+    requires { AreShort pairs.now }
+    ensures { MayBeUnmatched pairs.now others.now result }
+{
+    let mut marks = [false; ROOM];
+    let mut next = 0;
+    for pair in pairs {
+        if has_random_at(others, next, pair.random()) {
+            next += 1;
+        } else {
+            marks[usize::from(pair.address())] = true;
+        }
+    }
+    marks
+}
+
+/// Whether the pair at a place, if one is there, has this random address.
+fn has_random_at(pairs: &[Pair], place: usize, random: Random24) -> bool
+    ensures { result ≡ true → (place < length pairs.now) × HasRandom pairs.now random }
+{
+    place < pairs.len() && pairs[place].random() == random
 }
 
 /// Where a pair stands.

@@ -2,12 +2,12 @@
 
 ghost use Rattle.std.specs.Prelude.{◌≡◌, ◌↔◌, Some, None, IsTrue, IsSome, IfSome, MatchOption};
 ghost use Rattle.dali_script.specs.Records.{Kept, Has, HasAddress, HasRandom, IsLeastFree, IsFull, IsKept};
-ghost use Rattle.dali_script.specs.Records.{Fits, MayAdd};
+ghost use Rattle.dali_script.specs.Records.{Fits, MayAdd, MayBeUnmatched};
 
 use crate::block::Block;
 use crate::checks::{are_enrolled, are_within};
 use crate::pair::Pair;
-use crate::pairs::{at_address, at_random, marks, not_there, taken};
+use crate::pairs::{at_address, at_random, marks, maybe_unmatched, not_there, taken};
 use crate::records::{AddError, Record};
 use dali_frame::{Random24, Short};
 use std::marker::Model;
@@ -167,6 +167,16 @@ impl<'a> Records<'a> {
             }
         }
         None
+    }
+
+    /// For each of the 64 short addresses, whether the gear that it is reserved for may be one that is not enrolled.
+    ///
+    /// Where it is not marked, there is no such gear. It may be marked where there is none, if the gear were enrolled in
+    /// another order than they were reserved for. It goes over both lists once.
+    pub fn maybe_unfinished(&self) -> [bool; 64]
+        ensures { MayBeUnmatched self.now.reserved self.now.enrolled result }
+    {
+        maybe_unmatched(self.reserved, self.enrolled)
     }
 
     /// Whether an address is reserved for a random address.

@@ -1,21 +1,16 @@
-use Rattle.std.proofs.Common.{◌≡◌, ◌<◌, ◌∙◌, sym, subst, arith, Some, None}
+use Rattle.std.proofs.Common.{◌≡◌, ◌<◌, ◌∙◌, sym, arith, Some}
 use Rattle.dali_controller.specs.Course.{unfinished_at}
 use Rattle.dali_controller.proofs.Courses.{one_passed, one_found}
 use Rattle.dali_controller.proofs.unfinished.next_unfinished.Goals as goal
 
 pub loop-address-preserved : goal.loop-address-preserved
 loop-address-preserved c =
-    let k = c.args.kept.now in
     let small : c.loop-address.address < 64 = omega arith in
-    let here : c.in_ok-of.field-0 ≡ c.loop-address.address = c.in_ok-of.ensures.value in
-    let none : unfinished_at k c.loop-address.address ≡ None = subst (λ a. unfinished_at k a ≡ None) here (sym c.in_default.ensures.unfinished) in
-    c.loop-address.invariant ∙ one_passed k c.loop-address.address small none
+    c.loop-address.invariant ∙ one_passed c.args.kept.now c.loop-address.address small (sym c.in_default.ensures.unfinished)
 
 pub returns-in-Some-clause-next : goal.returns-in-Some-clause-next
 returns-in-Some-clause-next c =
     let k = c.args.kept.now in
     let small : c.loop-address.address < 64 = omega arith in
-    let here : c.in_ok-of.field-0 ≡ c.loop-address.address = c.in_ok-of.ensures.value in
-    let some : unfinished_at k c.loop-address.address ≡ Some c.in-Some.random =
-    subst (λ a. unfinished_at k a ≡ Some c.in-Some.random) here (sym c.in-Some.ensures.unfinished) in
+    let some : unfinished_at k c.loop-address.address ≡ Some c.in-Some.random = sym c.in-Some.ensures.unfinished in
     sym (c.loop-address.invariant ∙ one_found k c.loop-address.address c.in-Some.random small some)
