@@ -65,6 +65,8 @@ struct call {
 
 static uint32_t stacks[16][STACK_WORDS] ALIGNED;
 static struct course course;
+/* Of the two calls that take a step, those that ordered a later frame of a transaction, for which the bus waits. */
+static struct figure later[2][BANDS];
 
 /* Each measured call: how it is readied. The first one drives the commissioning, and the second one
  * takes the same step with a copy. */
@@ -303,19 +305,27 @@ static uint32_t measured(const struct call *call, const struct arguments *argume
 }
 #endif
 
-static void measure(struct call *call, uint32_t *stack)
+static void note(struct figure *bands, uint32_t count)
 {
-    struct figure *figure = &call->figures[course.enrolled < 16 * BANDS ? course.enrolled / 16 : BANDS - 1];
+    struct figure *figure = &bands[course.enrolled < 16 * BANDS ? course.enrolled / 16 : BANDS - 1];
+
+    figure->calls++;
+    figure->sum += count;
+    figure->most = count > figure->most ? count : figure->most;
+}
+
+/* How many instructions the call took. */
+static uint32_t measure(struct call *call, uint32_t *stack)
+{
     struct arguments arguments;
     uint32_t count, status;
 
     if (!call->ready(&course, &arguments))
-        return;
+        return 0;
     count = measured(call, &arguments, stack + STACK_WORDS, &status);
     must((uint8_t)status == DALI_OK, call->name);
-    figure->calls++;
-    figure->sum += count;
-    figure->most = count > figure->most ? count : figure->most;
+    note(call->figures, count);
+    return count;
 }
 
 static void measure_beside(void)
@@ -352,21 +362,37 @@ static int is_commissioned(void)
     return held == course.bus.gear_count && course.enrolled == held && course.order.kind == DALI_DONE;
 }
 
+/* Takes steps until the machine has ended. */
+static void run(void)
+{
+    course.told.input = DALI_START;
+    do {
+        uint32_t counts[2];
+
+        if (course.moment++ % BESIDE == 0)
+            measure_beside();
+        counts[1] = measure(&calls[1], stacks[1]);
+        counts[0] = measure(&calls[0], stacks[0]);
+        if (course.order.kind == DALI_PUT && course.order.priority == 1) {
+            note(later[0], counts[0]);
+            note(later[1], counts[1]);
+        }
+    } while (follow());
+    measure_beside();
+    must(is_commissioned(), "the gear are not commissioned");
+}
+
+/* A commissioning, and a machine that comes up with its records. */
 static void commission(uint64_t seed)
 {
     memset(&course, 0, sizeof course);
     bus_new(&course.bus, seed, BUS_MOST_GEAR);
     must(dali_records_new(&course.records, 0, DALI_ADDRESSES - 1) == DALI_OK, "no records");
     must(dali_machine_new(&course.machine, 0, &course.records) == DALI_OK, "no machine");
-    course.told.input = DALI_START;
-    do {
-        if (course.moment++ % BESIDE == 0)
-            measure_beside();
-        measure(&calls[1], stacks[1]);
-        measure(&calls[0], stacks[0]);
-    } while (follow());
-    measure_beside();
-    must(is_commissioned(), "the gear are not commissioned");
+    run();
+    must(dali_machine_records(&course.machine, &course.records) == DALI_OK, "no records");
+    must(dali_machine_new(&course.machine, 0, &course.records) == DALI_OK, "no machine");
+    run();
     say("frames");
     say_number(course.bus.frames);
     say("\n");
@@ -382,17 +408,22 @@ static uint32_t depth(const uint32_t *stack)
     return (STACK_WORDS - at) * 4;
 }
 
+static void report_figures(const struct figure *bands)
+{
+    for (unsigned band = 0; band < BANDS; band++) {
+        say_number(bands[band].calls);
+        say_number(bands[band].sum);
+        say_number(bands[band].most);
+    }
+    say("\n");
+}
+
 static void report_call(const struct call *call, const uint32_t *stack)
 {
     say("call ");
     say(call->name);
     say_number(depth(stack));
-    for (unsigned band = 0; band < BANDS; band++) {
-        say_number(call->figures[band].calls);
-        say_number(call->figures[band].sum);
-        say_number(call->figures[band].most);
-    }
-    say("\n");
+    report_figures(call->figures);
 }
 
 /* The simulated gear are those of the example, which can be killed; here nothing is. */
@@ -417,6 +448,12 @@ int main(void)
     }
     for (unsigned at = 0; at < CALLS; at++)
         report_call(&calls[at], stacks[at]);
+    for (unsigned at = 0; at < 2; at++) {
+        say("later ");
+        say(calls[at].name);
+        say_number(0);
+        report_figures(later[at]);
+    }
 #ifdef SAMPLED
     report_samples("at", samples_at);
     report_samples("above", samples_above);
