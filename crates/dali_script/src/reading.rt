@@ -171,8 +171,8 @@ impl<'a> Records<'a> {
 
     /// For each of the 64 short addresses, whether the gear that it is reserved for may be one that is not enrolled.
     ///
-    /// Where it is not marked, there is no such gear. It may be marked where there is none, if the gear were enrolled in
-    /// another order than they were reserved for. It goes over both lists once.
+    /// Where it is not marked, there is no such gear. It may be marked where there is none, if the gear were enrolled
+    /// in another order than they were reserved for. It goes over both lists once.
     pub fn maybe_unfinished(&self) -> [bool; 64]
         ensures { MayBeUnmatched self.now.reserved self.now.enrolled result }
     {
