@@ -54,8 +54,10 @@ pub enum Reply {
 pub enum Look {
     /// A frame waits for the bus.
     Asked(Tone),
-    /// A record is to be kept.
-    Commits(Record),
+    /// A reservation, an enrolment or a release is to be kept.
+    Reserves,
+    Enrols,
+    Releases,
     /// A commissioning ended.
     Ended,
     /// A machine halted.
@@ -130,7 +132,9 @@ fn order_look(order: Order) -> Look
 {
     match order {
         Order::Put(_, frame) => Look::Asked(tone_of(frame)),
-        Order::Commit(record) => Look::Commits(record),
+        Order::Commit(Record::Reserve(..)) => Look::Reserves,
+        Order::Commit(Record::Enrol(..)) => Look::Enrols,
+        Order::Commit(Record::Release(..)) => Look::Releases,
         Order::Done(_) => Look::Ended,
         Order::Halt(_) => Look::Halted,
     }

@@ -6,7 +6,6 @@ use crate::stays::{Shown, Stay};
 use crate::transactions::{Purpose, Transaction};
 use crate::words::{push_event, push_fold, push_plain, push_short, push_shown, push_transaction};
 use dali_gear::InitialisationState;
-use dali_script::Record;
 use dali_world::Event;
 use std::alloc::AllocError;
 
@@ -38,9 +37,9 @@ fn shape_of(look: Look) -> (&'static str, &'static str, &'static str) {
     match look {
         Look::Asked(tone) => ("ask", tone_class(tone), ""),
         Look::Sent(tone, reply) => ("frame", tone_class(tone), reply_class(reply)),
-        Look::Commits(Record::Reserve(..)) => ("commit", "p", ""),
-        Look::Commits(Record::Enrol(..)) => ("commit", "e", ""),
-        Look::Commits(Record::Release(..)) => ("commit", "x", ""),
+        Look::Reserves => ("commit", "p", ""),
+        Look::Enrols => ("commit", "e", ""),
+        Look::Releases => ("commit", "x", ""),
         Look::Ended => ("end", "e", ""),
         Look::Halted => ("end", "h", ""),
         Look::Destroyed => ("struck", "h", ""),
