@@ -17,10 +17,10 @@ loop-pair-preserved c =
     let i = c.loop-pair.pair-index in
     let p = c.pair-item.result in
     elim c.if-has_random_at.branch [
-    then-has_random_at w ↦
-      rw w.marks-is (matching_one xs ys i p c.loop-pair.marks c.loop-pair-test.true c.pair-item.is
-          (subst (λ n. HasRandom ys n) c.random.ensures (c.has_random_at.ensures w.if-has_random_at.true).1) c.loop-pair.invariant) |
-    else-has_random_at w ↦
-      rw (w.marks-is, w.from.ensures, w.address.ensures) (matching_marked xs ys i p c.loop-pair.marks c.loop-pair-test.true c.pair-item.is
+      | then-has_random_at w ↦
+          rw w.marks-is (matching_one xs ys i p c.loop-pair.marks c.loop-pair-test.true c.pair-item.is
+          (subst (λ n. HasRandom ys n) c.random.ensures (c.has_random_at.ensures w.if-has_random_at.true).1) c.loop-pair.invariant)
+      | else-has_random_at w ↦
+          rw (w.marks-is, w.from.ensures, w.address.ensures) (matching_marked xs ys i p c.loop-pair.marks c.loop-pair-test.true c.pair-item.is
           (c.requires p.0 (address_at xs i p c.loop-pair-test.true c.pair-item.is)) c.loop-pair.invariant)
     ]
