@@ -1,38 +1,25 @@
-use Rattle.std.proofs.Common.{◌≡◌, ℕ, ◌<◌, ◌≤◌, List, [], ◌∷◌, ◌++◌, Some, refl, inl, inr, lit<, lit≤, arith}
+use Rattle.std.proofs.Common.{◌≡◌, ℕ, ◌<◌, ◌≤◌, List, [], ◌∷◌, ◌++◌, Some, refl, inl, inr, lit<, arith}
 use Rattle.dali_frame.specs.declared.frames.Forward.{Forward}
 use Rattle.dali_frame.specs.declared.frames.Answer.{Answer}
-use Rattle.dali_frame.specs.declared.frames.Answer.TheVariants.{Silence, Byte}
-use Rattle.dali_frame.specs.declared.numbers.SearchAddress.{SearchAddress}
+use Rattle.dali_frame.specs.declared.frames.Answer.TheVariants.{Silence}
 use Rattle.dali_frame.specs.Random.{MASK24}
 use Rattle.dali_special.specs.Command.{command_of, frame}
-use Rattle.dali_script.specs.declared.block.Block.{Block}
 use Rattle.dali_script.specs.declared.trace.Entry.{Entry}
-use Rattle.dali_script.specs.declared.records.Record.TheVariants.{Reserve}
 use Rattle.dali_script.specs.Records.{Has, InBlock}
-use Rattle.dali_script.specs.Scripts.{Open, Probe, Look, Give, MayGive}
 use Rattle.dali_script.specs.Stages.{stage_of}
 use Rattle.dali_script.specs.declared.orders.Input.TheVariants as input
-use Rattle.dali_script.specs.declared.orders.Order.TheVariants.{Put, Commit}
 use Rattle.dali_events.specs.declared.event.Event.{Event}
-use Rattle.dali_events.specs.declared.event.Event.TheVariants as event
 use Rattle.dali_events.specs.Plan.{Plan, IsPlan, block_at}
 use Rattle.dali_events.specs.World.{gear_at, start}
 use Rattle.dali_events.specs.Runs.{after, AllAllowed}
 use Rattle.dali_events.specs.Searching.{SearchesAll, NobodyAnswers, up_to_compare, sent_event}
+use Rattle.dali_events.proofs.Histories.Openings.{first_block, at_123456, query, visit}
+use Rattle.dali_events.proofs.Histories.Tested.{all_allowed_by}
 
 -- A WHOLE RUN: one gear and one controller. An opening, a number that is reserved, an address that is given, and at last a
 -- COMPARE under FFFFFE that nobody answers. It shows that the laws speak of something.
-abbrev block : Block
-block = record { first = 0; last = 3 }
-
 abbrev plan : Plan
-plan = record { gear = 1; blocks = block ∷ []; draws = 0x123456 ∷ [] }
-
-abbrev number : SearchAddress
-number = record { high = 0x12; middle = 0x34; low = 0x56 }
-
-abbrev highest : SearchAddress
-highest = record { high = 0xFF; middle = 0xFF; low = 0xFE }
+plan = record { gear = 1; blocks = first_block ∷ []; draws = 0x123456 ∷ [] }
 
 abbrev heard : Forward → Answer → Entry
 heard f h = record { frame = f; heard = h }
@@ -55,20 +42,13 @@ opening = sent_event 0 initialise ∷ sent_event 0 initialise ∷ sent_event 0 r
 
 -- the number is reserved, the gear at it is asked, given an address, asked again and withdrawn; and the search address is set
 abbrev middle : List Event
-middle =
-    event.Acted 0 (input.Heard Silence) (Commit (Reserve 0 0x123456)) ∷
-    event.Acted 0 input.Committed (Put 3 (frame 0xB1 0x12)) ∷
-    sent_event 0 (silent 0xB1 0x12) ∷
-    sent_event 0 (silent 0xB3 0x34) ∷
-    sent_event 0 (silent 0xB5 0x56) ∷
-    sent_event 0 (heard (frame 0xBB 0) (Byte 0xFF)) ∷
-    sent_event 0 (silent 0xB7 0x01) ∷
-    sent_event 0 (heard (frame 0xBB 0) (Byte 0x01)) ∷
+middle = visit 0 (input.Heard Silence) at_123456 0 ++ (
+    query 0 0x01 ∷
     sent_event 0 (silent 0xAB 0) ∷
     sent_event 0 (silent 0xB1 0xFF) ∷
     sent_event 0 (silent 0xB3 0xFF) ∷
     sent_event 0 (silent 0xB5 0xFE) ∷
-    []
+    [])
 
 abbrev compare : Entry
 compare = silent 0xA9 0
@@ -93,7 +73,7 @@ is_plan = record {
 
     first : c ≡ 0 → InBlock (block_at plan c) a → a < 64
     first e within =
-        let at : InBlock block a = rw e at within in
+        let at : InBlock first_block a = rw e at within in
         let high : a ≤ 3 = at.1 in
         omega arith
 
@@ -101,127 +81,9 @@ is_plan = record {
   below r (inl e) = rw (← e) (lit< tt)
   below r (inr h) = absurd h
 
--- what may be given
-may_give : MayGive block ((0, 0x123456) ∷ []) number 0
-may_give = record { drawn = lit< tt; within = (lit≤ tt, lit≤ tt); reserved_for = inl refl }
-
 allowed : AllAllowed (start plan 8) (up_to_compare [] 0 terminate opening randomise (middle ++ sent_event 0 compare ∷ []))
 unfolding command_of stage_of
-allowed = (
-  record { up = record { known = lit< tt; up = refl }; may = inr (refl, (block, [], (Open, tt, refl))); draws = lit≤ tt; heard = tt },
-  (
-    record { up = record { known = lit< tt; up = refl }; may = inl (refl, (Open, tt, (refl, tt, refl))); draws = lit≤ tt; heard = tt },
-    (
-      record { up = record { known = lit< tt; up = refl }; may = inl (refl, (Open, tt, (refl, tt, (refl, tt, refl)))); draws = lit≤ tt; heard = tt },
-      (
-        record {
-          up = record { known = lit< tt; up = refl };
-          may = inl (refl, (Open, tt, (refl, tt, (refl, tt, (refl, tt, refl)))));
-          draws = lit≤ tt;
-          heard = tt;
-        },
-        (
-          record {
-            up = record { known = lit< tt; up = refl };
-            may = inl (refl, (Open, tt, (refl, tt, (refl, tt, (refl, tt, (refl, tt, refl))))));
-            draws = lit≤ tt;
-            heard = tt;
-          },
-          (
-            record { up = record { known = lit< tt; up = refl }; due = refl; order = (refl, ((lit≤ tt, lit≤ tt), lit< tt, (λ h. h, λ h. h))) },
-            (
-              record { up = record { known = lit< tt; up = refl }; due = tt; order = inl (refl, (block, [], (Probe number, tt, refl))) },
-              (
-                record { up = record { known = lit< tt; up = refl }; may = inr (refl, (block, [], (Probe number, tt, refl))); draws = lit≤ tt; heard = tt },
-                (
-                  record { up = record { known = lit< tt; up = refl }; may = inl (refl, (Probe number, tt, (refl, tt, refl))); draws = lit≤ tt; heard = tt },
-                  (
-                    record {
-                      up = record { known = lit< tt; up = refl };
-                      may = inl (refl, (Probe number, tt, (refl, tt, (refl, tt, refl))));
-                      draws = lit≤ tt;
-                      heard = tt;
-                    },
-                    (
-                      record {
-                        up = record { known = lit< tt; up = refl };
-                        may = inl (refl, (Look number, tt, (refl, tt, (refl, tt, (refl, tt, refl)))));
-                        draws = lit≤ tt;
-                        heard = (λ e. cc, (refl, tt));
-                      },
-                      (
-                        record {
-                          up = record { known = lit< tt; up = refl };
-                          may = inl
-                              (refl, (Give number 0, may_give, (refl, tt, (refl, tt, (refl, tt, (refl, refl, refl))))));
-                          draws = lit≤ tt;
-                          heard = tt;
-                        },
-                        (
-                          record {
-                            up = record { known = lit< tt; up = refl };
-                            may = inl
-                                (refl, (Give number 0, may_give, (refl, tt, (refl, tt, (refl, tt, (refl, refl, (refl, tt, refl)))))));
-                            draws = lit≤ tt;
-                            heard =
-                                (λ e. cc, (refl, tt));
-                          },
-                          (
-                            record {
-                              up = record { known = lit< tt; up = refl };
-                              may = inl
-                                  (refl, (Give number 0, may_give, (refl, tt, (refl, tt, (refl, tt, (refl, refl, (refl, tt, (refl, refl, refl))))))));
-                              draws =
-                                  lit≤ tt;
-                              heard = tt;
-                            },
-                            (
-                              record {
-                                up = record { known = lit< tt; up = refl };
-                                may = inr (refl, (block, [], (Probe highest, tt, refl)));
-                                draws = lit≤ tt;
-                                heard = tt;
-                              },
-                              (
-                                record {
-                                  up = record { known = lit< tt; up = refl };
-                                  may = inl (refl, (Probe highest, tt, (refl, tt, refl)));
-                                  draws = lit≤ tt;
-                                  heard = tt;
-                                },
-                                (
-                                  record {
-                                    up = record { known = lit< tt; up = refl };
-                                    may = inl (refl, (Probe highest, tt, (refl, tt, (refl, tt, refl))));
-                                    draws = lit≤ tt;
-                                    heard = tt;
-                                  },
-                                  (
-                                    record {
-                                      up = record { known = lit< tt; up = refl };
-                                      may = inl (refl, (Probe highest, tt, (refl, tt, (refl, tt, (refl, tt, refl)))));
-                                      draws = lit≤ tt;
-                                      heard = tt;
-                                    },
-                                    tt,
-                                  ),
-                                ),
-                              ),
-                            ),
-                          ),
-                        ),
-                      ),
-                    ),
-                  ),
-                ),
-              ),
-            ),
-          ),
-        ),
-      ),
-    ),
-  ),
-)
+allowed = all_allowed_by (start plan 8) (up_to_compare [] 0 terminate opening randomise (middle ++ sent_event 0 compare ∷ [])) refl
 
 searches : SearchesAll plan 8 [] 0 terminate opening randomise middle compare
 unfolding command_of stage_of

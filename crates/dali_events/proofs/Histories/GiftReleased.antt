@@ -1,18 +1,15 @@
-use Rattle.std.proofs.Common.{◌≡◌, ℕ, List, [], ◌∷◌, Some, None, refl, inl, inr, lit<, lit≤, arith}
+use Rattle.std.proofs.Common.{◌≡◌, ℕ, true, List, [], ◌∷◌, ◌++◌, Some, None, refl, inl, lit<}
 use Rattle.dali_frame.specs.declared.frames.Answer.TheVariants.{Silence, Byte}
-use Rattle.dali_frame.specs.declared.numbers.SearchAddress.{SearchAddress}
-use Rattle.dali_special.specs.Command.{command_of, frame}
-use Rattle.dali_script.specs.declared.block.Block.{Block}
+use Rattle.dali_special.specs.Command.{command_of}
 use Rattle.dali_script.specs.declared.finding.Finding.{Finding}
 use Rattle.dali_script.specs.declared.finding.Finding.TheVariants.{Queried}
-use Rattle.dali_script.specs.declared.records.Record.TheVariants.{Reserve, Release}
+use Rattle.dali_script.specs.declared.records.Record.TheVariants.{Release}
 use Rattle.dali_script.specs.Records.{MayAdd}
 use Rattle.dali_script.specs.Findings.{assigned}
-use Rattle.dali_script.specs.Scripts.{Open, Probe, Look, Give, MayGive}
 use Rattle.dali_script.specs.Stages.{stage_of}
 use Rattle.dali_script.specs.declared.orders.Input.{Input}
 use Rattle.dali_script.specs.declared.orders.Input.TheVariants as input
-use Rattle.dali_script.specs.declared.orders.Order.TheVariants.{Put, Commit}
+use Rattle.dali_script.specs.declared.orders.Order.TheVariants.{Commit}
 use Rattle.dali_events.specs.declared.event.Event.{Event}
 use Rattle.dali_events.specs.declared.event.Event.TheVariants as event
 use Rattle.dali_events.specs.Plan.{Plan}
@@ -21,6 +18,8 @@ use Rattle.dali_events.specs.Happens.{happens, controller_informed}
 use Rattle.dali_events.specs.Allowed.{Allowed, IsUp, IsDue}
 use Rattle.dali_events.specs.Runs.{after}
 use Rattle.dali_events.specs.Promise.{KeepsPromiseNow}
+use Rattle.dali_events.proofs.Histories.Openings.{first_block, at_123456, at_0abcde, query, opening, visit, two_gear}
+use Rattle.dali_events.proofs.Histories.Tested.{is_allowed, allowed_by, EachIs, after_each, each_passes, each_is_by, each_is_after}
 
 -- THE OTHER ADDRESS MATTERS. A variant of the rules, in which a controller may also release what it has reserved for a gear that
 -- has this address; and a list of events that it allows, in which two gear store one address.
@@ -40,201 +39,53 @@ AllowedToo w (event.Acted c i (Commit (Release a r))) = IsReleased w c i a r
 AllowedToo w e = Allowed w e
 
 abbrev AllAllowedToo : World → List Event → Type 0
-AllAllowedToo w [] = Unit {0}
-AllAllowedToo w (e ∷ es) = AllowedToo w e × AllAllowedToo (happens w e) es
+AllAllowedToo w es = EachIs AllowedToo happens w es
+
+-- what the rules allow it allows
+allowed_too : (w : World) (e : Event) → Allowed w e → AllowedToo w e
+allowed_too w (event.Acted c i (Commit (Release a r))) here =
+    let other = here.order.1.1 in
+    record { up = here.up; due = here.due; none = here.order.0; reserved = here.order.1.0; found = (other.0, other.1, other.2, other.3) }
+allowed_too w e here = here
 
 -- ---------------------------------------------------------------- the events
 
-abbrev block : Block
-block = record { first = 0; last = 3 }
-
 abbrev plan : Plan
-plan = record { gear = 2; blocks = block ∷ []; draws = 0x123456 ∷ 0x0ABCDE ∷ [] }
-
-abbrev at_123456 : SearchAddress
-at_123456 = record { high = 0x12; middle = 0x34; low = 0x56 }
-
-abbrev at_0abcde : SearchAddress
-at_0abcde = record { high = 0x0A; middle = 0xBC; low = 0xDE }
-
-abbrev silent : ℕ → ℕ → Event
-silent address byte = event.Sent 0 (frame address byte) Silence
-
-abbrev query : ℕ → Event
-query byte = event.Sent 0 (frame 0xBB 0) (Byte byte)
+plan = record { gear = 2; blocks = first_block ∷ []; draws = 0x123456 ∷ 0x0ABCDE ∷ [] }
 
 -- the gear at 123456 is given the address 0 and found with it, and the address is released; then it is given to the gear at
 -- 0ABCDE
+abbrev giving : List Event
+giving = opening 0 ++ (visit 0 (input.Heard Silence) at_123456 0 ++ (query 0 0x01 ∷ []))
+
+abbrev releasing : Event
+releasing = event.Acted 0 (input.Heard (Byte 0x01)) (Commit (Release 0 0x123456))
+
 abbrev giving_again : List Event
-giving_again =
-    silent 0xA1 0 ∷
-    silent 0xA5 0xFF ∷
-    silent 0xA5 0xFF ∷
-    silent 0xA7 0 ∷
-    silent 0xA7 0 ∷
-    event.Acted 0 (input.Heard Silence) (Commit (Reserve 0 0x123456)) ∷
-    event.Acted 0 input.Committed (Put 3 (frame 0xB1 0x12)) ∷
-    silent 0xB1 0x12 ∷
-    silent 0xB3 0x34 ∷
-    silent 0xB5 0x56 ∷
-    query 0xFF ∷
-    silent 0xB7 0x01 ∷
-    query 0x01 ∷
-    event.Acted 0 (input.Heard (Byte 0x01)) (Commit (Release 0 0x123456)) ∷
-    event.Acted 0 input.Committed (Commit (Reserve 0 0x0ABCDE)) ∷
-    event.Acted 0 input.Committed (Put 3 (frame 0xB1 0x0A)) ∷
-    silent 0xB1 0x0A ∷
-    silent 0xB3 0xBC ∷
-    silent 0xB5 0xDE ∷
-    query 0xFF ∷
-    silent 0xB7 0x01 ∷
-    []
+giving_again = giving ++ (releasing ∷ visit 0 input.Committed at_0abcde 0)
 
-may_give_123456 : MayGive block ((0, 0x123456) ∷ []) at_123456 0
-may_give_123456 = record { drawn = lit< tt; within = (lit≤ tt, lit≤ tt); reserved_for = inl refl }
-
-may_give_0abcde : MayGive block ((0, 0x0ABCDE) ∷ []) at_0abcde 0
-may_give_0abcde = record { drawn = lit< tt; within = (lit≤ tt, lit≤ tt); reserved_for = inl refl }
+-- events that the rules allow
+by_rules : (w : World) (es : List Event) → each_passes is_allowed happens w es ≡ true → AllAllowedToo w es
+by_rules w es passes = each_is_by AllowedToo is_allowed happens (λ w e pass. allowed_too w e (allowed_by w e pass)) w es passes
 
 allowed : AllAllowedToo (start plan 8) giving_again
 unfolding command_of stage_of
-allowed = (
-  record { up = record { known = lit< tt; up = refl }; may = inr (refl, (block, [], (Open, tt, refl))); draws = lit≤ tt; heard = tt },
-  (
-    record { up = record { known = lit< tt; up = refl }; may = inl (refl, (Open, tt, (refl, tt, refl))); draws = lit≤ tt; heard = tt },
-    (
-      record { up = record { known = lit< tt; up = refl }; may = inl (refl, (Open, tt, (refl, tt, (refl, tt, refl)))); draws = lit≤ tt; heard = tt },
-      (
-        record {
-          up = record { known = lit< tt; up = refl };
-          may = inl (refl, (Open, tt, (refl, tt, (refl, tt, (refl, tt, refl)))));
-          draws = lit≤ tt;
-          heard = tt;
-        },
-        (
-          record {
-            up = record { known = lit< tt; up = refl };
-            may = inl (refl, (Open, tt, (refl, tt, (refl, tt, (refl, tt, (refl, tt, refl))))));
-            draws = lit≤ tt;
-            heard = tt;
-          },
-          (
-            record { up = record { known = lit< tt; up = refl }; due = refl; order = (refl, ((lit≤ tt, lit≤ tt), lit< tt, (λ h. h, λ h. h))) },
-            (
-              record { up = record { known = lit< tt; up = refl }; due = tt; order = inl (refl, (block, [], (Probe at_123456, tt, refl))) },
-              (
-                record { up = record { known = lit< tt; up = refl }; may = inr (refl, (block, [], (Probe at_123456, tt, refl))); draws = lit≤ tt; heard = tt },
-                (
-                  record { up = record { known = lit< tt; up = refl }; may = inl (refl, (Probe at_123456, tt, (refl, tt, refl))); draws = lit≤ tt; heard = tt },
-                  (
-                    record {
-                      up = record { known = lit< tt; up = refl };
-                      may = inl (refl, (Probe at_123456, tt, (refl, tt, (refl, tt, refl))));
-                      draws = lit≤ tt;
-                      heard = tt;
-                    },
-                    (
-                      record {
-                        up = record { known = lit< tt; up = refl };
-                        may = inl (refl, (Look at_123456, tt, (refl, tt, (refl, tt, (refl, tt, refl)))));
-                        draws = lit≤ tt;
-                        heard = (λ e. cc, (refl, tt));
-                      },
-                      (
-                        record {
-                          up = record { known = lit< tt; up = refl };
-                          may = inl
-                              (refl, (Give at_123456 0, may_give_123456, (refl, tt, (refl, tt, (refl, tt, (refl, refl, refl))))));
-                          draws = lit≤ tt;
-                          heard = tt;
-                        },
-                        (
-                          record {
-                            up = record { known = lit< tt; up = refl };
-                            may = inl
-                                (refl, (Give at_123456 0, may_give_123456, (refl, tt, (refl, tt, (refl, tt, (refl, refl, (refl, tt, refl)))))));
-                            draws =
-                                lit≤ tt;
-                            heard = (λ e. cc, (refl, tt));
-                          },
-                          (
-                            record {
-                              up = record { known = lit< tt; up = refl };
-                              due = refl;
-                              none = refl;
-                              reserved = inl refl;
-                              found = (Queried 0 0x123456, refl, 0, refl);
-                            },
-                            (
-                              record { up = record { known = lit< tt; up = refl }; due = tt; order = (refl, ((lit≤ tt, lit≤ tt), lit< tt, (λ h. h, λ h. h))) },
-                              (
-                                record { up = record { known = lit< tt; up = refl }; due = tt; order = inl (refl, (block, [], (Probe at_0abcde, tt, refl))) },
-                                (
-                                  record {
-                                    up = record { known = lit< tt; up = refl };
-                                    may = inr (refl, (block, [], (Probe at_0abcde, tt, refl)));
-                                    draws = lit≤ tt;
-                                    heard = tt;
-                                  },
-                                  (
-                                    record {
-                                      up = record { known = lit< tt; up = refl };
-                                      may = inl (refl, (Probe at_0abcde, tt, (refl, tt, refl)));
-                                      draws = lit≤ tt;
-                                      heard = tt;
-                                    },
-                                    (
-                                      record {
-                                        up = record { known = lit< tt; up = refl };
-                                        may = inl (refl, (Probe at_0abcde, tt, (refl, tt, (refl, tt, refl))));
-                                        draws = lit≤ tt;
-                                        heard = tt;
-                                      },
-                                      (
-                                        record {
-                                          up = record { known = lit< tt; up = refl };
-                                          may = inl (refl, (Look at_0abcde, tt, (refl, tt, (refl, tt, (refl, tt, refl)))));
-                                          draws = lit≤ tt;
-                                          heard =
-                                              (λ e. cc, (refl, tt));
-                                        },
-                                        (
-                                          record {
-                                            up = record { known = lit< tt; up = refl };
-                                            may = inl (refl, (Give at_0abcde 0, may_give_0abcde, (refl, tt, (refl, tt, (refl, tt, (refl, refl, refl))))));
-                                            draws = lit≤ tt;
-                                            heard = tt;
-                                          },
-                                          tt,
-                                        ),
-                                      ),
-                                    ),
-                                  ),
-                                ),
-                              ),
-                            ),
-                          ),
-                        ),
-                      ),
-                    ),
-                  ),
-                ),
-              ),
-            ),
-          ),
-        ),
-      ),
-    ),
-  ),
-)
+allowed =
+    each_is_after AllowedToo happens (start plan 8) giving (releasing ∷ visit 0 input.Committed at_0abcde 0) (by_rules (start plan 8) giving refl) (
+      record {
+        up = record { known = lit< tt; up = refl };
+        due = refl;
+        none = refl;
+        reserved = inl refl;
+        found = (Queried 0 0x123456, refl, 0, refl);
+      },
+      by_rules (happens (after_each happens (start plan 8) giving) releasing) (visit 0 input.Committed at_0abcde 0) refl,
+    )
 
 -- both gear hold the address 0
 both_hold : ((gear_at (after plan 8 giving_again) 0).short ≡ Some 0) × ((gear_at (after plan 8 giving_again) 1).short ≡ Some 0)
 unfolding command_of stage_of
 both_hold = (refl, refl)
-
-two_gear : (g h : ℕ) → g ≡ 0 → h ≡ 1 → g ≡ h → ⊥
-two_gear g h zero one same = omega arith
 
 breaks_promise : KeepsPromiseNow (after plan 8 giving_again) → ⊥
 unfolding command_of stage_of
