@@ -9,7 +9,7 @@ use Rattle.dali_events.specs.World.{World, controller_at, nobody, start}
 use Rattle.dali_events.specs.Happens.{happens}
 use Rattle.dali_events.specs.Allowed.{Allowed}
 use Rattle.dali_events.specs.Runs.{AllAllowed, IsRun}
-use Rattle.dali_events.proofs.Controllers.{controllers_count}
+use Rattle.dali_events.proofs.Invariant.Controllers.{controllers_count}
 use Rattle.dali_standing.specs.declared.trouble.Trouble.{Trouble}
 use Rattle.dali_standing.specs.declared.trouble.Report.{Report}
 use Rattle.dali_standing.specs.declared.trouble.Report.TheVariants as report

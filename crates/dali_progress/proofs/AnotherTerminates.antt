@@ -1,11 +1,11 @@
-use Rattle.std.proofs.Common.{◌≡◌, ℕ, ◌⊎◌, inl, inr, List, [], ◌∷◌, refl, lit<, lit≤, Some, None}
+use Rattle.std.proofs.Common.{◌≡◌, ℕ, ◌⊎◌, inl, inr, List, [], ◌∷◌, ◌++◌, refl, lit<, lit≤, Some, None}
 use Rattle.dali_frame.specs.declared.frames.Answer.TheVariants.{Silence}
 use Rattle.dali_special.specs.Command.{command_of, frame}
 use Rattle.dali_arbiter.specs.Arbiter.{request_of}
-use Rattle.dali_script.specs.Scripts.{Open, Probe, Close}
+use Rattle.dali_script.specs.Scripts.{Open}
 use Rattle.dali_script.specs.Stages.{stage_of}
 use Rattle.dali_script.specs.declared.orders.Input.TheVariants as input
-use Rattle.dali_script.specs.declared.orders.Order.TheVariants.{Put, Done}
+use Rattle.dali_script.specs.declared.orders.Order.TheVariants.{Put}
 use Rattle.dali_script.specs.declared.orders.End.TheVariants.{AllFound}
 use Rattle.dali_events.specs.declared.event.Event.{Event}
 use Rattle.dali_events.specs.declared.event.Event.TheVariants as event
@@ -14,9 +14,10 @@ use Rattle.dali_events.specs.Allowed.{Allowed}
 use Rattle.dali_standing.specs.Standing.{machines_at}
 use Rattle.dali_world.specs.Site.{SiteState, world, machines, site_logged}
 use Rattle.dali_progress.specs.Rounds.{StartsAlone, IsOfRound, Rounds, site_after, HasEnded, IsDone}
-use Rattle.dali_progress.proofs.Session.{block, highest, silent, given_first, given_initialise, given_initialise_again, given_randomise, given_randomise_again}
+use Rattle.dali_progress.proofs.Session.{block, opening, searching, compare, ending, given_first, given_initialise, given_initialise_again, given_randomise}
+use Rattle.dali_progress.proofs.Session.{given_randomise_again}
 use Rattle.dali_progress.proofs.Session.{given_high, given_middle, given_low, given_compare, given_close, given_done}
-use Rattle.dali_progress.proofs.Playing.{Plays, rounds_by}
+use Rattle.dali_progress.proofs.Playing.{Plays, rounds_by, plays_by}
 use Rattle.dali_progress.proofs.Another.{second_block, two_controllers, shared_site, starts, given_second}
 
 -- ALONE MATTERS for the end. One gear and two controllers. All events are of rounds of the first one, but
@@ -41,20 +42,6 @@ pub record BreaksEndBeside (s : SiteState) (c d : ℕ) (front others back : List
   pub ended : HasEnded (after_three s front others back) c AllFound
   pub untrue : IsDone (after_three s front others back) c AllFound → ⊥
 
-abbrev pub opening : List Event
-opening =
-    event.Acted 0 input.Start (Put 3 (frame 0xA1 0)) ∷
-    event.Sent 0 (frame 0xA1 0) Silence ∷
-    event.Acted 0 silent (Put 1 (frame 0xA5 0xFF)) ∷
-    event.Sent 0 (frame 0xA5 0xFF) Silence ∷
-    event.Acted 0 silent (Put 1 (frame 0xA5 0xFF)) ∷
-    event.Sent 0 (frame 0xA5 0xFF) Silence ∷
-    event.Acted 0 silent (Put 1 (frame 0xA7 0)) ∷
-    event.Sent 0 (frame 0xA7 0) Silence ∷
-    event.Acted 0 silent (Put 1 (frame 0xA7 0)) ∷
-    event.Sent 0 (frame 0xA7 0) Silence ∷
-    []
-
 abbrev pub terminating_once : List Event
 terminating_once =
     event.Acted 1 input.Start (Put 3 (frame 0xA1 0)) ∷
@@ -63,78 +50,13 @@ terminating_once =
     []
 
 -- the search and the close
-abbrev pub searching : List Event
-searching =
-    event.Acted 0 silent (Put 3 (frame 0xB1 0xFF)) ∷
-    event.Sent 0 (frame 0xB1 0xFF) Silence ∷
-    event.Acted 0 silent (Put 1 (frame 0xB3 0xFF)) ∷
-    event.Sent 0 (frame 0xB3 0xFF) Silence ∷
-    event.Acted 0 silent (Put 1 (frame 0xB5 0xFE)) ∷
-    event.Sent 0 (frame 0xB5 0xFE) Silence ∷
-    event.Acted 0 silent (Put 1 (frame 0xA9 0)) ∷
-    event.Sent 0 (frame 0xA9 0) Silence ∷
-    event.Acted 0 silent (Put 3 (frame 0xA1 0)) ∷
-    event.Sent 0 (frame 0xA1 0) Silence ∷
-    event.Acted 0 silent (Done AllFound) ∷
-    []
+abbrev pub rest_of_session : List Event
+rest_of_session = searching ++ (compare ∷ ending)
 
 opening_plays : Plays (start two_controllers 8) (machines_at 0 (block ∷ second_block ∷ [])) 0 opening
 unfolding command_of stage_of
-opening_plays = (
-  record { up = record { known = lit< tt; up = refl }; due = refl; order = inl (refl, (block, [], (Open, tt, refl))) },
-  (refl, tt, given_first),
-  (
-    record { up = record { known = lit< tt; up = refl }; may = inr (refl, (block, [], (Open, tt, refl))); draws = lit≤ tt; heard = tt },
-    (request_of 0 3 (frame 0xA1 0), refl, refl, refl, refl),
-    (
-      record { up = record { known = lit< tt; up = refl }; due = refl; order = inr (refl, refl, (Open, tt, (refl, tt, refl))) },
-      (refl, tt, given_initialise),
-      (
-        record { up = record { known = lit< tt; up = refl }; may = inl (refl, (Open, tt, (refl, tt, refl))); draws = lit≤ tt; heard = tt },
-        (request_of 0 1 (frame 0xA5 0xFF), refl, refl, refl, refl),
-        (
-          record { up = record { known = lit< tt; up = refl }; due = refl; order = inr (refl, refl, (Open, tt, (refl, tt, (refl, tt, refl)))) },
-          (refl, tt, given_initialise_again),
-          (
-            record { up = record { known = lit< tt; up = refl }; may = inl (refl, (Open, tt, (refl, tt, (refl, tt, refl)))); draws = lit≤ tt; heard = tt },
-            (request_of 0 1 (frame 0xA5 0xFF), refl, refl, refl, refl),
-            (
-              record { up = record { known = lit< tt; up = refl }; due = refl; order = inr (refl, refl, (Open, tt, (refl, tt, (refl, tt, (refl, tt, refl))))) },
-              (refl, tt, given_randomise),
-              (
-                record {
-                  up = record { known = lit< tt; up = refl };
-                  may = inl (refl, (Open, tt, (refl, tt, (refl, tt, (refl, tt, refl)))));
-                  draws = lit≤ tt;
-                  heard = tt;
-                },
-                (request_of 0 1 (frame 0xA7 0), refl, refl, refl, refl),
-                (
-                  record {
-                    up = record { known = lit< tt; up = refl };
-                    due = refl;
-                    order = inr (refl, refl, (Open, tt, (refl, tt, (refl, tt, (refl, tt, (refl, tt, refl))))));
-                  },
-                  (refl, tt, given_randomise_again),
-                  (
-                    record {
-                      up = record { known = lit< tt; up = refl };
-                      may = inl (refl, (Open, tt, (refl, tt, (refl, tt, (refl, tt, (refl, tt, refl))))));
-                      draws = lit≤ tt;
-                      heard = tt;
-                    },
-                    (request_of 0 1 (frame 0xA7 0), refl, refl, refl, refl),
-                    tt,
-                  ),
-                ),
-              ),
-            ),
-          ),
-        ),
-      ),
-    ),
-  ),
-)
+opening_plays = plays_by (start two_controllers 8) (machines_at 0 (block ∷ second_block ∷ [])) 0 opening refl
+    (given_first, (given_initialise, (given_initialise_again, (given_randomise, (given_randomise_again, tt)))))
 
 other_plays : AreOfOther (site_after shared_site opening) 1 terminating_once
 unfolding command_of stage_of
@@ -149,80 +71,23 @@ other_plays = (
 )
 
 searching_plays : Plays (world (site_after (site_after shared_site opening) terminating_once))
-    (machines (site_after (site_after shared_site opening) terminating_once)) 0 searching
+    (machines (site_after (site_after shared_site opening) terminating_once)) 0 rest_of_session
 unfolding command_of stage_of
-searching_plays = (
-  record { up = record { known = lit< tt; up = refl }; due = refl; order = inl (refl, (block, [], (Probe highest, tt, refl))) },
-  (refl, tt, given_high),
-  (
-    record { up = record { known = lit< tt; up = refl }; may = inr (refl, (block, [], (Probe highest, tt, refl))); draws = lit≤ tt; heard = tt },
-    (request_of 0 3 (frame 0xB1 0xFF), refl, refl, refl, refl),
-    (
-      record { up = record { known = lit< tt; up = refl }; due = refl; order = inr (refl, refl, (Probe highest, tt, (refl, tt, refl))) },
-      (refl, tt, given_middle),
-      (
-        record { up = record { known = lit< tt; up = refl }; may = inl (refl, (Probe highest, tt, (refl, tt, refl))); draws = lit≤ tt; heard = tt },
-        (request_of 0 1 (frame 0xB3 0xFF), refl, refl, refl, refl),
-        (
-          record { up = record { known = lit< tt; up = refl }; due = refl; order = inr (refl, refl, (Probe highest, tt, (refl, tt, (refl, tt, refl)))) },
-          (refl, tt, given_low),
-          (
-            record {
-              up = record { known = lit< tt; up = refl };
-              may = inl (refl, (Probe highest, tt, (refl, tt, (refl, tt, refl))));
-              draws = lit≤ tt;
-              heard = tt;
-            },
-            (request_of 0 1 (frame 0xB5 0xFE), refl, refl, refl, refl),
-            (
-              record {
-                up = record { known = lit< tt; up = refl };
-                due = refl;
-                order = inr
-                    (refl, refl, (Probe highest, tt, (refl, tt, (refl, tt, (refl, tt, refl)))));
-              },
-              (refl, tt, given_compare),
-              (
-                record {
-                  up = record { known = lit< tt; up = refl };
-                  may = inl (refl, (Probe highest, tt, (refl, tt, (refl, tt, (refl, tt, refl)))));
-                  draws = lit≤ tt;
-                  heard = tt;
-                },
-                (request_of 0 1 (frame 0xA9 0), refl, refl, refl, refl),
-                (
-                  record { up = record { known = lit< tt; up = refl }; due = refl; order = inl (refl, (block, [], (Close, tt, refl))) },
-                  (refl, tt, given_close),
-                  (
-                    record { up = record { known = lit< tt; up = refl }; may = inr (refl, (block, [], (Close, tt, refl))); draws = lit≤ tt; heard = tt },
-                    (request_of 0 3 (frame 0xA1 0), refl, refl, refl, refl),
-                    (
-                      record { up = record { known = lit< tt; up = refl }; due = refl; order = tt },
-                      (refl, tt, given_done),
-                      tt,
-                    ),
-                  ),
-                ),
-              ),
-            ),
-          ),
-        ),
-      ),
-    ),
-  ),
-)
+searching_plays =
+    plays_by (world (site_after (site_after shared_site opening) terminating_once)) (machines (site_after (site_after shared_site opening) terminating_once))
+    0 rest_of_session refl (given_high, (given_middle, (given_low, (given_compare, (given_close, (given_done, tt))))))
 
 no_short : (a : ℕ) → None ≡ Some a → ⊥
 no_short a same = cc
 
-pub another_terminates : BreaksEndBeside shared_site 0 1 opening terminating_once searching
+pub another_terminates : BreaksEndBeside shared_site 0 1 opening terminating_once rest_of_session
 unfolding command_of stage_of
 another_terminates = record {
   starts = starts;
   apart = λ same. cc;
   before = rounds_by shared_site 0 opening opening_plays;
   between = other_plays;
-  afterwards = rounds_by (site_after (site_after shared_site opening) terminating_once) 0 searching searching_plays;
+  afterwards = rounds_by (site_after (site_after shared_site opening) terminating_once) 0 rest_of_session searching_plays;
   ended = refl;
   untrue = λ all. let short = all 0 (lit< tt) refl in no_short short.0 short.1;
 }

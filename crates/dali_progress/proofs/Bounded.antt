@@ -30,9 +30,9 @@ use Rattle.dali_events.specs.Happens.{happens}
 use Rattle.dali_events.specs.Allowed.{Allowed, IsUp, IsDue}
 use Rattle.dali_events.specs.Runs.{IsRun, AreDrawn}
 use Rattle.dali_events.specs.Wanted.{is_bare}
-use Rattle.dali_events.proofs.Drawn.{are_drawn, draws_after}
-use Rattle.dali_events.proofs.Growing.{after_more, run_more}
-use Rattle.dali_events.proofs.Halves.{gear_are_searched}
+use Rattle.dali_events.proofs.Invariant.Drawn.{are_drawn, draws_after}
+use Rattle.dali_events.proofs.Invariant.Growing.{after_more, run_more}
+use Rattle.dali_events.proofs.Search.Halves.{gear_are_searched}
 use Rattle.dali_standing.specs.Seats.{MayAnswer}
 use Rattle.dali_standing.specs.Standing.{machine_in, machines_at, machines_after}
 use Rattle.dali_world.specs.Site.{SiteState, opened_site, world, site_logged, machines, machine_at, next_request}

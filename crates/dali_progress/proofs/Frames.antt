@@ -30,14 +30,14 @@ use Rattle.dali_controller.specs.Course.{sought, is_yes}
 use Rattle.dali_controller.specs.Machine.{opened_after}
 use Rattle.dali_events.specs.Searching.{number_at}
 use Rattle.dali_events.specs.Wanted.{is_wanted, wants, is_bare, OfPowered, Seek, AreApart, IsOpened, NoneNamedBut, AreNamed}
-use Rattle.dali_events.proofs.Takes.{row_length}
-use Rattle.dali_events.proofs.Wanted as wanted
-use Rattle.dali_events.proofs.Leaving as leaving
-use Rattle.dali_events.proofs.Leaving.{LeavesShort, SameCore}
-use Rattle.dali_events.proofs.Heard as hearing
-use Rattle.dali_events.proofs.Opened as opening
-use Rattle.dali_events.proofs.Programming as programming
-use Rattle.dali_events.proofs.Withdrawing as withdrawing
+use Rattle.dali_events.proofs.Invariant.Takes.{row_length}
+use Rattle.dali_events.proofs.Search.Wanted as wanted
+use Rattle.dali_events.proofs.Search.Leaving as leaving
+use Rattle.dali_events.proofs.Search.Leaving.{LeavesShort, SameCore}
+use Rattle.dali_events.proofs.Search.Heard as hearing
+use Rattle.dali_events.proofs.Search.Opened as opening
+use Rattle.dali_events.proofs.Search.Programming as programming
+use Rattle.dali_events.proofs.Search.Withdrawing as withdrawing
 use Rattle.dali_progress.proofs.Stands.{sent_at, search_frames, probe_frames, Opens, ProbeStage, Probes, VisitStage, IsVisited, VisitFrames, Visits, HaveShort}
 use Rattle.dali_progress.proofs.Stands.{Names, VisitsAt, EndsWell, Closes, At, Sends}
 

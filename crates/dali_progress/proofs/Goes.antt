@@ -42,8 +42,8 @@ use Rattle.dali_events.specs.Allowed.{Allowed}
 use Rattle.dali_events.specs.Runs.{AreDrawn}
 use Rattle.dali_events.specs.Searching.{number_at}
 use Rattle.dali_events.specs.Wanted.{is_bare, Seek}
-use Rattle.dali_events.proofs.Sending.{lawful_of}
-use Rattle.dali_events.proofs.Heard.{opened_apart}
+use Rattle.dali_events.proofs.Invariant.Sending.{lawful_of}
+use Rattle.dali_events.proofs.Search.Heard.{opened_apart}
 use Rattle.dali_progress.specs.Rounds.{Succeeds, AreTabled}
 use Rattle.dali_progress.proofs.Lone.{IsLone, Moment, IsDueOf, due_of, Addresses, acted_last, acted_told, lone_acted, lone_next, sent_last, lone_sent}
 use Rattle.dali_progress.proofs.Stands.{search_frames, to_come, At, Stands}

@@ -1,15 +1,12 @@
-use Rattle.std.proofs.Common.{◌≡◌, ℕ, inl, inr, List, [], ◌∷◌, refl, sym, ap, subst, ◌∙◌, arith, lit<, lit≤, Some}
-use Rattle.dali_frame.specs.declared.frames.Answer.TheVariants.{Silence}
+use Rattle.std.proofs.Common.{◌≡◌, ℕ, List, [], ◌∷◌, refl, sym, ap, subst, ◌∙◌, arith, lit<, Some}
 use Rattle.dali_frame.specs.declared.frames.Forward.{Forward}
 use Rattle.dali_special.specs.Command.{command_of, frame}
 use Rattle.dali_gear.specs.declared.row.Reach.TheVariants.{Everyone}
 use Rattle.dali_arbiter.specs.declared.request.Request.{Request}
 use Rattle.dali_arbiter.specs.Arbiter.{request_of}
-use Rattle.dali_script.specs.Scripts.{Open}
 use Rattle.dali_script.specs.Stages.{stage_of}
 use Rattle.dali_script.specs.declared.orders.Input.{Input}
 use Rattle.dali_script.specs.declared.orders.Input.TheVariants as input
-use Rattle.dali_script.specs.declared.orders.Order.TheVariants.{Put}
 use Rattle.dali_script.specs.declared.orders.End.{End}
 use Rattle.dali_events.specs.declared.event.Event.{Event}
 use Rattle.dali_events.specs.declared.event.Event.TheVariants as event
@@ -20,8 +17,8 @@ use Rattle.dali_events.proofs.Plans.{plan_is}
 use Rattle.dali_standing.specs.Standing.{machines_at}
 use Rattle.dali_world.specs.Site.{SiteState, world, next_request}
 use Rattle.dali_progress.specs.Rounds.{StartsAlone, IsOfRound, Rounds, site_after, HasEnded}
-use Rattle.dali_progress.proofs.Session.{block, silent, given_first, given_initialise, given_initialise_again, given_randomise, given_randomise_again}
-use Rattle.dali_progress.proofs.Playing.{Plays, rounds_by}
+use Rattle.dali_progress.proofs.Session.{block, up_to_draw, given_first, given_initialise, given_initialise_again, given_randomise, given_randomise_again}
+use Rattle.dali_progress.proofs.Playing.{Plays, rounds_by, plays_by}
 
 -- NUMBERS TO DRAW MATTER. One gear, no number that it could draw, and one controller that starts alone.
 -- All events are of rounds; then the second RANDOMISE is next, and may not be sent.
@@ -53,67 +50,10 @@ starts = record {
 }
 
 -- an opening, up to the order to send RANDOMISE again
-abbrev pub up_to_draw : List Event
-up_to_draw =
-    event.Acted 0 input.Start (Put 3 (frame 0xA1 0)) ∷
-    event.Sent 0 (frame 0xA1 0) Silence ∷
-    event.Acted 0 silent (Put 1 (frame 0xA5 0xFF)) ∷
-    event.Sent 0 (frame 0xA5 0xFF) Silence ∷
-    event.Acted 0 silent (Put 1 (frame 0xA5 0xFF)) ∷
-    event.Sent 0 (frame 0xA5 0xFF) Silence ∷
-    event.Acted 0 silent (Put 1 (frame 0xA7 0)) ∷
-    event.Sent 0 (frame 0xA7 0) Silence ∷
-    event.Acted 0 silent (Put 1 (frame 0xA7 0)) ∷
-    []
-
 before_draw : Plays (start numberless 8) (machines_at 0 (block ∷ [])) 0 up_to_draw
 unfolding command_of stage_of
-before_draw = (
-  record { up = record { known = lit< tt; up = refl }; due = refl; order = inl (refl, (block, [], (Open, tt, refl))) },
-  (refl, tt, given_first),
-  (
-    record { up = record { known = lit< tt; up = refl }; may = inr (refl, (block, [], (Open, tt, refl))); draws = lit≤ tt; heard = tt },
-    (request_of 0 3 (frame 0xA1 0), refl, refl, refl, refl),
-    (
-      record { up = record { known = lit< tt; up = refl }; due = refl; order = inr (refl, refl, (Open, tt, (refl, tt, refl))) },
-      (refl, tt, given_initialise),
-      (
-        record { up = record { known = lit< tt; up = refl }; may = inl (refl, (Open, tt, (refl, tt, refl))); draws = lit≤ tt; heard = tt },
-        (request_of 0 1 (frame 0xA5 0xFF), refl, refl, refl, refl),
-        (
-          record { up = record { known = lit< tt; up = refl }; due = refl; order = inr (refl, refl, (Open, tt, (refl, tt, (refl, tt, refl)))) },
-          (refl, tt, given_initialise_again),
-          (
-            record { up = record { known = lit< tt; up = refl }; may = inl (refl, (Open, tt, (refl, tt, (refl, tt, refl)))); draws = lit≤ tt; heard = tt },
-            (request_of 0 1 (frame 0xA5 0xFF), refl, refl, refl, refl),
-            (
-              record { up = record { known = lit< tt; up = refl }; due = refl; order = inr (refl, refl, (Open, tt, (refl, tt, (refl, tt, (refl, tt, refl))))) },
-              (refl, tt, given_randomise),
-              (
-                record {
-                  up = record { known = lit< tt; up = refl };
-                  may = inl (refl, (Open, tt, (refl, tt, (refl, tt, (refl, tt, refl)))));
-                  draws = lit≤ tt;
-                  heard = tt;
-                },
-                (request_of 0 1 (frame 0xA7 0), refl, refl, refl, refl),
-                (
-                  record {
-                    up = record { known = lit< tt; up = refl };
-                    due = refl;
-                    order = inr (refl, refl, (Open, tt, (refl, tt, (refl, tt, (refl, tt, (refl, tt, refl))))));
-                  },
-                  (refl, tt, given_randomise_again),
-                  tt,
-                ),
-              ),
-            ),
-          ),
-        ),
-      ),
-    ),
-  ),
-)
+before_draw = plays_by (start numberless 8) (machines_at 0 (block ∷ [])) 0 up_to_draw refl
+    (given_first, (given_initialise, (given_initialise_again, (given_randomise, (given_randomise_again, tt)))))
 
 some_same : {A : Type 0} (x y : A) → Some x ≡ Some y → x ≡ y
 some_same x y same = cc

@@ -37,8 +37,8 @@ use Rattle.dali_events.specs.World.{World, controller_at}
 use Rattle.dali_events.specs.Happens.{happens, entry}
 use Rattle.dali_events.specs.Allowed.{Allowed, IsUp, IsDue, IsCommit}
 use Rattle.dali_events.specs.Wanted.{is_bare}
-use Rattle.dali_events.proofs.Opened.{AreOpening}
-use Rattle.dali_events.proofs.Takes.{row_length}
+use Rattle.dali_events.proofs.Search.Opened.{AreOpening}
+use Rattle.dali_events.proofs.Invariant.Takes.{row_length}
 use Rattle.dali_standing.specs.declared.refusal.Refusal.TheVariants as refusal
 use Rattle.dali_standing.specs.declared.trouble.Trouble.TheVariants as trouble
 use Rattle.dali_standing.specs.Seats.{informed_by}

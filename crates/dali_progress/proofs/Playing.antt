@@ -1,17 +1,26 @@
-use Rattle.std.proofs.Common.{◌≡◌, ℕ, List, [], ◌∷◌, ◌++◌, refl, sym, subst, Option, Some}
-use Rattle.dali_special.specs.Command.{command_of}
+use Rattle.std.proofs.Common.{◌≡◌, ℕ, Bool, true, false, List, [], ◌∷◌, ◌++◌, refl, sym, subst, ap₂, Option, Some, None}
+use Rattle.std.specs.Prelude.{◌==◌, ◌&&◌}
+use Rattle.dali_frame.specs.declared.frames.Forward.{Forward}
+use Rattle.dali_frame.specs.declared.frames.Answer.{Answer}
+use Rattle.dali_frame.specs.declared.frames.Answer.TheVariants.{Silence}
+use Rattle.dali_special.specs.Command.{command_of, frame}
 use Rattle.dali_gear.specs.declared.row.Reach.TheVariants.{Everyone}
 use Rattle.dali_gear.specs.Row.{answers_of, heard_of}
 use Rattle.dali_arbiter.specs.declared.request.Request.{Request}
 use Rattle.dali_arbiter.specs.Arbiter.{next}
+use Rattle.dali_script.specs.declared.orders.Input.{Input}
+use Rattle.dali_script.specs.declared.orders.Input.TheVariants as input
 use Rattle.dali_script.specs.declared.orders.End.TheVariants.{AllFound}
+use Rattle.dali_script.proofs.Giving.{first_of_both, second_of_both}
+use Rattle.dali_script.proofs.Transactions.{equal}
 use Rattle.dali_controller.specs.Machine.{Machine}
 use Rattle.dali_events.specs.declared.event.Event.{Event}
 use Rattle.dali_events.specs.declared.event.Event.TheVariants as event
 use Rattle.dali_events.specs.World.{World, start}
 use Rattle.dali_events.specs.Happens.{happens}
 use Rattle.dali_events.specs.Allowed.{Allowed}
-use Rattle.dali_events.proofs.Growing.{after_more}
+use Rattle.dali_events.proofs.Invariant.Growing.{after_more}
+use Rattle.dali_events.proofs.Histories.Tested.{is_allowed, allowed_by}
 use Rattle.dali_standing.specs.Seats.{MayAnswer}
 use Rattle.dali_standing.specs.Standing.{machine_in, machines_at, machines_after}
 use Rattle.dali_world.specs.Site.{SiteState, world, site_logged, machines}
@@ -49,6 +58,85 @@ rounds_by s c (e ∷ es) plays = (
       (subst (λ w. Plays w (machines (site_logged s e)) c es) (sym (after_more (start s.plan s.queue) s.log e))
       (subst (λ ms. Plays (happens (world s) e) ms c es) (sym (machines_more (start s.plan s.queue) (machines_at 0 s.plan.blocks) s.log e)) plays.2)),
 )
+
+-- ---------------------------------------------------------------- rounds by a test
+
+-- What a machine gives is told order by order. All else is tested: that an event is allowed, and that it is of a round, with a
+-- frame after which nothing is heard.
+abbrev pub Gives : World → List (Option Machine) → ℕ → List Event → Type 0
+Gives w ms c [] = Unit {0}
+Gives w ms c (event.Acted d i o ∷ es) =
+    MayAnswer (machine_in ms c) i o × Gives (happens w (event.Acted d i o)) (machines_after w ms (event.Acted d i o)) c es
+Gives w ms c (e ∷ es) = Gives (happens w e) (machines_after w ms e) c es
+
+abbrev pub succeeds : Input → Bool
+succeeds input.CommitFailed = false
+succeeds _ = true
+
+succeeds_by : (i : Input) → succeeds i ≡ true → Succeeds i
+succeeds_by input.CommitFailed e = absurd (cc)
+succeeds_by _ e = tt
+
+abbrev pub same_frame : Forward → Forward → Bool
+same_frame f g = (f.address_byte == g.address_byte) && (f.opcode_byte == g.opcode_byte)
+
+frame_by : (f g : Forward) → same_frame f g ≡ true → f ≡ g
+frame_by f g e =
+    ap₂ {B = ℕ} {C = Forward} (λ address byte. frame address byte) (equal f.address_byte g.address_byte (first_of_both _ _ e))
+    (equal f.opcode_byte g.opcode_byte (second_of_both _ _ e))
+
+abbrev pub is_next : Option Request → ℕ → Forward → Bool
+is_next None d f = false
+is_next (Some r) d f = (d == r.sender) && same_frame f r.frame
+
+next_by : (o : Option Request) (d : ℕ) (f : Forward) → is_next o d f ≡ true → (r : Request) × (o ≡ Some r) × (d ≡ r.sender) × (f ≡ r.frame)
+next_by None d f e = absurd (cc)
+next_by (Some r) d f e = (r, refl, equal d r.sender (first_of_both _ _ e), frame_by f r.frame (second_of_both _ _ e))
+
+abbrev pub is_silence : Answer → Bool
+is_silence Silence = true
+is_silence _ = false
+
+both_silent : (h k : Answer) → (is_silence h && is_silence k) ≡ true → h ≡ k
+both_silent Silence Silence e = refl
+both_silent _ _ e = absurd (cc)
+
+abbrev pub is_quiet : World → Forward → Answer → Bool
+is_quiet w f h = is_silence h && is_silence (heard_of (answers_of Everyone (command_of f) 0 w.gear))
+
+abbrev pub is_of_round : World → ℕ → Event → Bool
+is_of_round w c (event.Acted d i o) = (d == c) && succeeds i
+is_of_round w c (event.Sent d f h) = is_next (next w.bus) d f && is_quiet w f h
+is_of_round w c _ = false
+
+abbrev pub passes : World → ℕ → List Event → Bool
+passes w c [] = true
+passes w c (e ∷ es) = (is_of_round w c e && is_allowed w e) && passes (happens w e) c es
+
+pub plays_by : (w : World) (ms : List (Option Machine)) (c : ℕ) (es : List Event) → passes w c es ≡ true → Gives w ms c es → Plays w ms c es
+plays_by w ms c [] pass given = tt
+plays_by w ms c (event.Acted d i o ∷ es) pass given =
+    let now : (is_of_round w c (event.Acted d i o) && is_allowed w (event.Acted d i o)) ≡ true = first_of_both _ _ pass in
+    let round : ((d == c) && succeeds i) ≡ true = first_of_both _ _ now in (
+      allowed_by w (event.Acted d i o) (second_of_both _ _ now),
+      (equal d c (first_of_both _ _ round), succeeds_by i (second_of_both _ _ round), given.0),
+      plays_by (happens w (event.Acted d i o)) (machines_after w ms (event.Acted d i o)) c es (second_of_both _ _ pass) given.1,
+    )
+plays_by w ms c (event.Sent d f h ∷ es) pass given =
+    let now : (is_of_round w c (event.Sent d f h) && is_allowed w (event.Sent d f h)) ≡ true = first_of_both _ _ pass in
+    let round : (is_next (next w.bus) d f && is_quiet w f h) ≡ true = first_of_both _ _ now in
+    let request = next_by (next w.bus) d f (first_of_both _ _ round) in (
+      allowed_by w (event.Sent d f h) (second_of_both _ _ now),
+      (
+        request.0,
+        request.1,
+        request.2,
+        request.3,
+        both_silent h (heard_of (answers_of Everyone (command_of f) 0 w.gear)) (second_of_both _ _ round),
+      ),
+      plays_by (happens w (event.Sent d f h)) (machines_after w ms (event.Sent d f h)) c es (second_of_both _ _ pass) given,
+    )
+plays_by w ms c (_ ∷ es) pass given = absurd (cc)
 
 -- ---------------------------------------------------------------- the statement
 

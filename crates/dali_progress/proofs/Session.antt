@@ -1,4 +1,4 @@
-use Rattle.std.proofs.Common.{◌≡◌, ℕ, inl, inr, refl}
+use Rattle.std.proofs.Common.{◌≡◌, ℕ, inl, inr, List, [], ◌∷◌, ◌++◌, refl}
 use Rattle.dali_frame.specs.declared.frames.Answer.TheVariants.{Silence}
 use Rattle.dali_frame.specs.declared.numbers.SearchAddress.{SearchAddress}
 use Rattle.dali_special.specs.Command.{command_of, frame}
@@ -17,6 +17,8 @@ use Rattle.dali_script.specs.declared.orders.Order.TheVariants.{Put, Done}
 use Rattle.dali_script.specs.declared.orders.End.TheVariants.{AllFound}
 use Rattle.dali_controller.specs.Machine.{Machine, at_first}
 use Rattle.dali_controller.specs.Orders.{IsGiven, machine_after}
+use Rattle.dali_events.specs.declared.event.Event.{Event}
+use Rattle.dali_events.specs.declared.event.Event.TheVariants as event
 use Rattle.dali_progress.proofs.Giving.{later_given, first_given, done_given}
 
 -- A SHORT SESSION: a controller that hears nothing. It opens, asks whether any gear is at or below
@@ -33,6 +35,45 @@ later address byte = Put 1 (frame address byte)
 
 abbrev pub silent : Input
 silent = input.Heard Silence
+
+-- THE EVENTS: an opening, up to the order to send RANDOMISE again, and whole
+abbrev pub up_to_draw : List Event
+up_to_draw =
+    event.Acted 0 input.Start (Put 3 (frame 0xA1 0)) ∷
+    event.Sent 0 (frame 0xA1 0) Silence ∷
+    event.Acted 0 silent (later 0xA5 0xFF) ∷
+    event.Sent 0 (frame 0xA5 0xFF) Silence ∷
+    event.Acted 0 silent (later 0xA5 0xFF) ∷
+    event.Sent 0 (frame 0xA5 0xFF) Silence ∷
+    event.Acted 0 silent (later 0xA7 0) ∷
+    event.Sent 0 (frame 0xA7 0) Silence ∷
+    event.Acted 0 silent (later 0xA7 0) ∷
+    []
+
+abbrev pub opening : List Event
+opening = up_to_draw ++ (event.Sent 0 (frame 0xA7 0) Silence ∷ [])
+
+-- the search, up to the order to send COMPARE under FFFFFE; the COMPARE; and the close with the end
+abbrev pub searching : List Event
+searching =
+    event.Acted 0 silent (Put 3 (frame 0xB1 0xFF)) ∷
+    event.Sent 0 (frame 0xB1 0xFF) Silence ∷
+    event.Acted 0 silent (later 0xB3 0xFF) ∷
+    event.Sent 0 (frame 0xB3 0xFF) Silence ∷
+    event.Acted 0 silent (later 0xB5 0xFE) ∷
+    event.Sent 0 (frame 0xB5 0xFE) Silence ∷
+    event.Acted 0 silent (later 0xA9 0) ∷
+    []
+
+abbrev pub compare : Event
+compare = event.Sent 0 (frame 0xA9 0) Silence
+
+abbrev pub ending : List Event
+ending =
+    event.Acted 0 silent (Put 3 (frame 0xA1 0)) ∷
+    event.Sent 0 (frame 0xA1 0) Silence ∷
+    event.Acted 0 silent (Done AllFound) ∷
+    []
 
 -- the machine after each of its orders
 abbrev pub begun : Machine

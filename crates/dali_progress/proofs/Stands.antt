@@ -20,7 +20,7 @@ use Rattle.dali_controller.specs.Course.{first_of, turn_of, sought, is_yes}
 use Rattle.dali_controller.specs.Machine.{Machine}
 use Rattle.dali_events.specs.Searching.{HasShort}
 use Rattle.dali_events.specs.Wanted.{is_wanted, wants, is_bare, OfPowered, IsOpened, NoneNamed, NoneNamedBut}
-use Rattle.dali_events.proofs.Opened.{AreOpening}
+use Rattle.dali_events.proofs.Search.Opened.{AreOpening}
 use Rattle.dali_progress.specs.Rounds.{AreTabled}
 
 -- HOW FAR COMMISSIONING IS, where nothing is disturbed: what is true of gear, records and search at each stage of the

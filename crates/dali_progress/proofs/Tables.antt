@@ -21,10 +21,10 @@ use Rattle.dali_controller.specs.declared.purpose.Purpose.{Purpose}
 use Rattle.dali_controller.specs.declared.purpose.Purpose.TheVariants.{Opening, Probing, Visiting, Resolving, Closing}
 use Rattle.dali_script.specs.declared.orders.End.{End}
 use Rattle.dali_events.specs.Wanted.{gear_of, OfPowered, Seek}
-use Rattle.dali_events.proofs.Takes.{row_length}
-use Rattle.dali_events.proofs.Wanted.{after_at, same_number, number_same}
-use Rattle.dali_events.proofs.Opened.{AreOpening}
-use Rattle.dali_events.proofs.Programming as programming
+use Rattle.dali_events.proofs.Invariant.Takes.{row_length}
+use Rattle.dali_events.proofs.Search.Wanted.{after_at, same_number, number_same}
+use Rattle.dali_events.proofs.Search.Opened.{AreOpening}
+use Rattle.dali_events.proofs.Search.Programming as programming
 use Rattle.dali_progress.specs.Rounds.{AreTabled}
 use Rattle.dali_progress.proofs.Stands.{to_come, Opens, VisitsAt, Probes, Closes, At, Sends}
 use Rattle.dali_progress.proofs.Frames.{Seeks}

@@ -45,8 +45,8 @@ use Rattle.dali_controller.proofs.Given as given
 use Rattle.dali_controller.proofs.Given.{IsGivenBy, IsNoEnrolment}
 use Rattle.dali_events.specs.Searching.{HasShort}
 use Rattle.dali_events.specs.Wanted.{is_wanted, wants, is_bare, OfPowered, IsOpened, NoneNamed}
-use Rattle.dali_events.proofs.Wanted as wanted
-use Rattle.dali_events.proofs.Opened as opening
+use Rattle.dali_events.proofs.Search.Wanted as wanted
+use Rattle.dali_events.proofs.Search.Opened as opening
 use Rattle.dali_progress.specs.Rounds.{AreTabled}
 use Rattle.dali_progress.proofs.Stands.{to_come, search_frames, probe_frames, Opens, Probes, VisitFrames, Visits, Leaves, VisitsAt, EndsWell, Closes, At}
 use Rattle.dali_progress.proofs.Stands.{IsWithin, Stands, Sends}

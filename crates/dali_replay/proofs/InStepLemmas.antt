@@ -20,7 +20,7 @@ use Rattle.dali_events.specs.Happens.{happens, controller_informed, controller_a
 use Rattle.dali_events.specs.Happens.{owner_told, gone_down, come_up}
 use Rattle.dali_events.specs.Allowed.{IsActed, IsCommit, IsDue, MayOrder}
 use Rattle.dali_script.proofs.Members.{each_changed, each_set}
-use Rattle.dali_events.proofs.Growing.{after_more}
+use Rattle.dali_events.proofs.Invariant.Growing.{after_more}
 use Rattle.dali_standing.specs.Seats.{due_of}
 use Rattle.dali_standing.specs.declared.refusal.Refusal.{Refusal}
 use Rattle.dali_standing.specs.declared.trouble.Trouble.{Trouble}

@@ -29,7 +29,7 @@ use Rattle.dali_controller.specs.Orders.{IsOrdered, IsAnswered, IsAllowed, IsAdd
 use Rattle.dali_events.specs.World.{World, Controller}
 use Rattle.dali_events.specs.Happens.{entry, controller_informed, outstanding_told, outstanding_after, is_arc}
 use Rattle.dali_events.specs.Allowed.{IsDue, IsCommit, MayOrder}
-use Rattle.dali_events.proofs.Naming.{enrols_assigned}
+use Rattle.dali_events.proofs.Invariant.Naming.{enrols_assigned}
 use Rattle.dali_standing.specs.Seats.{IsRunning, IsSeat, IsTold, IsOutstanding, IsFound, IsEnrolling, MayAnswer, seat_by, machine_in, acted_in, informed_by}
 use Rattle.dali_standing.specs.declared.seat.Place.{Place}
 use Rattle.dali_standing.specs.declared.seat.Place.TheVariants.{Up, Down}

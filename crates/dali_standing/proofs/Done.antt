@@ -40,8 +40,8 @@ use Rattle.dali_standing.proofs.Moves.{moves_lost, moves_collided, moves_lapsed,
 use Rattle.dali_special.specs.declared.command.Command.TheVariants.{Arc}
 use Rattle.dali_special.proofs.Table.{arc_of}
 use Rattle.dali_controller.specs.Machine.{Machine}
-use Rattle.dali_events.proofs.Growing.{plain_hearing}
-use Rattle.dali_events.proofs.Sending.{lawful_of}
+use Rattle.dali_events.proofs.Invariant.Growing.{plain_hearing}
+use Rattle.dali_events.proofs.Invariant.Sending.{lawful_of}
 use Rattle.dali_standing.proofs.Placing.{running_is, owner_acted}
 use Rattle.dali_standing.proofs.Acts.{owner_owns}
 use Rattle.dali_standing.proofs.Settling.{next_at, owner_put, is_collision, is_arc_of, arc_tells, may_ask, accepted, settled_acted, settled_offered}

@@ -16,7 +16,7 @@ use Rattle.dali_events.specs.World.{World, Controller, controller_at}
 use Rattle.dali_events.specs.Allowed.{IsDue}
 use Rattle.dali_events.specs.Runs.{after, IsRun}
 use Rattle.dali_events.specs.Laws.{HasFound, FindingsAgree}
-use Rattle.dali_events.proofs.Agreeing.{findings_agree_in}
+use Rattle.dali_events.proofs.Invariant.Agreeing.{findings_agree_in}
 use Rattle.dali_standing.specs.Seats.{IsRunning}
 use Rattle.dali_standing.specs.Settled.{IsPlacedBy}
 use Rattle.dali_standing.proofs.Acts.{start_first, IsOfBus, IsPut, bus_put, committed_last, told_accepted, placed_start, placed_commit, later_some, bus_kept}

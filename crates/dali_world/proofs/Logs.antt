@@ -14,11 +14,11 @@ use Rattle.dali_events.specs.Happens.{happens}
 use Rattle.dali_events.specs.Allowed.{Allowed, IsUp, IsDue, MaySend}
 use Rattle.dali_events.specs.Runs.{after, after_all, IsRun}
 use Rattle.dali_events.specs.Promise.{IsSafe}
-use Rattle.dali_events.proofs.Growing.{after_more, run_more}
-use Rattle.dali_events.proofs.Controllers.{controllers_count}
-use Rattle.dali_events.proofs.Safe.{safe_history, safe, holds_after}
-use Rattle.dali_events.proofs.Agreeing.{tables_agree_in}
-use Rattle.dali_events.proofs.Keeping.{records_kept}
+use Rattle.dali_events.proofs.Invariant.Growing.{after_more, run_more}
+use Rattle.dali_events.proofs.Invariant.Controllers.{controllers_count}
+use Rattle.dali_events.proofs.Invariant.Safe.{safe_history, safe, holds_after}
+use Rattle.dali_events.proofs.Invariant.Agreeing.{tables_agree_in}
+use Rattle.dali_events.proofs.Invariant.Keeping.{records_kept}
 use Rattle.dali_events.specs.Laws.{TablesAgree, KeepsRecords}
 use Rattle.dali_standing.specs.Standing.{Standing, stand_of, machines_at, machines_after, machine_in, controller_on, Moves, MayBeSent}
 use Rattle.dali_world.proofs.Capacity.{capacity_kept}

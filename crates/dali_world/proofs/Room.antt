@@ -13,8 +13,8 @@ use Rattle.dali_events.specs.Happens.{happens}
 use Rattle.dali_events.specs.Allowed.{Allowed}
 use Rattle.dali_events.specs.Runs.{after, IsRun}
 use Rattle.dali_script.proofs.Members.{mapped_from}
-use Rattle.dali_events.proofs.Takes.{row_length}
-use Rattle.dali_events.proofs.Safe.{Holds, holds_step, holds_after}
+use Rattle.dali_events.proofs.Invariant.Takes.{row_length}
+use Rattle.dali_events.proofs.Invariant.Safe.{Holds, holds_step, holds_after}
 
 -- THERE ARE AT MOST AS MANY GIFTS AS GEAR.
 

@@ -1,4 +1,4 @@
-use Rattle.dali_events.proofs.AllFound.{all_found, all_found_after}
+use Rattle.dali_events.proofs.Search.AllFound.{all_found, all_found_after}
 use Rattle.dali_events.proofs.laws.all_found_is_true.Goals as goal
 
 pub returns : goal.returns

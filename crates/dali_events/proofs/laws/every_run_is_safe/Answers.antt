@@ -1,4 +1,4 @@
-use Rattle.dali_events.proofs.Safe.{keeps_promise, safe_history}
+use Rattle.dali_events.proofs.Invariant.Safe.{keeps_promise, safe_history}
 use Rattle.dali_events.proofs.laws.every_run_is_safe.Goals as goal
 
 pub returns : goal.returns

@@ -1,4 +1,4 @@
-use Rattle.dali_events.proofs.Halves.{no_half_at_first, no_half_while_one, no_short_at_randomise, gear_are_searched, no_short_while_unnamed}
+use Rattle.dali_events.proofs.Search.Halves.{no_half_at_first, no_half_while_one, no_short_at_randomise, gear_are_searched, no_short_while_unnamed}
 use Rattle.dali_events.proofs.laws.frames_find_gear.Goals as goal
 
 pub returns : goal.returns

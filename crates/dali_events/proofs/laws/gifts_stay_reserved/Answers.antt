@@ -1,4 +1,4 @@
-use Rattle.dali_events.proofs.Agreeing.{gifts_reserved, reservations_stay}
+use Rattle.dali_events.proofs.Invariant.Agreeing.{gifts_reserved, reservations_stay}
 use Rattle.dali_events.proofs.laws.gifts_stay_reserved.Goals as goal
 
 pub returns : goal.returns

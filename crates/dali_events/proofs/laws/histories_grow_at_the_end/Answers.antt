@@ -1,5 +1,5 @@
 use Rattle.dali_events.specs.World.{start}
-use Rattle.dali_events.proofs.Growing.{after_more, run_more}
+use Rattle.dali_events.proofs.Invariant.Growing.{after_more, run_more}
 use Rattle.dali_events.proofs.laws.histories_grow_at_the_end.Goals as goal
 
 pub returns : goal.returns

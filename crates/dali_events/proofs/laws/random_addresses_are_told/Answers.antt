@@ -1,4 +1,4 @@
-use Rattle.dali_events.proofs.Agreeing.{told_by_gear}
+use Rattle.dali_events.proofs.Invariant.Agreeing.{told_by_gear}
 use Rattle.dali_events.proofs.laws.random_addresses_are_told.Goals as goal
 
 pub returns : goal.returns

@@ -1,6 +1,6 @@
 use Rattle.std.proofs.Common.{rules, ◌≡◌, ◌∙◌, ap, length, length-drop, arith}
 use Rattle.std.proofs.lemmas.List.{take_rest}
-use Rattle.dali_events.proofs.Takes.{row_length}
+use Rattle.dali_events.proofs.Invariant.Takes.{row_length}
 use Rattle.dali_standing.proofs.Rows.{taken_is}
 use Rattle.dali_standing.proofs.fitted.FittedGear.take.Goals as goal
 

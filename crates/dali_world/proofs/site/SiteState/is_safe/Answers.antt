@@ -1,4 +1,4 @@
-use Rattle.dali_events.proofs.Safe.{keeps_promise}
+use Rattle.dali_events.proofs.Invariant.Safe.{keeps_promise}
 use Rattle.dali_world.proofs.Logs.{safe_now, agreeing_now, records_now}
 use Rattle.dali_world.proofs.site.SiteState.is_safe.Goals as goal
 

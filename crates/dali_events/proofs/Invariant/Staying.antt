@@ -14,9 +14,9 @@ use Rattle.dali_events.specs.Happens.{happens, with_outstanding, controller_info
 use Rattle.dali_events.specs.Allowed.{Allowed}
 use Rattle.dali_events.specs.Runs.{AreDrawn}
 use Rattle.dali_events.specs.Promise.{Names}
-use Rattle.dali_events.proofs.Controllers.{Property, Stands, Of, AddsOrder, Adds, controllers_step}
-use Rattle.dali_events.proofs.Gifts.{Gifts}
-use Rattle.dali_events.proofs.Naming.{SaysRecord, SaysOnly, Says, FoundBy, says_stand, says_add, says_more}
+use Rattle.dali_events.proofs.Invariant.Controllers.{Property, Stands, Of, AddsOrder, Adds, controllers_step}
+use Rattle.dali_events.proofs.Invariant.Gifts.{Gifts}
+use Rattle.dali_events.proofs.Invariant.Naming.{SaysRecord, SaysOnly, Says, FoundBy, says_stand, says_add, says_more}
 
 -- A RESERVATION STAYS where no other address is said of its number: a release says one.
 abbrev pub Unopposed : (Assignment → Type 0) → Assignment → Type 0

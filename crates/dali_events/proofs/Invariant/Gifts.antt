@@ -11,11 +11,11 @@ use Rattle.dali_script.specs.declared.stage.Stage.{Stage}
 use Rattle.dali_script.specs.Records.{Assignment, Has, IsOnce}
 use Rattle.dali_script.specs.Stages.{Follows}
 use Rattle.dali_script.proofs.Members.{Each, has_left, has_right, has_either, mapped_from, once_append, once_seconds, same_member}
-use Rattle.dali_events.proofs.Takes.{Moved, stays, goes, moves_at, row_length}
-use Rattle.dali_events.proofs.Drawn.{HasDrawn}
-use Rattle.dali_events.proofs.Answers.{stored_by, stores_at, stored_once}
-use Rattle.dali_events.proofs.Known.{Knows, IsNew, new_from, short_from, short_stored, short_stays, random_stays, random_stored}
-use Rattle.dali_events.proofs.Sending.{KnowsAll, takes_powered}
+use Rattle.dali_events.proofs.Invariant.Takes.{Moved, stays, goes, moves_at, row_length}
+use Rattle.dali_events.proofs.Invariant.Drawn.{HasDrawn}
+use Rattle.dali_events.proofs.Invariant.Answers.{stored_by, stores_at, stored_once}
+use Rattle.dali_events.proofs.Invariant.Known.{Knows, IsNew, new_from, short_from, short_stored, short_stays, random_stays, random_stored}
+use Rattle.dali_events.proofs.Invariant.Sending.{KnowsAll, takes_powered}
 
 -- WHAT HOLDS OF GIFTS: a gear holds an address where it was given it; its random address it has drawn, and somebody has
 -- reserved the address for it; each gear and each address was given once.

@@ -34,6 +34,10 @@ pub run_more : (p : Plan) (capacity : ℕ) (log : List Event) (e : Event) → Is
     → IsRun p capacity (log ++ e ∷ [])
 run_more p capacity log e run here = record { plan = run.plan; allowed = allowed_more (start p capacity) log e run.allowed here }
 
+-- the last event of a run was allowed
+pub last_allowed : (p : Plan) (capacity : ℕ) (log : List Event) (e : Event) → IsRun p capacity (log ++ e ∷ []) → Allowed (after p capacity log) e
+last_allowed p capacity log e run = (allowed_rest (start p capacity) log (e ∷ []) run.allowed).0
+
 -- hearing
 pub plain_hearing : (answers : List ℕ) → Hears answers (heard_of answers)
 plain_hearing [] = tt

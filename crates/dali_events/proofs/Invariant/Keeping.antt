@@ -23,10 +23,10 @@ use Rattle.dali_events.specs.Happens.{happens, with_outstanding, controller_info
 use Rattle.dali_events.specs.Allowed.{Allowed, MayOrder}
 use Rattle.dali_events.specs.Runs.{after, after_all, AllAllowed, IsRun}
 use Rattle.dali_events.specs.Laws.{KeepsRecords}
-use Rattle.dali_events.proofs.Growing.{allowed_front}
+use Rattle.dali_events.proofs.Invariant.Growing.{allowed_front}
 use Rattle.dali_script.proofs.Members.{Each}
-use Rattle.dali_events.proofs.Controllers.{Property, Stands, Of, AddsOrder, Adds, controllers_step, controllers_count}
-use Rattle.dali_events.proofs.Naming.{IsFinding, finding_is, enrols_assigned}
+use Rattle.dali_events.proofs.Invariant.Controllers.{Property, Stands, Of, AddsOrder, Adds, controllers_step, controllers_count}
+use Rattle.dali_events.proofs.Invariant.Naming.{IsFinding, finding_is, enrols_assigned}
 
 -- RECORDS ARE KEPT, AND AN OUTSTANDING ONE MAY BE ADDED
 record IsNewRecord (kept : Kept) (x : Record) : Type 0 where

@@ -27,9 +27,9 @@ use Rattle.dali_events.specs.Happens.{happens, trace_running, entry, goes_on, ge
 use Rattle.dali_events.specs.Allowed.{Allowed, MaySend, Hears}
 use Rattle.dali_events.specs.Runs.{after, after_all, AllAllowed}
 use Rattle.dali_script.proofs.Members.{Each, each_changed, each_map}
-use Rattle.dali_events.proofs.Takes.{Moved, stays, goes, moves_at, row_length}
-use Rattle.dali_events.proofs.Answers.{answers_have, heard_byte}
-use Rattle.dali_events.proofs.Known.{Knows, Agrees, IsShort, knows_step, knows_inactive, knows_quieted, short_taken}
+use Rattle.dali_events.proofs.Invariant.Takes.{Moved, stays, goes, moves_at, row_length}
+use Rattle.dali_events.proofs.Invariant.Answers.{answers_have, heard_byte}
+use Rattle.dali_events.proofs.Invariant.Known.{Knows, Agrees, IsShort, knows_step, knows_inactive, knows_quieted, short_taken}
 
 -- A SENDER'S FRAME FOLLOWS the trace that it goes on with
 owner_runs : (o : Option ℕ) (c : ℕ) (t : List Entry) → o ≡ Some c → (if owns o c then t else []) ≡ t

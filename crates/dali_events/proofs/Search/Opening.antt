@@ -22,7 +22,7 @@ use Rattle.dali_script.specs.declared.stage.Stage.{Stage}
 use Rattle.dali_script.specs.declared.stage.Stage.TheVariants as stage
 use Rattle.dali_script.specs.Records.{Assignment, Has}
 use Rattle.dali_script.specs.Stages.{Follows, next_stage, queried, named, verified, answered, bytes_heard, number_heard}
-use Rattle.dali_events.proofs.Known.{Knows, IsActive, found_random}
+use Rattle.dali_events.proofs.Invariant.Known.{Knows, IsActive, found_random}
 
 -- WITH NUMBERS ENOUGH, who would draw draws one of them
 record DrawsNumber (reach : Reach) (c : Command) (k : ℕ) (gs : List Gear) (left : List ℕ) (i : ℕ) : Type 0 where

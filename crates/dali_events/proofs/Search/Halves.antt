@@ -27,11 +27,11 @@ use Rattle.dali_events.specs.Happens.{happens, trace_running, entry, goes_on, ge
 use Rattle.dali_events.specs.Allowed.{Allowed, MaySend}
 use Rattle.dali_events.specs.Runs.{after, after_all, AllAllowed, IsRun}
 use Rattle.dali_events.specs.Searching.{EachPowered, EachActive, frame_in, number_at}
-use Rattle.dali_events.proofs.Growing.{after_more, allowed_front, allowed_rest}
+use Rattle.dali_events.proofs.Invariant.Growing.{after_more, allowed_front, last_allowed}
 use Rattle.dali_script.proofs.Members.{Each, each_changed, each_map}
-use Rattle.dali_events.proofs.Takes.{Moved, stays, goes, moves_at, row_length}
-use Rattle.dali_events.proofs.Known.{Knows, IsActive, Unnumbered}
-use Rattle.dali_events.proofs.Sending.{IsKnown, known_after, lawful_of, follows_of, knows_running, powered_takes}
+use Rattle.dali_events.proofs.Invariant.Takes.{Moved, stays, goes, moves_at, row_length}
+use Rattle.dali_events.proofs.Invariant.Known.{Knows, IsActive, Unnumbered}
+use Rattle.dali_events.proofs.Invariant.Sending.{IsKnown, known_after, lawful_of, follows_of, knows_running, powered_takes}
 
 -- NO HALF PAIR AFTER A FIRST FRAME
 abbrev pub Whole : ℕ → Gear → Type 0
@@ -111,10 +111,6 @@ alone_all w (e ∷ es) all h = alone_all (happens w e) es all.1 (alone_step w e 
 pub no_half_while_one : (p : Plan) (capacity : ℕ) (log : List Event) (x : Entry) → IsRun p capacity log → (after p capacity log).trace ≡ x ∷ []
     → EachPowered (after p capacity log) (λ g. g.half ≡ None)
 no_half_while_one p capacity log x run e = alone_all (start p capacity) log run.allowed (alone_none _) x e
-
--- the last event of a run was allowed
-pub last_allowed : (p : Plan) (capacity : ℕ) (log : List Event) (e : Event) → IsRun p capacity (log ++ e ∷ []) → Allowed (after p capacity log) e
-last_allowed p capacity log e run = (allowed_rest (start p capacity) log (e ∷ []) run.allowed).0
 
 -- a frame that may begin a transaction, whoever's trace it is sent in
 first_half : (f : Forward) (g : Gear) → IsFirst f → half_after (command_of f) g ≡ None

@@ -1,14 +1,12 @@
 use Rattle.std.proofs.Common.{◌≡◌, ℕ, true, false, List, [], ◌∷◌, ◌++◌, Some, None, refl, inl, inr, lit<, lit≤, arith}
 use Rattle.dali_frame.specs.declared.frames.Forward.{Forward}
 use Rattle.dali_frame.specs.declared.frames.Answer.TheVariants.{Silence, Byte}
-use Rattle.dali_frame.specs.declared.numbers.SearchAddress.{SearchAddress}
 use Rattle.dali_special.specs.declared.command.Command.TheVariants.{Randomise}
 use Rattle.dali_special.specs.Command.{command_of, frame}
 use Rattle.dali_gear.specs.declared.state.InitialisationState.TheVariants.{Disabled, Enabled}
 use Rattle.dali_gear.specs.Gear.{Gear, search_mask}
 use Rattle.dali_arbiter.specs.Arbiter.{request_of, idle}
 use Rattle.dali_script.specs.declared.finding.Finding.TheVariants.{Queried}
-use Rattle.dali_script.specs.declared.block.Block.{Block}
 use Rattle.dali_script.specs.declared.records.Record.TheVariants.{Reserve, Release}
 use Rattle.dali_script.specs.Scripts.{Open, Look}
 use Rattle.dali_script.specs.Stages.{stage_of}
@@ -20,16 +18,11 @@ use Rattle.dali_events.specs.Plan.{Plan}
 use Rattle.dali_events.specs.World.{World, gear_at, controller_at, controller_begun, start}
 use Rattle.dali_events.specs.Happens.{happens}
 use Rattle.dali_events.specs.Runs.{after_all, AllAllowed}
+use Rattle.dali_events.proofs.Histories.Openings.{first_block, second_block, at_123456}
 
 -- SHORT HISTORIES, EACH WITH THE WORLD THAT THE RULES GIVE. They are proved by computing the definitions.
 
 -- a site of two gear and two controllers
-abbrev first_block : Block
-first_block = record { first = 0; last = 3 }
-
-abbrev second_block : Block
-second_block = record { first = 4; last = 7 }
-
 abbrev plan : Plan
 plan = record { gear = 2; blocks = first_block ∷ second_block ∷ []; draws = 0x123456 ∷ 0x0ABCDE ∷ [] }
 
@@ -56,9 +49,6 @@ abbrev query : Forward
 query = frame 0xBB 0
 
 -- two gear that were found at 123456 and at 0ABCDE, both with the search address 123456
-abbrev at_123456 : SearchAddress
-at_123456 = record { high = 0x12; middle = 0x34; low = 0x56 }
-
 abbrev found_gear : ℕ → Gear
 found_gear r = record { powered = true; state = Enabled; random = r; search = at_123456; short = None; half = None }
 

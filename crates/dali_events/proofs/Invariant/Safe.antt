@@ -22,16 +22,16 @@ use Rattle.dali_events.specs.Happens.{happens, trace_running, entry, goes_on, ge
 use Rattle.dali_events.specs.Allowed.{Allowed, IsUp, MaySend}
 use Rattle.dali_events.specs.Runs.{after, after_all, AllAllowed, IsRun}
 use Rattle.dali_events.specs.Promise.{KeepsPromiseNow, KeepsAddresses, KeepsPromise, Names, IsSafe, KeepsGifts, IsSafeHistory}
-use Rattle.dali_events.proofs.Growing.{after_both, allowed_front, allowed_rest}
+use Rattle.dali_events.proofs.Invariant.Growing.{after_both, allowed_front, allowed_rest}
 use Rattle.dali_script.proofs.Members.{Each, each_changed, each_map, same_member}
-use Rattle.dali_events.proofs.Drawn.{Draws, draws_step, draws_start, are_drawn}
-use Rattle.dali_events.proofs.Controllers.{Of, controllers_count}
-use Rattle.dali_events.proofs.Reserves.{AllReserve, reserves_step, reserves_start, IsReserved, one_number}
-use Rattle.dali_events.proofs.Sending.{IsKnown, known_step, known_start, follows_of, knows_running}
-use Rattle.dali_events.proofs.Gifts.{Gifts, Change, SameAddresses, no_change, frame_changes, gifts_step, gift_stays, gift_random, draw_stays}
-use Rattle.dali_events.proofs.Naming.{Says, FoundBy, says_step, says_start, found_names}
-use Rattle.dali_events.proofs.Staying.{StillReserved, Unopposed, still_reserved, given_alone}
-use Rattle.dali_events.proofs.Resolving.{Tells, tells_if, tells_unless, tells_stay, tells_more}
+use Rattle.dali_events.proofs.Invariant.Drawn.{Draws, draws_step, draws_start, are_drawn}
+use Rattle.dali_events.proofs.Invariant.Controllers.{Of, controllers_count}
+use Rattle.dali_events.proofs.Invariant.Reserves.{AllReserve, reserves_step, reserves_start, IsReserved, one_number}
+use Rattle.dali_events.proofs.Invariant.Sending.{IsKnown, known_step, known_start, follows_of, knows_running}
+use Rattle.dali_events.proofs.Invariant.Gifts.{Gifts, Change, SameAddresses, no_change, frame_changes, gifts_step, gift_stays, gift_random, draw_stays}
+use Rattle.dali_events.proofs.Invariant.Naming.{Says, FoundBy, says_step, says_start, found_names}
+use Rattle.dali_events.proofs.Invariant.Staying.{StillReserved, Unopposed, still_reserved, given_alone}
+use Rattle.dali_events.proofs.Invariant.Resolving.{Tells, tells_if, tells_unless, tells_stay, tells_more}
 
 -- THE INVARIANT of every run
 pub record Holds (p : Plan) (w : World) : Type 0 where

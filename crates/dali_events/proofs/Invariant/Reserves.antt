@@ -14,7 +14,7 @@ use Rattle.dali_events.specs.World.{World, Controller, controller_at, nobody, co
 use Rattle.dali_events.specs.Happens.{happens, with_outstanding, controller_informed}
 use Rattle.dali_events.specs.Allowed.{Allowed, MayOrder}
 use Rattle.dali_script.proofs.Members.{Each, same_member}
-use Rattle.dali_events.proofs.Controllers.{Property, Stands, Of, AddsOrder, Adds, controllers_step, controllers_count}
+use Rattle.dali_events.proofs.Invariant.Controllers.{Property, Stands, Of, AddsOrder, Adds, controllers_step, controllers_count}
 
 -- an outstanding reservation is of the block, and of an address that is not reserved
 abbrev pub NewReserve : Block → List Assignment → Option Record → Type 0

@@ -34,14 +34,14 @@ use Rattle.dali_events.specs.Allowed.{Allowed, MaySend}
 use Rattle.dali_events.specs.Runs.{after, after_all, AllAllowed}
 use Rattle.dali_events.specs.Searching.{EachPowered, IsCalm, AreCalm, CompletesOpening, HIGHEST, sent_event, up_to_compare, SearchesAll, NobodyAnswers}
 use Rattle.dali_events.specs.Searching.{HasShort}
-use Rattle.dali_events.proofs.Growing.{after_both, allowed_front, allowed_rest}
+use Rattle.dali_events.proofs.Invariant.Growing.{after_both, allowed_front, allowed_rest}
 use Rattle.dali_script.proofs.Members.{Each, has_right}
-use Rattle.dali_events.proofs.Takes.{Moved, stays, goes, moves_at, row_length}
-use Rattle.dali_events.proofs.Drawn.{Draws, draws_step, draws_all, draws_after, are_drawn}
-use Rattle.dali_events.proofs.Answers.{answers_have}
-use Rattle.dali_events.proofs.Known.{Knows, IsActive}
-use Rattle.dali_events.proofs.Sending.{IsKnown, known_step, known_all, known_after, lawful_of, follows_of, knows_running, powered_takes}
-use Rattle.dali_events.proofs.Opening.{draws_at, Opens, opens_step, Ready, drawn_ready, ready_step}
+use Rattle.dali_events.proofs.Invariant.Takes.{Moved, stays, goes, moves_at, row_length}
+use Rattle.dali_events.proofs.Invariant.Drawn.{Draws, draws_step, draws_all, draws_after, are_drawn}
+use Rattle.dali_events.proofs.Invariant.Answers.{answers_have}
+use Rattle.dali_events.proofs.Invariant.Known.{Knows, IsActive}
+use Rattle.dali_events.proofs.Invariant.Sending.{IsKnown, known_step, known_all, known_after, lawful_of, follows_of, knows_running, powered_takes}
+use Rattle.dali_events.proofs.Search.Opening.{draws_at, Opens, opens_step, Ready, drawn_ready, ready_step}
 
 -- THE OPENING
 abbrev OpensAll : Stage → List Gear → Type 0

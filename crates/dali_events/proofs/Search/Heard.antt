@@ -17,10 +17,10 @@ use Rattle.dali_events.specs.World.{World}
 use Rattle.dali_events.specs.Runs.{AreDrawn}
 use Rattle.dali_events.specs.Wanted.{is_wanted, wants, gear_of, OfPowered, Seek, AreApart, IsOpened}
 use Rattle.dali_script.proofs.Members.{same_member}
-use Rattle.dali_events.proofs.Answers.{answered, answers_have}
-use Rattle.dali_events.proofs.Known.{found_random}
-use Rattle.dali_events.proofs.Sending.{powered_takes, takes_powered}
-use Rattle.dali_events.proofs.Wanted.{number_same, enabled_is, wanted_powered, wanted_enabled, wanted_active, is_wanted_by, wants_by, wants_at}
+use Rattle.dali_events.proofs.Invariant.Answers.{answered, answers_have}
+use Rattle.dali_events.proofs.Invariant.Known.{found_random}
+use Rattle.dali_events.proofs.Invariant.Sending.{powered_takes, takes_powered}
+use Rattle.dali_events.proofs.Search.Wanted.{number_same, enabled_is, wanted_powered, wanted_enabled, wanted_active, is_wanted_by, wants_by, wants_at}
 
 -- COMPARE: who has a random address above the search address is silent, and no other
 compared_yes : (g : Gear) → g.state ≡ Enabled → g.random ≤ value_of g.search → answer Compare g ≡ Some YES

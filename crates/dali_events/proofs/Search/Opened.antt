@@ -12,10 +12,10 @@ use Rattle.dali_script.specs.declared.stage.Stage.{Stage}
 use Rattle.dali_script.specs.declared.stage.Stage.TheVariants as stage
 use Rattle.dali_script.specs.Records.{Has}
 use Rattle.dali_events.specs.Wanted.{is_wanted, is_bare, gear_of, OfPowered, IsOpened, NoneNamed}
-use Rattle.dali_events.proofs.Takes.{row_length}
-use Rattle.dali_events.proofs.Opening.{draws_at}
-use Rattle.dali_events.proofs.Sending.{powered_takes}
-use Rattle.dali_events.proofs.Wanted.{wanted_count, after_at}
+use Rattle.dali_events.proofs.Invariant.Takes.{row_length}
+use Rattle.dali_events.proofs.Search.Opening.{draws_at}
+use Rattle.dali_events.proofs.Invariant.Sending.{powered_takes}
+use Rattle.dali_events.proofs.Search.Wanted.{wanted_count, after_at}
 
 -- WHAT AN OPENING SAYS of each powered gear: one without short address is ENABLED, and one with it DISABLED
 abbrev pub OpenedBy : Gear → Type 0

@@ -16,8 +16,8 @@ use Rattle.dali_script.specs.Findings.{Asked, nothing, high_byte, two_bytes, ask
 use Rattle.dali_script.proofs.Transactions.{equal}
 use Rattle.dali_script.proofs.Members.{same_member}
 use Rattle.dali_events.specs.Allowed.{Hears}
-use Rattle.dali_events.proofs.Answers.{answered, byte_answered}
-use Rattle.dali_events.proofs.Gifts.{Gifts, Change}
+use Rattle.dali_events.proofs.Invariant.Answers.{answered, byte_answered}
+use Rattle.dali_events.proofs.Invariant.Gifts.{Gifts, Change}
 
 -- WHAT QUERIES OF A RANDOM ADDRESS HAVE SAID: the bytes that were heard so far are those of some gear with the short
 -- address that was asked.

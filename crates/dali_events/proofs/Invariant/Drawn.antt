@@ -17,7 +17,7 @@ use Rattle.dali_events.specs.Happens.{happens, gear_powered}
 use Rattle.dali_events.specs.Runs.{after, after_all, IsRun, AreDrawn}
 use Rattle.dali_script.proofs.Lists.{has_map}
 use Rattle.dali_script.proofs.Members.{has_left, has_right, once_front, Each, each_changed, each_map}
-use Rattle.dali_events.proofs.Takes.{Moved, stays, goes, moves_at, row_length, numbers_stay}
+use Rattle.dali_events.proofs.Invariant.Takes.{Moved, stays, goes, moves_at, row_length, numbers_stay}
 
 -- gear k has no random address, or drew it
 abbrev pub HasDrawn : List (ℕ × ℕ) → ℕ → Gear → Type 0

@@ -9,11 +9,12 @@ use Rattle.dali_gear.specs.declared.row.Reach.TheVariants.{Everyone}
 use Rattle.dali_gear.specs.Gear.{Gear, is_active, is_found, gear_taken, short_after}
 use Rattle.dali_gear.specs.Row.{row_after}
 use Rattle.dali_events.specs.Wanted.{is_wanted, wants, is_bare, gear_of, Seek, AreApart, IsOpened, NoneNamedBut, AreNamed}
-use Rattle.dali_events.proofs.Takes.{row_length}
-use Rattle.dali_events.proofs.Known.{found_random}
-use Rattle.dali_events.proofs.Wanted.{wanted_powered, wanted_active, is_bare_by, bare_is, count_same, count_at_most, count_less, Enabling, Drawing, UnnamedBut}
-use Rattle.dali_events.proofs.Wanted.{powered_over, wants_same, apart_over, after_at}
-use Rattle.dali_events.proofs.Heard.{random_found}
+use Rattle.dali_events.proofs.Invariant.Takes.{row_length}
+use Rattle.dali_events.proofs.Invariant.Known.{found_random}
+use Rattle.dali_events.proofs.Search.Wanted.{wanted_powered, wanted_active, is_bare_by, bare_is, count_same, count_at_most, count_less, Enabling, Drawing}
+use Rattle.dali_events.proofs.Search.Wanted.{UnnamedBut}
+use Rattle.dali_events.proofs.Search.Wanted.{powered_over, wants_same, apart_over, after_at}
+use Rattle.dali_events.proofs.Search.Heard.{random_found}
 
 -- PROGRAM SHORT ADDRESS: the gear after it
 abbrev pub after_program : ℕ → List Gear → List ℕ → List Gear

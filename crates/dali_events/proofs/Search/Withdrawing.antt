@@ -11,11 +11,12 @@ use Rattle.dali_gear.specs.Gear.{Gear, is_enabled, is_active, is_found, gear_tak
 use Rattle.dali_gear.specs.Row.{row_after}
 use Rattle.dali_events.specs.Searching.{HasShort}
 use Rattle.dali_events.specs.Wanted.{is_wanted, wants, gear_of, Seek, AreApart, IsOpened, NoneNamed, NoneNamedBut, AreNamed}
-use Rattle.dali_events.proofs.Takes.{row_length}
-use Rattle.dali_events.proofs.Known.{found_random}
-use Rattle.dali_events.proofs.Wanted.{enabled_is, wanted_powered, wanted_enabled, is_wanted_by, wants_by, wants_at, count_less, Enabling, Drawing, Unnamed}
-use Rattle.dali_events.proofs.Wanted.{UnnamedBut, powered_over, apart_over, after_at}
-use Rattle.dali_events.proofs.Heard.{random_found}
+use Rattle.dali_events.proofs.Invariant.Takes.{row_length}
+use Rattle.dali_events.proofs.Invariant.Known.{found_random}
+use Rattle.dali_events.proofs.Search.Wanted.{enabled_is, wanted_powered, wanted_enabled, is_wanted_by, wants_by, wants_at, count_less, Enabling, Drawing}
+use Rattle.dali_events.proofs.Search.Wanted.{Unnamed}
+use Rattle.dali_events.proofs.Search.Wanted.{UnnamedBut, powered_over, apart_over, after_at}
+use Rattle.dali_events.proofs.Search.Heard.{random_found}
 
 -- WITHDRAW: the gear after it
 abbrev pub after_withdraw : List Gear → List ℕ → List Gear

@@ -13,8 +13,8 @@ use Rattle.dali_gear.specs.Gear.{Gear, fresh, is_enabled, is_active, gear_taken}
 use Rattle.dali_gear.specs.Row.{takes, row_after, drawn_of}
 use Rattle.dali_events.specs.Searching.{HasShort}
 use Rattle.dali_events.specs.Wanted.{is_wanted, wants, is_bare, gear_of, OfPowered, AreApart, IsOpened, NoneNamed, AreNamed}
-use Rattle.dali_events.proofs.Takes.{Moved, stays, goes, moves_at}
-use Rattle.dali_events.proofs.Sending.{powered_takes, takes_powered}
+use Rattle.dali_events.proofs.Invariant.Takes.{Moved, stays, goes, moves_at}
+use Rattle.dali_events.proofs.Invariant.Sending.{powered_takes, takes_powered}
 
 -- TESTS THAT PASS TOGETHER
 pub both_pass : (a b : Bool) → (a && b) ≡ true → (a ≡ true) × (b ≡ true)

@@ -19,14 +19,13 @@ use Rattle.dali_events.specs.Runs.{after, after_all, AllAllowed, IsRun, AreDrawn
 use Rattle.dali_events.specs.Promise.{IsEnrolled, NamesGear, Names, IsSafe}
 use Rattle.dali_events.specs.Laws.{GiftsAreReserved, KeepsReserved, TablesAgree, HasFound, FindingsAgree}
 use Rattle.dali_script.proofs.Members.{same_member}
-use Rattle.dali_events.proofs.Growing.{after_both, allowed_front, allowed_rest}
-use Rattle.dali_events.proofs.Controllers.{controllers_count}
-use Rattle.dali_events.proofs.Reserves.{IsReserved}
-use Rattle.dali_events.proofs.Drawn.{drawn_in_front}
-use Rattle.dali_events.proofs.Naming.{SaysFinding, resolved_names}
-use Rattle.dali_events.proofs.Resolving.{tells_if}
-use Rattle.dali_events.proofs.Halves.{last_allowed}
-use Rattle.dali_events.proofs.Safe.{Holds, keeps_step, stays_step, holds_step, holds_after, safe, run_front}
+use Rattle.dali_events.proofs.Invariant.Growing.{after_both, allowed_front, allowed_rest, last_allowed}
+use Rattle.dali_events.proofs.Invariant.Controllers.{controllers_count}
+use Rattle.dali_events.proofs.Invariant.Reserves.{IsReserved}
+use Rattle.dali_events.proofs.Invariant.Drawn.{drawn_in_front}
+use Rattle.dali_events.proofs.Invariant.Naming.{SaysFinding, resolved_names}
+use Rattle.dali_events.proofs.Invariant.Resolving.{tells_if}
+use Rattle.dali_events.proofs.Invariant.Safe.{Holds, keeps_step, stays_step, holds_step, holds_after, safe, run_front}
 
 -- GIFTS STAY RESERVED
 pub gifts_reserved : (p : Plan) (capacity : ℕ) (front rest : List Event) → IsRun p capacity (front ++ rest) → GiftsAreReserved (after p capacity front)

@@ -34,12 +34,12 @@ use Rattle.dali_events.specs.Happens.{happens, with_outstanding, controller_info
 use Rattle.dali_events.specs.Allowed.{Allowed, MayOrder}
 use Rattle.dali_events.specs.Promise.{Names}
 use Rattle.dali_script.proofs.Members.{Each}
-use Rattle.dali_events.proofs.Answers.{answered, byte_answered}
-use Rattle.dali_events.proofs.Known.{Knows, IsActive, some_of_code, found_random, search_known}
-use Rattle.dali_events.proofs.Sending.{IsKnown, lawful_of, follows_of, knows_running, takes_powered}
-use Rattle.dali_events.proofs.Gifts.{Gifts}
-use Rattle.dali_events.proofs.Resolving.{TellsTwo, Tells, teller, one_holder, whole_number}
-use Rattle.dali_events.proofs.Controllers.{Property, Stands, Of, AddsOrder, Adds, controllers_step}
+use Rattle.dali_events.proofs.Invariant.Answers.{answered, byte_answered}
+use Rattle.dali_events.proofs.Invariant.Known.{Knows, IsActive, some_of_code, found_random, search_known}
+use Rattle.dali_events.proofs.Invariant.Sending.{IsKnown, lawful_of, follows_of, knows_running, takes_powered}
+use Rattle.dali_events.proofs.Invariant.Gifts.{Gifts}
+use Rattle.dali_events.proofs.Invariant.Resolving.{TellsTwo, Tells, teller, one_holder, whole_number}
+use Rattle.dali_events.proofs.Invariant.Controllers.{Property, Stands, Of, AddsOrder, Adds, controllers_step}
 
 -- WHAT CONTROLLERS SAY of gear is N: their kept enrolments, an outstanding one, and their finding; and of an outstanding
 -- release, its number with another address

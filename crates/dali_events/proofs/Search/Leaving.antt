@@ -11,8 +11,8 @@ use Rattle.dali_gear.specs.declared.row.Reach.TheVariants.{Everyone}
 use Rattle.dali_gear.specs.Gear.{Gear, is_enabled, is_active, is_found, gear_taken, state_after, search_after}
 use Rattle.dali_gear.specs.Row.{row_after}
 use Rattle.dali_events.specs.Wanted.{is_wanted, wants, is_bare, gear_of, OfPowered, Seek, AreApart, IsOpened, NoneNamed, NoneNamedBut, AreNamed}
-use Rattle.dali_events.proofs.Takes.{row_length}
-use Rattle.dali_events.proofs.Wanted.{Enabling, Drawing, Unnamed, UnnamedBut, Named, count_same, powered_over, wants_same, apart_over, after_at}
+use Rattle.dali_events.proofs.Invariant.Takes.{row_length}
+use Rattle.dali_events.proofs.Search.Wanted.{Enabling, Drawing, Unnamed, UnnamedBut, Named, count_same, powered_over, wants_same, apart_over, after_at}
 
 -- GEAR BY GEAR THE SAME but for the search address and the half pair
 pub record SameGear (g h : Gear) : Type 0 where
