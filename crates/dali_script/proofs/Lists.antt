@@ -11,7 +11,7 @@ use Rattle.dali_script.specs.declared.block.Block.{Block}
 use Rattle.dali_script.specs.declared.records.Record.{Record}
 use Rattle.dali_script.specs.declared.records.Record.TheVariants.{Reserve, Enrol, Release}
 use Rattle.dali_script.specs.Records.{Kept, IsKept, without_records, Fits, MayAdd, address_of, with_record, Assignment, Has, IsOnce, addresses, randoms}
-use Rattle.dali_script.specs.Records.{HasAddress, HasRandom, InBlock, IsMap, Marks, is_pair, without_pair, IsFresh}
+use Rattle.dali_script.specs.Records.{HasAddress, HasRandom, InBlock, IsMap, Marks, is_pair, without_pair, IsFresh, Shows, TakesAway}
 
 -- membership and an append
 pub has_last : {A : Type 0} (xs : List A) (x : A) → Has (xs ++ x ∷ []) x
@@ -322,6 +322,17 @@ enrolled_by k (Enrol a r) p has = go (has_cases k.enrolled (a, r) p has) where
   go (inl before) = inl before
   go (inr same) = inr (ap (λ (q : Assignment). Enrol q.0 q.1) same)
 enrolled_by k (Release a r) p has = inl has
+
+-- what records show then they showed before, or it is this record; unless it takes away
+pub shown_by : (k : Kept) (x y : Record) → Shows (with_record k x) y → TakesAway y ⊎ (Shows k y ⊎ (x ≡ y))
+shown_by k x (Reserve a r) shows = inr (reserved_by k x (a, r) shows)
+shown_by k x (Enrol a r) shows = inr (enrolled_by k x (a, r) shows)
+shown_by k x (Release a r) shows = inl tt
+
+pub shown_none : (b : Block) (y : Record) → Shows (without_records b) y → TakesAway y
+shown_none b (Reserve a r) shows = shows
+shown_none b (Enrol a r) shows = shows
+shown_none b (Release a r) shows = tt
 
 -- A LARGER BLOCK: a record does the same there, fits it, and may be added
 pub record_wider : (wide : Block) (k : Kept) (x : Record) → with_record (record k { block = wide }) x ≡ record (with_record k x) { block = wide }
