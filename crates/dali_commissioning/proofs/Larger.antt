@@ -1,36 +1,20 @@
-use Rattle.std.proofs.Common.{◌≡◌, ◌≤◌, arith, List, [], ◌∷◌, refl, ◌∙◌, ap, sym, subst}
+use Rattle.std.proofs.Common.{◌≡◌, ◌≤◌, List, [], ◌∷◌, refl, ◌∙◌, ap, sym, subst}
 use Rattle.dali_script.specs.declared.block.Block.{Block}
 use Rattle.dali_script.specs.declared.records.Record.{Record}
-use Rattle.dali_script.specs.declared.records.Record.TheVariants.{Reserve, Enrol, Release}
 use Rattle.dali_script.specs.Records.{Kept, with_record, without_records}
+use Rattle.dali_script.proofs.Lists.{block_stays, record_wider, fits_wider, may_wider}
 use Rattle.dali_reserve.specs.Store.{replay_of, IsGood, AreGood, IsReplay}
 
 -- THE SAME RECORDS WITH A LARGER BLOCK
 abbrev wider : Block → Kept → Kept
 wider wide k = record k { block = wide }
 
-with_record_wider : (wide : Block) (k : Kept) (x : Record) → with_record (wider wide k) x ≡ wider wide (with_record k x)
-with_record_wider wide k (Reserve a r) = refl
-with_record_wider wide k (Enrol a r) = refl
-with_record_wider wide k (Release a r) = refl
-
-block_stays : (k : Kept) (x : Record) → (with_record k x).block ≡ k.block
-block_stays k (Reserve a r) = refl
-block_stays k (Enrol a r) = refl
-block_stays k (Release a r) = refl
-
 good_wider : (wide : Block) (k : Kept) (x : Record) → wide.first ≤ k.block.first → k.block.last ≤ wide.last
     → IsGood k x → IsGood (wider wide k) x
-good_wider wide k (Reserve a r) below above good = record {
+good_wider wide k x below above good = record {
   short = good.short;
-  fits = ((omega (arith, below, good.fits.0.0), omega (arith, above, good.fits.0.1)), good.fits.1);
-  may = good.may;
-}
-good_wider wide k (Enrol a r) below above good = record { short = good.short; fits = good.fits; may = good.may }
-good_wider wide k (Release a r) below above good = record {
-  short = good.short;
-  fits = ((omega (arith, below, good.fits.0.0), omega (arith, above, good.fits.0.1)), good.fits.1);
-  may = good.may;
+  fits = fits_wider k.block wide x below above good.fits;
+  may = may_wider wide k x good.may;
 }
 
 are_good_wider : (wide : Block) (k : Kept) (xs : List Record) → wide.first ≤ k.block.first → k.block.last ≤ wide.last
@@ -39,7 +23,7 @@ are_good_wider wide k [] below above good = tt
 are_good_wider wide k (x ∷ xs) below above (first, rest) =
     let same = block_stays k x in (
       good_wider wide k x below above first,
-      subst (λ j. AreGood j xs) (sym (with_record_wider wide k x))
+      subst (λ j. AreGood j xs) (sym (record_wider wide k x))
           (are_good_wider wide (with_record k x) xs (subst (λ b. wide.first ≤ b.first) (sym same) below)
           (subst (λ b. b.last ≤ wide.last) (sym same) above) rest),
     )
@@ -47,7 +31,7 @@ are_good_wider wide k (x ∷ xs) below above (first, rest) =
 replay_wider : (wide : Block) (k : Kept) (xs : List Record) → replay_of (wider wide k) xs ≡ wider wide (replay_of k xs)
 replay_wider wide k [] = refl
 replay_wider wide k (x ∷ xs) =
-    ap (λ j. replay_of j xs) (with_record_wider wide k x) ∙ replay_wider wide (with_record k x) xs
+    ap (λ j. replay_of j xs) (record_wider wide k x) ∙ replay_wider wide (with_record k x) xs
 
 pub replays : (b wide : Block) (xs : List Record) (k : Kept) → wide.first ≤ b.first → b.last ≤ wide.last
     → IsReplay b xs k → IsReplay wide xs (record k { block = wide })

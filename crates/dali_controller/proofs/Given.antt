@@ -158,8 +158,7 @@ unnamed t o r given stage = go o (given.ordered.unnamed r stage) given.ordered.c
   go (Put p f) (inr is) cause = inr (inr (is.0, is.1, closes t (course_by t (Put p f)) p f is.2 cause, is.2))
   go (Commit (Reserve a n)) is cause =
       inr (inl (subst (λ m. HasRandom t.kept.reserved m → ⊥) (sym is.0) is.1, (a, is.2, ap (λ m. Commit (Reserve a m)) (sym is.0))))
-  go (Commit (Enrol b n)) is cause = elim is [ ]
-  go (Commit (Release a n)) is cause = elim is [ ]
+  go (Commit _) is cause = elim is [ ]
   go (Done e) is cause = elim is [ ]
   go (Halt why) is cause = elim is [ ]
 

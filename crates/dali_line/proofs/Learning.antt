@@ -1,4 +1,4 @@
-use Rattle.std.proofs.Common.{◌≡◌, inl, inr, List, [], ◌∷◌, ◌++◌, refl, sym, ◌∙◌, subst, ⊎_elim}
+use Rattle.std.proofs.Common.{◌≡◌, ℕ, inl, inr, List, [], ◌∷◌, ◌++◌, refl, sym, ◌∙◌, subst, ⊎_elim}
 use Rattle.std.proofs.lemmas.List.{append_assoc}
 use Rattle.std.specs.declared.option.Option.{Option}
 use Rattle.std.specs.declared.option.Option.TheVariants.{None, Some}
@@ -35,10 +35,16 @@ learns_more was between is xs first second a = ⊎_elim
     (λ some. inr some)
     (second a)
 
+-- an enrolment that is stored stands in the list
+stored_stands : (b : Block) (xs : List Record) (a r : ℕ) → IsStored b xs (Enrol a r) → Has xs (Enrol a r)
+stored_stands b xs a r (inl has) = has
+stored_stands b xs a r (inr gone) = absurd gone.0
+
 -- what was learned of one record that a list has
 learns_stored : (b : Block) (was is : Pass) (xs : List Record) (x : Record) → IsStored b xs x → Learns was is (x ∷ []) → Learns was is xs
 learns_stored b was is xs x stored learned a = ⊎_elim (λ same. inl same)
-    (λ some. inr (some_then (known_at is a) _ _ (λ e has. ⊎_elim (λ here. subst (IsStored b xs) here stored) (λ none. elim none [ ]) has) some))
+    (λ some. inr (some_then (known_at is a) _ _
+    (λ e has. ⊎_elim (λ here. stored_stands b xs e.short e.random (subst (IsStored b xs) here stored)) (λ none. elim none [ ]) has) some))
     (learned a)
 
 module _ {S : Type 0} (is_up is_sound : S → Type 0) (holds : S → List Record → Type 0) where

@@ -1,8 +1,8 @@
 use Rattle.std.specs.Prelude.{◌≡◌, ◌⊎◌, ℕ, List, ◌++◌, IsSomeAnd}
 use Rattle.dali_script.specs.declared.block.Block.{Block}
 use Rattle.dali_script.specs.declared.records.Record.{Record}
-use Rattle.dali_script.specs.declared.records.Record.TheVariants.{Reserve, Enrol, Release}
-use Rattle.dali_script.specs.Records.{Kept, Has}
+use Rattle.dali_script.specs.declared.records.Record.TheVariants.{Enrol}
+use Rattle.dali_script.specs.Records.{Kept, Has, Shows, TakesAway}
 use Rattle.dali_reserve.specs.Store.{IsReplay}
 use Rattle.dali_enrol.specs.Directory.{Pass, known_at}
 
@@ -15,20 +15,10 @@ pub record Leaves {S : Type 0} (is_up is_sound : S → Type 0)
   pub list : is_sound old → is_up new → (xs : List Record) → holds old xs
       → (more : List Record) × holds new (xs ++ more)
 
--- records that show that this one was added: its pair is reserved or enrolled, or reserved no
--- longer
-abbrev pub IsThere : Kept → Record → Type 0
-IsThere k (Reserve a r) = Has k.reserved (a, r)
-IsThere k (Enrol a r) = Has k.enrolled (a, r)
-IsThere k (Release a r) = Has k.reserved (a, r) → ⊥
-
--- a list of records that has this one; of a release it is enough that the list reserves the pair no
--- longer
+-- a list of records that has this one; of one that takes a pair away it is enough that the records
+-- which the list leaves show it
 abbrev pub IsStored : Block → List Record → Record → Type 0
-IsStored b xs (Reserve a r) = Has xs (Reserve a r)
-IsStored b xs (Enrol a r) = Has xs (Enrol a r)
-IsStored b xs (Release a r) =
-    Has xs (Release a r) ⊎ ((k : Kept) → IsReplay b xs k → Has k.reserved (a, r) → ⊥)
+IsStored b xs x = Has xs x ⊎ (TakesAway x × ((k : Kept) → IsReplay b xs k → Shows k x))
 
 -- A STORE HAS A RECORD: it holds the list that it held, and then maybe more, and the record is
 -- stored there.

@@ -2,9 +2,8 @@ use Rattle.std.proofs.Common.{◌≡◌, ◌<◌, ◌↔◌, List, [], ◌∷◌
 use Rattle.std.specs.Prelude.{IsOk, OnOk, OnErr}
 use Rattle.dali_script.specs.declared.block.Block.{Block}
 use Rattle.dali_script.specs.declared.records.Record.{Record}
-use Rattle.dali_script.specs.declared.records.Record.TheVariants.{Reserve, Enrol, Release}
 use Rattle.dali_script.specs.Records.{Kept, IsKept, MayAdd, Fits, address_of, without_records, with_record}
-use Rattle.dali_script.proofs.Lists.{kept_none, kept_more}
+use Rattle.dali_script.proofs.Lists.{kept_none, kept_more, block_stays}
 use Rattle.dali_reserve.specs.Store.{replay_of, IsGood, AreGood, IsReplay, HasRecords}
 
 -- a list with one more at its end
@@ -39,14 +38,9 @@ pub replay_one : (b : Block) (xs : List Record) (j k : Kept) → IsReplay b xs j
 replay_one b xs j k r s = r.value ∙ sym s.value
 
 -- the block stays
-pub block_with : (k : Kept) (x : Record) → (with_record k x).block ≡ k.block
-block_with k (Reserve a r) = refl
-block_with k (Enrol a r) = refl
-block_with k (Release a r) = refl
-
 pub block_replayed : (k : Kept) (xs : List Record) → (replay_of k xs).block ≡ k.block
 block_replayed k [] = refl
-block_replayed k (x ∷ xs) = block_replayed (with_record k x) xs ∙ block_with k x
+block_replayed k (x ∷ xs) = block_replayed (with_record k x) xs ∙ block_stays k x
 
 pub replay_block : (b : Block) (xs : List Record) (k : Kept) → IsReplay b xs k → k.block ≡ b
 replay_block b xs k r = ap (λ (j : Kept). j.block) r.value ∙ block_replayed (without_records b) xs

@@ -11,7 +11,7 @@ use Rattle.dali_script.specs.declared.block.Block.{Block}
 use Rattle.dali_script.specs.declared.records.Record.{Record}
 use Rattle.dali_script.specs.declared.records.Record.TheVariants.{Reserve, Enrol, Release}
 use Rattle.dali_script.specs.Records.{Kept, IsKept, without_records, Fits, MayAdd, address_of, with_record, Assignment, Has, IsOnce, addresses, randoms}
-use Rattle.dali_script.specs.Records.{HasAddress, HasRandom, InBlock, IsMap, Marks, is_pair, without_pair, IsFresh}
+use Rattle.dali_script.specs.Records.{HasAddress, HasRandom, InBlock, IsMap, Marks, is_pair, without_pair, IsFresh, Shows, TakesAway}
 
 -- membership and an append
 pub has_last : {A : Type 0} (xs : List A) (x : A) → Has (xs ++ x ∷ []) x
@@ -300,6 +300,55 @@ kept_more k (Release a r) m fits small there = record {
   enrolled_drawn = m.enrolled_drawn;
   within = λ c h. m.within c (key_left (λ p. p.0) (a, r) k.reserved c h);
 }
+
+-- WHAT A RECORD LEAVES. The block stays; what is reserved then was so before, or the record reserves it; and so of what is enrolled.
+pub block_stays : (k : Kept) (x : Record) → (with_record k x).block ≡ k.block
+block_stays k (Reserve a r) = refl
+block_stays k (Enrol a r) = refl
+block_stays k (Release a r) = refl
+
+pub reserved_by : (k : Kept) (x : Record) (p : Assignment) → Has (with_record k x).reserved p → Has k.reserved p ⊎ (x ≡ Reserve p.0 p.1)
+reserved_by k (Reserve a r) p has = go (has_cases k.reserved (a, r) p has) where
+  go : Has k.reserved p ⊎ ◌≡◌ {A = Assignment} (a, r) p → Has k.reserved p ⊎ (Reserve a r ≡ Reserve p.0 p.1)
+  go (inl before) = inl before
+  go (inr same) = inr (ap (λ (q : Assignment). Reserve q.0 q.1) same)
+reserved_by k (Enrol a r) p has = inl has
+reserved_by k (Release a r) p has = inl (without_has (a, r) k.reserved p has)
+
+pub enrolled_by : (k : Kept) (x : Record) (p : Assignment) → Has (with_record k x).enrolled p → Has k.enrolled p ⊎ (x ≡ Enrol p.0 p.1)
+enrolled_by k (Reserve a r) p has = inl has
+enrolled_by k (Enrol a r) p has = go (has_cases k.enrolled (a, r) p has) where
+  go : Has k.enrolled p ⊎ ◌≡◌ {A = Assignment} (a, r) p → Has k.enrolled p ⊎ (Enrol a r ≡ Enrol p.0 p.1)
+  go (inl before) = inl before
+  go (inr same) = inr (ap (λ (q : Assignment). Enrol q.0 q.1) same)
+enrolled_by k (Release a r) p has = inl has
+
+-- what records show then they showed before, or it is this record; unless it takes away
+pub shown_by : (k : Kept) (x y : Record) → Shows (with_record k x) y → TakesAway y ⊎ (Shows k y ⊎ (x ≡ y))
+shown_by k x (Reserve a r) shows = inr (reserved_by k x (a, r) shows)
+shown_by k x (Enrol a r) shows = inr (enrolled_by k x (a, r) shows)
+shown_by k x (Release a r) shows = inl tt
+
+pub shown_none : (b : Block) (y : Record) → Shows (without_records b) y → TakesAway y
+shown_none b (Reserve a r) shows = shows
+shown_none b (Enrol a r) shows = shows
+shown_none b (Release a r) shows = tt
+
+-- A LARGER BLOCK: a record does the same there, fits it, and may be added
+pub record_wider : (wide : Block) (k : Kept) (x : Record) → with_record (record k { block = wide }) x ≡ record (with_record k x) { block = wide }
+record_wider wide k (Reserve a r) = refl
+record_wider wide k (Enrol a r) = refl
+record_wider wide k (Release a r) = refl
+
+pub fits_wider : (b wide : Block) (x : Record) → wide.first ≤ b.first → b.last ≤ wide.last → Fits b x → Fits wide x
+fits_wider b wide (Reserve a r) below above fits = ((omega (arith, below, fits.0.0), omega (arith, above, fits.0.1)), fits.1)
+fits_wider b wide (Enrol a r) below above fits = fits
+fits_wider b wide (Release a r) below above fits = ((omega (arith, below, fits.0.0), omega (arith, above, fits.0.1)), fits.1)
+
+pub may_wider : (wide : Block) (k : Kept) (x : Record) → MayAdd k x → MayAdd (record k { block = wide }) x
+may_wider wide k (Reserve a r) may = may
+may_wider wide k (Enrol a r) may = may
+may_wider wide k (Release a r) may = may
 
 -- what is reserved fits, and so does its release
 pub reserved_fits : (k : Kept) (a r : ℕ) → IsKept k → Has k.reserved (a, r) → Fits k.block (Release a r)

@@ -147,6 +147,19 @@ with_record k (Reserve a r) = record k { reserved = k.reserved ++ (a, r) ∷ [] 
 with_record k (Enrol a r) = record k { enrolled = k.enrolled ++ (a, r) ∷ [] }
 with_record k (Release a r) = record k { reserved = without_pair (a, r) k.reserved }
 
+-- records that show that this one was added: its pair is reserved or enrolled, or reserved no
+-- longer
+abbrev pub Shows : Kept → Record → Type 0
+Shows k (Reserve a r) = Has k.reserved (a, r)
+Shows k (Enrol a r) = Has k.enrolled (a, r)
+Shows k (Release a r) = Has k.reserved (a, r) → ⊥
+
+-- a record that takes a pair away, so that records show it also where it was never added
+abbrev pub TakesAway : Record → Type 0
+TakesAway (Reserve a r) = ⊥
+TakesAway (Enrol a r) = ⊥
+TakesAway (Release a r) = Unit {0}
+
 -- the least address of the block that no reservation has
 pub record IsLeastFree (b : Block) (reserved : List Assignment) (a : ℕ) : Type 0 where
   pub within : InBlock b a

@@ -1,7 +1,7 @@
 ghost use Rattle.std.specs.Prelude.{◌≡◌, ◌<◌, ◌↔◌, ◌&&◌, IsTrue, IsOk, OnOk, OnErr};
 ghost use Rattle.std.specs.Prelude.{MatchOption, IsSome, IfSome, []};
 ghost use Rattle.dali_script.specs.Records.{Kept, Has, HasAddress, HasRandom, IsLeastFree, IsFull};
-ghost use Rattle.dali_script.specs.Records.{Fits, MayAdd, with_record};
+ghost use Rattle.dali_script.specs.Records.{Fits, MayAdd, Shows, with_record};
 ghost use Rattle.dali_script.specs.Table.{table_of};
 
 use crate::assignments::Assignments;
@@ -128,6 +128,14 @@ impl Kept {
         ensures { IsTrue result ↔ Fits self.now.block added.now }
     {
         self.view().fits(added)
+    }
+
+    /// Whether the records show that this one was added to them: its pair is reserved or enrolled, or reserved no
+    /// longer.
+    pub fn shows(&self, added: &Record) -> bool
+        ensures { IsTrue result ↔ Shows self.now added.now }
+    {
+        self.view().shows(added)
     }
 
     /// Adds a record as the last of its kind; a release takes its reservation away. It must fit, as `fits` tells: what

@@ -276,3 +276,10 @@ pub(crate) fn not_there(pairs: &[Pair], address: Short, random: Random24) -> Opt
         None => Some(AddError::NotReserved),
     }
 }
+
+/// Whether a pair stands among these.
+pub(crate) fn has_pair(pairs: &[Pair], address: Short, random: Random24) -> bool
+    ensures { IsTrue result ↔ Has pairs.now (address, random) }
+{
+    not_there(pairs, address, random).is_none()
+}

@@ -2,12 +2,12 @@
 
 ghost use Rattle.std.specs.Prelude.{◌≡◌, ◌↔◌, Some, None, IsTrue, IsSome, IfSome, MatchOption};
 ghost use Rattle.dali_script.specs.Records.{Kept, Has, HasAddress, HasRandom, IsLeastFree, IsFull, IsKept};
-ghost use Rattle.dali_script.specs.Records.{Fits, MayAdd, MayBeUnmatched};
+ghost use Rattle.dali_script.specs.Records.{Fits, MayAdd, MayBeUnmatched, Shows};
 
 use crate::block::Block;
 use crate::checks::{are_enrolled, are_within};
 use crate::pair::Pair;
-use crate::pairs::{at_address, at_random, marks, maybe_unmatched, not_there, taken};
+use crate::pairs::{at_address, at_random, has_pair, marks, maybe_unmatched, not_there, taken};
 use crate::records::{AddError, Record};
 use dali_frame::{Random24, Short};
 use std::marker::Model;
@@ -111,6 +111,18 @@ impl<'a> Records<'a> {
             Record::Reserve(address, random) => taken(self.reserved, address, random),
             Record::Enrol(address, random) => taken(self.enrolled, address, random),
             Record::Release(address, random) => not_there(self.reserved, address, random),
+        }
+    }
+
+    /// Whether the records show that this one was added to them: its pair is reserved or enrolled, or reserved no
+    /// longer.
+    pub fn shows(&self, added: &Record) -> bool
+        ensures { IsTrue result ↔ Shows self.now added.now }
+    {
+        match *added {
+            Record::Reserve(address, random) => has_pair(self.reserved, address, random),
+            Record::Enrol(address, random) => has_pair(self.enrolled, address, random),
+            Record::Release(address, random) => !has_pair(self.reserved, address, random),
         }
     }
 

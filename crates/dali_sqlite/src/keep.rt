@@ -31,8 +31,8 @@ use sqlite::{Alter, Connection};
 ///   random INTEGER NOT NULL CHECK(random BETWEEN 0 AND 16777214))
 /// ```
 ///
-/// `seq` counts the records from 1 on, in the order of their commits. `kind` is 1 for `Reserve`, 2 for `Enrol` and 3
-/// for `Release`; `address` is the short address, and `random` the random address of the gear.
+/// `seq` counts the records from 1 on, in the order of their commits. `kind` is the code of the record
+/// (`Record::code`), `address` its short address, and `random` the random address of the gear.
 ///
 /// Contracts see what lies under the store as what its connection shows (`state` of `sqlite`): the list that is held
 /// is the rows of the table, and what is held is committed (`Holds` in `specs/Stored`). They are promised where the
@@ -65,10 +65,10 @@ impl<S: Alter + Drop> SqliteKeep<S> {
     /// The connection is to show an empty database, or one that has this table alone (`IsOurs`). A refusal drops it:
     ///
     /// - 5 `BadStore`: the table's rows are no list of records of this block. That is so where `seq` isn't 1, 2, ..
-    ///   without a gap, where a value is no whole number in the range of its column, where a kind is none of 1, 2
-    ///   and 3, where a reservation lies outside the block, where an address or a random address stands in two records
-    ///   of one kind, or where one is released that is not reserved so. `last` of the clause `bad` is the connection as
-    ///   it was dropped.
+    ///   without a gap, where a value is no whole number in the range of its column, where a kind is no record's code,
+    ///   where a reservation lies outside the block, where an address or a random address stands in two records of one
+    ///   kind, or where one is released that is not reserved so. `last` of the clause `bad` is the connection as it was
+    ///   dropped.
     /// - 2 `StoreFailed`: the connection is inside a transaction, a table of this name cannot be read so, or the
     ///   disk failed.
     /// - 1 `NoMemory`.

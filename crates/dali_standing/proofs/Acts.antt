@@ -233,11 +233,7 @@ enrolling_by : (found : Option Finding) (t : Machine) (o : Order) → later foun
 enrolling_by found t (Commit (Enrol b r)) is may =
     let x : Finding = may.warranted.0 in
     (x, later_some found (finding_of t.trace) x may.warranted.2 is, sym (enrols_assigned t.kept.reserved x (b, r) may.warranted.3))
-enrolling_by found t (Commit (Reserve a r)) is may = tt
-enrolling_by found t (Commit (Release a r)) is may = tt
-enrolling_by found t (Put p f) is may = tt
-enrolling_by found t (Done e) is may = tt
-enrolling_by found t (Halt why) is may = tt
+enrolling_by found t _ is may = tt
 
 -- where the store is waited for, nothing that is told changes the trace
 stored_trace : (m : Machine) (last : Option Order) (told : Option Input) → IsCommit last → IsTold last told → (informed_by m told).trace ≡ m.trace

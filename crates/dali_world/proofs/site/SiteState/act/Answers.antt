@@ -6,7 +6,7 @@ use Rattle.dali_standing.specs.Seats.{MayAnswer}
 use Rattle.dali_standing.specs.Standing.{controller_on, machine_in}
 use Rattle.dali_world.specs.Site.{Receipt}
 use Rattle.dali_events.specs.declared.event.Event.TheVariants as event
-use Rattle.dali_world.proofs.Logs.{step_few, step_goes_on, act_site, never_conflicts, own_records, records_now}
+use Rattle.dali_world.proofs.Logs.{step_few, step_goes_on, act_site, never_conflicts, own_records}
 use Rattle.dali_world.proofs.Fitting.{fits_acted}
 use Rattle.dali_world.proofs.site.SiteState.act.Goals as goal
 
@@ -53,7 +53,7 @@ returns-in-Some-clause-fits c =
     let answer = rw c.in-Some.is at c.act.ensures.answer in
     let up = c.in_ok-check_up.ensures.ok in
     let four : c.args.c < 4 = let there = up.1 in let few = up.2 in omega arith in
-    fits_acted _ _ _ _ _ (rw (← c.self.view_is) (records_now _ _ _ c.self.invariant.run))
+    fits_acted _ _ _ _ _ (rw (← c.self.view_is) c.self.invariant.run)
     (act_site _ _ _ _ _ c.count-number.new.shares _ c.count-number.result c.args.c c.args.input c.in-Some.order c.new.result _ c.self.view_is c.self.invariant
     (c.if-is_crowded.ensures.room refl) (c.if-is_full.ensures.room refl) moves answer c.append.ensures.items four
     c.count-number.ensures.number c.new.ensures)
