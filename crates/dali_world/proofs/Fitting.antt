@@ -15,8 +15,8 @@ use Rattle.dali_events.specs.Happens.{happens, controller_acted}
 use Rattle.dali_events.specs.Allowed.{Allowed}
 use Rattle.dali_events.specs.Runs.{IsRun}
 use Rattle.dali_events.specs.Laws.{KeepsRecords}
-use Rattle.dali_events.proofs.Growing.{after_more, run_more}
-use Rattle.dali_events.proofs.Controllers.{controllers_count}
+use Rattle.dali_events.proofs.Invariant.Growing.{after_more, run_more}
+use Rattle.dali_events.proofs.Invariant.Controllers.{controllers_count}
 use Rattle.dali_world.specs.Site.{SiteState, Receipt, world, HasActed}
 use Rattle.dali_world.proofs.Logs.{records_now}
 
