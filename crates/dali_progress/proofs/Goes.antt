@@ -49,13 +49,13 @@ use Rattle.dali_progress.proofs.Lone.{IsLone, Moment, IsDueOf, due_of, Addresses
 use Rattle.dali_progress.proofs.Stands.{search_frames, to_come, At, Stands}
 use Rattle.dali_progress.proofs.Frames.{IsTaken, Seeks, at_sent}
 use Rattle.dali_progress.proofs.Tables.{IsTabledTo, at_tabled}
-use Rattle.dali_progress.proofs.Turns.{IsCalm, CommitsTo, IsNext, turned, started, started_begins, committed, committed_begins, with_kept}
+use Rattle.dali_progress.proofs.Turns.{IsUndisturbed, CommitsTo, IsNext, turned, started, started_begins, committed, committed_begins, with_kept}
 
 -- COMMISSIONING GOES ON, event by event.
 
 -- before the start
 pub record IsFresh (before : List Gear) (m : Machine) (gs : List Gear) (left : ℕ) : Type 0 where
-  pub calm : IsCalm m
+  pub calm : IsUndisturbed m
   pub tabled : AreTabled before m.kept.enrolled gs
   pub free : m.trace ≡ []
   pub nothing : m.kept.reserved ≡ []
@@ -92,7 +92,7 @@ heard_next before m p f h o gs left is g kept hears =
     (turned before (machine_heard m (Some f) h) o gs left (subst (λ t. IsGivenBy t o) told g) hears.stands kept (put_no_enrolment p f m.last is) hears.running)
 
 kept_next : (before : List Gear) (m : Machine) (x : Record) (o : Order) (gs : List Gear) (left : ℕ) → m.last ≡ Some (Commit x)
-    → IsGivenBy (machine_told m input.Committed) o → IsKept m.kept → m.trace ≡ [] → IsCalm m × CommitsTo before m x gs left
+    → IsGivenBy (machine_told m input.Committed) o → IsKept m.kept → m.trace ≡ [] → IsUndisturbed m × CommitsTo before m x gs left
     → IsNext before (machine_after m input.Committed o) o gs left
 kept_next before m x o gs left is g kept free commits =
     let told : machine_told m input.Committed ≡ with_kept m x = ap (λ l. machine_committed m (record_ordered l)) is in

@@ -56,7 +56,7 @@ use Rattle.dali_progress.proofs.Tables.{tabled_over}
 -- A CONTROLLER ACTS on what it was told, and what it orders goes on with the commissioning.
 
 -- what every machine has that is not disturbed
-pub record IsCalm (m : Machine) : Type 0 where
+pub record IsUndisturbed (m : Machine) : Type 0 where
   pub tries : m.tries ≡ 0
   pub silent : m.silent ≡ 0
   pub within : IsWithin m.kept
@@ -90,11 +90,11 @@ CommitsTo before m (Release a r) gs left = ⊥
 -- what is to come of an order
 abbrev pub IsNext : List Gear → Machine → Order → List Gear → ℕ → Type 0
 IsNext before m (Put p f) gs left = Stands before m gs left × Sends m.course.purpose m.course.number m.kept (stage_of m.trace) (command_of f)
-IsNext before m (Commit x) gs left = IsCalm m × CommitsTo before m x gs left
+IsNext before m (Commit x) gs left = IsUndisturbed m × CommitsTo before m x gs left
 IsNext before m (Done e) gs left = EndsWell e m.kept gs × AreTabled before m.kept.enrolled gs
 IsNext before m (Halt why) gs left = ⊥
 
-calm_of : (before : List Gear) (t : Machine) (gs : List Gear) (left : ℕ) → Stands before t gs left → IsCalm t
+calm_of : (before : List Gear) (t : Machine) (gs : List Gear) (left : ℕ) → Stands before t gs left → IsUndisturbed t
 calm_of before t gs left st = record { tries = st.tries; silent = st.silent; within = st.within }
 
 never_eight : (n : ℕ) → n ≡ 0 → n ≡ 8 → ⊥
@@ -110,7 +110,7 @@ goes_later before t o c gs left st is spelled sends = subst (λ q. IsNext before
   subst (λ d. Sends t.course.purpose t.course.number t.kept (stage_of t.trace) d) (sym (read_written c spelled)) sends,
 )
 
-goes_first : (before : List Gear) (t : Machine) (o : Order) (gs : List Gear) (left : ℕ) → IsCalm t → AreTabled before t.kept.enrolled gs
+goes_first : (before : List Gear) (t : Machine) (o : Order) (gs : List Gear) (left : ℕ) → IsUndisturbed t → AreTabled before t.kept.enrolled gs
     → o ≡ beginning (next_course t)
     → IsSpelled (first_of (next_course t).purpose (next_course t).number)
     → At (next_course t).purpose stage.Free t.kept t.opened (next_course t).search (next_course t).number gs left
@@ -130,7 +130,7 @@ goes_first before t o gs left calm tabled is spelled at = subst (λ q. IsNext be
 )
 
 -- of a course that is known
-goes_by : (before : List Gear) (t : Machine) (o : Order) (cs : Course) (gs : List Gear) (left : ℕ) → IsCalm t → AreTabled before t.kept.enrolled gs
+goes_by : (before : List Gear) (t : Machine) (o : Order) (cs : Course) (gs : List Gear) (left : ℕ) → IsUndisturbed t → AreTabled before t.kept.enrolled gs
     → o ≡ beginning (next_course t) → next_course t ≡ cs
     → IsSpelled (first_of cs.purpose cs.number) → At cs.purpose stage.Free t.kept t.opened cs.search cs.number gs left
     → IsNext before (machine_ordered t o) o gs left
@@ -168,7 +168,7 @@ begins_search c gs left ready unnamed enough = record {
   frames = search_at_first gs left enough;
 }
 
-searches_anew : (before : List Gear) (t : Machine) (o : Order) (gs : List Gear) (left : ℕ) → IsCalm t → AreTabled before t.kept.enrolled gs
+searches_anew : (before : List Gear) (t : Machine) (o : Order) (gs : List Gear) (left : ℕ) → IsUndisturbed t → AreTabled before t.kept.enrolled gs
     → o ≡ beginning (next_course t) → next_course t ≡ searching_anew t.course → t.opened ≡ true
     → IsOpened gs → NoneNamed gs → search_frames (count_by is_wanted gs) ≤ left → IsNext before (machine_ordered t o) o gs left
 searches_anew before t o gs left calm tabled is same opened ready unnamed enough =
@@ -506,10 +506,10 @@ nothing_unfinished k (suc n) from none =
 no_enrolment_yet : IsNoEnrolment None
 no_enrolment_yet b n e = cc
 
-pub started_begins : (t : Machine) (o : Order) → IsGivenBy t o → IsCalm t → t.trace ≡ [] → t.last ≡ None → o ≡ beginning (next_course t)
+pub started_begins : (t : Machine) (o : Order) → IsGivenBy t o → IsUndisturbed t → t.trace ≡ [] → t.last ≡ None → o ≡ beginning (next_course t)
 started_begins t o g calm free last = given.begins_free t o g free (subst IsNoEnrolment (sym last) no_enrolment_yet) (never_eight t.tries calm.tries)
 
-pub started : (before : List Gear) (t : Machine) (o : Order) (gs : List Gear) (left : ℕ) → IsGivenBy t o → IsCalm t → AreTabled before t.kept.enrolled gs
+pub started : (before : List Gear) (t : Machine) (o : Order) (gs : List Gear) (left : ℕ) → IsGivenBy t o → IsUndisturbed t → AreTabled before t.kept.enrolled gs
     → t.trace ≡ [] → t.last ≡ None → t.kept.reserved ≡ [] → t.opened ≡ false → t.course.purpose ≡ Opening
     → 5 + search_frames (count_by is_bare gs) ≤ left → IsNext before (machine_ordered t o) o gs left
 started before t o gs left g calm tabled free last none unopened purpose enough =
@@ -542,12 +542,14 @@ entry_last : (xs : List Assignment) (y x : Assignment) → Has (y ∷ xs) x → 
 entry_last xs y x (inl same) = subst (Has (xs ++ y ∷ [])) same (has_last xs y)
 entry_last xs y x (inr has) = has_left xs (y ∷ []) x has
 
-reserved_begins : (m : Machine) (a r : ℕ) (o : Order) → IsCalm m → m.trace ≡ [] → m.last ≡ Some (Commit (Reserve a r)) → IsGivenBy (with_kept m (Reserve a r)) o
+reserved_begins : (m : Machine) (a r : ℕ) (o : Order) → IsUndisturbed m → m.trace ≡ [] → m.last ≡ Some (Commit (Reserve a r))
+    → IsGivenBy (with_kept m (Reserve a r)) o
     → o ≡ beginning (next_course (with_kept m (Reserve a r)))
 reserved_begins m a r o calm free last g =
     given.begins_free (with_kept m (Reserve a r)) o g free (no_enrolment a r m.last last) (never_eight m.tries calm.tries)
 
-reserved_next : (before : List Gear) (m : Machine) (a r : ℕ) (o : Order) (gs : List Gear) (left : ℕ) → IsCalm m → Reserves before m r gs left → m.trace ≡ []
+reserved_next : (before : List Gear) (m : Machine) (a r : ℕ) (o : Order) (gs : List Gear) (left : ℕ) → IsUndisturbed m → Reserves before m r gs left
+    → m.trace ≡ []
     → m.last ≡ Some (Commit (Reserve a r))
     → IsGivenBy (with_kept m (Reserve a r)) o → IsNext before (machine_ordered (with_kept m (Reserve a r)) o) o gs left
 reserved_next before m a r o gs left calm v free last g =
@@ -586,7 +588,8 @@ enrolled_begins before m b r o gs left v free last map g =
     given.enrolled (with_kept m (Enrol b r)) o b r g last free
     (λ a has. ap (λ (q : Assignment). q.0) (same_member (λ (q : Assignment). q.1) m.kept.reserved (a, r) (b, r) map.random_once has v.reserved refl))
 
-enrolled_next : (before : List Gear) (m : Machine) (b r : ℕ) (o : Order) (gs : List Gear) (left : ℕ) → IsCalm m → Enrols before m b r gs left → m.trace ≡ []
+enrolled_next : (before : List Gear) (m : Machine) (b r : ℕ) (o : Order) (gs : List Gear) (left : ℕ) → IsUndisturbed m → Enrols before m b r gs left
+    → m.trace ≡ []
     → m.last ≡ Some (Commit (Enrol b r)) → IsMap m.kept.reserved
     → IsGivenBy (with_kept m (Enrol b r)) o → IsNext before (machine_ordered (with_kept m (Enrol b r)) o) o gs left
 enrolled_next before m b r o gs left calm v free last map g =
@@ -598,7 +601,8 @@ enrolled_next before m b r o gs left calm v free last map g =
     (ap (begins_at (with_kept m (Enrol b r))) stage ∙ ap (at_rest (with_kept m (Enrol b r))) last ∙ goes_on_anew (with_kept m (Enrol b r)) v.opened)
     v.opened v.ready v.unnamed v.frames
 
-pub committed : (before : List Gear) (m : Machine) (x : Record) (o : Order) (gs : List Gear) (left : ℕ) → IsCalm m → CommitsTo before m x gs left → m.trace ≡ []
+pub committed : (before : List Gear) (m : Machine) (x : Record) (o : Order) (gs : List Gear) (left : ℕ) → IsUndisturbed m → CommitsTo before m x gs left
+    → m.trace ≡ []
     → m.last ≡ Some (Commit x) → IsMap m.kept.reserved
     → IsGivenBy (with_kept m x) o → IsNext before (machine_ordered (with_kept m x) o) o gs left
 committed before m (Reserve a r) o gs left calm v free last map g = reserved_next before m a r o gs left calm v free last g
@@ -606,7 +610,7 @@ committed before m (Enrol b r) o gs left calm v free last map g = enrolled_next 
 committed before m (Release a r) o gs left calm v free last map g = absurd v
 
 -- a frame is put then
-pub committed_begins : (before : List Gear) (m : Machine) (x : Record) (o : Order) (gs : List Gear) (left : ℕ) → IsCalm m → CommitsTo before m x gs left
+pub committed_begins : (before : List Gear) (m : Machine) (x : Record) (o : Order) (gs : List Gear) (left : ℕ) → IsUndisturbed m → CommitsTo before m x gs left
     → m.trace ≡ [] → m.last ≡ Some (Commit x) → IsMap m.kept.reserved
     → IsGivenBy (with_kept m x) o → o ≡ beginning (next_course (with_kept m x))
 committed_begins before m (Reserve a r) o gs left calm v free last map g = reserved_begins m a r o calm free last g
