@@ -24,8 +24,8 @@ WORKSPACES = ((ROOT / "crates.txt", CRATES), (ROOT / "extra/programs.txt", ROOT 
 PARTS = ("src", "specs", "proofs")
 # What one check takes at most, in bytes of memory.
 MEMORY = 2_500_000_000
-# How many lines of a crate are worth a job, and how many jobs at most.
-JOB, MOST_JOBS = 4_000, 4
+# How many lines of a crate are worth a job.
+JOB = 1_000
 REFUSED, MISSING, INTERRUPTED = 126, 127, 130
 
 
@@ -168,10 +168,10 @@ class Build:
     def jobs(self, crate, is_longest):
         """How many jobs prove a crate. Each loads the libraries for itself, so two of them cost more than one.
 
-        The crate with the longest chain behind it may soon run alone: it has one for each 4,000 lines, as far as processors and
-        memory allow. Each other crate has one.
+        The crate with the longest chain behind it may soon run alone: it has one for each thousand lines, as far as processors
+        and memory allow. Each other crate has one.
         """
-        wanted = min(-(-crate.lines // JOB), MOST_JOBS) if is_longest else 1
+        wanted = min(-(-crate.lines // JOB), 4) if is_longest else 1
         return max(min(self.processors, wanted, free_memory() // MEMORY), 1)
 
     def wait_for(self, crate, ran):
