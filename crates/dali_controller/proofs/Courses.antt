@@ -27,13 +27,15 @@ use Rattle.dali_search.specs.declared.step.Step.{Step}
 use Rattle.dali_search.specs.declared.step.Step.TheVariants.{Again, Found, Nobody}
 use Rattle.dali_search.specs.Least.{Search, step_after, probe_after, next_probe, answered}
 use Rattle.dali_controller.specs.declared.purpose.Purpose.{Purpose}
-use Rattle.dali_controller.specs.declared.purpose.Purpose.TheVariants.{Opening, Probing, Visiting, Resolving, Closing}
+use Rattle.dali_controller.specs.declared.purpose.Purpose.TheVariants.{Opening, Probing, Visiting, Resolving, Closing, Asking, Waking}
 use Rattle.dali_controller.specs.Parts.{Parts}
 use Rattle.dali_controller.specs.Course.{Course, turn_of, is_yes, after_step, probed, number_at, address_for, unless_enrolled, unfinished_at, unfinished_among}
 use Rattle.dali_controller.specs.Course.{here_or_later}
 use Rattle.dali_controller.specs.Machine.{Machine, machine_lost, machine_committed, machine_told}
-use Rattle.dali_controller.specs.Next.{begins_at, course_by, next_course, beginning}
-use Rattle.dali_controller.specs.Orders.{AfterFinding, AfterEnrolled, IsFollowed}
+use Rattle.dali_controller.specs.Next.{begins_at, course_by, next_course, beginning, probed_to, probed_in, draw_or_close, draws_by}
+use Rattle.dali_controller.specs.declared.way.Way.TheVariants.{Fresh}
+use Rattle.dali_script.specs.declared.orders.End.TheVariants.{AllFound}
+use Rattle.dali_controller.specs.Orders.{AfterFinding, AfterEnrolled, IsFollowed, IsSought}
 use Rattle.dali_controller.specs.Parts.{machine_of, parts_course}
 use Rattle.dali_controller.specs.Moments.{Starts}
 use Rattle.dali_controller.specs.Whole.{IsWhole, Pending}
@@ -66,15 +68,24 @@ answered_is old new said s running asked step next last kept =
     (probe_is s _ old.probe _ new.probe after (λ e. next e ∙ ap probe_after answers) last)
     (kept ∙ after)
 
-pub probed_is : (c : Course) (h : Answer) (said : Bool) (s : Search) (step : Step) → said ≡ is_yes h → s ≡ answered c.search said → s.step ≡ step
-    → after_step step (record c { search = s }) ≡ probed c h
-probed_is c h said s step yes_is is here =
-    ap (λ x. after_step x (record c { search = s })) (sym here)
-    ∙ ap (λ (q : Search). after_step q.step (record c { search = q })) (is ∙ ap (answered c.search) yes_is)
+pub probed_is : (t : Machine) (h : Answer) (said : Bool) (s : Search) (step : Step) → said ≡ is_yes h → s ≡ answered t.course.search said → s.step ≡ step
+    → probed_to t step (record t.course { search = s }) ≡ probed_in t h
+probed_is t h said s step yes_is is here =
+    ap (λ x. probed_to t x (record t.course { search = s })) (sym here)
+    ∙ ap (λ (q : Search). probed_to t q.step (record t.course { search = q })) (is ∙ ap (answered t.course.search) yes_is)
+
+-- and the same of what was begun by Start
+pub probed_fresh : (t : Machine) (h : Answer) → t.course.way ≡ Fresh → probed_in t h ≡ probed t.course h
+probed_fresh t h fresh = go (answered t.course.search (is_yes h)).step where
+  go : (s : Step) → probed_to t s (record t.course { search = answered t.course.search (is_yes h) })
+      ≡ after_step s (record t.course { search = answered t.course.search (is_yes h) })
+  go Again = refl
+  go (Found r) = refl
+  go Nobody = ap (λ y. draw_or_close (draws_by t y) (record t.course { search = answered t.course.search (is_yes h) }) AllFound) fresh
 
 -- ---------------------------------------------------------------- what is reserved, and what is enrolled
 
-found_number : (xs : List Assignment) (a : ℕ) → MatchOption (number_at xs a) (HasAddress xs a → ⊥) (λ r. Has xs (a, r))
+pub found_number : (xs : List Assignment) (a : ℕ) → MatchOption (number_at xs a) (HasAddress xs a → ⊥) (λ r. Has xs (a, r))
 found_number [] a = λ h. h
 found_number (p ∷ xs) a = go (p.0 == a) refl (number_at xs a) (found_number xs a) where
   go : (b : Bool) → (p.0 == a) ≡ b → (o : Option ℕ) → MatchOption o (HasAddress xs a → ⊥) (λ r. Has xs (a, r))
@@ -162,16 +173,24 @@ no_turn p n s c free e = go p (subst (λ x. turn_of p n x ≡ Some c) free e) wh
   go Visiting e = cc
   go (Resolving a) e = cc
   go (Closing x) e = cc
+  go (Asking a) e = cc
+  go Waking e = cc
 
 -- the start, and a transaction that was lost, follow neither queries nor an enrolment
-pub followed_start : (w : Parts) (o : Order) → IsWhole (machine_of w) → w.last ≡ None → IsFollowed (machine_told (machine_of w) input.Start) o
-followed_start w o whole none = record {
-  sent = λ c e. absurd (no_turn w.purpose w.number (stage_of w.trace) c (subst (Pending (machine_of w)) none whole).free e);
-  told = λ b n s e. absurd (let there : Free ≡ Spelled b (Some n) = sym (subst (Pending (machine_of w)) none whole).free ∙ s in cc);
-  another = λ b n s e. absurd (let there : Free ≡ Spelled b (Some n) = sym (subst (Pending (machine_of w)) none whole).free ∙ s in cc);
-  unconfirmed = λ r x s. absurd (let there : Free ≡ Inconclusive r x = sym (subst (Pending (machine_of w)) none whole).free ∙ s in cc);
+followed_free : (t : Machine) (o : Order) → stage_of t.trace ≡ Free → t.last ≡ None → IsFollowed t o
+followed_free t o free none = record {
+  sent = λ c e. absurd (no_turn t.course.purpose t.course.number (stage_of t.trace) c free e);
+  told = λ b n s e. absurd (let there : Free ≡ Spelled b (Some n) = sym free ∙ s in cc);
+  another = λ b n s e. absurd (let there : Free ≡ Spelled b (Some n) = sym free ∙ s in cc);
+  unconfirmed = λ r x s. absurd (let there : Free ≡ Inconclusive r x = sym free ∙ s in cc);
   enrolled = λ b n e. absurd (let there : None ≡ Some (Commit (Enrol b n)) = sym none ∙ e in cc);
 }
+
+pub followed_start : (w : Parts) (o : Order) → IsWhole (machine_of w) → w.last ≡ None → IsFollowed (machine_told (machine_of w) input.Start) o
+followed_start w o whole none = followed_free (machine_told (machine_of w) input.Start) o (subst (Pending (machine_of w)) none whole).free none
+
+pub followed_survey : (w : Parts) (o : Order) → IsWhole (machine_of w) → w.last ≡ None → IsFollowed (machine_told (machine_of w) input.Survey) o
+followed_survey w o whole none = followed_free (machine_told (machine_of w) input.Survey) o (subst (Pending (machine_of w)) none whole).free none
 
 pub followed_lost : (w : Parts) (o : Order) → due_after w.last ≡ due.Bus → IsFollowed (machine_lost (machine_of w)) o
 followed_lost w o bus = record {
@@ -189,15 +208,16 @@ heard_last m f h put = rw put refl
 pub followed_heard : (w mid : Parts) (o : Order) (f : Forward) (h : Answer) → frame_put w.last ≡ Some f
     → machine_of mid ≡ machine_told (machine_of w) (input.Heard h)
     → ((c : Command) → turn_of mid.purpose mid.number (stage_of mid.trace) ≡ Some c → o ≡ Put LATER (frame_of c))
-    → ((b n : ℕ) → stage_of mid.trace ≡ Spelled b (Some n) → n ≡ value_of mid.number → AfterFinding (machine_of mid) b n o)
-    → ((b n : ℕ) → stage_of mid.trace ≡ Spelled b (Some n) → (n ≡ value_of mid.number → ⊥) → o ≡ beginning (next_course (machine_of mid)))
+    → ((b n : ℕ) → stage_of mid.trace ≡ Spelled b (Some n) → IsSought mid.purpose mid.number n → AfterFinding (machine_of mid) b n o)
+    → ((b n : ℕ) → stage_of mid.trace ≡ Spelled b (Some n) → (IsSought mid.purpose mid.number n → ⊥) → o ≡ beginning (next_course (machine_of mid)))
     → ((r : SearchAddress) (x : Option ℕ) → stage_of mid.trace ≡ Inconclusive r x → o ≡ beginning (next_course (machine_of mid)))
     → IsFollowed (machine_told (machine_of w) (input.Heard h)) o
 followed_heard w mid o f h put is sent told another unconfirmed = record {
   sent = subst (λ (t : Machine). (c : Command) → turn_of t.course.purpose t.course.number (stage_of t.trace) ≡ Some c → o ≡ Put LATER (frame_of c)) is sent;
-  told = subst (λ (t : Machine). (b n : ℕ) → stage_of t.trace ≡ Spelled b (Some n) → n ≡ value_of t.course.number → AfterFinding t b n o) is told;
-  another = subst (λ (t : Machine). (b n : ℕ) → stage_of t.trace ≡ Spelled b (Some n) → (n ≡ value_of t.course.number → ⊥) → o ≡ beginning (next_course t))
-      is another;
+  told = subst (λ (t : Machine). (b n : ℕ) → stage_of t.trace ≡ Spelled b (Some n) → IsSought t.course.purpose t.course.number n → AfterFinding t b n o)
+      is told;
+  another = subst (λ (t : Machine). (b n : ℕ) → stage_of t.trace ≡ Spelled b (Some n) → (IsSought t.course.purpose t.course.number n → ⊥)
+      → o ≡ beginning (next_course t)) is another;
   unconfirmed = subst (λ (t : Machine). (r : SearchAddress) (x : Option ℕ) → stage_of t.trace ≡ Inconclusive r x → o ≡ beginning (next_course t))
       is unconfirmed;
   enrolled = λ b n e. absurd (let there = subst (λ l. frame_put l ≡ Some f) (sym (heard_last (machine_of w) f h put) ∙ e) put in cc);

@@ -58,6 +58,7 @@ a_lost_frame_is_a_try k = refl
 -- after an end nothing is due
 nothing_after_an_end : (e : End) (i : Input) → accepts (due_after (Some (Done e))) i ≡ false
 nothing_after_an_end e input.Start = refl
+nothing_after_an_end e input.Survey = refl
 nothing_after_an_end e (input.Heard h) = refl
 nothing_after_an_end e input.Destroyed = refl
 nothing_after_an_end e input.Lapsed = refl

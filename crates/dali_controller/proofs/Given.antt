@@ -27,11 +27,13 @@ use Rattle.dali_script.specs.declared.orders.End.{End}
 use Rattle.dali_script.specs.declared.orders.End.TheVariants.{BlockFull, GaveUp}
 use Rattle.dali_script.specs.declared.orders.Fault.TheVariants as fault
 use Rattle.dali_controller.specs.declared.purpose.Purpose.TheVariants.{Closing}
-use Rattle.dali_controller.specs.Course.{Course, closing_of, turn_of, going_on, visit_or_opening, next_unfinished}
+use Rattle.dali_controller.specs.declared.way.Way.{Way}
+use Rattle.dali_controller.specs.declared.way.Way.TheVariants.{Fresh, Surveying, Drawing}
+use Rattle.dali_controller.specs.Course.{Course, closing_of, turn_of, going_on, going_on_early, visit_or_opening, next_unfinished, ask_or_wake, next_asked}
 use Rattle.dali_controller.specs.Machine.{Machine, machine_told}
 use Rattle.dali_controller.specs.Next.{next_course, begins_at, course_by, beginning, BeginsWith}
-use Rattle.dali_controller.specs.Orders.{IsAllowed, MayOrderPut, IsWarranted, IsBegun, IsCaused, Contradicts, AfterMask, AfterFinding, AfterEnrolled}
-use Rattle.dali_controller.specs.Orders.{IsFollowed, IsOrdered, IsGiven, running_close}
+use Rattle.dali_controller.specs.Orders.{IsAllowed, MayOrderPut, IsWarranted, IsBegun, IsCaused, Contradicts, AfterMask, AfterMaskOn, AfterFinding, AfterEnrolled}
+use Rattle.dali_controller.specs.Orders.{IsFollowed, IsSought, IsOrdered, IsGiven, running_close}
 
 -- WHICH ORDER A MACHINE GIVES at which stage, once it was told its input: what is told of a step leaves no other.
 pub record IsGivenBy (t : Machine) (o : Order) : Type 0 where
@@ -42,6 +44,7 @@ pub record IsGivenBy (t : Machine) (o : Order) : Type 0 where
 -- each input but a commit that failed is followed so
 pub given_by : (m : Machine) (i : Input) (o : Order) → (i ≡ input.CommitFailed → ⊥) → IsGiven m i o → IsGivenBy (machine_told m i) o
 given_by m input.Start o other given = record { ordered = given.answered; begins = given.begins; followed = given.followed }
+given_by m input.Survey o other given = record { ordered = given.answered; begins = given.begins; followed = given.followed }
 given_by m (input.Heard h) o other given = record { ordered = given.answered; begins = given.begins; followed = given.followed }
 given_by m input.Destroyed o other given = record { ordered = given.answered; begins = given.begins; followed = given.followed }
 given_by m input.Lapsed o other given = record { ordered = given.answered; begins = given.begins; followed = given.followed }
@@ -151,8 +154,8 @@ closes t c p f full cause = go cause.1 where
   go (inl none) = absurd (let ends : Some BlockFull ≡ None = sym (ap closing_of full) ∙ none in cc)
   go (inr is) = ap (λ q. Put q f) is.0 ∙ ap (λ g. Put FIRST g) is.1
 
-pub unnamed : (t : Machine) (o : Order) (r : SearchAddress) → IsGivenBy t o → stage_of t.trace ≡ Unnamed r → IsUnnamedBy t r o
-unnamed t o r given stage = go o (given.ordered.unnamed r stage) given.ordered.caused where
+pub unnamed : (t : Machine) (o : Order) (r : SearchAddress) → t.course.way ≡ Fresh → IsGivenBy t o → stage_of t.trace ≡ Unnamed r → IsUnnamedBy t r o
+unnamed t o r fresh given stage = go o (subst (λ y. AfterMaskOn y t (course_by t o) r o) fresh (given.ordered.unnamed r stage)) given.ordered.caused where
   go : (o : Order) → AfterMask t (course_by t o) r o → IsCaused t (course_by t o) o → IsUnnamedBy t r o
   go (Put p f) (inl is) cause = inl (is.0, is.1, ap (λ q. Put q f) is.2 ∙ ap (λ g. Put LATER g) is.3)
   go (Put p f) (inr is) cause = inr (inr (is.0, is.1, closes t (course_by t (Put p f)) p f is.2 cause, is.2))
@@ -185,7 +188,7 @@ pub withdrawn : (t : Machine) (o : Order) (r : SearchAddress) (b : ℕ) → IsGi
 withdrawn t o r b given stage address number = enrols_found t b (value_of r) o address number (given.ordered.found r b stage)
 
 -- the same where the queries of a random address told the number that was visited
-pub spelled : (t : Machine) (o : Order) (b n : ℕ) → IsGivenBy t o → stage_of t.trace ≡ Spelled b (Some n) → n ≡ value_of t.course.number
+pub spelled : (t : Machine) (o : Order) (b n : ℕ) → IsGivenBy t o → stage_of t.trace ≡ Spelled b (Some n) → IsSought t.course.purpose t.course.number n
     → (HasAddress t.kept.enrolled b → ⊥) → (HasRandom t.kept.enrolled n → ⊥) → o ≡ Commit (Enrol b n)
 spelled t o b n given stage visited address number = enrols_found t b n o address number (given.followed.told b n stage visited)
 
@@ -212,7 +215,8 @@ withdrawn_known t o r b given stage map has =
     map has
     (given.ordered.found r b stage)
 
-pub spelled_known : (t : Machine) (o : Order) (b n : ℕ) → IsGivenBy t o → stage_of t.trace ≡ Spelled b (Some n) → n ≡ value_of t.course.number
+pub spelled_known : (t : Machine) (o : Order) (b n : ℕ) → IsGivenBy t o → stage_of t.trace ≡ Spelled b (Some n)
+    → IsSought t.course.purpose t.course.number n
     → IsMap t.kept.enrolled → Has t.kept.enrolled (b, n) → o ≡ beginning (next_course t)
 spelled_known t o b n given stage visited map has =
     begins_known t o b n given (nothing_after t (Spelled b (Some n)) stage (λ c e. let none : is_some (leads (Spelled b (Some n)) c Silence) ≡ true = e in cc))
@@ -254,9 +258,18 @@ goes_on_open t = go t.opened where
   visits None = refl
   visits (Some next) = refl
 
+  asks : (next : Option ℕ) → closing_of (ask_or_wake t.course next).purpose ≡ None
+  asks None = refl
+  asks (Some a) = refl
+
+  early : (y : Way) → closing_of (going_on_early t.kept y t.course).purpose ≡ None
+  early Fresh = visits (next_unfinished t.kept t.course.from)
+  early Surveying = asks (next_asked t.kept t.course.from)
+  early Drawing = refl
+
   go : (opened : Bool) → closing_of (going_on t.kept opened t.course).purpose ≡ None
   go true = refl
-  go false = visits (next_unfinished t.kept t.course.from)
+  go false = early t.course.way
 
 -- no frame is put where a close was heard: it would be none of the close, and begin no other
 no_put : (t : Machine) (p : ℕ) (f : Forward) (e : End) → running_close t ≡ Some e → stage_of t.trace ≡ Terminated → MayOrderPut t p f

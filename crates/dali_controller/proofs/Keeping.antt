@@ -33,6 +33,7 @@ kept_may s k i whole = go s.last i whole where
   go None i p = tt
   go (Some (Put q f)) i p = tt
   go (Some (Commit x)) input.Start p = tt
+  go (Some (Commit x)) input.Survey p = tt
   go (Some (Commit x)) (input.Heard h) p = tt
   go (Some (Commit x)) input.Destroyed p = tt
   go (Some (Commit x)) input.Lapsed p = tt

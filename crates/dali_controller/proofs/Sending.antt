@@ -1,4 +1,4 @@
-use Rattle.std.proofs.Common.{◌≡◌, ◌↔◌, ℕ, ◌<◌, true, false, nat_eq, List, Bool, Some, sym, refl, subst, ap, arith}
+use Rattle.std.proofs.Common.{◌≡◌, ◌↔◌, ◌⊎◌, inl, inr, ℕ, ◌<◌, true, false, nat_eq, List, Bool, Some, sym, refl, subst, ap, arith}
 use Rattle.dali_frame.specs.declared.numbers.SearchAddress.{SearchAddress}
 use Rattle.dali_frame.specs.declared.frames.Answer.TheVariants.{Silence}
 use Rattle.dali_frame.specs.Random.{value_of}
@@ -16,7 +16,8 @@ use Rattle.dali_script.specs.declared.trace.Entry.{Entry}
 use Rattle.dali_frame.specs.declared.frames.Forward.{Forward}
 use Rattle.dali_search.specs.Least.{Search}
 use Rattle.dali_controller.specs.declared.purpose.Purpose.{Purpose}
-use Rattle.dali_controller.specs.declared.purpose.Purpose.TheVariants.{Resolving}
+use Rattle.dali_controller.specs.declared.purpose.Purpose.TheVariants.{Resolving, Asking}
+use Rattle.dali_controller.specs.declared.way.Way.{Way}
 use Rattle.dali_controller.specs.Whole.{Sends, Knows, IsChosen}
 use Rattle.dali_script.proofs.Lists.{has_map}
 use Rattle.dali_script.proofs.Members.{same_member}
@@ -37,25 +38,27 @@ programs : (r : SearchAddress) (c : Command) → is_some (leads (Unnamed r) c Si
 programs r (Program (Some a)) e = (a, refl)
 programs r _ e = absurd (cc)
 
-asked_small : (k : Kept) (n : SearchAddress) (x : Search) (o : Bool) (p : Purpose) (b : ℕ) → Knows k n x o p → p ≡ Resolving b → b < 64
-asked_small k n x o p b knows is = let known = subst (Knows k n x o) is knows in known.2
+asked_small : (y : Way) (k : Kept) (n : SearchAddress) (x : Search) (o : Bool) (p : Purpose) (b : ℕ) → Knows y k n x o p
+    → (p ≡ Resolving b) ⊎ (p ≡ Asking b) → b < 64
+asked_small y k n x o p b knows (inl is) = let known = subst (Knows y k n x o) is knows in known.2
+asked_small y k n x o p b knows (inr is) = let known = subst (Knows y k n x o) is knows in known.2
 
 given_small : (k : Kept) (a : ℕ) (n : ℕ) → IsMap k.reserved → Has k.reserved (a, n) → a < 64
 given_small k a n map has = map.short a (has_map (λ q. q.0) k.reserved (a, n) has)
 
 -- and what it has chosen, where it may be sent, it sends
-pub chosen_sends : (k : Kept) (n : SearchAddress) (x : Search) (o : Bool) (p : Purpose) (s : Stage) (c : Command) → IsMap k.reserved → Knows k n x o p
+pub chosen_sends : (y : Way) (k : Kept) (n : SearchAddress) (x : Search) (o : Bool) (p : Purpose) (s : Stage) (c : Command) → IsMap k.reserved → Knows y k n x o p
     → Follows k.block k.reserved s c → IsChosen n p s c
     → Sends k n p s c
-chosen_sends k n x o p Free c map knows follows e = (e, subst IsSpelled (sym e) (first_spelled k n x o p knows))
-chosen_sends k n x o p (Unnamed r) c map knows follows e =
+chosen_sends y k n x o p Free c map knows follows e = (e, subst IsSpelled (sym e) (first_spelled y k n x o p knows))
+chosen_sends y k n x o p (Unnamed r) c map knows follows e =
     let program = programs r c follows.leads_on in
     let may : MayGive k.block k.reserved r program.0 =
     subst (λ d. IfSome (given (Unnamed r) d) (λ g. MayGive k.block k.reserved g.0 g.1)) program.1 follows.may in
     (e.0, e.1, (program.0, given_small k program.0 (value_of r) map may.reserved_for, may, program.1))
-chosen_sends k n x o p (HighAsked b high) c map knows follows e = (e.0, (e.1, asked_small k n x o p b knows e.1), follows.may)
-chosen_sends k n x o p (MiddleAsked b bytes) c map knows follows e = (e.0, (e.1, asked_small k n x o p b knows e.1), follows.may)
-chosen_sends k n x o p _ c map knows follows e = (e.0, e.1, follows.may)
+chosen_sends y k n x o p (HighAsked b high) c map knows follows e = (e.0, (e.1, asked_small y k n x o p b knows e.1), follows.may)
+chosen_sends y k n x o p (MiddleAsked b bytes) c map knows follows e = (e.0, (e.1, asked_small y k n x o p b knows e.1), follows.may)
+chosen_sends y k n x o p _ c map knows follows e = (e.0, e.1, follows.may)
 
 -- what is reserved at an address
 pub reserved_is : (xs : List Assignment) (a r n : ℕ) → IsOnce (addresses xs) → Has xs (a, r) → (nat_eq r n ≡ true) ↔ Has xs (a, n)
@@ -70,11 +73,11 @@ pub reserved_none : (xs : List Assignment) (a n : ℕ) → (HasAddress xs a → 
 reserved_none xs a n none = (λ e. absurd (cc), λ h. absurd (none (has_map (λ q. q.0) xs (a, n) h)))
 
 -- so whether it sends a frame is told by whether the frame may be sent, and whether it has chosen it
-pub sends_allowed : (k : Kept) (n : SearchAddress) (x : Search) (o : Bool) (p : Purpose) (t : List Entry) (f : Forward) (chosen : Bool) → IsMap k.reserved
-    → Knows k n x o p → Lawful k.block k.reserved t f
+pub sends_allowed : (y : Way) (k : Kept) (n : SearchAddress) (x : Search) (o : Bool) (p : Purpose) (t : List Entry) (f : Forward) (chosen : Bool) → IsMap k.reserved
+    → Knows y k n x o p → Lawful k.block k.reserved t f
     → ((chosen ≡ true) ↔ IsChosen n p (stage_of t) (command_of f)) → (chosen ≡ true) ↔ Sends k n p (stage_of t) (command_of f)
-sends_allowed k n x o p t f chosen map knows lawful test = (
-  λ e. chosen_sends k n x o p (stage_of t) (command_of f) map knows (follows_lawful k.block k.reserved t f lawful) (test.0 e),
+sends_allowed y k n x o p t f chosen map knows lawful test = (
+  λ e. chosen_sends y k n x o p (stage_of t) (command_of f) map knows (follows_lawful k.block k.reserved t f lawful) (test.0 e),
   λ s. test.1 (sends_chosen k n p (stage_of t) (command_of f) s),
 )
 

@@ -1,6 +1,6 @@
 use Rattle.std.proofs.Common.{map, take, lit<, length, get_or, ◌≡◌, ◌⊎◌, inl, inr, ℕ, ◌+◌, ◌<◌, ◌≤◌, Bool, true, false, List, [], ◌∷◌, ◌++◌, refl, sym, ap}
 use Rattle.std.proofs.Common.{subst, ◌∙◌, arith, Option, Some, None}
-use Rattle.std.specs.Prelude.{◌==◌, if◌then◌else◌}
+use Rattle.std.specs.Prelude.{◌==◌, ◌&&◌, not, is_some, if◌then◌else◌}
 use Rattle.dali_frame.specs.declared.frames.Forward.{Forward}
 use Rattle.dali_frame.specs.declared.frames.Answer.{Answer}
 use Rattle.dali_frame.specs.declared.frames.Answer.TheVariants.{Silence, Byte, Damaged}
@@ -25,10 +25,10 @@ use Rattle.dali_script.specs.declared.stage.Stage.{Stage}
 use Rattle.dali_script.specs.declared.stage.Stage.TheVariants.{Free, Terminated, InitialisedOnce, Initialised, RandomisedOnce, Opened, HighSent, MiddleSent}
 use Rattle.dali_script.specs.declared.stage.Stage.TheVariants.{NumberSent, Found, Unnamed, Unanswered, Inconclusive, Programmed, Confirmed, Withdrawn}
 use Rattle.dali_script.specs.declared.stage.Stage.TheVariants.{HighAsked, MiddleAsked, Spelled}
-use Rattle.dali_script.specs.Records.{IsKept, IsOnce, with_record, HasAddress, Kept, Assignment, Has, HasRandom, Fits, MayAdd}
+use Rattle.dali_script.specs.Records.{IsKept, IsMap, IsOnce, InBlock, with_record, HasAddress, Kept, Assignment, Has, HasRandom, Fits, MayAdd}
 use Rattle.dali_script.specs.Scripts.{MayGive, Lawful}
 use Rattle.dali_script.specs.Findings.{later, finding_of}
-use Rattle.dali_script.specs.Stages.{finding_at, stage_of, next_stage, queried, named, verified, answered, Follows}
+use Rattle.dali_script.specs.Stages.{byte_heard, bytes_heard, finding_at, stage_of, next_stage, queried, named, verified, answered, Follows}
 use Rattle.dali_script.proofs.Transactions.{self, middle_next, low_next, turn, gives, lawful_follows, stage_none, stage_more}
 use Rattle.dali_script.proofs.Found.{finding_after}
 use Rattle.dali_search.specs.declared.step.Step.TheVariants.{Again}
@@ -38,19 +38,26 @@ use Rattle.dali_script.specs.declared.orders.Order.{Order}
 use Rattle.dali_script.specs.declared.orders.Order.TheVariants.{Put, Commit, Done, Halt}
 use Rattle.dali_script.specs.declared.orders.End.{End}
 use Rattle.dali_script.specs.declared.orders.Fault.TheVariants as fault
-use Rattle.dali_script.specs.declared.orders.End.TheVariants.{GaveUp}
+use Rattle.dali_script.specs.declared.orders.End.TheVariants.{BlockFull, GaveUp}
 use Rattle.dali_script.specs.declared.orders.Due.TheVariants as due
 use Rattle.dali_controller.specs.declared.purpose.Purpose.{Purpose}
-use Rattle.dali_controller.specs.declared.purpose.Purpose.TheVariants.{Opening, Probing, Visiting, Resolving, Closing}
+use Rattle.dali_controller.specs.declared.purpose.Purpose.TheVariants.{Opening, Probing, Visiting, Resolving, Closing, Asking, Waking}
+use Rattle.dali_controller.specs.declared.shorts.Shorts.{Shorts}
+use Rattle.dali_controller.specs.declared.way.Way.{Way}
+use Rattle.dali_controller.specs.declared.way.Way.TheVariants.{Fresh, Surveying, Drawing}
 use Rattle.dali_controller.specs.Parts.{Parts}
 use Rattle.dali_script.specs.Due.{due_after, frame_put}
-use Rattle.dali_controller.specs.Course.{Course, first_of, closing_of}
-use Rattle.dali_controller.specs.Machine.{machine_lost, Machine, opened_after, silent_after, tries_after}
-use Rattle.dali_controller.specs.Next.{begins_at, course_by}
-use Rattle.dali_controller.specs.Orders.{Contradicts, IsBegun, AfterMask, IsOrderedTo, machine_ordered, running_close}
+use Rattle.dali_controller.specs.Course.{Course, first_of, turn_of, closing_of, drawing, address_for, least_open, is_anothers}
+use Rattle.dali_controller.specs.Machine.{machine_lost, Machine, opened_after, woken_after, silent_after, tries_after}
+use Rattle.dali_controller.specs.Next.{begins_at, course_by, beginning, next_course, draws, draw_or_close, is_withheld, is_withheld_by}
+use Rattle.dali_controller.proofs.Courses.{address_is}
+use Rattle.dali_controller.proofs.Asked.{least_open_is, open_unreserved}
+use Rattle.dali_controller.specs.Orders.{Contradicts, IsBegun, AfterReserved, AfterMaskBy, AfterMaskOn, AfterMaskSurveyed, IsOrderedTo, IsSought, IsLeft, MayEnrolOn, is_left, is_left_by, machine_ordered}
+use Rattle.dali_controller.specs.Orders.{running_close}
 use Rattle.dali_controller.specs.Parts.{parts_course, machine_of}
-use Rattle.dali_controller.specs.Whole.{IsWhole, Sends, Knows, IsWithinSilence, IsReady, IsSending, Pending}
-use Rattle.dali_controller.specs.Moments.{FoundAt, IsBetween, Closes, Settles, Arrived, KnowsAt, CalmAt, IsHeard, Turns, Begins, IsNext}
+use Rattle.dali_controller.specs.Whole.{IsWhole, Sends, Knows, IsEarly, IsWithinSilence, IsReady, IsSending, Pending}
+use Rattle.dali_controller.specs.Moments.{FoundAt, IsBetween, Closes, Settles, Arrived, KnowsAt, KnowsWoken, CalmAt, IsHeard, Turns, Begins, IsNext}
+use Rattle.dali_controller.specs.Moments.{Draws, IsFirstFree, IsUngiven, IsNextTo}
 
 -- THE COMMANDS OF A TRANSACTION. A command that is sent at a stage may follow there and is read from its frame; it is no
 -- direct arc power; past the first one no close runs; and what is known where it leads to.
@@ -67,10 +74,36 @@ going : {k : Kept} {n : SearchAddress} {p : Purpose} {s : Stage} {c : Command} �
 going {k} {n} {p} {s} {c} follows spelled addressing unclosed arrives =
     record { follows = follows; spelled = spelled; addressing = addressing; unclosed = unclosed; arrives = arrives }
 
+-- the queries of a random address, of both kinds of transaction that ask it
+abbrev IsAsked : Purpose → ℕ → Type 0
+IsAsked p b = (p ≡ Resolving b) ⊎ (p ≡ Asking b)
+
+turn_middle : (p : Purpose) (n : SearchAddress) (b high : ℕ) → IsAsked p b → turn_of p n (HighAsked b (Some high)) ≡ Some (RandomByte b Middle)
+turn_middle p n b high (inl is) = rw is refl
+turn_middle p n b high (inr is) = rw is refl
+
+turn_low : (p : Purpose) (n : SearchAddress) (b : ℕ) (bytes : ℕ × ℕ) → IsAsked p b → turn_of p n (MiddleAsked b (Some bytes)) ≡ Some (RandomByte b Low)
+turn_low p n b bytes (inl is) = rw is refl
+turn_low p n b bytes (inr is) = rw is refl
+
+unheard : {p : Purpose} {b : ℕ} → IsAsked p b → b < 64 → ((p ≡ Resolving b) × (b < 64)) ⊎ (p ≡ Asking b)
+unheard (inl is) small = inl (is, small)
+unheard (inr is) small = inr is
+
+arrives_high : (k : Kept) (n : SearchAddress) (p : Purpose) (b : ℕ) (high : Option ℕ) → IsAsked p b → b < 64 → Arrived k n p (HighAsked b high)
+arrives_high k n p b None is small = unheard is small
+arrives_high k n p b (Some high) is small = (RandomByte b Middle, (turn_middle p n b high is, (is, small), tt))
+
+arrives_middle : (k : Kept) (n : SearchAddress) (p : Purpose) (b : ℕ) (bytes : Option (ℕ × ℕ)) → IsAsked p b → b < 64 → Arrived k n p (MiddleAsked b bytes)
+arrives_middle k n p b None is small = unheard is small
+arrives_middle k n p b (Some bytes) is small = (RandomByte b Low, (turn_low p n b bytes is, (is, small), tt))
+
 goes_first : (k : Kept) (n : SearchAddress) (p : Purpose) → IsSpelled (first_of p n) → Goes k n p Free (first_of p n)
 goes_first k n Opening small = going (turn refl refl) tt (λ g x. cc) (λ later. refl) (λ h. inl refl)
-goes_first k n (Resolving a) small = going (turn refl refl) small (λ g x. cc) (λ later. refl) (λ h. (RandomByte a Middle, (refl, (refl, small), tt)))
-goes_first k n (Closing e) small = going (turn refl refl) tt (λ g x. cc) (λ later. absurd (later refl)) (λ h. inr (e, refl))
+goes_first k n (Resolving a) small = going (turn refl refl) small (λ g x. cc) (λ later. refl) (λ h. arrives_high k n (Resolving a) a (byte_heard h) (inl refl) small)
+goes_first k n (Asking a) small = going (turn refl refl) small (λ g x. cc) (λ later. refl) (λ h. arrives_high k n (Asking a) a (byte_heard h) (inr refl) small)
+goes_first k n Waking small = going (turn refl refl) tt (λ g x. cc) (λ later. refl) (λ h. inr (inl refl))
+goes_first k n (Closing e) small = going (turn refl refl) tt (λ g x. cc) (λ later. absurd (later refl)) (λ h. inr (inr (e, refl)))
 goes_first k n _ small = going (turn refl refl) tt (λ g x. cc) (λ later. refl) (λ h. (SearchMiddle n.middle, (refl, refl, tt)))
 
 arrives_queried : (k : Kept) (n r : SearchAddress) (h : Answer) → r ≡ n → Arrived k n Visiting (queried r h)
@@ -101,7 +134,9 @@ some_is x c e = cc
 
 goes : (k : Kept) (n : SearchAddress) (p : Purpose) (s : Stage) (c : Command) → Sends k n p s c → Goes k n p s c
 goes k n Opening Terminated c e = rw (some_is _ c e.0) (going (turn refl refl) tt (λ g x. cc) (λ later. refl) (λ h. (Initialise Unaddressed, (refl, tt, tt))))
-goes k n Opening InitialisedOnce c e = rw (some_is _ c e.0) (going (turn refl refl) tt (λ g x. cc) (λ later. refl) (λ h. (Randomise, (refl, tt, tt))))
+goes k n Opening InitialisedOnce c e = rw (some_is _ c e.0) (going (turn refl refl) tt (λ g x. cc) (λ later. refl) (λ h. inl refl))
+goes k n Waking Terminated c e = rw (some_is _ c e.0) (going (turn refl refl) tt (λ g x. cc) (λ later. refl) (λ h. (Initialise Unaddressed, (refl, tt, tt))))
+goes k n Waking InitialisedOnce c e = rw (some_is _ c e.0) (going (turn refl refl) tt (λ g x. cc) (λ later. refl) (λ h. inr refl))
 goes k n Opening Initialised c e = rw (some_is _ c e.0) (going (turn refl refl) tt (λ g x. cc) (λ later. refl) (λ h. (Randomise, (refl, tt, tt))))
 goes k n Opening RandomisedOnce c e = rw (some_is _ c e.0) (going (turn refl refl) tt (λ g x. cc) (λ later. refl) (λ h. refl))
 goes k n Probing (HighSent high) c e =
@@ -117,10 +152,16 @@ goes k n Visiting (NumberSent r) c e = rw (some_is _ c e.0) (going (turn refl re
 goes k n Visiting (Found r b) c e = rw (some_is _ c e.0) (going (turn refl refl) tt (λ g x. cc) (λ later. refl) (λ h. (refl, sym e.1)))
 goes k n (Resolving a) (HighAsked b high) c e =
     rw (some_is _ c e.0) (going (turn (rw (self b) refl) refl) e.1.1 (λ g x. cc) (λ later. refl)
-    (λ h. subst (Arrived k n (Resolving a)) (sym (middle_next b high h)) (RandomByte b Low, (refl, e.1, tt))))
+    (λ h. subst (Arrived k n (Resolving a)) (sym (middle_next b high h)) (arrives_middle k n (Resolving a) b (bytes_heard high h) e.1.0 e.1.1)))
 goes k n (Resolving a) (MiddleAsked b bytes) c e =
     rw (some_is _ c e.0) (going (turn (rw (self b) refl) refl) e.1.1 (λ g x. cc) (λ later. refl)
     (λ h. subst (Arrived k n (Resolving a)) (sym (low_next b bytes h)) e.1.0))
+goes k n (Asking a) (HighAsked b (Some high)) c e =
+    rw (some_is _ c e.0) (going (turn (rw (self b) refl) refl) e.1.1 (λ g x. cc) (λ later. refl)
+    (λ h. subst (Arrived k n (Asking a)) (sym (middle_next b (Some high) h)) (arrives_middle k n (Asking a) b (bytes_heard (Some high) h) e.1.0 e.1.1)))
+goes k n (Asking a) (MiddleAsked b (Some bytes)) c e =
+    rw (some_is _ c e.0) (going (turn (rw (self b) refl) refl) e.1.1 (λ g x. cc) (λ later. refl)
+    (λ h. subst (Arrived k n (Asking a)) (sym (low_next b (Some bytes) h)) e.1.0))
 goes k n p Free c e = subst (Goes k n p Free) (sym e.0) (goes_first k n p (subst IsSpelled e.0 e.1))
 goes k n Visiting (Unnamed r) c e = rw e.2.3 (going (gives refl e.2.2) e.2.1 (λ g x. cc) (λ later. refl) (λ h. (QueryShort, (refl, sym e.1, e.2.2))))
 goes k n Visiting (Programmed r a) c e =
@@ -135,10 +176,16 @@ not_withdrawn : (k : Kept) (n : SearchAddress) (p : Purpose) (r : SearchAddress)
 not_withdrawn k n p r b c e = let on = (goes k n p (Withdrawn r b) c e).follows.leads_on in cc
 
 -- what is known there
-pub knows_at : (k : Kept) (n : SearchAddress) (s : Search) (o : Bool) (p : Purpose) (there : Stage) → Knows k n s o p
-    → KnowsAt there k n s (opened_after there o) p
-knows_at k n s o p Opened e = refl
-knows_at k n s o p _ e = e
+knows_woken : (y : Way) (k : Kept) (n : SearchAddress) (s : Search) (o : Bool) (p : Purpose) → Knows y k n s o p
+    → KnowsWoken y k n s (woken_after Initialised p o) p
+knows_woken y k n s o Waking e = refl
+knows_woken y k n s o _ e = e
+
+pub knows_at : (y : Way) (k : Kept) (n : SearchAddress) (s : Search) (o : Bool) (p : Purpose) (there : Stage) → Knows y k n s o p
+    → KnowsAt there y k n s (woken_after there p (opened_after there o)) p
+knows_at y k n s o p Opened e = refl
+knows_at y k n s o p Initialised e = knows_woken y k n s o p e
+knows_at y k n s o p _ e = e
 
 calm_unanswered : (o : Bool) (i : ℕ) → i < 16 → (r : SearchAddress) → CalmAt (Unanswered r) Visiting o (silent_after (Unanswered r) o i)
 calm_unanswered true i h r = (omega arith, λ e. refl)
@@ -150,7 +197,7 @@ calm_visiting true i h r other = (omega arith, λ e. refl)
 calm_visiting false i h r other = (omega arith, λ e. absurd (omega arith))
 
 pub calm_at : (k : Kept) (n : SearchAddress) (o : Bool) (p : Purpose) (i : ℕ) (there : Stage) → Arrived k n p there → IsWithinSilence p i
-    → CalmAt there p (opened_after there o) (silent_after there o i)
+    → CalmAt there p (woken_after there p (opened_after there o)) (silent_after there o i)
 calm_at k n o p i (Unanswered r) there e =
     let h : i < 16 = subst (λ q. IsWithinSilence q i) there.0 e in
     calm_unanswered o i h r
@@ -173,10 +220,16 @@ sends_calm k n p (Unanswered r) c o i e calm = absurd (let on = (goes k n p (Una
 sends_calm k n p (Inconclusive r other) c o i e calm = absurd (let on = (goes k n p (Inconclusive r other) c e).follows.leads_on in cc)
 sends_calm k n p _ c o i e calm = calm
 
-pub sends_knows : (k : Kept) (n : SearchAddress) (p : Purpose) (s : Stage) (c : Command) (x : Search) (o : Bool) → Sends k n p s c → KnowsAt s k n x o p
-    → Knows k n x o p
-sends_knows k n p Opened c x o e knows = absurd (let on = (goes k n p Opened c e).follows.leads_on in cc)
-sends_knows k n p _ c x o e knows = knows
+sends_woken : (y : Way) (k : Kept) (n : SearchAddress) (p : Purpose) (c : Command) (x : Search) (o : Bool) → Sends k n p Initialised c
+    → KnowsWoken y k n x o p → Knows y k n x o p
+sends_woken y k n Waking c x o e knows = absurd (let none = e.0 in cc)
+sends_woken y k n _ c x o e knows = knows
+
+pub sends_knows : (y : Way) (k : Kept) (n : SearchAddress) (p : Purpose) (s : Stage) (c : Command) (x : Search) (o : Bool) → Sends k n p s c
+    → KnowsAt s y k n x o p → Knows y k n x o p
+sends_knows y k n p Opened c x o e knows = absurd (let on = (goes k n p Opened c e).follows.leads_on in cc)
+sends_knows y k n p Initialised c x o e knows = sends_woken y k n p c x o e knows
+sends_knows y k n p _ c x o e knows = knows
 
 calm_less : (p : Purpose) (i : ℕ) → closing_of p ≡ None → IsWithinSilence p i → i < 16
 calm_less (Closing end) i e calm = absurd (cc)
@@ -208,7 +261,7 @@ put_whole_at w s c p f h e read = record {
   ready = record {
     tries = h.tries;
     calm = sends_calm w.kept w.number w.purpose s c w.opened w.silent e h.calm;
-    knows = sends_knows w.kept w.number w.purpose s c w.search w.opened e h.knows;
+    knows = sends_knows w.way w.kept w.number w.purpose s c w.search w.opened e h.knows;
   };
   sends = subst (λ x. Sends w.kept w.number w.purpose x (command_of f)) (sym h.stage) (subst (λ d. Sends w.kept w.number w.purpose s d) (sym read) e);
 }
@@ -220,18 +273,16 @@ put_whole w s c p f h e read = put_whole_at w s c p f h e (read (goes w.kept w.n
 begun_none : (t : Machine) (o : Option End) → o ≡ None → running_close t ≡ None → IsBegun t o
 begun_none t o is none = subst (IsBegun t) (sym is) none
 
-put_masked : (w : Parts) (s : Stage) (c : Command) (r : SearchAddress) → Sends w.kept w.number w.purpose s c → s ≡ Unnamed r
-    → AfterMask (machine_of w) (parts_course w) r (Put LATER (frame_of c))
-put_masked w s c r e is =
-    let there : Sends w.kept w.number w.purpose (Unnamed r) c = subst (λ x. Sends w.kept w.number w.purpose x c) is e in
-    inl (there.2.0, there.2.2.reserved_for, refl, ap frame_of there.2.3)
-
 not_empty : (t : List Entry) (s : Stage) → stage_of t ≡ s → (s ≡ Free → ⊥) → t ≡ [] → ⊥
 not_empty t s is later empty = later (sym is ∙ ap stage_of empty ∙ stage_none)
 
+abbrev IsMasked : Parts → Order → Type 0
+IsMasked w o = (r : SearchAddress) → stage_of w.trace ≡ Unnamed r → AfterMaskOn w.way (machine_of w) (parts_course w) r o
+
 put_next_at : (w : Parts) (s : Stage) (c : Command) → IsHeard w s → Sends w.kept w.number w.purpose s c → (s ≡ Free → ⊥)
+    → IsMasked w (Put LATER (frame_of c))
     → IsNext (machine_of w) (Put LATER (frame_of c)) (machine_of (record w { last = Some (Put LATER (frame_of c)) }))
-put_next_at w s c h e later =
+put_next_at w s c h e later masked =
     let going : closing_of w.purpose ≡ None = (goes w.kept w.number w.purpose s c e).unclosed later in
     let calm : w.silent < 16 = calm_less w.purpose w.silent going (sends_calm w.kept w.number w.purpose s c w.opened w.silent e h.calm) in
     let tries : w.tries < 8 = h.tries in
@@ -250,18 +301,18 @@ put_next_at w s c h e later =
         caused = (begun_none (machine_of w) (closing_of w.purpose) going going, inl going);
         given_up = λ n. absurd (omega arith);
         silent = λ n. absurd (omega arith);
-        unnamed = λ r is. put_masked w s c r e (sym h.stage ∙ is);
+        unnamed = masked;
         found = λ r b is. absurd (not_withdrawn w.kept w.number w.purpose r b c (subst (λ x. Sends w.kept w.number w.purpose x c) (sym h.stage ∙ is) e));
       };
       state = refl;
     }
 
-pub put_next : (w : Parts) (s : Stage) (c : Command) (p : ℕ) (f : Forward) → IsHeard w s → Sends w.kept w.number w.purpose s c → (s ≡ Free → ⊥) → p ≡ LATER
-    → f ≡ frame_of c
+pub put_next : (w : Parts) (s : Stage) (c : Command) (p : ℕ) (f : Forward) → IsHeard w s → Sends w.kept w.number w.purpose s c → (s ≡ Free → ⊥)
+    → IsMasked w (Put LATER (frame_of c)) → p ≡ LATER → f ≡ frame_of c
     → IsNext (machine_of w) (Put p f) (machine_of (record w { last = Some (Put p f) }))
-put_next w s c p f h e later first is =
+put_next w s c p f h e later masked first is =
     subst (λ q. IsNext (machine_of w) (Put q f) (machine_of (record w { last = Some (Put q f) }))) (sym first)
-    (subst (λ g. IsNext (machine_of w) (Put LATER g) (machine_of (record w { last = Some (Put LATER g) }))) (sym is) (put_next_at w s c h e later))
+    (subst (λ g. IsNext (machine_of w) (Put LATER g) (machine_of (record w { last = Some (Put LATER g) }))) (sym is) (put_next_at w s c h e later masked))
 
 -- TO BEGIN
 begun : (w : Parts) (p : Purpose) → Turns w p → IsBegun (machine_of w) (closing_of p)
@@ -276,9 +327,25 @@ silent_closes : (p : Purpose) (i : ℕ) → IsWithinSilence p i → i ≡ 16 →
 silent_closes (Closing e) i calm is = ap (λ x. Closing x) (calm.1 is)
 silent_closes _ i calm is = absurd (omega arith)
 
-pub first_spelled : (k : Kept) (n : SearchAddress) (s : Search) (o : Bool) (p : Purpose) → Knows k n s o p → IsSpelled (first_of p n)
-first_spelled k n s o (Resolving a) e = e.2
-first_spelled k n s o _ e = tt
+pub first_spelled : (y : Way) (k : Kept) (n : SearchAddress) (s : Search) (o : Bool) (p : Purpose) → Knows y k n s o p → IsSpelled (first_of p n)
+first_spelled y k n s o (Resolving a) e = e.2
+first_spelled y k n s o (Asking a) e = e.2
+first_spelled y k n s o _ e = tt
+
+-- a first frame where nothing can be given to gear that answered MASK
+left_follows : (t : Machine) (r : SearchAddress) (reserved free : Option ℕ) (o : Order) → is_left_by t (value_of r) reserved free ≡ true
+    → o ≡ beginning (next_course t) → AfterMaskBy t r reserved free o
+left_follows t r (Some a) free o left is = rw left is
+left_follows t r None (Some a) o left is = absurd (cc)
+left_follows t r None None o left is = is
+
+masked_first : (y : Way) (w : Parts) (c : Course) (r : SearchAddress) (n : SearchAddress) → IsUngiven y w r → IsNextTo y w c.purpose n
+    → AfterMaskOn y (machine_of w) c r (Put FIRST (frame_of (first_of c.purpose n)))
+masked_first Fresh w c r n ungiven next = inr (ungiven.0, ungiven.1, next)
+masked_first Surveying w c r n ungiven next =
+    left_follows (machine_of w) r (address_for w.kept.reserved (value_of r)) (least_open w.kept w.heard) _ ungiven next
+masked_first Drawing w c r n ungiven next =
+    left_follows (machine_of w) r (address_for w.kept.reserved (value_of r)) (least_open w.kept w.heard) _ ungiven next
 
 first_read : (k : Kept) (p : Purpose) (n : SearchAddress) → IsSpelled (first_of p n) → command_of (frame_of (first_of p n)) ≡ first_of p n
 first_read k p n small = read_written (first_of p n) small
@@ -292,7 +359,7 @@ begin_next_at : (w : Parts) (p : Purpose) (n : SearchAddress) → Begins w p n
     (machine_of (record w { trace = []; last = Some (Put FIRST (frame_of (first_of p n))); purpose = p; number = n }))
 begin_next_at w p n b =
     let tries : w.tries < 8 = b.tries in
-    let small : IsSpelled (first_of p n) = first_spelled w.kept n w.search w.opened p b.knows in
+    let small : IsSpelled (first_of p n) = first_spelled w.way w.kept n w.search w.opened p b.knows in
     record {
       order = record {
         allowed = inl (refl, first_lawful w.kept p n small);
@@ -300,7 +367,7 @@ begin_next_at w p n b =
         caused = (begun w p b.turns, terminates p n);
         given_up = λ e. absurd (omega arith);
         silent = λ e. silent_closes p w.silent b.calm e;
-        unnamed = λ r e. let x = b.unnamed r e in inr x;
+        unnamed = λ r e. let x = b.unnamed r e in masked_first w.way w (record (parts_course w) { purpose = p; number = n }) r n x.0 x.1;
         found = b.found;
       };
       state = refl;
@@ -318,10 +385,10 @@ begin_next w p n t q f b empty first is =
 free_of : (t : List Entry) → t ≡ [] → stage_of t ≡ Free
 free_of t empty = ap stage_of empty ∙ stage_none
 
-first_sends : (w : Parts) (p : Purpose) (n : SearchAddress) (f : Forward) → Knows w.kept n w.search w.opened p → f ≡ frame_of (first_of p n)
+first_sends : (w : Parts) (p : Purpose) (n : SearchAddress) (f : Forward) → Knows w.way w.kept n w.search w.opened p → f ≡ frame_of (first_of p n)
     → (command_of f ≡ first_of p n) × IsSpelled (command_of f)
 first_sends w p n f knows is =
-    let small : IsSpelled (first_of p n) = first_spelled w.kept n w.search w.opened p knows in
+    let small : IsSpelled (first_of p n) = first_spelled w.way w.kept n w.search w.opened p knows in
     let read : command_of f ≡ first_of p n = ap command_of is ∙ first_read w.kept p n small in
     (read, subst IsSpelled (sym read) small)
 
@@ -365,14 +432,14 @@ trace_found_at (Spelled b None) found is = tt
 trace_found_at _ found is = tt
 
 -- the parts after a frame was heard, the last finding noted, and the counts made
-pub hear_heard : (w noted : Parts) (f : Forward) (h : Answer) (t : List Entry) (s : Stage) (complete o : Bool) (n i : ℕ) → IsWhole (machine_of w)
+pub hear_heard : (w noted : Parts) (f : Forward) (h : Answer) (t : List Entry) (s : Stage) (complete o : Bool) (n i : ℕ) (shorts : Shorts) (asked : ℕ) → IsWhole (machine_of w)
     → frame_put w.last ≡ Some f
     → t ≡ w.trace ++ (record { frame = f; heard = h }) ∷ [] → noted ≡ record w { trace = t; finding = later w.finding (finding_of t) }
     → s ≡ stage_of noted.trace
     → n ≡ tries_after complete noted.tries → i ≡ silent_after (stage_of noted.trace) noted.opened noted.silent
-    → o ≡ opened_after (stage_of noted.trace) noted.opened
-    → IsHeard (record noted { tries = n; silent = i; opened = o }) s
-hear_heard w noted f h t s complete o n i whole put trace is stage tries silent opened =
+    → o ≡ woken_after (stage_of noted.trace) noted.purpose (opened_after (stage_of noted.trace) noted.opened)
+    → IsHeard (record noted { tries = n; silent = i; opened = o; heard = shorts; asked = asked }) s
+hear_heard w noted f h t s complete o n i shorts asked whole put trace is stage tries silent opened =
     let sent : IsSending (machine_of w) f = sending w w.last f put whole in
     let same_trace : noted.trace ≡ t = ap (λ (x : Parts). x.trace) is in
     let there : stage_of noted.trace ≡ next_stage (stage_of w.trace) (command_of f) h =
@@ -390,27 +457,34 @@ hear_heard w noted f h t s complete o n i whole put trace is stage tries silent 
   where
     from : Arrived w.kept w.number w.purpose (stage_of noted.trace) → IsReady (machine_of w)
         → noted.finding ≡ later w.finding (finding_at (stage_of noted.trace)) → finding_of noted.trace ≡ finding_at (stage_of noted.trace)
-        → IsHeard (record noted { tries = n; silent = i; opened = o }) (stage_of noted.trace)
+        → IsHeard (record noted { tries = n; silent = i; opened = o; heard = shorts; asked = asked }) (stage_of noted.trace)
     from arrived ready finding trace_finding = record {
       stage = refl;
       tries = subst (λ m. m < 8) (sym (tries ∙ ap (λ m. tries_after complete m) (ap (λ (x : Parts). x.tries) is))) (tries_less complete w.tries ready.tries);
       arrived = subst (λ (x : Parts). Arrived x.kept x.number x.purpose (stage_of noted.trace)) (sym is) arrived;
-      calm = rw (opened, silent) (subst (λ (x : Parts). CalmAt (stage_of noted.trace) x.purpose (opened_after (stage_of noted.trace) x.opened)
+      calm = rw (opened, silent) (subst (λ (x : Parts). CalmAt (stage_of noted.trace) x.purpose
+          (woken_after (stage_of noted.trace) x.purpose (opened_after (stage_of noted.trace) x.opened))
           (silent_after (stage_of noted.trace) x.opened x.silent)) (sym is)
           (calm_at w.kept w.number w.opened w.purpose w.silent (stage_of noted.trace) arrived ready.calm));
-      knows = rw opened (subst (λ (x : Parts). KnowsAt (stage_of noted.trace) x.kept x.number x.search (opened_after (stage_of noted.trace) x.opened) x.purpose)
+      knows = rw opened (subst (λ (x : Parts). KnowsAt (stage_of noted.trace) x.way x.kept x.number x.search
+          (woken_after (stage_of noted.trace) x.purpose (opened_after (stage_of noted.trace) x.opened)) x.purpose)
           (sym is)
-          (knows_at w.kept w.number w.search w.opened w.purpose (stage_of noted.trace) ready.knows));
+          (knows_at w.way w.kept w.number w.search w.opened w.purpose (stage_of noted.trace) ready.knows));
       finding = found_at (stage_of noted.trace) w.finding noted.finding finding;
       trace_finding = trace_found_at (stage_of noted.trace) (finding_of noted.trace) trace_finding;
     }
 
 -- THE TRANSACTIONS
+early : (y : Way) (o : Bool) → o ≡ false → IsEarly y o
+early Fresh o is = is
+early Surveying o is = tt
+early Drawing o is = tt
+
 pub opens : (w : Parts) (n : SearchAddress) → IsBetween w → w.opened ≡ false → Begins w Opening n
 opens w n b opened = record {
   tries = b.tries;
   calm = b.silent;
-  knows = opened;
+  knows = early w.way w.opened opened;
   turns = b.going;
   unnamed = λ r e. absurd (b.unnamed r e);
   found = b.found;
@@ -437,11 +511,51 @@ visits w n r b drawn reserved is = record {
   found = b.found;
 }
 
+pub asks : (w : Parts) (n : SearchAddress) (a : ℕ) → IsBetween w → w.opened ≡ false → w.way ≡ Surveying → a < 64 → Begins w (Asking a) n
+asks w n a b opened way small = record {
+  tries = b.tries;
+  calm = b.silent;
+  knows = (opened, way, small);
+  turns = b.going;
+  unnamed = λ r e. absurd (b.unnamed r e);
+  found = b.found;
+}
+
+pub wakes : (w : Parts) (n : SearchAddress) → IsBetween w → w.opened ≡ false → w.way ≡ Surveying → Begins w Waking n
+wakes w n b opened way = record {
+  tries = b.tries;
+  calm = b.silent;
+  knows = (opened, way);
+  turns = b.going;
+  unnamed = λ r e. absurd (b.unnamed r e);
+  found = b.found;
+}
+
+drawn_unnamed : (y : Way) (w : Parts) (r : SearchAddress) → y ≡ Surveying → is_left (machine_of w) (value_of r) ≡ true
+    → Put FIRST (frame_of (first_of Opening w.number)) ≡ beginning (next_course (machine_of w)) → IsUngiven y w r × IsNextTo y w Opening w.number
+drawn_unnamed Fresh w r is left next = absurd (cc)
+drawn_unnamed Surveying w r is left next = (left, next)
+drawn_unnamed Drawing w r is left next = absurd (cc)
+
+pub draws_again : (w : Parts) → Draws w → Begins w Opening w.number
+draws_again w d = record {
+  tries = d.tries;
+  calm = d.silent;
+  knows = rw d.surveying tt;
+  turns = d.going;
+  unnamed = λ r e.
+      let x = d.unnamed r e in
+      let next : next_course (machine_of w) ≡ drawing (parts_course w) =
+      ap (begins_at (machine_of w)) e ∙ ap (λ b. draw_or_close b (parts_course w) BlockFull) x.1 in
+      drawn_unnamed w.way w r d.surveying x.0 (sym (ap beginning next));
+  found = λ r b e. absurd (d.found r b e);
+}
+
 pub resolves : (w : Parts) (r : SearchAddress) (a : ℕ) → IsHeard w (Unanswered r) → w.opened ≡ false → a < 64 → Has w.kept.reserved (a, value_of r)
     → Begins w (Resolving a) r
 resolves w r a h early small reserved =
     let stage : stage_of w.trace ≡ Unanswered r = h.stage in
-    let visiting : Knows w.kept w.number w.search w.opened Visiting = subst (Knows w.kept w.number w.search w.opened) h.arrived.0 h.knows in
+    let visiting : Knows w.way w.kept w.number w.search w.opened Visiting = subst (Knows w.way w.kept w.number w.search w.opened) h.arrived.0 h.knows in
     record {
       tries = h.tries;
       calm = early_calm w.opened w.silent early h.calm;
@@ -455,18 +569,18 @@ resolves w r a h early small reserved =
         late : i ≡ 16 → ⊥
         late e = let no : false ≡ true = sym early ∙ calm.1 e in cc
 
-pub closing : (w : Parts) (e : End) (n : SearchAddress) → Closes w e → Begins w (Closing e) n
-closing w e n b = record {
+pub closing : (w : Parts) (e : End) → Closes w e → Begins w (Closing e) w.number
+closing w e b = record {
   tries = b.tries;
   calm = b.calm;
   knows = b.opened;
   turns = record { opened = b.opened; cause = inr (b.going, b.cause) };
-  unnamed = λ r is. let x = b.unnamed r is in (x.0, x.1, ap (λ y. Closing y) x.2);
+  unnamed = b.unnamed;
   found = λ r c is. absurd (b.found r c is);
 }
 
 -- LOST
-turns_same : (w : Parts) (p : Purpose) → w.purpose ≡ p → Knows w.kept w.number w.search w.opened p → Turns w p
+turns_same : (w : Parts) (p : Purpose) → w.purpose ≡ p → Knows w.way w.kept w.number w.search w.opened p → Turns w p
 turns_same w (Closing e) is knows = record { opened = knows; cause = inl (ap closing_of is) }
 turns_same w _ is knows = ap closing_of is
 
@@ -530,6 +644,184 @@ sends_program k n r p a m kept visiting is h =
     let there : Has k.reserved (a, value_of r) = subst (λ v. Has k.reserved (a, v)) is h in
     (visiting.0, visiting.1, (a, kept.reserved.short a (has_map (λ q. q.0) k.reserved (a, value_of r) there), may_give k r a kept there, refl))
 
+-- In a survey what is reserved may be another's: then it is not given.
+reserved_for : (k : Kept) (r a : ℕ) → IsKept k → Has k.reserved (a, r) → Some a ≡ address_for k.reserved r
+reserved_for k r a kept has = address_is k.reserved r (Some a) kept.reserved.random_once has
+
+withheld_opened : (o b : Bool) → (o && b) ≡ true → o ≡ true
+withheld_opened true b e = refl
+withheld_opened false b e = absurd (cc)
+
+withheld_by : (y : Way) (t : Machine) (a r : ℕ) → is_withheld_by t y a r ≡ true → t.opened ≡ true
+withheld_by Fresh t a r e = absurd (cc)
+withheld_by Surveying t a r e = withheld_opened t.opened (is_anothers t.kept t.heard a r) e
+withheld_by Drawing t a r e = withheld_opened t.opened (is_anothers t.kept t.heard a r) e
+
+pub withheld_searching : (w : Parts) (a m : ℕ) → is_withheld (machine_of w) a m ≡ true → w.opened ≡ true
+withheld_searching w a m e = withheld_by w.way (machine_of w) a m e
+
+left_by_withheld : (y : Way) (w : Parts) (r : SearchAddress) (a : ℕ) → w.way ≡ y → IsKept w.kept → Has w.kept.reserved (a, value_of r)
+    → is_withheld (machine_of w) a (value_of r) ≡ true → IsUngiven y w r
+left_by_withheld Fresh w r a way kept has withheld =
+    absurd (let no : is_withheld_by (machine_of w) Fresh a (value_of r) ≡ true =
+    subst (λ y. is_withheld_by (machine_of w) y a (value_of r) ≡ true) way withheld in cc)
+left_by_withheld Surveying w r a way kept has withheld =
+    ap (λ o. is_left_by (machine_of w) (value_of r) o (least_open w.kept w.heard)) (sym (reserved_for w.kept (value_of r) a kept has)) ∙ withheld
+left_by_withheld Drawing w r a way kept has withheld =
+    ap (λ o. is_left_by (machine_of w) (value_of r) o (least_open w.kept w.heard)) (sym (reserved_for w.kept (value_of r) a kept has)) ∙ withheld
+
+pub withheld_left : (w : Parts) (r : SearchAddress) (a m : ℕ) → IsKept w.kept → Has w.kept.reserved (a, value_of r) → m ≡ value_of r
+    → is_withheld (machine_of w) a m ≡ true → IsUngiven w.way w r
+withheld_left w r a m kept has is withheld =
+    left_by_withheld w.way w r a refl kept has (ap (is_withheld (machine_of w) a) (sym is) ∙ withheld)
+
+given_surveyed : (w : Parts) (r : SearchAddress) (a : ℕ) → IsKept w.kept → Has w.kept.reserved (a, value_of r)
+    → is_withheld (machine_of w) a (value_of r) ≡ false → AfterMaskSurveyed (machine_of w) r (Put LATER (frame_of (Program (Some a))))
+given_surveyed w r a kept has given =
+    let o : Order = Put LATER (frame_of (Program (Some a))) in
+    let here : AfterReserved (machine_of w) a (is_withheld (machine_of w) a (value_of r)) o =
+    subst (λ b. AfterReserved (machine_of w) a b o) (sym given) refl in
+    subst (λ x. AfterMaskBy (machine_of w) r x (least_open w.kept w.heard) o) (reserved_for w.kept (value_of r) a kept has) here
+
+given_masked : (y : Way) (w : Parts) (r : SearchAddress) (a : ℕ) → IsKept w.kept → Has w.kept.reserved (a, value_of r)
+    → is_withheld (machine_of w) a (value_of r) ≡ false → AfterMaskOn y (machine_of w) (parts_course w) r (Put LATER (frame_of (Program (Some a))))
+given_masked Fresh w r a kept has given = inl (a, has, refl, refl)
+given_masked Surveying w r a kept has given = given_surveyed w r a kept has given
+given_masked Drawing w r a kept has given = given_surveyed w r a kept has given
+
+same_unnamed : (r q : SearchAddress) → Unnamed r ≡ Unnamed q → r ≡ q
+same_unnamed r q e = cc
+
+pub gives_masked : (w : Parts) (r : SearchAddress) (a m : ℕ) → IsHeard w (Unnamed r) → IsKept w.kept → Has w.kept.reserved (a, value_of r) → m ≡ value_of r
+    → is_withheld (machine_of w) a m ≡ false → IsMasked w (Put LATER (frame_of (Program (Some a))))
+gives_masked w r a m h kept has is given q stage =
+    subst (λ x. AfterMaskOn w.way (machine_of w) (parts_course w) x (Put LATER (frame_of (Program (Some a)))))
+    (same_unnamed r q (sym h.stage ∙ stage)) (given_masked w.way w r a kept has (ap (is_withheld (machine_of w) a) (sym is) ∙ given))
+
+-- gear that answered MASK and for whose number nothing is reserved is found by a search
+pub free_searching : (w : Parts) (r : SearchAddress) → IsHeard w (Unnamed r) → (HasRandom w.kept.reserved (value_of r) → ⊥) → w.opened ≡ true
+free_searching w r h free =
+    let visiting : Knows w.way w.kept w.number w.search w.opened Visiting = subst (Knows w.way w.kept w.number w.search w.opened) h.arrived.0 h.knows in
+    go w.opened (λ e. subst (λ q. HasRandom w.kept.reserved (value_of q)) (sym h.arrived.1) (visiting.1 e)) where
+      go : (o : Bool) → (o ≡ false → HasRandom w.kept.reserved (value_of r)) → o ≡ true
+      go true early = refl
+      go false early = absurd (free (early refl))
+
+-- The next free address is reserved; there is none where nothing is given.
+free_within : (y : Way) (k : Kept) (heard : Shorts) (a : ℕ) → IsFirstFree y k heard (Some a) → InBlock k.block a × (HasAddress k.reserved a → ⊥)
+free_within Fresh k heard a is = (is.within, is.free)
+free_within Surveying k heard a is = let x = least_open_is k heard a (sym is) in (x.0, open_unreserved k heard a x.1)
+free_within Drawing k heard a is = let x = least_open_is k heard a (sym is) in (x.0, open_unreserved k heard a x.1)
+
+none_reserved_for : (k : Kept) (r : ℕ) → IsMap k.reserved → (HasRandom k.reserved r → ⊥) → None ≡ address_for k.reserved r
+none_reserved_for k r map free = address_is k.reserved r None map.random_once free
+
+pub unfree_left : (y : Way) (w : Parts) (r : SearchAddress) → IsMap w.kept.reserved → (HasRandom w.kept.reserved (value_of r) → ⊥)
+    → IsFirstFree y w.kept w.heard None → IsUngiven y w r
+unfree_left Fresh w r map free is = (free, is)
+unfree_left Surveying w r map free is =
+    ap (λ o. is_left_by (machine_of w) (value_of r) o (least_open w.kept w.heard)) (sym (none_reserved_for w.kept (value_of r) map free))
+    ∙ ap (λ o. not (is_some o)) (sym is)
+unfree_left Drawing w r map free is =
+    ap (λ o. is_left_by (machine_of w) (value_of r) o (least_open w.kept w.heard)) (sym (none_reserved_for w.kept (value_of r) map free))
+    ∙ ap (λ o. not (is_some o)) (sym is)
+
+reserved_surveyed : (w : Parts) (r : SearchAddress) (a m : ℕ) → IsMap w.kept.reserved → (HasRandom w.kept.reserved (value_of r) → ⊥)
+    → Some a ≡ least_open w.kept w.heard → m ≡ value_of r → AfterMaskSurveyed (machine_of w) r (Commit (Reserve a m))
+reserved_surveyed w r a m map free is same =
+    subst (λ x. AfterMaskBy (machine_of w) r x (least_open w.kept w.heard) (Commit (Reserve a m))) (none_reserved_for w.kept (value_of r) map free)
+    (subst (λ x. AfterMaskBy (machine_of w) r None x (Commit (Reserve a m))) is (ap (λ n. Commit (Reserve a n)) same))
+
+reserved_masked : (y : Way) (w : Parts) (c : Course) (r : SearchAddress) (a m : ℕ) → IsMap w.kept.reserved → (HasRandom w.kept.reserved (value_of r) → ⊥)
+    → IsFirstFree y w.kept w.heard (Some a) → m ≡ value_of r → AfterMaskOn y (machine_of w) c r (Commit (Reserve a m))
+reserved_masked Fresh w c r a m map free is same = (sym same, subst (λ n. HasRandom w.kept.reserved n → ⊥) (sym same) free, is)
+reserved_masked Surveying w c r a m map free is same = reserved_surveyed w r a m map free is same
+reserved_masked Drawing w c r a m map free is same = reserved_surveyed w r a m map free is same
+
+-- what may be reserved for gear that answered MASK
+pub record IsReservable (w : Parts) (a m : ℕ) : Type 0 where
+  pub fits : Fits w.kept.block (Reserve a m)
+  pub may : MayAdd w.kept (Reserve a m)
+
+pub reservable : (w : Parts) (r : SearchAddress) (a m : ℕ) → IsHeard w (Unnamed r) → (HasRandom w.kept.reserved (value_of r) → ⊥)
+    → IsFirstFree w.way w.kept w.heard (Some a) → m ≡ value_of r → IsReservable w a m
+reservable w r a m h free is same =
+    let visiting : Knows w.way w.kept w.number w.search w.opened Visiting = subst (Knows w.way w.kept w.number w.search w.opened) h.arrived.0 h.knows in
+    let x = free_within w.way w.kept w.heard a is in
+    let drawn : value_of r < MASK24 = subst (λ q. value_of q < MASK24) (sym h.arrived.1) visiting.0 in
+    record {
+      fits = (x.0, subst (λ n. n < MASK24) (sym same) drawn);
+      may = (x.1, subst (λ n. HasRandom w.kept.reserved n → ⊥) (sym same) free);
+    }
+
+reserves_at : (w : Parts) (c : Course) (r : SearchAddress) (a m : ℕ) → IsMap w.kept.reserved → IsHeard w (Unnamed r)
+    → (HasRandom w.kept.reserved (value_of r) → ⊥) → IsFirstFree w.way w.kept w.heard (Some a) → m ≡ value_of r
+    → IsOrderedTo (machine_of w) c (Commit (Reserve a m))
+reserves_at w c r a m map h free is same =
+    let tries : w.tries < 8 = h.tries in
+    let going : closing_of w.purpose ≡ None = ap closing_of h.arrived.0 in
+    let calm : w.silent < 16 = calm_less w.purpose w.silent going h.calm in
+    let may = reservable w r a m h free is same in
+    let stage : stage_of w.trace ≡ Unnamed r = h.stage in
+    record {
+      allowed = record { fits = may.fits; may = may.may; warranted = (r, h.stage, sym same) };
+      addressing = tt;
+      caused = going;
+      given_up = λ e. absurd (omega arith);
+      silent = λ e. absurd (omega arith);
+      unnamed = λ q e. subst (λ x. AfterMaskOn w.way (machine_of w) c x (Commit (Reserve a m))) (same_unnamed r q (sym stage ∙ e))
+          (reserved_masked w.way w c r a m map free is same);
+      found = λ q b e. absurd (cc);
+    }
+
+pub reserves : (w : Parts) (r : SearchAddress) (a m : ℕ) (o : Order) (new : Machine) → IsMap w.kept.reserved → IsHeard w (Unnamed r)
+    → (HasRandom w.kept.reserved (value_of r) → ⊥) → IsFirstFree w.way w.kept w.heard (Some a) → m ≡ value_of r
+    → o ≡ Commit (Reserve a m) → new ≡ machine_ordered (machine_of w) o → IsNext (machine_of w) o new
+reserves w r a m o new map h free is same order state = record {
+  order = subst (IsOrderedTo (machine_of w) new.course) (sym order) (reserves_at w new.course r a m map h free is same);
+  state = but_course new (machine_ordered (machine_of w) o) state;
+}
+
+-- gear that is left
+left_closes : (y : Way) (w : Parts) (r : SearchAddress) → w.way ≡ y → stage_of w.trace ≡ Unnamed r → draws (machine_of w) ≡ false → IsUngiven y w r
+    → IsLeft (machine_of w) y (value_of r) × IsNextTo y w (Closing BlockFull) w.number
+left_closes y w r way stage undrawn ungiven = go y ungiven where
+  next : Put FIRST (frame_of (first_of (Closing BlockFull) w.number)) ≡ beginning (next_course (machine_of w))
+  next = sym (ap beginning (ap (begins_at (machine_of w)) stage ∙ ap (λ b. draw_or_close b (parts_course w) BlockFull) undrawn))
+
+  go : (y : Way) → IsUngiven y w r → IsLeft (machine_of w) y (value_of r) × IsNextTo y w (Closing BlockFull) w.number
+  go Fresh ungiven = (ungiven, refl)
+  go Surveying ungiven = ((ungiven, undrawn), next)
+  go Drawing ungiven = ((ungiven, undrawn), next)
+
+pub leaves : (w : Parts) (r : SearchAddress) → IsHeard w (Unnamed r) → w.opened ≡ true → IsUngiven w.way w r → draws (machine_of w) ≡ false
+    → Closes w BlockFull
+leaves w r h opened ungiven undrawn =
+    let going : closing_of w.purpose ≡ None = ap closing_of h.arrived.0 in
+    let calm : w.silent < 16 = calm_less w.purpose w.silent going h.calm in
+    let left = left_closes w.way w r refl h.stage undrawn ungiven in
+    record {
+      tries = h.tries;
+      calm = (omega arith, λ e. absurd (omega arith));
+      opened = opened;
+      going = going;
+      cause = (r, h.stage, left.0);
+      unnamed = λ q e. (subst (IsUngiven w.way w) (same_unnamed r q (sym h.stage ∙ e)) ungiven, left.1);
+      found = λ q b e. let other : Unnamed r ≡ Withdrawn q b = sym h.stage ∙ e in cc;
+    }
+
+-- a command that the transaction's turn names follows no MASK
+pub turns_masked : (w : Parts) (c : Command) → turn_of w.purpose w.number (stage_of w.trace) ≡ Some c → IsMasked w (Put LATER (frame_of c))
+turns_masked w c turn q stage = absurd (none w.purpose (subst (λ s. turn_of w.purpose w.number s ≡ Some c) stage turn)) where
+  none : (p : Purpose) → turn_of p w.number (Unnamed q) ≡ Some c → ⊥
+  none Opening e = cc
+  none Probing e = cc
+  none Visiting e = cc
+  none (Resolving a) e = cc
+  none (Closing x) e = cc
+  none (Asking a) e = cc
+  none Waking e = cc
+
 -- TO SETTLE
 same_address : (r q : SearchAddress) (b d : ℕ) → Withdrawn r b ≡ Withdrawn q d → b ≡ d
 same_address r q b d e = cc
@@ -538,17 +830,27 @@ same_number : (r q : SearchAddress) (b d : ℕ) → Withdrawn r b ≡ Withdrawn 
 same_number r q b d e = cc
 
 -- what was withdrawn, or has told its random address, may be enrolled
+may_queried : (y : Way) (reserved : List Assignment) (b r : ℕ) → MayEnrolOn y reserved (Queried b r) (b, r)
+may_queried Fresh reserved b r = refl
+may_queried Surveying reserved b r = refl
+may_queried Drawing reserved b r = refl
+
+may_resolved : (y : Way) (reserved : List Assignment) (b n : ℕ) → Has reserved (b, n) → MayEnrolOn y reserved (Resolved b n) (b, n)
+may_resolved Fresh reserved b n has = (refl, has)
+may_resolved Surveying reserved b n has = refl
+may_resolved Drawing reserved b n has = refl
+
 pub settles_withdrawn : (w : Parts) (r : SearchAddress) (b n : ℕ) → IsHeard w (Withdrawn r b) → n ≡ value_of r → Settles w b n
 settles_withdrawn w r b n h is =
     let stage : stage_of w.trace ≡ Withdrawn r b = h.stage in
-    let visiting : Knows w.kept w.number w.search w.opened Visiting = subst (Knows w.kept w.number w.search w.opened) h.arrived.0 h.knows in
+    let visiting : Knows w.way w.kept w.number w.search w.opened Visiting = subst (Knows w.way w.kept w.number w.search w.opened) h.arrived.0 h.knows in
     subst (Settles w b) (sym is) (record {
       ready = record { tries = h.tries; calm = h.calm; knows = h.knows };
       going = ap closing_of h.arrived.0;
       drawn = subst (λ x. value_of x < MASK24) (sym h.arrived.1) visiting.0;
       found = Queried b (value_of r);
       is = refl;
-      may = refl;
+      may = may_queried w.way w.kept.reserved b (value_of r);
       finding = h.finding;
       trace_finding = h.trace_finding;
       next = ap (begins_at (machine_of w)) stage;
@@ -557,18 +859,42 @@ settles_withdrawn w r b n h is =
           sym stage ∙ e in (same_address q r c b (sym there), ap value_of (same_number q r c b (sym there)));
     })
 
-pub settles_resolved : (w : Parts) (b n m : ℕ) → IsHeard w (Spelled b (Some n)) → m ≡ value_of w.number → n ≡ m → Settles w b n
-settles_resolved w b n m h number is =
-    let stage : stage_of w.trace ≡ Spelled b (Some n) = h.stage in
-    let same : n ≡ value_of w.number = is ∙ number in
-    let resolving : Knows w.kept w.number w.search w.opened (Resolving b) = subst (Knows w.kept w.number w.search w.opened) h.arrived h.knows in
+-- what the queries of a random address told, of a reservation or in a survey
+record IsTold (w : Parts) (b n : ℕ) : Type 0 where
+  pub going : closing_of w.purpose ≡ None
+  pub drawn : n < MASK24
+  pub may : MayEnrolOn w.way w.kept.reserved (Resolved b n) (b, n)
+
+told_by : (w : Parts) (b n : ℕ) → IsReady (machine_of w) → (w.purpose ≡ Resolving b) ⊎ (w.purpose ≡ Asking b) → IsSought w.purpose w.number n
+    → IsTold w b n
+told_by w b n ready (inl is) sought =
+    let resolving : Knows w.way w.kept w.number w.search w.opened (Resolving b) = subst (Knows w.way w.kept w.number w.search w.opened) is ready.knows in
+    let same : n ≡ value_of w.number = subst (λ p. IsSought p w.number n) is sought in
     record {
-      ready = record { tries = h.tries; calm = h.calm; knows = h.knows };
-      going = ap closing_of h.arrived;
+      going = ap closing_of is;
       drawn = subst (λ x. x < MASK24) (sym same) resolving.1;
+      may = may_resolved w.way w.kept.reserved b n (subst (λ x. Has w.kept.reserved (b, x)) (sym same) resolving.3);
+    }
+told_by w b n ready (inr is) sought =
+    let asking : Knows w.way w.kept w.number w.search w.opened (Asking b) = subst (Knows w.way w.kept w.number w.search w.opened) is ready.knows in
+    record {
+      going = ap closing_of is;
+      drawn = subst (λ p. IsSought p w.number n) is sought;
+      may = rw asking.1 refl;
+    }
+
+pub settles_resolved : (w : Parts) (b n : ℕ) → IsHeard w (Spelled b (Some n)) → IsSought w.purpose w.number n → Settles w b n
+settles_resolved w b n h sought =
+    let stage : stage_of w.trace ≡ Spelled b (Some n) = h.stage in
+    let ready : IsReady (machine_of w) = record { tries = h.tries; calm = h.calm; knows = h.knows } in
+    let told = told_by w b n ready h.arrived sought in
+    record {
+      ready = ready;
+      going = told.going;
+      drawn = told.drawn;
       found = Resolved b n;
       is = refl;
-      may = (refl, subst (λ x. Has w.kept.reserved (b, x)) (sym same) resolving.3);
+      may = told.may;
       finding = h.finding;
       trace_finding = h.trace_finding;
       next = ap (begins_at (machine_of w)) stage;
@@ -656,13 +982,15 @@ reserved_kept w new x a n m reserves is same =
     rw (is, reserves, same) there
 
 -- before the start
-pub whole_at_first : (w : Parts) → w.trace ≡ [] → w.last ≡ None → w.tries ≡ 0 → w.silent ≡ 0 → w.opened ≡ false → w.purpose ≡ Opening → IsWhole (machine_of w)
-whole_at_first w trace last tries silent opened opening = rw last (record {
+pub whole_at_first : (w : Parts) → w.trace ≡ [] → w.last ≡ None → w.tries ≡ 0 → w.silent ≡ 0 → w.opened ≡ false → w.purpose ≡ Opening → w.way ≡ Fresh
+    → IsWhole (machine_of w)
+whole_at_first w trace last tries silent opened opening fresh = rw last (record {
   ready = record {
     tries = rw tries (lit< tt);
     calm = rw (opening, silent) (lit< tt);
-    knows = rw (opening, opened) refl;
+    knows = rw (opening, opened, fresh) refl;
   };
   free = free_of w.trace trace;
   opening = opening;
+  fresh = fresh;
 })

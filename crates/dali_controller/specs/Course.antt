@@ -1,5 +1,5 @@
-use Rattle.std.specs.Prelude.{ℕ, zero, suc, ◌+◌, ◌-◌, ◌==◌, Bool, true, false, List, [], ◌∷◌}
-use Rattle.std.specs.Prelude.{Option, Some, None, is_some, if◌then◌else◌}
+use Rattle.std.specs.Prelude.{ℕ, zero, suc, ◌+◌, ◌-◌, ◌==◌, Bool, true, false, not, ◌&&◌, ◌||◌}
+use Rattle.std.specs.Prelude.{List, [], ◌∷◌, Option, Some, None, is_some, if◌then◌else◌}
 use Rattle.dali_frame.specs.declared.frames.Answer.{Answer}
 use Rattle.dali_frame.specs.declared.frames.Answer.TheVariants.{Silence}
 use Rattle.dali_frame.specs.declared.numbers.SearchAddress.{SearchAddress}
@@ -27,14 +27,21 @@ use Rattle.dali_script.specs.declared.orders.End.TheVariants.{AllFound}
 use Rattle.dali_controller.specs.declared.purpose.Purpose.{Purpose}
 use Rattle.dali_controller.specs.declared.purpose.Purpose.TheVariants.{Opening, Probing, Visiting}
 use Rattle.dali_controller.specs.declared.purpose.Purpose.TheVariants.{Resolving, Closing}
+use Rattle.dali_controller.specs.declared.purpose.Purpose.TheVariants.{Asking, Waking}
+use Rattle.dali_controller.specs.declared.shorts.Shorts.{Shorts}
+use Rattle.dali_controller.specs.declared.way.Way.{Way}
+use Rattle.dali_controller.specs.declared.way.Way.TheVariants.{Fresh, Surveying, Drawing}
+use Rattle.dali_controller.specs.Shorts.{has_short}
 
 -- THE COURSE of a machine: what its running transaction is for, and under which search address; its
--- search; and in the visits before the opening the first short address that was not looked at.
+-- search; in the visits before the opening, or while short addresses are asked, the first one that
+-- was not looked at; and how it began.
 pub record Course : Type 0 where
   pub purpose : Purpose
   pub number : SearchAddress
   pub search : Search
   pub from : ℕ
+  pub way : Way
 
 -- the end with which a close was begun
 abbrev pub closing_of : Purpose → Option End
@@ -52,6 +59,7 @@ course_at_first = record {
   number = sought 0xFFFFFF;
   search = at_first;
   from = 0;
+  way = Fresh;
 }
 
 -- the first command of a transaction
@@ -59,6 +67,8 @@ abbrev pub first_of : Purpose → SearchAddress → Command
 first_of Opening n = Terminate
 first_of (Closing e) n = Terminate
 first_of (Resolving a) n = RandomByte a High
+first_of (Asking a) n = RandomByte a High
+first_of Waking n = Terminate
 first_of _ n = SearchHigh n.high
 
 -- THE TURN: which command a transaction sends at a stage past the first, except PROGRAM SHORT
@@ -82,6 +92,10 @@ turn_of Visiting n (Confirmed r a) = Some Withdraw
 turn_of Visiting n s = search_turn n s
 turn_of (Resolving a) n (HighAsked b high) = Some (RandomByte b Middle)
 turn_of (Resolving a) n (MiddleAsked b bytes) = Some (RandomByte b Low)
+turn_of (Asking a) n (HighAsked b (Some high)) = Some (RandomByte b Middle)
+turn_of (Asking a) n (MiddleAsked b (Some bytes)) = Some (RandomByte b Low)
+turn_of Waking n Terminated = Some (Initialise Unaddressed)
+turn_of Waking n InitialisedOnce = Some (Initialise Unaddressed)
 turn_of _ n _ = None
 
 -- ---------------------------------------------------------------- the transactions that begin
@@ -107,6 +121,18 @@ resolving c a n = taking c (Resolving a) n
 
 abbrev pub closing : Course → End → Course
 closing c e = taking c (Closing e) c.number
+
+-- a short address is asked for its random address
+abbrev pub asking : Course → ℕ → Course
+asking c a = taking (record c { from = a + 1 }) (Asking a) c.number
+
+-- gear without short address are initialised, and keep their random addresses
+abbrev pub waking : Course → Course
+waking c = taking c Waking c.number
+
+-- they draw new ones
+abbrev pub drawing : Course → Course
+drawing c = opening (record c { way = Drawing })
 
 -- ---------------------------------------------------------------- a search that is answered
 
@@ -159,12 +185,64 @@ unfinished_among k (suc n) a =
 abbrev pub next_unfinished : Kept → ℕ → Option (ℕ × ℕ)
 next_unfinished k from = unfinished_among k (64 - from) from
 
--- TO GO ON: before an opening was complete a visit to the next unfinished reservation, or the
--- opening where there is none; afterwards a new search.
+-- ---------------------------------------------------------------- what a survey asks
+
+-- a short address is asked where the table does not name it, and where it is reserved
+abbrev pub is_asked : Kept → ℕ → Bool
+is_asked k a = not (is_some (number_at k.enrolled a)) || is_some (number_at k.reserved a)
+
+-- among so many short addresses from one on the least that is asked
+abbrev pub asked_among : Kept → ℕ → ℕ → Option ℕ
+asked_among k zero a = None
+asked_among k (suc n) a = if is_asked k a then Some a else asked_among k n (a + 1)
+
+abbrev pub next_asked : Kept → ℕ → Option ℕ
+next_asked k from = asked_among k (64 - from) from
+
+-- ---------------------------------------------------------------- what a survey gives
+
+-- A short address is open where it is neither reserved nor enrolled, and no other gear was heard
+-- under it.
+abbrev pub is_open : Kept → Shorts → ℕ → Bool
+is_open k heard a =
+    not (is_some (number_at k.reserved a)) && not (is_some (number_at k.enrolled a))
+    && not (has_short heard a)
+
+-- the least of the block that is open
+abbrev pub open_among : Kept → Shorts → ℕ → ℕ → Option ℕ
+open_among k heard zero a = None
+open_among k heard (suc n) a = if is_open k heard a then Some a else open_among k heard n (a + 1)
+
+abbrev pub least_open : Kept → Shorts → Option ℕ
+least_open k heard = open_among k heard (k.block.last + 1 - k.block.first) k.block.first
+
+-- What is reserved for a number is another's where some other gear was heard under it: one that
+-- told no number, or one that is enrolled.
+abbrev pub is_another : ℕ → Option ℕ → Bool
+is_another r None = false
+is_another r (Some n) = not (n == r)
+
+abbrev pub is_anothers : Kept → Shorts → ℕ → ℕ → Bool
+is_anothers k heard a r = has_short heard a || is_another r (number_at k.enrolled a)
+
+-- ---------------------------------------------------------------- to go on
+
+-- Before an opening was complete a visit to the next unfinished reservation, or the opening where
+-- there is none; in a survey the next short address is asked, and where there is none gear are
+-- woken. Afterwards a new search.
 abbrev pub visit_or_opening : Course → Option (ℕ × ℕ) → Course
 visit_or_opening c None = opening c
 visit_or_opening c (Some next) = visiting (record c { from = next.0 }) next.1
 
+abbrev pub ask_or_wake : Course → Option ℕ → Course
+ask_or_wake c None = waking c
+ask_or_wake c (Some a) = asking c a
+
+abbrev pub going_on_early : Kept → Way → Course → Course
+going_on_early k Fresh c = visit_or_opening c (next_unfinished k c.from)
+going_on_early k Surveying c = ask_or_wake c (next_asked k c.from)
+going_on_early k Drawing c = opening c
+
 abbrev pub going_on : Kept → Bool → Course → Course
 going_on k true c = searching_anew c
-going_on k false c = visit_or_opening c (next_unfinished k c.from)
+going_on k false c = going_on_early k c.way c

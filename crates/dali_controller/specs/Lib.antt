@@ -1,4 +1,5 @@
 pub mod Refusals
+pub mod Shorts
 pub mod Course
 pub mod Machine
 pub mod Next

@@ -1,13 +1,17 @@
-use Rattle.std.specs.Prelude.{ℕ, ◌+◌, Bool, true, false, not, ◌||◌, List, [], ◌∷◌, ◌++◌, Option}
-use Rattle.std.specs.Prelude.{Some, None, is_some}
+use Rattle.std.specs.Prelude.{ℕ, ◌+◌, ◌==◌, nat_lt, Bool, true, false, not, ◌||◌, ◌&&◌}
+use Rattle.std.specs.Prelude.{List, [], ◌∷◌, ◌++◌, Option, Some, None, is_some, if◌then◌else◌}
 use Rattle.dali_frame.specs.declared.frames.Forward.{Forward}
 use Rattle.dali_frame.specs.declared.frames.Answer.{Answer}
+use Rattle.dali_frame.specs.declared.frames.Answer.TheVariants.{Silence}
+use Rattle.dali_frame.specs.declared.numbers.SearchAddress.{SearchAddress}
+use Rattle.dali_frame.specs.Random.{MASK24}
 use Rattle.dali_script.specs.declared.finding.Finding.{Finding}
 use Rattle.dali_script.specs.declared.records.Record.{Record}
 use Rattle.dali_script.specs.declared.trace.Entry.{Entry}
 use Rattle.dali_script.specs.declared.stage.Stage.{Stage}
 use Rattle.dali_script.specs.declared.stage.Stage.TheVariants.{Opened, Unanswered, Inconclusive}
-use Rattle.dali_script.specs.declared.stage.Stage.TheVariants.{Withdrawn}
+use Rattle.dali_script.specs.declared.stage.Stage.TheVariants.{Withdrawn, Initialised}
+use Rattle.dali_script.specs.declared.stage.Stage.TheVariants.{HighAsked, MiddleAsked, Spelled}
 use Rattle.dali_script.specs.Records.{Kept, with_record}
 use Rattle.dali_script.specs.Findings.{later, finding_of}
 use Rattle.dali_script.specs.Stages.{stage_of, may_follow}
@@ -16,11 +20,18 @@ use Rattle.dali_script.specs.declared.orders.Input.TheVariants as input
 use Rattle.dali_script.specs.declared.orders.Order.{Order}
 use Rattle.dali_script.specs.declared.orders.End.{End}
 use Rattle.dali_script.specs.Due.{frame_put, record_ordered}
-use Rattle.dali_controller.specs.Course.{Course, course_at_first, closing_of}
+use Rattle.dali_controller.specs.declared.purpose.Purpose.{Purpose}
+use Rattle.dali_controller.specs.declared.purpose.Purpose.TheVariants.{Asking, Waking}
+use Rattle.dali_controller.specs.declared.shorts.Shorts.{Shorts}
+use Rattle.dali_controller.specs.declared.way.Way.TheVariants.{Surveying}
+use Rattle.dali_controller.specs.Shorts.{with_short}
+use Rattle.dali_controller.specs.Course.{Course, course_at_first, closing_of, turn_of}
 
 -- What contracts see of a machine: its number; what it keeps; the running transaction; its last
 -- finding; its last order; how often the transaction was lost; how many searches in a row led to no
--- gear; whether an opening was complete since the start; and the course that it takes.
+-- gear; whether an opening was complete since the start, or in a survey gear were woken; the course
+-- that it takes; under which short addresses a survey heard what was no random address; and how
+-- often in a row it heard silence under the one that it asks.
 pub record Machine : Type 0 where
   pub id : ℕ
   pub kept : Kept
@@ -31,6 +42,8 @@ pub record Machine : Type 0 where
   pub silent : ℕ
   pub opened : Bool
   pub course : Course
+  pub heard : Shorts
+  pub asked : ℕ
 
 -- before the start
 abbrev pub at_first : ℕ → Kept → Machine
@@ -44,6 +57,8 @@ at_first id k = record {
   silent = 0;
   opened = false;
   course = course_at_first;
+  heard = record { bits = 0 };
+  asked = 0;
 }
 
 -- WHAT AN INPUT TELLS.
@@ -51,6 +66,15 @@ at_first id k = record {
 -- a transaction is complete where no frame may follow; a close is its one frame
 abbrev pub is_complete : Kept → Option End → Stage → Bool
 is_complete k closing s = is_some closing || not (may_follow k.block k.reserved s)
+
+-- and in a survey a transaction may end before, where nothing more is to be heard
+abbrev pub is_front : Purpose → Bool
+is_front (Asking a) = true
+is_front Waking = true
+is_front _ = false
+
+abbrev pub is_ended : Purpose → SearchAddress → Stage → Bool
+is_ended p n s = is_front p && not (is_some (turn_of p n s))
 
 -- the tries of one transaction
 abbrev pub tries_after : Bool → ℕ → ℕ
@@ -70,23 +94,64 @@ abbrev pub opened_after : Stage → Bool → Bool
 opened_after Opened opened = true
 opened_after _ opened = opened
 
--- the transaction has these frames now
-abbrev pub machine_heard_to : Machine → List Entry → Machine
-machine_heard_to m t = record {
+-- once gear were woken they are searched, as after an opening
+abbrev pub woken_after : Stage → Purpose → Bool → Bool
+woken_after Initialised Waking opened = true
+woken_after _ p opened = opened
+
+-- A short address that is asked is some gear's, and whose it is was not told: a query was heard
+-- damaged, a later one was not heard, or the number is one that no gear draws.
+abbrev pub unknown_at : Stage → Answer → Option ℕ
+unknown_at (HighAsked a None) Silence = None
+unknown_at (HighAsked a None) h = Some a
+unknown_at (MiddleAsked a None) h = Some a
+unknown_at (Spelled a None) h = Some a
+unknown_at (Spelled a (Some n)) h = if n == MASK24 then Some a else None
+unknown_at _ h = None
+
+abbrev pub with_unknown : Shorts → Option ℕ → Shorts
+with_unknown heard None = heard
+with_unknown heard (Some a) = with_short heard a
+
+abbrev pub heard_after : Purpose → Stage → Answer → Shorts → Shorts
+heard_after (Asking a) s h heard = with_unknown heard (unknown_at s h)
+heard_after _ s h heard = heard
+
+-- silence is asked again, three times in all
+abbrev pub asked_after_silence : ℕ → ℕ
+asked_after_silence n = if nat_lt n 2 then n + 1 else 0
+
+abbrev pub asked_at : Stage → Answer → ℕ → ℕ
+asked_at (HighAsked a None) Silence n = asked_after_silence n
+asked_at _ h n = 0
+
+abbrev pub asked_after : Purpose → Stage → Answer → ℕ → ℕ
+asked_after (Asking a) s h n = asked_at s h n
+asked_after _ s h n = n
+
+-- the transaction has these frames now, and this was heard after the last
+abbrev pub machine_heard_to : Machine → List Entry → Answer → Machine
+machine_heard_to m t h = record {
   id = m.id;
   kept = m.kept;
   trace = t;
   finding = later m.finding (finding_of t);
   last = m.last;
-  tries = tries_after (is_complete m.kept (closing_of m.course.purpose) (stage_of t)) m.tries;
+  tries =
+      tries_after (is_complete m.kept (closing_of m.course.purpose) (stage_of t)
+      || is_ended m.course.purpose m.course.number (stage_of t)) m.tries;
   silent = silent_after (stage_of t) m.opened m.silent;
-  opened = opened_after (stage_of t) m.opened;
+  opened =
+      woken_after (stage_of t) m.course.purpose (opened_after (stage_of t) m.opened);
   course = m.course;
+  heard = heard_after m.course.purpose (stage_of t) h m.heard;
+  asked = asked_after m.course.purpose (stage_of t) h m.asked;
 }
 
 -- the outstanding frame was sent, and this was heard
 abbrev pub machine_heard : Machine → Option Forward → Answer → Machine
-machine_heard m (Some f) h = machine_heard_to m (m.trace ++ (record { frame = f; heard = h }) ∷ [])
+machine_heard m (Some f) h =
+    machine_heard_to m (m.trace ++ (record { frame = f; heard = h }) ∷ []) h
 machine_heard m None h = m
 
 -- the outstanding frame was not sent, or was destroyed: the transaction is over
@@ -98,8 +163,13 @@ abbrev pub machine_committed : Machine → Option Record → Machine
 machine_committed m (Some x) = record m { kept = with_record m.kept x }
 machine_committed m None = m
 
+-- a survey begins
+abbrev pub machine_surveying : Machine → Machine
+machine_surveying m = record m { course = record m.course { way = Surveying } }
+
 abbrev pub machine_told : Machine → Input → Machine
 machine_told m input.Start = m
+machine_told m input.Survey = machine_surveying m
 machine_told m (input.Heard h) = machine_heard m (frame_put m.last) h
 machine_told m input.Destroyed = machine_lost m
 machine_told m input.Lapsed = machine_lost m

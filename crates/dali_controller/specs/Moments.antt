@@ -1,35 +1,43 @@
-use Rattle.std.specs.Prelude.{◌≡◌, ℕ, ◌<◌, ◌≤◌, ◌⊎◌, Bool, true, Option, Some, None}
+use Rattle.std.specs.Prelude.{◌≡◌, ℕ, ◌<◌, ◌≤◌, ◌⊎◌, Bool, true, Option, Some, None, MatchOption}
 use Rattle.dali_frame.specs.declared.numbers.SearchAddress.{SearchAddress}
 use Rattle.dali_frame.specs.Random.{value_of, MASK24}
+use Rattle.dali_frame.specs.Priority.{FIRST}
 use Rattle.dali_special.specs.declared.command.Command.{Command}
+use Rattle.dali_special.specs.Command.{frame_of}
 use Rattle.dali_script.specs.declared.finding.Finding.{Finding}
 use Rattle.dali_script.specs.declared.finding.Finding.TheVariants.{Queried, Resolved}
 use Rattle.dali_script.specs.declared.records.Record.TheVariants.{Enrol}
 use Rattle.dali_script.specs.declared.stage.Stage.{Stage}
 use Rattle.dali_script.specs.declared.stage.Stage.TheVariants.{Free, Terminated}
-use Rattle.dali_script.specs.declared.stage.Stage.TheVariants.{Opened}
+use Rattle.dali_script.specs.declared.stage.Stage.TheVariants.{Initialised, Opened}
+use Rattle.dali_script.specs.declared.stage.Stage.TheVariants.{HighAsked, MiddleAsked}
 use Rattle.dali_script.specs.declared.stage.Stage.TheVariants.{Probed, Unnamed, Unanswered}
 use Rattle.dali_script.specs.declared.stage.Stage.TheVariants.{Inconclusive}
 use Rattle.dali_script.specs.declared.stage.Stage.TheVariants.{Withdrawn}
 use Rattle.dali_script.specs.declared.stage.Stage.TheVariants.{Spelled}
-use Rattle.dali_script.specs.Records.{Kept, Has, HasRandom, IsFull}
-use Rattle.dali_script.specs.Findings.{assigned, MayEnrol, finding_of}
+use Rattle.dali_script.specs.Records.{Kept, Has, HasRandom, IsFull, IsLeastFree}
+use Rattle.dali_script.specs.Findings.{assigned, finding_of}
 use Rattle.dali_script.specs.Stages.{stage_of}
 use Rattle.dali_search.specs.Least.{Search}
 use Rattle.dali_script.specs.declared.orders.Input.{Input}
 use Rattle.dali_script.specs.declared.orders.Order.{Order}
-use Rattle.dali_script.specs.declared.orders.Order.TheVariants.{Commit}
+use Rattle.dali_script.specs.declared.orders.Order.TheVariants.{Put, Commit}
 use Rattle.dali_script.specs.declared.orders.End.{End}
 use Rattle.dali_script.specs.declared.orders.End.TheVariants.{BlockFull}
 use Rattle.dali_controller.specs.declared.purpose.Purpose.{Purpose}
 use Rattle.dali_controller.specs.declared.purpose.Purpose.TheVariants.{Opening, Probing, Visiting}
 use Rattle.dali_controller.specs.declared.purpose.Purpose.TheVariants.{Resolving, Closing}
+use Rattle.dali_controller.specs.declared.purpose.Purpose.TheVariants.{Asking, Waking}
+use Rattle.dali_controller.specs.declared.way.Way.{Way}
+use Rattle.dali_controller.specs.declared.way.Way.TheVariants.{Fresh, Surveying, Drawing}
 use Rattle.dali_controller.specs.Parts.{Parts}
-use Rattle.dali_controller.specs.Course.{Course, closing_of}
+use Rattle.dali_controller.specs.Course.{Course, closing_of, first_of, least_open}
 use Rattle.dali_controller.specs.Machine.{Machine}
 use Rattle.dali_controller.specs.Parts.{parts_course, machine_of}
-use Rattle.dali_controller.specs.Next.{beginning, next_course, goes_on_to}
+use Rattle.dali_controller.specs.declared.shorts.Shorts.{Shorts}
+use Rattle.dali_controller.specs.Next.{beginning, next_course, goes_on_to, draws}
 use Rattle.dali_controller.specs.Orders.{Cause, IsOrderedTo, machine_ordered, IsAnswered}
+use Rattle.dali_controller.specs.Orders.{MayEnrolOn, is_left}
 use Rattle.dali_controller.specs.Orders.{machine_after}
 use Rattle.dali_controller.specs.Whole.{IsReady, IsWithinSilence, Knows, Sends}
 
@@ -39,20 +47,30 @@ use Rattle.dali_controller.specs.Whole.{IsReady, IsWithinSilence, Knows, Sends}
 -- to send
 abbrev pub Arrived : Kept → SearchAddress → Purpose → Stage → Type 0
 Arrived k n p Free = ⊥
-Arrived k n p Terminated = (p ≡ Opening) ⊎ ((e : End) × (p ≡ Closing e))
+Arrived k n p Terminated = (p ≡ Opening) ⊎ ((p ≡ Waking) ⊎ ((e : End) × (p ≡ Closing e)))
+Arrived k n p Initialised = (p ≡ Opening) ⊎ (p ≡ Waking)
 Arrived k n p Opened = p ≡ Opening
+Arrived k n p (HighAsked b None) =
+    ((p ≡ Resolving b) × (b < 64)) ⊎ (p ≡ Asking b)
+Arrived k n p (MiddleAsked b None) =
+    ((p ≡ Resolving b) × (b < 64)) ⊎ (p ≡ Asking b)
 Arrived k n p (Probed r h) = (p ≡ Probing) × (r ≡ n)
 Arrived k n p (Unnamed r) = (p ≡ Visiting) × (r ≡ n)
 Arrived k n p (Unanswered r) = (p ≡ Visiting) × (r ≡ n)
 Arrived k n p (Inconclusive r other) = (p ≡ Visiting) × (r ≡ n)
 Arrived k n p (Withdrawn r b) = (p ≡ Visiting) × (r ≡ n)
-Arrived k n p (Spelled b number) = p ≡ Resolving b
+Arrived k n p (Spelled b number) = (p ≡ Resolving b) ⊎ (p ≡ Asking b)
 Arrived k n p s = (c : Command) × Sends k n p s c
 
--- at the end of an opening it is complete
-abbrev pub KnowsAt : Stage → Kept → SearchAddress → Search → Bool → Purpose → Type 0
-KnowsAt Opened k n s opened p = opened ≡ true
-KnowsAt _ k n s opened p = Knows k n s opened p
+-- at the end of an opening it is complete, and once gear were woken they are searched
+abbrev pub KnowsWoken : Way → Kept → SearchAddress → Search → Bool → Purpose → Type 0
+KnowsWoken y k n s opened Waking = opened ≡ true
+KnowsWoken y k n s opened p = Knows y k n s opened p
+
+abbrev pub KnowsAt : Stage → Way → Kept → SearchAddress → Search → Bool → Purpose → Type 0
+KnowsAt Opened y k n s opened p = opened ≡ true
+KnowsAt Initialised y k n s opened p = KnowsWoken y k n s opened p
+KnowsAt _ y k n s opened p = Knows y k n s opened p
 
 -- a search that led to no gear may just have reached it
 abbrev pub CalmAt : Stage → Purpose → Bool → ℕ → Type 0
@@ -72,7 +90,7 @@ pub record IsHeard (w : Parts) (s : Stage) : Type 0 where
   pub tries : w.tries < 8
   pub arrived : Arrived w.kept w.number w.purpose s
   pub calm : CalmAt s w.purpose w.opened w.silent
-  pub knows : KnowsAt s w.kept w.number w.search w.opened w.purpose
+  pub knows : KnowsAt s w.way w.kept w.number w.search w.opened w.purpose
   pub finding : FoundAt s w.finding
   pub trace_finding : FoundAt s (finding_of w.trace)
 
@@ -95,15 +113,29 @@ abbrev pub Turns : Parts → Purpose → Type 0
 Turns w (Closing e) = IsTurn w e
 Turns w _ = closing_of w.purpose ≡ None
 
+-- what holds where nothing can be given to gear that answered MASK, and where a transaction begins
+-- then
+abbrev pub IsUngiven : Way → Parts → SearchAddress → Type 0
+IsUngiven Fresh w r =
+    (HasRandom w.kept.reserved (value_of r) → ⊥) × IsFull w.kept.block w.kept.reserved
+IsUngiven Surveying w r = is_left (machine_of w) (value_of r) ≡ true
+IsUngiven Drawing w r = is_left (machine_of w) (value_of r) ≡ true
+
+abbrev pub IsNextTo : Way → Parts → Purpose → SearchAddress → Type 0
+IsNextTo Fresh w p n = p ≡ Closing BlockFull
+IsNextTo Surveying w p n =
+    Put FIRST (frame_of (first_of p n)) ≡ beginning (next_course (machine_of w))
+IsNextTo Drawing w p n =
+    Put FIRST (frame_of (first_of p n)) ≡ beginning (next_course (machine_of w))
+
 -- what holds where a transaction begins
 pub record Begins (w : Parts) (p : Purpose) (n : SearchAddress) : Type 0 where
   pub tries : w.tries < 8
   pub calm : IsWithinSilence p w.silent
-  pub knows : Knows w.kept n w.search w.opened p
+  pub knows : Knows w.way w.kept n w.search w.opened p
   pub turns : Turns w p
   pub unnamed : (r : SearchAddress) → stage_of w.trace ≡ Unnamed r
-      → (HasRandom w.kept.reserved (value_of r) → ⊥) × IsFull w.kept.block w.kept.reserved
-      × (p ≡ Closing BlockFull)
+      → IsUngiven w.way w r × IsNextTo w.way w p n
   pub found : (r : SearchAddress) (b : ℕ) → stage_of w.trace ≡ Withdrawn r b
       → Has w.kept.enrolled (b, value_of r)
 
@@ -114,7 +146,7 @@ pub record Settles (w : Parts) (b n : ℕ) : Type 0 where
   pub drawn : n < MASK24
   pub found : Finding
   pub is : assigned found ≡ (b, n)
-  pub may : MayEnrol w.kept.reserved found (b, n)
+  pub may : MayEnrolOn w.way w.kept.reserved found (b, n)
   pub finding : w.finding ≡ Some found
   pub trace_finding : finding_of w.trace ≡ Some found
   pub next : next_course (machine_of w) ≡ goes_on_to (machine_of w)
@@ -137,8 +169,7 @@ pub record Closes (w : Parts) (e : End) : Type 0 where
   pub going : closing_of w.purpose ≡ None
   pub cause : Cause (machine_of w) e
   pub unnamed : (r : SearchAddress) → stage_of w.trace ≡ Unnamed r
-      → (HasRandom w.kept.reserved (value_of r) → ⊥) × IsFull w.kept.block w.kept.reserved
-      × (e ≡ BlockFull)
+      → IsUngiven w.way w r × IsNextTo w.way w (Closing e) w.number
   pub found : (r : SearchAddress) (b : ℕ) → stage_of w.trace ≡ Withdrawn r b → ⊥
 
 -- an order that a machine of which this is seen may give, and what is seen after it but its course
@@ -154,3 +185,20 @@ pub record Starts (c : Course) (o : Order) (new : Parts) : Type 0 where
 pub record IsStep (m : Machine) (i : Input) (o : Order) (new : Machine) : Type 0 where
   pub order : IsAnswered m i o
   pub state : new ≡ machine_after m i o
+
+-- what holds where gear are to draw new random addresses
+pub record Draws (w : Parts) : Type 0 where
+  pub tries : w.tries < 8
+  pub silent : w.silent < 16
+  pub surveying : w.way ≡ Surveying
+  pub going : closing_of w.purpose ≡ None
+  pub unnamed : (r : SearchAddress) → stage_of w.trace ≡ Unnamed r
+      → (is_left (machine_of w) (value_of r) ≡ true) × (draws (machine_of w) ≡ true)
+  pub found : (r : SearchAddress) (b : ℕ) → stage_of w.trace ≡ Withdrawn r b → ⊥
+
+-- the address that is reserved next, if there is one
+abbrev pub IsFirstFree : Way → Kept → Shorts → Option ℕ → Type 0
+IsFirstFree Fresh k heard o =
+    MatchOption o (IsFull k.block k.reserved) (IsLeastFree k.block k.reserved)
+IsFirstFree Surveying k heard o = o ≡ least_open k heard
+IsFirstFree Drawing k heard o = o ≡ least_open k heard

@@ -1,5 +1,7 @@
-use Rattle.std.specs.Prelude.{◌≡◌, ℕ, ◌==◌, Bool, false, Option, Some}
+use Rattle.std.specs.Prelude.{◌≡◌, ℕ, ◌==◌, Bool, true, false, not, ◌&&◌, Option, Some, None}
+use Rattle.std.specs.Prelude.{is_some}
 use Rattle.std.specs.Prelude.{if◌then◌else◌}
+use Rattle.dali_frame.specs.declared.frames.Answer.{Answer}
 use Rattle.dali_frame.specs.declared.numbers.SearchAddress.{SearchAddress}
 use Rattle.dali_frame.specs.Random.{value_of}
 use Rattle.dali_frame.specs.Priority.{FIRST}
@@ -8,12 +10,20 @@ use Rattle.dali_script.specs.declared.records.Record.TheVariants.{Reserve}
 use Rattle.dali_script.specs.declared.stage.Stage.{Stage}
 use Rattle.dali_script.specs.declared.stage.Stage.TheVariants.{Free, Opened, Probed, Unnamed}
 use Rattle.dali_script.specs.declared.stage.Stage.TheVariants.{Unanswered, Inconclusive}
+use Rattle.dali_script.specs.declared.stage.Stage.TheVariants.{Initialised, HighAsked}
 use Rattle.dali_script.specs.Stages.{stage_of}
 use Rattle.dali_script.specs.declared.orders.Order.{Order}
 use Rattle.dali_script.specs.declared.orders.Order.TheVariants.{Put, Commit}
-use Rattle.dali_script.specs.declared.orders.End.TheVariants.{BlockFull, GaveUp}
+use Rattle.dali_script.specs.declared.orders.End.{End}
+use Rattle.dali_script.specs.declared.orders.End.TheVariants.{AllFound, BlockFull, GaveUp}
+use Rattle.dali_search.specs.declared.step.Step.{Step}
+use Rattle.dali_search.specs.declared.step.Step.TheVariants.{Again, Found, Nobody}
+use Rattle.dali_search.specs.Least.{answered}
+use Rattle.dali_controller.specs.declared.way.Way.{Way}
+use Rattle.dali_controller.specs.declared.way.Way.TheVariants.{Fresh, Surveying, Drawing}
 use Rattle.dali_controller.specs.Course.{Course, first_of, searching_anew, visiting, resolving}
-use Rattle.dali_controller.specs.Course.{closing, probed, address_for, going_on}
+use Rattle.dali_controller.specs.Course.{closing, drawing, probed, address_for, going_on, is_yes}
+use Rattle.dali_controller.specs.Course.{after_step, least_open, is_anothers}
 use Rattle.dali_controller.specs.Machine.{Machine}
 
 -- THE TABLE OF MOMENTS, first half: which transaction begins next, if one does, in a machine that
@@ -32,6 +42,48 @@ abbrev pub unanswered : Machine → SearchAddress → Bool → Option ℕ → Co
 unanswered t r false (Some a) = resolving t.course a r
 unanswered t r _ _ = silenced t
 
+-- In a survey: whether an address is open; and whether what is reserved for a number is another's,
+-- where gear are searched.
+abbrev pub has_open : Machine → Bool
+has_open t = is_some (least_open t.kept t.heard)
+
+abbrev pub is_withheld_by : Machine → Way → ℕ → ℕ → Bool
+is_withheld_by t Fresh a r = false
+is_withheld_by t Surveying a r = t.opened && is_anothers t.kept t.heard a r
+is_withheld_by t Drawing a r = t.opened && is_anothers t.kept t.heard a r
+
+abbrev pub is_withheld : Machine → ℕ → ℕ → Bool
+is_withheld t a r = is_withheld_by t t.course.way a r
+
+-- In a survey gear draw new random addresses once no more can be given under the old ones, if an
+-- address is open; else the close follows.
+abbrev pub draws_by : Machine → Way → Bool
+draws_by t Fresh = false
+draws_by t Surveying = has_open t
+draws_by t Drawing = false
+
+abbrev pub draws : Machine → Bool
+draws t = draws_by t t.course.way
+
+abbrev pub draw_or_close : Bool → Course → End → Course
+draw_or_close true c e = drawing c
+draw_or_close false c e = closing c e
+
+-- COMPARE was answered: where nobody is left, the search is over
+abbrev pub probed_to : Machine → Step → Course → Course
+probed_to t Nobody c = draw_or_close (draws t) c AllFound
+probed_to t s c = after_step s c
+
+abbrev pub probed_in : Machine → Answer → Course
+probed_in t h =
+    probed_to t (answered t.course.search (is_yes h)).step
+    (record t.course { search = answered t.course.search (is_yes h) })
+
+-- a short address that was silent is asked again
+abbrev pub asked_once : Machine → Bool → Course
+asked_once t true = goes_on_to t
+asked_once t false = t.course
+
 -- no frame was sent: the start, a transaction that was lost, or a record that is kept
 abbrev pub at_rest : Machine → Option Order → Course
 at_rest t (Some (Put p f)) = t.course
@@ -41,8 +93,10 @@ at_rest t _ = goes_on_to t
 abbrev pub begins_at : Machine → Stage → Course
 begins_at t Free = at_rest t t.last
 begins_at t Opened = searching_anew t.course
-begins_at t (Probed r h) = probed t.course h
-begins_at t (Unnamed r) = closing t.course BlockFull
+begins_at t Initialised = searching_anew t.course
+begins_at t (HighAsked a high) = asked_once t (t.asked == 0)
+begins_at t (Probed r h) = probed_in t h
+begins_at t (Unnamed r) = draw_or_close (draws t) t.course BlockFull
 begins_at t (Unanswered r) =
     unanswered t r t.opened (address_for t.kept.reserved (value_of r))
 begins_at t (Inconclusive r other) = silenced t

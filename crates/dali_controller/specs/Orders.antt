@@ -1,9 +1,9 @@
-use Rattle.std.specs.Prelude.{◌≡◌, ℕ, ◌⊎◌, true, ◌==◌, if◌then◌else◌, List, [], Option}
-use Rattle.std.specs.Prelude.{Some, None}
+use Rattle.std.specs.Prelude.{◌≡◌, ℕ, ◌<◌, ◌⊎◌, Bool, true, false, not, ◌==◌}
+use Rattle.std.specs.Prelude.{if◌then◌else◌, List, [], Option, Some, None, is_some}
 use Rattle.dali_frame.specs.declared.frames.Forward.{Forward}
 use Rattle.dali_frame.specs.declared.frames.Answer.TheVariants.{Silence}
 use Rattle.dali_frame.specs.declared.numbers.SearchAddress.{SearchAddress}
-use Rattle.dali_frame.specs.Random.{value_of}
+use Rattle.dali_frame.specs.Random.{value_of, MASK24}
 use Rattle.dali_frame.specs.Priority.{FIRST, LATER}
 use Rattle.dali_special.specs.declared.command.Command.{Command}
 use Rattle.dali_special.specs.declared.command.Command.TheVariants.{Terminate, Program, Arc}
@@ -27,9 +27,13 @@ use Rattle.dali_script.specs.declared.orders.End.{End}
 use Rattle.dali_script.specs.declared.orders.End.TheVariants.{AllFound, BlockFull, GaveUp}
 use Rattle.dali_script.specs.declared.orders.Fault.TheVariants as fault
 use Rattle.dali_controller.specs.Machine.{Machine, machine_told}
-use Rattle.dali_controller.specs.declared.purpose.Purpose.TheVariants.{Closing}
-use Rattle.dali_controller.specs.Course.{Course, closing_of, turn_of}
-use Rattle.dali_controller.specs.Next.{course_by, next_course, beginning, BeginsWith}
+use Rattle.dali_controller.specs.declared.purpose.Purpose.{Purpose}
+use Rattle.dali_controller.specs.declared.purpose.Purpose.TheVariants.{Closing, Asking}
+use Rattle.dali_controller.specs.declared.way.Way.{Way}
+use Rattle.dali_controller.specs.declared.way.Way.TheVariants.{Fresh, Surveying, Drawing}
+use Rattle.dali_controller.specs.Course.{Course, closing_of, turn_of, address_for, least_open}
+use Rattle.dali_controller.specs.Next.{course_by, next_course, beginning, BeginsWith, draws}
+use Rattle.dali_controller.specs.Next.{is_withheld}
 
 -- WHAT AN ORDER DOES, to a machine that was told an input.
 
@@ -49,6 +53,8 @@ machine_ordered t o = record {
   silent = t.silent;
   opened = t.opened;
   course = course_by t o;
+  heard = t.heard;
+  asked = t.asked;
 }
 
 -- WHICH ORDERS A SITE ALLOWS. A first frame at 3, or a later one that is lawful after the running
@@ -61,12 +67,18 @@ MayOrderPut t p f =
 -- An address is reserved for gear that has answered MASK under its number. Enrolled is what the
 -- last finding lets be enrolled, and it is the one of the running transaction. Released is what is
 -- reserved for a number that was just enrolled, with another address.
+-- In a survey a finding is enrolled whether or not it is reserved so.
+abbrev pub MayEnrolOn : Way → List Assignment → Finding → Assignment → Type 0
+MayEnrolOn Fresh reserved x pair = MayEnrol reserved x pair
+MayEnrolOn Surveying reserved x pair = pair ≡ assigned x
+MayEnrolOn Drawing reserved x pair = pair ≡ assigned x
+
 abbrev pub IsWarranted : Machine → Record → Type 0
 IsWarranted t (Reserve a r) =
     (n : SearchAddress) × (stage_of t.trace ≡ Unnamed n) × (value_of n ≡ r)
 IsWarranted t (Enrol b r) =
     (x : Finding) × (t.finding ≡ Some x) × (finding_of t.trace ≡ Some x)
-    × MayEnrol t.kept.reserved x (b, r)
+    × MayEnrolOn t.course.way t.kept.reserved x (b, r)
 IsWarranted t (Release a r) = (b : ℕ) × (t.last ≡ Some (Commit (Enrol b r))) × (b ≡ a → ⊥)
 
 -- a record that fits and may be added
@@ -86,6 +98,22 @@ IsAllowed t (Commit x) = MayCommit t x
 IsAllowed t (Done e) = Unit {0}
 IsAllowed t (Halt w) = Unit {0}
 
+-- GEAR THAT IS LEFT without a short address: none is reserved for its number, and each of the block
+-- is reserved. In a survey: what is reserved for its number is another's, or none is reserved for it
+-- and none is open; and gear draw no new numbers any more.
+abbrev pub is_left_by : Machine → ℕ → Option ℕ → Option ℕ → Bool
+is_left_by t r (Some a) free = is_withheld t a r
+is_left_by t r None free = not (is_some free)
+
+abbrev pub is_left : Machine → ℕ → Bool
+is_left t r = is_left_by t r (address_for t.kept.reserved r) (least_open t.kept t.heard)
+
+abbrev pub IsLeft : Machine → Way → ℕ → Type 0
+IsLeft t Fresh r =
+    (HasRandom t.kept.reserved r → ⊥) × IsFull t.kept.block t.kept.reserved
+IsLeft t Surveying r = (is_left t r ≡ true) × (draws t ≡ false)
+IsLeft t Drawing r = (is_left t r ≡ true) × (draws t ≡ false)
+
 -- THE CAUSES OF AN END.
 
 -- a close is begun with all-found only where the last probe, of FFFFFE, was heard as silence
@@ -94,8 +122,7 @@ Cause t AllFound =
     (t.opened ≡ true)
     × ((r : SearchAddress) × (stage_of t.trace ≡ Probed r Silence) × (value_of r ≡ 0xFFFFFE))
 Cause t BlockFull =
-    (r : SearchAddress) × (stage_of t.trace ≡ Unnamed r)
-    × (HasRandom t.kept.reserved (value_of r) → ⊥) × IsFull t.kept.block t.kept.reserved
+    (r : SearchAddress) × (stage_of t.trace ≡ Unnamed r) × IsLeft t t.course.way (value_of r)
 Cause t GaveUp = t.silent ≡ 16
 
 -- the end with which a close runs, if one does
@@ -143,6 +170,26 @@ AfterMask t c r (Commit (Release a n)) = ⊥
 AfterMask t c r (Done e) = ⊥
 AfterMask t c r (Halt w) = ⊥
 
+-- In a survey: with the address that is reserved for it, unless that is another's; else the least
+-- open address is reserved for it; else a transaction begins, which the table of moments names.
+abbrev pub AfterReserved : Machine → ℕ → Bool → Order → Type 0
+AfterReserved t a true o = o ≡ beginning (next_course t)
+AfterReserved t a false o = o ≡ Put LATER (frame_of (Program (Some a)))
+
+abbrev pub AfterMaskBy : Machine → SearchAddress → Option ℕ → Option ℕ → Order → Type 0
+AfterMaskBy t r (Some a) free o = AfterReserved t a (is_withheld t a (value_of r)) o
+AfterMaskBy t r None (Some a) o = o ≡ Commit (Reserve a (value_of r))
+AfterMaskBy t r None None o = o ≡ beginning (next_course t)
+
+abbrev pub AfterMaskSurveyed : Machine → SearchAddress → Order → Type 0
+AfterMaskSurveyed t r o =
+    AfterMaskBy t r (address_for t.kept.reserved (value_of r)) (least_open t.kept t.heard) o
+
+abbrev pub AfterMaskOn : Way → Machine → Course → SearchAddress → Order → Type 0
+AfterMaskOn Fresh t c r o = AfterMask t c r o
+AfterMaskOn Surveying t c r o = AfterMaskSurveyed t r o
+AfterMaskOn Drawing t c r o = AfterMaskSurveyed t r o
+
 -- gear that was found is enrolled, unless the table has it or contradicts it
 abbrev pub AfterFinding : Machine → ℕ → ℕ → Order → Type 0
 AfterFinding t b n (Put p f) = Has t.kept.enrolled (b, n)
@@ -161,13 +208,19 @@ AfterEnrolled t b n (Halt w) = ⊥
 -- random address that told the number which was visited, and after an enrolment. Where the queries
 -- told another number, or a gear that was programmed was not heard with its address, nothing is
 -- enrolled and nothing contradicts: the next transaction begins.
+--
+-- In a survey each number that gear draw is enrolled so, whichever it is.
+abbrev pub IsSought : Purpose → SearchAddress → ℕ → Type 0
+IsSought (Asking a) r n = n < MASK24
+IsSought _ r n = n ≡ value_of r
+
 pub record IsFollowed (t : Machine) (o : Order) : Type 0 where
   pub sent : (c : Command) → turn_of t.course.purpose t.course.number (stage_of t.trace) ≡ Some c
       → o ≡ Put LATER (frame_of c)
-  pub told : (b n : ℕ) → stage_of t.trace ≡ Spelled b (Some n) → n ≡ value_of t.course.number
-      → AfterFinding t b n o
+  pub told : (b n : ℕ) → stage_of t.trace ≡ Spelled b (Some n)
+      → IsSought t.course.purpose t.course.number n → AfterFinding t b n o
   pub another : (b n : ℕ) → stage_of t.trace ≡ Spelled b (Some n)
-      → (n ≡ value_of t.course.number → ⊥) → o ≡ beginning (next_course t)
+      → (IsSought t.course.purpose t.course.number n → ⊥) → o ≡ beginning (next_course t)
   pub unconfirmed : (r : SearchAddress) (other : Option ℕ) → stage_of t.trace ≡ Inconclusive r other
       → o ≡ beginning (next_course t)
   pub enrolled : (b n : ℕ) → t.last ≡ Some (Commit (Enrol b n)) → AfterEnrolled t b n o
@@ -179,7 +232,8 @@ pub record IsOrderedTo (t : Machine) (c : Course) (o : Order) : Type 0 where
   pub caused : IsCaused t c o
   pub given_up : t.tries ≡ 8 → o ≡ Done GaveUp
   pub silent : t.silent ≡ 16 → c.purpose ≡ Closing GaveUp
-  pub unnamed : (r : SearchAddress) → stage_of t.trace ≡ Unnamed r → AfterMask t c r o
+  pub unnamed : (r : SearchAddress) → stage_of t.trace ≡ Unnamed r
+      → AfterMaskOn t.course.way t c r o
   pub found : (r : SearchAddress) (b : ℕ) → stage_of t.trace ≡ Withdrawn r b
       → AfterFinding t b (value_of r) o
 

@@ -6,7 +6,9 @@ use Rattle.dali_script.specs.declared.orders.Order.{Order}
 use Rattle.dali_script.specs.Records.{Kept}
 use Rattle.dali_search.specs.Least.{Search}
 use Rattle.dali_controller.specs.declared.purpose.Purpose.{Purpose}
+use Rattle.dali_controller.specs.declared.shorts.Shorts.{Shorts}
 use Rattle.dali_controller.specs.declared.state.State.{State}
+use Rattle.dali_controller.specs.declared.way.Way.{Way}
 use Rattle.dali_controller.specs.Course.{Course}
 use Rattle.dali_controller.specs.Machine.{Machine}
 
@@ -24,6 +26,9 @@ pub record Parts : Type 0 where
   pub number : SearchAddress
   pub search : Search
   pub from : ℕ
+  pub way : Way
+  pub heard : Shorts
+  pub asked : ℕ
 
 abbrev pub with_kept : State → Kept → Parts
 with_kept s k = record {
@@ -39,14 +44,29 @@ with_kept s k = record {
   number = s.number;
   search = s.search;
   from = s.from;
+  way = s.way;
+  heard = s.heard;
+  asked = s.asked;
 }
 
 -- the course that a machine takes
 abbrev pub course_of : State → Course
-course_of s = record { purpose = s.purpose; number = s.number; search = s.search; from = s.from }
+course_of s = record {
+  purpose = s.purpose;
+  number = s.number;
+  search = s.search;
+  from = s.from;
+  way = s.way;
+}
 
 abbrev pub parts_course : Parts → Course
-parts_course p = record { purpose = p.purpose; number = p.number; search = p.search; from = p.from }
+parts_course p = record {
+  purpose = p.purpose;
+  number = p.number;
+  search = p.search;
+  from = p.from;
+  way = p.way;
+}
 
 -- what contracts see of the parts
 abbrev pub machine_of : Parts → Machine
@@ -60,6 +80,8 @@ machine_of p = record {
   silent = p.silent;
   opened = p.opened;
   course = parts_course p;
+  heard = p.heard;
+  asked = p.asked;
 }
 
 abbrev pub machine_with : State → Kept → Machine

@@ -1,4 +1,4 @@
-use Rattle.std.specs.Prelude.{◌≡◌, ℕ, ◌<◌, ◌≤◌, Bool, true, false, Option, Some, None, IfSome}
+use Rattle.std.specs.Prelude.{◌≡◌, ℕ, ◌<◌, ◌≤◌, ◌⊎◌, Bool, true, false, Option, Some, None, IfSome}
 use Rattle.dali_frame.specs.declared.frames.Forward.{Forward}
 use Rattle.dali_frame.specs.declared.numbers.SearchAddress.{SearchAddress}
 use Rattle.dali_frame.specs.Random.{value_of, MASK24}
@@ -20,6 +20,9 @@ use Rattle.dali_script.specs.declared.orders.End.TheVariants.{GaveUp}
 use Rattle.dali_controller.specs.declared.purpose.Purpose.{Purpose}
 use Rattle.dali_controller.specs.declared.purpose.Purpose.TheVariants.{Opening, Probing, Visiting}
 use Rattle.dali_controller.specs.declared.purpose.Purpose.TheVariants.{Resolving, Closing}
+use Rattle.dali_controller.specs.declared.purpose.Purpose.TheVariants.{Asking, Waking}
+use Rattle.dali_controller.specs.declared.way.Way.{Way}
+use Rattle.dali_controller.specs.declared.way.Way.TheVariants.{Fresh, Surveying, Drawing}
 use Rattle.dali_controller.specs.Course.{first_of, turn_of, closing_of}
 use Rattle.dali_controller.specs.Machine.{Machine}
 
@@ -28,8 +31,8 @@ use Rattle.dali_controller.specs.Machine.{Machine}
 
 -- what was sent of the transaction's search address, or that its short address is asked
 abbrev pub IsAt : Stage → Purpose → SearchAddress → Type 0
-IsAt (HighAsked b high) p n = (p ≡ Resolving b) × (b < 64)
-IsAt (MiddleAsked b bytes) p n = (p ≡ Resolving b) × (b < 64)
+IsAt (HighAsked b high) p n = ((p ≡ Resolving b) ⊎ (p ≡ Asking b)) × (b < 64)
+IsAt (MiddleAsked b bytes) p n = ((p ≡ Resolving b) ⊎ (p ≡ Asking b)) × (b < 64)
 IsAt s p n = IsSearched s n
 
 -- which command is sent at a stage, with the transaction's search address, and with what may be
@@ -45,15 +48,23 @@ Sends k n p s c =
 
 -- What is known while a transaction runs: whether an opening was complete, and where its number
 -- comes from. In the visits before the opening it is reserved, and whom a short address is asked of
--- it is reserved for.
-abbrev pub Knows : Kept → SearchAddress → Search → Bool → Purpose → Type 0
-Knows k n s opened Opening = opened ≡ false
-Knows k n s opened Probing = (opened ≡ true) × (s.step ≡ Again) × (value_of n ≡ s.probe)
-Knows k n s opened Visiting =
+-- it is reserved for. Only a survey asks short addresses and wakes gear, and may open after a
+-- search.
+abbrev pub IsEarly : Way → Bool → Type 0
+IsEarly Fresh opened = opened ≡ false
+IsEarly Surveying opened = Unit {0}
+IsEarly Drawing opened = Unit {0}
+
+abbrev pub Knows : Way → Kept → SearchAddress → Search → Bool → Purpose → Type 0
+Knows y k n s opened Opening = IsEarly y opened
+Knows y k n s opened Probing = (opened ≡ true) × (s.step ≡ Again) × (value_of n ≡ s.probe)
+Knows y k n s opened Visiting =
     (value_of n < MASK24) × (opened ≡ false → HasRandom k.reserved (value_of n))
-Knows k n s opened (Resolving a) =
+Knows y k n s opened (Resolving a) =
     (opened ≡ false) × (value_of n < MASK24) × (a < 64) × Has k.reserved (a, value_of n)
-Knows k n s opened (Closing e) = opened ≡ true
+Knows y k n s opened (Closing e) = opened ≡ true
+Knows y k n s opened (Asking a) = (opened ≡ false) × (y ≡ Surveying) × (a < 64)
+Knows y k n s opened Waking = (opened ≡ false) × (y ≡ Surveying)
 
 -- the count of silent searches is below its limit, unless a close was begun for it
 abbrev pub IsWithinSilence : Purpose → ℕ → Type 0
@@ -62,8 +73,8 @@ IsWithinSilence _ silent = silent < 16
 
 -- WHICH COMMAND a transaction sends at a stage, of those that may be sent there
 abbrev pub IsMet : Stage → Purpose → SearchAddress → Type 0
-IsMet (HighAsked b high) p n = p ≡ Resolving b
-IsMet (MiddleAsked b bytes) p n = p ≡ Resolving b
+IsMet (HighAsked b high) p n = (p ≡ Resolving b) ⊎ (p ≡ Asking b)
+IsMet (MiddleAsked b bytes) p n = (p ≡ Resolving b) ⊎ (p ≡ Asking b)
 IsMet s p n = IsSearched s n
 
 abbrev pub IsChosen : SearchAddress → Purpose → Stage → Command → Type 0
@@ -74,12 +85,13 @@ IsChosen n p s c = (turn_of p n s ≡ Some c) × IsMet s p n
 pub record IsReady (m : Machine) : Type 0 where
   pub tries : m.tries < 8
   pub calm : IsWithinSilence m.course.purpose m.silent
-  pub knows : Knows m.kept m.course.number m.course.search m.opened m.course.purpose
+  pub knows : Knows m.course.way m.kept m.course.number m.course.search m.opened m.course.purpose
 
 pub record IsUnstarted (m : Machine) : Type 0 where
   pub ready : IsReady m
   pub free : stage_of m.trace ≡ Free
   pub opening : m.course.purpose ≡ Opening
+  pub fresh : m.course.way ≡ Fresh
 
 pub record IsSending (m : Machine) (f : Forward) : Type 0 where
   pub ready : IsReady m

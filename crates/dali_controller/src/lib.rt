@@ -8,13 +8,18 @@ mod error;
 mod machine;
 mod moments;
 mod purpose;
+mod shorts;
 mod state;
 mod stepping;
+mod surveying;
 mod unfinished;
+mod way;
 mod whole;
 
 pub use dali_script::{Due, End, Fault, Input, Order};
 pub use error::StepError;
 pub use machine::Machine;
 pub use purpose::Purpose;
+pub use shorts::Shorts;
 pub use state::State;
+pub use way::Way;

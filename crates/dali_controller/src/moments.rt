@@ -1,4 +1,4 @@
-ghost use Rattle.std.specs.Prelude.{◌≡◌, ◌⊎◌, ℕ, ◌<◌, true, false, Option, Some, None};
+ghost use Rattle.std.specs.Prelude.{◌≡◌, ◌⊎◌, ◌↔◌, ℕ, ◌<◌, true, false, Option, Some, None, IsTrue};
 ghost use Rattle.dali_frame.specs.Random.{value_of, MASK24};
 ghost use Rattle.dali_frame.specs.declared.numbers.SearchAddress.{SearchAddress};
 ghost use Rattle.dali_frame.specs.declared.frames.Answer.TheVariants.{Silence};
@@ -6,7 +6,10 @@ ghost use Rattle.dali_frame.specs.Priority.{LATER};
 ghost use Rattle.dali_special.specs.declared.command.Command.{Command};
 ghost use Rattle.dali_special.specs.Command.{frame_of};
 ghost use Rattle.dali_script.specs.declared.stage.Stage.TheVariants as stage;
-ghost use Rattle.dali_script.specs.Records.{Has, HasRandom};
+ghost use Rattle.dali_script.specs.Records.{Has, HasRandom, IsKept};
+ghost use Rattle.dali_script.specs.declared.orders.End.TheVariants.{AllFound};
+ghost use Rattle.dali_controller.specs.declared.purpose.Purpose.TheVariants as purpose;
+ghost use Rattle.dali_controller.specs.declared.way.Way.TheVariants as way;
 ghost use Rattle.dali_search.specs.declared.step.Step.TheVariants as search;
 ghost use Rattle.dali_script.specs.declared.orders.Input.TheVariants as input;
 ghost use Rattle.dali_script.specs.declared.orders.Order.TheVariants as order;
@@ -17,7 +20,9 @@ ghost use Rattle.dali_controller.specs.Machine.{machine_lost};
 
 use crate::purpose::Purpose;
 use crate::state::State;
+use crate::surveying::{is_anothers, least_open, next_asked};
 use crate::unfinished::next_unfinished;
+use crate::way::Way;
 use dali_frame::{Answer, Forward, Random24, SearchAddress, Short};
 use dali_script::{End, Fault, Order, Record, Records, Stage, Trace};
 use dali_search::{Search, Step};
@@ -43,12 +48,14 @@ impl State {
     ghost use Rattle.dali_controller.specs.Parts.{with_kept, machine_with, course_of};
     ghost use Rattle.dali_controller.specs.Whole.{IsWhole};
     ghost use Rattle.dali_controller.specs.Moments.{IsHeard, IsBetween, Closes, Settles, IsNext};
-    ghost use Rattle.dali_controller.specs.Moments.{Enrolled, IsStep, Starts};
+    ghost use Rattle.dali_controller.specs.Moments.{Enrolled, IsStep, Starts, Draws, IsFirstFree, IsUngiven};
     ghost use Rattle.dali_controller.specs.Course.{opening, probing, searching_anew, visiting, resolving, closing};
-    ghost use Rattle.dali_controller.specs.Course.{going_on, turn_of};
+    ghost use Rattle.dali_controller.specs.Course.{going_on, turn_of, visit_or_opening, next_unfinished, taking};
+    ghost use Rattle.dali_controller.specs.Course.{ask_or_wake, next_asked, waking, drawing};
     ghost use Rattle.dali_controller.specs.Next.{course_by, next_course, beginning, silenced, BeginsWith};
+    ghost use Rattle.dali_controller.specs.Next.{draws, draw_or_close, is_withheld};
     ghost use Rattle.dali_controller.specs.Machine.{machine_told};
-    ghost use Rattle.dali_controller.specs.Orders.{AfterFinding, AfterEnrolled, IsFollowed};
+    ghost use Rattle.dali_controller.specs.Orders.{AfterFinding, AfterEnrolled, IsFollowed, IsSought};
     ghost use Rattle.dali_script.specs.declared.records.Record.TheVariants.{Reserve, Enrol};
     ghost use Rattle.dali_script.specs.declared.orders.Order.TheVariants.{Commit};
     ghost use Rattle.dali_script.specs.declared.stage.Stage.TheVariants.{Inconclusive, Spelled};
@@ -68,7 +75,23 @@ impl State {
         self.go_on(kept)
     }
 
-    /// The next transaction: before the opening was complete another visit or the opening, afterwards a new search.
+    /// The start of a survey: each short address is asked that is not accounted for, and then gear are woken.
+    pub(crate) fn survey(&mut self, kept: &Records<'_>) -> Order
+        requires whole { IsWhole (machine_with self.old kept.now) }
+        requires unstarted { self.old.last ≡ None }
+
+        ensures followed { IsFollowed (machine_told (machine_with self.old kept.now) input.Survey) result }
+        ensures begins { BeginsWith (course_of self.new) result }
+        ensures step { IsStep (machine_with self.old kept.now) input.Survey result
+            (machine_with self.new kept.now) }
+        ensures whole { IsWhole (machine_with self.new kept.now) }
+    {
+        self.way = Way::Surveying;
+        self.go_on(kept)
+    }
+
+    /// The next transaction: before the opening was complete another visit or the opening, in a survey the next short
+    /// address or the waking; afterwards a new search.
     fn go_on(&mut self, kept: &Records<'_>) -> Order
         requires { IsBetween (with_kept self.old kept.now) }
 
@@ -80,12 +103,114 @@ impl State {
         if self.opened {
             return self.search_anew(kept);
         }
+        match self.way {
+            Way::Fresh => self.visit_or_open(kept),
+            Way::Surveying => self.ask_or_wake(kept),
+            Way::Drawing => self.open(kept),
+        }
+    }
+
+    /// Before the opening was complete: a visit to the next unfinished reservation, or the opening.
+    fn visit_or_open(&mut self, kept: &Records<'_>) -> Order
+        requires between { IsBetween (with_kept self.old kept.now) }
+        requires opened { self.old.opened ≡ false }
+
+        ensures starts { Starts (visit_or_opening (course_of self.old) (next_unfinished kept.now self.old.from))
+            result (with_kept self.new kept.now) }
+        ensures next { IsNext (machine_with self.old kept.now) result (machine_with self.new kept.now) }
+        ensures whole { IsWhole (machine_with self.new kept.now) }
+    {
         match next_unfinished(kept, self.from) {
             Some((from, number)) => {
                 self.from = from;
                 self.visit(kept, number)
             }
             None => self.open(kept),
+        }
+    }
+
+    /// In a survey: the next short address is asked, or gear are woken.
+    fn ask_or_wake(&mut self, kept: &Records<'_>) -> Order
+        requires between { IsBetween (with_kept self.old kept.now) }
+        requires opened { self.old.opened ≡ false }
+        requires surveying { self.old.way ≡ way.Surveying }
+
+        ensures starts { Starts (ask_or_wake (course_of self.old) (next_asked kept.now self.old.from))
+            result (with_kept self.new kept.now) }
+        ensures next { IsNext (machine_with self.old kept.now) result (machine_with self.new kept.now) }
+        ensures whole { IsWhole (machine_with self.new kept.now) }
+    {
+        match next_asked(kept, self.from) {
+            Some(short) => {
+                self.from = short.number() + 1;
+                self.ask(kept, short)
+            }
+            None => self.wake(kept),
+        }
+    }
+
+    /// The transaction that asks whoever has a short address for its random address.
+    #[tactic(auto, using(crate::proofs::Steps::asks))]
+    fn ask(&mut self, kept: &Records<'_>, short: Short) -> Order
+        requires between { IsBetween (with_kept self.old kept.now) }
+        requires opened { self.old.opened ≡ false }
+        requires surveying { self.old.way ≡ way.Surveying }
+        requires range { short < 64 }
+
+        ensures starts { Starts (taking (course_of self.old) (purpose.Asking short) self.old.number)
+            result (with_kept self.new kept.now) }
+        ensures next { IsNext (machine_with self.old kept.now) result (machine_with self.new kept.now) }
+        ensures whole { IsWhole (machine_with self.new kept.now) }
+    {
+        let number = self.number;
+        self.begin(kept, Purpose::Asking(short), number)
+    }
+
+    /// The transaction that initialises all gear without short address, which keep their random addresses.
+    #[tactic(auto, using(crate::proofs::Steps::wakes))]
+    fn wake(&mut self, kept: &Records<'_>) -> Order
+        requires between { IsBetween (with_kept self.old kept.now) }
+        requires opened { self.old.opened ≡ false }
+        requires surveying { self.old.way ≡ way.Surveying }
+
+        ensures starts { Starts (waking (course_of self.old)) result (with_kept self.new kept.now) }
+        ensures next { IsNext (machine_with self.old kept.now) result (machine_with self.new kept.now) }
+        ensures whole { IsWhole (machine_with self.new kept.now) }
+    {
+        let number = self.number;
+        self.begin(kept, Purpose::Waking, number)
+    }
+
+    /// In a survey: whether gear draw new random addresses once no more can be given under the old ones.
+    fn draws(&self, kept: &Records<'_>) -> bool
+        ensures { result ≡ draws (machine_with self.now kept.now) }
+    {
+        matches!(self.way, Way::Surveying) && least_open(kept, self.heard).is_some()
+    }
+
+    /// In a survey, where no more can be given under the old random addresses: gear draw new ones.
+    fn draw(&mut self, kept: &Records<'_>) -> Order
+        requires { Draws (with_kept self.old kept.now) }
+
+        ensures starts { Starts (drawing (course_of self.old)) result (with_kept self.new kept.now) }
+        ensures next { IsNext (machine_with self.old kept.now) result (machine_with self.new kept.now) }
+        ensures whole { IsWhole (machine_with self.new kept.now) }
+    {
+        let number = self.number;
+        let order = self.begin(kept, Purpose::Opening, number);
+        self.way = Way::Drawing;
+        order
+    }
+
+    /// Whether what is reserved for a random address is another gear's, by what a survey heard.
+    fn is_withheld(&self, kept: &Records<'_>, address: Short, random: Random24) -> bool
+        ensures { result ≡ is_withheld (machine_with self.now kept.now) address random }
+    {
+        match self.way {
+            Way::Fresh => false,
+            Way::Surveying | Way::Drawing => {
+                self.opened && is_anothers(kept, self.heard, address, random)
+            }
         }
     }
 
@@ -178,10 +303,11 @@ impl State {
 
         ensures sent { (c : Command) → turn_of self.old.purpose self.old.number (stage_of self.old.trace) ≡ Some c
             → result ≡ order.Put LATER (frame_of c) }
-        ensures told { (b n : ℕ) → stage_of self.old.trace ≡ Spelled b (Some n) → n ≡ value_of self.old.number
-            → AfterFinding (machine_with self.old kept.now) b n result }
+        ensures told { (b n : ℕ) → stage_of self.old.trace ≡ Spelled b (Some n)
+            → IsSought self.old.purpose self.old.number n → AfterFinding (machine_with self.old kept.now) b n result }
         ensures another { (b n : ℕ) → stage_of self.old.trace ≡ Spelled b (Some n)
-            → (n ≡ value_of self.old.number → ⊥) → result ≡ beginning (next_course (machine_with self.old kept.now)) }
+            → (IsSought self.old.purpose self.old.number n → ⊥)
+            → result ≡ beginning (next_course (machine_with self.old kept.now)) }
         ensures unconfirmed { (r : SearchAddress) (other : Option ℕ) → stage_of self.old.trace ≡ Inconclusive r other
             → result ≡ beginning (next_course (machine_with self.old kept.now)) }
         ensures begins { BeginsWith (course_of self.new) result }
@@ -200,10 +326,11 @@ impl State {
         requires heard { IsHeard (with_kept self.old kept.now) stage }
         requires over { turn_of self.old.purpose self.old.number stage ≡ None }
 
-        ensures told { (b n : ℕ) → stage_of self.old.trace ≡ Spelled b (Some n) → n ≡ value_of self.old.number
-            → AfterFinding (machine_with self.old kept.now) b n result }
+        ensures told { (b n : ℕ) → stage_of self.old.trace ≡ Spelled b (Some n)
+            → IsSought self.old.purpose self.old.number n → AfterFinding (machine_with self.old kept.now) b n result }
         ensures another { (b n : ℕ) → stage_of self.old.trace ≡ Spelled b (Some n)
-            → (n ≡ value_of self.old.number → ⊥) → result ≡ beginning (next_course (machine_with self.old kept.now)) }
+            → (IsSought self.old.purpose self.old.number n → ⊥)
+            → result ≡ beginning (next_course (machine_with self.old kept.now)) }
         ensures unconfirmed { (r : SearchAddress) (other : Option ℕ) → stage_of self.old.trace ≡ Inconclusive r other
             → result ≡ beginning (next_course (machine_with self.old kept.now)) }
         ensures begins { BeginsWith (course_of self.new) result }
@@ -213,14 +340,26 @@ impl State {
     {
         match stage {
             Stage::Terminated => self.terminated(kept),
+            Stage::Initialised => self.woken(kept),
             Stage::Opened => self.all_drawn(kept),
             Stage::Probed(_, heard) => self.probed(kept, heard),
             Stage::Unnamed(number) => self.unnamed(kept, number),
             Stage::Unanswered(number) => self.unanswered(kept, number),
             Stage::Inconclusive(..) => self.silenced(kept),
             Stage::Withdrawn(number, short) => self.withdrawn(kept, number, short),
+            Stage::HighAsked(..) => self.asked_once(kept),
+            Stage::MiddleAsked(..) => self.go_on(kept),
             Stage::Spelled(short, number) => self.resolved(kept, short, number),
-            _ => unreachable!(),
+            Stage::Free
+            | Stage::InitialisedOnce
+            | Stage::RandomisedOnce
+            | Stage::HighSent(_)
+            | Stage::MiddleSent(..)
+            | Stage::NumberSent(_)
+            | Stage::Found(..)
+            | Stage::Programmed(..)
+            | Stage::Confirmed(..)
+            | Stage::Over => unreachable!(),
         }
     }
 
@@ -236,10 +375,45 @@ impl State {
     {
         match self.purpose {
             Purpose::Closing(end) => self.done(kept, end),
-            Purpose::Opening | Purpose::Probing | Purpose::Visiting | Purpose::Resolving(_) => {
-                unreachable!()
-            }
+            Purpose::Opening
+            | Purpose::Probing
+            | Purpose::Visiting
+            | Purpose::Resolving(_)
+            | Purpose::Asking(_)
+            | Purpose::Waking => unreachable!(),
         }
+    }
+
+    /// Gear were woken.
+    fn woken(&mut self, kept: &Records<'_>) -> Order
+        requires heard { IsHeard (with_kept self.old kept.now) stage.Initialised }
+        requires over { turn_of self.old.purpose self.old.number stage.Initialised ≡ None }
+
+        ensures begins { BeginsWith (course_of self.new) result }
+        ensures course { course_of self.new ≡ course_by (machine_with self.old kept.now) result }
+        ensures next { IsNext (machine_with self.old kept.now) result (machine_with self.new kept.now) }
+        ensures whole { IsWhole (machine_with self.new kept.now) }
+    {
+        self.search_anew(kept)
+    }
+
+    /// A short address was asked for the first byte of a random address, and no byte was heard. Where it was silent, it
+    /// is asked again, three times in all.
+    fn asked_once(&mut self, kept: &Records<'_>) -> Order
+        requires heard { (b : ℕ) × (high : Option ℕ) × IsHeard (with_kept self.old kept.now) (stage.HighAsked b high) }
+        requires over { turn_of self.old.purpose self.old.number (stage_of self.old.trace) ≡ None }
+
+        ensures begins { BeginsWith (course_of self.new) result }
+        ensures course { course_of self.new ≡ course_by (machine_with self.old kept.now) result }
+        ensures next { IsNext (machine_with self.old kept.now) result (machine_with self.new kept.now) }
+        ensures whole { IsWhole (machine_with self.new kept.now) }
+    {
+        if self.asked == 0 {
+            return self.go_on(kept);
+        }
+        let same = self.purpose;
+        let number = self.number;
+        self.begin(kept, same, number)
     }
 
     /// The opening is complete.
@@ -266,7 +440,23 @@ impl State {
         match self.search.answer(is_yes(heard)) {
             Step::Again => self.probe(kept),
             Step::Found(found) => self.visit(kept, found),
-            Step::Nobody => self.close(kept, End::AllFound),
+            Step::Nobody => self.nobody(kept),
+        }
+    }
+
+    /// Nobody answers the search any more.
+    fn nobody(&mut self, kept: &Records<'_>) -> Order
+        requires { Closes (with_kept self.old kept.now) AllFound }
+
+        ensures starts { Starts (draw_or_close (draws (machine_with self.old kept.now)) (course_of self.old) AllFound)
+            result (with_kept self.new kept.now) }
+        ensures next { IsNext (machine_with self.old kept.now) result (machine_with self.new kept.now) }
+        ensures whole { IsWhole (machine_with self.new kept.now) }
+    {
+        if self.draws(kept) {
+            self.draw(kept)
+        } else {
+            self.close(kept, End::AllFound)
         }
     }
 
@@ -280,8 +470,26 @@ impl State {
         ensures whole { IsWhole (machine_with self.new kept.now) }
     {
         match kept.reserved_for(number.value()) {
-            Some(short) => self.put(kept, Command::Program(Some(short))),
+            Some(short) => self.give(kept, number, short),
             None => self.reserve(kept, number),
+        }
+    }
+
+    /// The gear at this number has no short address, and this one is reserved for it.
+    fn give(&mut self, kept: &Records<'_>, number: SearchAddress, short: Short) -> Order
+        requires heard { IsHeard (with_kept self.old kept.now) (stage.Unnamed number) }
+        requires reserved { Has kept.now.reserved (short, value_of number) }
+        requires kept { IsKept kept.now }
+
+        ensures begins { BeginsWith (course_of self.new) result }
+        ensures course { course_of self.new ≡ course_by (machine_with self.old kept.now) result }
+        ensures next { IsNext (machine_with self.old kept.now) result (machine_with self.new kept.now) }
+        ensures whole { IsWhole (machine_with self.new kept.now) }
+    {
+        if self.is_withheld(kept, short, number.value()) {
+            self.leave(kept, number)
+        } else {
+            self.put(kept, Command::Program(Some(short)))
         }
     }
 
@@ -289,15 +497,45 @@ impl State {
     fn reserve(&mut self, kept: &Records<'_>, number: SearchAddress) -> Order
         requires heard { IsHeard (with_kept self.old kept.now) (stage.Unnamed number) }
         requires free { HasRandom kept.now.reserved (value_of number) → ⊥ }
+        requires kept { IsKept kept.now }
 
         ensures begins { BeginsWith (course_of self.new) result }
         ensures course { course_of self.new ≡ course_by (machine_with self.old kept.now) result }
         ensures next { IsNext (machine_with self.old kept.now) result (machine_with self.new kept.now) }
         ensures whole { IsWhole (machine_with self.new kept.now) }
     {
-        match kept.first_free() {
+        match self.first_free(kept) {
             Some(short) => self.commit(kept, Record::Reserve(short, number.value())),
-            None => self.close(kept, End::BlockFull),
+            None => self.leave(kept, number),
+        }
+    }
+
+    /// The address that is reserved next.
+    fn first_free(&self, kept: &Records<'_>) -> Option<Short>
+        ensures { IsFirstFree self.now.way kept.now self.now.heard result }
+    {
+        match self.way {
+            Way::Fresh => kept.first_free(),
+            Way::Surveying | Way::Drawing => least_open(kept, self.heard),
+        }
+    }
+
+    /// The gear at this number has no short address, and none can be given to it: it draws a new random address, or is
+    /// left.
+    fn leave(&mut self, kept: &Records<'_>, number: SearchAddress) -> Order
+        requires heard { IsHeard (with_kept self.old kept.now) (stage.Unnamed number) }
+        requires opened { self.old.opened ≡ true }
+        requires ungiven { IsUngiven self.old.way (with_kept self.old kept.now) number }
+
+        ensures begins { BeginsWith (course_of self.new) result }
+        ensures course { course_of self.new ≡ course_by (machine_with self.old kept.now) result }
+        ensures next { IsNext (machine_with self.old kept.now) result (machine_with self.new kept.now) }
+        ensures whole { IsWhole (machine_with self.new kept.now) }
+    {
+        if self.draws(kept) {
+            self.draw(kept)
+        } else {
+            self.close(kept, End::BlockFull)
         }
     }
 
@@ -336,9 +574,9 @@ impl State {
     fn resolved(&mut self, kept: &Records<'_>, short: Short, number: Option<Random24>) -> Order
         requires { IsHeard (with_kept self.old kept.now) (stage.Spelled short number) }
 
-        ensures told { (n : ℕ) → number ≡ Some n → n ≡ value_of self.old.number
+        ensures told { (n : ℕ) → number ≡ Some n → IsSought self.old.purpose self.old.number n
             → AfterFinding (machine_with self.old kept.now) short n result }
-        ensures another { (n : ℕ) → number ≡ Some n → (n ≡ value_of self.old.number → ⊥)
+        ensures another { (n : ℕ) → number ≡ Some n → (IsSought self.old.purpose self.old.number n → ⊥)
             → result ≡ beginning (next_course (machine_with self.old kept.now)) }
         ensures begins { BeginsWith (course_of self.new) result }
         ensures course { course_of self.new ≡ course_by (machine_with self.old kept.now) result }
@@ -346,8 +584,23 @@ impl State {
         ensures whole { IsWhole (machine_with self.new kept.now) }
     {
         match number {
-            Some(random) if random == self.number.value() => self.settle(kept, short, random),
+            Some(random) if self.seeks(random) => self.settle(kept, short, random),
             _ => self.go_on(kept),
+        }
+    }
+
+    /// Whether gear that told this random address is what its queries were for: in a survey any that gear draw.
+    fn seeks(&self, random: Random24) -> bool
+        ensures { IsTrue result ↔ IsSought self.now.purpose self.now.number random }
+    {
+        match self.purpose {
+            Purpose::Asking(_) => random < Random24::MASK,
+            Purpose::Opening
+            | Purpose::Probing
+            | Purpose::Visiting
+            | Purpose::Resolving(_)
+            | Purpose::Closing(_)
+            | Purpose::Waking => random == self.number.value(),
         }
     }
 

@@ -19,6 +19,10 @@ pub enum Purpose {
     Resolving(Short),
     /// To end the initialisation of all gear, and then to end so.
     Closing(End),
+    /// To ask whoever has a short address for its random address, in a survey.
+    Asking(Short),
+    /// To initialise all gear without short address, which keep their random addresses.
+    Waking,
 }
 
 impl Purpose {
@@ -31,7 +35,12 @@ impl Purpose {
     {
         match self {
             Purpose::Closing(end) => Some(end),
-            Purpose::Opening | Purpose::Probing | Purpose::Visiting | Purpose::Resolving(_) => None,
+            Purpose::Opening
+            | Purpose::Probing
+            | Purpose::Visiting
+            | Purpose::Resolving(_)
+            | Purpose::Asking(_)
+            | Purpose::Waking => None,
         }
     }
 
@@ -40,9 +49,11 @@ impl Purpose {
         ensures { result ≡ first_of self.now number }
     {
         match *self {
-            Purpose::Opening | Purpose::Closing(_) => Command::Terminate,
+            Purpose::Opening | Purpose::Closing(_) | Purpose::Waking => Command::Terminate,
             Purpose::Probing | Purpose::Visiting => Command::SearchHigh(number.high),
-            Purpose::Resolving(short) => Command::RandomByte(short, Part::High),
+            Purpose::Resolving(short) | Purpose::Asking(short) => {
+                Command::RandomByte(short, Part::High)
+            }
         }
     }
 
@@ -73,6 +84,17 @@ impl Purpose {
                 _ => None,
             },
             Purpose::Closing(_) => None,
+            Purpose::Asking(_) => match *stage {
+                Stage::HighAsked(short, Some(_)) => Some(Command::RandomByte(short, Part::Middle)),
+                Stage::MiddleAsked(short, Some(_)) => Some(Command::RandomByte(short, Part::Low)),
+                _ => None,
+            },
+            Purpose::Waking => match *stage {
+                Stage::Terminated | Stage::InitialisedOnce => {
+                    Some(Command::Initialise(Target::Unaddressed))
+                }
+                _ => None,
+            },
         }
     }
 }

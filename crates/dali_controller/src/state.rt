@@ -1,7 +1,8 @@
-ghost use Rattle.std.specs.Prelude.{◌≡◌, ◌+◌, ◌<◌, Some};
+ghost use Rattle.std.specs.Prelude.{◌≡◌, ◌+◌, ◌<◌, ◌||◌, Some};
 ghost use Rattle.dali_frame.specs.Priority.{FIRST, LATER};
 ghost use Rattle.dali_special.specs.Command.{frame_of};
-ghost use Rattle.dali_script.specs.declared.stage.Stage.TheVariants.{Free};
+ghost use Rattle.dali_frame.specs.declared.numbers.SearchAddress.{SearchAddress};
+ghost use Rattle.dali_script.specs.declared.stage.Stage.TheVariants.{Free, Unnamed};
 ghost use Rattle.dali_script.specs.Findings.{later, finding_of};
 ghost use Rattle.dali_script.specs.Records.{Fits, MayAdd};
 ghost use Rattle.dali_script.specs.Stages.{stage_of};
@@ -9,14 +10,20 @@ ghost use Rattle.dali_script.specs.declared.orders.Input.TheVariants as input;
 ghost use Rattle.dali_script.specs.declared.orders.Order.TheVariants as order;
 ghost use Rattle.dali_controller.specs.declared.purpose.Purpose.TheVariants as purpose;
 ghost use Rattle.dali_script.specs.Due.{frame_put};
-ghost use Rattle.dali_controller.specs.Machine.{machine_told, is_complete, tries_after, silent_after, opened_after};
-ghost use Rattle.dali_controller.specs.Orders.{machine_ordered};
+ghost use Rattle.dali_controller.specs.Machine.{machine_told, is_complete, is_ended, tries_after, silent_after};
+ghost use Rattle.dali_controller.specs.Machine.{opened_after, woken_after, heard_after, asked_after, unknown_at, asked_at};
+ghost use Rattle.dali_controller.specs.Orders.{machine_ordered, AfterMaskOn};
 
 use crate::purpose::Purpose;
-use dali_frame::{Answer, Forward, Priority, SearchAddress};
+use crate::shorts::Shorts;
+use crate::way::Way;
+use dali_frame::{Answer, Forward, Priority, Random24, SearchAddress, Short};
 use dali_script::{End, Fault, Finding, Order, Record, Records, Stage, Trace};
 use dali_search::Search;
 use dali_special::Command;
+
+/// How often a short address is asked that is silent.
+const ASKED: u8 = 3;
 
 /// A machine without its records: plain data of a fixed size, to be handed over or laid down between two inputs and
 /// made a machine again (`Machine::of`). It takes no memory.
@@ -36,7 +43,7 @@ pub struct State {
     pub tries: u8,
     /// How many searches in a row led to no gear.
     pub silent: u8,
-    /// Whether an opening was complete.
+    /// Whether an opening was complete, or in a survey gear were woken: gear are searched.
     pub opened: bool,
     /// What the running transaction is for.
     pub purpose: Purpose,
@@ -44,8 +51,14 @@ pub struct State {
     pub number: SearchAddress,
     /// The search for the least random address.
     pub search: Search,
-    /// In the visits before the opening, the first short address that was not looked at.
+    /// In the visits before the opening, and while a survey asks, the first short address that was not looked at.
     pub from: u8,
+    /// How it began, and how far a survey has come.
+    pub way: Way,
+    /// Under which short addresses a survey heard somebody whose random address it does not know.
+    pub heard: Shorts,
+    /// How often in a row silence was heard under the short address that a survey asks: less than three times.
+    pub asked: u8,
 }
 
 impl State {
@@ -65,11 +78,11 @@ impl State {
     /// The tries of the running transaction: none where it is complete.
     fn tries_after(&self, kept: &Records<'_>) -> u8
         ensures { result
-            ≡ tries_after (is_complete kept.now (closing_of self.now.purpose) (stage_of self.now.trace))
-            self.now.tries }
+            ≡ tries_after (is_complete kept.now (closing_of self.now.purpose) (stage_of self.now.trace)
+            || is_ended self.now.purpose self.now.number (stage_of self.now.trace)) self.now.tries }
     {
         // Of a transaction that was not lost before, it need not be known.
-        if self.tries == 0 || self.is_complete(kept) {
+        if self.tries == 0 || self.is_complete(kept) || self.is_ended() {
             0
         } else {
             self.tries
@@ -88,13 +101,60 @@ impl State {
         }
     }
 
-    /// Whether an opening was complete, with the running transaction.
+    /// Whether the running transaction is one of a survey, and sends no more.
+    fn is_ended(&self) -> bool
+        ensures { result ≡ is_ended self.now.purpose self.now.number (stage_of self.now.trace) }
+    {
+        let is_front = matches!(self.purpose, Purpose::Asking(_) | Purpose::Waking);
+        is_front
+            && self
+                .purpose
+                .turn(self.number, &self.trace.stage())
+                .is_none()
+    }
+
+    /// Whether gear are searched, with the running transaction.
     fn opened_after(&self) -> bool
-        ensures { result ≡ opened_after (stage_of self.now.trace) self.now.opened }
+        ensures { result ≡ woken_after (stage_of self.now.trace) self.now.purpose
+            (opened_after (stage_of self.now.trace) self.now.opened) }
     {
         match self.trace.stage() {
             Stage::Opened => true,
+            Stage::Initialised => self.opened || matches!(self.purpose, Purpose::Waking),
             _ => self.opened,
+        }
+    }
+
+    /// Whom a survey has heard, with the running transaction, after whose last frame this was heard.
+    fn heard_after(&self, heard: Answer) -> Shorts
+        ensures { result ≡ heard_after self.now.purpose (stage_of self.now.trace) heard self.now.heard }
+    {
+        match self.purpose {
+            Purpose::Asking(_) => match unknown_at(&self.trace.stage(), heard) {
+                Some(short) => self.heard.with(short),
+                None => self.heard,
+            },
+            Purpose::Opening
+            | Purpose::Probing
+            | Purpose::Visiting
+            | Purpose::Resolving(_)
+            | Purpose::Closing(_)
+            | Purpose::Waking => self.heard,
+        }
+    }
+
+    /// How often in a row silence was heard, with the running transaction, after whose last frame this was heard.
+    fn asked_after(&self, heard: Answer) -> u8
+        ensures { result ≡ asked_after self.now.purpose (stage_of self.now.trace) heard self.now.asked }
+    {
+        match self.purpose {
+            Purpose::Asking(_) => asked_at(&self.trace.stage(), heard, self.asked),
+            Purpose::Opening
+            | Purpose::Probing
+            | Purpose::Visiting
+            | Purpose::Resolving(_)
+            | Purpose::Closing(_)
+            | Purpose::Waking => self.asked,
         }
     }
 
@@ -121,6 +181,8 @@ impl State {
         self.tries = self.tries_after(kept);
         self.silent = self.silent_after();
         self.opened = self.opened_after();
+        self.heard = self.heard_after(heard);
+        self.asked = self.asked_after(heard);
         self.trace.stage()
     }
 
@@ -129,6 +191,9 @@ impl State {
         requires heard { IsHeard (with_kept self.old kept.now) (stage_of self.old.trace) }
         requires sends { Sends kept.now self.old.number self.old.purpose (stage_of self.old.trace) command }
         requires later { stage_of self.old.trace ≡ Free → ⊥ }
+        requires masked { (r : SearchAddress) → stage_of self.old.trace ≡ Unnamed r
+            → AfterMaskOn self.old.way (machine_with self.old kept.now) (course_of self.old) r
+            (order.Put LATER (frame_of command)) }
 
         ensures order { result ≡ order.Put LATER (frame_of command) }
         ensures course { course_of self.new ≡ course_of self.old }
@@ -203,5 +268,30 @@ impl State {
         self.trace = Trace::new();
         self.last = Some(Order::Halt(fault));
         Order::Halt(fault)
+    }
+}
+
+/// The short address that was asked, where somebody was heard under it whose random address is not known.
+fn unknown_at(stage: &Stage, heard: Answer) -> Option<Short>
+    ensures { result ≡ unknown_at stage.now heard }
+{
+    match *stage {
+        Stage::HighAsked(short, None) => match heard {
+            Answer::Silence => None,
+            Answer::Byte(_) | Answer::Damaged => Some(short),
+        },
+        Stage::MiddleAsked(short, None) | Stage::Spelled(short, None) => Some(short),
+        Stage::Spelled(short, Some(number)) if number == Random24::MASK => Some(short),
+        _ => None,
+    }
+}
+
+/// How often in a row a short address that is asked was silent.
+fn asked_at(stage: &Stage, heard: Answer, asked: u8) -> u8
+    ensures { result ≡ asked_at stage.now heard asked }
+{
+    match (stage, heard) {
+        (Stage::HighAsked(_, None), Answer::Silence) if asked < ASKED - 1 => asked + 1,
+        _ => 0,
     }
 }

@@ -5,7 +5,9 @@ ghost use Rattle.dali_controller.specs.Orders.{IsGiven, machine_after};
 
 use crate::error::StepError;
 use crate::purpose::Purpose;
+use crate::shorts::Shorts;
 use crate::state::State;
+use crate::way::Way;
 use dali_frame::SearchAddress;
 use dali_script::{Due, Input, Order, Record, Records, Trace};
 use dali_search::Search;
@@ -33,6 +35,9 @@ impl State {
             number: SearchAddress::MASK,
             search: Search::new(),
             from: 0,
+            way: Way::Fresh,
+            heard: Shorts::NONE,
+            asked: 0,
         }
     }
 
@@ -53,6 +58,7 @@ impl State {
                 None | Some(Order::Put(..) | Order::Done(_) | Order::Halt(_)) => None,
             },
             Input::Start
+            | Input::Survey
             | Input::Heard(_)
             | Input::Destroyed
             | Input::Lapsed
@@ -79,6 +85,7 @@ impl State {
     {
         match (self.last, input) {
             (None, Input::Start) => Ok(self.start(kept)),
+            (None, Input::Survey) => Ok(self.survey(kept)),
             (Some(Order::Put(_, frame)), Input::Heard(heard)) => Ok(self.heard(kept, frame, heard)),
             (Some(Order::Put(..)), Input::Destroyed) => Ok(self.lost(kept)),
             (Some(Order::Put(..)), Input::Lapsed) => Ok(self.lost(kept)),
@@ -87,6 +94,7 @@ impl State {
             (
                 _,
                 Input::Start
+                | Input::Survey
                 | Input::Heard(_)
                 | Input::Destroyed
                 | Input::Lapsed

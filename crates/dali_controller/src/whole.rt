@@ -1,16 +1,18 @@
 //! Whether a state is that of a machine between two inputs, with its records.
 
-ghost use Rattle.std.specs.Prelude.{◌≡◌, ◌↔◌, ◌<◌, IsTrue};
+ghost use Rattle.std.specs.Prelude.{◌≡◌, ◌↔◌, ◌<◌, ◌⊎◌, IsTrue};
 ghost use Rattle.dali_special.specs.Command.{command_of};
 ghost use Rattle.dali_script.specs.Records.{Fits, MayAdd, Has, HasRandom};
 ghost use Rattle.dali_script.specs.Stages.{stage_of};
 ghost use Rattle.dali_script.specs.declared.stage.Stage.TheVariants as stage;
-ghost use Rattle.dali_controller.specs.declared.purpose.Purpose.TheVariants.{Resolving};
+ghost use Rattle.dali_controller.specs.declared.purpose.Purpose.TheVariants.{Opening, Resolving, Asking};
+ghost use Rattle.dali_controller.specs.declared.way.Way.TheVariants.{Fresh};
 ghost use Rattle.dali_controller.specs.Whole.{IsWithinSilence, IsMet};
 
 use crate::moments::{SILENT, TRIES};
 use crate::purpose::Purpose;
 use crate::state::State;
+use crate::way::Way;
 use dali_frame::{Forward, Random24, SearchAddress, Short};
 use dali_script::{End, Order, Record, Records, Stage};
 use dali_search::Step;
@@ -25,9 +27,7 @@ impl State {
         ensures { IsTrue result ↔ IsWhole (machine_with self.now kept.now) }
     {
         match self.last {
-            None => self.is_ready(kept)
-                && self.is_free()
-                && matches!(self.purpose, Purpose::Opening),
+            None => self.is_ready(kept) && self.is_free() && self.is_unstarted(),
             Some(Order::Put(_, frame)) => self.is_ready(kept) && self.sends(kept, frame),
             Some(Order::Commit(added)) => {
                 self.is_ready(kept)
@@ -37,6 +37,13 @@ impl State {
             }
             Some(Order::Done(_) | Order::Halt(_)) => true,
         }
+    }
+
+    /// Whether its transaction is to be the opening, of a machine that is to be started.
+    fn is_unstarted(&self) -> bool
+        ensures { IsTrue result ↔ ((self.now.purpose ≡ Opening) × (self.now.way ≡ Fresh)) }
+    {
+        matches!(self.purpose, Purpose::Opening) && matches!(self.way, Way::Fresh)
     }
 
     /// Whether no frame of a transaction was sent.
@@ -62,11 +69,11 @@ impl State {
     /// Whether what is known while its transaction runs is so.
     fn knows(&self, kept: &Records<'_>) -> bool
         ensures { IsTrue result
-            ↔ Knows kept.now self.now.number self.now.search self.now.opened self.now.purpose }
+            ↔ Knows self.now.way kept.now self.now.number self.now.search self.now.opened self.now.purpose }
     {
         let number = self.number.value();
         match self.purpose {
-            Purpose::Opening => !self.opened,
+            Purpose::Opening => !self.opened || !matches!(self.way, Way::Fresh),
             Purpose::Probing => {
                 self.opened && self.search.step() == Step::Again && number == self.search.probe()
             }
@@ -77,6 +84,10 @@ impl State {
                 !self.opened && number < Random24::MASK && self.is_reserved(kept, short, number)
             }
             Purpose::Closing(_) => self.opened,
+            Purpose::Asking(short) => {
+                !self.opened && matches!(self.way, Way::Surveying) && short.number() < 64
+            }
+            Purpose::Waking => !self.opened && matches!(self.way, Way::Surveying),
         }
     }
 
@@ -162,10 +173,14 @@ fn is_met(stage: &Stage, purpose: Purpose, number: SearchAddress) -> bool
 
 /// Whether the transaction asks the gear with a short address.
 fn asks(purpose: Purpose, asked: Short) -> bool
-    ensures { IsTrue result ↔ (purpose ≡ Resolving asked) }
+    ensures { IsTrue result ↔ ((purpose ≡ Resolving asked) ⊎ (purpose ≡ Asking asked)) }
 {
     match purpose {
-        Purpose::Resolving(short) => short == asked,
-        _ => false,
+        Purpose::Resolving(short) | Purpose::Asking(short) => short == asked,
+        Purpose::Opening
+        | Purpose::Probing
+        | Purpose::Visiting
+        | Purpose::Closing(_)
+        | Purpose::Waking => false,
     }
 }

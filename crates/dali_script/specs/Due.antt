@@ -19,6 +19,7 @@ due_after (Some (Halt w)) = due.Nothing
 -- the inputs that are accepted
 abbrev pub accepts : Due → Input → Bool
 accepts due.Start input.Start = true
+accepts due.Start input.Survey = true
 accepts due.Bus (input.Heard h) = true
 accepts due.Bus input.Destroyed = true
 accepts due.Bus input.Lapsed = true

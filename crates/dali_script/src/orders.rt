@@ -6,8 +6,10 @@ use dali_frame::{Answer, Forward, Priority};
 /// What a machine is told.
 #[derive(Clone, Copy, Debug, PartialEq, Eq)]
 pub enum Input {
-    /// To start, once, before all else.
+    /// To start, once, before all else: gear without short address are to draw new random addresses.
     Start,
+    /// To start so, but to ask first who is there, and to search gear under the random addresses that they have.
+    Survey,
     /// The frame that was put was sent, and this was heard after it.
     Heard(Answer),
     /// The frame that was put was destroyed on the bus.

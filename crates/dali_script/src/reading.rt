@@ -2,7 +2,7 @@
 
 ghost use Rattle.std.specs.Prelude.{◌≡◌, ◌↔◌, Some, None, IsTrue, IsSome, IfSome, MatchOption};
 ghost use Rattle.dali_script.specs.Records.{Kept, Has, HasAddress, HasRandom, IsLeastFree, IsFull, IsKept};
-ghost use Rattle.dali_script.specs.Records.{Fits, MayAdd, MayBeUnmatched, Shows};
+ghost use Rattle.dali_script.specs.Records.{Fits, MayAdd, Marks, MayBeUnmatched, Shows};
 
 use crate::block::Block;
 use crate::checks::{are_enrolled, are_within};
@@ -164,6 +164,20 @@ impl<'a> Records<'a> {
         ensures kept { IsKept self.now }
     {
         at_random(self.enrolled, random)
+    }
+
+    /// For each of the 64 short addresses, whether it is reserved. It goes over the reservations once.
+    pub fn reserved_marks(&self) -> [bool; 64]
+        ensures { Marks self.now.reserved result }
+    {
+        marks(self.reserved)
+    }
+
+    /// For each of the 64 short addresses, whether gear was enrolled with it. It goes over the enrolments once.
+    pub fn enrolled_marks(&self) -> [bool; 64]
+        ensures { Marks self.now.enrolled result }
+    {
+        marks(self.enrolled)
     }
 
     /// The least short address of the block that no reservation has.

@@ -3,4 +3,4 @@ use Rattle.dali_controller.specs.Parts.{with_kept}
 use Rattle.dali_controller.proofs.state.State.close.Goals as goal
 
 pub begin-requires : goal.begin-requires
-begin-requires c = closing (with_kept c.args.self.now c.args.kept.now) c.args.end c.args.self.now.number c.requires
+begin-requires c = closing (with_kept c.args.self.now c.args.kept.now) c.args.end c.requires

@@ -11,6 +11,6 @@ push-requires c =
 pub returns-clause-heard : goal.returns-clause-heard
 returns-clause-heard c =
     hear_heard (with_kept c.args.self.now c.args.kept.now) (with_kept c.note_finding.new.self c.args.kept.now)
-    c.args.frame c.args.heard _ _ _ _ _ _ c.requires.whole c.requires.put
+    c.args.frame c.args.heard _ _ _ _ _ _ _ _ c.requires.whole c.requires.put
     c.push.ensures (ap (λ s. with_kept s c.args.kept.now) c.note_finding.ensures)
     c.stage.ensures c.tries_after-self.ensures c.silent_after-self.ensures c.opened_after-self.ensures

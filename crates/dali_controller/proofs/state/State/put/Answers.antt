@@ -7,7 +7,7 @@ use Rattle.dali_controller.proofs.state.State.put.Goals as goal
 pub returns-clause-next : goal.returns-clause-next
 returns-clause-next c =
     put_next (with_kept c.args.self.now c.args.kept.now) (stage_of c.args.self.now.trace)
-    c.args.command _ _ c.requires.heard c.requires.sends c.requires.later refl c.write-frame.ensures.table
+    c.args.command _ _ c.requires.heard c.requires.sends c.requires.later c.requires.masked refl c.write-frame.ensures.table
 
 pub returns-clause-whole : goal.returns-clause-whole
 returns-clause-whole c = put_whole (with_kept c.args.self.now c.args.kept.now) (stage_of c.args.self.now.trace)

@@ -1,0 +1,26 @@
+use Rattle.dali_controller.specs.Parts.{with_kept}
+use Rattle.dali_controller.proofs.Steps.{free_searching, reservable, reserves, unfree_left}
+use Rattle.dali_controller.proofs.state.State.reserve.Goals as goal
+
+pub commit-requires-clause-fits : goal.commit-requires-clause-fits
+commit-requires-clause-fits c =
+    (reservable (with_kept c.args.self.now c.args.kept.now) c.args.number c.in-Some.short c.value.result c.requires.heard c.requires.free c.in-Some.ensures
+    c.value.ensures).fits
+
+pub commit-requires-clause-may : goal.commit-requires-clause-may
+commit-requires-clause-may c =
+    (reservable (with_kept c.args.self.now c.args.kept.now) c.args.number c.in-Some.short c.value.result c.requires.heard c.requires.free c.in-Some.ensures
+    c.value.ensures).may
+
+pub leave-requires-clause-opened : goal.leave-requires-clause-opened
+leave-requires-clause-opened c = free_searching (with_kept c.args.self.now c.args.kept.now) c.args.number c.requires.heard c.requires.free
+
+pub leave-requires-clause-ungiven : goal.leave-requires-clause-ungiven
+leave-requires-clause-ungiven c =
+    unfree_left c.args.self.now.way (with_kept c.args.self.now c.args.kept.now) c.args.number c.requires.kept.reserved c.requires.free c.in-None.ensures
+
+pub returns-in-Some-clause-next : goal.returns-in-Some-clause-next
+returns-in-Some-clause-next c =
+    reserves (with_kept c.args.self.now c.args.kept.now) c.args.number c.in-Some.short c.value.result _ _ c.requires.kept.reserved c.requires.heard c.requires.free
+    c.in-Some.ensures c.value.ensures
+    c.commit.ensures.order c.commit.ensures.state
