@@ -40,6 +40,7 @@ with_outstanding kept (Some x) = with_record kept x
 abbrev pub kept_after : Controller → Input → Kept
 kept_after k input.Committed = with_outstanding k.records k.outstanding
 kept_after k input.Start = k.records
+kept_after k input.Survey = k.records
 kept_after k (input.Heard h) = k.records
 kept_after k input.Destroyed = k.records
 kept_after k input.Lapsed = k.records
@@ -48,6 +49,7 @@ kept_after k input.CommitFailed = k.records
 abbrev pub outstanding_told : Option Record → Input → Option Record
 outstanding_told was input.Committed = None
 outstanding_told was input.Start = was
+outstanding_told was input.Survey = was
 outstanding_told was (input.Heard h) = was
 outstanding_told was input.Destroyed = was
 outstanding_told was input.Lapsed = was

@@ -138,11 +138,13 @@ commit_by _ e = absurd (cc)
 abbrev pub is_due : Controller → Input → Bool
 is_due k input.Committed = is_commit k.last
 is_due k input.CommitFailed = is_commit k.last
+is_due k input.Survey = is_told k.told input.Start
 is_due k i = is_told k.told i
 
 due_by : (k : Controller) (i : Input) → is_due k i ≡ true → IsDue k i
 due_by k input.Committed e = commit_by k.last e
 due_by k input.CommitFailed e = commit_by k.last e
+due_by k input.Survey e = told_by k.told input.Start e
 due_by k i e = told_by k.told i e
 
 owner_by : (owner : Option ℕ) (c : ℕ) → owns owner c ≡ true → owner ≡ Some c

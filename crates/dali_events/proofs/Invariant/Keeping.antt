@@ -26,7 +26,7 @@ use Rattle.dali_events.specs.Laws.{KeepsRecords}
 use Rattle.dali_events.proofs.Invariant.Growing.{allowed_front}
 use Rattle.dali_script.proofs.Members.{Each}
 use Rattle.dali_events.proofs.Invariant.Controllers.{Property, Stands, Of, AddsOrder, Adds, controllers_step, controllers_count}
-use Rattle.dali_events.proofs.Invariant.Naming.{IsFinding, finding_is, enrols_assigned}
+use Rattle.dali_events.proofs.Invariant.Naming.{IsFinding, finding_is}
 
 -- RECORDS ARE KEPT, AND AN OUTSTANDING ONE MAY BE ADDED
 record IsNewRecord (kept : Kept) (x : Record) : Type 0 where
@@ -93,8 +93,7 @@ order_keeps p plan w c there k (Commit (Enrol a r)) may = λ h. record {
   new = one_new k.records (Enrol a r) (record {
     may = may.1.2;
     fits = may.1.1;
-    short = enrolled_short (a, r) may.1.0.0
-        (enrols_assigned k.records.reserved may.1.0.0 (a, r) may.1.0.2) (h.finding may.1.0.0 may.1.0.1);
+    short = enrolled_short (a, r) may.1.0.0 (sym may.1.0.2) (h.finding may.1.0.0 may.1.0.1);
   });
   finding = h.finding;
 }

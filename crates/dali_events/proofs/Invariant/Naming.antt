@@ -19,7 +19,7 @@ use Rattle.dali_script.specs.declared.finding.Finding.TheVariants.{Queried, Reso
 use Rattle.dali_script.specs.declared.records.Record.{Record}
 use Rattle.dali_script.specs.declared.records.Record.TheVariants.{Reserve, Enrol, Release}
 use Rattle.dali_script.specs.Records.{Assignment, Kept, Has}
-use Rattle.dali_script.specs.Findings.{search_of, Asked, nothing, high_byte, two_bytes, asked_of, found_by, spelled_by, assigned, MayEnrol, later}
+use Rattle.dali_script.specs.Findings.{search_of, Asked, nothing, high_byte, two_bytes, asked_of, found_by, spelled_by, assigned, later}
 use Rattle.dali_script.specs.Stages.{stage_of}
 use Rattle.dali_script.proofs.Lists.{has_cases}
 use Rattle.dali_script.proofs.Transactions.{equal}
@@ -78,11 +78,6 @@ says_stand N = record {
   forget = λ c kept o f h. record { enrolled = h.enrolled; outstanding = h.outstanding; finding = tt };
 }
 
--- what may be enrolled is the pair of a finding
-pub enrols_assigned : (reserved : List Assignment) (x : Finding) (p : Assignment) → MayEnrol reserved x p → p ≡ assigned x
-enrols_assigned reserved (Queried a r) p may = may
-enrols_assigned reserved (Resolved a r) p may = may.0
-
 says_finding : (N : Assignment → Type 0) (f : Option Finding) (x : Finding) → f ≡ Some x → SaysFinding N f → N (assigned x)
 says_finding N None x e h = absurd (cc)
 says_finding N (Some y) x e h = subst (λ z. N (assigned z)) (let same : y ≡ x = cc in same) h
@@ -92,8 +87,7 @@ says_order N w c k (Commit (Reserve a r)) may = λ h. record { enrolled = h.enro
 says_order N w c k (Commit (Enrol a r)) may =
     λ h. record {
       enrolled = h.enrolled;
-      outstanding = subst N (sym (enrols_assigned k.records.reserved may.1.0.0 (a, r) may.1.0.2))
-          (says_finding N k.finding may.1.0.0 may.1.0.1 h.finding);
+      outstanding = subst N may.1.0.2 (says_finding N k.finding may.1.0.0 may.1.0.1 h.finding);
       finding = h.finding;
     }
 says_order N w c k (Commit (Release a r)) may = λ h. record {
