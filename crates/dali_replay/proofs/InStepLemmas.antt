@@ -61,6 +61,7 @@ after_input : (k : Controller) (held : Kept) (pending : Option Record) (i : Inpu
 after_input k held pending input.Committed is made step = inr (after_commit k held pending is (made refl is) step)
 after_input k held pending input.CommitFailed is made step = remembers k held pending step
 after_input k held pending input.Start is made step = remembers k held pending step
+after_input k held pending input.Survey is made step = remembers k held pending step
 after_input k held pending (input.Heard h) is made step = remembers k held pending step
 after_input k held pending input.Destroyed is made step = remembers k held pending step
 after_input k held pending input.Lapsed is made step = remembers k held pending step

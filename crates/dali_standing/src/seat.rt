@@ -73,6 +73,7 @@ impl Seat {
     {
         match input {
             Input::Committed | Input::CommitFailed => matches!(self.last(), Some(Order::Commit(_))),
+            Input::Survey => self.told == Some(Input::Start),
             Input::Start | Input::Heard(_) | Input::Destroyed | Input::Lapsed => {
                 self.told == Some(input)
             }
