@@ -115,12 +115,14 @@ comes w q c t (Halt why) puts (inr free) = rw (free.0, free.1) (refl, refl)
 abbrev pub IsDueOf : Option Order → Option Input → Input → Type 0
 IsDueOf last told input.Committed = IsCommit last
 IsDueOf last told input.CommitFailed = IsCommit last
+IsDueOf last told input.Survey = told ≡ Some input.Start
 IsDueOf last told i = told ≡ Some i
 
 pub due_of : (k : Controller) (i : Input) → IsDue k i → IsDueOf k.last k.told i
 due_of k input.Committed due = due
 due_of k input.CommitFailed due = due
 due_of k input.Start due = due
+due_of k input.Survey due = due
 due_of k (input.Heard h) due = due
 due_of k input.Destroyed due = due
 due_of k input.Lapsed due = due
@@ -128,6 +130,7 @@ due_of k input.Lapsed due = due
 before : (w : World) (q c : ℕ) (m : Machine) (out : Option Record) (last : Option Order) (told : Option Input) (i : Input) → m.last ≡ last → Succeeds i
     → IsDueOf last told i
     → Moment w q c m out last told → Before w q c (machine_told m i).trace
+before w q c m out last told input.Survey is good due at = absurd good
 before w q c m out None (Some input.Start) input.Start is good due at = inr at.0
 before w q c m out (Some (Put p f)) (Some (input.Heard h)) (input.Heard g) is good due at = rw is (go at) where
   same_answer : h ≡ g
@@ -169,6 +172,7 @@ told_kept : (w : World) (q c : ℕ) (m : Machine) (k : Controller) (i : Input) �
 told_kept w q c m k input.Committed due good last kept at = committed_kept w q c m k k.last k.told refl refl last due kept at
 told_kept w q c m k input.CommitFailed due good last kept at = absurd good
 told_kept w q c m k input.Start due good last kept at = kept
+told_kept w q c m k input.Survey due good last kept at = absurd good
 told_kept w q c m k (input.Heard h) due good last kept at = heard_kept m (frame_put m.last) h ∙ kept
 told_kept w q c m k input.Destroyed due good last kept at = kept
 told_kept w q c m k input.Lapsed due good last kept at = kept
