@@ -71,10 +71,12 @@ Gives w ms c (e ∷ es) = Gives (happens w e) (machines_after w ms e) c es
 
 abbrev pub succeeds : Input → Bool
 succeeds input.CommitFailed = false
+succeeds input.Survey = false
 succeeds _ = true
 
 succeeds_by : (i : Input) → succeeds i ≡ true → Succeeds i
 succeeds_by input.CommitFailed e = absurd (cc)
+succeeds_by input.Survey e = absurd (cc)
 succeeds_by _ e = tt
 
 abbrev pub same_frame : Forward → Forward → Bool
