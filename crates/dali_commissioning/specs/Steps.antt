@@ -4,7 +4,7 @@ use Rattle.dali_frame.specs.declared.frames.Forward.{Forward}
 use Rattle.dali_special.specs.Command.{command_of, is_send_twice}
 use Rattle.dali_script.specs.declared.records.Record.{Record}
 use Rattle.dali_script.specs.declared.orders.Input.{Input}
-use Rattle.dali_script.specs.declared.orders.Input.TheVariants.{Start, Heard}
+use Rattle.dali_script.specs.declared.orders.Input.TheVariants.{Start, Survey, Heard}
 use Rattle.dali_script.specs.declared.orders.Input.TheVariants.{Committed, CommitFailed}
 use Rattle.dali_script.specs.declared.orders.Order.{Order}
 use Rattle.dali_script.specs.declared.orders.Order.TheVariants.{Put}
@@ -85,6 +85,7 @@ written_by (s ∷ before) = written_by before ++ order_line (open_after before) 
 -- these bytes are the line that tells this; nothing, where it is not of the bus
 abbrev pub AreTold : Input → List ℕ → Type 0
 AreTold Start bytes = bytes ≡ []
+AreTold Survey bytes = bytes ≡ []
 AreTold Committed bytes = bytes ≡ []
 AreTold CommitFailed bytes = bytes ≡ []
 AreTold told bytes = (line : List ℕ) × (bytes ≡ line ++ 10 ∷ []) × (told_of line ≡ Some told)

@@ -114,7 +114,7 @@ fn is_kept(told: Input) -> bool
 {
     match told {
         Input::Committed => true,
-        Input::Start | Input::Heard(_) | Input::Destroyed | Input::Lapsed | Input::CommitFailed =>
+        Input::Start | Input::Survey | Input::Heard(_) | Input::Destroyed | Input::Lapsed | Input::CommitFailed =>
             false,
     }
 }

@@ -138,7 +138,7 @@ Goes n c (Ok o) m =
     × HasStepped given c i o m
 Goes n c (Err e) m = IsGoRefused n c e m
 
--- ---------------------------------------------------------------- `store c`, `fail c`
+-- ------------------------------------------------------- `store c`, `fail c`, `survey c`
 
 -- whether a commit is outstanding that was not made
 abbrev pub IsPendingBy : Due → Option Record → Type 0
@@ -159,6 +159,11 @@ Stores n c (Err e) m = IsBarred n.site c e × (m ≡ n)
 abbrev pub Fails : Installation → ℕ → Result Order Refusal → Installation → Type 0
 Fails n c (Ok o) m = HasStepped n c input.CommitFailed o m
 Fails n c (Err e) m = IsActRefused n.site c input.CommitFailed e × (m ≡ n)
+
+-- `survey` tells the controller to begin by a survey
+abbrev pub Surveys : Installation → ℕ → Result Order Refusal → Installation → Type 0
+Surveys n c (Ok o) m = HasStepped n c input.Survey o m
+Surveys n c (Err e) m = IsActRefused n.site c input.Survey e × (m ≡ n)
 
 -- ----------------------------------------------- `up c`, and the calls that no store takes part in
 
