@@ -70,7 +70,10 @@ IsCommit _ = ⊥
 abbrev pub IsDue : Controller → Input → Type 0
 IsDue k input.Committed = IsCommit k.last
 IsDue k input.CommitFailed = IsCommit k.last
-IsDue k i = k.told ≡ Some i
+IsDue k input.Start = k.told ≡ Some input.Start
+IsDue k (input.Heard h) = k.told ≡ Some (input.Heard h)
+IsDue k input.Destroyed = k.told ≡ Some input.Destroyed
+IsDue k input.Lapsed = k.told ≡ Some input.Lapsed
 
 -- A record that it may commit: an address of its block and a number, neither reserved by it; or
 -- what its last finding lets be enrolled, with neither enrolled by it; the number is one that gear
