@@ -71,7 +71,15 @@ fn waits_behind(half: Half, frame: Forward, told: Input) -> Option<Forward>
 {
     match (half, told) {
         (Half::First, Input::Heard(_)) => Some(frame),
-        (Half::Whole | Half::First | Half::Second, _) => None,
+        (
+            Half::First,
+            Input::Start
+            | Input::Destroyed
+            | Input::Lapsed
+            | Input::Committed
+            | Input::CommitFailed,
+        )
+        | (Half::Whole | Half::Second, _) => None,
     }
 }
 

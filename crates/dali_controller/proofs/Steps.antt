@@ -38,7 +38,7 @@ use Rattle.dali_script.specs.declared.orders.Order.{Order}
 use Rattle.dali_script.specs.declared.orders.Order.TheVariants.{Put, Commit, Done, Halt}
 use Rattle.dali_script.specs.declared.orders.End.{End}
 use Rattle.dali_script.specs.declared.orders.Fault.TheVariants as fault
-use Rattle.dali_script.specs.declared.orders.End.TheVariants.{BlockFull, GaveUp}
+use Rattle.dali_script.specs.declared.orders.End.TheVariants.{AllFound, BlockFull, GaveUp}
 use Rattle.dali_script.specs.declared.orders.Due.TheVariants as due
 use Rattle.dali_controller.specs.declared.purpose.Purpose.{Purpose}
 use Rattle.dali_controller.specs.declared.purpose.Purpose.TheVariants.{Opening, Probing, Visiting, Resolving, Closing, Asking, Waking}
@@ -324,7 +324,9 @@ terminates (Closing e) n = inr (refl, refl)
 terminates _ n = inl refl
 
 silent_closes : (p : Purpose) (i : ℕ) → IsWithinSilence p i → i ≡ 16 → p ≡ Closing GaveUp
-silent_closes (Closing e) i calm is = ap (λ x. Closing x) (calm.1 is)
+silent_closes (Closing AllFound) i calm is = absurd (omega arith)
+silent_closes (Closing BlockFull) i calm is = absurd (omega arith)
+silent_closes (Closing GaveUp) i calm is = refl
 silent_closes _ i calm is = absurd (omega arith)
 
 pub first_spelled : (y : Way) (k : Kept) (n : SearchAddress) (s : Search) (o : Bool) (p : Purpose) → Knows y k n s o p → IsSpelled (first_of p n)
@@ -413,7 +415,9 @@ commit_whole w x t ready going fits may empty = record {
 
 -- TO HEAR
 calm_small : (p : Purpose) (i : ℕ) → IsWithinSilence p i → i ≤ 16
-calm_small (Closing e) i calm = calm.0
+calm_small (Closing AllFound) i calm = omega arith
+calm_small (Closing BlockFull) i calm = omega arith
+calm_small (Closing GaveUp) i calm = calm
 calm_small _ i calm = omega arith
 
 pub sending_small : (w : Parts) (f : Forward) → IsSending (machine_of w) f → w.silent < 255

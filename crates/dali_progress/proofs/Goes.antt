@@ -73,7 +73,20 @@ abbrev pub Holds : List Gear → Machine → Option Order → Option Input → L
 Holds before m None (Some input.Start) gs left = IsFresh before m gs left
 Holds before m (Some (Put p f)) (Some (input.Heard h)) gs left = Hears before m f h gs left
 Holds before m (Some o) None gs left = IsNext before m o gs left
-Holds before m _ _ gs left = ⊥
+Holds before m None None gs left = ⊥
+Holds before m None (Some (input.Heard h)) gs left = ⊥
+Holds before m None (Some input.Destroyed) gs left = ⊥
+Holds before m None (Some input.Lapsed) gs left = ⊥
+Holds before m None (Some input.Committed) gs left = ⊥
+Holds before m None (Some input.CommitFailed) gs left = ⊥
+Holds before m (Some (Put p f)) (Some input.Start) gs left = ⊥
+Holds before m (Some (Put p f)) (Some input.Destroyed) gs left = ⊥
+Holds before m (Some (Put p f)) (Some input.Lapsed) gs left = ⊥
+Holds before m (Some (Put p f)) (Some input.Committed) gs left = ⊥
+Holds before m (Some (Put p f)) (Some input.CommitFailed) gs left = ⊥
+Holds before m (Some (Commit x)) (Some i) gs left = ⊥
+Holds before m (Some (Done e)) (Some i) gs left = ⊥
+Holds before m (Some (Halt why)) (Some i) gs left = ⊥
 
 pub record Goes (before : List Gear) (w : World) (q c : ℕ) (m : Machine) (left : ℕ) : Type 0 where
   pub lone : IsLone w q c m

@@ -179,7 +179,9 @@ turns_of n m acted text one turns = one_turn n m acted text (subst (λ x. Turns 
 
 abbrev logs_count : Report → ℕ
 logs_count report.Idle = 0
-logs_count _ = 1
+logs_count (report.Sent c f h) = 1
+logs_count (report.Destroyed c f) = 1
+logs_count (report.Collided c f d g) = 1
 
 -- where there is no trouble no frame is destroyed
 undisturbed : (s : SiteState) (set : GearSet)

@@ -54,7 +54,9 @@ abbrev pub IsOfBus : Input → Type 0
 IsOfBus (input.Heard h) = Unit {0}
 IsOfBus input.Destroyed = Unit {0}
 IsOfBus input.Lapsed = Unit {0}
-IsOfBus _ = ⊥
+IsOfBus input.Start = ⊥
+IsOfBus input.Committed = ⊥
+IsOfBus input.CommitFailed = ⊥
 
 pub bus_put : (i : Input) (last : Option Order) → IsOfBus i → accepts (due_after last) i ≡ true → IsPut last
 bus_put (input.Heard h) None bus a = cc

@@ -222,7 +222,7 @@ impl Seat {
     {
         match self.last() {
             Some(Order::Commit(ordered)) => Some(ordered),
-            _ => None,
+            Some(Order::Put(..) | Order::Done(_) | Order::Halt(_)) | None => None,
         }
     }
 
