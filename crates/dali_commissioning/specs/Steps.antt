@@ -68,6 +68,7 @@ opened_by waiting None = None
 abbrev pub if_heard : Input → Option Forward → Option Forward
 if_heard (Heard h) waiting = waiting
 if_heard Start waiting = None
+if_heard Survey waiting = None
 if_heard Destroyed waiting = None
 if_heard Lapsed waiting = None
 if_heard Committed waiting = None
@@ -121,6 +122,7 @@ abbrev pub record_told : Input → Option Record → List Record
 record_told Committed (Some x) = x ∷ []
 record_told Committed None = []
 record_told Start ordered = []
+record_told Survey ordered = []
 record_told (Heard h) ordered = []
 record_told Destroyed ordered = []
 record_told Lapsed ordered = []

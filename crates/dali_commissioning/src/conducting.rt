@@ -74,6 +74,7 @@ fn waits_behind(half: Half, frame: Forward, told: Input) -> Option<Forward>
         (
             Half::First,
             Input::Start
+            | Input::Survey
             | Input::Destroyed
             | Input::Lapsed
             | Input::Committed
@@ -122,8 +123,12 @@ fn is_kept(told: Input) -> bool
 {
     match told {
         Input::Committed => true,
-        Input::Start | Input::Survey | Input::Heard(_) | Input::Destroyed | Input::Lapsed | Input::CommitFailed =>
-            false,
+        Input::Start
+        | Input::Survey
+        | Input::Heard(_)
+        | Input::Destroyed
+        | Input::Lapsed
+        | Input::CommitFailed => false,
     }
 }
 

@@ -34,7 +34,8 @@ use Rattle.dali_controller.specs.declared.way.Way.TheVariants.{Fresh, Surveying,
 use Rattle.dali_controller.specs.Course.{Course, closing_of, turn_of, going_on, going_on_early, visit_or_opening, next_unfinished, ask_or_wake, next_asked}
 use Rattle.dali_controller.specs.Machine.{Machine, machine_told}
 use Rattle.dali_controller.specs.Next.{next_course, begins_at, course_by, beginning, BeginsWith}
-use Rattle.dali_controller.specs.Orders.{IsAllowed, MayEnrolOn, MayOrderPut, IsWarranted, IsBegun, IsCaused, Contradicts, AfterMask, AfterMaskOn, AfterFinding, AfterEnrolled}
+use Rattle.dali_controller.specs.Orders.{IsAllowed, MayEnrolOn, MayOrderPut, IsWarranted, IsBegun, IsCaused, Contradicts, AfterMask, AfterMaskOn, AfterFinding}
+use Rattle.dali_controller.specs.Orders.{AfterEnrolled}
 use Rattle.dali_controller.specs.Orders.{IsFollowed, IsSought, IsOrdered, IsGiven, running_close}
 
 -- WHICH ORDER A MACHINE GIVES at which stage, once it was told its input: what is told of a step leaves no other.

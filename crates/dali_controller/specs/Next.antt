@@ -72,7 +72,8 @@ draw_or_close false c e = closing c e
 -- COMPARE was answered: where nobody is left, the search is over
 abbrev pub probed_to : Machine → Step → Course → Course
 probed_to t Nobody c = draw_or_close (draws t) c AllFound
-probed_to t s c = after_step s c
+probed_to t Again c = after_step Again c
+probed_to t (Found r) c = after_step (Found r) c
 
 abbrev pub probed_in : Machine → Answer → Course
 probed_in t h =

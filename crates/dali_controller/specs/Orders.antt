@@ -102,9 +102,9 @@ IsAllowed t (Commit x) = MayCommit t x
 IsAllowed t (Done e) = Unit {0}
 IsAllowed t (Halt w) = Unit {0}
 
--- GEAR THAT IS LEFT without a short address: none is reserved for its number, and each of the block
--- is reserved. In a survey: what is reserved for its number is another's, or none is reserved for it
--- and none is open; and gear draw no new numbers any more.
+-- GEAR THAT IS LEFT without a short address: none is reserved for its number, and each of the
+-- block is reserved. In a survey: what is reserved for its number is another's, or none is
+-- reserved for it and none is open; and gear draw no new numbers any more.
 abbrev pub is_left_by : Machine → ℕ → Option ℕ → Option ℕ → Bool
 is_left_by t r (Some a) free = is_withheld t a r
 is_left_by t r None free = not (is_some free)
@@ -249,6 +249,7 @@ IsOrdered t o = IsOrderedTo t (course_by t o) o
 abbrev pub IsAnswered : Machine → Input → Order → Type 0
 IsAnswered m input.CommitFailed o = o ≡ Halt fault.Store
 IsAnswered m input.Start o = IsOrdered (machine_told m input.Start) o
+IsAnswered m input.Survey o = IsOrdered (machine_told m input.Survey) o
 IsAnswered m (input.Heard h) o = IsOrdered (machine_told m (input.Heard h)) o
 IsAnswered m input.Destroyed o = IsOrdered (machine_told m input.Destroyed) o
 IsAnswered m input.Lapsed o = IsOrdered (machine_told m input.Lapsed) o
@@ -257,6 +258,7 @@ IsAnswered m input.Committed o = IsOrdered (machine_told m input.Committed) o
 abbrev pub IsFollowedAt : Machine → Input → Order → Type 0
 IsFollowedAt m input.CommitFailed o = Unit {0}
 IsFollowedAt m input.Start o = IsFollowed (machine_told m input.Start) o
+IsFollowedAt m input.Survey o = IsFollowed (machine_told m input.Survey) o
 IsFollowedAt m (input.Heard h) o = IsFollowed (machine_told m (input.Heard h)) o
 IsFollowedAt m input.Destroyed o = IsFollowed (machine_told m input.Destroyed) o
 IsFollowedAt m input.Lapsed o = IsFollowed (machine_told m input.Lapsed) o

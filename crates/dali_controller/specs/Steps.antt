@@ -13,6 +13,7 @@ use Rattle.dali_controller.specs.Whole.{IsWhole}
 abbrev pub kept_by : Option Order → Input → Option Record
 kept_by (Some (Commit x)) input.Committed = Some x
 kept_by (Some (Commit x)) input.Start = None
+kept_by (Some (Commit x)) input.Survey = None
 kept_by (Some (Commit x)) (input.Heard h) = None
 kept_by (Some (Commit x)) input.Destroyed = None
 kept_by (Some (Commit x)) input.Lapsed = None

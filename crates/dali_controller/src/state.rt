@@ -11,7 +11,8 @@ ghost use Rattle.dali_script.specs.declared.orders.Order.TheVariants as order;
 ghost use Rattle.dali_controller.specs.declared.purpose.Purpose.TheVariants as purpose;
 ghost use Rattle.dali_script.specs.Due.{frame_put};
 ghost use Rattle.dali_controller.specs.Machine.{machine_told, is_complete, is_ended, tries_after, silent_after};
-ghost use Rattle.dali_controller.specs.Machine.{opened_after, woken_after, heard_after, asked_after, unknown_at, asked_at};
+ghost use Rattle.dali_controller.specs.Machine.{opened_after, woken_after, heard_after, asked_after};
+ghost use Rattle.dali_controller.specs.Machine.{unknown_at, asked_at};
 ghost use Rattle.dali_controller.specs.Orders.{machine_ordered, AfterMaskOn};
 
 use crate::purpose::Purpose;

@@ -150,7 +150,9 @@ fn is_within_silence(purpose: Purpose, silent: u8) -> bool
         | Purpose::Opening
         | Purpose::Probing
         | Purpose::Visiting
-        | Purpose::Resolving(_) => silent < SILENT,
+        | Purpose::Resolving(_)
+        | Purpose::Asking(_)
+        | Purpose::Waking => silent < SILENT,
     }
 }
 

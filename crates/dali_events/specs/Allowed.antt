@@ -77,9 +77,9 @@ IsDue k input.Committed = IsCommit k.last
 IsDue k input.CommitFailed = IsCommit k.last
 
 -- A record that it may commit: an address of its block and a number, neither reserved by it; or
--- its last finding, with neither enrolled by it, whether or not it is reserved so; the number is one
--- that gear draw. Or the release of what it has reserved for the gear of its last finding, which has
--- another address.
+-- its last finding, with neither enrolled by it, whether or not it is reserved so; the number is
+-- one that gear draw. Or the release of what it has reserved for the gear of its last finding,
+-- which has another address.
 abbrev pub MayCommit : Controller → Record → Type 0
 MayCommit k (Reserve a r) =
     InBlock k.records.block a × (r < MASK24) × MayAdd k.records (Reserve a r)

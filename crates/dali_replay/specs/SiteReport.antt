@@ -6,7 +6,8 @@ use Rattle.dali_world.specs.Site.{SiteState, world, IsArcRefused, IsDownRefused,
 use Rattle.dali_replay.specs.Calls.{Befalls, Requests, BefallsGear, Lapses, IsLogFull}
 use Rattle.dali_replay.specs.declared.site_line.SiteLine.{SiteLine}
 use Rattle.dali_replay.specs.declared.site_line.SiteLine.TheVariants as line
-use Rattle.dali_replay.specs.Installation.{Installation, Goes, Stores, Fails, Surveys, ComesUp, Calls}
+use Rattle.dali_replay.specs.Installation.{Installation, Goes, Stores, Fails, Surveys}
+use Rattle.dali_replay.specs.Installation.{ComesUp, Calls}
 use Rattle.dali_replay.specs.Installation.{PumpsOn}
 use Rattle.dali_replay.specs.Rounds.{Runs}
 use Rattle.dali_replay.specs.Text.{ok_of, offered_of, answer_or_refusal, ordered_text, report_text}

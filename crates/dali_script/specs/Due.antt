@@ -27,6 +27,7 @@ accepts due.Bus input.Lapsed = true
 accepts due.Store input.Committed = true
 accepts due.Store input.CommitFailed = true
 accepts _ input.Start = false
+accepts _ input.Survey = false
 accepts _ (input.Heard h) = false
 accepts _ input.Destroyed = false
 accepts _ input.Lapsed = false

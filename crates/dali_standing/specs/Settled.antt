@@ -34,6 +34,7 @@ IsOwning t k m (Some (Put p f)) None =
     × (is_arc (command_of f) ≡ false)
 IsOwning t k m (Some (Put p f)) (Some (input.Heard h)) = t ≡ m.trace ++ entry f h ∷ []
 IsOwning t k m (Some (Put p f)) (Some input.Start) = ⊥
+IsOwning t k m (Some (Put p f)) (Some input.Survey) = ⊥
 IsOwning t k m (Some (Put p f)) (Some input.Destroyed) = ⊥
 IsOwning t k m (Some (Put p f)) (Some input.Lapsed) = ⊥
 IsOwning t k m (Some (Put p f)) (Some input.Committed) = ⊥
@@ -49,6 +50,7 @@ abbrev pub IsOver : Controller → Machine → Forward → Input → Type 0
 IsOver k m f (input.Heard h) =
     may_follow k.records.block k.records.reserved (stage_of (m.trace ++ entry f h ∷ [])) ≡ false
 IsOver k m f input.Start = Unit {0}
+IsOver k m f input.Survey = Unit {0}
 IsOver k m f input.Destroyed = Unit {0}
 IsOver k m f input.Lapsed = Unit {0}
 IsOver k m f input.Committed = Unit {0}

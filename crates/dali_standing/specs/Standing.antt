@@ -73,6 +73,7 @@ machines_of seats = map (λ p. p.machine) seats
 abbrev pub running_told : List Entry → Option Order → Option Input → List Entry
 running_told t (Some (Put p f)) (Some (input.Heard h)) = t ++ entry f h ∷ []
 running_told t (Some (Put p f)) (Some input.Start) = t
+running_told t (Some (Put p f)) (Some input.Survey) = t
 running_told t (Some (Put p f)) (Some input.Destroyed) = t
 running_told t (Some (Put p f)) (Some input.Lapsed) = t
 running_told t (Some (Put p f)) (Some input.Committed) = t

@@ -108,6 +108,7 @@ hears_by answers (Byte v) e = heard_by v answers e
 abbrev pub same_input : Input → Input → Bool
 same_input input.Start input.Start = true
 same_input input.Start _ = false
+same_input input.Survey _ = false
 same_input (input.Heard Silence) (input.Heard Silence) = true
 same_input (input.Heard Silence) _ = false
 same_input (input.Heard (Byte u)) (input.Heard (Byte v)) = u == v

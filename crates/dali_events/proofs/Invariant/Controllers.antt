@@ -54,6 +54,7 @@ Adds P w (event.Up c kept) = Unit {0}
 informed_stands : (P : Property) (s : Stands P) (c : ℕ) (k : Controller) (i : Input) → Of P c k → Of P c (controller_informed k i)
 informed_stands P s c k input.Committed h = s.keep c k.records k.outstanding k.finding h
 informed_stands P s c k input.Start h = h
+informed_stands P s c k input.Survey h = h
 informed_stands P s c k (input.Heard x) h = h
 informed_stands P s c k input.Destroyed h = h
 informed_stands P s c k input.Lapsed h = h
