@@ -30,10 +30,10 @@ use std::marker::Model;
 /// a restart, beside other controllers, and with gear from elsewhere. It sees no gear without power.
 ///
 /// How to drive it: make one with `new`, give `step` the input `Start` or `Survey`, do what it orders, give it what
-/// came of that, and so on until the order is `Done` or `Halt`. `step` alone changes it; `due`, `table`, `kept`, `heard`,
-/// `last` and `id` read it, and `into_kept` gives its records back. No end is promised: a bus that loses every frame is
-/// given up after eight tries, but a bus on which gear come and go may keep it busy for good, so the caller bounds its
-/// loop.
+/// came of that, and so on until the order is `Done` or `Halt`. `step` alone changes it; `due`, `table`, `kept`,
+/// `heard`, `last` and `id` read it, and `into_kept` gives its records back. No end is promised: a bus that loses every
+/// frame is given up after eight tries, but a bus on which gear come and go may keep it busy for good, so the caller
+/// bounds its loop.
 ///
 /// | last order | what to do | inputs that are taken then |
 /// |---|---|---|
