@@ -140,7 +140,8 @@ fn end_refused(refusal: Refusal, input: Input) -> Option<Outcome> {
         (Refusal::NotDue, Input::Committed | Input::CommitFailed) => {
             Some(Outcome::Refused(Refusal::NotDue))
         }
-        (Refusal::NotDue, Input::Start | Input::Heard(_) | Input::Destroyed | Input::Lapsed) => None,
+        (Refusal::NotDue, Input::Start | Input::Heard(_) | Input::Destroyed | Input::Lapsed) =>
+            None,
         (
             Refusal::UnknownController
             | Refusal::UnknownGear
