@@ -6,7 +6,7 @@ use super::machine::{
 };
 use super::values::InNumbers::{Enrol, Release, Reserve};
 use super::values::Ordered::{Commit, Done, Halt, NotDue, Put};
-use super::values::{InNumbers, same};
+use super::values::{InNumbers, same, short};
 use dali_controller::Machine;
 use dali_script::{End, Fault, Input};
 use std::process::Abort;
@@ -112,8 +112,8 @@ fn gear_that_tell_a_number_are_enrolled(rt: HostRuntime) -> Result<(), Fail> {
     plays(&rt, (0, 3), &other, &[], &[], 0, &[&conflict])
 }
 
-/// An address that is somebody's, whose number is not told, is given to nobody: with no other in the block no gear draws
-/// a number.
+/// An address that is somebody's, whose number is not told, is given to nobody: with no other in the block no gear
+/// draws a number.
 #[test]
 fn what_was_heard_is_not_given(rt: HostRuntime) -> Result<(), Fail> {
     let ends = [(SILENCE, Put(3, 0xA100)), (SILENCE, Done(End::AllFound))];
@@ -124,6 +124,25 @@ fn what_was_heard_is_not_given(rt: HostRuntime) -> Result<(), Fail> {
     plays(&rt, (0, 0), &[], &cut_off, &[], 191, &parts)?;
     let undrawn = [(0x01C2, YES), (0x01C3, YES), (0x01C4, YES)];
     plays(&rt, (0, 0), &[], &undrawn, &[], 192, &parts)
+}
+
+/// A byte was heard, and then the question was lost and nobody answers any more: somebody was there.
+#[test]
+fn who_answered_once_was_heard(rt: HostRuntime) -> Result<(), Fail> {
+    let asks = [
+        (Input::Survey, Put(3, 0x01C2)),
+        (byte(0x12), Put(1, 0x01C3)),
+        (Input::Destroyed, Put(3, 0x01C2)),
+        (SILENCE, Put(3, 0x01C2)),
+        (SILENCE, Put(3, 0x01C2)),
+        (SILENCE, Put(3, 0x03C2)),
+    ];
+    let mut machine = machine_of((0, 3), &[])?;
+    goes_on(&rt, &mut machine, &[&asks]);
+    let heard = machine.heard();
+    same(&rt, &heard.has(short(0)?), &true);
+    same(&rt, &heard.has(short(1)?), &false);
+    Ok(())
 }
 
 /// The gear at 000000 has no short address, and 0 is reserved for it; then it is told this.
