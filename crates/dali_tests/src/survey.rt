@@ -43,19 +43,18 @@ fn surveys<R: Abort>(
     orders: u32,
 ) {
     let mut told = Input::Survey;
-    let mut kept = 0;
+    let mut kept = records.iter();
     for _ in 0..orders {
         told = match ordered(machine, told) {
             Put(_, frame) => heard_after(heard, frame),
             Commit(record) => {
-                same(rt, &records.get(kept).copied(), &Some(record));
-                kept += 1;
+                same(rt, &kept.next().copied(), &Some(record));
                 Input::Committed
             }
             Done(_) | Halt(_) | NotDue => Input::Start,
         };
     }
-    same(rt, &kept, &records.len());
+    same(rt, &kept.next().is_none(), &true);
 }
 
 /// A machine of a block, with records of before, surveys so, and is then told one part after the other.
