@@ -43,18 +43,19 @@ fn surveys<R: Abort>(
     orders: u32,
 ) {
     let mut told = Input::Survey;
-    let mut kept = records.iter();
+    let mut kept: usize = 0;
     for _ in 0..orders {
         told = match ordered(machine, told) {
             Put(_, frame) => heard_after(heard, frame),
             Commit(record) => {
-                same(rt, &kept.next().copied(), &Some(record));
+                same(rt, &records.get(kept).copied(), &Some(record));
+                kept = kept.saturating_add(1);
                 Input::Committed
             }
             Done(_) | Halt(_) | NotDue => Input::Start,
         };
     }
-    same(rt, &kept.next().is_none(), &true);
+    same(rt, &kept, &records.len());
 }
 
 /// A machine of a block, with records of before, surveys so, and is then told one part after the other.
