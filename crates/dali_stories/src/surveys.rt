@@ -105,7 +105,7 @@ const STORIES: [(&str, &str); 4] = [
          run 2000 > 0: commit reserve 1 123456
          > 0: commit enrol 1 123456
          > 0: done all-found
-         > ran 320",
+         > ran 317",
     ),
 ];
 
