@@ -1,7 +1,6 @@
 use Rattle.std.proofs.Common.{◌≡◌, Option, Some, refl, sym, ap, ◌∙◌, length}
 use Rattle.dali_search.specs.Least.{Search, lowest, highest, step_between}
 use Rattle.dali_search.specs.Narrowing.{answers_of}
-use Rattle.dali_script.specs.Records.{Kept}
 use Rattle.dali_controller.specs.declared.state.State.{State}
 use Rattle.dali_controller.specs.Machine.{Machine}
 use Rattle.dali_controller.specs.Parts.{machine_with}
