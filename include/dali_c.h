@@ -232,8 +232,8 @@ uint8_t dali_records_new(struct dali_records *records, uint8_t first, uint8_t la
 
 /* Adds a record that was kept, as a controller reads them from its store: all of them, oldest first.
  *
- * DALI_NO_RECORDS: `records` is no controller's records. DALI_BAD_ARGUMENT: `addition` is no record: its kind is not one
- * of three, or its short address is above 63. DALI_DOES_NOT_FIT, DALI_ADDRESS_TAKEN, DALI_RANDOM_TAKEN,
+ * DALI_NO_RECORDS: `records` is no controller's records. DALI_BAD_ARGUMENT: `addition` is no record: its kind is none
+ * of enum dali_record_kind, or its short address is above 63. DALI_DOES_NOT_FIT, DALI_ADDRESS_TAKEN, DALI_RANDOM_TAKEN,
  * DALI_NOT_RESERVED: it is none that a machine orders after these. A store whose records are refused is not the one
  * that was written. */
 uint8_t dali_records_add(struct dali_records *records, const struct dali_record *addition);
@@ -246,8 +246,8 @@ uint8_t dali_machine_new(struct dali_machine *machine, uint8_t id, const struct 
 /* Tells a machine what happened, and gives its next order. `input` is of enum dali_input; `byte` is read with
  * DALI_HEARD_BYTE alone.
  *
- * DALI_NO_MACHINE: `machine` is no machine's. DALI_BAD_ARGUMENT: `input` is above 8. DALI_NOT_DUE: the machine waits for
- * something else. */
+ * DALI_NO_MACHINE: `machine` is no machine's. DALI_BAD_ARGUMENT: `input` is none of enum dali_input. DALI_NOT_DUE: the
+ * machine waits for something else. */
 uint8_t dali_machine_step(struct dali_machine *machine, uint8_t input, uint8_t byte, struct dali_order *order);
 
 /* Whether `machine` is a machine's. It reads the whole struct once. DALI_NO_MACHINE: it is none.

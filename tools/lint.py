@@ -7,6 +7,8 @@ import os
 import pathlib
 import re
 
+import spelled
+
 WIDTHS = {"src": (".rt", 120), "specs": (".antt", 100), "proofs": (".antt", 160)}
 LONGEST = 800
 TESTS = ("dali_tests", "dali_stories", "dali_line_tests", "dali_sqlite_tests")
@@ -212,78 +214,10 @@ def kit(root):
             yield f"{named(root, file)}: the kit's name stands here, and in KIT"
 
 
-# Enums of the code whose variants are spelled once more where the code cannot be read: the file that has the enum, the file
-# that has its codes if it has some, and how each further file spells a variant.
-ORDERS, RECORDS, CODES, HEADER, FORMAT = (
-    "crates/dali_script/src/orders.rt",
-    "crates/dali_script/src/records.rt",
-    "crates/dali_c/src/codes.rt",
-    "include/dali_c.h",
-    "docs/FORMAT.md",
-)
-TROUBLE, REFUSAL = "crates/dali_standing/src/trouble.rt", "crates/dali_standing/src/refusal.rt"
-REPLAY, THREADS, FORMS = "tools/replay_report.py", "tools/threads_report.py", "tools/script_forms.py"
-SPELLINGS = {
-    "Input": (ORDERS, None, {HEADER: "DALI_{UPPER}"}),
-    "Order": (ORDERS, None, {HEADER: "DALI_{UPPER} ="}),
-    "End": (
-        ORDERS,
-        ORDERS,
-        {HEADER: "DALI_{UPPER} = {code}", FORMAT: "`c: done {kebab}`", REPLAY: "{kebab}", THREADS: '"{kebab}"'},
-    ),
-    "Fault": (
-        ORDERS,
-        ORDERS,
-        {HEADER: "DALI_{UPPER} = {code}", FORMAT: "`c: halt {kebab}`", THREADS: '"halt {kebab}"'},
-    ),
-    "Due": (ORDERS, CODES, {HEADER: "DALI_DUE_{UPPER} = {code}"}),
-    "Record": (
-        RECORDS,
-        RECORDS,
-        {HEADER: "DALI_{UPPER} = {code}", FORMAT: "{code} {Name}:", REPLAY: "{kebab}"},
-    ),
-    "Trouble": (TROUBLE, TROUBLE, {FORMAT: "| `pump{word}", FORMS: "{word}"}),
-    "Refusal": (REFUSAL, REFUSAL, {FORMAT: "{code} {Name}"}),
-    "KeepError": ("crates/dali_reserve/src/error.rt", "crates/dali_reserve/src/error.rt", {FORMAT: "| {code} | {Name} |"}),
-}
-
-
-def variants(text, name):
-    """The variants of an enum in a file of code."""
-    found = re.search(rf"^pub enum {name} \{{\n(.*?)^\}}", without_comments(text), re.M | re.S)
-    return re.findall(r"^    (\w+)", found[1], re.M) if found else []
-
-
-def code_of(text, name, variant):
-    """The number that a file of code has for a variant, or None."""
-    found = re.search(rf"\b{name}::{variant}\b(?:\([^)]*\))?(?: \| [\w:| ]+)? => \(?(\d+)", text)
-    return found and found[1]
-
-
-def word_of(text, name, variant):
-    """A space and the word that a file of code reads as a variant; nothing where it reads none."""
-    found = re.search(rf'b"([\w-]+)"\.as_slice\(\) \{{\s*Some\({name}::{variant}\b', text)
-    return f" {found[1]}" if found else ""
-
-
 def spellings(root):
-    """What cannot read the code spells each variant of an enum as the code has it, and with its number."""
-    for name, (file, codes, spelled) in SPELLINGS.items():
-        found = variants((root / file).read_text(), name) if (root / file).exists() else []
-        if not found:
-            yield f"{file}: there is no enum {name}"
-        for variant in found:
-            snake = re.sub(r"(?<!^)([A-Z])", r"_\1", variant).lower()
-            forms = {"Name": variant, "UPPER": snake.upper(), "kebab": snake.replace("_", "-")}
-            if codes:
-                text = (root / codes).read_text()
-                forms |= {"code": code_of(text, name, variant), "word": word_of(text, name, variant)}
-                if not forms["word"] and "{word}" in "".join(spelled.values()) and variant != "None":
-                    yield f"{codes}: no word is read as {name}::{variant}"
-            for other, form in spelled.items():
-                wanted = form.format(**forms)
-                if not re.search(rf"(?<![\w-]){re.escape(wanted)}(?!\d)", (root / other).read_text()):
-                    yield f"{other}: '{wanted}' is missing, which {name}::{variant} is"
+    """What cannot read the code spells each variant of an enum as the code has it: see spelled.py."""
+    for place in spelled.PLACES:
+        yield from spelled.missing(root, place)
 
 
 RULES = (widths, lengths, imports, docs, crates, links, paths, clauses, kit, spellings)

@@ -21,7 +21,7 @@ DRAWS = re.compile(f"draws((?: [0-9A-Fa-f]{{6}}){{0,{MOST_DRAWS}}})")
 BOTH = f"(?:off|on|expire) {NUMBER}|quiet|show"
 BENCH_LINE = re.compile(f"frame {FRAME}|{BOTH}")
 SITE_LINE = re.compile(
-    f"(?:go|store|fail|down|up|run) {NUMBER}|lapse|arc {NUMBER} {FRAME}|{BOTH}"
+    f"(?:go|survey|store|fail|down|up|run) {NUMBER}|lapse|arc {NUMBER} {FRAME}|{BOTH}"
     f"|pump(?: lost| noise| collision| destroyed (?:-|{TAKER}(?:,{TAKER})*))?"
 )
 

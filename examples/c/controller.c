@@ -44,12 +44,19 @@ enum run controller_run(struct dali_machine *machine, uint8_t start, struct bus 
     while (most_steps-- > 0) {
         if (dali_machine_step(machine, told.input, told.byte, last_order) != DALI_OK)
             return RUN_REFUSED;
-        if (last_order->kind == DALI_PUT)
+        switch ((enum dali_order_kind)last_order->kind) {
+        case DALI_PUT:
             told = put(bus, last_order);
-        else if (last_order->kind == DALI_COMMIT)
+            break;
+        case DALI_COMMIT:
             told = commit(store, last_order);
-        else
+            break;
+        case DALI_DONE:
+        case DALI_HALT:
             return RUN_ENDED;
+        case DALI_NOTHING_ORDERED: /* which no step gives */
+            return RUN_REFUSED;
+        }
     }
     return RUN_TOO_LONG;
 }

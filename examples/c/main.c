@@ -165,20 +165,37 @@ static int show(const char *path)
     return 0;
 }
 
-static int end_status(const struct dali_order *order)
+/* A switch over an enum of the header has no default, so that the compiler tells what a later
+ * header has and the switch has not. */
+static int end_status(enum dali_end end)
 {
-    static const char *const ends[] = {
-        [DALI_ALL_FOUND] = "all-found",
-        [DALI_BLOCK_FULL] = "block-full",
-        [DALI_GAVE_UP] = "gave-up",
-    };
+    switch (end) {
+    case DALI_ALL_FOUND:
+        printf("all-found\n");
+        return EXIT_ALL_FOUND;
+    case DALI_BLOCK_FULL:
+        printf("block-full\n");
+        return EXIT_BLOCK_FULL;
+    case DALI_GAVE_UP:
+        printf("gave-up\n");
+        return EXIT_GAVE_UP;
+    }
+    printf("unknown end\n");
+    return EXIT_MACHINE;
+}
 
-    if (order->kind == DALI_HALT) {
-        printf("halt %s\n", order->reason == DALI_STORE ? "store" : "conflict");
+static int fault_status(enum dali_fault fault)
+{
+    switch (fault) {
+    case DALI_CONFLICT:
+        printf("halt conflict\n");
+        return EXIT_HALTED;
+    case DALI_STORE:
+        printf("halt store\n");
         return EXIT_HALTED;
     }
-    printf("%s\n", ends[order->reason]);
-    return order->reason - DALI_ALL_FOUND;
+    printf("unknown fault\n");
+    return EXIT_MACHINE;
 }
 
 static void print_table(const struct dali_machine *machine)
@@ -210,7 +227,7 @@ static int commission(const struct words *words, struct bus *bus, struct store *
     stop_in_store_at(words->kill_in_store);
     switch (controller_run(&machine, start, bus, store, MOST_STEPS, &order)) {
     case RUN_ENDED:
-        status = end_status(&order);
+        status = order.kind == DALI_DONE ? end_status(order.reason) : fault_status(order.reason);
         break;
     case RUN_REFUSED:
         printf("refused\n");

@@ -54,13 +54,20 @@ static int course_follow(struct course *course)
 {
     const struct dali_order *order = &course->order;
 
-    if (order->kind == DALI_PUT) {
+    switch ((enum dali_order_kind)order->kind) {
+    case DALI_PUT:
         course->told = bus_send(&course->bus, order->address_byte, order->opcode_byte);
-    } else if (order->kind == DALI_COMMIT) {
+        return 1;
+    case DALI_COMMIT:
         course->told.input = DALI_COMMITTED;
         course->enrolled += order->record.kind == DALI_ENROL;
+        return 1;
+    case DALI_DONE:
+    case DALI_HALT:
+    case DALI_NOTHING_ORDERED:
+        break;
     }
-    return order->kind == DALI_PUT || order->kind == DALI_COMMIT;
+    return 0;
 }
 
 static void call_step(struct course *course)

@@ -18,6 +18,7 @@
 #define ROUNDS 400000
 #define MACHINES 128
 #define UNTOUCHED 0xA5
+#define NO_CODE 0xFF
 #define MOST_TOLD 20
 
 static unsigned long right;
@@ -207,13 +208,48 @@ static void reach_statuses(void)
     check_reads(&machine, DALI_OK);
 }
 
+/* Whether the header has such a code. None of these switches has a default, so that the compiler
+ * tells a code which the header has and a switch has not. */
+
+static int is_end(enum dali_end end)
+{
+    switch (end) {
+    case DALI_ALL_FOUND:
+    case DALI_BLOCK_FULL:
+    case DALI_GAVE_UP:
+        return 1;
+    }
+    return 0;
+}
+
+static int is_fault(enum dali_fault fault)
+{
+    switch (fault) {
+    case DALI_CONFLICT:
+    case DALI_STORE:
+        return 1;
+    }
+    return 0;
+}
+
+static int is_record_kind(enum dali_record_kind kind)
+{
+    switch (kind) {
+    case DALI_RESERVE:
+    case DALI_ENROL:
+    case DALI_RELEASE:
+        return 1;
+    }
+    return 0;
+}
+
 /* The codes of an order that a step gives, and nothing in what its kind does not name. */
 static int is_order(const struct dali_order *order)
 {
     struct dali_order plain = {order->kind, 0, 0, 0, {0, {0, {0, 0, 0}}}, 0};
-    int is_one;
+    int is_one = 0;
 
-    switch (order->kind) {
+    switch ((enum dali_order_kind)order->kind) {
     case DALI_PUT:
         plain.priority = order->priority;
         plain.address_byte = order->address_byte;
@@ -222,29 +258,59 @@ static int is_order(const struct dali_order *order)
         break;
     case DALI_COMMIT:
         plain.record = order->record;
-        is_one = order->record.kind >= DALI_RESERVE && order->record.kind <= DALI_RELEASE
+        is_one = is_record_kind(order->record.kind)
                  && order->record.pair.short_address < DALI_ADDRESSES;
         break;
     case DALI_DONE:
         plain.reason = order->reason;
-        is_one = order->reason >= DALI_ALL_FOUND && order->reason <= DALI_GAVE_UP;
+        is_one = is_end(order->reason);
         break;
     case DALI_HALT:
         plain.reason = order->reason;
-        is_one = order->reason == DALI_CONFLICT || order->reason == DALI_STORE;
+        is_one = is_fault(order->reason);
         break;
-    default:
-        is_one = 0;
+    case DALI_NOTHING_ORDERED:
+        break;
     }
     return is_one && memcmp(order, &plain, sizeof plain) == 0;
 }
 
-/* What is due after an order of each kind, and when each input may come. */
-static const uint8_t due_after[] = {DALI_DUE_START, DALI_DUE_BUS, DALI_DUE_STORE, DALI_DUE_NOTHING,
-                                    DALI_DUE_NOTHING};
-static const uint8_t due_for[] = {DALI_DUE_START, DALI_DUE_BUS, DALI_DUE_BUS, DALI_DUE_BUS,
-                                  DALI_DUE_BUS, DALI_DUE_BUS, DALI_DUE_STORE, DALI_DUE_STORE,
-                                  DALI_DUE_START};
+/* What is due after an order of this kind, or NO_CODE where that is none. */
+static uint8_t due_after(enum dali_order_kind kind)
+{
+    switch (kind) {
+    case DALI_NOTHING_ORDERED:
+        return DALI_DUE_START;
+    case DALI_PUT:
+        return DALI_DUE_BUS;
+    case DALI_COMMIT:
+        return DALI_DUE_STORE;
+    case DALI_DONE:
+    case DALI_HALT:
+        return DALI_DUE_NOTHING;
+    }
+    return NO_CODE;
+}
+
+/* What is due where this input may come, or NO_CODE where that is none. */
+static uint8_t due_for(enum dali_input input)
+{
+    switch (input) {
+    case DALI_START:
+    case DALI_SURVEY:
+        return DALI_DUE_START;
+    case DALI_HEARD_SILENCE:
+    case DALI_HEARD_BYTE:
+    case DALI_HEARD_DAMAGED:
+    case DALI_DESTROYED:
+    case DALI_LAPSED:
+        return DALI_DUE_BUS;
+    case DALI_COMMITTED:
+    case DALI_COMMIT_FAILED:
+        return DALI_DUE_STORE;
+    }
+    return NO_CODE;
+}
 
 /* Any bytes: the calls must agree whether they are a machine. */
 static void try_machine(const struct dali_machine *given, uint8_t input, uint8_t byte)
@@ -266,14 +332,14 @@ static void try_machine(const struct dali_machine *given, uint8_t input, uint8_t
     dali_machine_last(&machine, &last);
     dali_machine_records(&machine, &records);
     dali_machine_table(&machine, &table);
-    check(last.kind <= DALI_HALT && due == due_after[last.kind], "what is due, by the last order");
+    check(due != NO_CODE && due == due_after(last.kind), "what is due, by the last order");
     check(table.count == records.enrolled.count, "the count of the table");
     check(memcmp(table.gear, records.enrolled.pairs, sizeof table.gear) == 0, "the table");
     check_new(&records, DALI_OK);
     check(memcmp(&machine, given, sizeof machine) == 0, "a call that reads changes the machine");
-    if (input > DALI_SURVEY) {
+    if (due_for(input) == NO_CODE) {
         check_step(&machine, input, byte, DALI_BAD_ARGUMENT);
-    } else if (due != due_for[input]) {
+    } else if (due != due_for(input)) {
         check_step(&machine, input, byte, DALI_NOT_DUE);
     } else {
         check_step(&machine, input, byte, DALI_OK);
@@ -283,14 +349,21 @@ static void try_machine(const struct dali_machine *given, uint8_t input, uint8_t
     }
 }
 
+/* A list has so many pairs, and this one is the last. */
+static void check_last(const struct dali_pairs *list, int count, const struct dali_pair *pair)
+{
+    check(list->count == count && memcmp(&list->pairs[count - 1], pair, sizeof *pair) == 0,
+          "what was added");
+}
+
 /* Any bytes as records, and any as an addition. */
 static void try_records(const struct dali_records *given, const struct dali_record *addition)
 {
     struct dali_records records = *given;
     struct dali_machine machine;
     uint8_t status = dali_records_add(&records, addition);
-    const struct dali_pair *added;
-    int count = given->reserved.count + given->enrolled.count;
+    int reserved = given->reserved.count;
+    int enrolled = given->enrolled.count;
 
     check(status != DALI_NOT_DUE && status != DALI_NO_MACHINE && status <= DALI_NOT_RESERVED,
           "the status of an addition");
@@ -300,14 +373,19 @@ static void try_records(const struct dali_records *given, const struct dali_reco
         check(memcmp(&records, given, sizeof records) == 0, "a refused addition changes");
         return;
     }
-    check(records.reserved.count + records.enrolled.count
-              == count + (addition->kind == DALI_RELEASE ? -1 : 1),
-          "how many records there are after an addition");
-    if (addition->kind != DALI_RELEASE) {
-        added = addition->kind == DALI_RESERVE ? &records.reserved.pairs[records.reserved.count - 1]
-                                               : &records.enrolled.pairs[records.enrolled.count - 1];
-        check(memcmp(added, &addition->pair, sizeof *added) == 0, "what was added");
+    switch ((enum dali_record_kind)addition->kind) {
+    case DALI_RESERVE:
+        check_last(&records.reserved, ++reserved, &addition->pair);
+        break;
+    case DALI_ENROL:
+        check_last(&records.enrolled, ++enrolled, &addition->pair);
+        break;
+    case DALI_RELEASE:
+        reserved--;
+        break;
     }
+    check(records.reserved.count == reserved && records.enrolled.count == enrolled,
+          "how many records there are after an addition");
     check_new(&records, DALI_OK);
 }
 
@@ -336,14 +414,20 @@ static void collect(struct dali_machine *machines, uint64_t seed)
             return;
         }
         check(is_order(&order), "the codes of an order");
-        if (order.kind == DALI_PUT) {
+        switch ((enum dali_order_kind)order.kind) {
+        case DALI_PUT:
             told = bus_send(&bus, order.address_byte, order.opcode_byte);
-        } else if (order.kind == DALI_COMMIT) {
+            break;
+        case DALI_COMMIT:
             told.input = DALI_COMMITTED;
-        } else {
+            break;
+        case DALI_DONE:
+        case DALI_HALT:
+        case DALI_NOTHING_ORDERED:
             dali_machine_records(&machine, &records);
             dali_machine_new(&machine, 7, &records);
             told.input = DALI_SURVEY;
+            break;
         }
     }
 }

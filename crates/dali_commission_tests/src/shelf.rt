@@ -16,7 +16,7 @@ pub struct Shelf<'a> {
 }
 
 impl<'a> Shelf<'a> {
-    /// With these records: 1 for a reservation, 2 for an enrolment, 3 for a release, with short and random address.
+    /// With these records, each as the code of its kind, its short and its random address.
     pub fn of(records: &'a [(u8, u8, u32)]) -> Shelf<'a> {
         Shelf {
             records,
@@ -44,13 +44,7 @@ impl<'a> Shelf<'a> {
 }
 
 fn record(kind: u8, address: u8, random: u32) -> Option<Record> {
-    let (short, random) = (Short::of(address)?, Random24::of(random)?);
-    match kind {
-        1 => Some(Record::Reserve(short, random)),
-        2 => Some(Record::Enrol(short, random)),
-        3 => Some(Record::Release(short, random)),
-        _ => None,
-    }
+    Record::of_code(kind, Short::of(address)?, Random24::of(random)?)
 }
 
 fn is_kept(store: &mut MemoryKeep, block: &Block, record: &Record) -> bool {

@@ -5,7 +5,7 @@ use Rattle.dali_special.specs.Command.{command_of}
 use Rattle.dali_special.proofs.Table.{read_written}
 use Rattle.dali_script.specs.declared.block.Block.{Block}
 use Rattle.dali_script.specs.declared.orders.Input.{Input}
-use Rattle.dali_script.specs.declared.orders.Input.TheVariants.{Start, Heard, Destroyed, Lapsed, Committed, CommitFailed}
+use Rattle.dali_script.specs.declared.orders.Input.TheVariants.{Start, Survey, Heard, Destroyed, Lapsed, Committed, CommitFailed}
 use Rattle.dali_script.specs.Records.{Assignment}
 use Rattle.dali_script.specs.Scripts.{Lawful, Resolve}
 use Rattle.dali_commissioning.specs.Census.{AreHeard, entries_of, query_at, part_at}
@@ -21,11 +21,13 @@ lawful b reserved a (Heard m ∷ Heard h ∷ []) short heard few =
     (Resolve a, tt, (queried a 0 short, tt, (queried a 1 short, tt, queried a 2 short)))
 lawful b reserved a (_ ∷ _ ∷ _ ∷ more) short heard few = absurd (omega (arith, few))
 lawful b reserved a (Start ∷ more) short heard few = absurd (false≢true heard.0)
+lawful b reserved a (Survey ∷ more) short heard few = absurd (false≢true heard.0)
 lawful b reserved a (Destroyed ∷ more) short heard few = absurd (false≢true heard.0)
 lawful b reserved a (Lapsed ∷ more) short heard few = absurd (false≢true heard.0)
 lawful b reserved a (Committed ∷ more) short heard few = absurd (false≢true heard.0)
 lawful b reserved a (CommitFailed ∷ more) short heard few = absurd (false≢true heard.0)
 lawful b reserved a (Heard m ∷ Start ∷ more) short heard few = absurd (false≢true heard.1.0)
+lawful b reserved a (Heard m ∷ Survey ∷ more) short heard few = absurd (false≢true heard.1.0)
 lawful b reserved a (Heard m ∷ Destroyed ∷ more) short heard few = absurd (false≢true heard.1.0)
 lawful b reserved a (Heard m ∷ Lapsed ∷ more) short heard few = absurd (false≢true heard.1.0)
 lawful b reserved a (Heard m ∷ Committed ∷ more) short heard few = absurd (false≢true heard.1.0)

@@ -11,7 +11,7 @@ use Rattle.dali_special.specs.Command.{command_of}
 use Rattle.dali_script.specs.Due.{accepts}
 use Rattle.dali_script.specs.declared.orders.Due.TheVariants as due
 use Rattle.dali_script.specs.declared.orders.Input.{Input}
-use Rattle.dali_script.specs.declared.orders.Input.TheVariants.{Start, Heard, Destroyed, Lapsed, Committed, CommitFailed}
+use Rattle.dali_script.specs.declared.orders.Input.TheVariants.{Start, Survey, Heard, Destroyed, Lapsed, Committed, CommitFailed}
 use Rattle.dali_commissioning.specs.declared.lines.Half.{Half}
 use Rattle.dali_commissioning.specs.declared.lines.Half.TheVariants.{Whole, First, Second}
 use Rattle.dali_commissioning.specs.Lines.{is_question, asked_text, half_text, put_text, Says, told_text, told_of, IsByte}
@@ -44,6 +44,7 @@ told_back reads (Heard Damaged) bus is = refl
 told_back reads Destroyed bus is = refl
 told_back reads Lapsed bus is = refl
 told_back reads Start bus is = absurd (false≢true bus)
+told_back reads Survey bus is = absurd (false≢true bus)
 told_back reads Committed bus is = absurd (false≢true bus)
 told_back reads CommitFailed bus is = absurd (false≢true bus)
 

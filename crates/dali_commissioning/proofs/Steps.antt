@@ -4,7 +4,7 @@ use Rattle.std.proofs.lemmas.Bool.{false≢true}
 use Rattle.dali_script.specs.Due.{accepts}
 use Rattle.dali_script.specs.declared.orders.Due.TheVariants as due
 use Rattle.dali_script.specs.declared.orders.Input.{Input}
-use Rattle.dali_script.specs.declared.orders.Input.TheVariants.{Start, Heard, Destroyed, Lapsed, Committed, CommitFailed}
+use Rattle.dali_script.specs.declared.orders.Input.TheVariants.{Start, Survey, Heard, Destroyed, Lapsed, Committed, CommitFailed}
 use Rattle.dali_commissioning.specs.Lines.{Tells}
 use Rattle.dali_commissioning.specs.Conducted.{Hears, Conducted, Commits, MayCommit, Stays, IsAt, IsLeft, HasTaken}
 use Rattle.dali_commissioning.specs.Steps.{Step, IsStep, last_order, open_after, order_line, written_by, opened_by, if_heard, record_told, committed_by}
@@ -26,6 +26,7 @@ line_told left rest (Heard h) bus (line, read, says) = (line ++ 10 ∷ [], read,
 line_told left rest Destroyed bus (line, read, says) = (line ++ 10 ∷ [], read, (line, refl, says))
 line_told left rest Lapsed bus (line, read, says) = (line ++ 10 ∷ [], read, (line, refl, says))
 line_told left rest Start bus t = absurd (false≢true bus)
+line_told left rest Survey bus t = absurd (false≢true bus)
 line_told left rest Committed bus t = absurd (false≢true bus)
 line_told left rest CommitFailed bus t = absurd (false≢true bus)
 

@@ -12,7 +12,9 @@ use Rattle.dali_special.specs.declared.command.Part.TheVariants.{High, Middle, L
 use Rattle.dali_special.specs.declared.command.Command.TheVariants.{RandomByte}
 use Rattle.dali_special.specs.Command.{frame_of}
 use Rattle.dali_script.specs.declared.orders.Input.{Input}
-use Rattle.dali_script.specs.declared.orders.Input.TheVariants.{Heard}
+use Rattle.dali_script.specs.declared.orders.Input.TheVariants.{Start, Survey, Heard}
+use Rattle.dali_script.specs.declared.orders.Input.TheVariants.{Destroyed, Lapsed, Committed}
+use Rattle.dali_script.specs.declared.orders.Input.TheVariants.{CommitFailed}
 use Rattle.dali_script.specs.declared.trace.Entry.{Entry}
 use Rattle.dali_script.specs.declared.block.Block.{Block}
 use Rattle.dali_script.specs.Records.{Kept}
@@ -45,7 +47,12 @@ priority_at _ = 1
 
 abbrev pub answer_told : Input → Option Answer
 answer_told (Heard h) = Some h
-answer_told _ = None
+answer_told Start = None
+answer_told Survey = None
+answer_told Destroyed = None
+answer_told Lapsed = None
+answer_told Committed = None
+answer_told CommitFailed = None
 
 abbrev pub is_sent : Input → Bool
 is_sent told = is_some (answer_told told)

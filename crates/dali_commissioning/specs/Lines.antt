@@ -13,7 +13,9 @@ use Rattle.dali_special.specs.declared.command.Command.TheVariants.{SearchHigh, 
 use Rattle.dali_special.specs.declared.command.Command.TheVariants.{SearchLow, Program, Arc, Other}
 use Rattle.dali_special.specs.Command.{command_of}
 use Rattle.dali_script.specs.declared.orders.Input.{Input}
-use Rattle.dali_script.specs.declared.orders.Input.TheVariants.{Heard, Destroyed, Lapsed}
+use Rattle.dali_script.specs.declared.orders.Input.TheVariants.{Start, Survey, Heard}
+use Rattle.dali_script.specs.declared.orders.Input.TheVariants.{Destroyed, Lapsed, Committed}
+use Rattle.dali_script.specs.declared.orders.Input.TheVariants.{CommitFailed}
 use Rattle.dali_commissioning.specs.declared.lines.Half.{Half}
 use Rattle.dali_commissioning.specs.declared.lines.Half.TheVariants.{Whole, First, Second}
 
@@ -79,12 +81,22 @@ told_text (Heard (Byte byte)) = codes "byte " ++ byte_text byte
 told_text (Heard Damaged) = codes "damaged"
 told_text Destroyed = codes "destroyed"
 told_text Lapsed = codes "lapsed"
-told_text _ = []
+told_text Start = []
+told_text Survey = []
+told_text Committed = []
+told_text CommitFailed = []
 
 -- a byte that is heard is one
 abbrev pub IsByte : Input → Type 0
 IsByte (Heard (Byte byte)) = byte < 256
-IsByte _ = Unit {0}
+IsByte (Heard Silence) = Unit {0}
+IsByte (Heard Damaged) = Unit {0}
+IsByte Start = Unit {0}
+IsByte Survey = Unit {0}
+IsByte Destroyed = Unit {0}
+IsByte Lapsed = Unit {0}
+IsByte Committed = Unit {0}
+IsByte CommitFailed = Unit {0}
 
 -- what a line of the program says, by its fifth byte, its seventh to tenth, and the rest
 abbrev pub half_in : List ℕ → Half

@@ -4,10 +4,11 @@ use Rattle.dali_frame.specs.declared.frames.Forward.{Forward}
 use Rattle.dali_special.specs.Command.{command_of, is_send_twice}
 use Rattle.dali_script.specs.declared.records.Record.{Record}
 use Rattle.dali_script.specs.declared.orders.Input.{Input}
-use Rattle.dali_script.specs.declared.orders.Input.TheVariants.{Start, Heard}
+use Rattle.dali_script.specs.declared.orders.Input.TheVariants.{Start, Survey, Heard}
+use Rattle.dali_script.specs.declared.orders.Input.TheVariants.{Destroyed, Lapsed}
 use Rattle.dali_script.specs.declared.orders.Input.TheVariants.{Committed, CommitFailed}
 use Rattle.dali_script.specs.declared.orders.Order.{Order}
-use Rattle.dali_script.specs.declared.orders.Order.TheVariants.{Put}
+use Rattle.dali_script.specs.declared.orders.Order.TheVariants.{Put, Commit, Done, Halt}
 use Rattle.dali_script.specs.Due.{due_after, accepts, record_ordered}
 use Rattle.dali_controller.specs.Machine.{Machine}
 use Rattle.dali_controller.specs.Orders.{IsAnswered, machine_after}
@@ -58,12 +59,20 @@ opens _ f = None
 
 abbrev pub opened_by : Option Forward → Option Order → Option Forward
 opened_by waiting (Some (Put p f)) = opens (half_of waiting f) f
-opened_by waiting _ = None
+opened_by waiting (Some (Commit x)) = None
+opened_by waiting (Some (Done e)) = None
+opened_by waiting (Some (Halt w)) = None
+opened_by waiting None = None
 
 -- a pair is broken where its first frame was not heard
 abbrev pub if_heard : Input → Option Forward → Option Forward
 if_heard (Heard h) waiting = waiting
-if_heard _ waiting = None
+if_heard Start waiting = None
+if_heard Survey waiting = None
+if_heard Destroyed waiting = None
+if_heard Lapsed waiting = None
+if_heard Committed waiting = None
+if_heard CommitFailed waiting = None
 
 -- the first frame of a pair that waits when the last order is done
 abbrev pub open_after : List Step → Option Forward
@@ -75,19 +84,28 @@ open_after (s ∷ before) = if_heard s.told (opened_by (open_after before) (last
 -- the line of an order, where it puts a frame
 abbrev pub order_line : Option Forward → Option Order → List ℕ
 order_line waiting (Some (Put p f)) = put_text p f (half_of waiting f)
-order_line waiting _ = []
+order_line waiting (Some (Commit x)) = []
+order_line waiting (Some (Done e)) = []
+order_line waiting (Some (Halt w)) = []
+order_line waiting None = []
 
 -- the lines of all orders but the last
 abbrev pub written_by : List Step → List ℕ
 written_by [] = []
 written_by (s ∷ before) = written_by before ++ order_line (open_after before) (last_order before)
 
+abbrev pub IsLineOf : Input → List ℕ → Type 0
+IsLineOf told bytes = (line : List ℕ) × (bytes ≡ line ++ 10 ∷ []) × (told_of line ≡ Some told)
+
 -- these bytes are the line that tells this; nothing, where it is not of the bus
 abbrev pub AreTold : Input → List ℕ → Type 0
 AreTold Start bytes = bytes ≡ []
+AreTold Survey bytes = bytes ≡ []
 AreTold Committed bytes = bytes ≡ []
 AreTold CommitFailed bytes = bytes ≡ []
-AreTold told bytes = (line : List ℕ) × (bytes ≡ line ++ 10 ∷ []) × (told_of line ≡ Some told)
+AreTold (Heard h) bytes = IsLineOf (Heard h) bytes
+AreTold Destroyed bytes = IsLineOf Destroyed bytes
+AreTold Lapsed bytes = IsLineOf Lapsed bytes
 
 -- these bytes are the lines by which the steps were told
 abbrev pub HaveRead : List Step → List ℕ → Type 0
@@ -102,7 +120,13 @@ HaveRead (s ∷ before) bytes =
 -- the records that the steps were told to be kept, oldest first
 abbrev pub record_told : Input → Option Record → List Record
 record_told Committed (Some x) = x ∷ []
-record_told _ _ = []
+record_told Committed None = []
+record_told Start ordered = []
+record_told Survey ordered = []
+record_told (Heard h) ordered = []
+record_told Destroyed ordered = []
+record_told Lapsed ordered = []
+record_told CommitFailed ordered = []
 
 abbrev pub committed_by : List Step → List Record
 committed_by [] = []

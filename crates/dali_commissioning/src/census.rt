@@ -174,8 +174,12 @@ fn byte<R: Read, W: Write>(
     let frame = Command::RandomByte(short, part).write();
     match driver.exchange(priority, frame, Half::Whole)? {
         Input::Heard(heard) => Ok(Some(heard)),
-        Input::Start | Input::Destroyed | Input::Lapsed | Input::Committed | Input::CommitFailed =>
-            Ok(None),
+        Input::Start
+        | Input::Survey
+        | Input::Destroyed
+        | Input::Lapsed
+        | Input::Committed
+        | Input::CommitFailed => Ok(None),
     }
 }
 

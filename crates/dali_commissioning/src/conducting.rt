@@ -71,7 +71,16 @@ fn waits_behind(half: Half, frame: Forward, told: Input) -> Option<Forward>
 {
     match (half, told) {
         (Half::First, Input::Heard(_)) => Some(frame),
-        (Half::Whole | Half::First | Half::Second, _) => None,
+        (
+            Half::First,
+            Input::Start
+            | Input::Survey
+            | Input::Destroyed
+            | Input::Lapsed
+            | Input::Committed
+            | Input::CommitFailed,
+        )
+        | (Half::Whole | Half::Second, _) => None,
     }
 }
 
@@ -114,8 +123,12 @@ fn is_kept(told: Input) -> bool
 {
     match told {
         Input::Committed => true,
-        Input::Start | Input::Heard(_) | Input::Destroyed | Input::Lapsed | Input::CommitFailed =>
-            false,
+        Input::Start
+        | Input::Survey
+        | Input::Heard(_)
+        | Input::Destroyed
+        | Input::Lapsed
+        | Input::CommitFailed => false,
     }
 }
 

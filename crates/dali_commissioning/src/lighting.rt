@@ -16,8 +16,12 @@ fn is_sent(told: Input) -> bool
 {
     match told {
         Input::Heard(_) => true,
-        Input::Start | Input::Destroyed | Input::Lapsed | Input::Committed | Input::CommitFailed =>
-            false,
+        Input::Start
+        | Input::Survey
+        | Input::Destroyed
+        | Input::Lapsed
+        | Input::Committed
+        | Input::CommitFailed => false,
     }
 }
 

@@ -53,7 +53,8 @@ open_by k heard reserved enrolled a are_reserved are_enrolled small =
     ap (λ b. not b && not (is_some (number_at k.enrolled a)) && not (has_short heard a)) (sym (mark_is k.reserved reserved a are_reserved small))
     ∙ ap (λ b. not (slice_index_or reserved a false) && not b && not (has_short heard a)) (sym (mark_is k.enrolled enrolled a are_enrolled small))
 
-pub open_tested : (k : Kept) (heard : Shorts) (reserved enrolled : List Bool) (a : ℕ) (one two three : Bool) → Marks k.reserved reserved → Marks k.enrolled enrolled
+pub open_tested : (k : Kept) (heard : Shorts) (reserved enrolled : List Bool) (a : ℕ) (one two three : Bool) → Marks k.reserved reserved
+    → Marks k.enrolled enrolled
     → a < 64 → slice_index_or reserved a false ≡ one → slice_index_or enrolled a false ≡ two → has_short heard a ≡ three
     → is_open k heard a ≡ (not one && not two && not three)
 open_tested k heard reserved enrolled a one two three are_reserved are_enrolled small is_reserved is_enrolled is_heard =

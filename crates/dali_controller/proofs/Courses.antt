@@ -10,9 +10,9 @@ use Rattle.dali_frame.specs.Priority.{LATER}
 use Rattle.dali_special.specs.declared.command.Command.{Command}
 use Rattle.dali_special.specs.Command.{frame_of}
 use Rattle.dali_script.specs.declared.records.Record.{Record}
-use Rattle.dali_script.specs.declared.records.Record.TheVariants.{Enrol}
+use Rattle.dali_script.specs.declared.records.Record.TheVariants.{Reserve, Enrol, Release}
 use Rattle.dali_script.specs.declared.stage.Stage.{Stage}
-use Rattle.dali_script.specs.declared.stage.Stage.TheVariants.{Free, Inconclusive, Spelled}
+use Rattle.dali_script.specs.declared.stage.Stage.TheVariants.{Free, Initialised, Opened, Probed, Unnamed, Unanswered, Inconclusive, HighAsked, Spelled}
 use Rattle.dali_script.specs.Records.{Assignment, Kept, Has, IsOnce, addresses, randoms, HasAddress, HasRandom}
 use Rattle.dali_script.specs.Stages.{stage_of}
 use Rattle.dali_script.proofs.Lists.{has_map}
@@ -30,11 +30,14 @@ use Rattle.dali_controller.specs.declared.purpose.Purpose.{Purpose}
 use Rattle.dali_controller.specs.declared.purpose.Purpose.TheVariants.{Opening, Probing, Visiting, Resolving, Closing, Asking, Waking}
 use Rattle.dali_controller.specs.Parts.{Parts}
 use Rattle.dali_controller.specs.Course.{Course, turn_of, is_yes, after_step, probed, number_at, address_for, unless_enrolled, unfinished_at, unfinished_among}
-use Rattle.dali_controller.specs.Course.{here_or_later}
-use Rattle.dali_controller.specs.Machine.{Machine, machine_lost, machine_committed, machine_told}
-use Rattle.dali_controller.specs.Next.{begins_at, course_by, next_course, beginning, probed_to, probed_in, draw_or_close, draws_by}
-use Rattle.dali_controller.specs.declared.way.Way.TheVariants.{Fresh}
-use Rattle.dali_script.specs.declared.orders.End.TheVariants.{AllFound}
+use Rattle.dali_controller.specs.Course.{here_or_later, closing, going_on, going_on_early, visit_or_opening, next_unfinished}
+use Rattle.dali_controller.specs.Machine.{Machine, machine_lost, machine_committed, machine_told, woken_after}
+use Rattle.dali_controller.specs.Next.{begins_at, course_by, next_course, beginning, probed_to, probed_in, draw_or_close, draws, draws_by}
+use Rattle.dali_controller.specs.Next.{goes_on_to, unanswered, at_rest, asked_once}
+use Rattle.dali_controller.specs.declared.way.Way.{Way}
+use Rattle.dali_controller.specs.declared.way.Way.TheVariants.{Fresh, Surveying, Drawing}
+use Rattle.dali_script.specs.declared.orders.End.{End}
+use Rattle.dali_script.specs.declared.orders.End.TheVariants.{AllFound, BlockFull, GaveUp}
 use Rattle.dali_controller.specs.Orders.{AfterFinding, AfterEnrolled, IsFollowed, IsSought}
 use Rattle.dali_controller.specs.Parts.{machine_of, parts_course}
 use Rattle.dali_controller.specs.Moments.{Starts}
@@ -252,3 +255,91 @@ followed_committed w x o whole ordered enrolled = record {
   free_stored w (Some (Commit y)) x is p = p.free
   free_stored w (Some (Done e)) x is p = absurd (cc)
   free_stored w (Some (Halt why)) x is p = absurd (cc)
+
+-- ---------------------------------------------------------------- a machine that was begun by Start
+
+-- draws no number again, and stays one
+pub never_draws : (t : Machine) → t.course.way ≡ Fresh → draws t ≡ false
+never_draws t fresh = ap (draws_by t) fresh
+
+pub keeps_fresh : (t : Machine) → t.course.way ≡ Fresh → (next_course t).way ≡ Fresh
+keeps_fresh t fresh = go (stage_of t.trace) where
+  visits : (next : Option (ℕ × ℕ)) → (visit_or_opening t.course next).way ≡ Fresh
+  visits None = fresh
+  visits (Some next) = fresh
+
+  early : (y : Way) → y ≡ Fresh → (going_on_early t.kept y t.course).way ≡ Fresh
+  early Fresh is = visits (next_unfinished t.kept t.course.from)
+  early Surveying is = absurd (cc)
+  early Drawing is = absurd (cc)
+
+  on : (opened : Bool) → (going_on t.kept opened t.course).way ≡ Fresh
+  on true = fresh
+  on false = early t.course.way fresh
+
+  over : (b : Bool) (c : Course) (e : End) → b ≡ false → c.way ≡ Fresh → (draw_or_close b c e).way ≡ Fresh
+  over true c e is there = absurd (cc)
+  over false c e is there = there
+
+  answers : (s : Step) (c : Course) → c.way ≡ Fresh → (probed_to t s c).way ≡ Fresh
+  answers Again c there = there
+  answers (Found r) c there = there
+  answers Nobody c there = over (draws t) c AllFound (never_draws t fresh) there
+
+  silent : (b : Bool) → (if b then closing t.course GaveUp else goes_on_to t).way ≡ Fresh
+  silent true = fresh
+  silent false = on t.opened
+
+  unheard : (r : SearchAddress) (opened : Bool) (a : Option ℕ) → (unanswered t r opened a).way ≡ Fresh
+  unheard r false (Some a) = fresh
+  unheard r false None = silent (t.silent == 16)
+  unheard r true a = silent (t.silent == 16)
+
+  rest : (last : Option Order) → (at_rest t last).way ≡ Fresh
+  rest (Some (Put p f)) = fresh
+  rest (Some (Commit (Reserve a n))) = fresh
+  rest (Some (Commit (Enrol a n))) = on t.opened
+  rest (Some (Commit (Release a n))) = on t.opened
+  rest (Some (Done e)) = on t.opened
+  rest (Some (Halt why)) = on t.opened
+  rest None = on t.opened
+
+  asks : (b : Bool) → (asked_once t b).way ≡ Fresh
+  asks true = on t.opened
+  asks false = fresh
+
+  go : (s : Stage) → (begins_at t s).way ≡ Fresh
+  go Free = rest t.last
+  go Opened = fresh
+  go Initialised = fresh
+  go (HighAsked a high) = asks (t.asked == 0)
+  go (Probed r h) = answers (answered t.course.search (is_yes h)).step (record t.course { search = answered t.course.search (is_yes h) }) fresh
+  go (Unnamed r) = over (draws t) t.course BlockFull (never_draws t fresh) fresh
+  go (Unanswered r) = unheard r t.opened (address_for t.kept.reserved (value_of r))
+  go (Inconclusive r other) = silent (t.silent == 16)
+  go _ = on t.opened
+
+-- before its opening it visits what is unfinished
+pub goes_on_fresh : (t : Machine) → t.course.way ≡ Fresh → t.opened ≡ false → goes_on_to t ≡ visit_or_opening t.course (next_unfinished t.kept t.course.from)
+goes_on_fresh t fresh closed = ap (λ o. going_on t.kept o t.course) closed ∙ ap (λ y. going_on_early t.kept y t.course) fresh
+
+-- gear are not woken by it
+pub not_woken : (s : Stage) (p : Purpose) (o : Bool) → (p ≡ Waking → ⊥) → woken_after s p o ≡ o
+not_woken Initialised Waking o other = absurd (other refl)
+not_woken Initialised Opening o other = refl
+not_woken Initialised Probing o other = refl
+not_woken Initialised Visiting o other = refl
+not_woken Initialised (Resolving a) o other = refl
+not_woken Initialised (Closing e) o other = refl
+not_woken Initialised (Asking a) o other = refl
+not_woken _ p o other = refl
+
+pub closed_unwoken : (s : Stage) (p : Purpose) (o : Bool) → woken_after s p o ≡ false → o ≡ false
+closed_unwoken Initialised Waking o e = absurd (cc)
+closed_unwoken Initialised Opening o e = e
+closed_unwoken Initialised Probing o e = e
+closed_unwoken Initialised Visiting o e = e
+closed_unwoken Initialised (Resolving a) o e = e
+closed_unwoken Initialised (Closing x) o e = e
+closed_unwoken Initialised (Asking a) o e = e
+closed_unwoken _ p o e = e

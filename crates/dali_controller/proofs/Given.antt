@@ -14,7 +14,9 @@ use Rattle.dali_script.specs.declared.stage.Stage.{Stage}
 use Rattle.dali_script.specs.declared.stage.Stage.TheVariants.{Free, Terminated, Opened, Probed, Unnamed, Unanswered, Inconclusive, Withdrawn, Spelled}
 use Rattle.dali_script.specs.Records.{Assignment, Has, HasAddress, HasRandom, IsLeastFree, IsFull, IsMap, IsFresh, MayAdd}
 use Rattle.dali_script.specs.Scripts.{Lawful}
-use Rattle.dali_script.specs.Findings.{finding_of}
+use Rattle.dali_script.specs.declared.finding.Finding.{Finding}
+use Rattle.dali_script.specs.declared.finding.Finding.TheVariants.{Queried, Resolved}
+use Rattle.dali_script.specs.Findings.{MayEnrol, assigned, finding_of}
 use Rattle.dali_script.specs.Stages.{leads, stage_of}
 use Rattle.dali_script.proofs.Lists.{has_map}
 use Rattle.dali_script.proofs.Members.{same_member}
@@ -32,7 +34,8 @@ use Rattle.dali_controller.specs.declared.way.Way.TheVariants.{Fresh, Surveying,
 use Rattle.dali_controller.specs.Course.{Course, closing_of, turn_of, going_on, going_on_early, visit_or_opening, next_unfinished, ask_or_wake, next_asked}
 use Rattle.dali_controller.specs.Machine.{Machine, machine_told}
 use Rattle.dali_controller.specs.Next.{next_course, begins_at, course_by, beginning, BeginsWith}
-use Rattle.dali_controller.specs.Orders.{IsAllowed, MayOrderPut, IsWarranted, IsBegun, IsCaused, Contradicts, AfterMask, AfterMaskOn, AfterFinding, AfterEnrolled}
+use Rattle.dali_controller.specs.Orders.{IsAllowed, MayEnrolOn, MayOrderPut, IsWarranted, IsBegun, IsCaused, Contradicts, AfterMask, AfterMaskOn, AfterFinding}
+use Rattle.dali_controller.specs.Orders.{AfterEnrolled}
 use Rattle.dali_controller.specs.Orders.{IsFollowed, IsSought, IsOrdered, IsGiven, running_close}
 
 -- WHICH ORDER A MACHINE GIVES at which stage, once it was told its input: what is told of a step leaves no other.
@@ -50,6 +53,16 @@ given_by m input.Destroyed o other given = record { ordered = given.answered; be
 given_by m input.Lapsed o other given = record { ordered = given.answered; begins = given.begins; followed = given.followed }
 given_by m input.Committed o other given = record { ordered = given.answered; begins = given.begins; followed = given.followed }
 given_by m input.CommitFailed o other given = absurd (other refl)
+
+-- what is enrolled is the pair of a finding
+found_assigned : (reserved : List Assignment) (x : Finding) (p : Assignment) → MayEnrol reserved x p → p ≡ assigned x
+found_assigned reserved (Queried a r) p may = may
+found_assigned reserved (Resolved a r) p may = may.0
+
+pub enrols_assigned : (y : Way) (reserved : List Assignment) (x : Finding) (p : Assignment) → MayEnrolOn y reserved x p → p ≡ assigned x
+enrols_assigned Fresh reserved x p may = found_assigned reserved x p may
+enrols_assigned Surveying reserved x p may = may
+enrols_assigned Drawing reserved x p may = may
 
 -- the last order was the commit of no enrolment
 abbrev pub IsNoEnrolment : Option Order → Type 0

@@ -47,7 +47,8 @@ given_small : (k : Kept) (a : ℕ) (n : ℕ) → IsMap k.reserved → Has k.rese
 given_small k a n map has = map.short a (has_map (λ q. q.0) k.reserved (a, n) has)
 
 -- and what it has chosen, where it may be sent, it sends
-pub chosen_sends : (y : Way) (k : Kept) (n : SearchAddress) (x : Search) (o : Bool) (p : Purpose) (s : Stage) (c : Command) → IsMap k.reserved → Knows y k n x o p
+pub chosen_sends : (y : Way) (k : Kept) (n : SearchAddress) (x : Search) (o : Bool) (p : Purpose) (s : Stage) (c : Command) → IsMap k.reserved
+    → Knows y k n x o p
     → Follows k.block k.reserved s c → IsChosen n p s c
     → Sends k n p s c
 chosen_sends y k n x o p Free c map knows follows e = (e, subst IsSpelled (sym e) (first_spelled y k n x o p knows))
@@ -73,7 +74,8 @@ pub reserved_none : (xs : List Assignment) (a n : ℕ) → (HasAddress xs a → 
 reserved_none xs a n none = (λ e. absurd (cc), λ h. absurd (none (has_map (λ q. q.0) xs (a, n) h)))
 
 -- so whether it sends a frame is told by whether the frame may be sent, and whether it has chosen it
-pub sends_allowed : (y : Way) (k : Kept) (n : SearchAddress) (x : Search) (o : Bool) (p : Purpose) (t : List Entry) (f : Forward) (chosen : Bool) → IsMap k.reserved
+pub sends_allowed : (y : Way) (k : Kept) (n : SearchAddress) (x : Search) (o : Bool) (p : Purpose) (t : List Entry) (f : Forward) (chosen : Bool)
+    → IsMap k.reserved
     → Knows y k n x o p → Lawful k.block k.reserved t f
     → ((chosen ≡ true) ↔ IsChosen n p (stage_of t) (command_of f)) → (chosen ≡ true) ↔ Sends k n p (stage_of t) (command_of f)
 sends_allowed y k n x o p t f chosen map knows lawful test = (

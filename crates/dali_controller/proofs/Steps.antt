@@ -38,7 +38,7 @@ use Rattle.dali_script.specs.declared.orders.Order.{Order}
 use Rattle.dali_script.specs.declared.orders.Order.TheVariants.{Put, Commit, Done, Halt}
 use Rattle.dali_script.specs.declared.orders.End.{End}
 use Rattle.dali_script.specs.declared.orders.Fault.TheVariants as fault
-use Rattle.dali_script.specs.declared.orders.End.TheVariants.{BlockFull, GaveUp}
+use Rattle.dali_script.specs.declared.orders.End.TheVariants.{AllFound, BlockFull, GaveUp}
 use Rattle.dali_script.specs.declared.orders.Due.TheVariants as due
 use Rattle.dali_controller.specs.declared.purpose.Purpose.{Purpose}
 use Rattle.dali_controller.specs.declared.purpose.Purpose.TheVariants.{Opening, Probing, Visiting, Resolving, Closing, Asking, Waking}
@@ -52,7 +52,8 @@ use Rattle.dali_controller.specs.Machine.{machine_lost, Machine, opened_after, w
 use Rattle.dali_controller.specs.Next.{begins_at, course_by, beginning, next_course, draws, draw_or_close, is_withheld, is_withheld_by}
 use Rattle.dali_controller.proofs.Courses.{address_is}
 use Rattle.dali_controller.proofs.Asked.{least_open_is, open_unreserved}
-use Rattle.dali_controller.specs.Orders.{Contradicts, IsBegun, AfterReserved, AfterMaskBy, AfterMaskOn, AfterMaskSurveyed, IsOrderedTo, IsSought, IsLeft, MayEnrolOn, is_left, is_left_by, machine_ordered}
+use Rattle.dali_controller.specs.Orders.{Contradicts, IsBegun, AfterReserved, AfterMaskBy, AfterMaskOn, AfterMaskSurveyed, IsOrderedTo, IsSought, IsLeft}
+use Rattle.dali_controller.specs.Orders.{MayEnrolOn, is_left, is_left_by, machine_ordered}
 use Rattle.dali_controller.specs.Orders.{running_close}
 use Rattle.dali_controller.specs.Parts.{parts_course, machine_of}
 use Rattle.dali_controller.specs.Whole.{IsWhole, Sends, Knows, IsEarly, IsWithinSilence, IsReady, IsSending, Pending}
@@ -100,7 +101,8 @@ arrives_middle k n p b (Some bytes) is small = (RandomByte b Low, (turn_low p n 
 
 goes_first : (k : Kept) (n : SearchAddress) (p : Purpose) → IsSpelled (first_of p n) → Goes k n p Free (first_of p n)
 goes_first k n Opening small = going (turn refl refl) tt (λ g x. cc) (λ later. refl) (λ h. inl refl)
-goes_first k n (Resolving a) small = going (turn refl refl) small (λ g x. cc) (λ later. refl) (λ h. arrives_high k n (Resolving a) a (byte_heard h) (inl refl) small)
+goes_first k n (Resolving a) small =
+    going (turn refl refl) small (λ g x. cc) (λ later. refl) (λ h. arrives_high k n (Resolving a) a (byte_heard h) (inl refl) small)
 goes_first k n (Asking a) small = going (turn refl refl) small (λ g x. cc) (λ later. refl) (λ h. arrives_high k n (Asking a) a (byte_heard h) (inr refl) small)
 goes_first k n Waking small = going (turn refl refl) tt (λ g x. cc) (λ later. refl) (λ h. inr (inl refl))
 goes_first k n (Closing e) small = going (turn refl refl) tt (λ g x. cc) (λ later. absurd (later refl)) (λ h. inr (inr (e, refl)))
@@ -231,7 +233,7 @@ sends_knows y k n p Opened c x o e knows = absurd (let on = (goes k n p Opened c
 sends_knows y k n p Initialised c x o e knows = sends_woken y k n p c x o e knows
 sends_knows y k n p _ c x o e knows = knows
 
-calm_less : (p : Purpose) (i : ℕ) → closing_of p ≡ None → IsWithinSilence p i → i < 16
+pub calm_less : (p : Purpose) (i : ℕ) → closing_of p ≡ None → IsWithinSilence p i → i < 16
 calm_less (Closing end) i e calm = absurd (cc)
 calm_less _ i e calm = calm
 
@@ -276,7 +278,7 @@ begun_none t o is none = subst (IsBegun t) (sym is) none
 not_empty : (t : List Entry) (s : Stage) → stage_of t ≡ s → (s ≡ Free → ⊥) → t ≡ [] → ⊥
 not_empty t s is later empty = later (sym is ∙ ap stage_of empty ∙ stage_none)
 
-abbrev IsMasked : Parts → Order → Type 0
+abbrev pub IsMasked : Parts → Order → Type 0
 IsMasked w o = (r : SearchAddress) → stage_of w.trace ≡ Unnamed r → AfterMaskOn w.way (machine_of w) (parts_course w) r o
 
 put_next_at : (w : Parts) (s : Stage) (c : Command) → IsHeard w s → Sends w.kept w.number w.purpose s c → (s ≡ Free → ⊥)
@@ -324,7 +326,9 @@ terminates (Closing e) n = inr (refl, refl)
 terminates _ n = inl refl
 
 silent_closes : (p : Purpose) (i : ℕ) → IsWithinSilence p i → i ≡ 16 → p ≡ Closing GaveUp
-silent_closes (Closing e) i calm is = ap (λ x. Closing x) (calm.1 is)
+silent_closes (Closing AllFound) i calm is = absurd (omega arith)
+silent_closes (Closing BlockFull) i calm is = absurd (omega arith)
+silent_closes (Closing GaveUp) i calm is = refl
 silent_closes _ i calm is = absurd (omega arith)
 
 pub first_spelled : (y : Way) (k : Kept) (n : SearchAddress) (s : Search) (o : Bool) (p : Purpose) → Knows y k n s o p → IsSpelled (first_of p n)
@@ -413,7 +417,9 @@ commit_whole w x t ready going fits may empty = record {
 
 -- TO HEAR
 calm_small : (p : Purpose) (i : ℕ) → IsWithinSilence p i → i ≤ 16
-calm_small (Closing e) i calm = calm.0
+calm_small (Closing AllFound) i calm = omega arith
+calm_small (Closing BlockFull) i calm = omega arith
+calm_small (Closing GaveUp) i calm = calm
 calm_small _ i calm = omega arith
 
 pub sending_small : (w : Parts) (f : Forward) → IsSending (machine_of w) f → w.silent < 255
@@ -432,7 +438,8 @@ trace_found_at (Spelled b None) found is = tt
 trace_found_at _ found is = tt
 
 -- the parts after a frame was heard, the last finding noted, and the counts made
-pub hear_heard : (w noted : Parts) (f : Forward) (h : Answer) (t : List Entry) (s : Stage) (complete o : Bool) (n i : ℕ) (shorts : Shorts) (asked : ℕ) → IsWhole (machine_of w)
+pub hear_heard : (w noted : Parts) (f : Forward) (h : Answer) (t : List Entry) (s : Stage) (complete o : Bool) (n i : ℕ) (shorts : Shorts) (asked : ℕ)
+    → IsWhole (machine_of w)
     → frame_put w.last ≡ Some f
     → t ≡ w.trace ++ (record { frame = f; heard = h }) ∷ [] → noted ≡ record w { trace = t; finding = later w.finding (finding_of t) }
     → s ≡ stage_of noted.trace
@@ -612,7 +619,7 @@ lost_ended_at w ready is =
       found = λ r b e. absurd (cc);
     }
 
-but_course : (new m : Machine) → new ≡ m → new ≡ record m { course = new.course }
+pub but_course : (new m : Machine) → new ≡ m → new ≡ record m { course = new.course }
 but_course new m is = subst (λ (n : Machine). n ≡ record m { course = n.course }) (sym is) refl
 
 pub lost_ended : (w : Parts) (t : List Entry) (o : Order) (new : Machine) → IsWhole (machine_of w) → due_after w.last ≡ due.Bus → t ≡ [] → w.tries + 1 ≡ 8
@@ -644,172 +651,6 @@ sends_program k n r p a m kept visiting is h =
     let there : Has k.reserved (a, value_of r) = subst (λ v. Has k.reserved (a, v)) is h in
     (visiting.0, visiting.1, (a, kept.reserved.short a (has_map (λ q. q.0) k.reserved (a, value_of r) there), may_give k r a kept there, refl))
 
--- In a survey what is reserved may be another's: then it is not given.
-reserved_for : (k : Kept) (r a : ℕ) → IsKept k → Has k.reserved (a, r) → Some a ≡ address_for k.reserved r
-reserved_for k r a kept has = address_is k.reserved r (Some a) kept.reserved.random_once has
-
-withheld_opened : (o b : Bool) → (o && b) ≡ true → o ≡ true
-withheld_opened true b e = refl
-withheld_opened false b e = absurd (cc)
-
-withheld_by : (y : Way) (t : Machine) (a r : ℕ) → is_withheld_by t y a r ≡ true → t.opened ≡ true
-withheld_by Fresh t a r e = absurd (cc)
-withheld_by Surveying t a r e = withheld_opened t.opened (is_anothers t.kept t.heard a r) e
-withheld_by Drawing t a r e = withheld_opened t.opened (is_anothers t.kept t.heard a r) e
-
-pub withheld_searching : (w : Parts) (a m : ℕ) → is_withheld (machine_of w) a m ≡ true → w.opened ≡ true
-withheld_searching w a m e = withheld_by w.way (machine_of w) a m e
-
-left_by_withheld : (y : Way) (w : Parts) (r : SearchAddress) (a : ℕ) → w.way ≡ y → IsKept w.kept → Has w.kept.reserved (a, value_of r)
-    → is_withheld (machine_of w) a (value_of r) ≡ true → IsUngiven y w r
-left_by_withheld Fresh w r a way kept has withheld =
-    absurd (let no : is_withheld_by (machine_of w) Fresh a (value_of r) ≡ true =
-    subst (λ y. is_withheld_by (machine_of w) y a (value_of r) ≡ true) way withheld in cc)
-left_by_withheld Surveying w r a way kept has withheld =
-    ap (λ o. is_left_by (machine_of w) (value_of r) o (least_open w.kept w.heard)) (sym (reserved_for w.kept (value_of r) a kept has)) ∙ withheld
-left_by_withheld Drawing w r a way kept has withheld =
-    ap (λ o. is_left_by (machine_of w) (value_of r) o (least_open w.kept w.heard)) (sym (reserved_for w.kept (value_of r) a kept has)) ∙ withheld
-
-pub withheld_left : (w : Parts) (r : SearchAddress) (a m : ℕ) → IsKept w.kept → Has w.kept.reserved (a, value_of r) → m ≡ value_of r
-    → is_withheld (machine_of w) a m ≡ true → IsUngiven w.way w r
-withheld_left w r a m kept has is withheld =
-    left_by_withheld w.way w r a refl kept has (ap (is_withheld (machine_of w) a) (sym is) ∙ withheld)
-
-given_surveyed : (w : Parts) (r : SearchAddress) (a : ℕ) → IsKept w.kept → Has w.kept.reserved (a, value_of r)
-    → is_withheld (machine_of w) a (value_of r) ≡ false → AfterMaskSurveyed (machine_of w) r (Put LATER (frame_of (Program (Some a))))
-given_surveyed w r a kept has given =
-    let o : Order = Put LATER (frame_of (Program (Some a))) in
-    let here : AfterReserved (machine_of w) a (is_withheld (machine_of w) a (value_of r)) o =
-    subst (λ b. AfterReserved (machine_of w) a b o) (sym given) refl in
-    subst (λ x. AfterMaskBy (machine_of w) r x (least_open w.kept w.heard) o) (reserved_for w.kept (value_of r) a kept has) here
-
-given_masked : (y : Way) (w : Parts) (r : SearchAddress) (a : ℕ) → IsKept w.kept → Has w.kept.reserved (a, value_of r)
-    → is_withheld (machine_of w) a (value_of r) ≡ false → AfterMaskOn y (machine_of w) (parts_course w) r (Put LATER (frame_of (Program (Some a))))
-given_masked Fresh w r a kept has given = inl (a, has, refl, refl)
-given_masked Surveying w r a kept has given = given_surveyed w r a kept has given
-given_masked Drawing w r a kept has given = given_surveyed w r a kept has given
-
-same_unnamed : (r q : SearchAddress) → Unnamed r ≡ Unnamed q → r ≡ q
-same_unnamed r q e = cc
-
-pub gives_masked : (w : Parts) (r : SearchAddress) (a m : ℕ) → IsHeard w (Unnamed r) → IsKept w.kept → Has w.kept.reserved (a, value_of r) → m ≡ value_of r
-    → is_withheld (machine_of w) a m ≡ false → IsMasked w (Put LATER (frame_of (Program (Some a))))
-gives_masked w r a m h kept has is given q stage =
-    subst (λ x. AfterMaskOn w.way (machine_of w) (parts_course w) x (Put LATER (frame_of (Program (Some a)))))
-    (same_unnamed r q (sym h.stage ∙ stage)) (given_masked w.way w r a kept has (ap (is_withheld (machine_of w) a) (sym is) ∙ given))
-
--- gear that answered MASK and for whose number nothing is reserved is found by a search
-pub free_searching : (w : Parts) (r : SearchAddress) → IsHeard w (Unnamed r) → (HasRandom w.kept.reserved (value_of r) → ⊥) → w.opened ≡ true
-free_searching w r h free =
-    let visiting : Knows w.way w.kept w.number w.search w.opened Visiting = subst (Knows w.way w.kept w.number w.search w.opened) h.arrived.0 h.knows in
-    go w.opened (λ e. subst (λ q. HasRandom w.kept.reserved (value_of q)) (sym h.arrived.1) (visiting.1 e)) where
-      go : (o : Bool) → (o ≡ false → HasRandom w.kept.reserved (value_of r)) → o ≡ true
-      go true early = refl
-      go false early = absurd (free (early refl))
-
--- The next free address is reserved; there is none where nothing is given.
-free_within : (y : Way) (k : Kept) (heard : Shorts) (a : ℕ) → IsFirstFree y k heard (Some a) → InBlock k.block a × (HasAddress k.reserved a → ⊥)
-free_within Fresh k heard a is = (is.within, is.free)
-free_within Surveying k heard a is = let x = least_open_is k heard a (sym is) in (x.0, open_unreserved k heard a x.1)
-free_within Drawing k heard a is = let x = least_open_is k heard a (sym is) in (x.0, open_unreserved k heard a x.1)
-
-none_reserved_for : (k : Kept) (r : ℕ) → IsMap k.reserved → (HasRandom k.reserved r → ⊥) → None ≡ address_for k.reserved r
-none_reserved_for k r map free = address_is k.reserved r None map.random_once free
-
-pub unfree_left : (y : Way) (w : Parts) (r : SearchAddress) → IsMap w.kept.reserved → (HasRandom w.kept.reserved (value_of r) → ⊥)
-    → IsFirstFree y w.kept w.heard None → IsUngiven y w r
-unfree_left Fresh w r map free is = (free, is)
-unfree_left Surveying w r map free is =
-    ap (λ o. is_left_by (machine_of w) (value_of r) o (least_open w.kept w.heard)) (sym (none_reserved_for w.kept (value_of r) map free))
-    ∙ ap (λ o. not (is_some o)) (sym is)
-unfree_left Drawing w r map free is =
-    ap (λ o. is_left_by (machine_of w) (value_of r) o (least_open w.kept w.heard)) (sym (none_reserved_for w.kept (value_of r) map free))
-    ∙ ap (λ o. not (is_some o)) (sym is)
-
-reserved_surveyed : (w : Parts) (r : SearchAddress) (a m : ℕ) → IsMap w.kept.reserved → (HasRandom w.kept.reserved (value_of r) → ⊥)
-    → Some a ≡ least_open w.kept w.heard → m ≡ value_of r → AfterMaskSurveyed (machine_of w) r (Commit (Reserve a m))
-reserved_surveyed w r a m map free is same =
-    subst (λ x. AfterMaskBy (machine_of w) r x (least_open w.kept w.heard) (Commit (Reserve a m))) (none_reserved_for w.kept (value_of r) map free)
-    (subst (λ x. AfterMaskBy (machine_of w) r None x (Commit (Reserve a m))) is (ap (λ n. Commit (Reserve a n)) same))
-
-reserved_masked : (y : Way) (w : Parts) (c : Course) (r : SearchAddress) (a m : ℕ) → IsMap w.kept.reserved → (HasRandom w.kept.reserved (value_of r) → ⊥)
-    → IsFirstFree y w.kept w.heard (Some a) → m ≡ value_of r → AfterMaskOn y (machine_of w) c r (Commit (Reserve a m))
-reserved_masked Fresh w c r a m map free is same = (sym same, subst (λ n. HasRandom w.kept.reserved n → ⊥) (sym same) free, is)
-reserved_masked Surveying w c r a m map free is same = reserved_surveyed w r a m map free is same
-reserved_masked Drawing w c r a m map free is same = reserved_surveyed w r a m map free is same
-
--- what may be reserved for gear that answered MASK
-pub record IsReservable (w : Parts) (a m : ℕ) : Type 0 where
-  pub fits : Fits w.kept.block (Reserve a m)
-  pub may : MayAdd w.kept (Reserve a m)
-
-pub reservable : (w : Parts) (r : SearchAddress) (a m : ℕ) → IsHeard w (Unnamed r) → (HasRandom w.kept.reserved (value_of r) → ⊥)
-    → IsFirstFree w.way w.kept w.heard (Some a) → m ≡ value_of r → IsReservable w a m
-reservable w r a m h free is same =
-    let visiting : Knows w.way w.kept w.number w.search w.opened Visiting = subst (Knows w.way w.kept w.number w.search w.opened) h.arrived.0 h.knows in
-    let x = free_within w.way w.kept w.heard a is in
-    let drawn : value_of r < MASK24 = subst (λ q. value_of q < MASK24) (sym h.arrived.1) visiting.0 in
-    record {
-      fits = (x.0, subst (λ n. n < MASK24) (sym same) drawn);
-      may = (x.1, subst (λ n. HasRandom w.kept.reserved n → ⊥) (sym same) free);
-    }
-
-reserves_at : (w : Parts) (c : Course) (r : SearchAddress) (a m : ℕ) → IsMap w.kept.reserved → IsHeard w (Unnamed r)
-    → (HasRandom w.kept.reserved (value_of r) → ⊥) → IsFirstFree w.way w.kept w.heard (Some a) → m ≡ value_of r
-    → IsOrderedTo (machine_of w) c (Commit (Reserve a m))
-reserves_at w c r a m map h free is same =
-    let tries : w.tries < 8 = h.tries in
-    let going : closing_of w.purpose ≡ None = ap closing_of h.arrived.0 in
-    let calm : w.silent < 16 = calm_less w.purpose w.silent going h.calm in
-    let may = reservable w r a m h free is same in
-    let stage : stage_of w.trace ≡ Unnamed r = h.stage in
-    record {
-      allowed = record { fits = may.fits; may = may.may; warranted = (r, h.stage, sym same) };
-      addressing = tt;
-      caused = going;
-      given_up = λ e. absurd (omega arith);
-      silent = λ e. absurd (omega arith);
-      unnamed = λ q e. subst (λ x. AfterMaskOn w.way (machine_of w) c x (Commit (Reserve a m))) (same_unnamed r q (sym stage ∙ e))
-          (reserved_masked w.way w c r a m map free is same);
-      found = λ q b e. absurd (cc);
-    }
-
-pub reserves : (w : Parts) (r : SearchAddress) (a m : ℕ) (o : Order) (new : Machine) → IsMap w.kept.reserved → IsHeard w (Unnamed r)
-    → (HasRandom w.kept.reserved (value_of r) → ⊥) → IsFirstFree w.way w.kept w.heard (Some a) → m ≡ value_of r
-    → o ≡ Commit (Reserve a m) → new ≡ machine_ordered (machine_of w) o → IsNext (machine_of w) o new
-reserves w r a m o new map h free is same order state = record {
-  order = subst (IsOrderedTo (machine_of w) new.course) (sym order) (reserves_at w new.course r a m map h free is same);
-  state = but_course new (machine_ordered (machine_of w) o) state;
-}
-
--- gear that is left
-left_closes : (y : Way) (w : Parts) (r : SearchAddress) → w.way ≡ y → stage_of w.trace ≡ Unnamed r → draws (machine_of w) ≡ false → IsUngiven y w r
-    → IsLeft (machine_of w) y (value_of r) × IsNextTo y w (Closing BlockFull) w.number
-left_closes y w r way stage undrawn ungiven = go y ungiven where
-  next : Put FIRST (frame_of (first_of (Closing BlockFull) w.number)) ≡ beginning (next_course (machine_of w))
-  next = sym (ap beginning (ap (begins_at (machine_of w)) stage ∙ ap (λ b. draw_or_close b (parts_course w) BlockFull) undrawn))
-
-  go : (y : Way) → IsUngiven y w r → IsLeft (machine_of w) y (value_of r) × IsNextTo y w (Closing BlockFull) w.number
-  go Fresh ungiven = (ungiven, refl)
-  go Surveying ungiven = ((ungiven, undrawn), next)
-  go Drawing ungiven = ((ungiven, undrawn), next)
-
-pub leaves : (w : Parts) (r : SearchAddress) → IsHeard w (Unnamed r) → w.opened ≡ true → IsUngiven w.way w r → draws (machine_of w) ≡ false
-    → Closes w BlockFull
-leaves w r h opened ungiven undrawn =
-    let going : closing_of w.purpose ≡ None = ap closing_of h.arrived.0 in
-    let calm : w.silent < 16 = calm_less w.purpose w.silent going h.calm in
-    let left = left_closes w.way w r refl h.stage undrawn ungiven in
-    record {
-      tries = h.tries;
-      calm = (omega arith, λ e. absurd (omega arith));
-      opened = opened;
-      going = going;
-      cause = (r, h.stage, left.0);
-      unnamed = λ q e. (subst (IsUngiven w.way w) (same_unnamed r q (sym h.stage ∙ e)) ungiven, left.1);
-      found = λ q b e. let other : Unnamed r ≡ Withdrawn q b = sym h.stage ∙ e in cc;
-    }
-
 -- a command that the transaction's turn names follows no MASK
 pub turns_masked : (w : Parts) (c : Command) → turn_of w.purpose w.number (stage_of w.trace) ≡ Some c → IsMasked w (Put LATER (frame_of c))
 turns_masked w c turn q stage = absurd (none w.purpose (subst (λ s. turn_of w.purpose w.number s ≡ Some c) stage turn)) where
@@ -821,158 +662,6 @@ turns_masked w c turn q stage = absurd (none w.purpose (subst (λ s. turn_of w.p
   none (Closing x) e = cc
   none (Asking a) e = cc
   none Waking e = cc
-
--- TO SETTLE
-same_address : (r q : SearchAddress) (b d : ℕ) → Withdrawn r b ≡ Withdrawn q d → b ≡ d
-same_address r q b d e = cc
-
-same_number : (r q : SearchAddress) (b d : ℕ) → Withdrawn r b ≡ Withdrawn q d → r ≡ q
-same_number r q b d e = cc
-
--- what was withdrawn, or has told its random address, may be enrolled
-may_queried : (y : Way) (reserved : List Assignment) (b r : ℕ) → MayEnrolOn y reserved (Queried b r) (b, r)
-may_queried Fresh reserved b r = refl
-may_queried Surveying reserved b r = refl
-may_queried Drawing reserved b r = refl
-
-may_resolved : (y : Way) (reserved : List Assignment) (b n : ℕ) → Has reserved (b, n) → MayEnrolOn y reserved (Resolved b n) (b, n)
-may_resolved Fresh reserved b n has = (refl, has)
-may_resolved Surveying reserved b n has = refl
-may_resolved Drawing reserved b n has = refl
-
-pub settles_withdrawn : (w : Parts) (r : SearchAddress) (b n : ℕ) → IsHeard w (Withdrawn r b) → n ≡ value_of r → Settles w b n
-settles_withdrawn w r b n h is =
-    let stage : stage_of w.trace ≡ Withdrawn r b = h.stage in
-    let visiting : Knows w.way w.kept w.number w.search w.opened Visiting = subst (Knows w.way w.kept w.number w.search w.opened) h.arrived.0 h.knows in
-    subst (Settles w b) (sym is) (record {
-      ready = record { tries = h.tries; calm = h.calm; knows = h.knows };
-      going = ap closing_of h.arrived.0;
-      drawn = subst (λ x. value_of x < MASK24) (sym h.arrived.1) visiting.0;
-      found = Queried b (value_of r);
-      is = refl;
-      may = may_queried w.way w.kept.reserved b (value_of r);
-      finding = h.finding;
-      trace_finding = h.trace_finding;
-      next = ap (begins_at (machine_of w)) stage;
-      unnamed = λ q e. absurd (cc);
-      withdrawn = λ q c e. let there : Withdrawn r b ≡ Withdrawn q c =
-          sym stage ∙ e in (same_address q r c b (sym there), ap value_of (same_number q r c b (sym there)));
-    })
-
--- what the queries of a random address told, of a reservation or in a survey
-record IsTold (w : Parts) (b n : ℕ) : Type 0 where
-  pub going : closing_of w.purpose ≡ None
-  pub drawn : n < MASK24
-  pub may : MayEnrolOn w.way w.kept.reserved (Resolved b n) (b, n)
-
-told_by : (w : Parts) (b n : ℕ) → IsReady (machine_of w) → (w.purpose ≡ Resolving b) ⊎ (w.purpose ≡ Asking b) → IsSought w.purpose w.number n
-    → IsTold w b n
-told_by w b n ready (inl is) sought =
-    let resolving : Knows w.way w.kept w.number w.search w.opened (Resolving b) = subst (Knows w.way w.kept w.number w.search w.opened) is ready.knows in
-    let same : n ≡ value_of w.number = subst (λ p. IsSought p w.number n) is sought in
-    record {
-      going = ap closing_of is;
-      drawn = subst (λ x. x < MASK24) (sym same) resolving.1;
-      may = may_resolved w.way w.kept.reserved b n (subst (λ x. Has w.kept.reserved (b, x)) (sym same) resolving.3);
-    }
-told_by w b n ready (inr is) sought =
-    let asking : Knows w.way w.kept w.number w.search w.opened (Asking b) = subst (Knows w.way w.kept w.number w.search w.opened) is ready.knows in
-    record {
-      going = ap closing_of is;
-      drawn = subst (λ p. IsSought p w.number n) is sought;
-      may = rw asking.1 refl;
-    }
-
-pub settles_resolved : (w : Parts) (b n : ℕ) → IsHeard w (Spelled b (Some n)) → IsSought w.purpose w.number n → Settles w b n
-settles_resolved w b n h sought =
-    let stage : stage_of w.trace ≡ Spelled b (Some n) = h.stage in
-    let ready : IsReady (machine_of w) = record { tries = h.tries; calm = h.calm; knows = h.knows } in
-    let told = told_by w b n ready h.arrived sought in
-    record {
-      ready = ready;
-      going = told.going;
-      drawn = told.drawn;
-      found = Resolved b n;
-      is = refl;
-      may = told.may;
-      finding = h.finding;
-      trace_finding = h.trace_finding;
-      next = ap (begins_at (machine_of w)) stage;
-      unnamed = λ q e. absurd (cc);
-      withdrawn = λ q c e. absurd (cc);
-    }
-
--- the count of silent searches is below its limit
-settled_calm : (w : Parts) (b n : ℕ) → Settles w b n → w.silent < 16
-settled_calm w b n h = calm_less w.purpose w.silent h.going h.ready.calm
-
-halted_at : (w : Parts) (c : Course) (b n : ℕ) → Settles w b n → Contradicts w.kept.enrolled b n → IsOrderedTo (machine_of w) c (Halt fault.Conflict)
-halted_at w c b n h conflict =
-    let tries : w.tries < 8 = h.ready.tries in
-    let calm : w.silent < 16 = settled_calm w b n h in
-    record {
-      allowed = tt;
-      addressing = tt;
-      caused = (h.found, h.finding, h.trace_finding, subst (λ (p : Assignment). Contradicts w.kept.enrolled p.0 p.1) (sym h.is) conflict);
-      given_up = λ e. absurd (omega arith);
-      silent = λ e. absurd (omega arith);
-      unnamed = λ q e. absurd (h.unnamed q e);
-      found = λ q d e.
-          let there = h.withdrawn q d e in
-          subst (λ m. Contradicts w.kept.enrolled d m) (sym there.1) (subst (λ a. Contradicts w.kept.enrolled a n) (sym there.0) conflict);
-    }
-
-halted : (w : Parts) (b n : ℕ) (o : Order) (new : Machine) → Settles w b n → Contradicts w.kept.enrolled b n → o ≡ Halt fault.Conflict
-    → new ≡ machine_ordered (machine_of w) o → IsNext (machine_of w) o new
-halted w b n o new h conflict is state =
-    record {
-      order = subst (IsOrderedTo (machine_of w) new.course) (sym is) (halted_at w new.course b n h conflict);
-      state = but_course new (machine_ordered (machine_of w) o) state;
-    }
-
--- the table has the address for another gear
-pub halts_by_address : (w : Parts) (b m n : ℕ) (o : Order) (new : Machine) → Settles w b n → Has w.kept.enrolled (b, m) → (m ≡ n → ⊥)
-    → o ≡ Halt fault.Conflict → new ≡ machine_ordered (machine_of w) o → IsNext (machine_of w) o new
-halts_by_address w b m n o new h has other order state =
-    halted w b n o new h (inl (m, has, other)) order state
-
--- or the gear with another address
-pub contradicts_by_random : (w : Parts) (b a n : ℕ) → Settles w b n → (HasAddress w.kept.enrolled b → ⊥) → Has w.kept.enrolled (a, n)
-    → Contradicts w.kept.enrolled b n
-contradicts_by_random w b a n h none has = inr (
-  a,
-  has,
-  λ e. none (subst (HasAddress w.kept.enrolled) e (has_map (λ q. q.0) w.kept.enrolled (a, n) has)),
-)
-
-pub halts_by_random : (w : Parts) (b a n : ℕ) (o : Order) (new : Machine) → Settles w b n → (HasAddress w.kept.enrolled b → ⊥) → Has w.kept.enrolled (a, n)
-    → o ≡ Halt fault.Conflict → new ≡ machine_ordered (machine_of w) o → IsNext (machine_of w) o new
-halts_by_random w b a n o new h none has order state = halted w b n o new h (contradicts_by_random w b a n h none has) order state
-
-enrols_at : (w : Parts) (c : Course) (b n : ℕ) → Settles w b n → (HasAddress w.kept.enrolled b → ⊥) → (HasRandom w.kept.enrolled n → ⊥)
-    → IsOrderedTo (machine_of w) c (Commit (Enrol b n))
-enrols_at w c b n h none fresh =
-    let tries : w.tries < 8 = h.ready.tries in
-    let calm : w.silent < 16 = settled_calm w b n h in
-    record {
-      allowed = record { fits = h.drawn; may = (none, fresh); warranted = (h.found, h.finding, h.trace_finding, h.may) };
-      addressing = tt;
-      caused = h.going;
-      given_up = λ e. absurd (omega arith);
-      silent = λ e. absurd (omega arith);
-      unnamed = λ q e. absurd (h.unnamed q e);
-      found = λ q d e.
-          let there = h.withdrawn q d e in
-          ap (λ a. Enrol a n) (sym there.0) ∙ ap (λ m. Enrol d m) (sym there.1);
-    }
-
-pub enrols : (w : Parts) (b n : ℕ) (o : Order) (new : Machine) → Settles w b n → (HasAddress w.kept.enrolled b → ⊥) → (HasRandom w.kept.enrolled n → ⊥)
-    → o ≡ Commit (Enrol b n) → new ≡ machine_ordered (machine_of w) o → IsNext (machine_of w) o new
-enrols w b n o new h none fresh order state = record {
-  order = subst (IsOrderedTo (machine_of w) new.course) (sym order)
-      (enrols_at w new.course b n h none fresh);
-  state = but_course new (machine_ordered (machine_of w) o) state;
-}
 
 -- a number is reserved once its reservation is kept
 pub reserved_kept : (w new : Parts) (x : Record) (a n m : ℕ) → x ≡ Reserve a n → new ≡ record w { kept = with_record w.kept x } → m ≡ n

@@ -24,7 +24,7 @@ use Rattle.dali_controller.specs.declared.purpose.Purpose.{Purpose}
 use Rattle.dali_controller.specs.declared.purpose.Purpose.TheVariants.{Asking, Waking}
 use Rattle.dali_controller.specs.declared.shorts.Shorts.{Shorts}
 use Rattle.dali_controller.specs.declared.way.Way.TheVariants.{Surveying}
-use Rattle.dali_controller.specs.Shorts.{with_short}
+use Rattle.dali_controller.specs.Shorts.{with_short, without_short}
 use Rattle.dali_controller.specs.Course.{Course, course_at_first, closing_of, turn_of}
 
 -- What contracts see of a machine: its number; what it keeps; the running transaction; its last
@@ -99,22 +99,19 @@ abbrev pub woken_after : Stage → Purpose → Bool → Bool
 woken_after Initialised Waking opened = true
 woken_after _ p opened = opened
 
--- A short address that is asked is some gear's, and whose it is was not told: a query was heard
--- damaged, a later one was not heard, or the number is one that no gear draws.
-abbrev pub unknown_at : Stage → Answer → Option ℕ
-unknown_at (HighAsked a None) Silence = None
-unknown_at (HighAsked a None) h = Some a
-unknown_at (MiddleAsked a None) h = Some a
-unknown_at (Spelled a None) h = Some a
-unknown_at (Spelled a (Some n)) h = if n == MASK24 then Some a else None
-unknown_at _ h = None
-
-abbrev pub with_unknown : Shorts → Option ℕ → Shorts
-with_unknown heard None = heard
-with_unknown heard (Some a) = with_short heard a
+-- A short address that is asked is marked where somebody answers, until three bytes tell a number
+-- that gear draw; so it stays marked where one of them is not heard, or the number is none.
+abbrev pub marked_at : Stage → Answer → Shorts → Shorts
+marked_at (HighAsked a None) Silence heard = heard
+marked_at (HighAsked a high) h heard = with_short heard a
+marked_at (MiddleAsked a bytes) h heard = with_short heard a
+marked_at (Spelled a None) h heard = with_short heard a
+marked_at (Spelled a (Some n)) h heard =
+    if n == MASK24 then with_short heard a else without_short heard a
+marked_at _ h heard = heard
 
 abbrev pub heard_after : Purpose → Stage → Answer → Shorts → Shorts
-heard_after (Asking a) s h heard = with_unknown heard (unknown_at s h)
+heard_after (Asking a) s h heard = marked_at s h heard
 heard_after _ s h heard = heard
 
 -- silence is asked again, three times in all

@@ -6,14 +6,14 @@ use Rattle.dali_frame.specs.declared.numbers.SearchAddress.{SearchAddress}
 use Rattle.dali_frame.specs.Random.{value_of}
 use Rattle.dali_frame.specs.Priority.{FIRST}
 use Rattle.dali_special.specs.Command.{frame_of}
-use Rattle.dali_script.specs.declared.records.Record.TheVariants.{Reserve}
+use Rattle.dali_script.specs.declared.records.Record.TheVariants.{Reserve, Enrol, Release}
 use Rattle.dali_script.specs.declared.stage.Stage.{Stage}
 use Rattle.dali_script.specs.declared.stage.Stage.TheVariants.{Free, Opened, Probed, Unnamed}
 use Rattle.dali_script.specs.declared.stage.Stage.TheVariants.{Unanswered, Inconclusive}
 use Rattle.dali_script.specs.declared.stage.Stage.TheVariants.{Initialised, HighAsked}
 use Rattle.dali_script.specs.Stages.{stage_of}
 use Rattle.dali_script.specs.declared.orders.Order.{Order}
-use Rattle.dali_script.specs.declared.orders.Order.TheVariants.{Put, Commit}
+use Rattle.dali_script.specs.declared.orders.Order.TheVariants.{Put, Commit, Done, Halt}
 use Rattle.dali_script.specs.declared.orders.End.{End}
 use Rattle.dali_script.specs.declared.orders.End.TheVariants.{AllFound, BlockFull, GaveUp}
 use Rattle.dali_search.specs.declared.step.Step.{Step}
@@ -72,7 +72,8 @@ draw_or_close false c e = closing c e
 -- COMPARE was answered: where nobody is left, the search is over
 abbrev pub probed_to : Machine → Step → Course → Course
 probed_to t Nobody c = draw_or_close (draws t) c AllFound
-probed_to t s c = after_step s c
+probed_to t Again c = after_step Again c
+probed_to t (Found r) c = after_step (Found r) c
 
 abbrev pub probed_in : Machine → Answer → Course
 probed_in t h =
@@ -86,9 +87,13 @@ asked_once t false = t.course
 
 -- no frame was sent: the start, a transaction that was lost, or a record that is kept
 abbrev pub at_rest : Machine → Option Order → Course
+at_rest t None = goes_on_to t
 at_rest t (Some (Put p f)) = t.course
 at_rest t (Some (Commit (Reserve a n))) = visiting t.course n
-at_rest t _ = goes_on_to t
+at_rest t (Some (Commit (Enrol a n))) = goes_on_to t
+at_rest t (Some (Commit (Release a n))) = goes_on_to t
+at_rest t (Some (Done e)) = goes_on_to t
+at_rest t (Some (Halt w)) = goes_on_to t
 
 abbrev pub begins_at : Machine → Stage → Course
 begins_at t Free = at_rest t t.last
@@ -112,9 +117,13 @@ beginning c = Put FIRST (frame_of (first_of c.purpose c.number))
 -- an order leaves the course, but a first frame
 abbrev pub course_by : Machine → Order → Course
 course_by t (Put p f) = if p == FIRST then next_course t else t.course
-course_by t _ = t.course
+course_by t (Commit x) = t.course
+course_by t (Done e) = t.course
+course_by t (Halt w) = t.course
 
 -- and a first frame is that of the transaction that begins
 abbrev pub BeginsWith : Course → Order → Type 0
 BeginsWith c (Put p f) = p ≡ FIRST → f ≡ frame_of (first_of c.purpose c.number)
-BeginsWith c _ = Unit {0}
+BeginsWith c (Commit x) = Unit {0}
+BeginsWith c (Done e) = Unit {0}
+BeginsWith c (Halt w) = Unit {0}

@@ -40,7 +40,9 @@ use Rattle.dali_controller.specs.Next.{is_withheld}
 -- only a later frame goes on with the transaction
 abbrev pub trace_by : Machine → Order → List Entry
 trace_by t (Put p f) = if p == LATER then t.trace else []
-trace_by t _ = []
+trace_by t (Commit x) = []
+trace_by t (Done e) = []
+trace_by t (Halt w) = []
 
 abbrev pub machine_ordered : Machine → Order → Machine
 machine_ordered t o = record {
@@ -90,7 +92,9 @@ pub record MayCommit (t : Machine) (x : Record) : Type 0 where
 -- a frame that is put is an addressing command, and no direct arc power
 abbrev pub IsAddressing : Order → Type 0
 IsAddressing (Put p f) = (g : Forward) → command_of f ≡ Arc g → ⊥
-IsAddressing _ = Unit {0}
+IsAddressing (Commit x) = Unit {0}
+IsAddressing (Done e) = Unit {0}
+IsAddressing (Halt w) = Unit {0}
 
 abbrev pub IsAllowed : Machine → Order → Type 0
 IsAllowed t (Put p f) = MayOrderPut t p f
@@ -98,9 +102,9 @@ IsAllowed t (Commit x) = MayCommit t x
 IsAllowed t (Done e) = Unit {0}
 IsAllowed t (Halt w) = Unit {0}
 
--- GEAR THAT IS LEFT without a short address: none is reserved for its number, and each of the block
--- is reserved. In a survey: what is reserved for its number is another's, or none is reserved for it
--- and none is open; and gear draw no new numbers any more.
+-- GEAR THAT IS LEFT without a short address: none is reserved for its number, and each of the
+-- block is reserved. In a survey: what is reserved for its number is another's, or none is
+-- reserved for it and none is open; and gear draw no new numbers any more.
 abbrev pub is_left_by : Machine → ℕ → Option ℕ → Option ℕ → Bool
 is_left_by t r (Some a) free = is_withheld t a r
 is_left_by t r None free = not (is_some free)
@@ -244,11 +248,21 @@ IsOrdered t o = IsOrderedTo t (course_by t o) o
 -- the same for each input: where a record could not be kept, the machine halts
 abbrev pub IsAnswered : Machine → Input → Order → Type 0
 IsAnswered m input.CommitFailed o = o ≡ Halt fault.Store
-IsAnswered m i o = IsOrdered (machine_told m i) o
+IsAnswered m input.Start o = IsOrdered (machine_told m input.Start) o
+IsAnswered m input.Survey o = IsOrdered (machine_told m input.Survey) o
+IsAnswered m (input.Heard h) o = IsOrdered (machine_told m (input.Heard h)) o
+IsAnswered m input.Destroyed o = IsOrdered (machine_told m input.Destroyed) o
+IsAnswered m input.Lapsed o = IsOrdered (machine_told m input.Lapsed) o
+IsAnswered m input.Committed o = IsOrdered (machine_told m input.Committed) o
 
 abbrev pub IsFollowedAt : Machine → Input → Order → Type 0
 IsFollowedAt m input.CommitFailed o = Unit {0}
-IsFollowedAt m i o = IsFollowed (machine_told m i) o
+IsFollowedAt m input.Start o = IsFollowed (machine_told m input.Start) o
+IsFollowedAt m input.Survey o = IsFollowed (machine_told m input.Survey) o
+IsFollowedAt m (input.Heard h) o = IsFollowed (machine_told m (input.Heard h)) o
+IsFollowedAt m input.Destroyed o = IsFollowed (machine_told m input.Destroyed) o
+IsFollowedAt m input.Lapsed o = IsFollowed (machine_told m input.Lapsed) o
+IsFollowedAt m input.Committed o = IsFollowed (machine_told m input.Committed) o
 
 -- THE STATE AFTER A STEP, by the state before it, the input and the order.
 abbrev pub machine_after : Machine → Input → Order → Machine

@@ -3,7 +3,7 @@ use Rattle.dali_script.specs.declared.records.Record.{Record}
 use Rattle.dali_script.specs.declared.orders.Input.{Input}
 use Rattle.dali_script.specs.declared.orders.Input.TheVariants as input
 use Rattle.dali_script.specs.declared.orders.Order.{Order}
-use Rattle.dali_script.specs.declared.orders.Order.TheVariants.{Commit}
+use Rattle.dali_script.specs.declared.orders.Order.TheVariants.{Put, Commit, Done, Halt}
 use Rattle.dali_script.specs.Records.{Kept, with_record}
 use Rattle.dali_controller.specs.declared.state.State.{State}
 use Rattle.dali_controller.specs.Parts.{machine_with}
@@ -12,7 +12,16 @@ use Rattle.dali_controller.specs.Whole.{IsWhole}
 -- the record that is kept from now on, by the last order and an input
 abbrev pub kept_by : Option Order → Input → Option Record
 kept_by (Some (Commit x)) input.Committed = Some x
-kept_by _ _ = None
+kept_by (Some (Commit x)) input.Start = None
+kept_by (Some (Commit x)) input.Survey = None
+kept_by (Some (Commit x)) (input.Heard h) = None
+kept_by (Some (Commit x)) input.Destroyed = None
+kept_by (Some (Commit x)) input.Lapsed = None
+kept_by (Some (Commit x)) input.CommitFailed = None
+kept_by (Some (Put p f)) i = None
+kept_by (Some (Done e)) i = None
+kept_by (Some (Halt w)) i = None
+kept_by None i = None
 
 abbrev pub with_some : Kept → Option Record → Kept
 with_some k (Some x) = with_record k x

@@ -10,6 +10,7 @@ ghost use Rattle.dali_controller.specs.Whole.{IsWhole};
 ghost use Rattle.dali_controller.specs.Orders.{IsAnswered, IsFollowedAt, machine_after};
 
 use crate::error::StepError;
+use crate::shorts::Shorts;
 use crate::state::State;
 use dali_script::{Due, Input, Kept, Order, Record, Table, Trace};
 use std::marker::Model;
@@ -22,14 +23,21 @@ use std::marker::Model;
 /// did before it was lost, a new one learns from the records that were kept: it first visits each reservation whose
 /// gear is not enrolled.
 ///
-/// How to drive it: make one with `new`, give `step` the input `Start`, do what it orders, give it what came of that,
-/// and so on until the order is `Done` or `Halt`. `step` alone changes it; `due`, `table`, `kept`, `last` and `id` read
-/// it, and `into_kept` gives its records back. No end is promised: a bus that loses every frame is given up after eight
-/// tries, but a bus on which gear come and go may keep it busy for good, so the caller bounds its loop.
+/// It begins in one of two ways. Told `Start`, it lets gear without short address draw new random addresses at once.
+/// Told `Survey`, it first asks each short address that its table does not name, or that it has reserved, who is there;
+/// enrols who tells its random address; searches gear without short address under the random addresses that they have;
+/// and gives no address under which somebody was heard. Survey is right wherever gear may have addresses already: after
+/// a restart, beside other controllers, and with gear from elsewhere. It sees no gear without power.
+///
+/// How to drive it: make one with `new`, give `step` the input `Start` or `Survey`, do what it orders, give it what
+/// came of that, and so on until the order is `Done` or `Halt`. `step` alone changes it; `due`, `table`, `kept`,
+/// `heard`, `last` and `id` read it, and `into_kept` gives its records back. No end is promised: a bus that loses every
+/// frame is given up after eight tries, but a bus on which gear come and go may keep it busy for good, so the caller
+/// bounds its loop.
 ///
 /// | last order | what to do | inputs that are taken then |
 /// |---|---|---|
-/// | none | begin | `Start` |
+/// | none | begin | `Start`, `Survey` |
 /// | `Put(3, frame)` | ask for the bus, and begin a transaction with the frame | `Heard`, `Destroyed`, `Lapsed` |
 /// | `Put(1, frame)` | send the frame next in the running transaction | `Heard`, `Destroyed`, `Lapsed` |
 /// | `Commit(record)` | keep the record safe from a loss of power, and only then say so | `Committed`, `CommitFailed` |
@@ -137,6 +145,14 @@ impl Machine {
         ensures { result.now ≡ self.now.trace }
     {
         &self.state.trace
+    }
+
+    /// The short addresses under which its survey heard somebody whose random address it does not know. It gives none
+    /// of them.
+    pub fn heard(&self) -> Shorts
+        ensures { result ≡ self.now.heard }
+    {
+        self.state.heard
     }
 
     /// The records that are kept.

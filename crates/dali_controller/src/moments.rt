@@ -570,7 +570,7 @@ impl State {
     }
 
     /// The gear with this short address told its random address, or one of the three bytes was not heard.
-    #[tactic(auto, using(crate::proofs::Steps::settles_resolved))]
+    #[tactic(auto, using(crate::proofs::Settling::settles_resolved))]
     fn resolved(&mut self, kept: &Records<'_>, short: Short, number: Option<Random24>) -> Order
         requires { IsHeard (with_kept self.old kept.now) (stage.Spelled short number) }
 
@@ -605,7 +605,7 @@ impl State {
     }
 
     /// The gear at this number has this short address, and was withdrawn.
-    #[tactic(auto, using(crate::proofs::Steps::settles_withdrawn))]
+    #[tactic(auto, using(crate::proofs::Settling::settles_withdrawn))]
     fn withdrawn(&mut self, kept: &Records<'_>, number: SearchAddress, short: Short) -> Order
         requires { IsHeard (with_kept self.old kept.now) (stage.Withdrawn number short) }
 

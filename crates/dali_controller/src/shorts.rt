@@ -1,4 +1,4 @@
-ghost use Rattle.std.specs.Prelude.{◌≡◌, ◌≢◌, ℕ, true, false};
+ghost use Rattle.std.specs.Prelude.{◌≡◌, ◌≢◌, ◌<◌, ℕ, true, false};
 
 use dali_frame::Short;
 
@@ -9,7 +9,7 @@ pub struct Shorts {
 }
 
 impl Shorts {
-    ghost use Rattle.dali_controller.specs.Shorts.{has_short, with_short};
+    ghost use Rattle.dali_controller.specs.Shorts.{has_short, with_short, without_short};
 
     /// None of them.
     pub const NONE: Shorts = Shorts { bits: 0 };
@@ -29,6 +29,17 @@ impl Shorts {
     {
         Shorts {
             bits: self.bits | (1 << address.number()),
+        }
+    }
+
+    /// These, but this one.
+    pub fn without(self, address: Short) -> Shorts
+        ensures set { result ≡ without_short self address }
+        ensures removed { has_short result address ≡ false }
+        ensures others { (a : ℕ) → a < 64 → a ≢ address → has_short result a ≡ has_short self a }
+    {
+        Shorts {
+            bits: self.bits & !(1 << address.number()),
         }
     }
 }

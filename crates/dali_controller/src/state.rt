@@ -11,13 +11,14 @@ ghost use Rattle.dali_script.specs.declared.orders.Order.TheVariants as order;
 ghost use Rattle.dali_controller.specs.declared.purpose.Purpose.TheVariants as purpose;
 ghost use Rattle.dali_script.specs.Due.{frame_put};
 ghost use Rattle.dali_controller.specs.Machine.{machine_told, is_complete, is_ended, tries_after, silent_after};
-ghost use Rattle.dali_controller.specs.Machine.{opened_after, woken_after, heard_after, asked_after, unknown_at, asked_at};
+ghost use Rattle.dali_controller.specs.Machine.{opened_after, woken_after, heard_after, asked_after};
+ghost use Rattle.dali_controller.specs.Machine.{marked_at, asked_at};
 ghost use Rattle.dali_controller.specs.Orders.{machine_ordered, AfterMaskOn};
 
 use crate::purpose::Purpose;
 use crate::shorts::Shorts;
 use crate::way::Way;
-use dali_frame::{Answer, Forward, Priority, Random24, SearchAddress, Short};
+use dali_frame::{Answer, Forward, Priority, Random24, SearchAddress};
 use dali_script::{End, Fault, Finding, Order, Record, Records, Stage, Trace};
 use dali_search::Search;
 use dali_special::Command;
@@ -130,10 +131,7 @@ impl State {
         ensures { result ≡ heard_after self.now.purpose (stage_of self.now.trace) heard self.now.heard }
     {
         match self.purpose {
-            Purpose::Asking(_) => match unknown_at(&self.trace.stage(), heard) {
-                Some(short) => self.heard.with(short),
-                None => self.heard,
-            },
+            Purpose::Asking(_) => marked_at(&self.trace.stage(), heard, self.heard),
             Purpose::Opening
             | Purpose::Probing
             | Purpose::Visiting
@@ -271,18 +269,27 @@ impl State {
     }
 }
 
-/// The short address that was asked, where somebody was heard under it whose random address is not known.
-fn unknown_at(stage: &Stage, heard: Answer) -> Option<Short>
-    ensures { result ≡ unknown_at stage.now heard }
+/// The short addresses under which somebody was heard, with the one that is asked: it is one of them until three bytes
+/// told a random address that gear draw.
+fn marked_at(stage: &Stage, answer: Answer, heard: Shorts) -> Shorts
+    ensures { result ≡ marked_at stage.now answer heard }
 {
     match *stage {
-        Stage::HighAsked(short, None) => match heard {
-            Answer::Silence => None,
-            Answer::Byte(_) | Answer::Damaged => Some(short),
+        Stage::HighAsked(short, None) => match answer {
+            Answer::Silence => heard,
+            Answer::Byte(_) | Answer::Damaged => heard.with(short),
         },
-        Stage::MiddleAsked(short, None) | Stage::Spelled(short, None) => Some(short),
-        Stage::Spelled(short, Some(number)) if number == Random24::MASK => Some(short),
-        _ => None,
+        Stage::HighAsked(short, Some(_))
+        | Stage::MiddleAsked(short, _)
+        | Stage::Spelled(short, None) => heard.with(short),
+        Stage::Spelled(short, Some(number)) => {
+            if number == Random24::MASK {
+                heard.with(short)
+            } else {
+                heard.without(short)
+            }
+        }
+        _ => heard,
     }
 }
 

@@ -1,7 +1,6 @@
 //! What a survey asks, and which addresses it gives.
 
 ghost use Rattle.std.specs.Prelude.{◌≡◌, ◌<◌, IfSome};
-ghost use Rattle.dali_script.specs.Records.{HasAddress, InBlock};
 ghost use Rattle.dali_controller.specs.Course.{next_asked, least_open, is_anothers};
 
 use crate::shorts::Shorts;

@@ -146,7 +146,13 @@ fn is_within_silence(purpose: Purpose, silent: u8) -> bool
 {
     match purpose {
         Purpose::Closing(End::GaveUp) => silent <= SILENT,
-        _ => silent < SILENT,
+        Purpose::Closing(End::AllFound | End::BlockFull)
+        | Purpose::Opening
+        | Purpose::Probing
+        | Purpose::Visiting
+        | Purpose::Resolving(_)
+        | Purpose::Asking(_)
+        | Purpose::Waking => silent < SILENT,
     }
 }
 

@@ -17,7 +17,7 @@ use Rattle.dali_script.specs.declared.records.Record.{Record}
 use Rattle.dali_script.specs.declared.records.Record.TheVariants.{Reserve, Enrol, Release}
 use Rattle.dali_script.specs.Records.{InBlock, MayAdd}
 use Rattle.dali_script.specs.Scripts.{Lawful, IsFirst}
-use Rattle.dali_script.specs.Findings.{MayEnrol, assigned}
+use Rattle.dali_script.specs.Findings.{assigned}
 use Rattle.dali_script.specs.declared.orders.Input.{Input}
 use Rattle.dali_script.specs.declared.orders.Input.TheVariants as input
 use Rattle.dali_script.specs.declared.orders.Order.{Order}
@@ -66,21 +66,25 @@ abbrev pub IsCommit : Option Order → Type 0
 IsCommit (Some (Commit x)) = Unit {0}
 IsCommit _ = ⊥
 
--- it acts on what it was told; or on the outcome of its Commit
+-- it acts on what it was told; or on the outcome of its Commit; a survey is a start
 abbrev pub IsDue : Controller → Input → Type 0
+IsDue k input.Start = k.told ≡ Some input.Start
+IsDue k input.Survey = k.told ≡ Some input.Start
+IsDue k (input.Heard h) = k.told ≡ Some (input.Heard h)
+IsDue k input.Destroyed = k.told ≡ Some input.Destroyed
+IsDue k input.Lapsed = k.told ≡ Some input.Lapsed
 IsDue k input.Committed = IsCommit k.last
 IsDue k input.CommitFailed = IsCommit k.last
-IsDue k i = k.told ≡ Some i
 
 -- A record that it may commit: an address of its block and a number, neither reserved by it; or
--- what its last finding lets be enrolled, with neither enrolled by it; the number is one that gear
--- draw. Or the release of what it has reserved for the gear of its last finding, which has another
--- address.
+-- its last finding, with neither enrolled by it, whether or not it is reserved so; the number is
+-- one that gear draw. Or the release of what it has reserved for the gear of its last finding,
+-- which has another address.
 abbrev pub MayCommit : Controller → Record → Type 0
 MayCommit k (Reserve a r) =
     InBlock k.records.block a × (r < MASK24) × MayAdd k.records (Reserve a r)
 MayCommit k (Enrol b r) =
-    ((x : Finding) × (k.finding ≡ Some x) × MayEnrol k.records.reserved x (b, r)) × (r < MASK24)
+    ((x : Finding) × (k.finding ≡ Some x) × (assigned x ≡ (b, r))) × (r < MASK24)
     × MayAdd k.records (Enrol b r)
 MayCommit k (Release a r) =
     MayAdd k.records (Release a r)

@@ -21,7 +21,7 @@ use Rattle.dali_script.specs.Stages.{stage_of, may_follow}
 use Rattle.dali_script.specs.declared.orders.Input.{Input}
 use Rattle.dali_script.specs.declared.orders.Input.TheVariants as input
 use Rattle.dali_script.specs.declared.orders.Order.{Order}
-use Rattle.dali_script.specs.declared.orders.Order.TheVariants.{Put, Commit}
+use Rattle.dali_script.specs.declared.orders.Order.TheVariants.{Put, Commit, Done, Halt}
 use Rattle.dali_events.specs.declared.event.Event.{Event}
 use Rattle.dali_events.specs.declared.event.Event.TheVariants as event
 use Rattle.dali_events.specs.World.{Controller, World, controller_at, gear_changed}
@@ -40,6 +40,7 @@ with_outstanding kept (Some x) = with_record kept x
 abbrev pub kept_after : Controller → Input → Kept
 kept_after k input.Committed = with_outstanding k.records k.outstanding
 kept_after k input.Start = k.records
+kept_after k input.Survey = k.records
 kept_after k (input.Heard h) = k.records
 kept_after k input.Destroyed = k.records
 kept_after k input.Lapsed = k.records
@@ -48,6 +49,7 @@ kept_after k input.CommitFailed = k.records
 abbrev pub outstanding_told : Option Record → Input → Option Record
 outstanding_told was input.Committed = None
 outstanding_told was input.Start = was
+outstanding_told was input.Survey = was
 outstanding_told was (input.Heard h) = was
 outstanding_told was input.Destroyed = was
 outstanding_told was input.Lapsed = was
@@ -56,7 +58,9 @@ outstanding_told was input.CommitFailed = was
 -- a Commit order makes its record the outstanding one
 abbrev pub outstanding_after : Option Record → Order → Option Record
 outstanding_after was (Commit x) = Some x
-outstanding_after was _ = was
+outstanding_after was (Put p f) = was
+outstanding_after was (Done e) = was
+outstanding_after was (Halt w) = was
 
 -- the controller after the input, before its order
 abbrev pub controller_informed : Controller → Input → Controller
@@ -82,7 +86,9 @@ controller_acted k i o = record {
 -- an order other than a Put at 1 ends the ownership of its controller
 abbrev pub keeps_bus : Order → Bool
 keeps_bus (Put p f) = p == LATER
-keeps_bus _ = false
+keeps_bus (Commit x) = false
+keeps_bus (Done e) = false
+keeps_bus (Halt w) = false
 
 abbrev pub gives_up : Arbiter → ℕ → Order → Bool
 gives_up b c o = owns b.owner c && not (keeps_bus o)
@@ -90,7 +96,9 @@ gives_up b c o = owns b.owner c && not (keeps_bus o)
 -- a Put goes last in its list
 abbrev pub put_after : Arbiter → ℕ → Order → Arbiter
 put_after b c (Put p f) = bus_offered b (request_of c p f)
-put_after b c _ = b
+put_after b c (Commit x) = b
+put_after b c (Done e) = b
+put_after b c (Halt w) = b
 
 abbrev pub bus_acted : Arbiter → ℕ → Order → Arbiter
 bus_acted b c o = put_after (if gives_up b c o then bus_lapsed b else b) c o

@@ -34,7 +34,15 @@ EachActive w P = EachPowered w (λ g. is_active g.state ≡ true → P g)
 abbrev pub frame_in : Event → Option Forward
 frame_in (event.Sent c f h) = Some f
 frame_in (event.Destroyed c f set) = Some f
-frame_in _ = None
+frame_in (event.Acted c i o) = None
+frame_in (event.Offered c f) = None
+frame_in (event.Collided c f d g) = None
+frame_in event.Lapsed = None
+frame_in event.Quiet = None
+frame_in (event.Power g on) = None
+frame_in (event.Expired g) = None
+frame_in (event.Down c) = None
+frame_in (event.Up c kept) = None
 
 -- the search address of a transaction, from SEARCHADDRL on until a COMPARE or a WITHDRAW
 abbrev pub number_at : Stage → Option SearchAddress
@@ -55,7 +63,12 @@ IsCalm (event.Power g on) = ⊥
 IsCalm (event.Expired g) = ⊥
 IsCalm (event.Sent c f h) = command_of f ≡ Terminate → ⊥
 IsCalm (event.Destroyed c f set) = command_of f ≡ Terminate → ⊥
-IsCalm _ = Unit {0}
+IsCalm (event.Acted c i o) = Unit {0}
+IsCalm (event.Offered c f) = Unit {0}
+IsCalm (event.Collided c f d g) = Unit {0}
+IsCalm event.Lapsed = Unit {0}
+IsCalm (event.Down c) = Unit {0}
+IsCalm (event.Up c kept) = Unit {0}
 
 abbrev pub AreCalm : List Event → Type 0
 AreCalm [] = Unit {0}

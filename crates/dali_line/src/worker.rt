@@ -140,7 +140,10 @@ fn end_refused(refusal: Refusal, input: Input) -> Option<Outcome> {
         (Refusal::NotDue, Input::Committed | Input::CommitFailed) => {
             Some(Outcome::Refused(Refusal::NotDue))
         }
-        (Refusal::NotDue, _) => None,
+        (
+            Refusal::NotDue,
+            Input::Start | Input::Survey | Input::Heard(_) | Input::Destroyed | Input::Lapsed,
+        ) => None,
         (
             Refusal::UnknownController
             | Refusal::UnknownGear

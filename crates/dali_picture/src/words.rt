@@ -91,6 +91,7 @@ fn push_input(text: &mut String, input: Input) -> Result<(), AllocError> {
     let words = match input {
         Input::Heard(heard) => return push_told(text, heard),
         Input::Start => "is to start, ",
+        Input::Survey => "is to ask who is there, ",
         Input::Destroyed => "was told that its frame was destroyed, ",
         Input::Lapsed => "was told that the bus lapsed, ",
         Input::Committed => "was told that its record is kept, ",

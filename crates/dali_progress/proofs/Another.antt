@@ -100,6 +100,7 @@ unended e ended = cc
 not_due : (i : Input) → IsDue (controller_at (world (site_after shared_site taking_the_bus)) 0) i → ⊥
 unfolding command_of stage_of
 not_due input.Start due = cc
+not_due input.Survey due = cc
 not_due (input.Heard h) due = cc
 not_due input.Destroyed due = cc
 not_due input.Lapsed due = cc

@@ -192,7 +192,7 @@ starts s c a = record {
       moment = rw (a.last, a.told) ((a.bus, a.trace), refl);
     };
     holds = rw (a.last, a.told) (record {
-      calm = record { tries = refl; silent = refl; within = λ x has. absurd has };
+      calm = record { tries = refl; fresh = refl; silent = refl; within = λ x has. absurd has };
       tabled = λ g b in_row short. inl short;
       free = refl;
       nothing = refl;

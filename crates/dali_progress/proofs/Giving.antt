@@ -74,6 +74,7 @@ given : (m : Machine) (i : Input) (o : Order) → (i ≡ input.CommitFailed → 
     → IsFollowed (machine_told m i) o → IsGiven m i o
 given m input.CommitFailed o other answers begins follows = absurd (other refl)
 given m input.Start o other answers begins follows = record { answered = answers; begins = begins; followed = follows }
+given m input.Survey o other answers begins follows = record { answered = answers; begins = begins; followed = follows }
 given m (input.Heard h) o other answers begins follows = record { answered = answers; begins = begins; followed = follows }
 given m input.Destroyed o other answers begins follows = record { answered = answers; begins = begins; followed = follows }
 given m input.Lapsed o other answers begins follows = record { answered = answers; begins = begins; followed = follows }

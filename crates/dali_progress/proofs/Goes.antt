@@ -29,7 +29,8 @@ use Rattle.dali_script.specs.declared.orders.Order.{Order}
 use Rattle.dali_script.specs.declared.orders.Order.TheVariants.{Put, Commit, Done, Halt}
 use Rattle.dali_search.specs.Least.{Search}
 use Rattle.dali_controller.specs.declared.purpose.Purpose.{Purpose}
-use Rattle.dali_controller.specs.declared.purpose.Purpose.TheVariants.{Opening, Probing, Visiting, Resolving, Closing}
+use Rattle.dali_controller.specs.declared.purpose.Purpose.TheVariants.{Opening, Probing, Visiting, Resolving, Closing, Asking, Waking}
+use Rattle.dali_controller.proofs.Courses.{not_woken}
 use Rattle.dali_controller.specs.Machine.{Machine, machine_heard, machine_committed, machine_told, tries_after, silent_after, opened_after}
 use Rattle.dali_controller.specs.Orders.{IsGiven, IsAddressing, machine_ordered, machine_after}
 use Rattle.dali_controller.specs.Course.{Course}
@@ -72,7 +73,22 @@ abbrev pub Holds : List Gear → Machine → Option Order → Option Input → L
 Holds before m None (Some input.Start) gs left = IsFresh before m gs left
 Holds before m (Some (Put p f)) (Some (input.Heard h)) gs left = Hears before m f h gs left
 Holds before m (Some o) None gs left = IsNext before m o gs left
-Holds before m _ _ gs left = ⊥
+Holds before m None None gs left = ⊥
+Holds before m None (Some (input.Heard h)) gs left = ⊥
+Holds before m None (Some input.Survey) gs left = ⊥
+Holds before m None (Some input.Destroyed) gs left = ⊥
+Holds before m None (Some input.Lapsed) gs left = ⊥
+Holds before m None (Some input.Committed) gs left = ⊥
+Holds before m None (Some input.CommitFailed) gs left = ⊥
+Holds before m (Some (Put p f)) (Some input.Start) gs left = ⊥
+Holds before m (Some (Put p f)) (Some input.Survey) gs left = ⊥
+Holds before m (Some (Put p f)) (Some input.Destroyed) gs left = ⊥
+Holds before m (Some (Put p f)) (Some input.Lapsed) gs left = ⊥
+Holds before m (Some (Put p f)) (Some input.Committed) gs left = ⊥
+Holds before m (Some (Put p f)) (Some input.CommitFailed) gs left = ⊥
+Holds before m (Some (Commit x)) (Some i) gs left = ⊥
+Holds before m (Some (Done e)) (Some i) gs left = ⊥
+Holds before m (Some (Halt why)) (Some i) gs left = ⊥
 
 pub record Goes (before : List Gear) (w : World) (q c : ℕ) (m : Machine) (left : ℕ) : Type 0 where
   pub lone : IsLone w q c m
@@ -111,6 +127,7 @@ acts before w q c m out (Some (Put p f)) (Some (input.Heard h)) (input.Heard a) 
     heard_next before m p f a o w.gear left is g kept (subst (λ b. Hears before m f b w.gear left) same holds)
 acts before w q c m out (Some (Commit x)) None input.Committed o left at is due good g kept holds = kept_next before m x o w.gear left is g kept at.1 holds
 acts before w q c m out last told input.CommitFailed o left at is due good g kept holds = absurd good
+acts before w q c m out last told input.Survey o left at is due good g kept holds = absurd good
 acts before w q c m out None told input.Committed o left at is due good g kept holds = absurd due
 acts before w q c m out (Some (Put p f)) told input.Committed o left at is due good g kept holds = absurd due
 acts before w q c m out (Some (Done e)) told input.Committed o left at is due good g kept holds = absurd due
@@ -160,6 +177,7 @@ acts_less before w q c m out (Some (Commit x)) None input.Committed o left at is
     (subst (λ t. IsGivenBy t o) told g)) in
     omega (arith, none)
 acts_less before w q c m out last told input.CommitFailed o left at is due good g kept holds = absurd good
+acts_less before w q c m out last told input.Survey o left at is due good g kept holds = absurd good
 acts_less before w q c m out None told input.Committed o left at is due good g kept holds = absurd due
 acts_less before w q c m out (Some (Put p f)) told input.Committed o left at is due good g kept holds = absurd due
 acts_less before w q c m out (Some (Done e)) told input.Committed o left at is due good g kept holds = absurd due
@@ -232,6 +250,10 @@ never_silent Probing (stage.Inconclusive r other) k opened o x n gs left at = ab
 never_silent Visiting (stage.Unanswered r) k opened o x n gs left at = absurd at.1.stage_is
 never_silent Visiting (stage.Inconclusive r other) k opened o x n gs left at = absurd at.1.stage_is
 never_silent (Resolving a) (stage.Unanswered r) k opened o x n gs left at = absurd at
+never_silent (Asking a) (stage.Unanswered r) k opened o x n gs left at = absurd at
+never_silent (Asking a) (stage.Inconclusive r other) k opened o x n gs left at = absurd at
+never_silent Waking (stage.Unanswered r) k opened o x n gs left at = absurd at
+never_silent Waking (stage.Inconclusive r other) k opened o x n gs left at = absurd at
 never_silent (Resolving a) (stage.Inconclusive r other) k opened o x n gs left at = absurd at
 never_silent (Closing e) (stage.Unanswered r) k opened o x n gs left at = absurd at.stage_is
 never_silent (Closing e) (stage.Inconclusive r other) k opened o x n gs left at = absurd at.stage_is
@@ -256,15 +278,21 @@ stands_heard : (before : List Gear) (m : Machine) (f : Forward) (h : Answer) (gs
     → Stands before (machine_heard m (Some f) h) (row_after Everyone (command_of f) 0 gs numbers) l
 stands_heard before m f h gs numbers left l st lawful tabled at =
     let more : stage_of (m.trace ++ entry f h ∷ []) ≡ next_stage (stage_of m.trace) (command_of f) h = stage_more m.trace (entry f h) in
+    let unwoken : m.course.purpose ≡ Waking → ⊥ = λ e. subst (λ q. At q (next_stage (stage_of m.trace) (command_of f) h) m.kept
+    (opened_after (next_stage (stage_of m.trace) (command_of f) h) m.opened) m.course.search m.course.number
+    (row_after Everyone (command_of f) 0 gs numbers) l) e at in
     record {
       tries = no_tries _ m.tries st.tries;
+      fresh = st.fresh;
       silent = rw (more, st.silent) (never_silent m.course.purpose (next_stage (stage_of m.trace) (command_of f) h) m.kept
           (opened_after (next_stage (stage_of m.trace) (command_of f) h) m.opened) m.opened m.course.search m.course.number
           (row_after Everyone (command_of f) 0 gs numbers) l at);
       trace = subst (λ s. IsTrace s (m.trace ++ entry f h ∷ [])) (sym more) (trace_more (stage_of m.trace) m.trace f h lawful st.trace);
       within = st.within;
       tabled = subst (λ s. AreTabled before (to_come s m.course.number m.kept.enrolled) (row_after Everyone (command_of f) 0 gs numbers)) (sym more) tabled;
-      at = rw more at;
+      at = rw more (subst (λ o. At m.course.purpose (next_stage (stage_of m.trace) (command_of f) h) m.kept o m.course.search m.course.number
+          (row_after Everyone (command_of f) 0 gs numbers) l) (sym (not_woken (next_stage (stage_of m.trace) (command_of f) h) m.course.purpose
+          (opened_after (next_stage (stage_of m.trace) (command_of f) h) m.opened) unwoken)) at);
     }
 
 -- what is known of a frame that is allowed, in a run

@@ -61,7 +61,22 @@ Moment w q c m outstanding (Some (Put p f)) (Some (input.Heard h)) = Heard w q c
 Moment w q c m outstanding (Some (Commit x)) None = Rests w q × (m.trace ≡ []) × (outstanding ≡ Some x)
 Moment w q c m outstanding (Some (Done e)) None = Rests w q
 Moment w q c m outstanding (Some (Halt why)) None = Rests w q
-Moment w q c m outstanding _ _ = ⊥
+Moment w q c m outstanding None None = ⊥
+Moment w q c m outstanding None (Some input.Survey) = ⊥
+Moment w q c m outstanding None (Some (input.Heard h)) = ⊥
+Moment w q c m outstanding None (Some input.Destroyed) = ⊥
+Moment w q c m outstanding None (Some input.Lapsed) = ⊥
+Moment w q c m outstanding None (Some input.Committed) = ⊥
+Moment w q c m outstanding None (Some input.CommitFailed) = ⊥
+Moment w q c m outstanding (Some (Put p f)) (Some input.Start) = ⊥
+Moment w q c m outstanding (Some (Put p f)) (Some input.Survey) = ⊥
+Moment w q c m outstanding (Some (Put p f)) (Some input.Destroyed) = ⊥
+Moment w q c m outstanding (Some (Put p f)) (Some input.Lapsed) = ⊥
+Moment w q c m outstanding (Some (Put p f)) (Some input.Committed) = ⊥
+Moment w q c m outstanding (Some (Put p f)) (Some input.CommitFailed) = ⊥
+Moment w q c m outstanding (Some (Commit x)) (Some i) = ⊥
+Moment w q c m outstanding (Some (Done e)) (Some i) = ⊥
+Moment w q c m outstanding (Some (Halt why)) (Some i) = ⊥
 
 abbrev no_input : Option Input
 no_input = None
@@ -69,7 +84,10 @@ no_input = None
 -- what was put is no direct arc power
 abbrev pub Addresses : Option Order → Type 0
 Addresses (Some (Put p f)) = is_arc (command_of f) ≡ false
-Addresses _ = Unit {0}
+Addresses (Some (Commit x)) = Unit {0}
+Addresses (Some (Done e)) = Unit {0}
+Addresses (Some (Halt why)) = Unit {0}
+Addresses None = Unit {0}
 
 pub record IsLone (w : World) (q c : ℕ) (m : Machine) : Type 0 where
   pub up : IsUp w c
@@ -89,11 +107,15 @@ abbrev Comes : World → ℕ → ℕ → List Entry → Order → Type 0
 Comes w q c t (Put p f) =
     ((p ≡ LATER) × (bus_acted w.bus c (Put p f) ≡ with_later q c f) × ((if gives_up w.bus c (Put p f) then [] else w.trace) ≡ t))
     ⊎ ((p ≡ FIRST) × (bus_acted w.bus c (Put p f) ≡ with_first q c f) × ((if gives_up w.bus c (Put p f) then [] else w.trace) ≡ []))
-Comes w q c t o = (bus_acted w.bus c o ≡ still q None) × ((if gives_up w.bus c o then [] else w.trace) ≡ [])
+Comes w q c t (Commit x) = (bus_acted w.bus c (Commit x) ≡ still q None) × ((if gives_up w.bus c (Commit x) then [] else w.trace) ≡ [])
+Comes w q c t (Done e) = (bus_acted w.bus c (Done e) ≡ still q None) × ((if gives_up w.bus c (Done e) then [] else w.trace) ≡ [])
+Comes w q c t (Halt why) = (bus_acted w.bus c (Halt why) ≡ still q None) × ((if gives_up w.bus c (Halt why) then [] else w.trace) ≡ [])
 
 abbrev Puts : World → ℕ → Order → Type 0
 Puts w c (Put p f) = (p ≡ FIRST) ⊎ ((p ≡ LATER) × (w.bus.owner ≡ Some c))
-Puts w c o = Unit {0}
+Puts w c (Commit x) = Unit {0}
+Puts w c (Done e) = Unit {0}
+Puts w c (Halt why) = Unit {0}
 
 same : (c : ℕ) → (c == c) ≡ true
 same c = grind (arith, nat_tests)
@@ -115,12 +137,17 @@ comes w q c t (Halt why) puts (inr free) = rw (free.0, free.1) (refl, refl)
 abbrev pub IsDueOf : Option Order → Option Input → Input → Type 0
 IsDueOf last told input.Committed = IsCommit last
 IsDueOf last told input.CommitFailed = IsCommit last
-IsDueOf last told i = told ≡ Some i
+IsDueOf last told input.Survey = told ≡ Some input.Start
+IsDueOf last told input.Start = told ≡ Some input.Start
+IsDueOf last told (input.Heard h) = told ≡ Some (input.Heard h)
+IsDueOf last told input.Destroyed = told ≡ Some input.Destroyed
+IsDueOf last told input.Lapsed = told ≡ Some input.Lapsed
 
 pub due_of : (k : Controller) (i : Input) → IsDue k i → IsDueOf k.last k.told i
 due_of k input.Committed due = due
 due_of k input.CommitFailed due = due
 due_of k input.Start due = due
+due_of k input.Survey due = due
 due_of k (input.Heard h) due = due
 due_of k input.Destroyed due = due
 due_of k input.Lapsed due = due
@@ -128,6 +155,7 @@ due_of k input.Lapsed due = due
 before : (w : World) (q c : ℕ) (m : Machine) (out : Option Record) (last : Option Order) (told : Option Input) (i : Input) → m.last ≡ last → Succeeds i
     → IsDueOf last told i
     → Moment w q c m out last told → Before w q c (machine_told m i).trace
+before w q c m out last told input.Survey is good due at = absurd good
 before w q c m out None (Some input.Start) input.Start is good due at = inr at.0
 before w q c m out (Some (Put p f)) (Some (input.Heard h)) (input.Heard g) is good due at = rw is (go at) where
   same_answer : h ≡ g
@@ -169,6 +197,7 @@ told_kept : (w : World) (q c : ℕ) (m : Machine) (k : Controller) (i : Input) �
 told_kept w q c m k input.Committed due good last kept at = committed_kept w q c m k k.last k.told refl refl last due kept at
 told_kept w q c m k input.CommitFailed due good last kept at = absurd good
 told_kept w q c m k input.Start due good last kept at = kept
+told_kept w q c m k input.Survey due good last kept at = absurd good
 told_kept w q c m k (input.Heard h) due good last kept at = heard_kept m (frame_put m.last) h ∙ kept
 told_kept w q c m k input.Destroyed due good last kept at = kept
 told_kept w q c m k input.Lapsed due good last kept at = kept

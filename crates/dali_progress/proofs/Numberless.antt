@@ -61,6 +61,7 @@ some_same x y same = cc
 not_due : (i : Input) → IsDue (controller_at (world (site_after spent_site up_to_draw)) 0) i → ⊥
 unfolding command_of stage_of
 not_due input.Start due = cc
+not_due input.Survey due = cc
 not_due (input.Heard h) due = cc
 not_due input.Destroyed due = cc
 not_due input.Lapsed due = cc

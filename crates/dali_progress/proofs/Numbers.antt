@@ -28,7 +28,8 @@ use Rattle.dali_script.specs.declared.orders.Order.TheVariants.{Put, Commit, Don
 use Rattle.dali_script.specs.declared.orders.End.{End}
 use Rattle.dali_search.specs.Least.{Search}
 use Rattle.dali_controller.specs.declared.purpose.Purpose.{Purpose}
-use Rattle.dali_controller.specs.declared.purpose.Purpose.TheVariants.{Opening, Probing, Visiting, Resolving, Closing}
+use Rattle.dali_controller.specs.declared.purpose.Purpose.TheVariants.{Opening, Probing, Visiting, Resolving, Closing, Asking, Waking}
+use Rattle.dali_controller.proofs.Courses.{closed_unwoken}
 use Rattle.dali_controller.specs.Machine.{Machine, machine_heard, machine_committed, machine_told, opened_after}
 use Rattle.dali_controller.specs.Orders.{machine_after}
 use Rattle.dali_events.specs.declared.event.Event.{Event}
@@ -138,6 +139,8 @@ draws_enough Probing s k opened x n gs numbers left c at is has =
 draws_enough Visiting s k opened x n gs numbers left c at is has =
     enough_none (draws_needed Everyone c 0 gs) (length numbers) (none_apart Visiting n k s gs c (visiting_never n k s) is)
 draws_enough (Resolving a) s k opened x n gs numbers left c at is has = absurd at
+draws_enough (Asking a) s k opened x n gs numbers left c at is has = absurd at
+draws_enough Waking s k opened x n gs numbers left c at is has = absurd at
 draws_enough (Closing e) s k opened x n gs numbers left c at is has =
     enough_none (draws_needed Everyone c 0 gs) (length numbers) (none_apart (Closing e) n k s gs c (closing_never e n k s) is)
 
@@ -169,6 +172,8 @@ none_drawn Opening s k opened x n gs left c h at is closed = opening_none s k op
 none_drawn Probing s k opened x n gs left c h at is closed = none_apart Probing n k s gs c (probing_never n k s) is
 none_drawn Visiting s k opened x n gs left c h at is closed = none_apart Visiting n k s gs c (visiting_never n k s) is
 none_drawn (Resolving a) s k opened x n gs left c h at is closed = absurd at
+none_drawn (Asking a) s k opened x n gs left c h at is closed = absurd at
+none_drawn Waking s k opened x n gs left c h at is closed = absurd at
 none_drawn (Closing e) s k opened x n gs left c h at is closed = none_apart (Closing e) n k s gs c (closing_never e n k s) is
 
 was_closed : (s : Stage) (opened : Bool) → opened_after s opened ≡ false → opened ≡ false
@@ -182,7 +187,9 @@ has_heard : (m : Machine) (p : ℕ) (f : Forward) (h : Answer) (before : List Ge
     → HasDraws (machine_told m (input.Heard h)).opened (row_after Everyone (command_of f) 0 gs numbers) (row_left Everyone (command_of f) 0 gs numbers)
 has_heard m p f h before gs numbers left last next has closed =
     let heard : machine_told m (input.Heard h) ≡ machine_heard m (Some f) h = ap (λ l. machine_heard m (frame_put l) h) last in
-    let heard_so : opened_after (stage_of (m.trace ++ entry f h ∷ [])) m.opened ≡ false = sym (ap (λ (t : Machine). t.opened) heard) ∙ closed in
+    let heard_so : opened_after (stage_of (m.trace ++ entry f h ∷ [])) m.opened ≡ false =
+    closed_unwoken (stage_of (m.trace ++ entry f h ∷ [])) m.course.purpose (opened_after (stage_of (m.trace ++ entry f h ∷ [])) m.opened)
+    (sym (ap (λ (t : Machine). t.opened) heard) ∙ closed) in
     let after : opened_after (next_stage (stage_of m.trace) (command_of f) h) m.opened ≡ false =
     subst (λ s. opened_after s m.opened ≡ false) (stage_more m.trace (entry f h)) heard_so in
     let none = none_drawn m.course.purpose (stage_of m.trace) m.kept m.opened m.course.search m.course.number gs left (command_of f) h next.0.at next.1 after in
@@ -220,6 +227,7 @@ told_has w q c m input.Committed at good due has =
     let before : HasDraws m.opened w.gear w.left = subst (λ t. HasDraws (informed_by m t).opened w.gear w.left) none has in
     subst (λ b. HasDraws b w.gear w.left) (sym (committed_opened m (record_ordered m.last))) before
 told_has w q c m input.Start at good due has = subst (λ t. HasDraws (informed_by m t).opened w.gear w.left) due has
+told_has w q c m input.Survey at good due has = absurd good
 told_has w q c m (input.Heard h) at good due has = subst (λ t. HasDraws (informed_by m t).opened w.gear w.left) due has
 told_has w q c m input.Destroyed at good due has = subst (λ t. HasDraws (informed_by m t).opened w.gear w.left) due has
 told_has w q c m input.Lapsed at good due has = subst (λ t. HasDraws (informed_by m t).opened w.gear w.left) due has

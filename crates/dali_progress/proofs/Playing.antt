@@ -38,7 +38,15 @@ abbrev pub OfRound : World → List (Option Machine) → ℕ → Event → Type 
 OfRound w ms c (event.Acted d i o) = (d ≡ c) × Succeeds i × MayAnswer (machine_in ms c) i o
 OfRound w ms c (event.Sent d f h) =
     (r : Request) × (next w.bus ≡ Some r) × (d ≡ r.sender) × (f ≡ r.frame) × (h ≡ heard_of (answers_of Everyone (command_of f) 0 w.gear))
-OfRound w ms c _ = ⊥
+OfRound w ms c (event.Offered d f) = ⊥
+OfRound w ms c (event.Destroyed d f set) = ⊥
+OfRound w ms c (event.Collided d f o g) = ⊥
+OfRound w ms c event.Lapsed = ⊥
+OfRound w ms c event.Quiet = ⊥
+OfRound w ms c (event.Power g on) = ⊥
+OfRound w ms c (event.Expired g) = ⊥
+OfRound w ms c (event.Down d) = ⊥
+OfRound w ms c (event.Up d kept) = ⊥
 
 abbrev pub Plays : World → List (Option Machine) → ℕ → List Event → Type 0
 Plays w ms c [] = Unit {0}
@@ -71,10 +79,16 @@ Gives w ms c (e ∷ es) = Gives (happens w e) (machines_after w ms e) c es
 
 abbrev pub succeeds : Input → Bool
 succeeds input.CommitFailed = false
-succeeds _ = true
+succeeds input.Survey = false
+succeeds input.Start = true
+succeeds (input.Heard h) = true
+succeeds input.Destroyed = true
+succeeds input.Lapsed = true
+succeeds input.Committed = true
 
 succeeds_by : (i : Input) → succeeds i ≡ true → Succeeds i
 succeeds_by input.CommitFailed e = absurd (cc)
+succeeds_by input.Survey e = absurd (cc)
 succeeds_by _ e = tt
 
 abbrev pub same_frame : Forward → Forward → Bool
@@ -107,7 +121,15 @@ is_quiet w f h = is_silence h && is_silence (heard_of (answers_of Everyone (comm
 abbrev pub is_of_round : World → ℕ → Event → Bool
 is_of_round w c (event.Acted d i o) = (d == c) && succeeds i
 is_of_round w c (event.Sent d f h) = is_next (next w.bus) d f && is_quiet w f h
-is_of_round w c _ = false
+is_of_round w c (event.Offered d f) = false
+is_of_round w c (event.Destroyed d f set) = false
+is_of_round w c (event.Collided d f o g) = false
+is_of_round w c event.Lapsed = false
+is_of_round w c event.Quiet = false
+is_of_round w c (event.Power g on) = false
+is_of_round w c (event.Expired g) = false
+is_of_round w c (event.Down d) = false
+is_of_round w c (event.Up d kept) = false
 
 abbrev pub passes : World → ℕ → List Event → Bool
 passes w c [] = true

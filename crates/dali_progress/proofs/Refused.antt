@@ -71,8 +71,20 @@ never_told w q c m out (Some (Commit x)) (Some i) at is = absurd at
 never_told w q c m out (Some (Done e)) (Some i) at is = absurd at
 never_told w q c m out (Some (Halt why)) (Some i) at is = absurd at
 
+never_surveys : (w : World) (q c : ℕ) (m : Machine) (out : Option Record) (last : Option Order) (told : Option Input) → Moment w q c m out last told
+    → told ≡ Some input.Survey → ⊥
+never_surveys w q c m out last None at is = cc
+never_surveys w q c m out None (Some input.Start) at is = cc
+never_surveys w q c m out (Some (Put p f)) (Some (input.Heard h)) at is = cc
+never_surveys w q c m out None (Some i) at is = absurd at
+never_surveys w q c m out (Some (Put p f)) (Some i) at is = absurd at
+never_surveys w q c m out (Some (Commit x)) (Some i) at is = absurd at
+never_surveys w q c m out (Some (Done e)) (Some i) at is = absurd at
+never_surveys w q c m out (Some (Halt why)) (Some i) at is = absurd at
+
 told_due : (w : World) (q c : ℕ) (m : Machine) (k : Controller) (i : Input) → Moment w q c m k.outstanding k.last k.told → k.told ≡ Some i → IsDue k i
 told_due w q c m k input.Start at told = told
+told_due w q c m k input.Survey at told = absurd (never_surveys w q c m k.outstanding k.last k.told at told)
 told_due w q c m k (input.Heard h) at told = told
 told_due w q c m k input.Destroyed at told = told
 told_due w q c m k input.Lapsed at told = told

@@ -105,16 +105,24 @@ pub stored : (k : Controller) → k.up ≡ true → IsCommit k.last → due_of k
 stored k up is = rw up (stored_by k.last is)
 
 -- what `go` gives never says that a commit failed
-given_well : (d : Due) (n : Installation) (c : ℕ) (i : Input) (m : Installation) → (i ≡ input.CommitFailed → d ≡ due.Store) → IsGivenBy d n c i m → Succeeds i
-given_well d n c input.CommitFailed m waits given =
+given_survey : (d : Due) (n : Installation) (c : ℕ) (m : Installation) → IsDue (controller n c) input.Survey → IsGivenBy d n c input.Survey m → ⊥
+given_survey due.Store n c m told given = let is : input.Survey ≡ input.Committed = given.0 in cc
+given_survey due.Start n c m told given = let both : Some input.Start ≡ Some input.Survey = sym told ∙ given.0 in cc
+given_survey due.Bus n c m told given = let both : Some input.Start ≡ Some input.Survey = sym told ∙ given.0 in cc
+given_survey due.Nothing n c m told given = let both : Some input.Start ≡ Some input.Survey = sym told ∙ given.0 in cc
+
+given_well : (d : Due) (n : Installation) (c : ℕ) (i : Input) (m : Installation) → IsDue (controller n c) i → (i ≡ input.CommitFailed → d ≡ due.Store)
+    → IsGivenBy d n c i m → Succeeds i
+given_well d n c input.CommitFailed m told waits given =
     let at : IsGivenBy due.Store n c input.CommitFailed m = subst (λ x. IsGivenBy x n c input.CommitFailed m) (waits refl) given in
     let is : input.CommitFailed ≡ input.Committed = at.0 in
     absurd (cc)
-given_well d n c input.Start m waits given = tt
-given_well d n c (input.Heard h) m waits given = tt
-given_well d n c input.Destroyed m waits given = tt
-given_well d n c input.Lapsed m waits given = tt
-given_well d n c input.Committed m waits given = tt
+given_well d n c input.Start m told waits given = tt
+given_well d n c input.Survey m told waits given = absurd (given_survey d n c m told given)
+given_well d n c (input.Heard h) m told waits given = tt
+given_well d n c input.Destroyed m told waits given = tt
+given_well d n c input.Lapsed m told waits given = tt
+given_well d n c input.Committed m told waits given = tt
 
 due_commit : (k : Controller) (i : Input) → IsDue k i → i ≡ input.CommitFailed → IsCommit k.last
 due_commit k i due is = subst (λ x. IsDue k x) is due
@@ -138,7 +146,7 @@ went n m o goes = by goes.1 goes.2 goes.3 goes.4 where
           logs.allowed,
           (
             refl,
-            given_well (due_of (controller n 0)) n 0 i given
+            given_well (due_of (controller n 0)) n 0 i given logs.allowed.due
                 (λ failed. stored (controller n 0) logs.allowed.up.up (due_commit (controller n 0) i logs.allowed.due failed)) is,
             acted.ordered,
           ),
@@ -171,7 +179,9 @@ turns_of n m acted text one turns = one_turn n m acted text (subst (λ x. Turns 
 
 abbrev logs_count : Report → ℕ
 logs_count report.Idle = 0
-logs_count _ = 1
+logs_count (report.Sent c f h) = 1
+logs_count (report.Destroyed c f) = 1
+logs_count (report.Collided c f d g) = 1
 
 -- where there is no trouble no frame is destroyed
 undisturbed : (s : SiteState) (set : GearSet)
@@ -250,6 +260,7 @@ told_turn due.Nothing k i told = rw told refl
 due_turn : (k : Controller) (i : Input) → k.up ≡ true → Succeeds i → IsDue k i → has_turn k ≡ true
 due_turn k input.CommitFailed up good due = absurd good
 due_turn k input.Committed up good due = subst (λ d. has_turn_by d k ≡ true) (sym (stored k up due)) refl
+due_turn k input.Survey up good due = absurd good
 due_turn k input.Start up good due = told_turn (due_of k) k input.Start due
 due_turn k (input.Heard h) up good due = told_turn (due_of k) k (input.Heard h) due
 due_turn k input.Destroyed up good due = told_turn (due_of k) k input.Destroyed due

@@ -15,7 +15,8 @@ use Rattle.dali_search.specs.declared.step.Step.TheVariants.{Again}
 use Rattle.dali_search.specs.Least.{Search, Agrees, Gives}
 use Rattle.dali_search.specs.Narrowing.{IsNarrowing}
 use Rattle.dali_controller.specs.declared.purpose.Purpose.{Purpose}
-use Rattle.dali_controller.specs.declared.purpose.Purpose.TheVariants.{Opening, Probing, Visiting, Resolving, Closing}
+use Rattle.dali_controller.specs.declared.purpose.Purpose.TheVariants.{Opening, Probing, Visiting, Resolving, Closing, Asking, Waking}
+use Rattle.dali_controller.specs.declared.way.Way.TheVariants.{Fresh}
 use Rattle.dali_controller.specs.Course.{first_of, turn_of, sought, is_yes}
 use Rattle.dali_controller.specs.Machine.{Machine}
 use Rattle.dali_events.specs.Searching.{HasShort}
@@ -184,6 +185,8 @@ At Probing s k opened x n gs left = (opened ≡ true) × Probes s x n gs left
 At Visiting s k opened x n gs left = (opened ≡ true) × VisitsAt s k n gs left
 At (Resolving a) s k opened x n gs left = ⊥
 At (Closing e) s k opened x n gs left = Closes e s k gs left
+At (Asking a) s k opened x n gs left = ⊥
+At Waking s k opened x n gs left = ⊥
 
 -- what is enrolled is reserved
 abbrev pub IsWithin : Kept → Type 0
@@ -198,6 +201,7 @@ to_come _ n xs = xs
 
 pub record Stands (before : List Gear) (m : Machine) (gs : List Gear) (left : ℕ) : Type 0 where
   pub tries : m.tries ≡ 0
+  pub fresh : m.course.way ≡ Fresh
   pub silent : m.silent ≡ 0
   pub trace : IsTrace (stage_of m.trace) m.trace
   pub within : IsWithin m.kept

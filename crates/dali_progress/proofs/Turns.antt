@@ -33,14 +33,16 @@ use Rattle.dali_search.specs.Narrowing.{IsNarrowing}
 use Rattle.dali_search.proofs.Agreement.{agrees_more}
 use Rattle.dali_search.proofs.Answered as searching
 use Rattle.dali_controller.specs.declared.purpose.Purpose.{Purpose}
-use Rattle.dali_controller.specs.declared.purpose.Purpose.TheVariants.{Opening, Probing, Visiting, Resolving, Closing}
+use Rattle.dali_controller.specs.declared.purpose.Purpose.TheVariants.{Opening, Probing, Visiting, Resolving, Closing, Asking, Waking}
 use Rattle.dali_controller.specs.Course.{Course, first_of, turn_of, sought, is_yes, closing_of, searching_anew, visiting, probed, after_step}
 use Rattle.dali_controller.specs.Course.{closing as closing_by}
 use Rattle.dali_controller.specs.Course.{opening as opening_of}
 use Rattle.dali_controller.specs.Course.{unfinished_at, unfinished_among, visit_or_opening}
 use Rattle.dali_controller.specs.Machine.{Machine}
-use Rattle.dali_controller.specs.Next.{next_course, begins_at, at_rest, beginning, goes_on_to}
+use Rattle.dali_controller.specs.Next.{next_course, begins_at, at_rest, beginning, goes_on_to, draw_or_close}
+use Rattle.dali_controller.specs.declared.way.Way.TheVariants.{Fresh}
 use Rattle.dali_controller.specs.Orders.{machine_ordered, Contradicts, AfterFinding}
+use Rattle.dali_controller.proofs.Courses.{keeps_fresh, never_draws, probed_fresh, goes_on_fresh}
 use Rattle.dali_controller.proofs.Given as given
 use Rattle.dali_controller.proofs.Given.{IsGivenBy, IsNoEnrolment}
 use Rattle.dali_events.specs.Searching.{HasShort}
@@ -58,6 +60,7 @@ use Rattle.dali_progress.proofs.Tables.{tabled_over}
 -- what every machine has that is not disturbed
 pub record IsUndisturbed (m : Machine) : Type 0 where
   pub tries : m.tries ≡ 0
+  pub fresh : m.course.way ≡ Fresh
   pub silent : m.silent ≡ 0
   pub within : IsWithin m.kept
 
@@ -95,7 +98,7 @@ IsNext before m (Done e) gs left = EndsWell e m.kept gs × AreTabled before m.ke
 IsNext before m (Halt why) gs left = ⊥
 
 calm_of : (before : List Gear) (t : Machine) (gs : List Gear) (left : ℕ) → Stands before t gs left → IsUndisturbed t
-calm_of before t gs left st = record { tries = st.tries; silent = st.silent; within = st.within }
+calm_of before t gs left st = record { tries = st.tries; fresh = st.fresh; silent = st.silent; within = st.within }
 
 never_eight : (n : ℕ) → n ≡ 0 → n ≡ 8 → ⊥
 never_eight n none e = omega (arith, none, e)
@@ -106,7 +109,7 @@ goes_later : (before : List Gear) (t : Machine) (o : Order) (c : Command) (gs : 
     → IsSpelled c
     → Sends t.course.purpose t.course.number t.kept (stage_of t.trace) c → IsNext before (machine_ordered t o) o gs left
 goes_later before t o c gs left st is spelled sends = subst (λ q. IsNext before (machine_ordered t q) q gs left) (sym is) (
-  record { tries = st.tries; silent = st.silent; trace = st.trace; within = st.within; tabled = st.tabled; at = st.at },
+  record { tries = st.tries; fresh = st.fresh; silent = st.silent; trace = st.trace; within = st.within; tabled = st.tabled; at = st.at },
   subst (λ d. Sends t.course.purpose t.course.number t.kept (stage_of t.trace) d) (sym (read_written c spelled)) sends,
 )
 
@@ -118,6 +121,7 @@ goes_first : (before : List Gear) (t : Machine) (o : Order) (gs : List Gear) (le
 goes_first before t o gs left calm tabled is spelled at = subst (λ q. IsNext before (machine_ordered t q) q gs left) (sym is) (
   record {
     tries = calm.tries;
+    fresh = keeps_fresh t calm.fresh;
     silent = calm.silent;
     trace = subst (λ s. IsTrace s []) (sym stage_none) trace_none;
     within = calm.within;
@@ -360,7 +364,8 @@ probing_turns before t o (stage.Probed r h) gs left g st last purpose is running
     let there = probed_at (answered t.course.search (is_yes h)).step t.kept t.course (is_yes h) gs left refl p.ready p.unnamed narrowing agrees p.frames in
     goes_by before t o (probed t.course h) gs left (calm_of before t gs left st) (tabled_at before t gs left (stage.Probed r h) st is)
     (given.begins_after t o (stage.Probed r h) g is tt (found_none before t gs left (stage.Probed r h) st is refl) last (never_eight t.tries st.tries))
-    (ap (begins_at t) is) there.0 (subst (λ b. At (probed t.course h).purpose stage.Free t.kept b (probed t.course h).search (probed t.course h).number gs left)
+    (ap (begins_at t) is ∙ probed_fresh t h st.fresh) there.0
+        (subst (λ b. At (probed t.course h).purpose stage.Free t.kept b (probed t.course h).search (probed t.course h).number gs left)
     (sym opened) there.1)
 probing_turns before t o _ gs left g st last purpose is running opened p = absurd p.stage_is
 
@@ -379,7 +384,7 @@ has_address xs a n has = has_map (λ (q : Assignment). q.0) xs (a, n) has
 unnamed_turns : (before : List Gear) (t : Machine) (o : Order) (r : SearchAddress) (gs : List Gear) (left : ℕ) → IsGivenBy t o → Stands before t gs left
     → IsKept t.kept → t.course.purpose ≡ Visiting → stage_of t.trace ≡ stage.Unnamed r
     → t.opened ≡ true → Visits (stage.Unnamed r) t.kept t.course.number gs left → IsNext before (machine_ordered t o) o gs left
-unnamed_turns before t o r gs left g st kept purpose is opened v = go (given.unnamed t o r g is) where
+unnamed_turns before t o r gs left g st kept purpose is opened v = go (given.unnamed t o r st.fresh g is) where
   same : value_of r ≡ value_of t.course.number
   same = ap value_of (sym v.searched)
 
@@ -396,7 +401,7 @@ unnamed_turns before t o r gs left g st kept purpose is opened v = go (given.unn
       let small : e.0 < 64 = kept.reserved.short e.0 (has_address t.kept.reserved e.0 (value_of r) e.1) in
       goes_later before t o (Program (Some e.0)) gs left st e.2 small (rw is (e.0, small, e.1, refl))
   go (inr (inl e)) = subst (λ q. IsNext before (machine_ordered t q) q gs left) (sym e.1.2) (
-    record { tries = st.tries; silent = st.silent; within = st.within },
+    record { tries = st.tries; fresh = st.fresh; silent = st.silent; within = st.within },
     record {
       opened = opened;
       ready = v.ready;
@@ -410,7 +415,8 @@ unnamed_turns before t o r gs left g st kept purpose is opened v = go (given.unn
     },
   )
   go (inr (inr e)) =
-      let next : next_course t ≡ closing_by t.course BlockFull = ap (begins_at t) is in
+      let next : next_course t ≡ closing_by t.course BlockFull = ap (begins_at t) is
+      ∙ ap (λ b. draw_or_close b t.course BlockFull) (never_draws t st.fresh) in
       goes_by before t o (closing_by t.course BlockFull) gs left (calm_of before t gs left st) (tabled_at before t gs left (stage.Unnamed r) st is)
       (e.2 ∙ sym (ap beginning next)) next tt (record { stage_is = tt; well = e.1; frames = some v.frames })
 
@@ -444,7 +450,7 @@ withdrawn_turns before t o r a gs left g st kept purpose is opened v = go o g (g
       (tabled_over before ((a, value_of r) ∷ t.kept.enrolled) t.kept.enrolled gs (λ x h. twice x h has) tabled)
       (given.withdrawn_known t (Put p f) r a g is kept.enrolled has) (ap (begins_at t) is ∙ goes_on_anew t opened) opened v.ready v.unnamed v.frames
   go (Commit x) g has = subst (λ y. IsNext before (machine_ordered t (Commit y)) (Commit y) gs left) (sym has) (
-    record { tries = st.tries; silent = st.silent; within = st.within },
+    record { tries = st.tries; fresh = st.fresh; silent = st.silent; within = st.within },
     record { opened = opened; ready = v.ready; unnamed = v.unnamed; reserved = reserved; tabled = tabled; frames = v.frames },
   )
   go (Done e) g has = absurd has
@@ -493,6 +499,8 @@ turned before t o gs left g st kept last running = go t.course.purpose refl st.a
   go Probing purpose at = probing_turns before t o (stage_of t.trace) gs left g st last purpose refl running at.0 at.1
   go Visiting purpose at = visiting_turns before t o (stage_of t.trace) gs left g st kept purpose refl running at.0 at.1
   go (Resolving a) purpose at = absurd at
+  go (Asking a) purpose at = absurd at
+  go Waking purpose at = absurd at
   go (Closing e) purpose at = closing_turns before t o e (stage_of t.trace) gs left g st purpose refl running at
 
 -- ---------------------------------------------------------------- the start
@@ -515,7 +523,8 @@ pub started : (before : List Gear) (t : Machine) (o : Order) (gs : List Gear) (l
 started before t o gs left g calm tabled free last none unopened purpose enough =
     let stage : stage_of t.trace ≡ stage.Free = ap stage_of free ∙ stage_none in
     let next : next_course t ≡ opening_of t.course =
-    ap (begins_at t) stage ∙ rw (last, unopened) (ap (visit_or_opening t.course) (nothing_unfinished t.kept (64 - t.course.from) t.course.from none)) in
+    ap (begins_at t) stage ∙ ap (at_rest t) last ∙ goes_on_fresh t calm.fresh unopened
+    ∙ ap (visit_or_opening t.course) (nothing_unfinished t.kept (64 - t.course.from) t.course.from none) in
     goes_by before t o (opening_of t.course) gs left calm tabled
     (started_begins t o g calm free last)
     next tt (record { stage_is = unopened; gear = λ k in_row on. tt; frames = omega (arith, enough) })
@@ -556,7 +565,7 @@ reserved_next before m a r o gs left calm v free last g =
     let stage : stage_of m.trace ≡ stage.Free = ap stage_of free ∙ stage_none in
     let t : Machine = with_kept m (Reserve a r) in
     goes_by before (with_kept m (Reserve a r)) o (visiting m.course r) gs left
-    (record { tries = calm.tries; silent = calm.silent; within = within_reserved m.kept a r calm.within }) v.tabled
+    (record { tries = calm.tries; fresh = calm.fresh; silent = calm.silent; within = within_reserved m.kept a r calm.within }) v.tabled
     (reserved_begins m a r o calm free last g)
     (ap (begins_at (with_kept m (Reserve a r))) stage ∙ ap (at_rest (with_kept m (Reserve a r))) last) tt (
       v.opened,
@@ -595,7 +604,7 @@ enrolled_next : (before : List Gear) (m : Machine) (b r : ℕ) (o : Order) (gs :
 enrolled_next before m b r o gs left calm v free last map g =
     let stage : stage_of m.trace ≡ stage.Free = ap stage_of free ∙ stage_none in
     searches_anew before (with_kept m (Enrol b r)) o gs left
-    (record { tries = calm.tries; silent = calm.silent; within = within_enrolled m.kept b r calm.within v.reserved })
+    (record { tries = calm.tries; fresh = calm.fresh; silent = calm.silent; within = within_enrolled m.kept b r calm.within v.reserved })
     (tabled_over before ((b, r) ∷ m.kept.enrolled) (m.kept.enrolled ++ (b, r) ∷ []) gs (entry_last m.kept.enrolled (b, r)) v.tabled)
     (enrolled_begins before m b r o gs left v free last map g)
     (ap (begins_at (with_kept m (Enrol b r))) stage ∙ ap (at_rest (with_kept m (Enrol b r))) last ∙ goes_on_anew (with_kept m (Enrol b r)) v.opened)

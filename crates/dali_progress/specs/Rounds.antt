@@ -38,11 +38,12 @@ pub record StartsAlone (s : SiteState) (c : ℕ) : Type 0 where
   pub trace : (world s).trace ≡ []
 
 -- WHAT A ROUND DOES, where nothing is disturbed and no other controller acts: the controller acts
--- on what is due for it, and a commit that is due succeeds; or the request that is next is sent,
--- every gear with power takes it, and what they answer is heard.
+-- on what is due for it, but surveys nothing, and a commit that is due succeeds; or the request
+-- that is next is sent, every gear with power takes it, and what they answer is heard.
 abbrev pub Succeeds : Input → Type 0
 Succeeds input.CommitFailed = ⊥
 Succeeds input.Start = Unit {0}
+Succeeds input.Survey = ⊥
 Succeeds (input.Heard h) = Unit {0}
 Succeeds input.Destroyed = Unit {0}
 Succeeds input.Lapsed = Unit {0}
@@ -53,7 +54,15 @@ IsOfRound s c (event.Acted d i o) = (d ≡ c) × Succeeds i × MayAnswer (machin
 IsOfRound s c (event.Sent d f h) =
     (r : Request) × (next_request s ≡ Some r) × (d ≡ r.sender) × (f ≡ r.frame)
     × (h ≡ heard_of (answers_of Everyone (command_of f) 0 (world s).gear))
-IsOfRound s c _ = ⊥
+IsOfRound s c (event.Offered d f) = ⊥
+IsOfRound s c (event.Destroyed d f set) = ⊥
+IsOfRound s c (event.Collided d f o g) = ⊥
+IsOfRound s c event.Lapsed = ⊥
+IsOfRound s c event.Quiet = ⊥
+IsOfRound s c (event.Power g on) = ⊥
+IsOfRound s c (event.Expired g) = ⊥
+IsOfRound s c (event.Down d) = ⊥
+IsOfRound s c (event.Up d kept) = ⊥
 
 -- events, each of which is one that a call of the site adds to its log in a round
 abbrev pub Rounds : SiteState → ℕ → List Event → Type 0
@@ -68,7 +77,16 @@ site_after s (e ∷ es) = site_after (site_logged s e) es
 -- how many of them are frames on the bus
 abbrev pub is_frame : Event → Bool
 is_frame (event.Sent c f h) = true
-is_frame _ = false
+is_frame (event.Acted c i o) = false
+is_frame (event.Offered c f) = false
+is_frame (event.Destroyed c f set) = false
+is_frame (event.Collided c f d g) = false
+is_frame event.Lapsed = false
+is_frame event.Quiet = false
+is_frame (event.Power g on) = false
+is_frame (event.Expired g) = false
+is_frame (event.Down c) = false
+is_frame (event.Up c kept) = false
 
 abbrev pub frames : List Event → ℕ
 frames [] = 0

@@ -61,6 +61,7 @@ after_input : (k : Controller) (held : Kept) (pending : Option Record) (i : Inpu
 after_input k held pending input.Committed is made step = inr (after_commit k held pending is (made refl is) step)
 after_input k held pending input.CommitFailed is made step = remembers k held pending step
 after_input k held pending input.Start is made step = remembers k held pending step
+after_input k held pending input.Survey is made step = remembers k held pending step
 after_input k held pending (input.Heard h) is made step = remembers k held pending step
 after_input k held pending input.Destroyed is made step = remembers k held pending step
 after_input k held pending input.Lapsed is made step = remembers k held pending step
@@ -129,7 +130,15 @@ ups_in_step w ss c kept held known there agrees all =
 abbrev pub IsOther : Event → Type 0
 IsOther (event.Acted c i o) = ⊥
 IsOther (event.Up c kept) = ⊥
-IsOther _ = Unit {0}
+IsOther (event.Offered c f) = Unit {0}
+IsOther (event.Sent c f h) = Unit {0}
+IsOther (event.Destroyed c f set) = Unit {0}
+IsOther (event.Collided c f d g) = Unit {0}
+IsOther event.Lapsed = Unit {0}
+IsOther event.Quiet = Unit {0}
+IsOther (event.Power g on) = Unit {0}
+IsOther (event.Expired g) = Unit {0}
+IsOther (event.Down c) = Unit {0}
 
 like : (p : Option Record) (held : Kept) (k j : Controller) → j.records ≡ k.records → j.outstanding ≡ k.outstanding → (IsCommit j.last → IsCommit k.last)
     → IsInStepBy p held k → IsInStepBy p held j

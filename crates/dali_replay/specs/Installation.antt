@@ -100,7 +100,9 @@ IsMade i d pending = i ≡ input.Committed → d ≡ due.Store → pending ≡ N
 abbrev pub IsGivenBy : Due → Installation → ℕ → Input → Installation → Type 0
 IsGivenBy due.Store n c i m =
     (i ≡ input.Committed) × (m ≡ with_store n c (store_committed (store_at n c)))
-IsGivenBy _ n c i m = ((controller n c).told ≡ Some i) × (m ≡ n)
+IsGivenBy due.Start n c i m = ((controller n c).told ≡ Some i) × (m ≡ n)
+IsGivenBy due.Bus n c i m = ((controller n c).told ≡ Some i) × (m ≡ n)
+IsGivenBy due.Nothing n c i m = ((controller n c).told ≡ Some i) × (m ≡ n)
 
 abbrev pub IsGiven : Installation → ℕ → Input → Installation → Type 0
 IsGiven n c i m = IsGivenBy (due_of (controller n c)) n c i m
@@ -108,7 +110,9 @@ IsGiven n c i m = IsGivenBy (due_of (controller n c)) n c i m
 -- and where nothing is due
 abbrev pub HasNoneBy : Due → Controller → Type 0
 HasNoneBy due.Store k = ⊥
-HasNoneBy _ k = k.told ≡ None
+HasNoneBy due.Start k = k.told ≡ None
+HasNoneBy due.Bus k = k.told ≡ None
+HasNoneBy due.Nothing k = k.told ≡ None
 
 abbrev pub HasNone : Installation → ℕ → Type 0
 HasNone n c = HasNoneBy (due_of (controller n c)) (controller n c)
@@ -138,12 +142,15 @@ Goes n c (Ok o) m =
     × HasStepped given c i o m
 Goes n c (Err e) m = IsGoRefused n c e m
 
--- ---------------------------------------------------------------- `store c`, `fail c`
+-- ------------------------------------------------------- `store c`, `fail c`, `survey c`
 
 -- whether a commit is outstanding that was not made
 abbrev pub IsPendingBy : Due → Option Record → Type 0
 IsPendingBy due.Store (Some x) = Unit {0}
-IsPendingBy _ _ = ⊥
+IsPendingBy due.Store None = ⊥
+IsPendingBy due.Start pending = ⊥
+IsPendingBy due.Bus pending = ⊥
+IsPendingBy due.Nothing pending = ⊥
 
 abbrev pub IsPending : Installation → ℕ → Type 0
 IsPending n c = IsPendingBy (due_of (controller n c)) (store_at n c).pending
@@ -159,6 +166,11 @@ Stores n c (Err e) m = IsBarred n.site c e × (m ≡ n)
 abbrev pub Fails : Installation → ℕ → Result Order Refusal → Installation → Type 0
 Fails n c (Ok o) m = HasStepped n c input.CommitFailed o m
 Fails n c (Err e) m = IsActRefused n.site c input.CommitFailed e × (m ≡ n)
+
+-- `survey` tells the controller to begin by a survey
+abbrev pub Surveys : Installation → ℕ → Result Order Refusal → Installation → Type 0
+Surveys n c (Ok o) m = HasStepped n c input.Survey o m
+Surveys n c (Err e) m = IsActRefused n.site c input.Survey e × (m ≡ n)
 
 -- ----------------------------------------------- `up c`, and the calls that no store takes part in
 

@@ -21,7 +21,9 @@ use Rattle.dali_replay.specs.Text.{kept_text, refused_text, ran_text}
 -- it is down.
 abbrev pub has_turn_by : Due → Controller → Bool
 has_turn_by due.Store k = true
-has_turn_by _ k = is_some k.told
+has_turn_by due.Start k = is_some k.told
+has_turn_by due.Bus k = is_some k.told
+has_turn_by due.Nothing k = is_some k.told
 
 abbrev pub has_turn : Controller → Bool
 has_turn k = has_turn_by (due_of k) k

@@ -8,7 +8,7 @@ use Rattle.dali_standing.specs.declared.trouble.Trouble.TheVariants as trouble
 use Rattle.dali_replay.specs.declared.site_line.SiteLine.{SiteLine}
 use Rattle.dali_replay.specs.declared.site_line.SiteLine.TheVariants.{Go, Store, Fail, Pump, Lapse}
 use Rattle.dali_replay.specs.declared.site_line.SiteLine.TheVariants.{Arc, Down, Up, Run, Power}
-use Rattle.dali_replay.specs.declared.site_line.SiteLine.TheVariants.{Expire, Quiet, Show}
+use Rattle.dali_replay.specs.declared.site_line.SiteLine.TheVariants.{Expire, Quiet, Show, Survey}
 use Rattle.dali_replay.specs.Numbers.{number_in, set_of}
 
 -- the lines of one word
@@ -26,6 +26,7 @@ controller_line_of name c =
     if bytes_eq name (codes "go") then Some (Go c)
     else if bytes_eq name (codes "store") then Some (Store c)
     else if bytes_eq name (codes "fail") then Some (Fail c)
+    else if bytes_eq name (codes "survey") then Some (Survey c)
     else if bytes_eq name (codes "down") then Some (Down c)
     else if bytes_eq name (codes "up") then Some (Up c)
     else None

@@ -6,7 +6,8 @@ use Rattle.dali_world.specs.Site.{SiteState, world, IsArcRefused, IsDownRefused,
 use Rattle.dali_replay.specs.Calls.{Befalls, Requests, BefallsGear, Lapses, IsLogFull}
 use Rattle.dali_replay.specs.declared.site_line.SiteLine.{SiteLine}
 use Rattle.dali_replay.specs.declared.site_line.SiteLine.TheVariants as line
-use Rattle.dali_replay.specs.Installation.{Installation, Goes, Stores, Fails, ComesUp, Calls}
+use Rattle.dali_replay.specs.Installation.{Installation, Goes, Stores, Fails, Surveys}
+use Rattle.dali_replay.specs.Installation.{ComesUp, Calls}
 use Rattle.dali_replay.specs.Installation.{PumpsOn}
 use Rattle.dali_replay.specs.Rounds.{Runs}
 use Rattle.dali_replay.specs.Text.{ok_of, offered_of, answer_or_refusal, ordered_text, report_text}
@@ -41,6 +42,7 @@ abbrev pub Says : Installation → SiteLine → List ℕ → Installation → Ty
 Says n (line.Go c) text m = Answers (λ r. Goes n c r m) (ordered_text c) text
 Says n (line.Store c) text m = Answers (λ r. Stores n c r m) ok_of text
 Says n (line.Fail c) text m = Answers (λ r. Fails n c r m) (ordered_text c) text
+Says n (line.Survey c) text m = Answers (λ r. Surveys n c r m) (ordered_text c) text
 Says n (line.Pump t) text m = Answers (λ r. PumpsOn n t r m) report_text text
 Says n line.Lapse text m =
     Answers (λ r. Calls (Lapses n.site) (IsLogFull n.site) n r m) lapse_text text

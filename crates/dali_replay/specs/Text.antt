@@ -108,7 +108,9 @@ ordered_text c o = decimal c ++ (codes ": " ++ (order_text o ++ codes "\n"))
 -- a run reports of its orders those that are no Put
 abbrev pub kept_text : ℕ → Order → List ℕ
 kept_text c (Put p f) = []
-kept_text c o = ordered_text c o
+kept_text c (Commit x) = ordered_text c (Commit x)
+kept_text c (Done e) = ordered_text c (Done e)
+kept_text c (Halt w) = ordered_text c (Halt w)
 
 -- `c: put 2 HHHH`
 abbrev pub offered_text : ℕ → Forward → List ℕ

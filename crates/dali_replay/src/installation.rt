@@ -10,7 +10,8 @@ ghost use Rattle.dali_standing.specs.Seats.{due_of};
 ghost use Rattle.dali_world.specs.Site.{world, IsArcRefused, IsDownRefused, IsGearRefused, IsActRefused, IsBarred};
 ghost use Rattle.dali_replay.specs.Installation.{installation_of, empty_store, store_settled, store_at, controller};
 ghost use Rattle.dali_replay.specs.Installation.{IsUpAt, store_committed, with_store, IsMade, IsGiven, HasNone};
-ghost use Rattle.dali_replay.specs.Installation.{HasStepped, Goes, IsPending, Stores, Fails, ComesUp, Calls, PumpsOn};
+ghost use Rattle.dali_replay.specs.Installation.{HasStepped, Goes, IsPending, Stores, Fails, Surveys};
+ghost use Rattle.dali_replay.specs.Installation.{ComesUp, Calls, PumpsOn};
 ghost use Rattle.dali_replay.specs.Calls.{Befalls, Requests, Lapses, IsLogFull, BefallsGear};
 ghost use Rattle.dali_standing.specs.declared.refusal.Refusal.TheVariants as refusal;
 ghost use Rattle.dali_replay.specs.Rounds.{HasTurn};
@@ -191,6 +192,16 @@ impl Installation {
     {
         let c = self.check_known(c)?;
         self.act(c, Input::CommitFailed)
+    }
+
+    /// `survey c`: the controller, for which its start is due, begins by a survey.
+    ///
+    /// Refusals, in this order: 1 UnknownController, 2 ControllerDown, 3 NotDue, 7 QueueFull, 8 LogFull.
+    pub fn survey(&mut self, c: u32) -> Result<Order, Refusal>
+        ensures { Surveys self.old c result self.new }
+    {
+        let c = self.check_known(c)?;
+        self.act(c, Input::Survey)
     }
 
     /// `pump ..`: the request that is next comes on the bus.

@@ -17,6 +17,8 @@ pub enum SiteLine {
     Go(u32),
     /// `store c`: the record that c ordered is committed in its store, and c is not told.
     Store(u32),
+    /// `survey c`: controller c, for which its start is due, begins by a survey.
+    Survey(u32),
     /// `fail c`: c is told that its commit failed, and none is made.
     Fail(u32),
     /// `pump ..`: the request that is next comes on the bus, and a trouble may disturb it.
@@ -66,6 +68,8 @@ fn controller_line(name: &[u8], c: u32) -> Option<SiteLine>
         Some(SiteLine::Store(c))
     } else if name == b"fail".as_slice() {
         Some(SiteLine::Fail(c))
+    } else if name == b"survey".as_slice() {
+        Some(SiteLine::Survey(c))
     } else if name == b"down".as_slice() {
         Some(SiteLine::Down(c))
     } else if name == b"up".as_slice() {

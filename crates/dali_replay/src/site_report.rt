@@ -119,6 +119,7 @@ pub fn report_site(
         SiteLine::Go(c) => push_step(text, c, installation.go(c)),
         SiteLine::Store(c) => push_done(text, installation.store(c)),
         SiteLine::Fail(c) => push_step(text, c, installation.fail(c)),
+        SiteLine::Survey(c) => push_step(text, c, installation.survey(c)),
         SiteLine::Pump(trouble) => push_pumped(text, installation.pump(trouble)),
         SiteLine::Lapse => push_lapsed(text, installation.lapse()),
         SiteLine::Arc(c, frame) => push_asked(text, c, frame, installation.arc(c, frame)),

@@ -315,6 +315,13 @@ reserved_by k (Reserve a r) p has = go (has_cases k.reserved (a, r) p has) where
 reserved_by k (Enrol a r) p has = inl has
 reserved_by k (Release a r) p has = inl (without_has (a, r) k.reserved p has)
 
+-- each address stays reserved once
+pub once_by : (k : Kept) (x : Record) → IsOnce (addresses k.reserved) → ((a r : ℕ) → x ≡ Reserve a r → HasAddress k.reserved a → ⊥)
+    → IsOnce (addresses (with_record k x).reserved)
+once_by k (Reserve a r) once fresh = subst IsOnce (sym (map_append (λ p. p.0) k.reserved (a, r))) (once_more (addresses k.reserved) a once (fresh a r refl))
+once_by k (Enrol a r) once fresh = once
+once_by k (Release a r) once fresh = once_left (λ p. p.0) (a, r) k.reserved once
+
 pub enrolled_by : (k : Kept) (x : Record) (p : Assignment) → Has (with_record k x).enrolled p → Has k.enrolled p ⊎ (x ≡ Enrol p.0 p.1)
 enrolled_by k (Reserve a r) p has = inl has
 enrolled_by k (Enrol a r) p has = go (has_cases k.enrolled (a, r) p has) where

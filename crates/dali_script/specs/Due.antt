@@ -16,8 +16,9 @@ due_after (Some (Commit x)) = due.Store
 due_after (Some (Done e)) = due.Nothing
 due_after (Some (Halt w)) = due.Nothing
 
--- the inputs that are accepted
+-- the inputs that are accepted: each one where that is due which it answers
 abbrev pub accepts : Due → Input → Bool
+accepts due.Nothing i = false
 accepts due.Start input.Start = true
 accepts due.Start input.Survey = true
 accepts due.Bus (input.Heard h) = true
@@ -25,13 +26,25 @@ accepts due.Bus input.Destroyed = true
 accepts due.Bus input.Lapsed = true
 accepts due.Store input.Committed = true
 accepts due.Store input.CommitFailed = true
-accepts _ _ = false
+accepts _ input.Start = false
+accepts _ input.Survey = false
+accepts _ (input.Heard h) = false
+accepts _ input.Destroyed = false
+accepts _ input.Lapsed = false
+accepts _ input.Committed = false
+accepts _ input.CommitFailed = false
 
 -- the frame or the record that is outstanding
 abbrev pub frame_put : Option Order → Option Forward
 frame_put (Some (Put p f)) = Some f
-frame_put _ = None
+frame_put None = None
+frame_put (Some (Commit x)) = None
+frame_put (Some (Done e)) = None
+frame_put (Some (Halt w)) = None
 
 abbrev pub record_ordered : Option Order → Option Record
 record_ordered (Some (Commit x)) = Some x
-record_ordered _ = None
+record_ordered None = None
+record_ordered (Some (Put p f)) = None
+record_ordered (Some (Done e)) = None
+record_ordered (Some (Halt w)) = None

@@ -15,7 +15,7 @@ use Rattle.dali_script.specs.declared.finding.Finding.{Finding}
 use Rattle.dali_script.specs.declared.records.Record.{Record}
 use Rattle.dali_script.specs.declared.records.Record.TheVariants.{Reserve, Enrol, Release}
 use Rattle.dali_script.specs.Records.{Kept, InBlock, MayAdd}
-use Rattle.dali_script.specs.Findings.{MayEnrol, finding_of, later}
+use Rattle.dali_script.specs.Findings.{finding_of, later}
 use Rattle.dali_script.specs.Scripts.{Lawful, IsFirst}
 use Rattle.dali_script.specs.Stages.{stage_of, may_follow}
 use Rattle.dali_script.proofs.Transactions.{over, follows_lawful}
@@ -29,7 +29,7 @@ use Rattle.dali_controller.specs.Orders.{IsOrdered, IsAnswered, IsAllowed, IsAdd
 use Rattle.dali_events.specs.World.{World, Controller}
 use Rattle.dali_events.specs.Happens.{entry, controller_informed, outstanding_told, outstanding_after, is_arc}
 use Rattle.dali_events.specs.Allowed.{IsDue, IsCommit, MayOrder}
-use Rattle.dali_events.proofs.Invariant.Naming.{enrols_assigned}
+use Rattle.dali_controller.proofs.Given.{enrols_assigned}
 use Rattle.dali_standing.specs.Seats.{IsRunning, IsSeat, IsTold, IsOutstanding, IsFound, IsEnrolling, MayAnswer, seat_by, machine_in, acted_in, informed_by}
 use Rattle.dali_standing.specs.declared.seat.Place.{Place}
 use Rattle.dali_standing.specs.declared.seat.Place.TheVariants.{Up, Down}
@@ -54,7 +54,10 @@ abbrev pub IsOfBus : Input → Type 0
 IsOfBus (input.Heard h) = Unit {0}
 IsOfBus input.Destroyed = Unit {0}
 IsOfBus input.Lapsed = Unit {0}
-IsOfBus _ = ⊥
+IsOfBus input.Start = ⊥
+IsOfBus input.Survey = ⊥
+IsOfBus input.Committed = ⊥
+IsOfBus input.CommitFailed = ⊥
 
 pub bus_put : (i : Input) (last : Option Order) → IsOfBus i → accepts (due_after last) i ≡ true → IsPut last
 bus_put (input.Heard h) None bus a = cc
@@ -73,6 +76,7 @@ bus_put input.Lapsed (Some (Commit x)) bus a = cc
 bus_put input.Lapsed (Some (Done e)) bus a = cc
 bus_put input.Lapsed (Some (Halt w)) bus a = cc
 bus_put input.Start last bus a = elim bus [ ]
+bus_put input.Survey last bus a = elim bus [ ]
 bus_put input.Committed last bus a = elim bus [ ]
 bus_put input.CommitFailed last bus a = elim bus [ ]
 
@@ -161,9 +165,9 @@ may_order_by w c k t (Commit (Reserve a r)) both may =
     (both.outstanding, subst (λ x. InBlock x.block a × (r < MASK24) × MayAdd x (Reserve a r)) both.kept (may.fits.0, may.fits.1, may.may))
 may_order_by w c k t (Commit (Enrol b r)) both may =
     let x : Finding = may.warranted.0 in
-    let enrols : MayEnrol k.records.reserved x (b, r) = subst (λ q. MayEnrol q.reserved x (b, r)) both.kept may.warranted.3 in
     let found : k.finding ≡ Some x = later_some k.finding (finding_of t.trace) x may.warranted.2 both.found in
-    (both.outstanding, ((x, found, enrols), may.fits, subst (λ q. MayAdd q (Enrol b r)) both.kept may.may))
+    (both.outstanding, ((x, found, sym (enrols_assigned t.course.way t.kept.reserved x (b, r) may.warranted.3)), may.fits,
+        subst (λ q. MayAdd q (Enrol b r)) both.kept may.may))
 may_order_by w c k t (Commit (Release a r)) both may =
     let enrolled = subst (λ l. IsEnrolling l k.finding) may.warranted.1 both.enrolling in
     (both.outstanding, (subst (λ q. MayAdd q (Release a r)) both.kept may.may, (enrolled.0, enrolled.1, may.warranted.0, enrolled.2, may.warranted.2)))
@@ -178,6 +182,7 @@ bus_kept m (input.Heard h) p f bus e = rw e refl
 bus_kept m input.Destroyed p f bus e = refl
 bus_kept m input.Lapsed p f bus e = refl
 bus_kept m input.Start p f bus e = elim bus [ ]
+bus_kept m input.Survey p f bus e = elim bus [ ]
 bus_kept m input.Committed p f bus e = elim bus [ ]
 bus_kept m input.CommitFailed p f bus e = elim bus [ ]
 
@@ -187,6 +192,7 @@ bus_records k (input.Heard h) bus = (refl, refl)
 bus_records k input.Destroyed bus = (refl, refl)
 bus_records k input.Lapsed bus = (refl, refl)
 bus_records k input.Start bus = elim bus [ ]
+bus_records k input.Survey bus = elim bus [ ]
 bus_records k input.Committed bus = elim bus [ ]
 bus_records k input.CommitFailed bus = elim bus [ ]
 
@@ -198,6 +204,7 @@ owns_told w c k m (input.Heard h) p f bus is same e placed =
 owns_told w c k m input.Destroyed p f bus is same e placed = owns_none w c (controller_informed k input.Destroyed) (machine_told m input.Destroyed) refl
 owns_told w c k m input.Lapsed p f bus is same e placed = owns_none w c (controller_informed k input.Lapsed) (machine_told m input.Lapsed) refl
 owns_told w c k m input.Start p f bus is same e placed = elim bus [ ]
+owns_told w c k m input.Survey p f bus is same e placed = elim bus [ ]
 owns_told w c k m input.Committed p f bus is same e placed = elim bus [ ]
 owns_told w c k m input.CommitFailed p f bus is same e placed = elim bus [ ]
 
@@ -219,6 +226,7 @@ committed_trace m (Some x) = refl
 
 last_told : (m : Machine) (i : Input) → (machine_told m i).last ≡ m.last
 last_told m input.Start = refl
+last_told m input.Survey = refl
 last_told m (input.Heard h) = heard_last m (frame_put m.last) h
 last_told m input.Destroyed = refl
 last_told m input.Lapsed = refl
@@ -232,7 +240,7 @@ enrolling_told k m i tied = subst (λ l. IsEnrolling l k.finding) (sym (last_tol
 enrolling_by : (found : Option Finding) (t : Machine) (o : Order) → later found (finding_of t.trace) ≡ found → IsAllowed t o → IsEnrolling (Some o) found
 enrolling_by found t (Commit (Enrol b r)) is may =
     let x : Finding = may.warranted.0 in
-    (x, later_some found (finding_of t.trace) x may.warranted.2 is, sym (enrols_assigned t.kept.reserved x (b, r) may.warranted.3))
+    (x, later_some found (finding_of t.trace) x may.warranted.2 is, sym (enrols_assigned t.course.way t.kept.reserved x (b, r) may.warranted.3))
 enrolling_by found t _ is may = tt
 
 -- where the store is waited for, nothing that is told changes the trace
@@ -297,6 +305,9 @@ running_acted m outstanding found told i o tied due answer = go i due answer whe
   go input.Start is order =
       ordered_running (machine_told m input.Start) o outstanding found order.allowed (found_told k m input.Start is tied.found)
       (subst (λ l. IsOutstanding k.records l outstanding) (start_first k.last (told_accepted k.last k.told input.Start is tied.told)) tied.outstanding)
+  go input.Survey is order =
+      ordered_running (machine_told m input.Survey) o outstanding found order.allowed (found_told k m input.Start is tied.found)
+      (subst (λ l. IsOutstanding k.records l outstanding) (start_first k.last (told_accepted k.last k.told input.Start is tied.told)) tied.outstanding)
   go (input.Heard h) is order =
       ordered_running (machine_told m (input.Heard h)) o outstanding found order.allowed (found_told k m (input.Heard h) is tied.found)
       (bus_none (input.Heard h) tt is)
@@ -336,6 +347,20 @@ informed_start w c k m is tied placed =
       found = found_told k m input.Start is tied.found;
       enrolling = enrolling_told k m input.Start tied;
       owns_with = owns_none w c (controller_informed k input.Start) m (placed_start (owns w.bus.owner c) w.trace k m none placed);
+    }
+
+informed_survey : (w : World) (c : ℕ) (k : Controller) (m : Machine) → k.told ≡ Some input.Start → IsRunning k m
+    → IsPlacedBy (owns w.bus.owner c) w.trace k (Some m)
+    → AreInformed w c (controller_informed k input.Survey) (machine_told m input.Survey)
+informed_survey w c k m is tied placed =
+    let none : k.last ≡ None = start_first k.last (told_accepted k.last k.told input.Start is tied.told) in
+    record {
+      kept = tied.kept;
+      outstanding = subst (λ l. IsOutstanding k.records l k.outstanding) none tied.outstanding;
+      found = found_told k m input.Start is tied.found;
+      enrolling = enrolling_told k m input.Survey tied;
+      owns_with = owns_none w c (controller_informed k input.Survey) (machine_told m input.Survey)
+          (placed_start (owns w.bus.owner c) w.trace k m none placed);
     }
 
 informed_committed : (w : World) (c : ℕ) (k : Controller) (m : Machine) → IsCommit k.last → IsRunning k m → IsPlacedBy (owns w.bus.owner c) w.trace k (Some m)
@@ -400,6 +425,7 @@ may_order w c k m input.Destroyed o due tied answer placed =
     ordered_at w c k m input.Destroyed o (informed_bus w c k m input.Destroyed tt due tied placed) answer
 may_order w c k m input.Lapsed o due tied answer placed = ordered_at w c k m input.Lapsed o (informed_bus w c k m input.Lapsed tt due tied placed) answer
 may_order w c k m input.Start o due tied answer placed = ordered_at w c k m input.Start o (informed_start w c k m due tied placed) answer
+may_order w c k m input.Survey o due tied answer placed = ordered_at w c k m input.Survey o (informed_survey w c k m due tied placed) answer
 may_order w c k m input.Committed o due tied answer placed = ordered_at w c k m input.Committed o (informed_committed w c k m due tied placed) answer
 may_order w c k m input.CommitFailed o due tied answer placed =
     subst (λ p. IsOrderedAt w c k m input.CommitFailed p) (sym answer) (record { may = tt; left = tt })

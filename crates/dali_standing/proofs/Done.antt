@@ -67,6 +67,7 @@ owner_runs t p placed = by_machine p.machine placed where
   by_order m (Some (Put q f)) None is = is.1
   by_order m (Some (Put q f)) (Some (input.Heard h)) is = is
   by_order m (Some (Put q f)) (Some input.Start) is = elim is [ ]
+  by_order m (Some (Put q f)) (Some input.Survey) is = elim is [ ]
   by_order m (Some (Put q f)) (Some input.Destroyed) is = elim is [ ]
   by_order m (Some (Put q f)) (Some input.Lapsed) is = elim is [ ]
   by_order m (Some (Put q f)) (Some input.Committed) is = elim is [ ]

@@ -491,7 +491,9 @@ served_offered b place c f served arc = arc_served b.lists b.owner place c f ser
 -- an order whose frame, if it has one, is scripted, and goes to list 1 from the owner or to list 3
 abbrev pub MayAsk : Option ℕ → ℕ → Order → Type 0
 MayAsk owner c (Put p f) = (is_arc (command_of f) ≡ false) × (((p ≡ 1) × (owns owner c ≡ true)) ⊎ (p ≡ 3))
-MayAsk owner c _ = Unit {0}
+MayAsk owner c (Commit x) = Unit {0}
+MayAsk owner c (Done e) = Unit {0}
+MayAsk owner c (Halt why) = Unit {0}
 
 module _ (place place' : ℕ → Seat) (c : ℕ) (f : Forward) where
   put_owned : (lists : List (List Request)) → IsServed lists (Some c) place → Elsewhere place place' c → awaited_requests c (place c).controller ≡ []

@@ -224,6 +224,7 @@ due_awaits : (c : ℕ) (k : Controller) (i : Input) → IsDue k i → awaited_re
 due_awaits c k input.Committed due = commit_awaits c k.told k.last due
 due_awaits c k input.CommitFailed due = commit_awaits c k.told k.last due
 due_awaits c k input.Start due = told_awaits c k.told k.last input.Start due
+due_awaits c k input.Survey due = told_awaits c k.told k.last input.Start due
 due_awaits c k (input.Heard h) due = told_awaits c k.told k.last (input.Heard h) due
 due_awaits c k input.Destroyed due = told_awaits c k.told k.last input.Destroyed due
 due_awaits c k input.Lapsed due = told_awaits c k.told k.last input.Lapsed due

@@ -33,14 +33,28 @@ IsOwning t k m (Some (Put p f)) None =
     (p ≡ LATER) × (t ≡ m.trace) × Lawful k.records.block k.records.reserved t f
     × (is_arc (command_of f) ≡ false)
 IsOwning t k m (Some (Put p f)) (Some (input.Heard h)) = t ≡ m.trace ++ entry f h ∷ []
-IsOwning t k m _ _ = ⊥
+IsOwning t k m (Some (Put p f)) (Some input.Start) = ⊥
+IsOwning t k m (Some (Put p f)) (Some input.Survey) = ⊥
+IsOwning t k m (Some (Put p f)) (Some input.Destroyed) = ⊥
+IsOwning t k m (Some (Put p f)) (Some input.Lapsed) = ⊥
+IsOwning t k m (Some (Put p f)) (Some input.Committed) = ⊥
+IsOwning t k m (Some (Put p f)) (Some input.CommitFailed) = ⊥
+IsOwning t k m (Some (Commit x)) told = ⊥
+IsOwning t k m (Some (Done e)) told = ⊥
+IsOwning t k m (Some (Halt why)) told = ⊥
+IsOwning t k m None told = ⊥
 
 -- a controller that does not: its frame waits, and is a first one; or it was told what was heard
 -- after its last one, and none may follow; or nothing runs
 abbrev pub IsOver : Controller → Machine → Forward → Input → Type 0
 IsOver k m f (input.Heard h) =
     may_follow k.records.block k.records.reserved (stage_of (m.trace ++ entry f h ∷ [])) ≡ false
-IsOver k m f _ = Unit {0}
+IsOver k m f input.Start = Unit {0}
+IsOver k m f input.Survey = Unit {0}
+IsOver k m f input.Destroyed = Unit {0}
+IsOver k m f input.Lapsed = Unit {0}
+IsOver k m f input.Committed = Unit {0}
+IsOver k m f input.CommitFailed = Unit {0}
 
 abbrev pub IsApart : Controller → Machine → Option Order → Option Input → Type 0
 IsApart k m None told = m.trace ≡ []
@@ -72,7 +86,11 @@ picked_requests test (l ∷ lists) = filter test l ++ picked_requests test lists
 -- the request that waits for a controller: that of its last order, until it is told of it
 abbrev pub awaited_requests_by : ℕ → Option Input → Option Order → List Request
 awaited_requests_by c None (Some (Put p f)) = request_of c p f ∷ []
-awaited_requests_by c _ _ = []
+awaited_requests_by c None (Some (Commit x)) = []
+awaited_requests_by c None (Some (Done e)) = []
+awaited_requests_by c None (Some (Halt why)) = []
+awaited_requests_by c None None = []
+awaited_requests_by c (Some i) last = []
 
 abbrev pub awaited_requests : ℕ → Controller → List Request
 awaited_requests c k = awaited_requests_by c k.told k.last
@@ -110,7 +128,9 @@ IsHearing p f h running = is_arc (command_of f) ≡ false
 -- what is ordered on the bus is not refused
 abbrev pub IsAccepted : Arbiter → ℕ → Order → Type 0
 IsAccepted b c (Put p f) = offer_refusal b (request_of c p f) ≡ None
-IsAccepted b c _ = Unit {0}
+IsAccepted b c (Commit x) = Unit {0}
+IsAccepted b c (Done e) = Unit {0}
+IsAccepted b c (Halt why) = Unit {0}
 
 abbrev pub Settled : Seated → Type 0
 Settled s = IsSettled s.bus s.trace (seat_in s.seats)

@@ -10,7 +10,7 @@ use Rattle.dali_script.specs.Records.{without_records}
 use Rattle.dali_script.specs.declared.orders.Input.{Input}
 use Rattle.dali_script.specs.declared.orders.Input.TheVariants as input
 use Rattle.dali_script.specs.declared.orders.Order.{Order}
-use Rattle.dali_script.specs.declared.orders.Order.TheVariants.{Put}
+use Rattle.dali_script.specs.declared.orders.Order.TheVariants.{Put, Commit, Done, Halt}
 use Rattle.dali_controller.specs.Machine.{Machine, at_first}
 use Rattle.dali_controller.specs.Orders.{machine_after}
 use Rattle.dali_events.specs.declared.event.Event.{Event}
@@ -72,7 +72,17 @@ machines_of seats = map (λ p. p.machine) seats
 -- one, where the owner was told what was heard after it, and has not acted on that
 abbrev pub running_told : List Entry → Option Order → Option Input → List Entry
 running_told t (Some (Put p f)) (Some (input.Heard h)) = t ++ entry f h ∷ []
-running_told t _ _ = t
+running_told t (Some (Put p f)) (Some input.Start) = t
+running_told t (Some (Put p f)) (Some input.Survey) = t
+running_told t (Some (Put p f)) (Some input.Destroyed) = t
+running_told t (Some (Put p f)) (Some input.Lapsed) = t
+running_told t (Some (Put p f)) (Some input.Committed) = t
+running_told t (Some (Put p f)) (Some input.CommitFailed) = t
+running_told t (Some (Put p f)) None = t
+running_told t (Some (Commit x)) told = t
+running_told t (Some (Done e)) told = t
+running_told t (Some (Halt why)) told = t
+running_told t None told = t
 
 abbrev pub running_at : Seat → List Entry
 running_at p = running_told (trace_of p.machine) p.controller.last p.controller.told

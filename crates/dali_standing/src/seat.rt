@@ -73,6 +73,7 @@ impl Seat {
     {
         match input {
             Input::Committed | Input::CommitFailed => matches!(self.last(), Some(Order::Commit(_))),
+            Input::Survey => self.told == Some(Input::Start),
             Input::Start | Input::Heard(_) | Input::Destroyed | Input::Lapsed => {
                 self.told == Some(input)
             }
@@ -221,7 +222,7 @@ impl Seat {
     {
         match self.last() {
             Some(Order::Commit(ordered)) => Some(ordered),
-            _ => None,
+            Some(Order::Put(..) | Order::Done(_) | Order::Halt(_)) | None => None,
         }
     }
 

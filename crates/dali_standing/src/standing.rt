@@ -381,7 +381,7 @@ fn keeps_bus(order: &Order) -> bool
 {
     match order {
         Order::Put(priority, _) => *priority == Priority::LATER,
-        _ => false,
+        Order::Commit(_) | Order::Done(_) | Order::Halt(_) => false,
     }
 }
 

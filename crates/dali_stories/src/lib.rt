@@ -26,4 +26,6 @@ mod restarts;
 #[cfg(test)]
 mod story;
 #[cfg(test)]
+mod surveys;
+#[cfg(test)]
 mod troubles;

@@ -34,6 +34,8 @@ mod site;
 #[cfg(test)]
 mod store;
 #[cfg(test)]
+mod survey;
+#[cfg(test)]
 mod table;
 #[cfg(test)]
 mod transaction;

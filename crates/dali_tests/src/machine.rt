@@ -9,17 +9,17 @@ use dali_script::{End, Fault, Input, Kept, Order};
 use std::process::Abort;
 use std::test::Fail;
 
-const SILENCE: Input = Input::Heard(Answer::Silence);
+pub const SILENCE: Input = Input::Heard(Answer::Silence);
 
-const DAMAGED: Input = Input::Heard(Answer::Damaged);
+pub const DAMAGED: Input = Input::Heard(Answer::Damaged);
 
-const YES: Input = Input::Heard(Answer::Byte(0xFF));
+pub const YES: Input = Input::Heard(Answer::Byte(0xFF));
 
 /// What the machine is told, and what it orders then.
-type Moment = (Input, Ordered);
+pub type Moment = (Input, Ordered);
 
 /// An opening.
-const OPENING: [Moment; 5] = [
+pub const OPENING: [Moment; 5] = [
     (Input::Start, Put(3, 0xA100)),
     (SILENCE, Put(1, 0xA5FF)),
     (SILENCE, Put(1, 0xA5FF)),
@@ -28,7 +28,7 @@ const OPENING: [Moment; 5] = [
 ];
 
 /// The first probe of a search.
-const PROBE: [Moment; 4] = [
+pub const PROBE: [Moment; 4] = [
     (SILENCE, Put(3, 0xB1FF)),
     (SILENCE, Put(1, 0xB3FF)),
     (SILENCE, Put(1, 0xB5FE)),
@@ -39,7 +39,7 @@ const PROBE: [Moment; 4] = [
 const SEARCHED: u32 = 105;
 
 /// The search hears YES to its last COMPARE, as to all others: a visit of 000000.
-const FOUND: [Moment; 4] = [
+pub const FOUND: [Moment; 4] = [
     (YES, Put(3, 0xB100)),
     (SILENCE, Put(1, 0xB300)),
     (SILENCE, Put(1, 0xB500)),
@@ -62,18 +62,18 @@ const GIVEN: [Moment; 3] = [
 ];
 
 /// What is heard is this byte.
-fn byte(byte: u8) -> Input {
+pub fn byte(byte: u8) -> Input {
     Input::Heard(Answer::Byte(byte))
 }
 
 /// A machine of a block, with these records.
-fn machine_of(bounds: (u8, u8), records: &[InNumbers]) -> Result<Machine, Fail> {
+pub fn machine_of(bounds: (u8, u8), records: &[InNumbers]) -> Result<Machine, Fail> {
     let kept = kept_of(bounds, records)?;
     Ok(Machine::new(0, &kept))
 }
 
 /// What the machine orders when it is told this.
-fn ordered(machine: &mut Machine, told: Input) -> Ordered {
+pub fn ordered(machine: &mut Machine, told: Input) -> Ordered {
     match machine.step(told) {
         Ok(order) => Ordered::of(order),
         Err(StepError::NotDue) => NotDue,
@@ -87,7 +87,12 @@ fn steps<R: Abort>(rt: &R, machine: &mut Machine, told: Input, wanted: Ordered) 
 
 /// The machine starts, and sends so many frames. Each COMPARE is answered YES, and nothing else.
 fn searches<R: Abort>(rt: &R, machine: &mut Machine, frames: u32) {
-    let mut input = Input::Start;
+    searches_from(rt, machine, Input::Start, frames);
+}
+
+/// The same, from this input on.
+pub fn searches_from<R: Abort>(rt: &R, machine: &mut Machine, first: Input, frames: u32) {
+    let mut input = first;
     for _ in 0..frames {
         let order = ordered(machine, input);
         assert!(rt; matches!(order, Put(..)));
@@ -100,7 +105,7 @@ fn searches<R: Abort>(rt: &R, machine: &mut Machine, frames: u32) {
 }
 
 /// One part of what it is told after the other.
-fn goes_on<R: Abort>(rt: &R, machine: &mut Machine, parts: &[&[Moment]]) {
+pub fn goes_on<R: Abort>(rt: &R, machine: &mut Machine, parts: &[&[Moment]]) {
     for part in parts {
         for (told, wanted) in *part {
             steps(rt, machine, *told, *wanted);

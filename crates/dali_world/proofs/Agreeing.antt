@@ -53,6 +53,9 @@ its_finding owning t k m input.Destroyed x due tied placed found = found_bus k m
 its_finding owning t k m input.Lapsed x due tied placed found = found_bus k m input.Lapsed x tt due tied found
 its_finding owning t k m input.Start x due tied placed found =
     none_found k m x (placed_start owning t k m (start_first k.last (told_accepted k.last k.told input.Start due tied.told)) placed) found
+its_finding owning t k m input.Survey x due tied placed found =
+    none_found k (machine_told m input.Survey) x
+    (placed_start owning t k m (start_first k.last (told_accepted k.last k.told input.Start due tied.told)) placed) found
 its_finding owning t k m input.Committed x due tied placed found =
     let r = committed_last k.last due in
     none_found k (machine_told m input.Committed) x (committed_trace m r.0 (tied.last ∙ r.1) ∙ placed_commit owning t k m r.0 r.1 placed) found
@@ -92,6 +95,7 @@ no_conflict p capacity log c m i owning t run there due tied placed answer = go 
 
   go : (j : Input) → IsDue (controller_at (after p capacity log) c) j → IsAnswered m j (Halt fault.Conflict) → ⊥
   go input.Start is order = ordered_so input.Start is order
+  go input.Survey is order = ordered_so input.Survey is order
   go (input.Heard h) is order = ordered_so (input.Heard h) is order
   go input.Destroyed is order = ordered_so input.Destroyed is order
   go input.Lapsed is order = ordered_so input.Lapsed is order

@@ -221,9 +221,11 @@ next_request s = next (world s).bus
 
 -- a frame is sent where nothing or its answers are disturbed
 abbrev pub IsSendable : Trouble → Type 0
+IsSendable trouble.None = Unit {0}
+IsSendable trouble.AnswerLost = Unit {0}
+IsSendable trouble.Noise = Unit {0}
 IsSendable (trouble.Destroyed set) = ⊥
 IsSendable trouble.Collision = ⊥
-IsSendable _ = Unit {0}
 
 -- WHAT CAME of request r, which was next, under a trouble: a report, and an event that is allowed
 abbrev pub Becomes : SiteState → Request → Trouble → Report → SiteState → Type 0

@@ -15,14 +15,14 @@ use Rattle.dali_arbiter.specs.Arbiter.{owns}
 use Rattle.dali_script.specs.declared.block.Block.{Block}
 use Rattle.dali_script.specs.declared.trace.Entry.{Entry}
 use Rattle.dali_script.specs.declared.records.Record.{Record}
-use Rattle.dali_script.specs.declared.records.Record.TheVariants.{Reserve}
+use Rattle.dali_script.specs.declared.records.Record.TheVariants.{Reserve, Enrol, Release}
 use Rattle.dali_script.specs.Records.{Assignment, Kept, InBlock, IsFresh}
 use Rattle.dali_script.specs.Scripts.{Lawful, IsFirst}
 use Rattle.dali_script.specs.Stages.{stage_of, follows, in_block}
 use Rattle.dali_script.specs.declared.orders.Input.{Input}
 use Rattle.dali_script.specs.declared.orders.Input.TheVariants as input
 use Rattle.dali_script.specs.declared.orders.Order.{Order}
-use Rattle.dali_script.specs.declared.orders.Order.TheVariants.{Put, Commit, Done}
+use Rattle.dali_script.specs.declared.orders.Order.TheVariants.{Put, Commit, Done, Halt}
 use Rattle.dali_script.proofs.Giving.{first_of_both, second_of_both}
 use Rattle.dali_script.proofs.Transactions.{equal, lawful_follows, follows_from_test}
 use Rattle.dali_events.specs.declared.event.Event.{Event}
@@ -107,10 +107,18 @@ hears_by answers (Byte v) e = heard_by v answers e
 
 abbrev pub same_input : Input → Input → Bool
 same_input input.Start input.Start = true
+same_input input.Start _ = false
+same_input input.Survey _ = false
 same_input (input.Heard Silence) (input.Heard Silence) = true
+same_input (input.Heard Silence) _ = false
 same_input (input.Heard (Byte u)) (input.Heard (Byte v)) = u == v
+same_input (input.Heard (Byte u)) _ = false
+same_input (input.Heard Damaged) _ = false
 same_input input.Destroyed input.Destroyed = true
-same_input _ _ = false
+same_input input.Destroyed _ = false
+same_input input.Lapsed _ = false
+same_input input.Committed _ = false
+same_input input.CommitFailed _ = false
 
 same_by : (i j : Input) → same_input i j ≡ true → i ≡ j
 same_by input.Start input.Start e = refl
@@ -138,12 +146,20 @@ commit_by _ e = absurd (cc)
 abbrev pub is_due : Controller → Input → Bool
 is_due k input.Committed = is_commit k.last
 is_due k input.CommitFailed = is_commit k.last
-is_due k i = is_told k.told i
+is_due k input.Survey = is_told k.told input.Start
+is_due k input.Start = is_told k.told input.Start
+is_due k (input.Heard h) = is_told k.told (input.Heard h)
+is_due k input.Destroyed = is_told k.told input.Destroyed
+is_due k input.Lapsed = is_told k.told input.Lapsed
 
 due_by : (k : Controller) (i : Input) → is_due k i ≡ true → IsDue k i
 due_by k input.Committed e = commit_by k.last e
 due_by k input.CommitFailed e = commit_by k.last e
-due_by k i e = told_by k.told i e
+due_by k input.Survey e = told_by k.told input.Start e
+due_by k input.Start e = told_by k.told input.Start e
+due_by k (input.Heard h) e = told_by k.told (input.Heard h) e
+due_by k input.Destroyed e = told_by k.told input.Destroyed e
+due_by k input.Lapsed e = told_by k.told input.Lapsed e
 
 owner_by : (owner : Option ℕ) (c : ℕ) → owns owner c ≡ true → owner ≡ Some c
 owner_by None c e = absurd (cc)
@@ -191,7 +207,9 @@ abbrev pub may_order : World → ℕ → Controller → Order → Bool
 may_order w c k (Put p f) = may_put w c k.records p f
 may_order w c k (Commit (Reserve a r)) = is_none k.outstanding && may_reserve k a r
 may_order w c k (Done end) = true
-may_order w c k _ = false
+may_order w c k (Commit (Enrol a r)) = false
+may_order w c k (Commit (Release a r)) = false
+may_order w c k (Halt fault) = false
 
 order_by : (w : World) (c : ℕ) (k : Controller) (o : Order) → may_order w c k o ≡ true → MayOrder w c k o
 order_by w c k (Put p f) e = put_by w c k p f e
@@ -212,7 +230,13 @@ is_allowed w (event.Acted c i o) = is_there w c && is_acted w c i o
 is_allowed w (event.Sent c f h) = is_sent w c f && (has_draws w Everyone f && may_hear (answers_of Everyone (command_of f) 0 w.gear) h)
 is_allowed w (event.Destroyed c f set) = is_sent w c f && has_draws w (Only set) f
 is_allowed w event.Lapsed = true
-is_allowed w _ = false
+is_allowed w (event.Offered c f) = false
+is_allowed w (event.Collided c f d g) = false
+is_allowed w event.Quiet = false
+is_allowed w (event.Power g on) = false
+is_allowed w (event.Expired g) = false
+is_allowed w (event.Down c) = false
+is_allowed w (event.Up c kept) = false
 
 sender_by : (w : World) (c : ℕ) (f : Forward) → is_sent w c f ≡ true → IsUp w c × MaySend w c f
 sender_by w c f e =

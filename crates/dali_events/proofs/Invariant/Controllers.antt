@@ -31,7 +31,9 @@ Of P c k = P c k.records k.outstanding k.finding
 -- what a Commit order and a frame add
 abbrev pub AddsOrder : Property → ℕ → Controller → Order → Type 0
 AddsOrder P c k (Commit x) = Of P c k → P c k.records (Some x) k.finding
-AddsOrder P c k _ = Unit {0}
+AddsOrder P c k (Put p f) = Unit {0}
+AddsOrder P c k (Done end) = Unit {0}
+AddsOrder P c k (Halt fault) = Unit {0}
 
 abbrev pub Adds : Property → World → Event → Type 0
 Adds P w (event.Acted c i o) = AddsOrder P c (controller_informed (controller_at w c) i) o
@@ -39,11 +41,24 @@ Adds P w (event.Sent c f h) =
     c < length w.controllers → Of P c (controller_at w c)
     → P c (controller_at w c).records (controller_at w c).outstanding
     (later (controller_at w c).finding (found_by (search_of (trace_running w c)) (asked_of (trace_running w c)) (command_of f) h))
-Adds P w _ = Unit {0}
+Adds P w (event.Offered c f) = Unit {0}
+Adds P w (event.Destroyed c f set) = Unit {0}
+Adds P w (event.Collided c f d g) = Unit {0}
+Adds P w event.Lapsed = Unit {0}
+Adds P w event.Quiet = Unit {0}
+Adds P w (event.Power g on) = Unit {0}
+Adds P w (event.Expired g) = Unit {0}
+Adds P w (event.Down c) = Unit {0}
+Adds P w (event.Up c kept) = Unit {0}
 
 informed_stands : (P : Property) (s : Stands P) (c : ℕ) (k : Controller) (i : Input) → Of P c k → Of P c (controller_informed k i)
 informed_stands P s c k input.Committed h = s.keep c k.records k.outstanding k.finding h
-informed_stands P s c k _ h = h
+informed_stands P s c k input.Start h = h
+informed_stands P s c k input.Survey h = h
+informed_stands P s c k (input.Heard x) h = h
+informed_stands P s c k input.Destroyed h = h
+informed_stands P s c k input.Lapsed h = h
+informed_stands P s c k input.CommitFailed h = h
 
 acted_stands : (P : Property) (s : Stands P) (c : ℕ) (k : Controller) (i : Input) (o : Order) → AddsOrder P c (controller_informed k i) o → Of P c k
     → Of P c (controller_acted k i o)

@@ -12,7 +12,7 @@ use Rattle.dali_script.specs.declared.records.Record.{Record}
 use Rattle.dali_script.specs.declared.records.Record.TheVariants.{Reserve, Enrol, Release}
 use Rattle.dali_script.specs.Records.{Assignment, Kept, Has, InBlock, IsKept, MayAdd, Fits, address_of}
 use Rattle.dali_script.specs.Findings.{search_of, Asked, asked_of, found_by, assigned, later}
-use Rattle.dali_script.proofs.Lists.{reserved_fits, has_map, kept_none, kept_more}
+use Rattle.dali_script.proofs.Lists.{reserved_fits, has_map, kept_none, kept_more, block_stays}
 use Rattle.dali_script.specs.declared.orders.Order.{Order}
 use Rattle.dali_script.specs.declared.orders.Order.TheVariants.{Put, Commit, Done, Halt}
 use Rattle.dali_events.specs.declared.event.Event.{Event}
@@ -26,7 +26,7 @@ use Rattle.dali_events.specs.Laws.{KeepsRecords}
 use Rattle.dali_events.proofs.Invariant.Growing.{allowed_front}
 use Rattle.dali_script.proofs.Members.{Each}
 use Rattle.dali_events.proofs.Invariant.Controllers.{Property, Stands, Of, AddsOrder, Adds, controllers_step, controllers_count}
-use Rattle.dali_events.proofs.Invariant.Naming.{IsFinding, finding_is, enrols_assigned}
+use Rattle.dali_events.proofs.Invariant.Naming.{IsFinding, finding_is}
 
 -- RECORDS ARE KEPT, AND AN OUTSTANDING ONE MAY BE ADDED
 record IsNewRecord (kept : Kept) (x : Record) : Type 0 where
@@ -45,9 +45,7 @@ KeepsAs p c kept o f = Keeping (block_at p c) kept o f
 
 block_kept : (kept : Kept) (o : Option Record) → (with_outstanding kept o).block ≡ kept.block
 block_kept kept None = refl
-block_kept kept (Some (Reserve a r)) = refl
-block_kept kept (Some (Enrol a r)) = refl
-block_kept kept (Some (Release a r)) = refl
+block_kept kept (Some x) = block_stays kept x
 
 keep_all : (kept : Kept) (o : Option Record) → IsKept kept → ((x : Record) → o ≡ Some x → IsNewRecord kept x) → IsKept (with_outstanding kept o)
 keep_all kept None k new = k
@@ -93,8 +91,7 @@ order_keeps p plan w c there k (Commit (Enrol a r)) may = λ h. record {
   new = one_new k.records (Enrol a r) (record {
     may = may.1.2;
     fits = may.1.1;
-    short = enrolled_short (a, r) may.1.0.0
-        (enrols_assigned k.records.reserved may.1.0.0 (a, r) may.1.0.2) (h.finding may.1.0.0 may.1.0.1);
+    short = enrolled_short (a, r) may.1.0.0 (sym may.1.0.2) (h.finding may.1.0.0 may.1.0.1);
   });
   finding = h.finding;
 }
@@ -128,7 +125,15 @@ keeps_add p plan w (event.Sent c f h) here count = λ there k. record {
       (λ x e. finding_small (search_of (trace_running w c)) (asked_of (trace_running w c)) f h x
       (finding_is (search_of (trace_running w c)) (asked_of (trace_running w c)) (command_of f) h x e));
 }
-keeps_add p plan w _ here count = tt
+keeps_add p plan w (event.Offered c f) here count = tt
+keeps_add p plan w (event.Destroyed c f set) here count = tt
+keeps_add p plan w (event.Collided c f d g) here count = tt
+keeps_add p plan w event.Lapsed here count = tt
+keeps_add p plan w event.Quiet here count = tt
+keeps_add p plan w (event.Power g on) here count = tt
+keeps_add p plan w (event.Expired g) here count = tt
+keeps_add p plan w (event.Down c) here count = tt
+keeps_add p plan w (event.Up c kept) here count = tt
 
 record AllKeep (p : Plan) (cs : List Controller) : Type 0 where
   pub count : length cs ≡ length p.blocks

@@ -19,9 +19,9 @@ use Rattle.dali_script.specs.declared.finding.Finding.TheVariants.{Queried, Reso
 use Rattle.dali_script.specs.declared.records.Record.{Record}
 use Rattle.dali_script.specs.declared.records.Record.TheVariants.{Reserve, Enrol, Release}
 use Rattle.dali_script.specs.Records.{Assignment, Kept, Has}
-use Rattle.dali_script.specs.Findings.{search_of, Asked, nothing, high_byte, two_bytes, asked_of, found_by, spelled_by, assigned, MayEnrol, later}
+use Rattle.dali_script.specs.Findings.{search_of, Asked, nothing, high_byte, two_bytes, asked_of, found_by, spelled_by, assigned, later}
 use Rattle.dali_script.specs.Stages.{stage_of}
-use Rattle.dali_script.proofs.Lists.{has_cases}
+use Rattle.dali_script.proofs.Lists.{enrolled_by}
 use Rattle.dali_script.proofs.Transactions.{equal}
 use Rattle.dali_script.proofs.Found.{searched_lawful}
 use Rattle.dali_script.specs.declared.orders.Order.{Order}
@@ -64,12 +64,10 @@ Says N c kept o f = SaysOnly N kept o f
 keep_says : (N : Assignment → Type 0) (kept : Kept) (o : Option Record) → ((x : Assignment) → Has kept.enrolled x → N x) → SaysRecord N o
     → (x : Assignment) → Has (with_outstanding kept o).enrolled x → N x
 keep_says N kept None says is x h = says x h
-keep_says N kept (Some (Reserve a r)) says is x h = says x h
-keep_says N kept (Some (Release a r)) says is x h = says x h
-keep_says N kept (Some (Enrol a r)) says is x h = go (has_cases kept.enrolled (a, r) x h) where
-  go : Has kept.enrolled x ⊎ ((a, r) ≡ x) → N x
+keep_says N kept (Some y) says is x h = go (enrolled_by kept y x h) where
+  go : Has kept.enrolled x ⊎ (y ≡ Enrol x.0 x.1) → N x
   go (inl k) = says x k
-  go (inr e) = subst N e is
+  go (inr e) = subst (λ z. SaysRecord N (Some z)) e is
 
 pub says_stand : (N : Assignment → Type 0) → Stands (Says N)
 says_stand N = record {
@@ -77,11 +75,6 @@ says_stand N = record {
   drop = λ c kept o f h. record { enrolled = h.enrolled; outstanding = tt; finding = h.finding };
   forget = λ c kept o f h. record { enrolled = h.enrolled; outstanding = h.outstanding; finding = tt };
 }
-
--- what may be enrolled is the pair of a finding
-pub enrols_assigned : (reserved : List Assignment) (x : Finding) (p : Assignment) → MayEnrol reserved x p → p ≡ assigned x
-enrols_assigned reserved (Queried a r) p may = may
-enrols_assigned reserved (Resolved a r) p may = may.0
 
 says_finding : (N : Assignment → Type 0) (f : Option Finding) (x : Finding) → f ≡ Some x → SaysFinding N f → N (assigned x)
 says_finding N None x e h = absurd (cc)
@@ -92,8 +85,7 @@ says_order N w c k (Commit (Reserve a r)) may = λ h. record { enrolled = h.enro
 says_order N w c k (Commit (Enrol a r)) may =
     λ h. record {
       enrolled = h.enrolled;
-      outstanding = subst N (sym (enrols_assigned k.records.reserved may.1.0.0 (a, r) may.1.0.2))
-          (says_finding N k.finding may.1.0.0 may.1.0.1 h.finding);
+      outstanding = subst N may.1.0.2 (says_finding N k.finding may.1.0.0 may.1.0.1 h.finding);
       finding = h.finding;
     }
 says_order N w c k (Commit (Release a r)) may = λ h. record {
@@ -113,7 +105,16 @@ later_says N f (Some x) h new = new x refl
 abbrev pub FoundBy : (Assignment → Type 0) → World → Event → Type 0
 FoundBy N w (event.Sent c f h) =
     (x : Finding) → found_by (search_of (trace_running w c)) (asked_of (trace_running w c)) (command_of f) h ≡ Some x → N (assigned x)
-FoundBy N w _ = Unit {0}
+FoundBy N w (event.Acted c i o) = Unit {0}
+FoundBy N w (event.Offered c f) = Unit {0}
+FoundBy N w (event.Destroyed c f set) = Unit {0}
+FoundBy N w (event.Collided c f d g) = Unit {0}
+FoundBy N w event.Lapsed = Unit {0}
+FoundBy N w event.Quiet = Unit {0}
+FoundBy N w (event.Power g on) = Unit {0}
+FoundBy N w (event.Expired g) = Unit {0}
+FoundBy N w (event.Down c) = Unit {0}
+FoundBy N w (event.Up c kept) = Unit {0}
 
 pub says_add : (N : Assignment → Type 0) (w : World) (e : Event) → Allowed w e → FoundBy N w e → Adds (Says N) w e
 says_add N w (event.Acted c i o) here found = says_order N w c (controller_informed (controller_at w c) i) o here.order
@@ -122,7 +123,15 @@ says_add N w (event.Sent c f h) here found = λ there k. record {
   outstanding = k.outstanding;
   finding = later_says N (controller_at w c).finding (found_by (search_of (trace_running w c)) (asked_of (trace_running w c)) (command_of f) h) k.finding found;
 }
-says_add N w _ here found = tt
+says_add N w (event.Offered c f) here found = tt
+says_add N w (event.Destroyed c f set) here found = tt
+says_add N w (event.Collided c f d g) here found = tt
+says_add N w event.Lapsed here found = tt
+says_add N w event.Quiet here found = tt
+says_add N w (event.Power g on) here found = tt
+says_add N w (event.Expired g) here found = tt
+says_add N w (event.Down c) here found = tt
+says_add N w (event.Up c kept) here found = tt
 
 pub says_more : (N M : Assignment → Type 0) → ((x : Assignment) → N x → M x) → (kept : Kept) (o : Option Record) (f : Option Finding) → SaysOnly N kept o f
     → SaysOnly M kept o f

@@ -107,7 +107,16 @@ names_stay w v ch drawn keeps x n =
 found_of : (p : Plan) (w : World) (e : Event) (M : Assignment → Type 0) → Allowed w e → Holds p w → ((x : Assignment) → Names w x → M x) → FoundBy M w e
 found_of p w (event.Sent c f h) M here k more =
     λ x e. more (assigned x) (found_names (IsReserved w.controllers) w c f h here k.known k.gifts (tells_if (owns w.bus.owner c) w.trace w.gear k.tells) x e)
-found_of p w _ M here k more = tt
+found_of p w (event.Acted c i o) M here k more = tt
+found_of p w (event.Offered c f) M here k more = tt
+found_of p w (event.Destroyed c f set) M here k more = tt
+found_of p w (event.Collided c f d g) M here k more = tt
+found_of p w event.Lapsed M here k more = tt
+found_of p w event.Quiet M here k more = tt
+found_of p w (event.Power g on) M here k more = tt
+found_of p w (event.Expired g) M here k more = tt
+found_of p w (event.Down c) M here k more = tt
+found_of p w (event.Up c kept) M here k more = tt
 
 tells_sent : (p : Plan) (w : World) (c : ℕ) (f : Forward) (h : Answer) → Allowed w (event.Sent c f h) → Holds p w
     → Tells (asked_of (happens w (event.Sent c f h)).trace) (happens w (event.Sent c f h)).gear

@@ -58,7 +58,15 @@ stays_order N cs x c k (Halt fault) adds = tt
 stays_add : (N : Assignment → Type 0) (cs : List Controller) (x : Assignment) (w : World) (e : Event) → Adds (Says N) w e → Adds (Stays N cs x) w e
 stays_add N cs x w (event.Acted c i o) adds = stays_order N cs x c (controller_informed (controller_at w c) i) o adds
 stays_add N cs x w (event.Sent c f h) adds = λ there k. record { says = adds there k.says; still = k.still }
-stays_add N cs x w _ adds = tt
+stays_add N cs x w (event.Offered c f) adds = tt
+stays_add N cs x w (event.Destroyed c f set) adds = tt
+stays_add N cs x w (event.Collided c f d g) adds = tt
+stays_add N cs x w event.Lapsed adds = tt
+stays_add N cs x w event.Quiet adds = tt
+stays_add N cs x w (event.Power g on) adds = tt
+stays_add N cs x w (event.Expired g) adds = tt
+stays_add N cs x w (event.Down c) adds = tt
+stays_add N cs x w (event.Up c kept) adds = tt
 
 -- one event, by what controllers say before it and after it
 pub still_reserved : (N M : Assignment → Type 0) (x : Assignment) → Unopposed M x → (w : World) (e : Event) → Allowed w e → ((y : Assignment) → N y → M y)

@@ -21,11 +21,13 @@ loop-number-preserved c =
     let enrolled = c.enrolled_marks-enrolled.ensures in
     let shut : is_open k c.args.heard n ≡ false = elim c.if-not-reserved-place.branch [
       | then-not-reserved-place+then-not-enrolled-place+in_ok-short+else-not-has w ↦
-          tested false false true reserved enrolled small (mark_at _ _ n _ c.from-place.ensures w.if-not-reserved-place.true) (mark_at _ _ n _ c.from-place.ensures w.if-not-enrolled-place.true)
+          tested false false true reserved enrolled small (mark_at _ _ n _ c.from-place.ensures w.if-not-reserved-place.true)
+          (mark_at _ _ n _ c.from-place.ensures w.if-not-enrolled-place.true)
           (subst (λ s. has_short c.args.heard s ≡ true) w.in_ok-short.ensures.value (sym w.has.ensures ∙ w.if-not-has.false))
       | else-not-reserved-place w ↦ elim w.else-not-reserved-place.branch [
         | else-not-reserved-place-via-then-not-reserved-place+else-not-enrolled-place v ↦
-            tested false true (has_short c.args.heard n) reserved enrolled small (mark_at _ _ n _ c.from-place.ensures v.if-not-reserved-place.true) (mark_at _ _ n _ c.from-place.ensures v.if-not-enrolled-place.false) refl
+            tested false true (has_short c.args.heard n) reserved enrolled small (mark_at _ _ n _ c.from-place.ensures v.if-not-reserved-place.true)
+            (mark_at _ _ n _ c.from-place.ensures v.if-not-enrolled-place.false) refl
         | else-not-reserved-place-via-else-not-reserved-place v ↦
             tested true _ (has_short c.args.heard n) reserved enrolled small (mark_at _ _ n _ c.from-place.ensures v.if-not-reserved-place.false) refl refl
       ]

@@ -1,7 +1,8 @@
 use Rattle.std.proofs.Common.{sym, ◌∙◌, subst}
 use Rattle.dali_script.specs.Records.{Has}
 use Rattle.dali_controller.specs.Parts.{with_kept}
-use Rattle.dali_controller.proofs.Steps.{withheld_left, withheld_searching, gives_masked, sends_program}
+use Rattle.dali_controller.proofs.Leaving.{withheld_left, withheld_searching, gives_masked}
+use Rattle.dali_controller.proofs.Steps.{sends_program}
 use Rattle.dali_controller.proofs.state.State.give.Goals as goal
 
 pub leave-requires-clause-opened : goal.leave-requires-clause-opened

@@ -1,6 +1,6 @@
 use Rattle.std.proofs.Common.{sym, ◌∙◌}
 use Rattle.dali_controller.specs.Parts.{with_kept}
-use Rattle.dali_controller.proofs.Steps.{leaves}
+use Rattle.dali_controller.proofs.Leaving.{leaves}
 use Rattle.dali_controller.proofs.state.State.leave.Goals as goal
 
 pub close-requires : goal.close-requires

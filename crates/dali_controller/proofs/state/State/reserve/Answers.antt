@@ -1,5 +1,5 @@
 use Rattle.dali_controller.specs.Parts.{with_kept}
-use Rattle.dali_controller.proofs.Steps.{free_searching, reservable, reserves, unfree_left}
+use Rattle.dali_controller.proofs.Leaving.{free_searching, reservable, reserves, unfree_left}
 use Rattle.dali_controller.proofs.state.State.reserve.Goals as goal
 
 pub commit-requires-clause-fits : goal.commit-requires-clause-fits
@@ -21,6 +21,7 @@ leave-requires-clause-ungiven c =
 
 pub returns-in-Some-clause-next : goal.returns-in-Some-clause-next
 returns-in-Some-clause-next c =
-    reserves (with_kept c.args.self.now c.args.kept.now) c.args.number c.in-Some.short c.value.result _ _ c.requires.kept.reserved c.requires.heard c.requires.free
+    reserves (with_kept c.args.self.now c.args.kept.now) c.args.number c.in-Some.short c.value.result _ _ c.requires.kept.reserved c.requires.heard
+    c.requires.free
     c.in-Some.ensures c.value.ensures
     c.commit.ensures.order c.commit.ensures.state

@@ -1,6 +1,6 @@
 use Rattle.std.proofs.Common.{◌≡◌, arith}
 use Rattle.std.proofs.lemmas.Bool.Decides.{nat_tests}
-use Rattle.dali_controller.proofs.Steps.{contradicts_by_random, halts_by_address, halts_by_random, enrols}
+use Rattle.dali_controller.proofs.Settling.{contradicts_by_random, halts_by_address, halts_by_random, enrols}
 use Rattle.dali_controller.specs.Parts.{with_kept}
 use Rattle.dali_controller.proofs.state.State.settle.Goals as goal
 

@@ -1,0 +1,230 @@
+use Rattle.std.proofs.Common.{map, take, lit<, length, get_or, ◌≡◌, ◌⊎◌, inl, inr, ℕ, ◌+◌, ◌<◌, ◌≤◌, Bool, true, false, List, [], ◌∷◌, ◌++◌, refl, sym, ap}
+use Rattle.std.proofs.Common.{subst, ◌∙◌, arith, Option, Some, None}
+use Rattle.std.specs.Prelude.{◌==◌, ◌&&◌, not, is_some, if◌then◌else◌}
+use Rattle.dali_frame.specs.declared.frames.Forward.{Forward}
+use Rattle.dali_frame.specs.declared.frames.Answer.{Answer}
+use Rattle.dali_frame.specs.declared.frames.Answer.TheVariants.{Silence, Byte, Damaged}
+use Rattle.dali_frame.specs.declared.numbers.SearchAddress.{SearchAddress}
+use Rattle.dali_frame.specs.Short.{short_of}
+use Rattle.dali_frame.specs.Random.{value_of, MASK24}
+use Rattle.dali_frame.specs.Priority.{FIRST, LATER}
+use Rattle.dali_special.specs.declared.command.Target.TheVariants.{Unaddressed}
+use Rattle.dali_special.specs.declared.command.Part.TheVariants.{Middle, Low}
+use Rattle.dali_special.specs.declared.command.Command.{Command}
+use Rattle.dali_special.specs.declared.command.Command.TheVariants.{Terminate, Initialise, Randomise, Compare, Withdraw, SearchMiddle, SearchLow, Program}
+use Rattle.dali_special.specs.declared.command.Command.TheVariants.{QueryShort, RandomByte, Arc}
+use Rattle.dali_special.specs.Command.{MASK, command_of, frame_of, IsSpelled}
+use Rattle.dali_special.proofs.Table.{read_written}
+use Rattle.dali_script.specs.declared.block.Block.{Block}
+use Rattle.dali_script.specs.declared.trace.Entry.{Entry}
+use Rattle.dali_script.specs.declared.finding.Finding.{Finding}
+use Rattle.dali_script.specs.declared.finding.Finding.TheVariants.{Queried, Resolved}
+use Rattle.dali_script.specs.declared.records.Record.{Record}
+use Rattle.dali_script.specs.declared.records.Record.TheVariants.{Reserve, Enrol}
+use Rattle.dali_script.specs.declared.stage.Stage.{Stage}
+use Rattle.dali_script.specs.declared.stage.Stage.TheVariants.{Free, Terminated, InitialisedOnce, Initialised, RandomisedOnce, Opened, HighSent, MiddleSent}
+use Rattle.dali_script.specs.declared.stage.Stage.TheVariants.{NumberSent, Found, Unnamed, Unanswered, Inconclusive, Programmed, Confirmed, Withdrawn}
+use Rattle.dali_script.specs.declared.stage.Stage.TheVariants.{HighAsked, MiddleAsked, Spelled}
+use Rattle.dali_script.specs.Records.{IsKept, IsMap, IsOnce, InBlock, with_record, HasAddress, Kept, Assignment, Has, HasRandom, Fits, MayAdd}
+use Rattle.dali_script.specs.Scripts.{MayGive, Lawful}
+use Rattle.dali_script.specs.Findings.{later, finding_of}
+use Rattle.dali_script.specs.Stages.{byte_heard, bytes_heard, finding_at, stage_of, next_stage, queried, named, verified, answered, Follows}
+use Rattle.dali_script.proofs.Transactions.{self, middle_next, low_next, turn, gives, lawful_follows, stage_none, stage_more}
+use Rattle.dali_script.proofs.Found.{finding_after}
+use Rattle.dali_search.specs.declared.step.Step.TheVariants.{Again}
+use Rattle.dali_script.proofs.Lists.{has_map, has_last, once_before}
+use Rattle.dali_search.specs.Least.{Search}
+use Rattle.dali_script.specs.declared.orders.Order.{Order}
+use Rattle.dali_script.specs.declared.orders.Order.TheVariants.{Put, Commit, Done, Halt}
+use Rattle.dali_script.specs.declared.orders.End.{End}
+use Rattle.dali_script.specs.declared.orders.Fault.TheVariants as fault
+use Rattle.dali_script.specs.declared.orders.End.TheVariants.{AllFound, BlockFull, GaveUp}
+use Rattle.dali_script.specs.declared.orders.Due.TheVariants as due
+use Rattle.dali_controller.specs.declared.purpose.Purpose.{Purpose}
+use Rattle.dali_controller.specs.declared.purpose.Purpose.TheVariants.{Opening, Probing, Visiting, Resolving, Closing, Asking, Waking}
+use Rattle.dali_controller.specs.declared.shorts.Shorts.{Shorts}
+use Rattle.dali_controller.specs.declared.way.Way.{Way}
+use Rattle.dali_controller.specs.declared.way.Way.TheVariants.{Fresh, Surveying, Drawing}
+use Rattle.dali_controller.specs.Parts.{Parts}
+use Rattle.dali_script.specs.Due.{due_after, frame_put}
+use Rattle.dali_controller.specs.Course.{Course, first_of, turn_of, closing_of, drawing, address_for, least_open, is_anothers}
+use Rattle.dali_controller.specs.Machine.{machine_lost, Machine, opened_after, woken_after, silent_after, tries_after}
+use Rattle.dali_controller.specs.Next.{begins_at, course_by, beginning, next_course, draws, draw_or_close, is_withheld, is_withheld_by}
+use Rattle.dali_controller.proofs.Courses.{address_is}
+use Rattle.dali_controller.proofs.Asked.{least_open_is, open_unreserved}
+use Rattle.dali_controller.specs.Orders.{Contradicts, IsBegun, AfterReserved, AfterMaskBy, AfterMaskOn, AfterMaskSurveyed, IsOrderedTo, IsSought, IsLeft}
+use Rattle.dali_controller.specs.Orders.{MayEnrolOn, is_left, is_left_by, machine_ordered}
+use Rattle.dali_controller.specs.Orders.{running_close}
+use Rattle.dali_controller.specs.Parts.{parts_course, machine_of}
+use Rattle.dali_controller.specs.Whole.{IsWhole, Sends, Knows, IsEarly, IsWithinSilence, IsReady, IsSending, Pending}
+use Rattle.dali_controller.specs.Moments.{FoundAt, IsBetween, Closes, Settles, Arrived, KnowsAt, KnowsWoken, CalmAt, IsHeard, Turns, Begins, IsNext}
+use Rattle.dali_controller.specs.Moments.{Draws, IsFirstFree, IsUngiven, IsNextTo}
+use Rattle.dali_controller.proofs.Steps.{IsMasked, calm_less, but_course}
+
+-- GEAR THAT ANSWERED MASK is given what is reserved for it, or an address is reserved, or it is left.
+
+-- In a survey what is reserved may be another's: then it is not given.
+reserved_for : (k : Kept) (r a : ℕ) → IsKept k → Has k.reserved (a, r) → Some a ≡ address_for k.reserved r
+reserved_for k r a kept has = address_is k.reserved r (Some a) kept.reserved.random_once has
+
+withheld_opened : (o b : Bool) → (o && b) ≡ true → o ≡ true
+withheld_opened true b e = refl
+withheld_opened false b e = absurd (cc)
+
+withheld_by : (y : Way) (t : Machine) (a r : ℕ) → is_withheld_by t y a r ≡ true → t.opened ≡ true
+withheld_by Fresh t a r e = absurd (cc)
+withheld_by Surveying t a r e = withheld_opened t.opened (is_anothers t.kept t.heard a r) e
+withheld_by Drawing t a r e = withheld_opened t.opened (is_anothers t.kept t.heard a r) e
+
+pub withheld_searching : (w : Parts) (a m : ℕ) → is_withheld (machine_of w) a m ≡ true → w.opened ≡ true
+withheld_searching w a m e = withheld_by w.way (machine_of w) a m e
+
+left_by_withheld : (y : Way) (w : Parts) (r : SearchAddress) (a : ℕ) → w.way ≡ y → IsKept w.kept → Has w.kept.reserved (a, value_of r)
+    → is_withheld (machine_of w) a (value_of r) ≡ true → IsUngiven y w r
+left_by_withheld Fresh w r a way kept has withheld =
+    absurd (let no : is_withheld_by (machine_of w) Fresh a (value_of r) ≡ true =
+    subst (λ y. is_withheld_by (machine_of w) y a (value_of r) ≡ true) way withheld in cc)
+left_by_withheld Surveying w r a way kept has withheld =
+    ap (λ o. is_left_by (machine_of w) (value_of r) o (least_open w.kept w.heard)) (sym (reserved_for w.kept (value_of r) a kept has)) ∙ withheld
+left_by_withheld Drawing w r a way kept has withheld =
+    ap (λ o. is_left_by (machine_of w) (value_of r) o (least_open w.kept w.heard)) (sym (reserved_for w.kept (value_of r) a kept has)) ∙ withheld
+
+pub withheld_left : (w : Parts) (r : SearchAddress) (a m : ℕ) → IsKept w.kept → Has w.kept.reserved (a, value_of r) → m ≡ value_of r
+    → is_withheld (machine_of w) a m ≡ true → IsUngiven w.way w r
+withheld_left w r a m kept has is withheld =
+    left_by_withheld w.way w r a refl kept has (ap (is_withheld (machine_of w) a) (sym is) ∙ withheld)
+
+given_surveyed : (w : Parts) (r : SearchAddress) (a : ℕ) → IsKept w.kept → Has w.kept.reserved (a, value_of r)
+    → is_withheld (machine_of w) a (value_of r) ≡ false → AfterMaskSurveyed (machine_of w) r (Put LATER (frame_of (Program (Some a))))
+given_surveyed w r a kept has given =
+    let o : Order = Put LATER (frame_of (Program (Some a))) in
+    let here : AfterReserved (machine_of w) a (is_withheld (machine_of w) a (value_of r)) o =
+    subst (λ b. AfterReserved (machine_of w) a b o) (sym given) refl in
+    subst (λ x. AfterMaskBy (machine_of w) r x (least_open w.kept w.heard) o) (reserved_for w.kept (value_of r) a kept has) here
+
+given_masked : (y : Way) (w : Parts) (r : SearchAddress) (a : ℕ) → IsKept w.kept → Has w.kept.reserved (a, value_of r)
+    → is_withheld (machine_of w) a (value_of r) ≡ false → AfterMaskOn y (machine_of w) (parts_course w) r (Put LATER (frame_of (Program (Some a))))
+given_masked Fresh w r a kept has given = inl (a, has, refl, refl)
+given_masked Surveying w r a kept has given = given_surveyed w r a kept has given
+given_masked Drawing w r a kept has given = given_surveyed w r a kept has given
+
+same_unnamed : (r q : SearchAddress) → Unnamed r ≡ Unnamed q → r ≡ q
+same_unnamed r q e = cc
+
+pub gives_masked : (w : Parts) (r : SearchAddress) (a m : ℕ) → IsHeard w (Unnamed r) → IsKept w.kept → Has w.kept.reserved (a, value_of r) → m ≡ value_of r
+    → is_withheld (machine_of w) a m ≡ false → IsMasked w (Put LATER (frame_of (Program (Some a))))
+gives_masked w r a m h kept has is given q stage =
+    subst (λ x. AfterMaskOn w.way (machine_of w) (parts_course w) x (Put LATER (frame_of (Program (Some a)))))
+    (same_unnamed r q (sym h.stage ∙ stage)) (given_masked w.way w r a kept has (ap (is_withheld (machine_of w) a) (sym is) ∙ given))
+
+-- gear that answered MASK and for whose number nothing is reserved is found by a search
+pub free_searching : (w : Parts) (r : SearchAddress) → IsHeard w (Unnamed r) → (HasRandom w.kept.reserved (value_of r) → ⊥) → w.opened ≡ true
+free_searching w r h free =
+    let visiting : Knows w.way w.kept w.number w.search w.opened Visiting = subst (Knows w.way w.kept w.number w.search w.opened) h.arrived.0 h.knows in
+    go w.opened (λ e. subst (λ q. HasRandom w.kept.reserved (value_of q)) (sym h.arrived.1) (visiting.1 e)) where
+      go : (o : Bool) → (o ≡ false → HasRandom w.kept.reserved (value_of r)) → o ≡ true
+      go true early = refl
+      go false early = absurd (free (early refl))
+
+-- The next free address is reserved; there is none where nothing is given.
+free_within : (y : Way) (k : Kept) (heard : Shorts) (a : ℕ) → IsFirstFree y k heard (Some a) → InBlock k.block a × (HasAddress k.reserved a → ⊥)
+free_within Fresh k heard a is = (is.within, is.free)
+free_within Surveying k heard a is = let x = least_open_is k heard a (sym is) in (x.0, open_unreserved k heard a x.1)
+free_within Drawing k heard a is = let x = least_open_is k heard a (sym is) in (x.0, open_unreserved k heard a x.1)
+
+none_reserved_for : (k : Kept) (r : ℕ) → IsMap k.reserved → (HasRandom k.reserved r → ⊥) → None ≡ address_for k.reserved r
+none_reserved_for k r map free = address_is k.reserved r None map.random_once free
+
+pub unfree_left : (y : Way) (w : Parts) (r : SearchAddress) → IsMap w.kept.reserved → (HasRandom w.kept.reserved (value_of r) → ⊥)
+    → IsFirstFree y w.kept w.heard None → IsUngiven y w r
+unfree_left Fresh w r map free is = (free, is)
+unfree_left Surveying w r map free is =
+    ap (λ o. is_left_by (machine_of w) (value_of r) o (least_open w.kept w.heard)) (sym (none_reserved_for w.kept (value_of r) map free))
+    ∙ ap (λ o. not (is_some o)) (sym is)
+unfree_left Drawing w r map free is =
+    ap (λ o. is_left_by (machine_of w) (value_of r) o (least_open w.kept w.heard)) (sym (none_reserved_for w.kept (value_of r) map free))
+    ∙ ap (λ o. not (is_some o)) (sym is)
+
+reserved_surveyed : (w : Parts) (r : SearchAddress) (a m : ℕ) → IsMap w.kept.reserved → (HasRandom w.kept.reserved (value_of r) → ⊥)
+    → Some a ≡ least_open w.kept w.heard → m ≡ value_of r → AfterMaskSurveyed (machine_of w) r (Commit (Reserve a m))
+reserved_surveyed w r a m map free is same =
+    subst (λ x. AfterMaskBy (machine_of w) r x (least_open w.kept w.heard) (Commit (Reserve a m))) (none_reserved_for w.kept (value_of r) map free)
+    (subst (λ x. AfterMaskBy (machine_of w) r None x (Commit (Reserve a m))) is (ap (λ n. Commit (Reserve a n)) same))
+
+reserved_masked : (y : Way) (w : Parts) (c : Course) (r : SearchAddress) (a m : ℕ) → IsMap w.kept.reserved → (HasRandom w.kept.reserved (value_of r) → ⊥)
+    → IsFirstFree y w.kept w.heard (Some a) → m ≡ value_of r → AfterMaskOn y (machine_of w) c r (Commit (Reserve a m))
+reserved_masked Fresh w c r a m map free is same = (sym same, subst (λ n. HasRandom w.kept.reserved n → ⊥) (sym same) free, is)
+reserved_masked Surveying w c r a m map free is same = reserved_surveyed w r a m map free is same
+reserved_masked Drawing w c r a m map free is same = reserved_surveyed w r a m map free is same
+
+-- what may be reserved for gear that answered MASK
+pub record IsReservable (w : Parts) (a m : ℕ) : Type 0 where
+  pub fits : Fits w.kept.block (Reserve a m)
+  pub may : MayAdd w.kept (Reserve a m)
+
+pub reservable : (w : Parts) (r : SearchAddress) (a m : ℕ) → IsHeard w (Unnamed r) → (HasRandom w.kept.reserved (value_of r) → ⊥)
+    → IsFirstFree w.way w.kept w.heard (Some a) → m ≡ value_of r → IsReservable w a m
+reservable w r a m h free is same =
+    let visiting : Knows w.way w.kept w.number w.search w.opened Visiting = subst (Knows w.way w.kept w.number w.search w.opened) h.arrived.0 h.knows in
+    let x = free_within w.way w.kept w.heard a is in
+    let drawn : value_of r < MASK24 = subst (λ q. value_of q < MASK24) (sym h.arrived.1) visiting.0 in
+    record {
+      fits = (x.0, subst (λ n. n < MASK24) (sym same) drawn);
+      may = (x.1, subst (λ n. HasRandom w.kept.reserved n → ⊥) (sym same) free);
+    }
+
+reserves_at : (w : Parts) (c : Course) (r : SearchAddress) (a m : ℕ) → IsMap w.kept.reserved → IsHeard w (Unnamed r)
+    → (HasRandom w.kept.reserved (value_of r) → ⊥) → IsFirstFree w.way w.kept w.heard (Some a) → m ≡ value_of r
+    → IsOrderedTo (machine_of w) c (Commit (Reserve a m))
+reserves_at w c r a m map h free is same =
+    let tries : w.tries < 8 = h.tries in
+    let going : closing_of w.purpose ≡ None = ap closing_of h.arrived.0 in
+    let calm : w.silent < 16 = calm_less w.purpose w.silent going h.calm in
+    let may = reservable w r a m h free is same in
+    let stage : stage_of w.trace ≡ Unnamed r = h.stage in
+    record {
+      allowed = record { fits = may.fits; may = may.may; warranted = (r, h.stage, sym same) };
+      addressing = tt;
+      caused = going;
+      given_up = λ e. absurd (omega arith);
+      silent = λ e. absurd (omega arith);
+      unnamed = λ q e. subst (λ x. AfterMaskOn w.way (machine_of w) c x (Commit (Reserve a m))) (same_unnamed r q (sym stage ∙ e))
+          (reserved_masked w.way w c r a m map free is same);
+      found = λ q b e. absurd (cc);
+    }
+
+pub reserves : (w : Parts) (r : SearchAddress) (a m : ℕ) (o : Order) (new : Machine) → IsMap w.kept.reserved → IsHeard w (Unnamed r)
+    → (HasRandom w.kept.reserved (value_of r) → ⊥) → IsFirstFree w.way w.kept w.heard (Some a) → m ≡ value_of r
+    → o ≡ Commit (Reserve a m) → new ≡ machine_ordered (machine_of w) o → IsNext (machine_of w) o new
+reserves w r a m o new map h free is same order state = record {
+  order = subst (IsOrderedTo (machine_of w) new.course) (sym order) (reserves_at w new.course r a m map h free is same);
+  state = but_course new (machine_ordered (machine_of w) o) state;
+}
+
+-- gear that is left
+left_closes : (y : Way) (w : Parts) (r : SearchAddress) → w.way ≡ y → stage_of w.trace ≡ Unnamed r → draws (machine_of w) ≡ false → IsUngiven y w r
+    → IsLeft (machine_of w) y (value_of r) × IsNextTo y w (Closing BlockFull) w.number
+left_closes y w r way stage undrawn ungiven = go y ungiven where
+  next : Put FIRST (frame_of (first_of (Closing BlockFull) w.number)) ≡ beginning (next_course (machine_of w))
+  next = sym (ap beginning (ap (begins_at (machine_of w)) stage ∙ ap (λ b. draw_or_close b (parts_course w) BlockFull) undrawn))
+
+  go : (y : Way) → IsUngiven y w r → IsLeft (machine_of w) y (value_of r) × IsNextTo y w (Closing BlockFull) w.number
+  go Fresh ungiven = (ungiven, refl)
+  go Surveying ungiven = ((ungiven, undrawn), next)
+  go Drawing ungiven = ((ungiven, undrawn), next)
+
+pub leaves : (w : Parts) (r : SearchAddress) → IsHeard w (Unnamed r) → w.opened ≡ true → IsUngiven w.way w r → draws (machine_of w) ≡ false
+    → Closes w BlockFull
+leaves w r h opened ungiven undrawn =
+    let going : closing_of w.purpose ≡ None = ap closing_of h.arrived.0 in
+    let calm : w.silent < 16 = calm_less w.purpose w.silent going h.calm in
+    let left = left_closes w.way w r refl h.stage undrawn ungiven in
+    record {
+      tries = h.tries;
+      calm = calm;
+      opened = opened;
+      going = going;
+      cause = (r, h.stage, left.0);
+      unnamed = λ q e. (subst (IsUngiven w.way w) (same_unnamed r q (sym h.stage ∙ e)) ungiven, left.1);
+      found = λ q b e. let other : Unnamed r ≡ Withdrawn q b = sym h.stage ∙ e in cc;
+    }

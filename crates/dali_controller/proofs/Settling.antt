@@ -1,0 +1,214 @@
+use Rattle.std.proofs.Common.{map, take, lit<, length, get_or, ◌≡◌, ◌⊎◌, inl, inr, ℕ, ◌+◌, ◌<◌, ◌≤◌, Bool, true, false, List, [], ◌∷◌, ◌++◌, refl, sym, ap}
+use Rattle.std.proofs.Common.{subst, ◌∙◌, arith, Option, Some, None}
+use Rattle.std.specs.Prelude.{◌==◌, ◌&&◌, not, is_some, if◌then◌else◌}
+use Rattle.dali_frame.specs.declared.frames.Forward.{Forward}
+use Rattle.dali_frame.specs.declared.frames.Answer.{Answer}
+use Rattle.dali_frame.specs.declared.frames.Answer.TheVariants.{Silence, Byte, Damaged}
+use Rattle.dali_frame.specs.declared.numbers.SearchAddress.{SearchAddress}
+use Rattle.dali_frame.specs.Short.{short_of}
+use Rattle.dali_frame.specs.Random.{value_of, MASK24}
+use Rattle.dali_frame.specs.Priority.{FIRST, LATER}
+use Rattle.dali_special.specs.declared.command.Target.TheVariants.{Unaddressed}
+use Rattle.dali_special.specs.declared.command.Part.TheVariants.{Middle, Low}
+use Rattle.dali_special.specs.declared.command.Command.{Command}
+use Rattle.dali_special.specs.declared.command.Command.TheVariants.{Terminate, Initialise, Randomise, Compare, Withdraw, SearchMiddle, SearchLow, Program}
+use Rattle.dali_special.specs.declared.command.Command.TheVariants.{QueryShort, RandomByte, Arc}
+use Rattle.dali_special.specs.Command.{MASK, command_of, frame_of, IsSpelled}
+use Rattle.dali_special.proofs.Table.{read_written}
+use Rattle.dali_script.specs.declared.block.Block.{Block}
+use Rattle.dali_script.specs.declared.trace.Entry.{Entry}
+use Rattle.dali_script.specs.declared.finding.Finding.{Finding}
+use Rattle.dali_script.specs.declared.finding.Finding.TheVariants.{Queried, Resolved}
+use Rattle.dali_script.specs.declared.records.Record.{Record}
+use Rattle.dali_script.specs.declared.records.Record.TheVariants.{Reserve, Enrol}
+use Rattle.dali_script.specs.declared.stage.Stage.{Stage}
+use Rattle.dali_script.specs.declared.stage.Stage.TheVariants.{Free, Terminated, InitialisedOnce, Initialised, RandomisedOnce, Opened, HighSent, MiddleSent}
+use Rattle.dali_script.specs.declared.stage.Stage.TheVariants.{NumberSent, Found, Unnamed, Unanswered, Inconclusive, Programmed, Confirmed, Withdrawn}
+use Rattle.dali_script.specs.declared.stage.Stage.TheVariants.{HighAsked, MiddleAsked, Spelled}
+use Rattle.dali_script.specs.Records.{IsKept, IsMap, IsOnce, InBlock, with_record, HasAddress, Kept, Assignment, Has, HasRandom, Fits, MayAdd}
+use Rattle.dali_script.specs.Scripts.{MayGive, Lawful}
+use Rattle.dali_script.specs.Findings.{later, finding_of}
+use Rattle.dali_script.specs.Stages.{byte_heard, bytes_heard, finding_at, stage_of, next_stage, queried, named, verified, answered, Follows}
+use Rattle.dali_script.proofs.Transactions.{self, middle_next, low_next, turn, gives, lawful_follows, stage_none, stage_more}
+use Rattle.dali_script.proofs.Found.{finding_after}
+use Rattle.dali_search.specs.declared.step.Step.TheVariants.{Again}
+use Rattle.dali_script.proofs.Lists.{has_map, has_last, once_before}
+use Rattle.dali_search.specs.Least.{Search}
+use Rattle.dali_script.specs.declared.orders.Order.{Order}
+use Rattle.dali_script.specs.declared.orders.Order.TheVariants.{Put, Commit, Done, Halt}
+use Rattle.dali_script.specs.declared.orders.End.{End}
+use Rattle.dali_script.specs.declared.orders.Fault.TheVariants as fault
+use Rattle.dali_script.specs.declared.orders.End.TheVariants.{AllFound, BlockFull, GaveUp}
+use Rattle.dali_script.specs.declared.orders.Due.TheVariants as due
+use Rattle.dali_controller.specs.declared.purpose.Purpose.{Purpose}
+use Rattle.dali_controller.specs.declared.purpose.Purpose.TheVariants.{Opening, Probing, Visiting, Resolving, Closing, Asking, Waking}
+use Rattle.dali_controller.specs.declared.shorts.Shorts.{Shorts}
+use Rattle.dali_controller.specs.declared.way.Way.{Way}
+use Rattle.dali_controller.specs.declared.way.Way.TheVariants.{Fresh, Surveying, Drawing}
+use Rattle.dali_controller.specs.Parts.{Parts}
+use Rattle.dali_script.specs.Due.{due_after, frame_put}
+use Rattle.dali_controller.specs.Course.{Course, first_of, turn_of, closing_of, drawing, address_for, least_open, is_anothers}
+use Rattle.dali_controller.specs.Machine.{machine_lost, Machine, opened_after, woken_after, silent_after, tries_after}
+use Rattle.dali_controller.specs.Next.{begins_at, course_by, beginning, next_course, draws, draw_or_close, is_withheld, is_withheld_by}
+use Rattle.dali_controller.proofs.Courses.{address_is}
+use Rattle.dali_controller.proofs.Asked.{least_open_is, open_unreserved}
+use Rattle.dali_controller.specs.Orders.{Contradicts, IsBegun, AfterReserved, AfterMaskBy, AfterMaskOn, AfterMaskSurveyed, IsOrderedTo, IsSought, IsLeft}
+use Rattle.dali_controller.specs.Orders.{MayEnrolOn, is_left, is_left_by, machine_ordered}
+use Rattle.dali_controller.specs.Orders.{running_close}
+use Rattle.dali_controller.specs.Parts.{parts_course, machine_of}
+use Rattle.dali_controller.specs.Whole.{IsWhole, Sends, Knows, IsEarly, IsWithinSilence, IsReady, IsSending, Pending}
+use Rattle.dali_controller.specs.Moments.{FoundAt, IsBetween, Closes, Settles, Arrived, KnowsAt, KnowsWoken, CalmAt, IsHeard, Turns, Begins, IsNext}
+use Rattle.dali_controller.specs.Moments.{Draws, IsFirstFree, IsUngiven, IsNextTo}
+use Rattle.dali_controller.proofs.Steps.{calm_less, but_course}
+
+-- TO SETTLE
+same_address : (r q : SearchAddress) (b d : ℕ) → Withdrawn r b ≡ Withdrawn q d → b ≡ d
+same_address r q b d e = cc
+
+same_number : (r q : SearchAddress) (b d : ℕ) → Withdrawn r b ≡ Withdrawn q d → r ≡ q
+same_number r q b d e = cc
+
+-- what was withdrawn, or has told its random address, may be enrolled
+may_queried : (y : Way) (reserved : List Assignment) (b r : ℕ) → MayEnrolOn y reserved (Queried b r) (b, r)
+may_queried Fresh reserved b r = refl
+may_queried Surveying reserved b r = refl
+may_queried Drawing reserved b r = refl
+
+may_resolved : (y : Way) (reserved : List Assignment) (b n : ℕ) → Has reserved (b, n) → MayEnrolOn y reserved (Resolved b n) (b, n)
+may_resolved Fresh reserved b n has = (refl, has)
+may_resolved Surveying reserved b n has = refl
+may_resolved Drawing reserved b n has = refl
+
+pub settles_withdrawn : (w : Parts) (r : SearchAddress) (b n : ℕ) → IsHeard w (Withdrawn r b) → n ≡ value_of r → Settles w b n
+settles_withdrawn w r b n h is =
+    let stage : stage_of w.trace ≡ Withdrawn r b = h.stage in
+    let visiting : Knows w.way w.kept w.number w.search w.opened Visiting = subst (Knows w.way w.kept w.number w.search w.opened) h.arrived.0 h.knows in
+    subst (Settles w b) (sym is) (record {
+      ready = record { tries = h.tries; calm = h.calm; knows = h.knows };
+      going = ap closing_of h.arrived.0;
+      drawn = subst (λ x. value_of x < MASK24) (sym h.arrived.1) visiting.0;
+      found = Queried b (value_of r);
+      is = refl;
+      may = may_queried w.way w.kept.reserved b (value_of r);
+      finding = h.finding;
+      trace_finding = h.trace_finding;
+      next = ap (begins_at (machine_of w)) stage;
+      unnamed = λ q e. absurd (cc);
+      withdrawn = λ q c e. let there : Withdrawn r b ≡ Withdrawn q c =
+          sym stage ∙ e in (same_address q r c b (sym there), ap value_of (same_number q r c b (sym there)));
+    })
+
+-- what the queries of a random address told, of a reservation or in a survey
+record IsTold (w : Parts) (b n : ℕ) : Type 0 where
+  pub going : closing_of w.purpose ≡ None
+  pub drawn : n < MASK24
+  pub may : MayEnrolOn w.way w.kept.reserved (Resolved b n) (b, n)
+
+told_by : (w : Parts) (b n : ℕ) → IsReady (machine_of w) → (w.purpose ≡ Resolving b) ⊎ (w.purpose ≡ Asking b) → IsSought w.purpose w.number n
+    → IsTold w b n
+told_by w b n ready (inl is) sought =
+    let resolving : Knows w.way w.kept w.number w.search w.opened (Resolving b) = subst (Knows w.way w.kept w.number w.search w.opened) is ready.knows in
+    let same : n ≡ value_of w.number = subst (λ p. IsSought p w.number n) is sought in
+    record {
+      going = ap closing_of is;
+      drawn = subst (λ x. x < MASK24) (sym same) resolving.1;
+      may = may_resolved w.way w.kept.reserved b n (subst (λ x. Has w.kept.reserved (b, x)) (sym same) resolving.3);
+    }
+told_by w b n ready (inr is) sought =
+    let asking : Knows w.way w.kept w.number w.search w.opened (Asking b) = subst (Knows w.way w.kept w.number w.search w.opened) is ready.knows in
+    record {
+      going = ap closing_of is;
+      drawn = subst (λ p. IsSought p w.number n) is sought;
+      may = rw asking.1 refl;
+    }
+
+pub settles_resolved : (w : Parts) (b n : ℕ) → IsHeard w (Spelled b (Some n)) → IsSought w.purpose w.number n → Settles w b n
+settles_resolved w b n h sought =
+    let stage : stage_of w.trace ≡ Spelled b (Some n) = h.stage in
+    let ready : IsReady (machine_of w) = record { tries = h.tries; calm = h.calm; knows = h.knows } in
+    let told = told_by w b n ready h.arrived sought in
+    record {
+      ready = ready;
+      going = told.going;
+      drawn = told.drawn;
+      found = Resolved b n;
+      is = refl;
+      may = told.may;
+      finding = h.finding;
+      trace_finding = h.trace_finding;
+      next = ap (begins_at (machine_of w)) stage;
+      unnamed = λ q e. absurd (cc);
+      withdrawn = λ q c e. absurd (cc);
+    }
+
+-- the count of silent searches is below its limit
+settled_calm : (w : Parts) (b n : ℕ) → Settles w b n → w.silent < 16
+settled_calm w b n h = calm_less w.purpose w.silent h.going h.ready.calm
+
+halted_at : (w : Parts) (c : Course) (b n : ℕ) → Settles w b n → Contradicts w.kept.enrolled b n → IsOrderedTo (machine_of w) c (Halt fault.Conflict)
+halted_at w c b n h conflict =
+    let tries : w.tries < 8 = h.ready.tries in
+    let calm : w.silent < 16 = settled_calm w b n h in
+    record {
+      allowed = tt;
+      addressing = tt;
+      caused = (h.found, h.finding, h.trace_finding, subst (λ (p : Assignment). Contradicts w.kept.enrolled p.0 p.1) (sym h.is) conflict);
+      given_up = λ e. absurd (omega arith);
+      silent = λ e. absurd (omega arith);
+      unnamed = λ q e. absurd (h.unnamed q e);
+      found = λ q d e.
+          let there = h.withdrawn q d e in
+          subst (λ m. Contradicts w.kept.enrolled d m) (sym there.1) (subst (λ a. Contradicts w.kept.enrolled a n) (sym there.0) conflict);
+    }
+
+halted : (w : Parts) (b n : ℕ) (o : Order) (new : Machine) → Settles w b n → Contradicts w.kept.enrolled b n → o ≡ Halt fault.Conflict
+    → new ≡ machine_ordered (machine_of w) o → IsNext (machine_of w) o new
+halted w b n o new h conflict is state =
+    record {
+      order = subst (IsOrderedTo (machine_of w) new.course) (sym is) (halted_at w new.course b n h conflict);
+      state = but_course new (machine_ordered (machine_of w) o) state;
+    }
+
+-- the table has the address for another gear
+pub halts_by_address : (w : Parts) (b m n : ℕ) (o : Order) (new : Machine) → Settles w b n → Has w.kept.enrolled (b, m) → (m ≡ n → ⊥)
+    → o ≡ Halt fault.Conflict → new ≡ machine_ordered (machine_of w) o → IsNext (machine_of w) o new
+halts_by_address w b m n o new h has other order state =
+    halted w b n o new h (inl (m, has, other)) order state
+
+-- or the gear with another address
+pub contradicts_by_random : (w : Parts) (b a n : ℕ) → Settles w b n → (HasAddress w.kept.enrolled b → ⊥) → Has w.kept.enrolled (a, n)
+    → Contradicts w.kept.enrolled b n
+contradicts_by_random w b a n h none has = inr (
+  a,
+  has,
+  λ e. none (subst (HasAddress w.kept.enrolled) e (has_map (λ q. q.0) w.kept.enrolled (a, n) has)),
+)
+
+pub halts_by_random : (w : Parts) (b a n : ℕ) (o : Order) (new : Machine) → Settles w b n → (HasAddress w.kept.enrolled b → ⊥) → Has w.kept.enrolled (a, n)
+    → o ≡ Halt fault.Conflict → new ≡ machine_ordered (machine_of w) o → IsNext (machine_of w) o new
+halts_by_random w b a n o new h none has order state = halted w b n o new h (contradicts_by_random w b a n h none has) order state
+
+enrols_at : (w : Parts) (c : Course) (b n : ℕ) → Settles w b n → (HasAddress w.kept.enrolled b → ⊥) → (HasRandom w.kept.enrolled n → ⊥)
+    → IsOrderedTo (machine_of w) c (Commit (Enrol b n))
+enrols_at w c b n h none fresh =
+    let tries : w.tries < 8 = h.ready.tries in
+    let calm : w.silent < 16 = settled_calm w b n h in
+    record {
+      allowed = record { fits = h.drawn; may = (none, fresh); warranted = (h.found, h.finding, h.trace_finding, h.may) };
+      addressing = tt;
+      caused = h.going;
+      given_up = λ e. absurd (omega arith);
+      silent = λ e. absurd (omega arith);
+      unnamed = λ q e. absurd (h.unnamed q e);
+      found = λ q d e.
+          let there = h.withdrawn q d e in
+          ap (λ a. Enrol a n) (sym there.0) ∙ ap (λ m. Enrol d m) (sym there.1);
+    }
+
+pub enrols : (w : Parts) (b n : ℕ) (o : Order) (new : Machine) → Settles w b n → (HasAddress w.kept.enrolled b → ⊥) → (HasRandom w.kept.enrolled n → ⊥)
+    → o ≡ Commit (Enrol b n) → new ≡ machine_ordered (machine_of w) o → IsNext (machine_of w) o new
+enrols w b n o new h none fresh order state = record {
+  order = subst (IsOrderedTo (machine_of w) new.course) (sym order)
+      (enrols_at w new.course b n h none fresh);
+  state = but_course new (machine_ordered (machine_of w) o) state;
+}
