@@ -52,6 +52,7 @@ enum dali_status {
 
 /* What a machine is told. */
 enum dali_input {
+    /* To start, in a first run over new gear: those without short address draw random addresses, and are searched. */
     DALI_START = 0,
     /* The frame was sent whole, and within the time of a backward frame nothing was heard; */
     DALI_HEARD_SILENCE = 1,
@@ -66,7 +67,15 @@ enum dali_input {
     /* The record is kept. */
     DALI_COMMITTED = 6,
     /* The record cannot be kept. */
-    DALI_COMMIT_FAILED = 7
+    DALI_COMMIT_FAILED = 7,
+    /* To start, in place of DALI_START, over gear that may have been used before. The machine asks under each short
+     * address that is reserved, or that its table does not name, whether somebody is there: three times where nobody
+     * answers. Who tells a random address is enrolled, whether or not the short address is of the block. Then the gear
+     * without short address are searched under the random addresses that they have, and get the address that is
+     * reserved for them, or a free one under which nobody was heard. At last, where such an address is free, those that
+     * are left draw random addresses and are searched. Use it in each run but a first one over new gear. It costs some
+     * six seconds of the bus. */
+    DALI_SURVEY = 8
 };
 
 /* What a machine orders. */
@@ -105,6 +114,7 @@ enum dali_fault {
 
 /* What a machine waits for. */
 enum dali_due {
+    /* DALI_START or DALI_SURVEY. */
     DALI_DUE_START = 0,
     /* What became of the frame that it ordered. */
     DALI_DUE_BUS = 1,
@@ -200,6 +210,9 @@ struct dali_machine {
     struct dali_random probe;
     struct dali_finding finding;
     struct dali_order last;
+    uint8_t way;
+    uint8_t asked;
+    uint8_t heard[DALI_ADDRESSES / 8];
     uint8_t entry_count;
     struct dali_entry entries[DALI_FRAMES];
     struct dali_records records;

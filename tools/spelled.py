@@ -82,7 +82,7 @@ FORMAT, INSTALLER, VENDOR, ADAPTERS = "docs/FORMAT.md", "docs/INSTALLER.md", "do
 REPLAY, THREADS, FORMS = "tools/replay_report.py", "tools/threads_report.py", "tools/script_forms.py"
 SITE, LIBRARY = "tools/commission_site.py", "tools/c-library"
 # The inputs that do not tell what became of a frame; how it was heard is an answer.
-NOT_OF_FRAMES = "Start Heard Committed CommitFailed"
+NOT_OF_FRAMES = "Start Survey Heard Committed CommitFailed"
 PLACES = (
     # The header for C, and its example.
     Place(HEADER, block("enum dali_input {", "}"), "Input", "DALI_{UPPER} = {code}", "Heard"),
@@ -164,7 +164,7 @@ PLACES = (
     Place(ADAPTERS, table("| Answer | When |"), "Input", "| `{kebab}` |", NOT_OF_FRAMES),
     Place(VENDOR, table("| Order | What to do |"), "Order", "`DALI_{UPPER}`"),
     Place(VENDOR, table("| Order | What to do |"), "Answer", "`DALI_HEARD_{UPPER}`"),
-    Place(VENDOR, table("| Order | What to do |"), "Input", "`DALI_{UPPER}`", "Start Heard"),
+    Place(VENDOR, table("| Order | What to do |"), "Input", "`DALI_{UPPER}`", "Start Survey Heard"),
     Place(VENDOR, table("| Status of `dali_records_add` |"), "AddError", "| `DALI_{UPPER}` |"),
     Place(VENDOR, table("| Tell | When |"), "Answer", "| `DALI_HEARD_{UPPER}` |"),
     Place(VENDOR, table("| Tell | When |"), "Input", "| `DALI_{UPPER}` |", NOT_OF_FRAMES),

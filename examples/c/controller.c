@@ -36,10 +36,10 @@ static struct told commit(struct store *store, const struct dali_order *order)
  *
  * No step waits or takes memory. Where your firmware may not block, make the body of this loop the
  * handler of an event: the machine is all that it must find again. */
-enum run controller_run(struct dali_machine *machine, struct bus *bus, struct store *store,
+enum run controller_run(struct dali_machine *machine, uint8_t start, struct bus *bus, struct store *store,
                         unsigned long most_steps, struct dali_order *last_order)
 {
-    struct told told = {DALI_START, 0};
+    struct told told = {start, 0};
 
     while (most_steps-- > 0) {
         if (dali_machine_step(machine, told.input, told.byte, last_order) != DALI_OK)

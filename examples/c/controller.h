@@ -15,8 +15,9 @@ enum run {
     RUN_TOO_LONG = 2
 };
 
-/* Runs a machine that has not started, with the records that were read from this store. */
-enum run controller_run(struct dali_machine *machine, struct bus *bus, struct store *store,
+/* Runs a machine that has not started, with the records that were read from this store. It starts by DALI_START, which is
+ * for a first run over new gear, or by DALI_SURVEY. */
+enum run controller_run(struct dali_machine *machine, uint8_t start, struct bus *bus, struct store *store,
                         unsigned long most_steps, struct dali_order *last_order);
 
 #endif

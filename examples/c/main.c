@@ -42,6 +42,7 @@ static const char usage[] =
     "  --gear N           how many gear, at most 64 (8)\n"
     "  --first A          the first short address of the block (0)\n"
     "  --last B           the last one (63)\n"
+    "  --survey N         begin by a survey, if N is 1, and ask first who is there (0)\n"
     "  --kill-after N     be killed at the Nth moment of the bus; a frame has two\n"
     "  --kill-in-store N  be killed at the Nth moment of the store; a record has four\n"
     "Of a million frames, how many\n"
@@ -62,6 +63,7 @@ struct words {
     uint32_t gear_count;
     uint32_t first;
     uint32_t last;
+    uint32_t survey;
     uint32_t kill_after;
     uint32_t kill_in_store;
     struct troubles troubles;
@@ -88,6 +90,7 @@ static int read_option(struct words *words, const char *name, const char *value)
         {"--gear", &words->gear_count, BUS_MOST_GEAR},
         {"--first", &words->first, DALI_ADDRESSES - 1},
         {"--last", &words->last, DALI_ADDRESSES - 1},
+        {"--survey", &words->survey, 1},
         {"--kill-after", &words->kill_after, UINT32_MAX},
         {"--kill-in-store", &words->kill_in_store, UINT32_MAX},
         {"--destroyed", &troubles->destroyed, MILLION},
@@ -214,6 +217,7 @@ static int commission(const struct words *words, struct bus *bus, struct store *
 {
     struct dali_machine machine;
     struct dali_order order;
+    uint8_t start = words->survey ? DALI_SURVEY : DALI_START;
     uint32_t frames = bus->frames;
     int status = EXIT_MACHINE;
 
@@ -221,7 +225,7 @@ static int commission(const struct words *words, struct bus *bus, struct store *
         return status;
     stop_on_bus_at(words->kill_after);
     stop_in_store_at(words->kill_in_store);
-    switch (controller_run(&machine, bus, store, MOST_STEPS, &order)) {
+    switch (controller_run(&machine, start, bus, store, MOST_STEPS, &order)) {
     case RUN_ENDED:
         status = order.kind == DALI_DONE ? end_status(order.reason) : fault_status(order.reason);
         break;

@@ -58,7 +58,7 @@ static void check_layouts(void)
     CHECK_LAYOUT(dali_record, 5);
     CHECK_LAYOUT(dali_records, 516);
     CHECK_LAYOUT(dali_order, 10);
-    CHECK_LAYOUT(dali_machine, 581);
+    CHECK_LAYOUT(dali_machine, 591);
     CHECK_LAYOUT(dali_table, 257);
 }
 
@@ -188,17 +188,24 @@ static void reach_statuses(void)
     memset(&machine, 0xFF, sizeof machine);
     check_reads(&machine, DALI_NO_MACHINE);
     check_step(&machine, DALI_START, 0, DALI_NO_MACHINE);
-    check_step(&machine, DALI_COMMIT_FAILED + 1, 0, DALI_NO_MACHINE);
+    check_step(&machine, DALI_SURVEY + 1, 0, DALI_NO_MACHINE);
     dali_machine_new(&machine, 0, &records);
     check_reads(&machine, DALI_OK);
-    check_step(&machine, DALI_COMMIT_FAILED + 1, 0, DALI_BAD_ARGUMENT);
+    check_step(&machine, DALI_SURVEY + 1, 0, DALI_BAD_ARGUMENT);
     check_step(&machine, DALI_HEARD_SILENCE, 0, DALI_NOT_DUE);
     check_step(&machine, DALI_START, 0, DALI_OK);
     check_reads(&machine, DALI_OK);
     check_step(&machine, DALI_START, 0, DALI_NOT_DUE);
     check_step(&machine, 0xFF, 0, DALI_BAD_ARGUMENT);
     check_step(&machine, DALI_COMMITTED, 0, DALI_NOT_DUE);
+    check_step(&machine, DALI_SURVEY, 0, DALI_NOT_DUE);
     check_step(&machine, DALI_LAPSED, 0, DALI_OK);
+    dali_machine_new(&machine, 0, &records);
+    check_step(&machine, DALI_SURVEY, 0, DALI_OK);
+    check_reads(&machine, DALI_OK);
+    check_step(&machine, DALI_START, 0, DALI_NOT_DUE);
+    check_step(&machine, DALI_HEARD_DAMAGED, 0, DALI_OK);
+    check_reads(&machine, DALI_OK);
 }
 
 /* Whether the header has such a code. None of these switches has a default, so that the compiler
@@ -290,6 +297,7 @@ static uint8_t due_for(enum dali_input input)
 {
     switch (input) {
     case DALI_START:
+    case DALI_SURVEY:
         return DALI_DUE_START;
     case DALI_HEARD_SILENCE:
     case DALI_HEARD_BYTE:
@@ -381,7 +389,8 @@ static void try_records(const struct dali_records *given, const struct dali_reco
     check_new(&records, DALI_OK);
 }
 
-/* Machines in the midst of a commissioning on a bus with troubles. Every one of them was there. */
+/* Machines in the midst of a commissioning on a bus with troubles, the first one from a start, the later ones from a
+ * survey. Every one of them was there. */
 static void collect(struct dali_machine *machines, uint64_t seed)
 {
     struct dali_records records;
@@ -417,7 +426,7 @@ static void collect(struct dali_machine *machines, uint64_t seed)
         case DALI_NOTHING_ORDERED:
             dali_machine_records(&machine, &records);
             dali_machine_new(&machine, 7, &records);
-            told.input = DALI_START;
+            told.input = DALI_SURVEY;
             break;
         }
     }
@@ -464,7 +473,7 @@ int main(int count, char **words)
         struct dali_machine machine = machines[chance_below(&chance, MACHINES)];
         struct dali_records records = machine.records;
         struct dali_record addition = some_record(&records, &chance);
-        uint8_t input = (uint8_t)chance_below(&chance, DALI_COMMIT_FAILED + 3);
+        uint8_t input = (uint8_t)chance_below(&chance, DALI_SURVEY + 3);
 
         change(&machine, sizeof machine, &chance);
         change(&records, sizeof records, &chance);

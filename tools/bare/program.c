@@ -362,10 +362,11 @@ static int is_commissioned(void)
     return held == course.bus.gear_count && course.enrolled == held && course.order.kind == DALI_DONE;
 }
 
-/* Takes steps until the machine has ended. */
-static void run(void)
+/* A machine with these records takes steps until it has ended. */
+static void run(uint8_t start)
 {
-    course.told.input = DALI_START;
+    must(dali_machine_new(&course.machine, 0, &course.records) == DALI_OK, "no machine");
+    course.told = (struct told){start, 0};
     do {
         uint32_t counts[2];
 
@@ -382,17 +383,30 @@ static void run(void)
     must(is_commissioned(), "the gear are not commissioned");
 }
 
-/* A commissioning, and a machine that comes up with its records. */
+/* A machine comes up without records. */
+static void run_new(uint8_t start)
+{
+    must(dali_records_new(&course.records, 0, DALI_ADDRESSES - 1) == DALI_OK, "no records");
+    course.enrolled = 0;
+    run(start);
+}
+
+/* A machine comes up with the records of the one before. */
+static void run_again(uint8_t start)
+{
+    must(dali_machine_records(&course.machine, &course.records) == DALI_OK, "no records");
+    run(start);
+}
+
+/* A commissioning, machines that come up with its records, and one without records that asks all gear. */
 static void commission(uint64_t seed)
 {
     memset(&course, 0, sizeof course);
     bus_new(&course.bus, seed, BUS_MOST_GEAR);
-    must(dali_records_new(&course.records, 0, DALI_ADDRESSES - 1) == DALI_OK, "no records");
-    must(dali_machine_new(&course.machine, 0, &course.records) == DALI_OK, "no machine");
-    run();
-    must(dali_machine_records(&course.machine, &course.records) == DALI_OK, "no records");
-    must(dali_machine_new(&course.machine, 0, &course.records) == DALI_OK, "no machine");
-    run();
+    run_new(DALI_START);
+    run_again(DALI_START);
+    run_again(DALI_SURVEY);
+    run_new(DALI_SURVEY);
     say("frames");
     say_number(course.bus.frames);
     say("\n");

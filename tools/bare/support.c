@@ -168,6 +168,29 @@ uint64_t __aeabi_lmul(uint64_t one, uint64_t other)
     return product;
 }
 
+/* By halves: what is written as a shift of both is made one call of this again. */
+uint64_t __aeabi_llsl(uint64_t number, int count)
+{
+    uint32_t low = (uint32_t)number, high = (uint32_t)(number >> 32);
+
+    if (count >= 32)
+        return (uint64_t)(low << (count - 32)) << 32;
+    if (count > 0)
+        high = high << count | low >> (32 - count);
+    return (uint64_t)high << 32 | low << count;
+}
+
+uint64_t __aeabi_llsr(uint64_t number, int count)
+{
+    uint32_t low = (uint32_t)number, high = (uint32_t)(number >> 32);
+
+    if (count >= 32)
+        return high >> (count - 32);
+    if (count > 0)
+        low = low >> count | high << (32 - count);
+    return (uint64_t)(high >> count) << 32 | low;
+}
+
 /* The quotient, and the rest in the upper half. */
 uint64_t __aeabi_uidivmod(uint32_t number, uint32_t divisor)
 {

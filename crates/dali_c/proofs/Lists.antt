@@ -1,6 +1,5 @@
-use Rattle.std.proofs.Common.{◌≡◌, ℕ, ◌<◌, Bool, true, false, Option, Some, None, List, [], ◌∷◌, refl, sym, ◌∙◌, arith, length, map, get_or, inl, inr}
-use Rattle.std.specs.Prelude.{zero, suc, nat_lt, if◌then◌else◌, IsSome, IfNone}
-use Rattle.std.proofs.lemmas.Bool.Decides.{nat_tests}
+use Rattle.std.proofs.Common.{◌≡◌, ℕ, ◌<◌, Option, Some, None, List, [], ◌∷◌, refl, sym, ◌∙◌, arith, length, map, get_or}
+use Rattle.std.specs.Prelude.{zero, suc, IsSome, IfNone}
 use Rattle.dali_script.specs.declared.trace.Entry.{Entry}
 use Rattle.dali_c.specs.Entries.{entry_of, AreEntries}
 use Rattle.dali_c.specs.declared.entries.PlainEntry.{PlainEntry}

@@ -1,7 +1,6 @@
 use Rattle.std.proofs.Common.{◌≡◌, Option, Some, refl, sym, ap, ◌∙◌, length}
 use Rattle.dali_search.specs.Least.{Search, lowest, highest, step_between}
 use Rattle.dali_search.specs.Narrowing.{answers_of}
-use Rattle.dali_script.specs.Records.{Kept}
 use Rattle.dali_controller.specs.declared.state.State.{State}
 use Rattle.dali_controller.specs.Machine.{Machine}
 use Rattle.dali_controller.specs.Parts.{machine_with}
@@ -40,10 +39,14 @@ spells_once p a b one other =
     ∙ ap (λ n. record a { id = b.id; trace = b.trace; finding = b.finding; last = b.last; tries = b.tries; silent = n }) (one.silent ∙ sym other.silent)
     ∙ ap (λ n. record a { id = b.id; trace = b.trace; finding = b.finding; last = b.last; tries = b.tries; silent = b.silent; opened = n })
     (some_once one.opened other.opened)
-    ∙ ap (λ n. record b { purpose = n; number = a.number; search = a.search; from = a.from }) (some_once one.purpose other.purpose)
-    ∙ ap (λ n. record b { number = n; search = a.search; from = a.from }) (one.number ∙ sym other.number)
-    ∙ ap (λ n. record b { search = n; from = a.from }) (search_once p a.search b.search one.search other.search)
-    ∙ ap (λ n. record b { from = n }) (one.visits ∙ sym other.visits)
+    ∙ ap (λ n. record b { purpose = n; number = a.number; search = a.search; from = a.from; way = a.way; heard = a.heard; asked = a.asked })
+    (some_once one.purpose other.purpose)
+    ∙ ap (λ n. record b { number = n; search = a.search; from = a.from; way = a.way; heard = a.heard; asked = a.asked }) (one.number ∙ sym other.number)
+    ∙ ap (λ n. record b { search = n; from = a.from; way = a.way; heard = a.heard; asked = a.asked }) (search_once p a.search b.search one.search other.search)
+    ∙ ap (λ n. record b { from = n; way = a.way; heard = a.heard; asked = a.asked }) (one.visits ∙ sym other.visits)
+    ∙ ap (λ n. record b { way = n; heard = a.heard; asked = a.asked }) (some_once one.way other.way)
+    ∙ ap (λ n. record b { heard = n; asked = a.asked }) (one.heard ∙ sym other.heard)
+    ∙ ap (λ n. record b { asked = n }) (one.asked ∙ sym other.asked)
 
 -- so a struct holds one machine.
 held_once : (p : PlainMachine) (s : State) (m : Machine) → IsHeld p s → Holds p m → m ≡ machine_with s (kept_of p.records)

@@ -16,14 +16,15 @@ answer_of c byte =
     (if c == 2 then Some (Byte byte) else
     (if c == 3 then Some Damaged else None))
 
--- what else a machine is told: DALI_START, DALI_DESTROYED to DALI_COMMIT_FAILED
+-- what else a machine is told: DALI_START, DALI_DESTROYED to DALI_SURVEY
 abbrev pub told_of : ℕ → Option Input
 told_of c =
     if c == 0 then Some input.Start else
     (if c == 4 then Some input.Destroyed else
     (if c == 5 then Some input.Lapsed else
     (if c == 6 then Some input.Committed else
-    (if c == 7 then Some input.CommitFailed else None))))
+    (if c == 7 then Some input.CommitFailed else
+    (if c == 8 then Some input.Survey else None)))))
 
 abbrev pub or_else : Option Input → Option Input → Option Input
 or_else (Some i) _ = Some i

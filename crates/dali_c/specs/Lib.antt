@@ -2,6 +2,7 @@ pub mod Codes
 pub mod Pairs
 pub mod Orders
 pub mod Purposes
+pub mod Surveys
 pub mod Entries
 pub mod Records
 pub mod Machines

@@ -9,6 +9,7 @@ use Rattle.dali_c.specs.Codes.{bool_of}
 use Rattle.dali_c.specs.Pairs.{random_of, search_of}
 use Rattle.dali_c.specs.Orders.{order_of, finding_of}
 use Rattle.dali_c.specs.Purposes.{purpose_of}
+use Rattle.dali_c.specs.Surveys.{way_of, shorts_of}
 use Rattle.dali_c.specs.Entries.{IsPlainTrace}
 use Rattle.dali_c.specs.Records.{kept_of, AreRecords}
 use Rattle.dali_c.specs.declared.state.PlainState.{PlainState}
@@ -33,6 +34,9 @@ pub record Spells (p : PlainState) (s : State) : Type 0 where
   pub search : IsPlainSearch p s.search
   pub finding : finding_of p.finding ≡ Some s.finding
   pub last : order_of p.last ≡ Some s.last
+  pub way : way_of p.way ≡ Some s.way
+  pub asked : s.asked ≡ p.asked
+  pub heard : s.heard ≡ shorts_of p.heard
   pub trace : IsPlainTrace p.entries p.entry_count s.trace
 
 -- its bytes spell this state, and records with which it is a machine between two inputs

@@ -2,6 +2,7 @@ use Rattle.std.specs.Prelude.{ℕ, ◌==◌, nat_lt, Option, Some, None, option_
 use Rattle.dali_controller.specs.declared.purpose.Purpose.{Purpose}
 use Rattle.dali_controller.specs.declared.purpose.Purpose.TheVariants.{Opening, Probing, Visiting}
 use Rattle.dali_controller.specs.declared.purpose.Purpose.TheVariants.{Resolving, Closing}
+use Rattle.dali_controller.specs.declared.purpose.Purpose.TheVariants.{Asking, Waking}
 use Rattle.dali_script.specs.Names.{end_by}
 
 -- what a transaction is for: the short address that is asked, or the end of a close, is a byte of
@@ -9,10 +10,15 @@ use Rattle.dali_script.specs.Names.{end_by}
 abbrev pub resolving : ℕ → Option Purpose
 resolving a = if nat_lt a 64 then Some (Resolving a) else None
 
+abbrev pub asking : ℕ → Option Purpose
+asking a = if nat_lt a 64 then Some (Asking a) else None
+
 abbrev pub purpose_of : ℕ → ℕ → Option Purpose
 purpose_of c detail =
     if c == 0 then Some Opening else
     (if c == 1 then Some Probing else
     (if c == 2 then Some Visiting else
     (if c == 3 then resolving detail else
-    (if c == 4 then option_map (λ e. Closing e) (end_by detail) else None))))
+    (if c == 4 then option_map (λ e. Closing e) (end_by detail) else
+    (if c == 5 then asking detail else
+    (if c == 6 then Some Waking else None))))))

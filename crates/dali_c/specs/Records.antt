@@ -1,4 +1,4 @@
-use Rattle.std.specs.Prelude.{ℕ, ◌<◌, ◌≤◌}
+use Rattle.std.specs.Prelude.{◌<◌, ◌≤◌}
 use Rattle.dali_script.specs.Records.{Kept, IsKept}
 use Rattle.dali_script.specs.Pairs.{pairs_in}
 use Rattle.dali_c.specs.declared.records.PlainRecords.{PlainRecords}

@@ -39,6 +39,7 @@ pub(crate) fn input_of(code: u8, byte: u8) -> Option<Input>
         5 => Some(Input::Lapsed),
         6 => Some(Input::Committed),
         7 => Some(Input::CommitFailed),
+        8 => Some(Input::Survey),
         _ => Some(Input::Heard(answer_of(code, byte)?)),
     }
 }

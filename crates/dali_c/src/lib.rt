@@ -15,3 +15,4 @@ mod purposes;
 mod records;
 mod state;
 mod status;
+mod surveys;

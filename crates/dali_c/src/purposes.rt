@@ -17,6 +17,8 @@ pub(crate) fn purpose_of(code: u8, detail: u8) -> Option<Purpose>
         2 => Some(Purpose::Visiting),
         3 => Some(Purpose::Resolving(Short::of(detail)?)),
         4 => Some(Purpose::Closing(End::of_code(detail)?)),
+        5 => Some(Purpose::Asking(Short::of(detail)?)),
+        6 => Some(Purpose::Waking),
         _ => None,
     }
 }
@@ -31,5 +33,7 @@ pub(crate) fn purpose_code(purpose: Purpose) -> (u8, u8)
         Purpose::Visiting => (2, 0),
         Purpose::Resolving(short) => (3, short.number()),
         Purpose::Closing(end) => (4, end.code()),
+        Purpose::Asking(short) => (5, short.number()),
+        Purpose::Waking => (6, 0),
     }
 }

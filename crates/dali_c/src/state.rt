@@ -10,10 +10,12 @@ use crate::entries::{FRAMES, PlainEntry, read_trace, write_entries};
 use crate::orders::{PlainFinding, PlainOrder};
 use crate::pairs::PlainRandom;
 use crate::purposes::{purpose_code, purpose_of};
+use crate::surveys::{shorts_bytes, shorts_of, way_code, way_of};
 use dali_controller::State;
 use dali_search::Search;
 
-/// A machine without its records. Its fields are those of [`State`], with the search as three numbers.
+/// A machine without its records. Its fields are those of [`State`], with the search as three numbers, and the set
+/// `heard` as the bytes of its number, the least first.
 #[repr(C)]
 #[derive(Clone, Copy)]
 pub struct PlainState {
@@ -30,6 +32,9 @@ pub struct PlainState {
     pub probe: PlainRandom,
     pub finding: PlainFinding,
     pub last: PlainOrder,
+    pub way: u8,
+    pub asked: u8,
+    pub heard: [u8; 8],
     pub entry_count: u8,
     pub entries: [PlainEntry; FRAMES],
 }
@@ -54,6 +59,9 @@ impl PlainState {
             probe: PlainRandom::of(state.search.probe()),
             finding: PlainFinding::of(state.finding),
             last: PlainOrder::of(state.last),
+            way: way_code(state.way),
+            asked: state.asked,
+            heard: shorts_bytes(state.heard),
             entry_count: entries.len() as u8,
             entries: write_entries(entries),
         }
@@ -66,6 +74,7 @@ impl PlainState {
     {
         let opened = bool_of(self.opened)?;
         let purpose = purpose_of(self.purpose, self.detail)?;
+        let way = way_of(self.way)?;
         let finding = self.finding.read()?;
         let last = self.last.read()?;
         let search = self.search()?;
@@ -82,6 +91,9 @@ impl PlainState {
             number: self.number.search(),
             search,
             from: self.from,
+            way,
+            heard: shorts_of(self.heard),
+            asked: self.asked,
         })
     }
 

@@ -1,5 +1,4 @@
 use Rattle.std.proofs.Common.{◌≡◌, Some, refl, sym, subst, ◌∙◌}
-use Rattle.dali_script.specs.declared.orders.Input.{Input}
 use Rattle.dali_controller.specs.Machine.{Machine}
 use Rattle.dali_controller.specs.Parts.{machine_with}
 use Rattle.dali_c.specs.Calls.{Steps}

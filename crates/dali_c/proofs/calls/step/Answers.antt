@@ -1,4 +1,3 @@
-use Rattle.dali_controller.specs.Steps.{IsBefore}
 use Rattle.dali_controller.proofs.Keeping.{kept_may, before_is}
 use Rattle.dali_c.specs.Records.{kept_of}
 use Rattle.dali_c.proofs.calls.step.Goals as goal

@@ -1,7 +1,6 @@
 use Rattle.std.proofs.Common.{◌≡◌, sym, subst, ◌∙◌, true, false}
 use Rattle.dali_controller.specs.Parts.{machine_with}
 use Rattle.dali_controller.specs.Whole.{IsWhole}
-use Rattle.dali_c.specs.Machines.{IsHeld}
 use Rattle.dali_c.specs.Records.{kept_of}
 use Rattle.dali_c.proofs.Machines.{spells_once, read_of}
 use Rattle.dali_c.proofs.machine.PlainMachine.read.Goals as goal

@@ -1,6 +1,6 @@
 use Rattle.std.proofs.Common.{◌≡◌, ◌<◌, ◌++◌, ◌∷◌, [], sym, ap, subst, ◌∙◌}
 use Rattle.dali_script.specs.declared.records.Record.TheVariants.{Reserve, Enrol, Release}
-use Rattle.dali_script.specs.Records.{IsKept, Fits, MayAdd, Assignment, with_record, without_pair}
+use Rattle.dali_script.specs.Records.{IsKept, Fits, MayAdd, Assignment, without_pair}
 use Rattle.dali_script.specs.Pairs.{pairs_in}
 use Rattle.dali_script.proofs.Lists.{kept_more}
 use Rattle.dali_c.specs.Records.{kept_of}
