@@ -202,8 +202,8 @@ fn end_at(order: &Order) -> Option<Ended>
     }
 }
 
-/// Takes a machine from its start to its end: `start` is what it is told first, each frame that it puts is a line to the
-/// driver, and each record that it orders is committed in the store.
+/// Takes a machine from its start to its end: `start` is what it is told first, each frame that it puts is a line to
+/// the driver, and each record that it orders is committed in the store.
 ///
 /// The machine is told Committed only of a record that the store has then. It does at most so many orders. Where a
 /// record cannot be committed, it is told nothing: what the store reads then decides. `watch` sees each order before it
