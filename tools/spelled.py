@@ -82,7 +82,7 @@ FORMAT, INSTALLER, VENDOR, ADAPTERS = "docs/FORMAT.md", "docs/INSTALLER.md", "do
 REPLAY, THREADS, FORMS = "tools/replay_report.py", "tools/threads_report.py", "tools/script_forms.py"
 SITE, LIBRARY = "tools/commission_site.py", "tools/c-library"
 # The inputs that do not tell what became of a frame; how it was heard is an answer.
-NOT_OF_FRAMES = "Start Heard Committed CommitFailed"
+NOT_OF_FRAMES = "Start Survey Heard Committed CommitFailed"
 PLACES = (
     # The header for C, and its example.
     Place(HEADER, block("enum dali_input {", "}"), "Input", "DALI_{UPPER} = {code}", "Heard"),
