@@ -14,7 +14,7 @@ from commission_site import DONE, DRIVER, ENROL, GAVE_UP, RESERVE, STORE
 
 ALL = (0, 63)
 # Six gear: a run that finds them all in its table has at least so many lines.
-GEAR, LEAST = 6, 3 * 3 * (64 - 6) + 3 * 10
+GEAR, LEAST = 6, 3 * (3 * (64 - 6) + 17)
 LOCKED = "locked: another program has the file open"
 # What a driver may tell that is none of its answers, each with what the program says of it.
 BAD = {
@@ -295,7 +295,7 @@ def slow(place, _chance):
 
 
 def gives_up(place, _chance):
-    """A bus on which nothing is sent, or all is destroyed: in the census, or after it."""
+    """A bus on which nothing is sent, or all is destroyed."""
     for trouble in ("--lapse", "--destroy"):
         ran = place.run(run_words(place), place.simulated("--gear", 3, trouble, 1))
         place.check("a bus on which no frame comes through is given up", ran.status == GAVE_UP and not place.rows(), ran)

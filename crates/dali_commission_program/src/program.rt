@@ -1,19 +1,21 @@
 //! The program: what it reads of the system, does, and says.
 
-ghost use Rattle.std.specs.Prelude.{OnOk};
+ghost use Rattle.std.specs.Prelude.{◌<◌, OnOk};
 ghost use Rattle.std.specs.Io.KnownBytes.{Appends};
 ghost use Rattle.dali_commission_program.specs.Tables.{table_text};
 
 use crate::failure::{Failure, ended_as, failure_of, words_failure};
 use crate::progress::{Manner, Progress};
-use crate::reports::{say_addressed, say_checked, say_commissioned};
+use crate::reports::{say_addressed, say_checked, say_commissioned, say_left_alone};
 use crate::stores::{Borrower, StoreFault, Stores};
 use crate::table::push_table;
-use dali_commission_words::{Bounds, Form, Setup, Task, asked};
-use dali_commissioning::{Begun, CommissionFault, Driver, Ended, begin, check, light, outside};
+use dali_commission_words::{Bounds, Form, Setup, Start, Task, asked};
+use dali_commissioning::{
+    Begun, CommissionFault, Driver, Outcome, Watch, begin, check, commission, light, outside,
+};
 use dali_frame::Short;
 use dali_reserve::{Keep, KeepError, MemoryKeep};
-use dali_script::{Block, Kept};
+use dali_script::{Block, Input as Told, Kept};
 use std::alloc::Global;
 use std::env::Env;
 use std::io::{Eprint, Read, Write};
@@ -133,17 +135,36 @@ fn manner(setup: &Setup, is_terminal: bool) -> Manner {
     }
 }
 
+/// Begins as is asked for: machines that survey ask themselves who is there, before all others there is a census.
+fn begun<K: Keep, R: Read, W: Write, P: Watch>(
+    store: &mut K,
+    driver: &mut Driver<R, W>,
+    watch: &mut P,
+    setup: &Setup,
+) -> Result<Begun, CommissionFault>
+    requires some { 0 < setup.now.quiet_runs }
+{
+    match setup.start {
+        Start::Fresh => begin(store, driver, watch, &setup.others, setup.quiet_runs),
+        Start::Survey => match commission(store, driver, watch, Told::Survey, setup.quiet_runs) {
+            Ok(outcome) => Ok(Begun::Commissioned(outcome)),
+            Err(fault) => Err(fault),
+        },
+    }
+}
+
 /// What the end of the last machine comes to, with what the records have then.
 fn say_ended<S: Eprint, K: Keep>(
     system: &S,
     store: &mut K,
     enrolled: usize,
     frames: u64,
-    ended: Ended,
+    outcome: Outcome,
 ) -> Result<(), Failure> {
     let after = kept(store)?.enrolled().len();
+    say_left_alone(system, &outcome);
     say_commissioned(system, after.saturating_sub(enrolled), after, frames);
-    ended_as(ended)
+    ended_as(outcome.ended)
 }
 
 /// Gives short addresses to gear, from and into these records.
@@ -164,26 +185,20 @@ where
     let mut driver = Driver::new(system.alloc(), system.reader(), io::writer(system));
     let mut progress = Progress::new(system, manner(setup, is_terminal), left_of(&before));
     progress.begin();
-    let begun = begin(
-        store,
-        &mut driver,
-        &mut progress,
-        &setup.others,
-        setup.quiet_runs,
-    );
+    let came = begun(store, &mut driver, &mut progress, setup);
     progress.end();
-    match begun {
+    match came {
         Ok(Begun::Addressed(replies)) => {
             say_addressed(system, &before, &setup.others, &replies);
             Err(Failure::AddressedBefore)
         }
-        Ok(Begun::Commissioned(ended)) => {
+        Ok(Begun::Commissioned(outcome)) => {
             say_ended(
                 system,
                 store,
                 before.enrolled().len(),
                 progress.frames(),
-                ended,
+                outcome,
             )
         }
         Err(fault) => Err(failure_of(fault, driver.lines())),

@@ -1,7 +1,7 @@
 //! What is said on standard error of what came of a task.
 
 use crate::table::random_at;
-use dali_commissioning::{Reply, Standing, is_known, stands};
+use dali_commissioning::{Outcome, Reply, Standing, is_known, stands};
 use dali_frame::{Random24, Short};
 use dali_script::{Block, Kept};
 use std::io::Eprint;
@@ -9,7 +9,8 @@ use std::io::Eprint;
 const ADVICE: &str = "\
 What can be done:
 - they belong to another controller of this kind: name its block, as --others 16-31
-- they were used before: bring them to the factory's state (docs/INSTALLER.md says how), and run again
+- they were used before: run without --start fresh, which enrols them; or bring them to the factory's state, as
+  docs/INSTALLER.md says, and run again
 - they are this controller's: take the file of its records";
 
 /// What is heard of a short address that is not accounted for.
@@ -59,10 +60,26 @@ pub fn say_addressed<S: Eprint>(system: &S, kept: &Kept, others: &[Block], repli
     let _ = eprintln!(system; "{ADVICE}");
 }
 
-/// What came of a run: how many gear were given an address, and how many stand in the table.
-pub fn say_commissioned<S: Eprint>(system: &S, given: usize, enrolled: usize, frames: u64) {
+/// The short addresses under which somebody was heard whose random address was not: to whom they belong is not known,
+/// so they are given to nobody.
+pub fn say_left_alone<S: Eprint>(system: &S, outcome: &Outcome) {
+    for number in 0..64u8 {
+        let is_heard = match Short::of(number) {
+            Some(short) => outcome.heard.has(short),
+            None => false,
+        };
+        if is_heard {
+            let _ = eprintln!(system;
+                "{number} - somebody answers whose random address was not heard; left alone"
+            );
+        }
+    }
+}
+
+/// What came of a run: how many gear were enrolled, and how many stand in the table.
+pub fn say_commissioned<S: Eprint>(system: &S, more: usize, enrolled: usize, frames: u64) {
     let _ = eprintln!(system;
-        "{given} gear were given an address, {enrolled} are in the table; {frames} frames"
+        "{more} gear were enrolled, {enrolled} are in the table; {frames} frames"
     );
 }
 
@@ -88,13 +105,18 @@ fn reply_of(replies: &[Reply], short: Short) -> Reply {
     }
 }
 
-/// Each gear that is enrolled, and where it stands. How many are not there.
-fn say_enrolled<S: Eprint>(system: &S, kept: &Kept, replies: &[Reply]) -> usize {
+/// Each gear that is enrolled, and where it stands, but for those in the blocks of other controllers, which were not
+/// asked. How many are not there.
+fn say_enrolled<S: Eprint>(system: &S, kept: &Kept, others: &[Block], replies: &[Reply]) -> usize {
+    let none = Kept::new(kept.block());
     let mut wrong = 0usize;
     for pair in kept.enrolled() {
         let Some(short) = Short::of(pair.address()) else {
             continue;
         };
+        if is_known(&none, others, short) {
+            continue;
+        }
         let standing = stands(pair.random(), reply_of(replies, short));
         if standing != Standing::There {
             wrong = wrong.saturating_add(1);
@@ -130,7 +152,7 @@ pub fn say_checked<S: Eprint>(
     others: &[Block],
     replies: &[Reply],
 ) -> bool {
-    let wrong = say_enrolled(system, kept, replies);
+    let wrong = say_enrolled(system, kept, others, replies);
     let unfinished = say_reserved(system, kept, replies);
     let strangers = say_strangers(system, kept, others, replies);
     let (enrolled, reserved) = (kept.enrolled().len(), kept.reserved().len());

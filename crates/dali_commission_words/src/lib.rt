@@ -8,5 +8,5 @@ mod tasks;
 mod words;
 
 pub use fault::WordsFault;
-pub use tasks::{Bounds, Form, Setup, Task};
+pub use tasks::{Bounds, Form, Setup, Start, Task};
 pub use words::asked;

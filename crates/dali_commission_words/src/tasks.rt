@@ -12,6 +12,15 @@ pub enum Form {
     Json,
 }
 
+/// How a run begins.
+#[derive(Clone, Copy, PartialEq, Eq)]
+pub enum Start {
+    /// It asks who has which short address, and enrols who tells its random address.
+    Survey,
+    /// All gear are new: where any has a short address that no record names, nothing is begun.
+    Fresh,
+}
+
 /// What a command line asks for.
 #[derive(Drop)]
 pub enum Task {
@@ -35,6 +44,7 @@ pub struct Setup {
     pub block: Block,
     /// The blocks of other controllers.
     pub others: Vec<Block>,
+    pub start: Start,
     /// How many machines in a row are to have committed nothing, at least 1.
     pub quiet_runs: u8,
     /// Whether nothing is said of how far it is.

@@ -4,7 +4,8 @@ ghost use Rattle.std.specs.Prelude.{◌≡◌};
 ghost use Rattle.dali_commission_words.specs.Answered.{answered};
 
 use crate::fault::WordsFault;
-use crate::tasks::{Bounds, Form, Setup, Task};
+use crate::tasks::{Bounds, Form, Setup, Start, Task};
+use clap::builder::ValueParser;
 use clap::error::ErrorKind;
 use clap::{Arg, ArgAction, ArgMatches, Command, Error, value_parser};
 use dali_frame::Short;
@@ -30,8 +31,10 @@ docs/INSTALLER.md of the repository says how to use it, docs/FORMAT.md has each 
 const RUN: &str = "\
 Gives each gear without short address one of the block, and keeps which gear has which in the file of the records.
 
-Before it begins it asks each short address that the records do not name. Where a gear answers it begins nothing, and
-says what can be done. It may be stopped at any moment, also by a power cut: the next run goes on from the file.";
+Each run begins with a survey: it asks each short address that its table does not name who is there, and enrols each
+gear that tells its random address. Where somebody answers who does not, it gives that address to nobody, and says so.
+With --start fresh, for new gear alone, it asks before it begins, begins nothing where a gear answers, and says what can
+be done. It may be stopped at any moment, also by a power cut: the next run goes on from the file.";
 
 const CHECK: &str = "\
 Asks each short address three times for the random address of its gear, and says beside the records: who answers, who is
@@ -52,6 +55,8 @@ enum Kind {
     Again,
     /// An option with a number from 1 on, and 3 where it is not there.
     Number,
+    /// An option with a way to begin, and `survey` where it is not there.
+    Start,
     /// A word at its place, which has to be there.
     Place,
     /// The same, a short address.
@@ -84,7 +89,7 @@ const DRIVER: Word = Word {
 const OTHERS: Word = Word {
     name: "others",
     value: "BLOCK",
-    help: "The block of another controller, whose addresses are not asked; may be given again",
+    help: "The block of another controller, whose addresses no census asks; may be given again",
     kind: Kind::Again,
 };
 
@@ -101,6 +106,12 @@ const RUN_WORDS: &[Word] = &[
     NEEDED_RECORDS,
     DRIVER,
     OTHERS,
+    Word {
+        name: "start",
+        value: "WAY",
+        help: "How each run begins: with a survey of who is there, or as beside new gear alone",
+        kind: Kind::Start,
+    },
     Word {
         name: "quiet-runs",
         value: "N",
@@ -120,6 +131,9 @@ const RUN_WORDS: &[Word] = &[
         kind: Kind::Place,
     },
 ];
+
+/// The ways to begin.
+const STARTS: &[&str] = &["survey", "fresh"];
 
 const CHECK_WORDS: &[Word] = &[
     Word {
@@ -219,6 +233,14 @@ fn arg<'a>(alloc: Global, word: &Word) -> Result<Arg<'a>, AllocError> {
         Kind::Number => {
             let numbers = value_parser!(u8).range(1..);
             Ok(option(alloc, word).value_parser(numbers).default_value("3"))
+        }
+        Kind::Start => {
+            let ways = ValueParser::from(STARTS);
+            Ok(
+                option(alloc, word)
+                    .value_parser(ways)
+                    .default_value("survey"),
+            )
         }
         Kind::Place => Ok(place(alloc, word)),
         Kind::Address => Ok(place(alloc, word).value_parser(value_parser!(u8).range(0..64))),
@@ -332,6 +354,13 @@ fn text(alloc: Global, found: &ArgMatches<'_>, name: &str) -> Result<String, Err
     Ok(String::from_str(alloc, found.get_str(name).unwrap_or_default())?)
 }
 
+fn start(found: &ArgMatches<'_>) -> Start {
+    match found.get_str("start") {
+        Some("fresh") => Start::Fresh,
+        _ => Start::Survey,
+    }
+}
+
 /// What is asked for by `run`.
 fn setup(alloc: Global, found: &ArgMatches<'_>) -> Result<Setup, Error> {
     let block = block(alloc, found.get_str("block").unwrap_or_default())?;
@@ -340,6 +369,7 @@ fn setup(alloc: Global, found: &ArgMatches<'_>) -> Result<Setup, Error> {
         records: text(alloc, found, "records")?,
         block,
         others,
+        start: start(found),
         quiet_runs: found.get_one("quiet-runs").unwrap_or(3),
         is_quiet: found.get_flag("quiet"),
     })

@@ -11,12 +11,12 @@ use Rattle.dali_script.specs.Records.{Kept}
 use Rattle.dali_reserve.specs.Store.{IsReplay}
 use Rattle.dali_frame.specs.declared.frames.Forward.{Forward}
 use Rattle.dali_controller.specs.Machine.{Machine, at_first}
-use Rattle.dali_commissioning.specs.declared.conducting.Ended.{Ended}
 use Rattle.dali_commissioning.specs.declared.conducting.Ended.TheVariants.{Done}
+use Rattle.dali_commissioning.specs.declared.conducting.Outcome.{Outcome}
 use Rattle.dali_commissioning.specs.Drivers.{Talk}
 use Rattle.dali_commissioning.specs.Steps.{Step, last_order, record_told, committed_by, is_kept, has_committed}
 use Rattle.dali_commissioning.specs.Conducted.{Conducted, Commits, Stays, IsAt, IsLeft, order_of}
-use Rattle.dali_commissioning.specs.Runs.{Run, IsRun, AreRuns, HaveRun, AreAllFound, EndWith, AreQuiet, quiet_after, Grows, IsRead}
+use Rattle.dali_commissioning.specs.Runs.{Run, IsRun, AreRuns, HaveRun, AreAllFound, EndWith, ComeTo, AreQuiet, quiet_after, Grows, IsRead}
 use Rattle.dali_commissioning.proofs.Steps.{stays_further}
 
 -- steps that were told of no record have committed none
@@ -55,32 +55,32 @@ commits_grow is_up is_sound holds old new records commits = λ sound up xs held.
 
 -- one run, from one moment of the store and of the talk to another
 abbrev pub OneRun : {S : Type 0} (is_up is_sound : S → Type 0) (holds : S → List Record → Type 0) → Block
-    → S → S → Talk → Talk → Ended → Bool → Type 0
-OneRun is_up is_sound holds block was keep x y ended committed =
-    (run : Run) × IsRun is_up is_sound holds block was keep x y run × (run.ended ≡ ended)
-    × (committed ≡ has_committed run.steps)
+    → Input → S → S → Talk → Talk → Outcome → Type 0
+OneRun is_up is_sound holds block first was keep x y outcome =
+    (run : Run) × IsRun is_up is_sound holds block first was keep x y run × (run.ended ≡ outcome.ended)
+    × (run.heard ≡ outcome.heard) × (outcome.committed ≡ has_committed run.steps)
 
 pub of_block : {S : Type 0} (is_up is_sound : S → Type 0) (holds : S → List Record → Type 0) (a b : Block)
-    (was keep : S) (x y : Talk) (ended : Ended) (committed : Bool) → a ≡ b
-    → OneRun is_up is_sound holds a was keep x y ended committed
-    → OneRun is_up is_sound holds b was keep x y ended committed
-of_block is_up is_sound holds a b was keep x y ended committed same =
-    subst (λ c. OneRun is_up is_sound holds c was keep x y ended committed) same
+    (first : Input) (was keep : S) (x y : Talk) (outcome : Outcome) → a ≡ b
+    → OneRun is_up is_sound holds a first was keep x y outcome
+    → OneRun is_up is_sound holds b first was keep x y outcome
+of_block is_up is_sound holds a b first was keep x y outcome same =
+    subst (λ c. OneRun is_up is_sound holds c first was keep x y outcome) same
 
 -- all runs so far
 pub record HasRun {S : Type 0} (is_up is_sound : S → Type 0) (holds : S → List Record → Type 0) (block : Block)
-    (was keep : S) (x y : Talk) (quiet count : ℕ) : Type 0 where
+    (first : Input) (was keep : S) (x y : Talk) (quiet count : ℕ) : Type 0 where
   pub runs : List Run
   pub counted : length runs ≡ count
-  pub are : AreRuns is_up is_sound holds block was keep x y runs
+  pub are : AreRuns is_up is_sound holds block first was keep x y runs
   pub found : AreAllFound runs
   pub quiet_runs : AreQuiet quiet runs
   pub grows : Grows is_up is_sound holds was keep
   pub stays : Stays is_up is_sound was keep
 
 pub none_ran : {S : Type 0} (is_up is_sound : S → Type 0) (holds : S → List Record → Type 0) (block : Block)
-    (keep : S) (x : Talk) → HasRun is_up is_sound holds block keep keep x x 0 0
-none_ran is_up is_sound holds block keep x = record {
+    (first : Input) (keep : S) (x : Talk) → HasRun is_up is_sound holds block first keep keep x x 0 0
+none_ran is_up is_sound holds block first keep x = record {
   runs = [];
   counted = refl;
   are = (refl, refl);
@@ -99,17 +99,17 @@ quiet_more quiet false run before is so_far =
 
 -- one run more, that found no gear any more
 pub ran_more : {S : Type 0} (is_up is_sound : S → Type 0) (holds : S → List Record → Type 0) (block : Block)
-    (was mid keep : S) (x y z : Talk) (quiet more count : ℕ) (ended : Ended) (committed : Bool)
-    → HasRun is_up is_sound holds block was mid x y quiet count
-    → OneRun is_up is_sound holds block mid keep y z ended committed
-    → ended ≡ Done AllFound → more ≡ quiet_after quiet committed
-    → HasRun is_up is_sound holds block was keep x z more (count + 1)
-ran_more is_up is_sound holds block was mid keep x y z quiet more count ended committed so_far (run, is, ends, has) all_found added = record {
+    (first : Input) (was mid keep : S) (x y z : Talk) (quiet more count : ℕ) (outcome : Outcome)
+    → HasRun is_up is_sound holds block first was mid x y quiet count
+    → OneRun is_up is_sound holds block first mid keep y z outcome
+    → outcome.ended ≡ Done AllFound → more ≡ quiet_after quiet outcome.committed
+    → HasRun is_up is_sound holds block first was keep x z more (count + 1)
+ran_more is_up is_sound holds block first was mid keep x y z quiet more count outcome so_far (run, is, ends, marks, has) all_found added = record {
   runs = run ∷ so_far.runs;
   counted = omega (arith, so_far.counted);
   are = (mid, y, so_far.are, is);
   found = (ends ∙ all_found, so_far.found);
-  quiet_runs = subst (λ n. AreQuiet n (run ∷ so_far.runs)) (sym added) (quiet_more quiet committed run so_far.runs has so_far.quiet_runs);
+  quiet_runs = subst (λ n. AreQuiet n (run ∷ so_far.runs)) (sym added) (quiet_more quiet outcome.committed run so_far.runs has so_far.quiet_runs);
   grows = grows_further is_up is_sound holds was mid keep so_far.stays is.stays so_far.grows
       (commits_grow is_up is_sound holds mid keep (committed_by run.steps) is.commits);
   stays = stays_further is_up is_sound was mid keep so_far.stays is.stays;
@@ -117,63 +117,68 @@ ran_more is_up is_sound holds block was mid keep x y z quiet more count ended co
 
 -- the last run, which ended otherwise
 pub ended_otherwise : {S : Type 0} (is_up is_sound : S → Type 0) (holds : S → List Record → Type 0) (block : Block)
-    (was mid keep : S) (x y z : Talk) (quiet wanted count : ℕ) (ended : Ended) (committed : Bool)
-    → HasRun is_up is_sound holds block was mid x y quiet count
-    → OneRun is_up is_sound holds block mid keep y z ended committed
-    → (ended ≡ Done AllFound → ⊥)
-    → (runs : List Run) × AreRuns is_up is_sound holds block was keep x z runs × EndWith ended runs
-    × (ended ≡ Done AllFound → AreQuiet wanted runs)
-ended_otherwise is_up is_sound holds block was mid keep x y z quiet wanted count ended committed so_far (run, is, ends, has) otherwise =
-    (run ∷ so_far.runs, (mid, y, so_far.are, is), (ends, so_far.found), λ found. absurd (otherwise found))
+    (first : Input) (was mid keep : S) (x y z : Talk) (quiet wanted count : ℕ) (outcome : Outcome)
+    → HasRun is_up is_sound holds block first was mid x y quiet count
+    → OneRun is_up is_sound holds block first mid keep y z outcome
+    → (outcome.ended ≡ Done AllFound → ⊥)
+    → (runs : List Run) × AreRuns is_up is_sound holds block first was keep x z runs × EndWith outcome.ended runs
+    × ComeTo outcome runs × (outcome.ended ≡ Done AllFound → AreQuiet wanted runs)
+ended_otherwise is_up is_sound holds block first was mid keep x y z quiet wanted count outcome so_far (run, is, ends, marks, has) otherwise =
+    (run ∷ so_far.runs, (mid, y, so_far.are, is), (ends, so_far.found), (marks, has), λ found. absurd (otherwise found))
 
 -- the last run, after which as many as are wanted were quiet
 pub ended_quiet : {S : Type 0} (is_up is_sound : S → Type 0) (holds : S → List Record → Type 0) (block : Block)
-    (was mid keep : S) (x y z : Talk) (quiet wanted count : ℕ) (ended : Ended) (committed : Bool)
-    → HasRun is_up is_sound holds block was mid x y quiet count
-    → OneRun is_up is_sound holds block mid keep y z ended committed
-    → quiet_after quiet committed ≡ wanted
-    → (runs : List Run) × AreRuns is_up is_sound holds block was keep x z runs × EndWith ended runs
-    × (ended ≡ Done AllFound → AreQuiet wanted runs)
-ended_quiet is_up is_sound holds block was mid keep x y z quiet wanted count ended committed so_far (run, is, ends, has) enough = (
+    (first : Input) (was mid keep : S) (x y z : Talk) (quiet wanted count : ℕ) (outcome : Outcome)
+    → HasRun is_up is_sound holds block first was mid x y quiet count
+    → OneRun is_up is_sound holds block first mid keep y z outcome
+    → quiet_after quiet outcome.committed ≡ wanted
+    → (runs : List Run) × AreRuns is_up is_sound holds block first was keep x z runs × EndWith outcome.ended runs
+    × ComeTo outcome runs × (outcome.ended ≡ Done AllFound → AreQuiet wanted runs)
+ended_quiet is_up is_sound holds block first was mid keep x y z quiet wanted count outcome so_far (run, is, ends, marks, has) enough = (
   run ∷ so_far.runs,
   (mid, y, so_far.are, is),
   (ends, so_far.found),
+  (marks, has),
   λ found.
-      subst (λ n. AreQuiet n (run ∷ so_far.runs)) enough (quiet_more quiet committed run so_far.runs has so_far.quiet_runs),
+      subst (λ n. AreQuiet n (run ∷ so_far.runs)) enough (quiet_more quiet outcome.committed run so_far.runs has so_far.quiet_runs),
 )
 
 -- all runs, as many as were counted
 pub all_ran : {S : Type 0} (is_up is_sound : S → Type 0) (holds : S → List Record → Type 0) (block : Block)
-    (was keep : S) (x y : Talk) (quiet count : ℕ) → HasRun is_up is_sound holds block was keep x y quiet count
-    → HaveRun is_up is_sound holds block was keep x y count
-all_ran is_up is_sound holds block was keep x y quiet count so_far = (so_far.runs, so_far.are, so_far.found, so_far.counted)
+    (first : Input) (was keep : S) (x y : Talk) (quiet count : ℕ)
+    → HasRun is_up is_sound holds block first was keep x y quiet count
+    → HaveRun is_up is_sound holds block first was keep x y count
+all_ran is_up is_sound holds block first was keep x y quiet count so_far = (so_far.runs, so_far.are, so_far.found, so_far.counted)
 
 -- A run of a machine that began with what its store gave it: the store as it was, after it was read, and at the end.
 pub run_of : {S : Type 0} (is_up is_sound : S → Type 0) (holds : S → List Record → Type 0) (kept_of : S → Kept)
     (must_read : S → Bool) (block_of : S → Block)
     → ((s : S) (xs : List Record) → is_sound s → must_read s ≡ false → holds s xs → IsReplay (block_of s) xs (kept_of s))
-    → (was mid keep : S) (m n : Machine) (x y : Talk) (k : Kept) (waiting : Option Forward) (ended : Ended)
-    (committed : Bool) (count : ℕ)
+    → (was mid keep : S) (m n : Machine) (x y : Talk) (first : Input) (k : Kept) (waiting : Option Forward)
+    (outcome : Outcome) (count : ℕ)
     → k ≡ kept_of mid → must_read mid ≡ false → block_of mid ≡ block_of was → Stays is_up is_sound was mid
     → (is_sound was → is_up mid → (xs : List Record) → holds was xs → holds mid xs)
-    → m ≡ at_first 0 k → IsAt is_up is_sound holds mid keep m n x y waiting (order_of ended) committed count
-    → (run : Run) × IsRun is_up is_sound holds (block_of was) was keep x y run × (run.ended ≡ ended)
-    × (committed ≡ has_committed run.steps)
-run_of is_up is_sound holds kept_of must_read block_of replay was mid keep m n x y k waiting ended committed count answer is_read block stays same begins at = (
-  record { start = k; steps = at.steps; ended = ended },
-  record {
-    machine = n;
-    conducted = subst (λ b. Conducted b n at.steps x y) begins at.conducted;
-    last = at.last;
-    read = λ sound up xs held.
-        subst (λ b. IsReplay b xs k) block (subst (IsReplay (block_of mid) xs) (sym answer)
-        (replay mid xs (stays.sound sound (at.stays.up up)) is_read (same sound (at.stays.up up) xs held)));
-    commits = λ sound up xs held. at.commits (stays.sound sound (at.stays.up up)) up xs (same sound (at.stays.up up) xs held);
-    stays = stays_further is_up is_sound was mid keep stays at.stays;
-  },
-  refl,
-  at.has,
-)
+    → m ≡ at_first 0 k → IsAt is_up is_sound holds mid keep m n x y first waiting (order_of outcome.ended) outcome.committed count
+    → outcome.heard ≡ n.heard → OneRun is_up is_sound holds (block_of was) first was keep x y outcome
+run_of is_up is_sound holds kept_of must_read block_of replay was mid keep m n x y first k waiting outcome count answer is_read block stays same begins at
+    heard = (
+      record { start = k; steps = at.steps; ended = outcome.ended; heard = outcome.heard },
+      record {
+        machine = n;
+        begun = at.begun;
+        marks = heard;
+        conducted = subst (λ b. Conducted b n at.steps x y) begins at.conducted;
+        last = at.last;
+        read = λ sound up xs held.
+            subst (λ b. IsReplay b xs k) block (subst (IsReplay (block_of mid) xs) (sym answer)
+            (replay mid xs (stays.sound sound (at.stays.up up)) is_read (same sound (at.stays.up up) xs held)));
+        commits = λ sound up xs held. at.commits (stays.sound sound (at.stays.up up)) up xs (same sound (at.stays.up up) xs held);
+        stays = stays_further is_up is_sound was mid keep stays at.stays;
+      },
+      refl,
+      refl,
+      at.has,
+    )
 
 -- a store that has what it had when it was read
 pub same_grows : {S : Type 0} (is_up is_sound : S → Type 0) (holds : S → List Record → Type 0) (was mid : S)

@@ -8,7 +8,7 @@ use Rattle.dali_script.specs.declared.orders.Input.TheVariants.{Start, Survey, H
 use Rattle.dali_commissioning.specs.Lines.{Tells}
 use Rattle.dali_commissioning.specs.Conducted.{Hears, Conducted, Commits, MayCommit, Stays, IsAt, IsLeft, HasTaken}
 use Rattle.dali_commissioning.specs.Steps.{Step, IsStep, last_order, open_after, order_line, written_by, opened_by, if_heard, record_told, committed_by}
-use Rattle.dali_commissioning.specs.Steps.{is_kept, AreTold}
+use Rattle.dali_commissioning.specs.Steps.{is_kept, AreTold, earlier}
 use Rattle.dali_commissioning.specs.Drivers.{Talk}
 use Rattle.dali_controller.specs.Machine.{Machine}
 use Rattle.dali_script.specs.declared.orders.Order.{Order}
@@ -61,43 +61,57 @@ stays_further is_up is_sound old mid new first second = record {
   sound = λ sound up. second.sound (first.sound sound (second.up up)) up;
 }
 
+-- what begins is not of the bus, and tells of no record
+begins : (first : Input) → accepts due.Start first ≡ true
+    → AreTold first [] × (None ≡ if_heard first None) × (record_told first None ≡ []) × (false ≡ is_kept first)
+begins Start may = (refl, refl, refl, refl)
+begins Survey may = (refl, refl, refl, refl)
+begins (Heard h) may = absurd (false≢true may)
+begins Destroyed may = absurd (false≢true may)
+begins Lapsed may = absurd (false≢true may)
+begins Committed may = absurd (false≢true may)
+begins CommitFailed may = absurd (false≢true may)
+
 -- before the first order is done
 pub at_begun : {S : Type 0} (is_up is_sound : S → Type 0) (holds : S → List Record → Type 0)
-    (keep : S) (m n : Machine) (x : Talk) (order : Order)
-    → IsStep m (record { told = Start; order = order }) n → n.last ≡ Some order
-    → IsAt is_up is_sound holds keep keep m n x x None order false 0
-at_begun is_up is_sound holds keep m n x order step ordered = record {
-  steps = record { told = Start; order = order } ∷ [];
+    (keep : S) (m n : Machine) (x : Talk) (first : Input) (order : Order) → accepts due.Start first ≡ true
+    → IsStep m (record { told = first; order = order }) n → n.last ≡ Some order
+    → IsAt is_up is_sound holds keep keep m n x x first None order false 0
+at_begun is_up is_sound holds keep m n x first order may step ordered = record {
+  steps = record { told = first; order = order } ∷ [];
+  begun = refl;
   conducted = record {
     taken = (m, refl, step);
     wrote = Appends-nil x.written;
     bytes = [];
     read = Consumes-nil x.left;
-    told = ([], [], refl, refl, refl);
+    told = ([], [], refl, refl, (begins first may).0);
   };
   counted = refl;
   last = refl;
   ordered = ordered;
-  stands = refl;
-  commits = λ sound up list held. subst (holds keep) (sym (append-nil list)) held;
-  has = refl;
+  stands = (begins first may).1;
+  commits = λ sound up list held.
+      subst (holds keep) (sym (ap (λ xs. list ++ xs) (begins first may).2 ∙ append-nil list)) held;
+  has = (begins first may).3;
   stays = record { up = λ up. up; sound = λ sound up. sound };
 }
 
 -- after one order more
 pub at_further : {S : Type 0} (is_up is_sound : S → Type 0) (holds : S → List Record → Type 0)
     (was mid keep : S) (m between n : Machine) (x y z : Talk)
-    (waiting later : Option Forward) (order next : Order) (told : Input) (committed more : Bool) (count : ℕ)
-    → IsAt is_up is_sound holds was mid m between x y waiting order committed count
+    (first : Input) (waiting later : Option Forward) (order next : Order) (told : Input) (committed more : Bool) (count : ℕ)
+    → IsAt is_up is_sound holds was mid m between x y first waiting order committed count
     → IsStep between (record { told = told; order = next }) n → n.last ≡ Some next
     → Appends y.written z.written (order_line waiting (Some order)) → Hears y z told
     → later ≡ if_heard told (opened_by waiting (Some order)) → more ≡ (committed || is_kept told)
     → Stays is_up is_sound mid keep
     → Commits is_up is_sound holds mid keep (record_told told (record_ordered (Some order)))
-    → IsAt is_up is_sound holds was keep m n x z later next more (count + 1)
-at_further is_up is_sound holds was mid keep m between n x y z waiting later order next told committed more count so_far step ordered wrote hears opened joined
-    stays commits = record {
+    → IsAt is_up is_sound holds was keep m n x z first later next more (count + 1)
+at_further is_up is_sound holds was mid keep m between n x y z first waiting later order next told committed more count so_far step ordered wrote hears opened
+    joined stays commits = record {
       steps = record { told = told; order = next } ∷ so_far.steps;
+      begun = ap (λ it. Some (earlier it told)) so_far.begun;
       conducted = further m between n so_far.steps order next told x y z so_far.conducted so_far.last step
           (subst (λ o. Appends y.written z.written (order_line o (Some order))) so_far.stands wrote) hears;
       counted = omega (arith, so_far.counted);
@@ -140,10 +154,10 @@ one_more is_up is_sound holds old new x list = λ sound up xs held.
 
 -- after all steps that it may take
 pub left_at : {S : Type 0} (is_up is_sound : S → Type 0) (holds : S → List Record → Type 0)
-    (was keep : S) (m n : Machine) (x y : Talk) (waiting : Option Forward) (order : Order) (committed : Bool) (count : ℕ)
-    → IsAt is_up is_sound holds was keep m n x y waiting order committed count
+    (was keep : S) (m n : Machine) (x y : Talk) (first : Input) (waiting : Option Forward) (order : Order) (committed : Bool) (count : ℕ)
+    → IsAt is_up is_sound holds was keep m n x y first waiting order committed count
     → IsLeft is_up is_sound holds was keep m n
-left_at is_up is_sound holds was keep m n x y waiting order committed count so_far = (
+left_at is_up is_sound holds was keep m n x y first waiting order committed count so_far = (
   so_far.steps,
   so_far.conducted.taken,
   λ sound up list held. (
@@ -156,11 +170,11 @@ left_at is_up is_sound holds was keep m n x y waiting order committed count so_f
 
 -- where its last order is not done
 pub left_at_fault : {S : Type 0} (is_up is_sound : S → Type 0) (holds : S → List Record → Type 0)
-    (was mid keep : S) (m n : Machine) (x y : Talk) (waiting : Option Forward) (order : Order) (committed : Bool) (count : ℕ)
-    → IsAt is_up is_sound holds was mid m n x y waiting order committed count
+    (was mid keep : S) (m n : Machine) (x y : Talk) (first : Input) (waiting : Option Forward) (order : Order) (committed : Bool) (count : ℕ)
+    → IsAt is_up is_sound holds was mid m n x y first waiting order committed count
     → Stays is_up is_sound mid keep → MayCommit is_up is_sound holds mid keep []
     → IsLeft is_up is_sound holds was keep m n
-left_at_fault is_up is_sound holds was mid keep m n x y waiting order committed count so_far stays last = (
+left_at_fault is_up is_sound holds was mid keep m n x y first waiting order committed count so_far stays last = (
   so_far.steps,
   so_far.conducted.taken,
   λ sound up list held.
@@ -171,7 +185,7 @@ left_at_fault is_up is_sound holds was mid keep m n x y waiting order committed 
 
 -- as many as were counted
 pub taken_at : {S : Type 0} (is_up is_sound : S → Type 0) (holds : S → List Record → Type 0)
-    (was keep : S) (m n : Machine) (x y : Talk) (waiting : Option Forward) (order : Order) (committed : Bool) (count : ℕ)
-    → IsAt is_up is_sound holds was keep m n x y waiting order committed count → HasTaken m n (count + 1)
-taken_at is_up is_sound holds was keep m n x y waiting order committed count so_far =
+    (was keep : S) (m n : Machine) (x y : Talk) (first : Input) (waiting : Option Forward) (order : Order) (committed : Bool) (count : ℕ)
+    → IsAt is_up is_sound holds was keep m n x y first waiting order committed count → HasTaken m n (count + 1)
+taken_at is_up is_sound holds was keep m n x y first waiting order committed count so_far =
     (so_far.steps, so_far.conducted.taken, so_far.counted)

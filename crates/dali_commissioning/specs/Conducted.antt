@@ -9,8 +9,9 @@ use Rattle.dali_commissioning.specs.declared.conducting.Ended.{Ended}
 use Rattle.dali_commissioning.specs.declared.conducting.Ended.TheVariants as ended
 use Rattle.dali_controller.specs.Machine.{Machine}
 use Rattle.dali_commissioning.specs.Drivers.{Talk}
-use Rattle.dali_commissioning.specs.Steps.{Step, AreSteps, last_order, written_by, HaveRead}
-use Rattle.dali_commissioning.specs.Steps.{AreTold, open_after, committed_by, has_committed}
+use Rattle.dali_commissioning.specs.Steps.{Step, AreSteps, first_told, last_order, written_by}
+use Rattle.dali_commissioning.specs.Steps.{HaveRead, AreTold, open_after, committed_by}
+use Rattle.dali_commissioning.specs.Steps.{has_committed}
 
 -- a machine took these steps, by these lines
 pub record Conducted (m n : Machine) (steps : List Step) (x y : Talk) : Type 0 where
@@ -47,13 +48,14 @@ abbrev pub order_of : Ended → Order
 order_of (ended.Done end) = Done end
 order_of (ended.Halted fault) = Halt fault
 
--- A MACHINE IS CONDUCTED up to its last order, which is not done yet. `waiting` is the first frame
--- of a pair that waits for its second one, `committed` whether a record was committed, `count` how
--- many orders were done.
+-- A MACHINE IS CONDUCTED up to its last order, which is not done yet. `first` is what it was told
+-- first, `waiting` the first frame of a pair that waits for its second one, `committed` whether a
+-- record was committed, `count` how many orders were done.
 pub record IsAt {S : Type 0} (is_up is_sound : S → Type 0) (holds : S → List Record → Type 0)
-    (was keep : S) (m n : Machine) (x y : Talk) (waiting : Option Forward) (order : Order)
-    (committed : Bool) (count : ℕ) : Type 0 where
+    (was keep : S) (m n : Machine) (x y : Talk) (first : Input) (waiting : Option Forward)
+    (order : Order) (committed : Bool) (count : ℕ) : Type 0 where
   pub steps : List Step
+  pub begun : first_told steps ≡ Some first
   pub conducted : Conducted m n steps x y
   pub counted : length steps ≡ count + 1
   pub last : last_order steps ≡ Some order

@@ -3,46 +3,55 @@ use Rattle.std.specs.Prelude.{◌++◌, length, Option, Some, None, if◌then◌
 use Rattle.dali_script.specs.declared.block.Block.{Block}
 use Rattle.dali_script.specs.declared.records.Record.{Record}
 use Rattle.dali_script.specs.declared.orders.End.TheVariants.{AllFound}
+use Rattle.dali_script.specs.declared.orders.Input.{Input}
+use Rattle.dali_script.specs.declared.orders.Input.TheVariants.{Start}
 use Rattle.dali_script.specs.Records.{Kept, Assignment}
 use Rattle.dali_script.specs.Stages.{in_block}
 use Rattle.dali_reserve.specs.Store.{IsReplay}
+use Rattle.dali_controller.specs.declared.shorts.Shorts.{Shorts}
 use Rattle.dali_controller.specs.Machine.{Machine, at_first}
 use Rattle.dali_commissioning.specs.declared.conducting.Ended.{Ended}
 use Rattle.dali_commissioning.specs.declared.conducting.Ended.TheVariants.{Done}
+use Rattle.dali_commissioning.specs.declared.conducting.Outcome.{Outcome}
 use Rattle.dali_commissioning.specs.declared.census.Reply.{Reply}
 use Rattle.dali_commissioning.specs.declared.beginning.Begun.{Begun}
 use Rattle.dali_commissioning.specs.declared.beginning.Begun.TheVariants as begun
 use Rattle.dali_commissioning.specs.Drivers.{Talk}
 use Rattle.dali_commissioning.specs.Census.{AreCounted, is_addressed}
-use Rattle.dali_commissioning.specs.Steps.{Step, last_order, committed_by}
+use Rattle.dali_commissioning.specs.Steps.{Step, first_told, last_order, committed_by}
+use Rattle.dali_commissioning.specs.Steps.{has_committed}
 use Rattle.dali_commissioning.specs.Conducted.{Conducted, Commits, Stays, order_of}
 
--- A RUN of a machine: the records that its store gave it, its steps, and how it ended.
+-- A RUN of a machine: the records that its store gave it, its steps, how it ended, and under which
+-- short addresses its survey heard somebody whom it does not know.
 pub record Run : Type 0 where
   pub start : Kept
   pub steps : List Step
   pub ended : Ended
+  pub heard : Shorts
 
--- a run, from one moment of its store and of the talk with its driver to another
+-- a run that begins so, from one moment of its store and of the talk with its driver to another
 pub record IsRun {S : Type 0} (is_up is_sound : S → Type 0) (holds : S → List Record → Type 0)
-    (block : Block) (was keep : S) (x y : Talk) (run : Run) : Type 0 where
+    (block : Block) (first : Input) (was keep : S) (x y : Talk) (run : Run) : Type 0 where
   pub machine : Machine
   pub conducted : Conducted (at_first 0 run.start) machine run.steps x y
+  pub begun : first_told run.steps ≡ Some first
   pub last : last_order run.steps ≡ Some (order_of run.ended)
+  pub marks : run.heard ≡ machine.heard
   pub read : is_sound was → is_up keep → (xs : List Record) → holds was xs
       → IsReplay block xs run.start
   pub commits : Commits is_up is_sound holds was keep (committed_by run.steps)
   pub stays : Stays is_up is_sound was keep
 
--- RUNS, one after the other, last first
+-- RUNS that each begin so, one after the other, last first
 abbrev pub AreRuns : {S : Type 0} (is_up is_sound : S → Type 0)
-    (holds : S → List Record → Type 0) → Block → S → S → Talk → Talk → List Run → Type 0
-AreRuns is_up is_sound holds block was keep x y [] = (keep ≡ was) × (y ≡ x)
-AreRuns {S = S} is_up is_sound holds block was keep x y (run ∷ before) =
+    (holds : S → List Record → Type 0) → Block → Input → S → S → Talk → Talk → List Run → Type 0
+AreRuns is_up is_sound holds block first was keep x y [] = (keep ≡ was) × (y ≡ x)
+AreRuns {S = S} is_up is_sound holds block first was keep x y (run ∷ before) =
     (mid : S)
     × (at : Talk)
-    × AreRuns is_up is_sound holds block was mid x at before
-    × IsRun is_up is_sound holds block mid keep at y run
+    × AreRuns is_up is_sound holds block first was mid x at before
+    × IsRun is_up is_sound holds block first mid keep at y run
 
 -- each run found no gear any more
 abbrev pub AreAllFound : List Run → Type 0
@@ -54,12 +63,18 @@ abbrev pub EndWith : Ended → List Run → Type 0
 EndWith ended [] = ⊥
 EndWith ended (run ∷ before) = (run.ended ≡ ended) × AreAllFound before
 
+-- the last run came to this
+abbrev pub ComeTo : Outcome → List Run → Type 0
+ComeTo outcome [] = ⊥
+ComeTo outcome (run ∷ before) =
+    (run.heard ≡ outcome.heard) × (outcome.committed ≡ has_committed run.steps)
+
 -- SO MANY RUNS, one after the other, and none of them found any gear more
 abbrev pub HaveRun : {S : Type 0} (is_up is_sound : S → Type 0)
-    (holds : S → List Record → Type 0) → Block → S → S → Talk → Talk → ℕ → Type 0
-HaveRun is_up is_sound holds block was keep x y count =
+    (holds : S → List Record → Type 0) → Block → Input → S → S → Talk → Talk → ℕ → Type 0
+HaveRun is_up is_sound holds block first was keep x y count =
     (runs : List Run)
-    × AreRuns is_up is_sound holds block was keep x y runs
+    × AreRuns is_up is_sound holds block first was keep x y runs
     × AreAllFound runs
     × (length runs ≡ count)
 
@@ -88,7 +103,8 @@ pub record IsRead {S : Type 0} (is_up is_sound : S → Type 0) (holds : S → Li
   pub stays : Stays is_up is_sound was keep
 
 -- WHAT CAME OF A BEGINNING. Where a gear answers to a short address that no record names, nothing
--- is begun: the questions are all that was put, and the store has what it had. Else machines run.
+-- is begun: the questions are all that was put, and the store has what it had. Else machines run,
+-- each of which begins with Start.
 abbrev pub IsBegun : {S : Type 0} (is_up is_sound : S → Type 0)
     (holds : S → List Record → Type 0) → Block → List Block → ℕ → S → S → Talk → Talk → Begun
     → Type 0
@@ -97,7 +113,8 @@ IsBegun is_up is_sound holds block others wanted was keep x y (begun.Addressed r
     × IsRead is_up is_sound holds block was keep k
     × AreCounted k others 0 replies.items x y
     × (is_addressed replies.items ≡ true)
-IsBegun {S = S} is_up is_sound holds block others wanted was keep x y (begun.Commissioned ended) =
+IsBegun {S = S} is_up is_sound holds block others wanted was keep x y
+    (begun.Commissioned outcome) =
     (k : Kept)
     × (mid : S)
     × (at : Talk)
@@ -106,9 +123,10 @@ IsBegun {S = S} is_up is_sound holds block others wanted was keep x y (begun.Com
     × IsRead is_up is_sound holds block was mid k
     × AreCounted k others 0 replies x at
     × (is_addressed replies ≡ false)
-    × AreRuns is_up is_sound holds block mid keep at y runs
-    × EndWith ended runs
-    × (ended ≡ Done AllFound → AreQuiet wanted runs)
+    × AreRuns is_up is_sound holds block Start mid keep at y runs
+    × EndWith outcome.ended runs
+    × ComeTo outcome runs
+    × (outcome.ended ≡ Done AllFound → AreQuiet wanted runs)
 
 -- the first reserved short address outside of a block
 abbrev pub outside : Block → List Assignment → Option ℕ

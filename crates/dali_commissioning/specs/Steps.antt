@@ -33,6 +33,15 @@ abbrev pub AreSteps : Machine → List Step → Machine → Type 0
 AreSteps m [] n = n ≡ m
 AreSteps m (s ∷ before) n = (mid : Machine) × AreSteps m before mid × IsStep mid s n
 
+-- what a machine was told first
+abbrev pub earlier : Option Input → Input → Input
+earlier (Some first) told = first
+earlier None told = told
+
+abbrev pub first_told : List Step → Option Input
+first_told [] = None
+first_told (s ∷ before) = Some (earlier (first_told before) s.told)
+
 -- the last order
 abbrev pub last_order : List Step → Option Order
 last_order [] = None

@@ -8,7 +8,7 @@ ghost use Rattle.dali_commissioning.specs.Conducted.{Stays};
 ghost use Rattle.dali_commissioning.specs.Runs.{IsRead, IsBegun, Grows, outside};
 
 use crate::census::{Reply, is_addressed, take_census};
-use crate::conducting::Ended;
+use crate::conducting::Outcome;
 use crate::driver::Driver;
 use crate::fault::CommissionFault;
 use crate::runs::commission;
@@ -16,7 +16,7 @@ use crate::watch::Watch;
 use arrayvec::ArrayVec;
 use dali_frame::Short;
 use dali_reserve::Keep;
-use dali_script::{Block, Kept};
+use dali_script::{Block, Input, Kept};
 use std::io::{Read, Write};
 
 /// What came of a beginning.
@@ -25,8 +25,8 @@ pub enum Begun {
     /// Gear answer to short addresses that are not accounted for, so nothing was begun. This was heard of each short
     /// address, from 0 on; those that are accounted for were not asked.
     Addressed(ArrayVec<Reply, 64>),
-    /// Machines ran, and the last one ended so.
-    Commissioned(Ended),
+    /// Machines ran, and the last one came to this.
+    Commissioned(Outcome),
 }
 
 /// The records of a store.
@@ -44,10 +44,11 @@ fn records<K: Keep>(keep: &mut K) -> Result<Kept, CommissionFault>
 }
 
 /// Asks each short address that the records do not name and that lies in no block of another controller, and where
-/// nothing is heard, commissions.
+/// nothing is heard, commissions by machines that begin with Start.
 ///
-/// Gear that were addressed before, by another controller or by hand, are not searched, and their addresses might be
-/// given to others. So where anything is heard, nothing is begun.
+/// Such machines don't search gear that were addressed before, by another controller or by hand, and might give their
+/// addresses to others. So where anything is heard, nothing is begun. Machines that begin with Survey ask themselves:
+/// `commission` runs them without a census.
 #[tactic(auto, using(crate::proofs::Ran::read_grows))]
 pub fn begin<K: Keep, R: Read, W: Write, P: Watch>(
     keep: &mut K,
@@ -67,8 +68,8 @@ pub fn begin<K: Keep, R: Read, W: Write, P: Watch>(
     if is_addressed(&replies) {
         return Ok(Begun::Addressed(replies));
     }
-    match commission(keep, driver, watch, quiet_runs) {
-        Ok(ended) => Ok(Begun::Commissioned(ended)),
+    match commission(keep, driver, watch, Input::Start, quiet_runs) {
+        Ok(outcome) => Ok(Begun::Commissioned(outcome)),
         Err(fault) => Err(fault),
     }
 }

@@ -18,7 +18,7 @@ use crate::driver::{Driver, DriverFault};
 use crate::fault::CommissionFault;
 use crate::lines::Half;
 use crate::watch::Watch;
-use dali_controller::Machine;
+use dali_controller::{Machine, Shorts};
 use dali_frame::{Forward, Priority};
 use dali_reserve::{Keep, KeepError};
 use dali_script::{End, Fault, Input, Order, Record};
@@ -38,6 +38,8 @@ pub struct Outcome {
     pub ended: Ended,
     /// Whether a record was committed.
     pub committed: bool,
+    /// The short addresses under which its survey heard somebody whose random address it does not know.
+    pub heard: Shorts,
 }
 
 /// Which frame of a pair a frame is, where this first one of a pair was heard right before it.
@@ -200,8 +202,8 @@ fn end_at(order: &Order) -> Option<Ended>
     }
 }
 
-/// Takes a machine from its start to its end: each frame that it puts is a line to the driver, and each record that it
-/// orders is committed in the store.
+/// Takes a machine from its start to its end: `start` is what it is told first, each frame that it puts is a line to
+/// the driver, and each record that it orders is committed in the store.
 ///
 /// The machine is told Committed only of a record that the store has then. It does at most so many orders. Where a
 /// record cannot be committed, it is told nothing: what the store reads then decides. `watch` sees each order before it
@@ -212,14 +214,17 @@ pub fn conduct<K: Keep, R: Read, W: Write, P: Watch>(
     keep: &mut K,
     driver: &mut Driver<R, W>,
     watch: &mut P,
+    start: Input,
     steps: u32,
 ) -> Result<Outcome, CommissionFault>
     requires start { machine.old.last ≡ None }
+    requires begins { accepts due.Start start ≡ true }
     requires block { K.block keep.old ≡ machine.old.kept.block }
     ensures ended { IfOk result (λ outcome. (waiting : Option Forward) × (count : ℕ) × IsAt K.is_up K.is_sound K.holds
         keep.old keep.new machine.old machine.new
         (talk_of R.remaining W.contents driver.old) (talk_of R.remaining W.contents driver.new)
-        waiting (order_of outcome.ended) outcome.committed count) }
+        start waiting (order_of outcome.ended) outcome.committed count) }
+    ensures heard { IfOk result (λ outcome. outcome.heard ≡ machine.new.heard) }
     ensures spent { result ≡ Err CommissionFault.StepsSpent → HasTaken machine.old machine.new (steps + 1) }
     ensures fault { IfErr result (λ _. IsLeft K.is_up K.is_sound K.holds keep.old keep.new machine.old machine.new) }
     ensures one_run { result ≢ Err CommissionFault.RunsSpent }
@@ -228,11 +233,15 @@ pub fn conduct<K: Keep, R: Read, W: Write, P: Watch>(
 {
     let mut waiting = None;
     let mut committed = false;
-    let mut order = step(machine, Input::Start);
+    let mut order = step(machine, start);
     for _ in 0..steps {
         watch.ordered(&order);
         if let Some(ended) = end_at(&order) {
-            return Ok(Outcome { ended, committed });
+            return Ok(Outcome {
+                ended,
+                committed,
+                heard: machine.heard(),
+            });
         }
         match answer(keep, driver, &mut waiting, &order) {
             Ok(told) => {

@@ -1,11 +1,14 @@
 //! Commissioning until it is done: one machine after the other, each from the records of the store.
 
-ghost use Rattle.std.specs.Prelude.{◌≡◌, ◌≢◌, ◌<◌, ◌↔◌, List, IsTrue, Err, IfOk, IfErr};
+ghost use Rattle.std.specs.Prelude.{◌≡◌, ◌≢◌, ◌<◌, ◌↔◌, true, List, IsTrue, Err, IfOk, IfErr};
+ghost use Rattle.dali_script.specs.Due.{accepts};
+ghost use Rattle.dali_script.specs.declared.orders.Due.TheVariants as due;
 ghost use Rattle.dali_script.specs.declared.orders.End.TheVariants as ends;
 ghost use Rattle.dali_commissioning.specs.Drivers.{talk_of};
 ghost use Rattle.dali_commissioning.specs.Steps.{has_committed};
 ghost use Rattle.dali_commissioning.specs.Conducted.{Stays};
-ghost use Rattle.dali_commissioning.specs.Runs.{Run, IsRun, AreRuns, HaveRun, AreQuiet, EndWith, Grows, quiet_after};
+ghost use Rattle.dali_commissioning.specs.Runs.{Run, IsRun, AreRuns, HaveRun, AreQuiet, EndWith, ComeTo, Grows};
+ghost use Rattle.dali_commissioning.specs.Runs.{quiet_after};
 
 use crate::conducting::{Ended, Outcome, conduct};
 use crate::driver::Driver;
@@ -13,7 +16,7 @@ use crate::fault::CommissionFault;
 use crate::watch::Watch;
 use dali_controller::Machine;
 use dali_reserve::Keep;
-use dali_script::End;
+use dali_script::{End, Input};
 use std::io::{Read, Write};
 
 /// How many steps a machine may take: at twenty milliseconds a frame, some five hours.
@@ -39,15 +42,17 @@ fn quiet_after(quiet: u8, committed: bool) -> u8
     if committed { 0 } else { quiet + 1 }
 }
 
-/// Runs one machine, from the records of the store.
+/// Runs one machine, from the records of the store and by this input.
 fn run<K: Keep, R: Read, W: Write, P: Watch>(
     keep: &mut K,
     driver: &mut Driver<R, W>,
     watch: &mut P,
+    start: Input,
 ) -> Result<Outcome, CommissionFault>
-    ensures ran { IfOk result (λ outcome. (run : Run) × IsRun K.is_up K.is_sound K.holds (K.block keep.old)
+    requires begins { accepts due.Start start ≡ true }
+    ensures ran { IfOk result (λ outcome. (run : Run) × IsRun K.is_up K.is_sound K.holds (K.block keep.old) start
         keep.old keep.new (talk_of R.remaining W.contents driver.old) (talk_of R.remaining W.contents driver.new) run
-        × (run.ended ≡ outcome.ended) × (outcome.committed ≡ has_committed run.steps)) }
+        × (run.ended ≡ outcome.ended) × (run.heard ≡ outcome.heard) × (outcome.committed ≡ has_committed run.steps)) }
     ensures left { IfErr result (λ _. Grows K.is_up K.is_sound K.holds keep.old keep.new) }
     ensures stays { Stays K.is_up K.is_sound keep.old keep.new }
     ensures block { K.block keep.new ≡ K.block keep.old }
@@ -58,14 +63,14 @@ fn run<K: Keep, R: Read, W: Write, P: Watch>(
         Err(error) => return Err(CommissionFault::Store(error)),
     };
     let mut machine = Machine::new(0, &kept);
-    match conduct(&mut machine, keep, driver, watch, MOST_STEPS) {
+    match conduct(&mut machine, keep, driver, watch, start, MOST_STEPS) {
         Ok(outcome) => Ok(outcome),
         Err(fault) => Err(fault),
     }
 }
 
-/// Runs machines, until one ended otherwise than that no gear answers any more, or so many in a row have committed
-/// nothing.
+/// Runs machines, each of which begins by this input, until one ended otherwise than that no gear answers any more, or
+/// so many in a row have committed nothing. Answers what came of the last one.
 ///
 /// One run may leave gear where an answer was lost. The store has all that was committed, however it ends.
 #[tactic(auto, using(crate::proofs::Ran::none_ran, crate::proofs::Ran::all_ran))]
@@ -73,30 +78,35 @@ pub fn commission<K: Keep, R: Read, W: Write, P: Watch>(
     keep: &mut K,
     driver: &mut Driver<R, W>,
     watch: &mut P,
+    start: Input,
     quiet_runs: u8,
-) -> Result<Ended, CommissionFault>
+) -> Result<Outcome, CommissionFault>
+    requires begins { accepts due.Start start ≡ true }
     requires some { 0 < quiet_runs }
-    ensures ran { IfOk result (λ ended. (runs : List Run) × AreRuns K.is_up K.is_sound K.holds (K.block keep.old)
-        keep.old keep.new (talk_of R.remaining W.contents driver.old) (talk_of R.remaining W.contents driver.new) runs
-        × EndWith ended runs × (ended ≡ Ended.Done ends.AllFound → AreQuiet quiet_runs runs)) }
+    ensures ran { IfOk result (λ outcome. (runs : List Run) × AreRuns K.is_up K.is_sound K.holds (K.block keep.old)
+        start keep.old keep.new (talk_of R.remaining W.contents driver.old)
+        (talk_of R.remaining W.contents driver.new) runs
+        × EndWith outcome.ended runs × ComeTo outcome runs
+        × (outcome.ended ≡ Ended.Done ends.AllFound → AreQuiet quiet_runs runs)) }
     ensures spent { result ≡ Err CommissionFault.RunsSpent → HaveRun K.is_up K.is_sound K.holds (K.block keep.old)
-        keep.old keep.new (talk_of R.remaining W.contents driver.old) (talk_of R.remaining W.contents driver.new) 1000 }
+        start keep.old keep.new (talk_of R.remaining W.contents driver.old)
+        (talk_of R.remaining W.contents driver.new) 1000 }
     ensures left { IfErr result (λ _. Grows K.is_up K.is_sound K.holds keep.old keep.new) }
     ensures stays { Stays K.is_up K.is_sound keep.old keep.new }
     ensures block { K.block keep.new ≡ K.block keep.old }
 {
     let mut quiet = 0;
     for _ in 0..MOST_RUNS {
-        let outcome = match run(keep, driver, watch) {
+        let outcome = match run(keep, driver, watch, start) {
             Ok(outcome) => outcome,
             Err(fault) => return Err(fault),
         };
         if !is_all_found(outcome.ended) {
-            return Ok(outcome.ended);
+            return Ok(outcome);
         }
         quiet = quiet_after(quiet, outcome.committed);
         if quiet == quiet_runs {
-            return Ok(outcome.ended);
+            return Ok(outcome);
         }
     }
     Err(CommissionFault::RunsSpent)

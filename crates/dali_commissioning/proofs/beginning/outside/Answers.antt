@@ -1,4 +1,4 @@
-use Rattle.std.proofs.Common.{◌≡◌, ◌<◌, ◌⊎◌, inl, inr, sym, ◌∙◌, arith}
+use Rattle.std.proofs.Common.{◌<◌, ◌⊎◌, inl, inr, sym, ◌∙◌, arith}
 use Rattle.dali_script.proofs.Lists.{has_map, next_there}
 use Rattle.dali_commissioning.proofs.Blocks.{outside_here, short_is}
 use Rattle.dali_commissioning.proofs.beginning.outside.Goals as goal

@@ -1,4 +1,4 @@
-use Rattle.std.proofs.Common.{rules, arith, ap, ◌+◌}
+use Rattle.std.proofs.Common.{rules, ap, ◌+◌}
 use Rattle.dali_commissioning.proofs.Asked.{asked_more, answered, given_up, tried_more}
 use Rattle.dali_commissioning.proofs.census.ask.Goals as goal
 

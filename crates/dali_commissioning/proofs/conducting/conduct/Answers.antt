@@ -4,7 +4,7 @@ use Rattle.dali_commissioning.proofs.conducting.conduct.Goals as goal
 
 pub loop-init : goal.loop-init
 loop-init g c = record {
-  at = at_begun _ _ _ _ _ _ _ _ c.step-order.ensures.step c.step-order.ensures.ordered;
+  at = at_begun _ _ _ _ _ _ _ _ _ c.requires.begins c.step-order.ensures.step c.step-order.ensures.ordered;
   block = refl;
   same = c.requires.block ∙ sym c.step-order.ensures.block;
   fits = c.step-order.ensures.fits;
@@ -12,7 +12,7 @@ loop-init g c = record {
 
 pub loop-preserved : goal.loop-preserved
 loop-preserved g c = record {
-  at = at_further g.K.Keep.is_up g.K.Keep.is_sound g.K.Keep.holds _ _ _ _ _ _ _ _ _ _ _ _ _ c.in-Ok.told _ _ _ c.loop.invariant.at
+  at = at_further g.K.Keep.is_up g.K.Keep.is_sound g.K.Keep.holds _ _ _ _ _ _ _ _ _ _ _ _ _ _ c.in-Ok.told _ _ _ c.loop.invariant.at
       c.step-order-in-Ok.ensures.step c.step-order-in-Ok.ensures.ordered c.in-Ok.ensures.wrote c.in-Ok.ensures.read
       c.in-Ok.ensures.waiting (search rules) c.in-Ok.ensures.stays c.in-Ok.ensures.adds;
   block = c.in-Ok.ensures.block ∙ c.loop.invariant.block;
@@ -21,7 +21,7 @@ loop-preserved g c = record {
 }
 
 pub returns-in-Err-clause-fault : goal.returns-in-Err-clause-fault
-returns-in-Err-clause-fault g c = left_at_fault g.K.Keep.is_up g.K.Keep.is_sound g.K.Keep.holds _ _ _ _ _ _ _ _ _ _ _ c.loop.invariant.at
+returns-in-Err-clause-fault g c = left_at_fault g.K.Keep.is_up g.K.Keep.is_sound g.K.Keep.holds _ _ _ _ _ _ _ _ _ _ _ _ c.loop.invariant.at
     c.in-Err.ensures.stays c.in-Err.ensures.left
 
 pub returns-in-Err-clause-stays : goal.returns-in-Err-clause-stays
@@ -32,7 +32,7 @@ pub returns-in-Some-clause-stays : goal.returns-in-Some-clause-stays
 returns-in-Some-clause-stays g c = c.loop.invariant.at.stays
 
 pub returns-clause-fault : goal.returns-clause-fault
-returns-clause-fault g c = left_at g.K.Keep.is_up g.K.Keep.is_sound g.K.Keep.holds _ _ _ _ _ _ _ _ _ _ c.loop.invariant.at
+returns-clause-fault g c = left_at g.K.Keep.is_up g.K.Keep.is_sound g.K.Keep.holds _ _ _ _ _ _ _ _ _ _ _ c.loop.invariant.at
 
 pub returns-clause-stays : goal.returns-clause-stays
 returns-clause-stays g c = c.loop.invariant.at.stays
