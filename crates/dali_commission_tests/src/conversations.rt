@@ -17,19 +17,30 @@ pub fn all_addresses() -> Option<Block> {
     Some(Block { first, last })
 }
 
+/// How machines end that begin with Start.
+fn ended<K: Keep, W: Write>(
+    keep: &mut K,
+    driver: &mut Driver<&[u8], W>,
+) -> Result<Ended, CommissionFault> {
+    match commission(keep, driver, &mut Unwatched, Input::Start, 1) {
+        Ok(outcome) => Ok(outcome.ended),
+        Err(fault) => Err(fault),
+    }
+}
+
 /// What machines come to over a driver that answers this, and at which of its lines.
 fn ends_as<R: Abort + AllocGlobal, K: Keep + Drop, W: Write + Drop>(
     rt: &R,
     keep: K,
     answers: &[u8],
     writer: W,
-    ended: Result<Ended, CommissionFault>,
+    wanted: Result<Ended, CommissionFault>,
     line: u64,
 ) {
     let mut keep = keep;
     let mut driver = Driver::new(rt.alloc(), answers, writer);
-    let found = commission(&mut keep, &mut driver, &mut Unwatched, 1);
-    assert!(rt; found == ended);
+    let found = ended(&mut keep, &mut driver);
+    assert!(rt; found == wanted);
     assert!(rt; driver.lines() == line);
 }
 
@@ -88,8 +99,8 @@ fn a_gear_is_given_an_address(rt: HostRuntime) {
     assert!(rt; answers.push_str(GIVEN).is_ok());
     let mut keep = none_kept(&rt);
     let mut driver = Driver::new(rt.alloc(), answers.as_bytes(), std::io::sink());
-    let ended = commission(&mut keep, &mut driver, &mut Unwatched, 1);
-    assert!(rt; ended == Ok(Ended::Done(End::AllFound)));
+    let found = ended(&mut keep, &mut driver);
+    assert!(rt; found == Ok(Ended::Done(End::AllFound)));
     assert!(rt; driver.lines() == 131);
     match keep.read() {
         Ok(kept) => assert!(rt; kept.enrolled().len() == 1 && kept.reserved().len() == 1),

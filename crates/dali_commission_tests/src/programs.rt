@@ -39,6 +39,10 @@ fn answers<R: Abort + AllocGlobal>(rt: &R, first: &str, silent: u32) -> String {
 
 const RUN: &[u8] = b"dali_commission run --records site.db 0-63";
 
+const FRESH: &[u8] = b"dali_commission run --records site.db --start fresh 0-63";
+
+const ONCE: &[u8] = b"dali_commission run --records site.db --quiet-runs 1 0-63";
+
 const CHECK: &[u8] = b"dali_commission check --records site.db";
 
 const FIVE: [(u8, u8, u32); 4] = [
@@ -82,6 +86,10 @@ fn words_that_ask_for_nothing_are_refused(rt: HostRuntime) {
             b"dali_commission run --records site.db --driver x 0-15".as_slice(),
             "launcher",
         ),
+        (
+            b"dali_commission run --records site.db --start census 0-63".as_slice(),
+            "'census'",
+        ),
         (b"dali_commission identify 64".as_slice(), "'64'"),
         (
             b"dali_commission identify 5 --driver x".as_slice(),
@@ -102,24 +110,63 @@ fn words_that_ask_for_nothing_are_refused(rt: HostRuntime) {
 
 #[test]
 fn an_empty_bus_is_done_after_three_runs(rt: HostRuntime) {
-    let silent = answers(&rt, "", 606);
-    let said = "0 gear were given an address, 0 are in the table; 30 frames\n";
-    ends(&rt, RUN, &Shelf::of(&[]), &silent, (0, 606, said));
-    let words = b"dali_commission run --records site.db --quiet-runs 1 --others 16-63 --quiet 0-15";
-    ends(&rt, words, &Shelf::of(&[]), &silent, (0, 154, said_once()));
-}
-
-/// What is said of one run that found no gear.
-fn said_once() -> &'static str {
-    "0 gear were given an address, 0 are in the table; 10 frames\n"
+    let silent = answers(&rt, "", 627);
+    let said = "0 gear were enrolled, 0 are in the table; 627 frames\n";
+    ends(&rt, RUN, &Shelf::of(&[]), &silent, (0, 627, said));
+    let said = "0 gear were enrolled, 0 are in the table; 209 frames\n";
+    ends(&rt, ONCE, &Shelf::of(&[]), &silent, (0, 209, said));
 }
 
 #[test]
-fn nothing_is_begun_where_a_stranger_answers(rt: HostRuntime) {
+fn an_empty_bus_with_new_gear_alone_is_done_after_three_runs(rt: HostRuntime) {
+    let silent = answers(&rt, "", 606);
+    let said = "0 gear were enrolled, 0 are in the table; 30 frames\n";
+    ends(&rt, FRESH, &Shelf::of(&[]), &silent, (0, 606, said));
+    let words =
+        b"dali_commission run --records site.db --start fresh --quiet-runs 1 --others 16-63 --quiet 0-15";
+    ends(&rt, words, &Shelf::of(&[]), &silent, (0, 154, said_once()));
+}
+
+/// A gear that has short address 0 is asked in the first run, and named by the table in the second one.
+#[test]
+fn a_survey_enrols_who_tells_its_random_address(rt: HostRuntime) {
+    let told = answers(&rt, "byte 12\nbyte 34\nbyte 56\n", 412);
+    let shelf = Shelf::of(&[]);
+    let said = "1 gear were enrolled, 1 are in the table; 415 frames\n";
+    ends(&rt, ONCE, &shelf, &told, (0, 415, said));
+    assert!(rt; shelf.enrolled() == Some(1));
+}
+
+#[test]
+fn a_survey_leaves_alone_who_does_not_tell_its_random_address(rt: HostRuntime) {
+    for (first, silent, lines) in [
+        ("damaged\n", 206, 207),
+        ("byte 12\ndamaged\n", 206, 208),
+        ("byte 12\nbyte 34\n", 207, 209),
+        ("byte FF\nbyte FF\nbyte FF\n", 206, 209),
+    ] {
+        let shelf = Shelf::of(&[]);
+        let heard = answers(&rt, first, silent);
+        ends(&rt, ONCE, &shelf, &heard, (0, lines, LEFT_ALONE));
+        assert!(rt; shelf.enrolled() == Some(0));
+    }
+}
+
+const LEFT_ALONE: &str = "\
+0 - somebody answers whose random address was not heard; left alone
+0 gear were enrolled, 0 are in the table; ";
+
+/// What is said of one run that found no gear.
+fn said_once() -> &'static str {
+    "0 gear were enrolled, 0 are in the table; 10 frames\n"
+}
+
+#[test]
+fn nothing_is_begun_beside_new_gear_where_a_stranger_answers(rt: HostRuntime) {
     let stranger = answers(&rt, "byte 12\nbyte 34\nbyte 56\n", 573);
     ends(
         &rt,
-        RUN,
+        FRESH,
         &Shelf::of(&[]),
         &stranger,
         (1, 576, "0 123456 stranger\nWhat can be done:\n"),
@@ -128,10 +175,10 @@ fn nothing_is_begun_where_a_stranger_answers(rt: HostRuntime) {
     let once = answers(&rt, noise, 603);
     ends(
         &rt,
-        RUN,
+        FRESH,
         &Shelf::of(&[]),
         &once,
-        (0, 606, "0 gear were given"),
+        (0, 606, "0 gear were enrolled"),
     );
     let thrice = answers(
         &rt,
@@ -139,10 +186,10 @@ fn nothing_is_begun_where_a_stranger_answers(rt: HostRuntime) {
         567,
     );
     let said = "0 - several strangers, or a disturbed bus\n";
-    ends(&rt, RUN, &Shelf::of(&[]), &thrice, (1, 576, said));
+    ends(&rt, FRESH, &Shelf::of(&[]), &thrice, (1, 576, said));
     let unclear = answers(&rt, "byte 12\n", 575);
     let said = "0 - strangers that were not understood\n";
-    ends(&rt, RUN, &Shelf::of(&[]), &unclear, (1, 576, said));
+    ends(&rt, FRESH, &Shelf::of(&[]), &unclear, (1, 576, said));
     let two = answers(
         &rt,
         "byte 12\nbyte 34\nbyte 56\nbyte 12\nbyte 34\nbyte 57\n",
@@ -150,7 +197,7 @@ fn nothing_is_begun_where_a_stranger_answers(rt: HostRuntime) {
     );
     ends(
         &rt,
-        RUN,
+        FRESH,
         &Shelf::of(&[]),
         &two,
         (1, 576, "0 - several strangers\n"),
@@ -161,6 +208,13 @@ fn nothing_is_begun_where_a_stranger_answers(rt: HostRuntime) {
 fn a_bus_that_loses_all_is_given_up(rt: HostRuntime) {
     let lost = "lapsed\nlapsed\ndestroyed\nlapsed\nlapsed\nlapsed\nlapsed\nlapsed\n";
     ends(&rt, RUN, &Shelf::of(&[]), lost, (7, 8, "ended: gave-up\n"));
+    ends(
+        &rt,
+        FRESH,
+        &Shelf::of(&[]),
+        lost,
+        (7, 8, "ended: gave-up\n"),
+    );
 }
 
 #[test]
@@ -231,6 +285,9 @@ fn a_check_says_where_each_gear_stands(rt: HostRuntime) {
         &silent,
         (0, 576, "0 in the table"),
     );
+    let beside = b"dali_commission check --records site.db --others 4-9";
+    let said = "2 in the table, 0 of them not there; 0 strangers; 2 addresses";
+    ends(&rt, beside, &Shelf::of(&FIVE), &silent, (0, 522, said));
     let first = answers(&rt, "byte 12\nbyte 34\nbyte 57\n", 573);
     let five = [(1, 0, 0x123456), (2, 0, 0x123456)];
     let said = "0 123456 another gear answers: 123457\n";
