@@ -1,4 +1,4 @@
-ghost use Rattle.std.specs.Prelude.{◌≡◌, ◌⊎◌, None, IfSome};
+ghost use Rattle.std.specs.Prelude.{◌≡◌, ◌⊎◌, false, None, IfSome, IsTrue};
 ghost use Rattle.dali_script.specs.declared.orders.Input.TheVariants as input;
 ghost use Rattle.dali_script.specs.declared.records.Record.{Record};
 ghost use Rattle.dali_line.specs.Leaves.{Leaves, Posts, Stores};
@@ -29,27 +29,36 @@ pub struct Worker<P, K, G> {
     pub keep: K,
     /// What is asked at each moment of a turn.
     pub gate: G,
+    /// Whether the controller begins by a survey, each time it is to start.
+    pub surveys: bool,
 }
 
 impl<P, K: Keep, G: Gate> Worker<P, K, G> {
-    /// A worker with this port, store and gate.
+    /// A worker with this port, store and gate. Its controller begins without a survey.
     pub fn new(port: P, keep: K, gate: G) -> Worker<P, K, G>
         ensures port { result.port ≡ port }
         ensures keep { result.keep ≡ keep }
+        ensures surveys { result.surveys ≡ false }
     {
-        Worker { port, keep, gate }
+        Worker {
+            port,
+            keep,
+            gate,
+            surveys: false,
+        }
     }
 
     /// Takes turns until the controller ends, halts or is down, the line is stopped or refuses, or this many turns are
     /// taken. All but the first three stop the line. Answers how it ended, and gives port and store back.
     ///
     /// A turn waits until something is due, and acts on it at most once; where no request more may wait, it waits for
-    /// room before. Where a commit is due, the worker tells the bus that it begins it, and learns which record it is:
-    /// the run may have begun with the commit due. Then the store is read and commits the record, between BeforeCommit
-    /// and AfterCommit, unless what is read shows the record already. The controller is told: Committed where the store
-    /// has the record then; else CommitFailed, also where the store did not answer its records, or the record does not
-    /// fit them. An enrolment that the controller was told to be committed is posted in the directory; where there is
-    /// no memory for its card, the run ends with NoMemory. The pass is given back, with what the worker has learned.
+    /// room before. A controller that is to start is given Survey by a worker that surveys, and else Start. Where a
+    /// commit is due, the worker tells the bus that it begins it, and learns which record it is: the run may have begun
+    /// with the commit due. Then the store is read and commits the record, between BeforeCommit and AfterCommit, unless
+    /// what is read shows the record already. The controller is told: Committed where the store has the record then;
+    /// else CommitFailed, also where the store did not answer its records, or the record does not fit them. What the
+    /// controller was told to be committed is posted in the directory, if it is an enrolment; where there is no memory
+    /// for its card, the run ends with NoMemory. The pass is given back, with what the worker has learned.
     ///
     /// Where the bus lapsed before the controller acted on what it was told (NotDue), the turn ends. The outcome of a
     /// commit is told, or the run ends: with Down, Stopped or Refused.
@@ -70,11 +79,17 @@ impl<P, K: Keep, G: Gate> Worker<P, K, G> {
         ensures known { Keeps pass result.3 }
         ensures posted { Posts K.is_up K.is_sound K.holds self.keep result.2 pass result.3 }
     {
-        let Worker { port, keep, gate } = self;
+        let Worker {
+            port,
+            keep,
+            gate,
+            surveys,
+        } = self;
         let mut shift = Shift {
             port,
             keep,
             gate,
+            surveys,
             kept: None,
         };
         let mut outcome = Outcome::TurnsSpent;
@@ -88,6 +103,7 @@ impl<P, K: Keep, G: Gate> Worker<P, K, G> {
             mut port,
             keep,
             gate,
+            surveys: _,
             kept,
         } = shift;
         bus.end_commit(rt, &mut port, kept.is_some());
@@ -96,6 +112,25 @@ impl<P, K: Keep, G: Gate> Worker<P, K, G> {
         }
         drop(gate);
         (outcome, port, keep, pass)
+    }
+}
+
+/// What a controller is given that was told this: Survey where it is to start and begins by a survey.
+fn begun(told: Input, surveys: bool) -> Input
+    ensures survey { IsTrue surveys → told ≡ input.Start → result ≡ input.Survey }
+    ensures start { IsTrue surveys → result ≡ input.Start → ⊥ }
+    ensures other { (told ≡ input.Start → ⊥) → result ≡ told }
+    ensures plain { surveys ≡ false → result ≡ told }
+{
+    match told {
+        Input::Start if surveys => Input::Survey,
+        Input::Start
+        | Input::Survey
+        | Input::Heard(_)
+        | Input::Destroyed
+        | Input::Lapsed
+        | Input::Committed
+        | Input::CommitFailed => told,
     }
 }
 
@@ -164,6 +199,7 @@ struct Shift<P, K, G> {
     port: P,
     keep: K,
     gate: G,
+    surveys: bool,
     kept: Option<Record>,
 }
 
@@ -188,17 +224,18 @@ impl<P, K: Keep, G: Gate> Shift<P, K, G> {
         }
     }
 
-    /// What its controller is given to act on: what the bus has told it, or what became of its commit, which is made
-    /// now. None where nothing is due.
+    /// What its controller is given to act on: what the bus has told it, with Survey in place of Start where it begins
+    /// by a survey; or what became of its commit, which is made now. None where nothing is due.
     #[tactic(auto, using(crate::proofs::Leaving::leaves_none))]
     fn given<B: Bus<Port = P>, R: Wait>(&mut self, rt: &R, bus: &B) -> Option<Input>
         ensures keep { Leaves K.is_up K.is_sound K.holds self.old.keep self.new.keep }
         ensures stored { IfSome self.new.kept (Stores K.is_up K.is_sound K.holds K.block self.old.keep self.new.keep) }
         ensures port { B.share self.new.port ≡ B.share self.old.port }
+        ensures surveys { IsTrue self.old.surveys → IfSome result (λ i. i ≡ input.Start → ⊥) }
     {
         self.kept = None;
-        if let Some(input) = bus.next(rt, &mut self.port) {
-            return Some(input);
+        if let Some(told) = bus.next(rt, &mut self.port) {
+            return Some(begun(told, self.surveys));
         }
         let Some(added) = bus.begin_commit(rt, &mut self.port) else {
             return None;
