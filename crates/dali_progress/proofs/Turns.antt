@@ -365,7 +365,7 @@ probing_turns before t o (stage.Probed r h) gs left g st last purpose is running
     goes_by before t o (probed t.course h) gs left (calm_of before t gs left st) (tabled_at before t gs left (stage.Probed r h) st is)
     (given.begins_after t o (stage.Probed r h) g is tt (found_none before t gs left (stage.Probed r h) st is refl) last (never_eight t.tries st.tries))
     (ap (begins_at t) is ∙ probed_fresh t h st.fresh) there.0
-        (subst (λ b. At (probed t.course h).purpose stage.Free t.kept b (probed t.course h).search (probed t.course h).number gs left)
+    (subst (λ b. At (probed t.course h).purpose stage.Free t.kept b (probed t.course h).search (probed t.course h).number gs left)
     (sym opened) there.1)
 probing_turns before t o _ gs left g st last purpose is running opened p = absurd p.stage_is
 

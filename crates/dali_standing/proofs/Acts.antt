@@ -165,9 +165,14 @@ may_order_by w c k t (Commit (Reserve a r)) both may =
     (both.outstanding, subst (λ x. InBlock x.block a × (r < MASK24) × MayAdd x (Reserve a r)) both.kept (may.fits.0, may.fits.1, may.may))
 may_order_by w c k t (Commit (Enrol b r)) both may =
     let x : Finding = may.warranted.0 in
-    let found : k.finding ≡ Some x = later_some k.finding (finding_of t.trace) x may.warranted.2 both.found in
-    (both.outstanding, ((x, found, sym (enrols_assigned t.course.way t.kept.reserved x (b, r) may.warranted.3)), may.fits,
-        subst (λ q. MayAdd q (Enrol b r)) both.kept may.may))
+    let found : k.finding ≡ Some x = later_some k.finding (finding_of t.trace) x may.warranted.2 both.found in (
+      both.outstanding,
+      (
+        (x, found, sym (enrols_assigned t.course.way t.kept.reserved x (b, r) may.warranted.3)),
+        may.fits,
+        subst (λ q. MayAdd q (Enrol b r)) both.kept may.may,
+      ),
+    )
 may_order_by w c k t (Commit (Release a r)) both may =
     let enrolled = subst (λ l. IsEnrolling l k.finding) may.warranted.1 both.enrolling in
     (both.outstanding, (subst (λ q. MayAdd q (Release a r)) both.kept may.may, (enrolled.0, enrolled.1, may.warranted.0, enrolled.2, may.warranted.2)))
