@@ -38,10 +38,16 @@ fn works<B: Bus, R: Wait>(
     block: Block,
     directory: &Directory,
     turns: u32,
+    surveys: bool,
 ) -> (Outcome, B::Port) {
     match (SqliteKeep::in_memory(alloc, block), directory.pass(alloc)) {
         (Ok(keep), Ok(pass)) => {
-            let worker = Worker::new(port, keep, OpenGate);
+            let worker = Worker {
+                port,
+                keep,
+                gate: OpenGate,
+                surveys,
+            };
             let (outcome, port, _keep, _pass) = worker.run(rt, alloc, bus, directory, pass, turns);
             (outcome, port)
         }
@@ -71,6 +77,7 @@ fn all_run<P0, P1, P2, P3, D, R>(
     driver: Driver<P0, P1, P2, P3, D>,
     blocks: &[Block],
     turns: u32,
+    surveys: bool,
 ) -> Result<Left<P0, P1, P2, P3, D>, AllocError>
 where
     P0: Ledger + Send + Sync,
@@ -92,7 +99,9 @@ where
             let mut refused = false;
             for (port, block) in ports.into_iter().zip(blocks) {
                 let block = *block;
-                match scope.spawn(move || works(rt, alloc, line, port, block, shared, turns)) {
+                match scope.spawn(move || works(
+                    rt, alloc, line, port, block, shared, turns, surveys,
+                )) {
                     Ok(worker) => {
                         if workers.push(worker).is_err() {
                             refused = true;
@@ -152,6 +161,7 @@ fn commission<P0, P1, P2, P3, D, R>(
     site: SiteState,
     blanks: Blanks,
     turns: u32,
+    surveys: bool,
 ) -> Result<(Vec<Outcome>, SiteState), AllocError>
 where
     P0: Ledger + Send + Sync,
@@ -171,7 +181,7 @@ where
     let (line, ports, driver) = Line::<P0, P1, P2, P3, D>::new(
         site, first, second, third, fourth, driver,
     );
-    let left = all_run(rt, alloc, &line, ports, driver, &blocks, turns)?;
+    let left = all_run(rt, alloc, &line, ports, driver, &blocks, turns, surveys)?;
     let Left {
         outcomes,
         ports,
@@ -260,6 +270,7 @@ fn run_on<R: Threads + Wait + Sync, W: Write>(
         site,
         blanks,
         setup.turns,
+        setup.surveys,
     )?;
     let text = report(alloc, &outcomes, &site)?;
     if writer.write_all(text.as_bytes()).is_err() || writer.flush().is_err() {

@@ -16,6 +16,8 @@ pub struct Setup {
     pub seed: u64,
     /// How many turns each worker may take, and how many the pumper.
     pub turns: u32,
+    /// Whether each controller begins by a survey.
+    pub surveys: bool,
     /// The first and the last short address of each controller's block, 0 to 63.
     pub blocks: ArrayVec<(u8, u8), 4>,
 }
