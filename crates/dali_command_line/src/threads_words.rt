@@ -50,6 +50,13 @@ fn turns<'a>(alloc: Global) -> Arg<'a> {
     option(alloc, "turns", "T", help).value_parser(value_parser!(u32))
 }
 
+fn survey<'a>(alloc: Global) -> Arg<'a> {
+    Arg::new(alloc, "survey")
+        .long("survey")
+        .action(ArgAction::SetTrue)
+        .help("Each controller begins by a survey: it asks first who has a short address")
+}
+
 fn block_words<'a>(alloc: Global) -> Arg<'a> {
     Arg::new(alloc, "blocks")
         .value_name("BLOCK")
@@ -61,7 +68,13 @@ fn block_words<'a>(alloc: Global) -> Arg<'a> {
 
 /// The words of `threads`, in a command of this name.
 pub fn threads_command<'a>(alloc: Global, name: &'a str) -> Result<Command<'a>, AllocError> {
-    let words = vec![in alloc; gear(alloc), seed(alloc), turns(alloc), block_words(alloc)]?;
+    let words = vec![in alloc;
+        gear(alloc),
+        seed(alloc),
+        turns(alloc),
+        survey(alloc),
+        block_words(alloc),
+    ]?;
     Command::new(alloc, name)
         .about(ABOUT)
         .long_about(LONG_ABOUT)
@@ -114,6 +127,7 @@ pub fn setup(alloc: Global, found: &ArgMatches<'_>) -> Result<Setup, Error> {
         gear: number(alloc, found, "gear")?,
         seed: number(alloc, found, "seed")?,
         turns: number(alloc, found, "turns")?,
+        surveys: found.get_flag("survey"),
         blocks: blocks(alloc, found.get_raw("blocks").unwrap_or_default())?,
     })
 }

@@ -9,7 +9,7 @@ use arrayvec::ArrayVec;
 use dali_enrol::{Directory, Pass};
 use dali_line::{Bus, Driver, Gate, Line, Moment, OpenGate, Outcome, Port, Pumper, Worker};
 use dali_reserve::{Keep, MemoryKeep};
-use dali_script::{End, Kept};
+use dali_script::{End, Input, Kept};
 use dali_world::{Event, Refusal, SiteState};
 use std::alloc::Global;
 use std::marker::Brand;
@@ -471,6 +471,24 @@ fn is_logged<R: Abort>(rt: &R, log: &[Event], name: u8, list: &List) {
     assert!(rt; rest.next().is_none());
 }
 
+/// The controllers of odd numbers begin by a survey.
+fn begins_by_survey(controller: u8) -> bool {
+    controller % 2 == 1
+}
+
+/// The controller of this number began as it is to, if it has begun.
+fn begins_so<R: Abort>(rt: &R, name: u8, list: &List) {
+    let Some(Event::Acted(_, input, _)) = list.events.first() else {
+        return;
+    };
+    let wanted = if begins_by_survey(name) {
+        Input::Survey
+    } else {
+        Input::Start
+    };
+    assert!(rt; *input == wanted);
+}
+
 /// What a worker left, if there was one: it ended, or was stopped, and its list is what the log has of its controller.
 fn left_its_list<P: Drop, R: Abort>(
     rt: &R,
@@ -487,18 +505,25 @@ fn left_its_list<P: Drop, R: Abort>(
         Outcome::Stopped => assert!(rt; stops),
         _ => assert!(rt; false),
     }
+    begins_so(rt, name, &port.list);
     is_logged(rt, log, name, &port.list);
 }
 
-/// A worker for a store, if there is one, with the last port.
+/// A worker for a store, if there is one, with the last port, which is that of the controller of this number.
 fn worker_of<P: Default + Drop>(
     alloc: Global,
     ports: &mut ArrayVec<P, 4>,
     keep: Option<MemoryKeep>,
+    controller: u8,
 ) -> Option<Worker<Listed<P>, MemoryKeep, OpenGate>> {
     let keep = keep?;
     let port = ports.pop()?;
-    Some(Worker::new(Listed::new(alloc, port), keep, OpenGate))
+    Some(Worker {
+        port: Listed::new(alloc, port),
+        keep,
+        gate: OpenGate,
+        surveys: begins_by_survey(controller),
+    })
 }
 
 /// The workers of the controllers, each with a port, which lists, and a store.
@@ -507,10 +532,10 @@ fn workers_of<P: Default + Drop>(
     mut ports: ArrayVec<P, 4>,
     keeps: Four<MemoryKeep>,
 ) -> Four<Worker<Listed<P>, MemoryKeep, OpenGate>> {
-    let fourth = worker_of(alloc, &mut ports, keeps.3);
-    let third = worker_of(alloc, &mut ports, keeps.2);
-    let second = worker_of(alloc, &mut ports, keeps.1);
-    let first = worker_of(alloc, &mut ports, keeps.0);
+    let fourth = worker_of(alloc, &mut ports, keeps.3, 3);
+    let third = worker_of(alloc, &mut ports, keeps.2, 2);
+    let second = worker_of(alloc, &mut ports, keeps.1, 1);
+    let first = worker_of(alloc, &mut ports, keeps.0, 0);
     (first, second, third, fourth)
 }
 

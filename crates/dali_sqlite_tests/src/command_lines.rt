@@ -160,6 +160,15 @@ fn controllers_run_in_threads(rt: HostRuntime) {
     ends(&rt, words, "", (0, "addressed 3 of 3\n", ""));
 }
 
+/// The questions of a survey take more turns than all of a run without.
+#[test]
+fn controllers_survey_in_threads(rt: HostRuntime) {
+    let words = b"dali_sim threads --gear 1 --seed 1 --turns 190 0-3";
+    ends(&rt, words, "", (0, "controller 0: all-found\n", ""));
+    let words = b"dali_sim threads --survey --gear 1 --seed 1 --turns 190 0-3";
+    ends(&rt, words, "", (0, "controller 0: turns-spent\n", ""));
+}
+
 #[test]
 fn a_script_is_played_and_its_fault_is_said(rt: HostRuntime) {
     let words = b"dali_sim replay";

@@ -18,8 +18,15 @@ fn setup(gear: u32, seed: u64, blocks: &[(u8, u8)]) -> Setup {
         gear,
         seed,
         turns: 100_000,
+        surveys: false,
         blocks: list,
     }
+}
+
+/// The same to be run, but each worker begins by a survey.
+fn surveying(mut setup: Setup) -> Setup {
+    setup.surveys = true;
+    setup
 }
 
 /// What a run writes.
@@ -66,6 +73,19 @@ fn one_run<R: Threads + Wait + Sync + Abort + AllocGlobal>(rt: &R) -> Result<(),
 #[test]
 fn one_controller_names_its_gear(rt: HostRuntime) -> Result<(), Fail> {
     one_run(&rt)
+}
+
+/// Gear from the factory have no short address, so a survey hears nobody, and the run leaves what it leaves without.
+fn surveys_nobody<R: Threads + Wait + Sync + Abort + AllocGlobal>(rt: &R) -> Result<(), Fail> {
+    let plain = written(rt, setup(3, 7, &[(0, 3)]))?;
+    let surveyed = written(rt, surveying(setup(3, 7, &[(0, 3)])))?;
+    assert!(rt; surveyed == plain);
+    Ok(())
+}
+
+#[test]
+fn one_controller_surveys_gear_from_the_factory(rt: HostRuntime) -> Result<(), Fail> {
+    surveys_nobody(&rt)
 }
 
 /// Whether a line says that a controller ended, neither halted nor refused.
@@ -118,9 +138,17 @@ fn four_named<R: Abort>(rt: &R, text: &str) -> usize {
     text.lines().filter(is_addressed).count()
 }
 
+/// What is run by four workers and eight gear.
+fn four() -> Setup {
+    setup(8, 1, &[(0, 1), (2, 3), (4, 5), (6, 7)])
+}
+
 /// A run of four workers and eight gear, whose last line counts the gear with an address.
-fn four_run<R: Threads + Wait + Sync + Abort + AllocGlobal>(rt: &R) -> Result<(), Fail> {
-    let text = written(rt, setup(8, 1, &[(0, 1), (2, 3), (4, 5), (6, 7)]))?;
+fn four_run<R: Threads + Wait + Sync + Abort + AllocGlobal>(
+    rt: &R,
+    setup: Setup,
+) -> Result<(), Fail> {
+    let text = written(rt, setup)?;
     let count = four_named(rt, text.as_str());
     let last = format!(in rt.alloc(); "addressed {count} of 8")?;
     assert!(rt; text.as_str().lines().last() == Some(last.as_str()));
@@ -129,7 +157,12 @@ fn four_run<R: Threads + Wait + Sync + Abort + AllocGlobal>(rt: &R) -> Result<()
 
 #[test]
 fn four_controllers_name_the_same_gear(rt: HostRuntime) -> Result<(), Fail> {
-    four_run(&rt)
+    four_run(&rt, four())
+}
+
+#[test]
+fn four_controllers_that_survey_name_the_same_gear(rt: HostRuntime) -> Result<(), Fail> {
+    four_run(&rt, surveying(four()))
 }
 
 #[test]
