@@ -16,3 +16,4 @@ mod Another
 mod AnotherTerminates
 mod Refused
 mod Numbers
+mod Accounted

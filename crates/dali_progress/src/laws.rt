@@ -8,9 +8,19 @@
 //! The last three speak of the runs of rounds that a replay makes of an installation with one controller (`Ran`): each
 //! is such a list of events.
 
-ghost use Rattle.std.specs.Prelude.{◌≡◌, ◌⊎◌, ℕ, ◌+◌, ◌*◌, ◌<◌, ◌≤◌, List, [], ◌∷◌, length};
+ghost use Rattle.std.specs.Prelude.{◌≡◌, ◌⊎◌, ℕ, ◌+◌, ◌*◌, ◌<◌, ◌≤◌, true, List, [], ◌∷◌, length, Some};
 ghost use Rattle.std.specs.List.{count_by};
+ghost use Rattle.dali_frame.specs.declared.frames.Forward.{Forward};
+ghost use Rattle.dali_frame.specs.declared.numbers.SearchAddress.{SearchAddress};
+ghost use Rattle.dali_frame.specs.Random.{value_of};
+ghost use Rattle.dali_frame.specs.Priority.{LATER};
 ghost use Rattle.dali_script.specs.declared.block.Block.{Block};
+ghost use Rattle.dali_script.specs.declared.records.Record.TheVariants.{Reserve};
+ghost use Rattle.dali_script.specs.declared.stage.Stage.TheVariants.{Unnamed};
+ghost use Rattle.dali_script.specs.declared.orders.Order.TheVariants.{Put, Commit};
+ghost use Rattle.dali_script.specs.Records.{Has};
+ghost use Rattle.dali_controller.specs.Course.{address_for};
+ghost use Rattle.dali_controller.specs.Machine.{Machine};
 ghost use Rattle.dali_script.specs.declared.orders.End.{End};
 ghost use Rattle.dali_events.specs.declared.event.Event.{Event};
 ghost use Rattle.dali_events.specs.Plan.{Plan, IsPlan};
@@ -22,6 +32,8 @@ ghost use Rattle.dali_replay.specs.Installation.{Installation, installation_of};
 ghost use Rattle.dali_replay.specs.Rounds.{controllers, Ran};
 ghost use Rattle.dali_progress.specs.Rounds.{StartsAlone, Rounds, site_after, frames, GoesOn, HasEnded, IsDone};
 ghost use Rattle.dali_progress.specs.Rounds.{IsTabled};
+ghost use Rattle.dali_progress.specs.Surveyed.{Step, IsCourse, ArePlain, WasHeard, IsAccounted, HasSurveyed};
+ghost use Rattle.dali_progress.specs.Surveyed.{stage_told};
 ghost use Rattle.dali_progress.specs.Running.{HasCommissioned, WasRefused};
 
 /// A new site with one controller is one on which it starts alone.
@@ -99,4 +111,22 @@ pub fn a_run_commissions()
     ensures fresh { (limit : ℕ) (p : Plan) (b : Block) (sent : ℕ) (text : List ℕ) (m : Installation) → IsPlan p
         → p.blocks ≡ b ∷ [] → p.gear ≤ 128 → p.gear ≤ length p.draws → 333 * p.gear + 31 < limit
         → Ran limit (installation_of p) sent text m → HasCommissioned (installation_of p).site m.site 0 }
+{}
+
+/// A SURVEY GIVES NOTHING AWAY WHERE IT HEARD SOMEBODY. Where a machine that began by a survey heard somebody under a
+/// short address, that address is marked, or enrolled, or about to be enrolled, from then on, or the machine has
+/// halted. So it reserves the address for nobody. And what is reserved from before it gives only to the gear that is
+/// enrolled there.
+///
+/// It says so of every list of inputs that are due, whatever bus, store and other controllers do; it takes for granted
+/// that short addresses are below 64, and that three bytes are a number to `FFFFFF`.
+pub fn nothing_is_given_where_somebody_was_heard()
+    ensures accounted { (steps : List Step) (n : Machine) (a : ℕ) → a < 64 → IsCourse steps n → ArePlain steps
+        → WasHeard steps a → IsAccounted n a }
+    ensures reserved { (s : Step) (earlier : List Step) (n : Machine) (a r : ℕ) → a < 64 → IsCourse (s ∷ earlier) n
+        → ArePlain (s ∷ earlier) → s.order ≡ Commit (Reserve a r) → HasSurveyed n → WasHeard (s ∷ earlier) a → ⊥ }
+    ensures given { (s : Step) (earlier : List Step) (n : Machine) (a : ℕ) (q : SearchAddress) (f : Forward) → a < 64
+        → IsCourse (s ∷ earlier) n → ArePlain (s ∷ earlier) → s.order ≡ Put LATER f → HasSurveyed n → n.opened ≡ true
+        → stage_told s ≡ Unnamed q → address_for n.kept.reserved (value_of q) ≡ Some a → WasHeard (s ∷ earlier) a
+        → Has n.kept.enrolled (a, value_of q) }
 {}

@@ -1,4 +1,5 @@
-//! That commissioning ends, of one controller that is alone on a bus which nothing disturbs.
+//! That commissioning ends, of one controller that is alone on a bus which nothing disturbs. And that a survey gives
+//! nothing away where it heard somebody, on any bus.
 #![tactic(auto)]
 
 pub mod laws;
