@@ -17,6 +17,7 @@ ENUMS = {
     "DriverFault": ("crates/dali_commissioning/src/driver.rt",),
     "Due": (ORDERS, CODES),
     "End": (ORDERS,),
+    "Event": ("crates/dali_events/src/event.rt",),
     "Failure": ("crates/dali_commission_program/src/failure.rt",),
     "Fault": (ORDERS,),
     "HexError": ("crates/dali_frame/src/hex.rt",),
@@ -147,6 +148,9 @@ PLACES = (
     Place(INSTALLER, section("How a run ends"), "End", "| `{name}` |"),
     Place(INSTALLER, section("How a run ends"), "Fault", "| `halt {name}` |"),
     Place("docs/RULES.md", section("What a controller does next (*profile*)"), "End", "the end {Name}"),
+    # What happens on a site.
+    Place("docs/MODEL.md", table("| Event | Does |"), "Event", "| `{Name}"),
+    Place("docs/ARCHITECTURE.md", table("| Call | Event that it adds |"), "Event", "`{Name}"),
     # Stores and records.
     Place(FORMAT, section("Refusals of stores and records"), "KeepError", "| {code} | {Name} |"),
     Place(FORMAT, line("| `Kept::add`"), "AddError", "{code}"),
@@ -158,6 +162,7 @@ PLACES = (
     Place(FORMAT, line("| `Forward::read_hex` of"), "HexError", "{code} {Name}"),
     Place(FORMAT, line("| `kind` |"), "Record", "{code} {Name}:"),
     Place(FORMAT, line("- a kind is none of"), "Record", "{code}"),
+    Place("docs/STORES.md", table("| Kind | The record says |"), "Record", "| {code} |"),
     Place("docs/PROOFS.md", line("A store is a list of records."), "KeepError", "{code} {Name}"),
     # What is told of a frame, and a vendor of the library for C.
     Place(ADAPTERS, table("| Answer | When |"), "Answer", "| `{kebab}"),
