@@ -32,6 +32,7 @@ BENCH = {
 }
 SITE = {
     "go": form(rf"(?P<c>\d): (?:put [13] {FRAME}|{COMMIT}|{ENDS})", UNKNOWN, DOWN, NOT_DUE, FULL, LOG),
+    "survey": form(rf"(?P<c>\d): put 3 {FRAME}", UNKNOWN, DOWN, NOT_DUE, FULL, LOG),
     "store": form("ok", UNKNOWN, DOWN, NOT_DUE),
     "fail": form(r"(?P<c>\d): halt store", UNKNOWN, DOWN, NOT_DUE, FULL, LOG),
     "pump": form(rf"idle|\d: sent {FRAME} {ANSWER}", SPENT, LOG),

@@ -8,7 +8,7 @@ FRAMES = "A100 A500 A5FF A501 A700 A900 AB00 B100 B1FF B3FF B5FE B701 B7FF B700 
 RANDOMS = "000000 000001 123456 7FFFFF 800000 FFFFFD FFFFFE FFFFFF abcdef".split()
 BLOCKS = "0-0 0-3 3-0 4-7 0-63 62-63 63-63 0-64 60-255 0-256 1-".split()
 LISTS = "- 0 1 0,1 0,0 1,2,3 127 128 0, ,0 0,,1".split()
-NAMES = "bench site draws frame go store fail pump lapse arc down up run off on expire quiet show".split()
+NAMES = "bench site draws frame go survey store fail pump lapse arc down up run off on expire quiet show".split()
 TROUBLES = "lost noise collision destroyed".split()
 WORDS = [*NUMBERS, *FRAMES, *RANDOMS, *BLOCKS, *LISTS, *NAMES, *TROUBLES, "", "12345", "#"]
 BYTES = b" \n\t\r\0#-,0F:\x7f\x80\xff"
@@ -51,7 +51,7 @@ def site_line(draw, gear, controllers):
     if kind < 0.85:
         return "lapse"
     if kind < 0.95:
-        return f"{draw.choice(('store', 'fail', 'down', 'up'))} {controller}"
+        return f"{draw.choice(('survey', 'store', 'fail', 'down', 'up'))} {controller}"
     return line_of_both(draw, gear)
 
 
@@ -72,7 +72,8 @@ def drawn_site(draw):
         chances["restart"] = draw.choice((0.002, 0.01))
     draws = draw.choice((site_script.usual_draws(gear), 2 * gear * controllers, draw.randrange(gear * controllers + 1)))
     rounds = draw.randrange(min(site_script.usual_rounds(gear, controllers), 1_000))
-    made = site_script.Site(gear, blocks(draw, controllers), draw.random(), rounds, draws, chances, draw.random() < 0.2)
+    spell, survey = draw.random() < 0.2, draw.random() < 0.5
+    made = site_script.Site(gear, blocks(draw, controllers), draw.random(), rounds, draws, chances, spell, survey)
     return site_script.script_of(made)
 
 

@@ -37,7 +37,9 @@ TROUBLES = {**FRAME_TROUBLES, **ROUND_TROUBLES, **COMMIT_TROUBLES}
 
 @dataclasses.dataclass
 class Site:
-    """What a script is made of. `chances` has the chance of each trouble in a round, from 0 to 1."""
+    """What a script is made of. `chances` has the chance of each trouble in a round, from 0 to 1. Where `survey` is
+    set, each controller begins by a survey, also when it comes up again.
+    """
 
     gear: int
     blocks: list
@@ -46,6 +48,7 @@ class Site:
     draws: int
     chances: dict
     spell: bool = False
+    survey: bool = False
 
 
 def usual_rounds(gear, controllers):
@@ -98,6 +101,8 @@ class Rounds:
         for line, away in (("on", self.off), ("up", self.down)):
             for who in [who for who, back in away.items() if back <= now]:
                 lines.append(f"{line} {who}")
+                if line == "up" and self.site.survey:
+                    lines.append(f"survey {who}")
                 del away[who]
         return lines
 
@@ -167,6 +172,8 @@ class Rounds:
 
     def all(self):
         """All rounds, after which everybody comes back."""
+        if self.site.survey:
+            self.lines += [f"survey {controller}" for controller in range(len(self.site.blocks))]
         for now in range(self.site.rounds):
             self.add(now)
         self.flush()
