@@ -354,10 +354,15 @@ fn text(alloc: Global, found: &ArgMatches<'_>, name: &str) -> Result<String, Err
     Ok(String::from_str(alloc, found.get_str(name).unwrap_or_default())?)
 }
 
-fn start(found: &ArgMatches<'_>) -> Start {
+/// How a run starts. The argument itself takes no other word, so that a further one is told and not taken for these.
+fn start(alloc: Global, found: &ArgMatches<'_>) -> Result<Start, Error> {
     match found.get_str("start") {
-        Some("fresh") => Start::Fresh,
-        _ => Start::Survey,
+        None | Some("survey") => Ok(Start::Survey),
+        Some("fresh") => Ok(Start::Fresh),
+        Some(_) => {
+            let message = "a start is neither 'survey' nor 'fresh'";
+            Err(fault(alloc, ErrorKind::ValueValidation, message)?)
+        }
     }
 }
 
@@ -369,7 +374,7 @@ fn setup(alloc: Global, found: &ArgMatches<'_>) -> Result<Setup, Error> {
         records: text(alloc, found, "records")?,
         block,
         others,
-        start: start(found),
+        start: start(alloc, found)?,
         quiet_runs: found.get_one("quiet-runs").unwrap_or(3),
         is_quiet: found.get_flag("quiet"),
     })

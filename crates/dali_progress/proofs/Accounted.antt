@@ -212,7 +212,7 @@ accounted_stays s n a small taken plain was = subst (λ (x : Machine). IsAccount
   go (inr (inr (inl (r, last)))) = enrolling_step s.before s.told s.order a r last taken.due taken.given
   go (inr (inr (inr (w, last)))) = absurd (never_due s.before.last w s.told last taken.due)
 
-heard_of_survey : (p : Purpose) (h : Answer) (s : Stage) (a : ℕ) → heard_by p (input.Heard h) s ≡ Some a → (b : ℕ) × (p ≡ Asking b) × (heard_at s h ≡ Some a)
+heard_of_survey : (p : Purpose) (h : Answer) (s : Stage) (a : ℕ) → heard_by (input.Heard h) p s ≡ Some a → (b : ℕ) × (p ≡ Asking b) × (heard_at s h ≡ Some a)
 heard_of_survey (Asking b) h s a e = (b, refl, e)
 heard_of_survey Opening h s a e = absurd (cc)
 heard_of_survey Probing h s a e = absurd (cc)
@@ -222,36 +222,18 @@ heard_of_survey (Closing x) h s a e = absurd (cc)
 heard_of_survey Waking h s a e = absurd (cc)
 
 accounted_by : (m : Machine) (i : Input) (o : Order) (a : ℕ) → a < 64 → IsPlain (stage_of (machine_told m i).trace) → accepts (due_after m.last) i ≡ true
-    → IsGiven m i o → heard_by m.course.purpose i (stage_of (machine_told m i).trace) ≡ Some a → IsAccounted (machine_after m i o) a
+    → IsGiven m i o → heard_by i m.course.purpose (stage_of (machine_told m i).trace) ≡ Some a → IsAccounted (machine_after m i o) a
 accounted_by m (input.Heard h) o a small plain due given e =
     let is = heard_of_survey m.course.purpose h (stage_of (machine_told m (input.Heard h)).trace) a e in
     heard_step m h o a due given
     (subst (λ p. Leaves p (stage_of (machine_told m (input.Heard h)).trace) (heard_after p (stage_of (machine_told m (input.Heard h)).trace) h m.heard) a)
     (sym is.1) (marks_made is.0 (stage_of (machine_told m (input.Heard h)).trace) h m.heard a small plain is.2))
-accounted_by m input.Start o a small plain due given e = absurd (untold m.course.purpose e) where
-  untold : (p : Purpose) → heard_by p input.Start (stage_of (machine_told m input.Start).trace) ≡ Some a → ⊥
-  untold (Asking b) e = cc
-  untold _ e = cc
-accounted_by m input.Survey o a small plain due given e = absurd (untold m.course.purpose e) where
-  untold : (p : Purpose) → heard_by p input.Survey (stage_of (machine_told m input.Survey).trace) ≡ Some a → ⊥
-  untold (Asking b) e = cc
-  untold _ e = cc
-accounted_by m input.Destroyed o a small plain due given e = absurd (untold m.course.purpose e) where
-  untold : (p : Purpose) → heard_by p input.Destroyed (stage_of (machine_told m input.Destroyed).trace) ≡ Some a → ⊥
-  untold (Asking b) e = cc
-  untold _ e = cc
-accounted_by m input.Lapsed o a small plain due given e = absurd (untold m.course.purpose e) where
-  untold : (p : Purpose) → heard_by p input.Lapsed (stage_of (machine_told m input.Lapsed).trace) ≡ Some a → ⊥
-  untold (Asking b) e = cc
-  untold _ e = cc
-accounted_by m input.Committed o a small plain due given e = absurd (untold m.course.purpose e) where
-  untold : (p : Purpose) → heard_by p input.Committed (stage_of (machine_told m input.Committed).trace) ≡ Some a → ⊥
-  untold (Asking b) e = cc
-  untold _ e = cc
-accounted_by m input.CommitFailed o a small plain due given e = absurd (untold m.course.purpose e) where
-  untold : (p : Purpose) → heard_by p input.CommitFailed (stage_of (machine_told m input.CommitFailed).trace) ≡ Some a → ⊥
-  untold (Asking b) e = cc
-  untold _ e = cc
+accounted_by m input.Start o a small plain due given e = absurd (cc)
+accounted_by m input.Survey o a small plain due given e = absurd (cc)
+accounted_by m input.Destroyed o a small plain due given e = absurd (cc)
+accounted_by m input.Lapsed o a small plain due given e = absurd (cc)
+accounted_by m input.Committed o a small plain due given e = absurd (cc)
+accounted_by m input.CommitFailed o a small plain due given e = absurd (cc)
 
 -- ---------------------------------------------------------------- a course
 

@@ -50,12 +50,12 @@ heard_at (stage.MiddleAsked a bytes) h = Some a
 heard_at (stage.Spelled a number) h = Some a
 heard_at _ h = None
 
-abbrev pub heard_by : Purpose → Input → Stage → Option ℕ
-heard_by (Asking b) (input.Heard h) s = heard_at s h
+abbrev pub heard_by : Input → Purpose → Stage → Option ℕ
+heard_by (input.Heard h) (Asking b) s = heard_at s h
 heard_by _ _ s = None
 
 abbrev pub Hears : Step → ℕ → Type 0
-Hears s a = heard_by s.before.course.purpose s.told (stage_told s) ≡ Some a
+Hears s a = heard_by s.told s.before.course.purpose (stage_told s) ≡ Some a
 
 abbrev pub WasHeard : List Step → ℕ → Type 0
 WasHeard [] a = ⊥
