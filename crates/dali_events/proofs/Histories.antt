@@ -7,3 +7,4 @@ pub mod Premises
 pub mod OpeningAlone
 pub mod LapseForgotten
 pub mod GiftReleased
+pub mod UsedGear

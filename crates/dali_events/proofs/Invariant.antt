@@ -4,6 +4,7 @@ pub mod Takes
 pub mod Drawn
 pub mod Controllers
 pub mod Reserves
+pub mod Sparing
 pub mod Answers
 pub mod Known
 pub mod Sending
@@ -13,4 +14,5 @@ pub mod Naming
 pub mod Staying
 pub mod Safe
 pub mod Agreeing
+pub mod Arrived
 pub mod Keeping

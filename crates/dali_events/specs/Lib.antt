@@ -7,3 +7,4 @@ pub mod Promise
 pub mod Laws
 pub mod Searching
 pub mod Wanted
+pub mod Used

@@ -2,8 +2,8 @@ use Rattle.std.specs.Prelude.{◌≡◌, ◌↔◌, ℕ, ◌<◌, List, ◌++◌
 use Rattle.dali_script.specs.Records.{Assignment, Has, IsOnce}
 use Rattle.dali_events.specs.declared.event.Event.{Event}
 use Rattle.dali_events.specs.Plan.{Plan}
-use Rattle.dali_events.specs.World.{World, gear_at, controller_at}
-use Rattle.dali_events.specs.Runs.{after, IsDrawer}
+use Rattle.dali_events.specs.World.{World, gear_at, controller_at, start}
+use Rattle.dali_events.specs.Runs.{after_all, IsDrawer}
 
 -- THE PROMISE, by gear and tables alone. Below it stands what else is true of the histories of
 -- gifts and of draws, from which it follows.
@@ -30,12 +30,16 @@ KeepsAddresses earlier now =
     (g a : ℕ) → HoldsShort earlier g a
     → HoldsShort now g a × ((gear_at now g).random ≡ (gear_at earlier g).random)
 
--- AT EVERY MOMENT OF A LOG, and from each one on.
-pub record KeepsPromise (p : Plan) (capacity : ℕ) (log : List Event) : Type 0 where
+-- AT EVERY MOMENT of what happens in a world, and from each one on.
+pub record KeepsPromiseFrom (w : World) (log : List Event) : Type 0 where
   pub always : (earlier more : List Event) → earlier ++ more ≡ log
-      → KeepsPromiseNow (after p capacity earlier)
+      → KeepsPromiseNow (after_all w earlier)
   pub ever_after : (earlier later rest : List Event) → earlier ++ (later ++ rest) ≡ log
-      → KeepsAddresses (after p capacity earlier) (after p capacity (earlier ++ later))
+      → KeepsAddresses (after_all w earlier) (after_all w (earlier ++ later))
+
+-- AT EVERY MOMENT OF A LOG, and from each one on.
+abbrev pub KeepsPromise : Plan → ℕ → List Event → Type 0
+KeepsPromise p capacity log = KeepsPromiseFrom (start p capacity) log
 
 -- ---------------------------------------------------------------- with gifts and draws
 
@@ -67,10 +71,13 @@ KeepsGifts earlier now =
     (g a : ℕ) → Has earlier.gifts (g, a)
     → Has now.gifts (g, a) × ((gear_at now g).random ≡ (gear_at earlier g).random)
 
--- A SAFE HISTORY: every world of the log is safe, and what a gear was given stays so in every later
--- world.
-pub record IsSafeHistory (p : Plan) (capacity : ℕ) (log : List Event) : Type 0 where
-  pub always : (earlier more : List Event) → earlier ++ more ≡ log
-      → IsSafe (after p capacity earlier)
+-- A SAFE HISTORY of what happens in a world: every world of it is safe, and what a gear was given
+-- stays so in every later world.
+pub record IsSafeFrom (w : World) (log : List Event) : Type 0 where
+  pub always : (earlier more : List Event) → earlier ++ more ≡ log → IsSafe (after_all w earlier)
   pub ever_after : (earlier later rest : List Event) → earlier ++ (later ++ rest) ≡ log
-      → KeepsGifts (after p capacity earlier) (after p capacity (earlier ++ later))
+      → KeepsGifts (after_all w earlier) (after_all w (earlier ++ later))
+
+-- A SAFE HISTORY of a log.
+abbrev pub IsSafeHistory : Plan → ℕ → List Event → Type 0
+IsSafeHistory p capacity log = IsSafeFrom (start p capacity) log

@@ -14,17 +14,20 @@ ghost use Rattle.dali_special.specs.declared.command.Part.TheVariants.{High, Mid
 ghost use Rattle.dali_special.specs.Command.{command_of};
 ghost use Rattle.dali_script.specs.declared.trace.Entry.{Entry};
 ghost use Rattle.dali_script.specs.declared.stage.Stage.TheVariants.{Unnamed};
+ghost use Rattle.dali_script.specs.Records.{Has};
 ghost use Rattle.dali_script.specs.Scripts.{IsFirst};
 ghost use Rattle.dali_script.specs.Stages.{stage_of};
 ghost use Rattle.dali_events.specs.declared.event.Event.TheVariants.{Sent};
 ghost use Rattle.dali_gear.specs.Row.{heard_of};
 ghost use Rattle.dali_events.specs.declared.event.Event.{Event};
-ghost use Rattle.dali_events.specs.World.{World};
+ghost use Rattle.dali_events.specs.World.{World, gear_at, start};
 ghost use Rattle.dali_events.specs.Happens.{happens, trace_running, entry};
 ghost use Rattle.dali_events.specs.Allowed.{Allowed, Hears};
 ghost use Rattle.dali_events.specs.Plan.{Plan};
 ghost use Rattle.dali_events.specs.Runs.{after, IsRun, AreDrawn};
-ghost use Rattle.dali_events.specs.Promise.{KeepsPromise, IsSafe, IsSafeHistory, Names};
+ghost use Rattle.dali_events.specs.Promise.{KeepsPromise, KeepsPromiseFrom, IsSafe, IsSafeFrom, IsSafeHistory};
+ghost use Rattle.dali_events.specs.Promise.{Names, HoldsShort};
+ghost use Rattle.dali_events.specs.Used.{Used, UsedPlan, IsUsedRun, start_used, after_used};
 ghost use Rattle.dali_events.specs.Laws.{GiftsAreReserved, KeepsReserved, TablesAgree, FindingsAgree, KeepsRecords};
 ghost use Rattle.dali_events.specs.Searching.{EachPowered, EachActive, frame_in, number_at, sent_event, up_to_compare};
 ghost use Rattle.dali_events.specs.Searching.{SearchesAll, NobodyAnswers, HasShort};
@@ -97,6 +100,27 @@ pub fn every_run_is_safe()
         → KeepsPromise p capacity log }
     ensures history { (p : Plan) (capacity : ℕ) (log : List Event) → IsRun p capacity log
         → IsSafeHistory p capacity log }
+{}
+
+/// USED GEAR KEEP THEIR ADDRESSES. Where some gear come with short addresses, all different, and with random addresses
+/// of their own, and no controller reserves one of these short addresses, the same is promised as of gear from the
+/// factory, the used gear keep what they came with, and no two tables disagree. Without used gear such a run is a run
+/// from the factory.
+///
+/// A machine that surveys reserves no address under which it heard somebody
+/// (`dali_progress::laws::nothing_is_given_where_somebody_was_heard`). What it cannot hear is a gear without power.
+pub fn used_gear_keep_their_addresses()
+    ensures promise { (p : UsedPlan) (capacity : ℕ) (log : List Event) → IsUsedRun p capacity log
+        → KeepsPromiseFrom (start_used p capacity) log }
+    ensures history { (p : UsedPlan) (capacity : ℕ) (log : List Event) → IsUsedRun p capacity log
+        → IsSafeFrom (start_used p capacity) log }
+    ensures kept { (p : UsedPlan) (capacity : ℕ) (log : List Event) (u : Used) → IsUsedRun p capacity log
+        → Has p.used u → HoldsShort (after_used p capacity log) u.gear u.short
+        × ((gear_at (after_used p capacity log) u.gear).random ≡ u.random) }
+    ensures agree { (p : UsedPlan) (capacity : ℕ) (log : List Event) → IsUsedRun p capacity log
+        → TablesAgree (after_used p capacity log) }
+    ensures factory { (p : Plan) (capacity : ℕ)
+        → start_used (record { plan = p; used = [] }) capacity ≡ start p capacity }
 {}
 
 /// NO TWO TABLES DISAGREE. At each moment of every run, two kept enrolments with one short address, one number or one

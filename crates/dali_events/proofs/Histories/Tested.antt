@@ -1,5 +1,5 @@
 use Rattle.std.proofs.Common.{◌≡◌, ◌⊎◌, inl, inr, ℕ, ◌<◌, ◌≤◌, Bool, true, false, List, [], ◌∷◌, ◌++◌, length, Option, Some, None, is_none, refl, ap, arith}
-use Rattle.std.specs.Prelude.{◌==◌, ◌&&◌, if◌then◌else◌, nat_lt, nat_le}
+use Rattle.std.specs.Prelude.{◌==◌, ◌&&◌, not, if◌then◌else◌, nat_lt, nat_le}
 use Rattle.std.specs.List.{AllByRecursion}
 use Rattle.std.proofs.lemmas.Bool.Decides.{nat_tests}
 use Rattle.dali_frame.specs.declared.frames.Forward.{Forward}
@@ -29,11 +29,11 @@ use Rattle.dali_events.specs.declared.event.Event.{Event}
 use Rattle.dali_events.specs.declared.event.Event.TheVariants as event
 use Rattle.dali_events.specs.World.{World, Controller, controller_at}
 use Rattle.dali_events.specs.Happens.{happens, controller_informed}
-use Rattle.dali_events.specs.Allowed.{Allowed, IsUp, MaySend, HasDraws, Hears, IsCommit, IsDue, MayCommit, MayPut, MayOrder}
+use Rattle.dali_events.specs.Allowed.{Allowed, IsUp, IsDown, MaySend, HasDraws, Hears, IsCommit, IsDue, MayCommit, MayPut, MayOrder}
 use Rattle.dali_events.specs.Runs.{AllAllowed}
 
 -- WHETHER AN EVENT IS ALLOWED, AS A TEST: what passes it is allowed. So a history is shown to be allowed by computing. The test
--- knows the events that the histories are made of, and says no to all others.
+-- knows the events that the histories are made of, and says no to all others; a controller comes up without what is outstanding.
 
 below : (n m : ℕ) → nat_lt n m ≡ true → n < m
 below n m e = grind (arith, nat_tests)
@@ -48,6 +48,16 @@ is_there w c = nat_lt c (length w.controllers) && (controller_at w c).up
 
 up_by : (w : World) (c : ℕ) → is_there w c ≡ true → IsUp w c
 up_by w c e = record { known = below c (length w.controllers) (first_of_both _ _ e); up = second_of_both _ _ e }
+
+abbrev pub is_down : World → ℕ → Bool
+is_down w c = nat_lt c (length w.controllers) && not (controller_at w c).up
+
+not_up : (b : Bool) → not b ≡ true → b ≡ false
+not_up false e = refl
+not_up true e = absurd (cc)
+
+down_by : (w : World) (c : ℕ) → is_down w c ≡ true → IsDown w c
+down_by w c e = record { known = below c (length w.controllers) (first_of_both _ _ e); down = not_up _ (second_of_both _ _ e) }
 
 -- a frame that may follow a trace, for a controller with these records
 abbrev pub is_lawful : Kept → List Entry → Forward → Bool
@@ -233,10 +243,10 @@ is_allowed w event.Lapsed = true
 is_allowed w (event.Offered c f) = false
 is_allowed w (event.Collided c f d g) = false
 is_allowed w event.Quiet = false
-is_allowed w (event.Power g on) = false
+is_allowed w (event.Power g on) = true
 is_allowed w (event.Expired g) = false
-is_allowed w (event.Down c) = false
-is_allowed w (event.Up c kept) = false
+is_allowed w (event.Down c) = is_there w c
+is_allowed w (event.Up c kept) = is_down w c && not kept
 
 sender_by : (w : World) (c : ℕ) (f : Forward) → is_sent w c f ≡ true → IsUp w c × MaySend w c f
 sender_by w c f e =
@@ -263,6 +273,10 @@ allowed_by w (event.Destroyed c f set) e =
     let sender = sender_by w c f (first_of_both _ _ e) in
     record { up = sender.0; may = sender.1; draws = draws_by w (Only set) f (second_of_both _ _ e) }
 allowed_by w event.Lapsed e = tt
+allowed_by w (event.Power g on) e = tt
+allowed_by w (event.Down c) e = up_by w c e
+allowed_by w (event.Up c false) e = (down_by w c (first_of_both _ _ e), tt)
+allowed_by w (event.Up c true) e = absurd (let never : false ≡ true = second_of_both (is_down w c) false e in cc)
 allowed_by w _ e = absurd (cc)
 
 -- ---------------------------------------------------------------- histories

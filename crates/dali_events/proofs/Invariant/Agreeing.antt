@@ -21,7 +21,7 @@ use Rattle.dali_events.specs.Laws.{GiftsAreReserved, KeepsReserved, TablesAgree,
 use Rattle.dali_script.proofs.Members.{same_member}
 use Rattle.dali_events.proofs.Invariant.Growing.{after_both, allowed_front, allowed_rest, last_allowed}
 use Rattle.dali_events.proofs.Invariant.Controllers.{controllers_count}
-use Rattle.dali_events.proofs.Invariant.Reserves.{IsReserved}
+use Rattle.dali_events.proofs.Invariant.Sparing.{IsOwned, reserved_alone}
 use Rattle.dali_events.proofs.Invariant.Drawn.{drawn_in_front}
 use Rattle.dali_events.proofs.Invariant.Naming.{SaysFinding, resolved_names}
 use Rattle.dali_events.proofs.Invariant.Resolving.{tells_if}
@@ -29,7 +29,9 @@ use Rattle.dali_events.proofs.Invariant.Safe.{Holds, keeps_step, stays_step, hol
 
 -- GIFTS STAY RESERVED
 pub gifts_reserved : (p : Plan) (capacity : ℕ) (front rest : List Event) → IsRun p capacity (front ++ rest) → GiftsAreReserved (after p capacity front)
-gifts_reserved p capacity front rest run = (holds_after p capacity front (run_front p capacity front rest run)).gifts.reserved
+gifts_reserved p capacity front rest run g a gift =
+    reserved_alone (after p capacity front).controllers (a, (gear_at (after p capacity front) g).random)
+    ((holds_after p capacity front (run_front p capacity front rest run)).gifts.reserved g a gift)
 
 reserved_stays : (p : Plan) → IsPlan p → (w : World) (es : List Event) → AllAllowed w es → Holds p w → KeepsReserved w (after_all w es)
 reserved_stays p plan w [] all k = λ c g a there gift h. h
@@ -122,7 +124,7 @@ told_by_gear p capacity log c a high middle low f g h run running first second t
     let w : World = after p capacity log in
     let k : Holds p w = holds_after p capacity log (run_front p capacity log (Sent c h (Byte low) ∷ []) run) in
     let here : Allowed w (Sent c h (Byte low)) = last_allowed p capacity log (Sent c h (Byte low)) run in
-    resolved_names (IsReserved w.controllers) w c h (Byte low) here k.gifts (tells_if (owns w.bus.owner c) w.trace w.gear k.tells) a
+    resolved_names (IsOwned [] w.controllers) w c h (Byte low) here k.gifts (tells_if (owns w.bus.owner c) w.trace w.gear k.tells) a
     (number_of high middle low) record {
       high = high;
       middle = middle;

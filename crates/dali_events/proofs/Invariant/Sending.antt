@@ -59,7 +59,7 @@ KnowsAll s gs = Each fresh (λ k g. g.powered ≡ true → Knows s g) gs
 abbrev pub ShortAll : List Gear → Type 0
 ShortAll gs = Each fresh (λ k g. IsShort g) gs
 
-knows_free : (gs : List Gear) → KnowsAll (stage_of []) gs
+pub knows_free : (gs : List Gear) → KnowsAll (stage_of []) gs
 knows_free gs i h = rw stage_none (λ on. tt)
 
 knows_of : (b : Bool) (t : List Entry) (gs : List Gear) → KnowsAll (stage_of t) gs → KnowsAll (stage_of (if b then t else [])) gs

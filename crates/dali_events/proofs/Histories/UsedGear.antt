@@ -1,0 +1,95 @@
+use Rattle.std.proofs.Common.{◌≡◌, true, false, List, [], ◌∷◌, ◌++◌, Some, refl, lit<}
+use Rattle.dali_frame.specs.declared.frames.Answer.TheVariants.{Silence, Byte}
+use Rattle.dali_frame.specs.declared.frames.Forward.{Forward}
+use Rattle.dali_special.specs.Command.{command_of, frame}
+use Rattle.dali_script.specs.declared.records.Record.TheVariants.{Reserve}
+use Rattle.dali_script.specs.declared.orders.End.TheVariants.{GaveUp}
+use Rattle.dali_script.specs.declared.orders.Input.TheVariants as input
+use Rattle.dali_script.specs.declared.orders.Order.TheVariants.{Put, Commit, Done}
+use Rattle.dali_script.specs.Stages.{stage_of}
+use Rattle.dali_events.specs.declared.event.Event.{Event}
+use Rattle.dali_events.specs.declared.event.Event.TheVariants as event
+use Rattle.dali_events.specs.World.{World, gear_at}
+use Rattle.dali_events.specs.Happens.{happens}
+use Rattle.dali_events.specs.Runs.{after_all, AllAllowed}
+use Rattle.dali_events.specs.Promise.{KeepsPromiseNow}
+use Rattle.dali_events.specs.Used.{UsedPlan, start_used, after_used}
+use Rattle.dali_events.proofs.Histories.Openings.{first_block, at_123456, silent, query, opening, visit, two_gear}
+use Rattle.dali_events.proofs.Histories.Tested.{all_allowed_by}
+
+-- WHAT A SURVEY CANNOT SEE, AND WHAT IT MUST HEED. Two histories with a used gear that are allowed, but for the premise that
+-- nobody reserves its address; at the end of each two gear hold one address.
+
+-- gear 0 comes with the address 0; gear 1 comes from the factory
+abbrev one_used : UsedPlan
+one_used = record {
+  plan = record { gear = 2; blocks = first_block ∷ []; draws = 0x123456 ∷ [] };
+  used = record { gear = 0; short = 0; random = 0x0ABCDE } ∷ [];
+}
+
+-- QUERY RANDOM ADDRESS (H) to the address 0
+abbrev asks : Forward
+asks = frame 0x01 0xC2
+
+-- ---------------------------------------------------------------- a gear without power during the sweep
+
+-- gear 0 has no power while a survey asks three times who is there, and hears silence
+abbrev sweeping : List Event
+sweeping =
+    event.Power 0 false ∷
+    event.Acted 0 input.Survey (Put 3 asks) ∷ silent 0 0x01 0xC2 ∷
+    event.Acted 0 (input.Heard Silence) (Put 3 asks) ∷ silent 0 0x01 0xC2 ∷
+    event.Acted 0 (input.Heard Silence) (Put 3 asks) ∷ silent 0 0x01 0xC2 ∷
+    event.Lapsed ∷ []
+
+-- so gear 1 is given the address 0; and gear 0 has power again
+abbrev off_while_asked : List Event
+off_while_asked = sweeping ++ (opening 0 ++ (visit 0 (input.Heard Silence) at_123456 0 ++ (event.Power 0 true ∷ [])))
+
+off_allowed : AllAllowed (start_used one_used 8) off_while_asked
+unfolding command_of stage_of
+off_allowed = all_allowed_by (start_used one_used 8) off_while_asked refl
+
+off_both_hold : ((gear_at (after_used one_used 8 off_while_asked) 0).short ≡ Some 0) × ((gear_at (after_used one_used 8 off_while_asked) 1).short ≡ Some 0)
+unfolding command_of stage_of
+off_both_hold = (refl, refl)
+
+off_is_unsafe : KeepsPromiseNow (after_used one_used 8 off_while_asked) → ⊥
+unfolding command_of stage_of
+off_is_unsafe kept = two_gear 0 1 refl refl (kept.one_gear 0 1 0 (lit< tt, refl) (lit< tt, refl))
+
+-- ---------------------------------------------------------------- a reservation of before
+
+-- the controller reserves the address 0 for gear 1, and goes down
+abbrev reserving : List Event
+reserving =
+    opening 0 ++ (
+    event.Acted 0 (input.Heard Silence) (Commit (Reserve 0 0x123456)) ∷
+    event.Acted 0 input.Committed (Done GaveUp) ∷
+    event.Down 0 ∷
+    event.Up 0 false ∷ [])
+
+-- it surveys, and hears the used gear; then it gives what it had reserved all the same
+abbrev reserved_before : List Event
+reserved_before =
+    reserving ++ (
+    event.Acted 0 input.Survey (Put 3 asks) ∷
+    event.Sent 0 asks (Byte 0x0A) ∷
+    event.Lapsed ∷
+    silent 0 0xB1 0x12 ∷
+    silent 0 0xB3 0x34 ∷
+    silent 0 0xB5 0x56 ∷
+    query 0 0xFF ∷
+    silent 0 0xB7 0x01 ∷ [])
+
+before_allowed : AllAllowed (start_used one_used 8) reserved_before
+unfolding command_of stage_of
+before_allowed = all_allowed_by (start_used one_used 8) reserved_before refl
+
+before_both_hold : ((gear_at (after_used one_used 8 reserved_before) 0).short ≡ Some 0) × ((gear_at (after_used one_used 8 reserved_before) 1).short ≡ Some 0)
+unfolding command_of stage_of
+before_both_hold = (refl, refl)
+
+before_is_unsafe : KeepsPromiseNow (after_used one_used 8 reserved_before) → ⊥
+unfolding command_of stage_of
+before_is_unsafe kept = two_gear 0 1 refl refl (kept.one_gear 0 1 0 (lit< tt, refl) (lit< tt, refl))
