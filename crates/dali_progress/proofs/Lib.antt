@@ -17,3 +17,4 @@ mod AnotherTerminates
 mod Refused
 mod Numbers
 mod Accounted
+mod Spared

@@ -1,3 +1,4 @@
 pub mod Rounds
 pub mod Running
 pub mod Surveyed
+pub mod Spared

@@ -9,7 +9,7 @@
 //! is such a list of events.
 
 ghost use Rattle.std.specs.Prelude.{◌≡◌, ◌⊎◌, ℕ, ◌+◌, ◌*◌, ◌<◌, ◌≤◌, true, List, [], ◌∷◌, length, Some};
-ghost use Rattle.std.specs.List.{count_by};
+ghost use Rattle.std.specs.List.{count_by, AllByRecursion};
 ghost use Rattle.dali_frame.specs.declared.frames.Forward.{Forward};
 ghost use Rattle.dali_frame.specs.declared.numbers.SearchAddress.{SearchAddress};
 ghost use Rattle.dali_frame.specs.Random.{value_of};
@@ -24,6 +24,9 @@ ghost use Rattle.dali_controller.specs.Machine.{Machine};
 ghost use Rattle.dali_script.specs.declared.orders.End.{End};
 ghost use Rattle.dali_events.specs.declared.event.Event.{Event};
 ghost use Rattle.dali_events.specs.Plan.{Plan, IsPlan};
+ghost use Rattle.dali_events.specs.Runs.{AllAllowed};
+ghost use Rattle.dali_events.specs.Promise.{KeepsPromiseFrom};
+ghost use Rattle.dali_events.specs.Used.{UsedPlan, IsUsedPlan, IsUsedRun, start_used};
 ghost use Rattle.dali_events.specs.Wanted.{is_bare};
 ghost use Rattle.dali_standing.specs.declared.refusal.Refusal.TheVariants as refusal;
 ghost use Rattle.dali_standing.specs.declared.trouble.Trouble.TheVariants as trouble;
@@ -34,6 +37,7 @@ ghost use Rattle.dali_progress.specs.Rounds.{StartsAlone, Rounds, site_after, fr
 ghost use Rattle.dali_progress.specs.Rounds.{IsTabled};
 ghost use Rattle.dali_progress.specs.Surveyed.{Step, IsCourse, ArePlain, WasHeard, IsAccounted, HasSurveyed};
 ghost use Rattle.dali_progress.specs.Surveyed.{stage_told};
+ghost use Rattle.dali_progress.specs.Spared.{ReservesBySurvey};
 ghost use Rattle.dali_progress.specs.Running.{HasCommissioned, WasRefused};
 
 /// A new site with one controller is one on which it starts alone.
@@ -129,4 +133,19 @@ pub fn nothing_is_given_where_somebody_was_heard()
         → IsCourse (s ∷ earlier) n → ArePlain (s ∷ earlier) → s.order ≡ Put LATER f → HasSurveyed n → n.opened ≡ true
         → stage_told s ≡ Unnamed q → address_for n.kept.reserved (value_of q) ≡ Some a → WasHeard (s ∷ earlier) a
         → Has n.kept.enrolled (a, value_of q) }
+{}
+
+/// USED GEAR THAT WERE HEARD ARE LEFT ALONE. Of a site some of whose gear come with short addresses, all different:
+/// where each reservation was ordered by a machine that surveyed, and that heard somebody under each of these
+/// addresses, the promise holds (`dali_events::laws::used_gear_keep_their_addresses`).
+///
+/// A gear without power is not heard, and one whose address nobody asks is not either: two short histories of
+/// `dali_events` show what then becomes of the promise.
+pub fn used_gear_that_were_heard_are_left_alone()
+    ensures run { (p : UsedPlan) (capacity : ℕ) (log : List Event) → IsUsedPlan p
+        → AllAllowed (start_used p capacity) log → AllByRecursion (ReservesBySurvey p.used) log
+        → IsUsedRun p capacity log }
+    ensures promise { (p : UsedPlan) (capacity : ℕ) (log : List Event) → IsUsedPlan p
+        → AllAllowed (start_used p capacity) log → AllByRecursion (ReservesBySurvey p.used) log
+        → KeepsPromiseFrom (start_used p capacity) log }
 {}
