@@ -72,19 +72,14 @@ same_gear : (w : World) → Change (IsReserved w.controllers) w.gear w.drawn w.g
 same_gear w = no_change (IsReserved w.controllers) w.gear w.gear w.drawn w.gifts refl (λ i h. (refl, refl))
 
 change_of : (p : Plan) (w : World) (e : Event) → Allowed w e → Holds p w → ChangeOf w (happens w e)
-change_of p w (event.Acted c i o) here k = same_gear w
-change_of p w (event.Offered c f) here k = same_gear w
 change_of p w (event.Sent c f h) here k = frame_change w c f Everyone here.up here.may k.known (p, k.draws)
 change_of p w (event.Destroyed c f set) here k = frame_change w c f (Only set) here.up here.may k.known (p, k.draws)
-change_of p w (event.Collided c f d g) here k = same_gear w
-change_of p w event.Lapsed here k = same_gear w
 change_of p w event.Quiet here k =
     no_change (IsReserved w.controllers) w.gear _ w.drawn w.gifts (length-map w.gear gear_quieted)
     (each_map fresh (SameAddresses w.gear) gear_quieted w.gear (λ i x h. h) (λ i h. (refl, refl)))
 change_of p w (event.Power g on) here k = one_change w (gear_powered on) g (powered_same on)
 change_of p w (event.Expired g) here k = one_change w gear_expired g (λ x. (refl, refl))
-change_of p w (event.Down c) here k = same_gear w
-change_of p w (event.Up c kept) here k = same_gear w
+change_of p w _ here k = same_gear w
 
 -- ONE EVENT
 gifts_more : (R S : Assignment → Type 0) (gs : List Gear) (ds gf : List (ℕ × ℕ))
@@ -107,16 +102,7 @@ names_stay w v ch drawn keeps x n =
 found_of : (p : Plan) (w : World) (e : Event) (M : Assignment → Type 0) → Allowed w e → Holds p w → ((x : Assignment) → Names w x → M x) → FoundBy M w e
 found_of p w (event.Sent c f h) M here k more =
     λ x e. more (assigned x) (found_names (IsReserved w.controllers) w c f h here k.known k.gifts (tells_if (owns w.bus.owner c) w.trace w.gear k.tells) x e)
-found_of p w (event.Acted c i o) M here k more = tt
-found_of p w (event.Offered c f) M here k more = tt
-found_of p w (event.Destroyed c f set) M here k more = tt
-found_of p w (event.Collided c f d g) M here k more = tt
-found_of p w event.Lapsed M here k more = tt
-found_of p w event.Quiet M here k more = tt
-found_of p w (event.Power g on) M here k more = tt
-found_of p w (event.Expired g) M here k more = tt
-found_of p w (event.Down c) M here k more = tt
-found_of p w (event.Up c kept) M here k more = tt
+found_of p w _ M here k more = tt
 
 tells_sent : (p : Plan) (w : World) (c : ℕ) (f : Forward) (h : Answer) → Allowed w (event.Sent c f h) → Holds p w
     → Tells (asked_of (happens w (event.Sent c f h)).trace) (happens w (event.Sent c f h)).gear
@@ -134,9 +120,6 @@ tells_step : (p : Plan) (w : World) (e : Event) → Allowed w e → Holds p w �
 tells_step p w (event.Acted c i o) here k = tells_unless _ w.trace w.gear k.tells
 tells_step p w (event.Offered c f) here k = k.tells
 tells_step p w (event.Sent c f h) here k = tells_sent p w c f h here k
-tells_step p w (event.Destroyed c f set) here k = tt
-tells_step p w (event.Collided c f d g) here k = tt
-tells_step p w event.Lapsed here k = tt
 tells_step p w event.Quiet here k =
     tells_stay (IsReserved w.controllers) w.gear _ w.drawn w.gifts _ _ (change_of p w event.Quiet here k) (asked_of w.trace) k.tells
 tells_step p w (event.Power g on) here k =
@@ -145,6 +128,7 @@ tells_step p w (event.Expired g) here k =
     tells_stay (IsReserved w.controllers) w.gear _ w.drawn w.gifts _ _ (change_of p w (event.Expired g) here k) (asked_of w.trace) k.tells
 tells_step p w (event.Down c) here k = tells_unless _ w.trace w.gear k.tells
 tells_step p w (event.Up c kept) here k = k.tells
+tells_step p w _ here k = tt
 
 module _ (p : Plan) (plan : IsPlan p) (w : World) (e : Event) (here : Allowed w e) (k : Holds p w) where
   ch : ChangeOf w (happens w e)
