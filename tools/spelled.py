@@ -195,13 +195,7 @@ PLACES = (
     Place("tools/script_mutations.py", block("def pump_line(", "return"), "Trouble", '" {word}"', "None"),
     Place("tools/site_script.py", block("FRAME_TROUBLES = {", "\n}"), "Trouble", '"{word}":', "None"),
     Place("tools/troubles", line("TROUBLES ="), "Trouble", '"{word}', "None"),
-    Place(SITE, line("RESERVE,"), "Record", "{UPPER}"),
-    Place(SITE, line("RESERVE,"), "Record", "{code}"),
-    Place(SITE, block("if kind not in (", ")"), "Record", "{UPPER}"),
     Place(SITE, line("ENDS ="), "End", '"{name}"'),
-    Place(LIBRARY, line("RESERVE,"), "Record", "{UPPER}"),
-    Place(LIBRARY, line("RESERVE,"), "Record", "{code}"),
-    Place(LIBRARY, block("if kind not in (", ")"), "Record", "{UPPER}"),
     Place(LIBRARY, line("ENDS ="), "End", '{UPPER}: "{words}"'),
 )
 
