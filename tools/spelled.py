@@ -181,11 +181,10 @@ PLACES = (
     Place("bench/replay", block("words[1] in (", ")"), "Answer", '"{kebab}"'),
     # The scripts of tools/.
     Place(REPLAY, line("ANSWER ="), "Answer", "{kebab}"),
-    Place(REPLAY, line("ENDS ="), "End", "{name}"),
     Place(REPLAY, line("COMMIT ="), "Record", "{name}"),
     Place(REPLAY, WHOLE, "Refusal", '"{code} {name}"', "StoreDisagrees NoMemory"),
     Place(REPLAY, block("SITE = {", "\n}"), "Trouble", '"pump {word}":', "None"),
-    Place(THREADS, block("ENDS = {", "}"), "End", '"{name}"'),
+    Place(THREADS, line("DONE ="), "End", '"{name}"'),
     Place(THREADS, block("ENDS = {", "}"), "Fault", '"halt {name}"'),
     Place(THREADS, block("ENDS = {", "}"), "Outcome", '"{name}"', "Ended Halted"),
     Place(THREADS, line("GEAR ="), "InitialisationState", "{kebab}"),
