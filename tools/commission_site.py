@@ -14,9 +14,10 @@ import tempfile
 import threading
 import typing
 
+from record_kinds import ENROL, KINDS, RELEASE, RESERVE
+
 ROOT = pathlib.Path(__file__).resolve().parent.parent
 BETWEEN = ROOT / "tools/commission_between.py"
-RESERVE, ENROL, RELEASE = 1, 2, 3  # the kinds of records
 MASK24 = 0xFFFFFF
 # The exit statuses of the program.
 DONE, NOT_SO, DRIVER, STORE, BLOCK_FULL, GAVE_UP, KILLED = 0, 1, 4, 5, 6, 7, -signal.SIGKILL
@@ -266,7 +267,7 @@ def replayed(rows, block):
         pair = (short, number)
         if seq != at:
             return kept, f"a place is empty before {seq}"
-        if kind not in (RESERVE, ENROL, RELEASE) or not 0 <= short <= 63 or not 0 <= number < MASK24:
+        if kind not in KINDS.values() or not 0 <= short <= 63 or not 0 <= number < MASK24:
             return kept, f"{seq} is no record"
         if kind != ENROL and not block[0] <= short <= block[1]:
             return kept, f"{seq} lies outside of the block"

@@ -3,11 +3,11 @@
 import collections
 import re
 
-from threads_report import GEAR, RANDOM, TABLE, check
+from threads_report import DONE, GEAR, RANDOM, TABLE, check
 
 FRAME = "[0-9A-F]{4}"
 ANSWER = "(?:silence|damaged|byte [0-9A-F]{2})"
-ENDS = "(?:done (?:all-found|block-full|gave-up))"
+ENDS = f"(?:done (?:{'|'.join(DONE)}))"
 COMMIT = rf"(?:commit (?:reserve|enrol|release) \d+ {RANDOM})"
 UNKNOWN = "1 UnknownController"
 DOWN = "2 ControllerDown"

@@ -181,11 +181,10 @@ PLACES = (
     Place("bench/replay", block("words[1] in (", ")"), "Answer", '"{kebab}"'),
     # The scripts of tools/.
     Place(REPLAY, line("ANSWER ="), "Answer", "{kebab}"),
-    Place(REPLAY, line("ENDS ="), "End", "{name}"),
     Place(REPLAY, line("COMMIT ="), "Record", "{name}"),
     Place(REPLAY, WHOLE, "Refusal", '"{code} {name}"', "StoreDisagrees NoMemory"),
     Place(REPLAY, block("SITE = {", "\n}"), "Trouble", '"pump {word}":', "None"),
-    Place(THREADS, block("ENDS = {", "}"), "End", '"{name}"'),
+    Place(THREADS, line("DONE ="), "End", '"{name}"'),
     Place(THREADS, block("ENDS = {", "}"), "Fault", '"halt {name}"'),
     Place(THREADS, block("ENDS = {", "}"), "Outcome", '"{name}"', "Ended Halted"),
     Place(THREADS, line("GEAR ="), "InitialisationState", "{kebab}"),
@@ -195,13 +194,7 @@ PLACES = (
     Place("tools/script_mutations.py", block("def pump_line(", "return"), "Trouble", '" {word}"', "None"),
     Place("tools/site_script.py", block("FRAME_TROUBLES = {", "\n}"), "Trouble", '"{word}":', "None"),
     Place("tools/troubles", line("TROUBLES ="), "Trouble", '"{word}', "None"),
-    Place(SITE, line("RESERVE,"), "Record", "{UPPER}"),
-    Place(SITE, line("RESERVE,"), "Record", "{code}"),
-    Place(SITE, block("if kind not in (", ")"), "Record", "{UPPER}"),
     Place(SITE, line("ENDS ="), "End", '"{name}"'),
-    Place(LIBRARY, line("RESERVE,"), "Record", "{UPPER}"),
-    Place(LIBRARY, line("RESERVE,"), "Record", "{code}"),
-    Place(LIBRARY, block("if kind not in (", ")"), "Record", "{UPPER}"),
     Place(LIBRARY, line("ENDS ="), "End", '{UPPER}: "{words}"'),
 )
 

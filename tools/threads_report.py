@@ -2,10 +2,9 @@
 
 import re
 
+DONE = ("all-found", "block-full", "gave-up")
 ENDS = {
-    "all-found",
-    "block-full",
-    "gave-up",
+    *DONE,
     "halt conflict",
     "halt store",
     "refused",

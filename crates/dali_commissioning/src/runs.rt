@@ -28,10 +28,7 @@ const MOST_RUNS: u32 = 1_000;
 fn is_all_found(ended: Ended) -> bool
     ensures { IsTrue result ↔ (ended ≡ Ended.Done ends.AllFound) }
 {
-    match ended {
-        Ended::Done(End::AllFound) => true,
-        Ended::Done(End::BlockFull | End::GaveUp) | Ended::Halted(_) => false,
-    }
+    matches!(ended, Ended::Done(End::AllFound))
 }
 
 /// How many runs in a row have committed nothing, with one more.

@@ -10,7 +10,7 @@ use Rattle.dali_frame.specs.Priority.{LATER}
 use Rattle.dali_special.specs.declared.command.Command.{Command}
 use Rattle.dali_special.specs.Command.{frame_of}
 use Rattle.dali_script.specs.declared.records.Record.{Record}
-use Rattle.dali_script.specs.declared.records.Record.TheVariants.{Reserve, Enrol, Release}
+use Rattle.dali_script.specs.declared.records.Record.TheVariants.{Reserve, Enrol}
 use Rattle.dali_script.specs.declared.stage.Stage.{Stage}
 use Rattle.dali_script.specs.declared.stage.Stage.TheVariants.{Free, Initialised, Opened, Probed, Unnamed, Unanswered, Inconclusive, HighAsked, Spelled}
 use Rattle.dali_script.specs.Records.{Assignment, Kept, Has, IsOnce, addresses, randoms, HasAddress, HasRandom}
@@ -298,11 +298,7 @@ keeps_fresh t fresh = go (stage_of t.trace) where
   rest : (last : Option Order) → (at_rest t last).way ≡ Fresh
   rest (Some (Put p f)) = fresh
   rest (Some (Commit (Reserve a n))) = fresh
-  rest (Some (Commit (Enrol a n))) = on t.opened
-  rest (Some (Commit (Release a n))) = on t.opened
-  rest (Some (Done e)) = on t.opened
-  rest (Some (Halt why)) = on t.opened
-  rest None = on t.opened
+  rest _ = on t.opened
 
   asks : (b : Bool) → (asked_once t b).way ≡ Fresh
   asks true = on t.opened

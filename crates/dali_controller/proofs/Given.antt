@@ -116,8 +116,8 @@ nothing_after t s stage ends f running lawful =
 unwarranted : (t : Machine) (x : Record) → ((r : SearchAddress) → stage_of t.trace ≡ Unnamed r → ⊥) → finding_of t.trace ≡ None → IsNoEnrolment t.last
     → IsWarranted t x → ⊥
 unwarranted t (Reserve a r) named none last w = named w.0 w.1
-unwarranted t (Enrol b r) named none last w = let found = w.2 in cc
 unwarranted t (Release a r) named none last w = last w.0 r w.1
+unwarranted t _ named none last w = grind (arith, w)
 
 no_conflict : (t : Machine) (c : Course) → finding_of t.trace ≡ None → IsCaused t c (Halt fault.Conflict) → ⊥
 no_conflict t c none cause = let found = cause.2 in cc

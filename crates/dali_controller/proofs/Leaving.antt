@@ -1,64 +1,34 @@
-use Rattle.std.proofs.Common.{map, take, lit<, length, get_or, ◌≡◌, ◌⊎◌, inl, inr, ℕ, ◌+◌, ◌<◌, ◌≤◌, Bool, true, false, List, [], ◌∷◌, ◌++◌, refl, sym, ap}
-use Rattle.std.proofs.Common.{subst, ◌∙◌, arith, Option, Some, None}
-use Rattle.std.specs.Prelude.{◌==◌, ◌&&◌, not, is_some, if◌then◌else◌}
-use Rattle.dali_frame.specs.declared.frames.Forward.{Forward}
-use Rattle.dali_frame.specs.declared.frames.Answer.{Answer}
-use Rattle.dali_frame.specs.declared.frames.Answer.TheVariants.{Silence, Byte, Damaged}
+use Rattle.std.proofs.Common.{map, ◌≡◌, inl, ℕ, ◌<◌, Bool, true, false, refl, sym, ap}
+use Rattle.std.proofs.Common.{subst, ◌∙◌, arith, Some, None}
+use Rattle.std.specs.Prelude.{◌&&◌, not, is_some}
 use Rattle.dali_frame.specs.declared.numbers.SearchAddress.{SearchAddress}
-use Rattle.dali_frame.specs.Short.{short_of}
 use Rattle.dali_frame.specs.Random.{value_of, MASK24}
 use Rattle.dali_frame.specs.Priority.{FIRST, LATER}
-use Rattle.dali_special.specs.declared.command.Target.TheVariants.{Unaddressed}
-use Rattle.dali_special.specs.declared.command.Part.TheVariants.{Middle, Low}
-use Rattle.dali_special.specs.declared.command.Command.{Command}
-use Rattle.dali_special.specs.declared.command.Command.TheVariants.{Terminate, Initialise, Randomise, Compare, Withdraw, SearchMiddle, SearchLow, Program}
-use Rattle.dali_special.specs.declared.command.Command.TheVariants.{QueryShort, RandomByte, Arc}
-use Rattle.dali_special.specs.Command.{MASK, command_of, frame_of, IsSpelled}
-use Rattle.dali_special.proofs.Table.{read_written}
-use Rattle.dali_script.specs.declared.block.Block.{Block}
-use Rattle.dali_script.specs.declared.trace.Entry.{Entry}
-use Rattle.dali_script.specs.declared.finding.Finding.{Finding}
-use Rattle.dali_script.specs.declared.finding.Finding.TheVariants.{Queried, Resolved}
-use Rattle.dali_script.specs.declared.records.Record.{Record}
-use Rattle.dali_script.specs.declared.records.Record.TheVariants.{Reserve, Enrol}
-use Rattle.dali_script.specs.declared.stage.Stage.{Stage}
-use Rattle.dali_script.specs.declared.stage.Stage.TheVariants.{Free, Terminated, InitialisedOnce, Initialised, RandomisedOnce, Opened, HighSent, MiddleSent}
-use Rattle.dali_script.specs.declared.stage.Stage.TheVariants.{NumberSent, Found, Unnamed, Unanswered, Inconclusive, Programmed, Confirmed, Withdrawn}
-use Rattle.dali_script.specs.declared.stage.Stage.TheVariants.{HighAsked, MiddleAsked, Spelled}
-use Rattle.dali_script.specs.Records.{IsKept, IsMap, IsOnce, InBlock, with_record, HasAddress, Kept, Assignment, Has, HasRandom, Fits, MayAdd}
-use Rattle.dali_script.specs.Scripts.{MayGive, Lawful}
-use Rattle.dali_script.specs.Findings.{later, finding_of}
-use Rattle.dali_script.specs.Stages.{byte_heard, bytes_heard, finding_at, stage_of, next_stage, queried, named, verified, answered, Follows}
-use Rattle.dali_script.proofs.Transactions.{self, middle_next, low_next, turn, gives, lawful_follows, stage_none, stage_more}
-use Rattle.dali_script.proofs.Found.{finding_after}
-use Rattle.dali_search.specs.declared.step.Step.TheVariants.{Again}
-use Rattle.dali_script.proofs.Lists.{has_map, has_last, once_before}
-use Rattle.dali_search.specs.Least.{Search}
+use Rattle.dali_special.specs.declared.command.Command.TheVariants.{Program}
+use Rattle.dali_special.specs.Command.{frame_of}
+use Rattle.dali_script.specs.declared.records.Record.TheVariants.{Reserve}
+use Rattle.dali_script.specs.declared.stage.Stage.TheVariants.{Unnamed, Withdrawn}
+use Rattle.dali_script.specs.Records.{IsKept, IsMap, InBlock, HasAddress, Kept, Has, HasRandom, Fits, MayAdd}
+use Rattle.dali_script.specs.Stages.{stage_of}
 use Rattle.dali_script.specs.declared.orders.Order.{Order}
-use Rattle.dali_script.specs.declared.orders.Order.TheVariants.{Put, Commit, Done, Halt}
-use Rattle.dali_script.specs.declared.orders.End.{End}
-use Rattle.dali_script.specs.declared.orders.Fault.TheVariants as fault
-use Rattle.dali_script.specs.declared.orders.End.TheVariants.{AllFound, BlockFull, GaveUp}
-use Rattle.dali_script.specs.declared.orders.Due.TheVariants as due
-use Rattle.dali_controller.specs.declared.purpose.Purpose.{Purpose}
-use Rattle.dali_controller.specs.declared.purpose.Purpose.TheVariants.{Opening, Probing, Visiting, Resolving, Closing, Asking, Waking}
+use Rattle.dali_script.specs.declared.orders.Order.TheVariants.{Put, Commit}
+use Rattle.dali_script.specs.declared.orders.End.TheVariants.{BlockFull}
+use Rattle.dali_controller.specs.declared.purpose.Purpose.TheVariants.{Visiting, Closing}
 use Rattle.dali_controller.specs.declared.shorts.Shorts.{Shorts}
 use Rattle.dali_controller.specs.declared.way.Way.{Way}
 use Rattle.dali_controller.specs.declared.way.Way.TheVariants.{Fresh, Surveying, Drawing}
 use Rattle.dali_controller.specs.Parts.{Parts}
-use Rattle.dali_script.specs.Due.{due_after, frame_put}
-use Rattle.dali_controller.specs.Course.{Course, first_of, turn_of, closing_of, drawing, address_for, least_open, is_anothers}
-use Rattle.dali_controller.specs.Machine.{machine_lost, Machine, opened_after, woken_after, silent_after, tries_after}
-use Rattle.dali_controller.specs.Next.{begins_at, course_by, beginning, next_course, draws, draw_or_close, is_withheld, is_withheld_by}
+use Rattle.dali_controller.specs.Course.{Course, first_of, closing_of, address_for, least_open, is_anothers}
+use Rattle.dali_controller.specs.Machine.{Machine}
+use Rattle.dali_controller.specs.Next.{begins_at, beginning, next_course, draws, draw_or_close, is_withheld, is_withheld_by}
 use Rattle.dali_controller.proofs.Courses.{address_is}
 use Rattle.dali_controller.proofs.Asked.{least_open_is, open_unreserved}
-use Rattle.dali_controller.specs.Orders.{Contradicts, IsBegun, AfterReserved, AfterMaskBy, AfterMaskOn, AfterMaskSurveyed, IsOrderedTo, IsSought, IsLeft}
-use Rattle.dali_controller.specs.Orders.{MayEnrolOn, is_left, is_left_by, machine_ordered}
-use Rattle.dali_controller.specs.Orders.{running_close}
+use Rattle.dali_controller.specs.Orders.{AfterReserved, AfterMaskBy, AfterMaskOn, AfterMaskSurveyed, IsOrderedTo, IsLeft}
+use Rattle.dali_controller.specs.Orders.{is_left_by, machine_ordered}
 use Rattle.dali_controller.specs.Parts.{parts_course, machine_of}
-use Rattle.dali_controller.specs.Whole.{IsWhole, Sends, Knows, IsEarly, IsWithinSilence, IsReady, IsSending, Pending}
-use Rattle.dali_controller.specs.Moments.{FoundAt, IsBetween, Closes, Settles, Arrived, KnowsAt, KnowsWoken, CalmAt, IsHeard, Turns, Begins, IsNext}
-use Rattle.dali_controller.specs.Moments.{Draws, IsFirstFree, IsUngiven, IsNextTo}
+use Rattle.dali_controller.specs.Whole.{Knows}
+use Rattle.dali_controller.specs.Moments.{Closes, IsHeard, IsNext}
+use Rattle.dali_controller.specs.Moments.{IsFirstFree, IsUngiven, IsNextTo}
 use Rattle.dali_controller.proofs.Steps.{IsMasked, calm_less, but_course}
 
 -- GEAR THAT ANSWERED MASK is given what is reserved for it, or an address is reserved, or it is left.

@@ -1,4 +1,4 @@
-use Rattle.std.specs.Prelude.{◌≡◌, ℕ, ◌==◌, Bool, true, false, not, ◌&&◌, Option, Some, None}
+use Rattle.std.specs.Prelude.{◌≡◌, ℕ, ◌==◌, Bool, true, false, ◌&&◌, Option, Some, None}
 use Rattle.std.specs.Prelude.{is_some}
 use Rattle.std.specs.Prelude.{if◌then◌else◌}
 use Rattle.dali_frame.specs.declared.frames.Answer.{Answer}
@@ -6,7 +6,7 @@ use Rattle.dali_frame.specs.declared.numbers.SearchAddress.{SearchAddress}
 use Rattle.dali_frame.specs.Random.{value_of}
 use Rattle.dali_frame.specs.Priority.{FIRST}
 use Rattle.dali_special.specs.Command.{frame_of}
-use Rattle.dali_script.specs.declared.records.Record.TheVariants.{Reserve, Enrol, Release}
+use Rattle.dali_script.specs.declared.records.Record.TheVariants.{Reserve}
 use Rattle.dali_script.specs.declared.stage.Stage.{Stage}
 use Rattle.dali_script.specs.declared.stage.Stage.TheVariants.{Free, Opened, Probed, Unnamed}
 use Rattle.dali_script.specs.declared.stage.Stage.TheVariants.{Unanswered, Inconclusive}
@@ -22,7 +22,7 @@ use Rattle.dali_search.specs.Least.{answered}
 use Rattle.dali_controller.specs.declared.way.Way.{Way}
 use Rattle.dali_controller.specs.declared.way.Way.TheVariants.{Fresh, Surveying, Drawing}
 use Rattle.dali_controller.specs.Course.{Course, first_of, searching_anew, visiting, resolving}
-use Rattle.dali_controller.specs.Course.{closing, drawing, probed, address_for, going_on, is_yes}
+use Rattle.dali_controller.specs.Course.{closing, drawing, address_for, going_on, is_yes}
 use Rattle.dali_controller.specs.Course.{after_step, least_open, is_anothers}
 use Rattle.dali_controller.specs.Machine.{Machine}
 
@@ -85,13 +85,13 @@ abbrev pub asked_once : Machine → Bool → Course
 asked_once t true = goes_on_to t
 asked_once t false = t.course
 
--- no frame was sent: the start, a transaction that was lost, or a record that is kept
+-- no frame was sent: the start, a transaction that was lost, or a record that is kept; of records
+-- a reservation alone leads to a visit
 abbrev pub at_rest : Machine → Option Order → Course
 at_rest t None = goes_on_to t
 at_rest t (Some (Put p f)) = t.course
 at_rest t (Some (Commit (Reserve a n))) = visiting t.course n
-at_rest t (Some (Commit (Enrol a n))) = goes_on_to t
-at_rest t (Some (Commit (Release a n))) = goes_on_to t
+at_rest t (Some (Commit x)) = goes_on_to t
 at_rest t (Some (Done e)) = goes_on_to t
 at_rest t (Some (Halt w)) = goes_on_to t
 

@@ -159,7 +159,8 @@ IsCaused t c (Halt fault.Store) = ⊥
 -- WHAT A VISIT LEADS TO.
 
 -- Gear that answered MASK is programmed with the address that is reserved for its number; else the
--- least free address is reserved for it; else there is none, and a close is begun.
+-- least free address is reserved for it; else there is none, and a close is begun. No other record
+-- is kept then.
 abbrev pub AfterMask : Machine → Course → SearchAddress → Order → Type 0
 AfterMask t c r (Put p f) =
     ((a : ℕ) × Has t.kept.reserved (a, value_of r) × (p ≡ LATER)
@@ -169,8 +170,7 @@ AfterMask t c r (Put p f) =
 AfterMask t c r (Commit (Reserve a n)) =
     (value_of r ≡ n) × (HasRandom t.kept.reserved n → ⊥)
     × IsLeastFree t.kept.block t.kept.reserved a
-AfterMask t c r (Commit (Enrol b n)) = ⊥
-AfterMask t c r (Commit (Release a n)) = ⊥
+AfterMask t c r (Commit x) = ⊥
 AfterMask t c r (Done e) = ⊥
 AfterMask t c r (Halt w) = ⊥
 

@@ -16,7 +16,7 @@ use Rattle.dali_search.specs.declared.step.Step.TheVariants.{Again}
 use Rattle.dali_search.specs.Least.{Search}
 use Rattle.dali_script.specs.declared.orders.Order.{Order}
 use Rattle.dali_script.specs.declared.orders.Order.TheVariants.{Put, Commit, Done, Halt}
-use Rattle.dali_script.specs.declared.orders.End.TheVariants.{AllFound, BlockFull, GaveUp}
+use Rattle.dali_script.specs.declared.orders.End.TheVariants.{GaveUp}
 use Rattle.dali_controller.specs.declared.purpose.Purpose.{Purpose}
 use Rattle.dali_controller.specs.declared.purpose.Purpose.TheVariants.{Opening, Probing, Visiting}
 use Rattle.dali_controller.specs.declared.purpose.Purpose.TheVariants.{Resolving, Closing}
@@ -66,7 +66,7 @@ Knows y k n s opened (Closing e) = opened ≡ true
 Knows y k n s opened (Asking a) = (opened ≡ false) × (y ≡ Surveying) × (a < 64)
 Knows y k n s opened Waking = (opened ≡ false) × (y ≡ Surveying)
 
--- the count of silent searches is below its limit, unless a close was begun for it
+-- the count of silent searches is below its limit, unless a close was begun for it, which ends so
 abbrev pub IsWithinSilence : Purpose → ℕ → Type 0
 IsWithinSilence Opening silent = silent < 16
 IsWithinSilence Probing silent = silent < 16
@@ -74,9 +74,8 @@ IsWithinSilence Visiting silent = silent < 16
 IsWithinSilence (Resolving a) silent = silent < 16
 IsWithinSilence (Asking a) silent = silent < 16
 IsWithinSilence Waking silent = silent < 16
-IsWithinSilence (Closing AllFound) silent = silent < 16
-IsWithinSilence (Closing BlockFull) silent = silent < 16
 IsWithinSilence (Closing GaveUp) silent = silent ≤ 16
+IsWithinSilence (Closing e) silent = silent < 16
 
 -- WHICH COMMAND a transaction sends at a stage, of those that may be sent there
 abbrev pub IsMet : Stage → Purpose → SearchAddress → Type 0

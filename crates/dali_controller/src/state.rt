@@ -289,7 +289,24 @@ fn marked_at(stage: &Stage, answer: Answer, heard: Shorts) -> Shorts
                 heard.without(short)
             }
         }
-        _ => heard,
+        Stage::Free
+        | Stage::Terminated
+        | Stage::InitialisedOnce
+        | Stage::Initialised
+        | Stage::RandomisedOnce
+        | Stage::Opened
+        | Stage::HighSent(_)
+        | Stage::MiddleSent(..)
+        | Stage::NumberSent(_)
+        | Stage::Probed(..)
+        | Stage::Found(..)
+        | Stage::Unnamed(_)
+        | Stage::Unanswered(_)
+        | Stage::Inconclusive(..)
+        | Stage::Programmed(..)
+        | Stage::Confirmed(..)
+        | Stage::Withdrawn(..)
+        | Stage::Over => heard,
     }
 }
 
@@ -297,8 +314,31 @@ fn marked_at(stage: &Stage, answer: Answer, heard: Shorts) -> Shorts
 fn asked_at(stage: &Stage, heard: Answer, asked: u8) -> u8
     ensures { result ≡ asked_at stage.now heard asked }
 {
-    match (stage, heard) {
-        (Stage::HighAsked(_, None), Answer::Silence) if asked < ASKED - 1 => asked + 1,
-        _ => 0,
+    match *stage {
+        Stage::HighAsked(_, None) => match heard {
+            Answer::Silence if asked < ASKED - 1 => asked + 1,
+            Answer::Silence | Answer::Byte(_) | Answer::Damaged => 0,
+        },
+        Stage::HighAsked(_, Some(_))
+        | Stage::MiddleAsked(..)
+        | Stage::Spelled(..)
+        | Stage::Free
+        | Stage::Terminated
+        | Stage::InitialisedOnce
+        | Stage::Initialised
+        | Stage::RandomisedOnce
+        | Stage::Opened
+        | Stage::HighSent(_)
+        | Stage::MiddleSent(..)
+        | Stage::NumberSent(_)
+        | Stage::Probed(..)
+        | Stage::Found(..)
+        | Stage::Unnamed(_)
+        | Stage::Unanswered(_)
+        | Stage::Inconclusive(..)
+        | Stage::Programmed(..)
+        | Stage::Confirmed(..)
+        | Stage::Withdrawn(..)
+        | Stage::Over => 0,
     }
 }

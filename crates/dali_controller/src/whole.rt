@@ -146,7 +146,7 @@ fn is_within_silence(purpose: Purpose, silent: u8) -> bool
 {
     match purpose {
         Purpose::Closing(End::GaveUp) => silent <= SILENT,
-        Purpose::Closing(End::AllFound | End::BlockFull)
+        Purpose::Closing(_)
         | Purpose::Opening
         | Purpose::Probing
         | Purpose::Visiting

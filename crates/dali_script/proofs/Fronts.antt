@@ -8,9 +8,9 @@ use Rattle.std.proofs.lemmas.List.{take_more, get_or-replicate, drop-take, lengt
 use Rattle.std.proofs.lemmas.List.Edits.{take-paste}
 use Rattle.dali_frame.specs.Random.{MASK24, low_of}
 use Rattle.dali_script.specs.declared.block.Block.{Block}
-use Rattle.dali_script.specs.Records.{Assignment, Has, HasAddress, HasRandom, InBlock, IsMap, Marks, IsFresh, AreEnrolled, AllDrawn}
+use Rattle.dali_script.specs.Records.{Assignment, Has, HasAddress, HasRandom, InBlock, Marks, IsFresh, AreEnrolled}
 use Rattle.dali_script.specs.Pairs.{Seen}
-use Rattle.dali_script.proofs.Lists.{has_map, has_cases, next_there, next_fresh, map_none, map_more, all_more}
+use Rattle.dali_script.proofs.Lists.{has_map, next_there, next_fresh, map_none, map_more, all_more}
 
 -- THE PAIR AT A PLACE
 pub address_at : (xs : List Assignment) (i : ℕ) (p : Assignment) → i < length xs → p ≡ get_or xs i p → HasAddress xs p.0

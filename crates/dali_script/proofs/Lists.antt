@@ -18,6 +18,11 @@ pub has_last : {A : Type 0} (xs : List A) (x : A) → Has (xs ++ x ∷ []) x
 has_last [] x = inl refl
 has_last (y ∷ xs) x = inr (has_last xs x)
 
+pub has_before : {A : Type 0} (xs : List A) (y x : A) → Has xs x → Has (xs ++ y ∷ []) x
+has_before [] y x h = elim h [ ]
+has_before (z ∷ xs) y x (inl e) = inl e
+has_before (z ∷ xs) y x (inr h) = inr (has_before xs y x h)
+
 pub has_cases : {A : Type 0} (xs : List A) (y x : A) → Has (xs ++ y ∷ []) x → Has xs x ⊎ (y ≡ x)
 has_cases [] y x (inl e) = inr e
 has_cases [] y x (inr h) = elim h [ ]
@@ -304,31 +309,34 @@ kept_more k (Release a r) m fits small there = record {
 -- WHAT A RECORD LEAVES. The block stays; what is reserved then was so before, or the record reserves it; and so of what is enrolled.
 pub block_stays : (k : Kept) (x : Record) → (with_record k x).block ≡ k.block
 block_stays k (Reserve a r) = refl
-block_stays k (Enrol a r) = refl
-block_stays k (Release a r) = refl
+block_stays k _ = refl
 
 pub reserved_by : (k : Kept) (x : Record) (p : Assignment) → Has (with_record k x).reserved p → Has k.reserved p ⊎ (x ≡ Reserve p.0 p.1)
 reserved_by k (Reserve a r) p has = go (has_cases k.reserved (a, r) p has) where
   go : Has k.reserved p ⊎ ◌≡◌ {A = Assignment} (a, r) p → Has k.reserved p ⊎ (Reserve a r ≡ Reserve p.0 p.1)
   go (inl before) = inl before
   go (inr same) = inr (ap (λ (q : Assignment). Reserve q.0 q.1) same)
-reserved_by k (Enrol a r) p has = inl has
 reserved_by k (Release a r) p has = inl (without_has (a, r) k.reserved p has)
+reserved_by k _ p has = inl has
 
 -- each address stays reserved once
 pub once_by : (k : Kept) (x : Record) → IsOnce (addresses k.reserved) → ((a r : ℕ) → x ≡ Reserve a r → HasAddress k.reserved a → ⊥)
     → IsOnce (addresses (with_record k x).reserved)
 once_by k (Reserve a r) once fresh = subst IsOnce (sym (map_append (λ p. p.0) k.reserved (a, r))) (once_more (addresses k.reserved) a once (fresh a r refl))
-once_by k (Enrol a r) once fresh = once
 once_by k (Release a r) once fresh = once_left (λ p. p.0) (a, r) k.reserved once
+once_by k _ once fresh = once
 
 pub enrolled_by : (k : Kept) (x : Record) (p : Assignment) → Has (with_record k x).enrolled p → Has k.enrolled p ⊎ (x ≡ Enrol p.0 p.1)
-enrolled_by k (Reserve a r) p has = inl has
 enrolled_by k (Enrol a r) p has = go (has_cases k.enrolled (a, r) p has) where
   go : Has k.enrolled p ⊎ ◌≡◌ {A = Assignment} (a, r) p → Has k.enrolled p ⊎ (Enrol a r ≡ Enrol p.0 p.1)
   go (inl before) = inl before
   go (inr same) = inr (ap (λ (q : Assignment). Enrol q.0 q.1) same)
-enrolled_by k (Release a r) p has = inl has
+enrolled_by k _ p has = inl has
+
+-- what is enrolled stays so
+pub enrolled_stays : (k : Kept) (x : Record) (p : Assignment) → Has k.enrolled p → Has (with_record k x).enrolled p
+enrolled_stays k (Enrol a r) p has = has_before k.enrolled (a, r) p has
+enrolled_stays k _ p has = has
 
 -- what records show then they showed before, or it is this record; unless it takes away
 pub shown_by : (k : Kept) (x y : Record) → Shows (with_record k x) y → TakesAway y ⊎ (Shows k y ⊎ (x ≡ y))
@@ -337,15 +345,13 @@ shown_by k x (Enrol a r) shows = inr (enrolled_by k x (a, r) shows)
 shown_by k x (Release a r) shows = inl tt
 
 pub shown_none : (b : Block) (y : Record) → Shows (without_records b) y → TakesAway y
-shown_none b (Reserve a r) shows = shows
-shown_none b (Enrol a r) shows = shows
 shown_none b (Release a r) shows = tt
+shown_none b _ shows = shows
 
 -- A LARGER BLOCK: a record does the same there, fits it, and may be added
 pub record_wider : (wide : Block) (k : Kept) (x : Record) → with_record (record k { block = wide }) x ≡ record (with_record k x) { block = wide }
 record_wider wide k (Reserve a r) = refl
-record_wider wide k (Enrol a r) = refl
-record_wider wide k (Release a r) = refl
+record_wider wide k _ = refl
 
 pub fits_wider : (b wide : Block) (x : Record) → wide.first ≤ b.first → b.last ≤ wide.last → Fits b x → Fits wide x
 fits_wider b wide (Reserve a r) below above fits = ((omega (arith, below, fits.0.0), omega (arith, above, fits.0.1)), fits.1)
@@ -354,8 +360,7 @@ fits_wider b wide (Release a r) below above fits = ((omega (arith, below, fits.0
 
 pub may_wider : (wide : Block) (k : Kept) (x : Record) → MayAdd k x → MayAdd (record k { block = wide }) x
 may_wider wide k (Reserve a r) may = may
-may_wider wide k (Enrol a r) may = may
-may_wider wide k (Release a r) may = may
+may_wider wide k _ may = may
 
 -- what is reserved fits, and so does its release
 pub reserved_fits : (k : Kept) (a r : ℕ) → IsKept k → Has k.reserved (a, r) → Fits k.block (Release a r)

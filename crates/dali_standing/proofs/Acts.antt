@@ -174,7 +174,7 @@ may_order_by w c k t (Commit (Enrol b r)) both may =
       ),
     )
 may_order_by w c k t (Commit (Release a r)) both may =
-    let enrolled = subst (λ l. IsEnrolling l k.finding) may.warranted.1 both.enrolling in
+    let enrolled = both.enrolling may.warranted.0 r may.warranted.1 in
     (both.outstanding, (subst (λ q. MayAdd q (Release a r)) both.kept may.may, (enrolled.0, enrolled.1, may.warranted.0, enrolled.2, may.warranted.2)))
 may_order_by w c k t (Done e) both may = tt
 may_order_by w c k t (Halt why) both may = tt
@@ -243,10 +243,10 @@ enrolling_told k m i tied = subst (λ l. IsEnrolling l k.finding) (sym (last_tol
 
 -- an enrolment that is ordered is of the controller's last finding
 enrolling_by : (found : Option Finding) (t : Machine) (o : Order) → later found (finding_of t.trace) ≡ found → IsAllowed t o → IsEnrolling (Some o) found
-enrolling_by found t (Commit (Enrol b r)) is may =
-    let x : Finding = may.warranted.0 in
-    (x, later_some found (finding_of t.trace) x may.warranted.2 is, sym (enrols_assigned t.course.way t.kept.reserved x (b, r) may.warranted.3))
-enrolling_by found t _ is may = tt
+enrolling_by found t o is may b r e =
+    let enrols : IsAllowed t (Commit (Enrol b r)) = subst (λ y. IsAllowed t y) (let same : o ≡ Commit (Enrol b r) = cc in same) may in
+    let x : Finding = enrols.warranted.0 in
+    (x, later_some found (finding_of t.trace) x enrols.warranted.2 is, sym (enrols_assigned t.course.way t.kept.reserved x (b, r) enrols.warranted.3))
 
 -- where the store is waited for, nothing that is told changes the trace
 stored_trace : (m : Machine) (last : Option Order) (told : Option Input) → IsCommit last → IsTold last told → (informed_by m told).trace ≡ m.trace
@@ -306,7 +306,7 @@ running_acted m outstanding found told i o tied due answer = go i due answer whe
   go input.CommitFailed commit halts =
       subst (λ p. IsRunning (seat_by (Up (machine_after m input.CommitFailed p)) (outstanding_after outstanding p) found None).controller
       (machine_after m input.CommitFailed p)) (sym halts)
-      (record { kept = refl; last = refl; told = tt; outstanding = tt; found = refl; enrolling = tt })
+      (record { kept = refl; last = refl; told = tt; outstanding = tt; found = refl; enrolling = λ b r e. absurd (cc) })
   go input.Start is order =
       ordered_running (machine_told m input.Start) o outstanding found order.allowed (found_told k m input.Start is tied.found)
       (subst (λ l. IsOutstanding k.records l outstanding) (start_first k.last (told_accepted k.last k.told input.Start is tied.told)) tied.outstanding)

@@ -5,7 +5,7 @@ use Rattle.dali_script.specs.declared.block.Block.{Block}
 use Rattle.dali_script.specs.declared.trace.Entry.{Entry}
 use Rattle.dali_script.specs.declared.finding.Finding.{Finding}
 use Rattle.dali_script.specs.declared.records.Record.{Record}
-use Rattle.dali_script.specs.declared.records.Record.TheVariants.{Reserve, Enrol, Release}
+use Rattle.dali_script.specs.declared.records.Record.TheVariants.{Enrol}
 use Rattle.dali_script.specs.Records.{Kept, Fits, MayAdd, without_records}
 use Rattle.dali_script.specs.Findings.{later, finding_of, assigned}
 use Rattle.dali_script.specs.declared.orders.Input.{Input}
@@ -60,14 +60,9 @@ IsFound k m = later k.finding (finding_of (informed_by m k.told).trace) ≡ k.fi
 -- An enrolment that was ordered is of the last finding of the controller, which finds nothing more
 -- until it has acted on the outcome.
 abbrev pub IsEnrolling : Option Order → Option Finding → Type 0
-IsEnrolling (Some (Commit (Enrol b r))) found =
-    (x : Finding) × (found ≡ Some x) × (assigned x ≡ (b, r))
-IsEnrolling (Some (Commit (Reserve b r))) found = Unit {0}
-IsEnrolling (Some (Commit (Release b r))) found = Unit {0}
-IsEnrolling (Some (Put p f)) found = Unit {0}
-IsEnrolling (Some (Done e)) found = Unit {0}
-IsEnrolling (Some (Halt why)) found = Unit {0}
-IsEnrolling None found = Unit {0}
+IsEnrolling last found =
+    (b r : ℕ) → last ≡ Some (Commit (Enrol b r))
+    → (x : Finding) × (found ≡ Some x) × (assigned x ≡ (b, r))
 
 pub record IsRunning (k : Controller) (m : Machine) : Type 0 where
   pub kept : m.kept ≡ k.records

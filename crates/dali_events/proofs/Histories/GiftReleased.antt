@@ -3,13 +3,13 @@ use Rattle.dali_frame.specs.declared.frames.Answer.TheVariants.{Silence, Byte}
 use Rattle.dali_special.specs.Command.{command_of}
 use Rattle.dali_script.specs.declared.finding.Finding.{Finding}
 use Rattle.dali_script.specs.declared.finding.Finding.TheVariants.{Queried}
-use Rattle.dali_script.specs.declared.records.Record.TheVariants.{Reserve, Enrol, Release}
+use Rattle.dali_script.specs.declared.records.Record.TheVariants.{Release}
 use Rattle.dali_script.specs.Records.{MayAdd}
 use Rattle.dali_script.specs.Findings.{assigned}
 use Rattle.dali_script.specs.Stages.{stage_of}
 use Rattle.dali_script.specs.declared.orders.Input.{Input}
 use Rattle.dali_script.specs.declared.orders.Input.TheVariants as input
-use Rattle.dali_script.specs.declared.orders.Order.TheVariants.{Put, Commit, Done, Halt}
+use Rattle.dali_script.specs.declared.orders.Order.TheVariants.{Commit}
 use Rattle.dali_events.specs.declared.event.Event.{Event}
 use Rattle.dali_events.specs.declared.event.Event.TheVariants as event
 use Rattle.dali_events.specs.Plan.{Plan}
@@ -36,21 +36,7 @@ record IsReleased (w : World) (c : ℕ) (i : Input) (a r : ℕ) : Type 0 where
 
 abbrev AllowedToo : World → Event → Type 0
 AllowedToo w (event.Acted c i (Commit (Release a r))) = IsReleased w c i a r
-AllowedToo w (event.Acted c i (Put p f)) = Allowed w (event.Acted c i (Put p f))
-AllowedToo w (event.Acted c i (Commit (Reserve a r))) = Allowed w (event.Acted c i (Commit (Reserve a r)))
-AllowedToo w (event.Acted c i (Commit (Enrol a r))) = Allowed w (event.Acted c i (Commit (Enrol a r)))
-AllowedToo w (event.Acted c i (Done end)) = Allowed w (event.Acted c i (Done end))
-AllowedToo w (event.Acted c i (Halt fault)) = Allowed w (event.Acted c i (Halt fault))
-AllowedToo w (event.Offered c f) = Allowed w (event.Offered c f)
-AllowedToo w (event.Sent c f h) = Allowed w (event.Sent c f h)
-AllowedToo w (event.Destroyed c f set) = Allowed w (event.Destroyed c f set)
-AllowedToo w (event.Collided c f d g) = Allowed w (event.Collided c f d g)
-AllowedToo w event.Lapsed = Allowed w event.Lapsed
-AllowedToo w event.Quiet = Allowed w event.Quiet
-AllowedToo w (event.Power g on) = Allowed w (event.Power g on)
-AllowedToo w (event.Expired g) = Allowed w (event.Expired g)
-AllowedToo w (event.Down c) = Allowed w (event.Down c)
-AllowedToo w (event.Up c kept) = Allowed w (event.Up c kept)
+AllowedToo w e = Allowed w e
 
 abbrev AllAllowedToo : World → List Event → Type 0
 AllAllowedToo w es = EachIs AllowedToo happens w es
@@ -60,21 +46,7 @@ allowed_too : (w : World) (e : Event) → Allowed w e → AllowedToo w e
 allowed_too w (event.Acted c i (Commit (Release a r))) here =
     let other = here.order.1.1 in
     record { up = here.up; due = here.due; none = here.order.0; reserved = here.order.1.0; found = (other.0, other.1, other.2, other.3) }
-allowed_too w (event.Acted c i (Put p f)) here = here
-allowed_too w (event.Acted c i (Commit (Reserve a r))) here = here
-allowed_too w (event.Acted c i (Commit (Enrol a r))) here = here
-allowed_too w (event.Acted c i (Done end)) here = here
-allowed_too w (event.Acted c i (Halt fault)) here = here
-allowed_too w (event.Offered c f) here = here
-allowed_too w (event.Sent c f h) here = here
-allowed_too w (event.Destroyed c f set) here = here
-allowed_too w (event.Collided c f d g) here = here
-allowed_too w event.Lapsed here = here
-allowed_too w event.Quiet here = here
-allowed_too w (event.Power g on) here = here
-allowed_too w (event.Expired g) here = here
-allowed_too w (event.Down c) here = here
-allowed_too w (event.Up c kept) here = here
+allowed_too w _ here = here
 
 -- ---------------------------------------------------------------- the events
 

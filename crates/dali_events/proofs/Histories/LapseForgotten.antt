@@ -51,15 +51,7 @@ abbrev happens_on : SiteState → Event → SiteState
 happens_on s (event.Sent c f h) =
     record { world = sent_on s.world c f h (running_on s c); old_owner = (if owns s.old_owner c then None else s.old_owner); old_trace = s.old_trace }
 happens_on s event.Lapsed = record { world = happens s.world event.Lapsed; old_owner = s.world.bus.owner; old_trace = s.world.trace }
-happens_on s (event.Acted c i o) = still_on s (event.Acted c i o)
-happens_on s (event.Offered c f) = still_on s (event.Offered c f)
-happens_on s (event.Destroyed c f set) = still_on s (event.Destroyed c f set)
-happens_on s (event.Collided c f d g) = still_on s (event.Collided c f d g)
-happens_on s event.Quiet = still_on s event.Quiet
-happens_on s (event.Power g on) = still_on s (event.Power g on)
-happens_on s (event.Expired g) = still_on s (event.Expired g)
-happens_on s (event.Down c) = still_on s (event.Down c)
-happens_on s (event.Up c kept) = still_on s (event.Up c kept)
+happens_on s e = still_on s e
 
 -- the owner, or the old owner where nobody owns the bus, goes on; and anybody else may begin
 abbrev MaySendOn : SiteState → ℕ → Forward → Type 0
@@ -77,16 +69,7 @@ record IsSentOn (s : SiteState) (c : ℕ) (f : Forward) (h : Answer) : Type 0 wh
 
 abbrev AllowedOn : SiteState → Event → Type 0
 AllowedOn s (event.Sent c f h) = IsSentOn s c f h
-AllowedOn s (event.Acted c i o) = Allowed s.world (event.Acted c i o)
-AllowedOn s (event.Offered c f) = Allowed s.world (event.Offered c f)
-AllowedOn s (event.Destroyed c f set) = Allowed s.world (event.Destroyed c f set)
-AllowedOn s (event.Collided c f d g) = Allowed s.world (event.Collided c f d g)
-AllowedOn s event.Lapsed = Allowed s.world event.Lapsed
-AllowedOn s event.Quiet = Allowed s.world event.Quiet
-AllowedOn s (event.Power g on) = Allowed s.world (event.Power g on)
-AllowedOn s (event.Expired g) = Allowed s.world (event.Expired g)
-AllowedOn s (event.Down c) = Allowed s.world (event.Down c)
-AllowedOn s (event.Up c kept) = Allowed s.world (event.Up c kept)
+AllowedOn s e = Allowed s.world e
 
 abbrev after_on : SiteState → List Event → SiteState
 after_on s es = after_each happens_on s es
@@ -97,16 +80,7 @@ AllAllowedOn s es = EachIs AllowedOn happens_on s es
 -- what the rules allow it allows, but of who lost the bus
 abbrev is_allowed_on : SiteState → Event → Bool
 is_allowed_on s (event.Sent c f h) = not (owns s.old_owner c) && is_allowed s.world (event.Sent c f h)
-is_allowed_on s (event.Acted c i o) = is_allowed s.world (event.Acted c i o)
-is_allowed_on s (event.Offered c f) = is_allowed s.world (event.Offered c f)
-is_allowed_on s (event.Destroyed c f set) = is_allowed s.world (event.Destroyed c f set)
-is_allowed_on s (event.Collided c f d g) = is_allowed s.world (event.Collided c f d g)
-is_allowed_on s event.Lapsed = is_allowed s.world event.Lapsed
-is_allowed_on s event.Quiet = is_allowed s.world event.Quiet
-is_allowed_on s (event.Power g on) = is_allowed s.world (event.Power g on)
-is_allowed_on s (event.Expired g) = is_allowed s.world (event.Expired g)
-is_allowed_on s (event.Down c) = is_allowed s.world (event.Down c)
-is_allowed_on s (event.Up c kept) = is_allowed s.world (event.Up c kept)
+is_allowed_on s e = is_allowed s.world e
 
 not_true : (a : Bool) → not a ≡ true → a ≡ false
 not_true false e = refl
@@ -125,16 +99,7 @@ allowed_on s (event.Sent c f h) pass =
       draws = here.draws;
       heard = here.heard;
     }
-allowed_on s (event.Acted c i o) pass = allowed_by s.world (event.Acted c i o) pass
-allowed_on s (event.Offered c f) pass = allowed_by s.world (event.Offered c f) pass
-allowed_on s (event.Destroyed c f set) pass = allowed_by s.world (event.Destroyed c f set) pass
-allowed_on s (event.Collided c f d g) pass = allowed_by s.world (event.Collided c f d g) pass
-allowed_on s event.Lapsed pass = allowed_by s.world event.Lapsed pass
-allowed_on s event.Quiet pass = allowed_by s.world event.Quiet pass
-allowed_on s (event.Power g on) pass = allowed_by s.world (event.Power g on) pass
-allowed_on s (event.Expired g) pass = allowed_by s.world (event.Expired g) pass
-allowed_on s (event.Down c) pass = allowed_by s.world (event.Down c) pass
-allowed_on s (event.Up c kept) pass = allowed_by s.world (event.Up c kept) pass
+allowed_on s e pass = allowed_by s.world e pass
 
 -- ---------------------------------------------------------------- the events
 

@@ -61,16 +61,7 @@ abbrev happens_or_alone : World → Event → World
 happens_or_alone w (event.Sent c f h) =
     sent_or_alone w c f h (trace_running w c ++ entry f h ∷ [])
     (goes_on w c (trace_running w c ++ entry f h ∷ []) || goes_on_alone (trace_running w c ++ entry f h ∷ []))
-happens_or_alone w (event.Acted c i o) = happens w (event.Acted c i o)
-happens_or_alone w (event.Offered c f) = happens w (event.Offered c f)
-happens_or_alone w (event.Destroyed c f set) = happens w (event.Destroyed c f set)
-happens_or_alone w (event.Collided c f d g) = happens w (event.Collided c f d g)
-happens_or_alone w event.Lapsed = happens w event.Lapsed
-happens_or_alone w event.Quiet = happens w event.Quiet
-happens_or_alone w (event.Power g on) = happens w (event.Power g on)
-happens_or_alone w (event.Expired g) = happens w (event.Expired g)
-happens_or_alone w (event.Down c) = happens w (event.Down c)
-happens_or_alone w (event.Up c kept) = happens w (event.Up c kept)
+happens_or_alone w e = happens w e
 
 abbrev MaySendOrAlone : World → ℕ → Forward → Type 0
 MaySendOrAlone w c f =
@@ -85,16 +76,7 @@ record IsSentOrAlone (w : World) (c : ℕ) (f : Forward) (h : Answer) : Type 0 w
 
 abbrev AllowedOrAlone : World → Event → Type 0
 AllowedOrAlone w (event.Sent c f h) = IsSentOrAlone w c f h
-AllowedOrAlone w (event.Acted c i o) = Allowed w (event.Acted c i o)
-AllowedOrAlone w (event.Offered c f) = Allowed w (event.Offered c f)
-AllowedOrAlone w (event.Destroyed c f set) = Allowed w (event.Destroyed c f set)
-AllowedOrAlone w (event.Collided c f d g) = Allowed w (event.Collided c f d g)
-AllowedOrAlone w event.Lapsed = Allowed w event.Lapsed
-AllowedOrAlone w event.Quiet = Allowed w event.Quiet
-AllowedOrAlone w (event.Power g on) = Allowed w (event.Power g on)
-AllowedOrAlone w (event.Expired g) = Allowed w (event.Expired g)
-AllowedOrAlone w (event.Down c) = Allowed w (event.Down c)
-AllowedOrAlone w (event.Up c kept) = Allowed w (event.Up c kept)
+AllowedOrAlone w e = Allowed w e
 
 abbrev after_or_alone : World → List Event → World
 after_or_alone w es = after_each happens_or_alone w es
@@ -110,16 +92,7 @@ sends_too w c f (inr free) =
 
 allowed_too : (w : World) (e : Event) → Allowed w e → AllowedOrAlone w e
 allowed_too w (event.Sent c f h) here = record { up = here.up; may = sends_too w c f here.may; draws = here.draws; heard = here.heard }
-allowed_too w (event.Acted c i o) here = here
-allowed_too w (event.Offered c f) here = here
-allowed_too w (event.Destroyed c f set) here = here
-allowed_too w (event.Collided c f d g) here = here
-allowed_too w event.Lapsed here = here
-allowed_too w event.Quiet here = here
-allowed_too w (event.Power g on) here = here
-allowed_too w (event.Expired g) here = here
-allowed_too w (event.Down c) here = here
-allowed_too w (event.Up c kept) here = here
+allowed_too w _ here = here
 
 -- ---------------------------------------------------------------- the events
 

@@ -15,14 +15,14 @@ use Rattle.dali_arbiter.specs.Arbiter.{owns}
 use Rattle.dali_script.specs.declared.block.Block.{Block}
 use Rattle.dali_script.specs.declared.trace.Entry.{Entry}
 use Rattle.dali_script.specs.declared.records.Record.{Record}
-use Rattle.dali_script.specs.declared.records.Record.TheVariants.{Reserve, Enrol, Release}
+use Rattle.dali_script.specs.declared.records.Record.TheVariants.{Reserve}
 use Rattle.dali_script.specs.Records.{Assignment, Kept, InBlock, IsFresh}
 use Rattle.dali_script.specs.Scripts.{Lawful, IsFirst}
 use Rattle.dali_script.specs.Stages.{stage_of, follows, in_block}
 use Rattle.dali_script.specs.declared.orders.Input.{Input}
 use Rattle.dali_script.specs.declared.orders.Input.TheVariants as input
 use Rattle.dali_script.specs.declared.orders.Order.{Order}
-use Rattle.dali_script.specs.declared.orders.Order.TheVariants.{Put, Commit, Done, Halt}
+use Rattle.dali_script.specs.declared.orders.Order.TheVariants.{Put, Commit, Done}
 use Rattle.dali_script.proofs.Giving.{first_of_both, second_of_both}
 use Rattle.dali_script.proofs.Transactions.{equal, lawful_follows, follows_from_test}
 use Rattle.dali_events.specs.declared.event.Event.{Event}
@@ -217,9 +217,7 @@ abbrev pub may_order : World → ℕ → Controller → Order → Bool
 may_order w c k (Put p f) = may_put w c k.records p f
 may_order w c k (Commit (Reserve a r)) = is_none k.outstanding && may_reserve k a r
 may_order w c k (Done end) = true
-may_order w c k (Commit (Enrol a r)) = false
-may_order w c k (Commit (Release a r)) = false
-may_order w c k (Halt fault) = false
+may_order w c k _ = false
 
 order_by : (w : World) (c : ℕ) (k : Controller) (o : Order) → may_order w c k o ≡ true → MayOrder w c k o
 order_by w c k (Put p f) e = put_by w c k p f e
@@ -240,13 +238,10 @@ is_allowed w (event.Acted c i o) = is_there w c && is_acted w c i o
 is_allowed w (event.Sent c f h) = is_sent w c f && (has_draws w Everyone f && may_hear (answers_of Everyone (command_of f) 0 w.gear) h)
 is_allowed w (event.Destroyed c f set) = is_sent w c f && has_draws w (Only set) f
 is_allowed w event.Lapsed = true
-is_allowed w (event.Offered c f) = false
-is_allowed w (event.Collided c f d g) = false
-is_allowed w event.Quiet = false
 is_allowed w (event.Power g on) = true
-is_allowed w (event.Expired g) = false
 is_allowed w (event.Down c) = is_there w c
 is_allowed w (event.Up c kept) = is_down w c && not kept
+is_allowed w _ = false
 
 sender_by : (w : World) (c : ℕ) (f : Forward) → is_sent w c f ≡ true → IsUp w c × MaySend w c f
 sender_by w c f e =

@@ -9,9 +9,8 @@ use Rattle.dali_script.specs.declared.orders.Order.TheVariants.{Put, Commit, Don
 use Rattle.dali_script.specs.Stages.{stage_of}
 use Rattle.dali_events.specs.declared.event.Event.{Event}
 use Rattle.dali_events.specs.declared.event.Event.TheVariants as event
-use Rattle.dali_events.specs.World.{World, gear_at}
-use Rattle.dali_events.specs.Happens.{happens}
-use Rattle.dali_events.specs.Runs.{after_all, AllAllowed}
+use Rattle.dali_events.specs.World.{gear_at}
+use Rattle.dali_events.specs.Runs.{AllAllowed}
 use Rattle.dali_events.specs.Promise.{KeepsPromiseNow}
 use Rattle.dali_events.specs.Used.{UsedPlan, start_used, after_used}
 use Rattle.dali_events.proofs.Histories.Openings.{first_block, at_123456, silent, query, opening, visit, two_gear}

@@ -1,18 +1,16 @@
-use Rattle.std.proofs.Common.{◌≡◌, ◌↔◌, ℕ, ◌<◌, ◌⊎◌, inl, inr, Bool, true, false, List, [], ◌∷◌, ◌++◌, refl, sym, ap, subst, ◌∙◌, arith, length, length-set}
+use Rattle.std.proofs.Common.{◌≡◌, ℕ, ◌<◌, ◌⊎◌, inl, inr, Bool, true, false, List, [], ◌∷◌, ◌++◌, refl, sym, ap, subst, ◌∙◌, arith, length, length-set}
 use Rattle.std.proofs.Common.{map}
 use Rattle.std.proofs.Common.{get_or, set, get_or-set_same, get_or-set_other, nat_eq, replicate, append-nil, Some, None}
 use Rattle.std.proofs.lemmas.List.{length-replicate, get_or-replicate}
 use Rattle.std.proofs.lemmas.Bool.Decides.{nat_tests}
-use Rattle.std.specs.List.{AllByRecursion}
 use Rattle.dali_frame.specs.Random.{MASK24}
 use Rattle.dali_gear.specs.Gear.{Gear, fresh}
 use Rattle.dali_script.specs.Records.{Has, IsOnce}
 use Rattle.dali_script.proofs.Lists.{has_map}
-use Rattle.dali_script.proofs.Members.{has_right, has_either, mapped_from, same_member}
+use Rattle.dali_script.proofs.Members.{has_either, mapped_from}
 use Rattle.dali_events.specs.declared.event.Event.{Event}
 use Rattle.dali_events.specs.Plan.{Plan, IsPlan}
-use Rattle.dali_events.specs.World.{World, gear_at, start}
-use Rattle.dali_events.specs.Runs.{after_all}
+use Rattle.dali_events.specs.World.{gear_at, start}
 use Rattle.dali_events.specs.Laws.{TablesAgree}
 use Rattle.dali_events.specs.Promise.{HoldsShort, Names, KeepsPromiseFrom, IsSafeFrom}
 use Rattle.dali_events.specs.Used.{Used, UsedPlan, IsUsedPlan, used_gear, used_shorts, used_randoms, gear_of_used, earlier_draw, earlier_gift, with_used}

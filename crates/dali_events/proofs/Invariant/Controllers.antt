@@ -41,15 +41,7 @@ Adds P w (event.Sent c f h) =
     c < length w.controllers → Of P c (controller_at w c)
     → P c (controller_at w c).records (controller_at w c).outstanding
     (later (controller_at w c).finding (found_by (search_of (trace_running w c)) (asked_of (trace_running w c)) (command_of f) h))
-Adds P w (event.Offered c f) = Unit {0}
-Adds P w (event.Destroyed c f set) = Unit {0}
-Adds P w (event.Collided c f d g) = Unit {0}
-Adds P w event.Lapsed = Unit {0}
-Adds P w event.Quiet = Unit {0}
-Adds P w (event.Power g on) = Unit {0}
-Adds P w (event.Expired g) = Unit {0}
-Adds P w (event.Down c) = Unit {0}
-Adds P w (event.Up c kept) = Unit {0}
+Adds P w _ = Unit {0}
 
 informed_stands : (P : Property) (s : Stands P) (c : ℕ) (k : Controller) (i : Input) → Of P c k → Of P c (controller_informed k i)
 informed_stands P s c k input.Committed h = s.keep c k.records k.outstanding k.finding h
@@ -79,20 +71,17 @@ pub controllers_step : (P : Property) (s : Stands P) (w : World) (e : Event) →
     → Each nobody (Of P) (happens w e).controllers
 controllers_step P s w (event.Acted c i o) adds each =
     each_changed nobody (Of P) (λ k. controller_acted k i o) w.controllers c (λ there h. acted_stands P s c (controller_at w c) i o adds h) each
-controllers_step P s w (event.Offered c f) adds each = each
 controllers_step P s w (event.Sent c f h) adds each = each_changed nobody (Of P) (told_sent (trace_running w c) f h) w.controllers c adds each
 controllers_step P s w (event.Destroyed c f set) adds each = each_changed nobody (Of P) (told_destroyed f) w.controllers c (λ there h. h) each
 controllers_step P s w (event.Collided c f d g) adds each =
     each_changed nobody (Of P) (told_destroyed g) _ d (λ there h. h) (each_changed nobody (Of P) (told_destroyed f) w.controllers c (λ there h. h) each)
 controllers_step P s w event.Lapsed adds each = owner_stands P w.controllers w.bus.owner each
-controllers_step P s w event.Quiet adds each = each
-controllers_step P s w (event.Power g on) adds each = each
-controllers_step P s w (event.Expired g) adds each = each
 controllers_step P s w (event.Down c) adds each =
     each_changed nobody (Of P) gone_down w.controllers c
     (λ there h. s.forget c (controller_at w c).records (controller_at w c).outstanding (controller_at w c).finding h) each
 controllers_step P s w (event.Up c kept) adds each =
     each_changed nobody (Of P) (come_up kept) w.controllers c (λ there h. up_stands P s c (controller_at w c) kept h) each
+controllers_step P s w _ adds each = each
 
 -- there are as many as before
 owner_count : (cs : List Controller) (o : Option ℕ) → length (owner_told cs o) ≡ length cs
@@ -101,13 +90,10 @@ owner_count cs (Some c) = length-set cs c (told_lapsed (get_or cs c nobody))
 
 pub controllers_count : (w : World) (e : Event) → length (happens w e).controllers ≡ length w.controllers
 controllers_count w (event.Acted c i o) = length-set w.controllers c _
-controllers_count w (event.Offered c f) = refl
 controllers_count w (event.Sent c f h) = length-set w.controllers c _
 controllers_count w (event.Destroyed c f set) = length-set w.controllers c _
 controllers_count w (event.Collided c f d g) = length-set _ d _ ∙ length-set w.controllers c _
 controllers_count w event.Lapsed = owner_count w.controllers w.bus.owner
-controllers_count w event.Quiet = refl
-controllers_count w (event.Power g on) = refl
-controllers_count w (event.Expired g) = refl
 controllers_count w (event.Down c) = length-set w.controllers c _
 controllers_count w (event.Up c kept) = length-set w.controllers c _
+controllers_count w _ = refl

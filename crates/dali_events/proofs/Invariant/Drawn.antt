@@ -63,12 +63,8 @@ drawn_powered true ds k g d = go (g.powered) where
 -- they hold after each event
 pub draws_step : (p : Plan) (w : World) (e : Event) → Draws p.draws w.gear w.drawn w.left
     → Draws p.draws (happens w e).gear (happens w e).drawn (happens w e).left
-draws_step p w (event.Acted c i o) d = d
-draws_step p w (event.Offered c f) d = d
 draws_step p w (event.Sent c f h) d = draws_taken p.draws Everyone (command_of f) w.gear w.drawn w.left d
 draws_step p w (event.Destroyed c f set) d = draws_taken p.draws (Only set) (command_of f) w.gear w.drawn w.left d
-draws_step p w (event.Collided c f k g) d = d
-draws_step p w event.Lapsed d = d
 draws_step p w event.Quiet d = record { each = each_map fresh (HasDrawn w.drawn) gear_quieted w.gear (λ k g h. h) d.each; numbers = d.numbers }
 draws_step p w (event.Power g on) d =
     record {
@@ -76,8 +72,7 @@ draws_step p w (event.Power g on) d =
       numbers = d.numbers;
     }
 draws_step p w (event.Expired g) d = record { each = each_changed fresh (HasDrawn w.drawn) gear_expired w.gear g (λ there h. h) d.each; numbers = d.numbers }
-draws_step p w (event.Down c) d = d
-draws_step p w (event.Up c kept) d = d
+draws_step p w _ d = d
 
 pub draws_start : (p : Plan) (capacity : ℕ) → Draws p.draws (start p capacity).gear [] p.draws
 draws_start p capacity = record {

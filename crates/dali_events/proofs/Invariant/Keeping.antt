@@ -1,4 +1,4 @@
-use Rattle.std.proofs.Common.{◌≡◌, ℕ, ◌<◌, List, [], ◌∷◌, ◌++◌, refl, sym, subst, ◌∙◌, length, Option, Some, None}
+use Rattle.std.proofs.Common.{◌≡◌, ℕ, ◌<◌, List, [], ◌∷◌, ◌++◌, refl, subst, ◌∙◌, length, Option, Some, None}
 use Rattle.std.proofs.lemmas.List.{get_or-map, length-map}
 use Rattle.dali_frame.specs.declared.frames.Forward.{Forward}
 use Rattle.dali_frame.specs.declared.frames.Answer.{Answer}
@@ -9,10 +9,9 @@ use Rattle.dali_script.specs.declared.block.Block.{Block}
 use Rattle.dali_script.specs.declared.finding.Finding.{Finding}
 use Rattle.dali_script.specs.declared.finding.Finding.TheVariants.{Queried, Resolved}
 use Rattle.dali_script.specs.declared.records.Record.{Record}
-use Rattle.dali_script.specs.declared.records.Record.TheVariants.{Reserve, Enrol, Release}
-use Rattle.dali_script.specs.Records.{Assignment, Kept, Has, InBlock, IsKept, MayAdd, Fits, address_of}
+use Rattle.dali_script.specs.Records.{Kept, InBlock, IsKept, MayAdd, Fits, address_of}
 use Rattle.dali_script.specs.Findings.{search_of, Asked, asked_of, found_by, assigned, later}
-use Rattle.dali_script.proofs.Lists.{reserved_fits, has_map, kept_none, kept_more, block_stays}
+use Rattle.dali_script.proofs.Lists.{kept_none, kept_more, block_stays}
 use Rattle.dali_script.specs.declared.orders.Order.{Order}
 use Rattle.dali_script.specs.declared.orders.Order.TheVariants.{Put, Commit, Done, Halt}
 use Rattle.dali_events.specs.declared.event.Event.{Event}
@@ -26,7 +25,7 @@ use Rattle.dali_events.specs.Laws.{KeepsRecords}
 use Rattle.dali_events.proofs.Invariant.Growing.{allowed_front}
 use Rattle.dali_script.proofs.Members.{Each}
 use Rattle.dali_events.proofs.Invariant.Controllers.{Property, Stands, Of, AddsOrder, Adds, controllers_step, controllers_count}
-use Rattle.dali_events.proofs.Invariant.Naming.{IsFinding, finding_is}
+use Rattle.dali_events.proofs.Invariant.Naming.{IsFinding, finding_is, commits}
 
 -- RECORDS ARE KEPT, AND AN OUTSTANDING ONE MAY BE ADDED
 record IsNewRecord (kept : Kept) (x : Record) : Type 0 where
@@ -66,41 +65,19 @@ keeping_stands p = record {
 one_new : (kept : Kept) (y : Record) → IsNewRecord kept y → (x : Record) → Some y ≡ Some x → IsNewRecord kept x
 one_new kept y n x e = subst (λ z. IsNewRecord kept z) (let same : y ≡ x = cc in same) n
 
-enrolled_short : (p : Assignment) (x : Finding) → p ≡ assigned x → (assigned x).0 < 64 → p.0 < 64
-enrolled_short p x is small = subst (λ (y : Assignment). y.0 < 64) (sym is) small
-
--- what is reserved fits, and may be released
-reserved_new : (kept : Kept) (a r : ℕ) → IsKept kept → Has kept.reserved (a, r) → IsNewRecord kept (Release a r)
-reserved_new kept a r m there =
-    record { may = there; fits = reserved_fits kept a r m there; short = m.reserved.short a (has_map (λ p. p.0) kept.reserved (a, r) there) }
-
 order_keeps : (p : Plan) → IsPlan p → (w : World) (c : ℕ) → c < length p.blocks → (k : Controller) (o : Order) → MayOrder w c k o → AddsOrder (KeepsAs p) c k o
-order_keeps p plan w c there k (Commit (Reserve a r)) may = λ h. record {
-  block = h.block;
-  kept_so = h.kept_so;
-  new = one_new k.records (Reserve a r) (record {
-    may = may.1.2;
-    fits = (may.1.0, may.1.1);
-    short = plan.short c a there (subst (λ b. InBlock b a) h.block may.1.0);
-  });
-  finding = h.finding;
-}
-order_keeps p plan w c there k (Commit (Enrol a r)) may = λ h. record {
-  block = h.block;
-  kept_so = h.kept_so;
-  new = one_new k.records (Enrol a r) (record {
-    may = may.1.2;
-    fits = may.1.1;
-    short = enrolled_short (a, r) may.1.0.0 (sym may.1.0.2) (h.finding may.1.0.0 may.1.0.1);
-  });
-  finding = h.finding;
-}
-order_keeps p plan w c there k (Commit (Release a r)) may = λ h. record {
-  block = h.block;
-  kept_so = h.kept_so;
-  new = one_new k.records (Release a r) (reserved_new k.records a r h.kept_so may.1.0);
-  finding = h.finding;
-}
+order_keeps p plan w c there k (Commit x) may = λ h.
+    let may_add = commits k x may.1 in
+    record {
+      block = h.block;
+      kept_so = h.kept_so;
+      new = one_new k.records x (record {
+        may = may_add.may;
+        fits = may_add.fits h.kept_so;
+        short = may_add.short h.kept_so (λ a within. plan.short c a there (subst (λ b. InBlock b a) h.block within)) h.finding;
+      });
+      finding = h.finding;
+    }
 order_keeps p plan w c there k (Put q f) may = tt
 order_keeps p plan w c there k (Done end) may = tt
 order_keeps p plan w c there k (Halt fault) may = tt
@@ -125,15 +102,7 @@ keeps_add p plan w (event.Sent c f h) here count = λ there k. record {
       (λ x e. finding_small (search_of (trace_running w c)) (asked_of (trace_running w c)) f h x
       (finding_is (search_of (trace_running w c)) (asked_of (trace_running w c)) (command_of f) h x e));
 }
-keeps_add p plan w (event.Offered c f) here count = tt
-keeps_add p plan w (event.Destroyed c f set) here count = tt
-keeps_add p plan w (event.Collided c f d g) here count = tt
-keeps_add p plan w event.Lapsed here count = tt
-keeps_add p plan w event.Quiet here count = tt
-keeps_add p plan w (event.Power g on) here count = tt
-keeps_add p plan w (event.Expired g) here count = tt
-keeps_add p plan w (event.Down c) here count = tt
-keeps_add p plan w (event.Up c kept) here count = tt
+keeps_add p plan w _ here count = tt
 
 record AllKeep (p : Plan) (cs : List Controller) : Type 0 where
   pub count : length cs ≡ length p.blocks

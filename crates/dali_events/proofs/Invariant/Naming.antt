@@ -1,4 +1,4 @@
-use Rattle.std.proofs.Common.{◌≡◌, ◌≢◌, ℕ, ◌<◌, ◌⊎◌, inl, inr, Bool, true, false, List, refl, sym, ap, subst, ◌∙◌, length, Option, Some, None}
+use Rattle.std.proofs.Common.{◌≡◌, ◌≢◌, ℕ, ◌<◌, ◌⊎◌, inl, inr, Bool, true, false, refl, ap, subst, ◌∙◌, length, Option, Some, None}
 use Rattle.std.specs.Prelude.{◌==◌, ◌&&◌, if◌then◌else◌, option_map}
 use Rattle.std.proofs.lemmas.List.{get_or-map, length-map}
 use Rattle.dali_frame.specs.declared.frames.Forward.{Forward}
@@ -18,10 +18,10 @@ use Rattle.dali_script.specs.declared.finding.Finding.{Finding}
 use Rattle.dali_script.specs.declared.finding.Finding.TheVariants.{Queried, Resolved}
 use Rattle.dali_script.specs.declared.records.Record.{Record}
 use Rattle.dali_script.specs.declared.records.Record.TheVariants.{Reserve, Enrol, Release}
-use Rattle.dali_script.specs.Records.{Assignment, Kept, Has}
+use Rattle.dali_script.specs.Records.{Assignment, Kept, Has, InBlock, IsKept, MayAdd, Fits, address_of}
 use Rattle.dali_script.specs.Findings.{search_of, Asked, nothing, high_byte, two_bytes, asked_of, found_by, spelled_by, assigned, later}
 use Rattle.dali_script.specs.Stages.{stage_of}
-use Rattle.dali_script.proofs.Lists.{enrolled_by}
+use Rattle.dali_script.proofs.Lists.{enrolled_by, reserved_fits, has_map}
 use Rattle.dali_script.proofs.Transactions.{equal}
 use Rattle.dali_script.proofs.Found.{searched_lawful}
 use Rattle.dali_script.specs.declared.orders.Order.{Order}
@@ -31,7 +31,7 @@ use Rattle.dali_events.specs.declared.event.Event.TheVariants as event
 use Rattle.dali_events.specs.Plan.{Plan, no_block}
 use Rattle.dali_events.specs.World.{World, Controller, gear_at, controller_at, nobody, controller_begun, start}
 use Rattle.dali_events.specs.Happens.{happens, with_outstanding, controller_informed, trace_running}
-use Rattle.dali_events.specs.Allowed.{Allowed, MayOrder}
+use Rattle.dali_events.specs.Allowed.{Allowed, MayOrder, MayCommit}
 use Rattle.dali_events.specs.Promise.{Names}
 use Rattle.dali_script.proofs.Members.{Each}
 use Rattle.dali_events.proofs.Invariant.Answers.{answered, byte_answered}
@@ -44,10 +44,9 @@ use Rattle.dali_events.proofs.Invariant.Controllers.{Property, Stands, Of, AddsO
 -- WHAT CONTROLLERS SAY of gear is N: their kept enrolments, an outstanding one, and their finding; and of an outstanding
 -- release, its number with another address
 abbrev pub SaysRecord : (Assignment → Type 0) → Option Record → Type 0
-SaysRecord N None = Unit {0}
-SaysRecord N (Some (Reserve a r)) = Unit {0}
 SaysRecord N (Some (Enrol a r)) = N (a, r)
 SaysRecord N (Some (Release a r)) = (b : ℕ) × (b ≢ a) × N (b, r)
+SaysRecord N _ = Unit {0}
 
 abbrev pub SaysFinding : (Assignment → Type 0) → Option Finding → Type 0
 SaysFinding N None = Unit {0}
@@ -80,17 +79,39 @@ says_finding : (N : Assignment → Type 0) (f : Option Finding) (x : Finding) �
 says_finding N None x e h = absurd (cc)
 says_finding N (Some y) x e h = subst (λ z. N (assigned z)) (let same : y ≡ x = cc in same) h
 
+-- WHAT MAY BE COMMITTED: it may be added and fits, its address is one where that of the finding is, and it says what the
+-- finding does
+pub record IsCommitted (k : Controller) (x : Record) : Type 1 where
+  pub may : MayAdd k.records x
+  pub fits : IsKept k.records → Fits k.records.block x
+  pub short :
+      IsKept k.records → ((a : ℕ) → InBlock k.records.block a → a < 64) → ((y : Finding) → k.finding ≡ Some y → (assigned y).0 < 64) → address_of x < 64
+  pub says : (N : Assignment → Type 0) → SaysFinding N k.finding → SaysRecord N (Some x)
+
+pub commits : (k : Controller) (x : Record) → MayCommit k x → IsCommitted k x
+commits k (Reserve a r) may = record {
+  may = may.2;
+  fits = λ kept. (may.0, may.1);
+  short = λ kept own found. own a may.0;
+  says = λ N h. tt;
+}
+commits k (Enrol a r) may = record {
+  may = may.2;
+  fits = λ kept. may.1;
+  short = λ kept own found. subst (λ (p : Assignment). p.0 < 64) may.0.2 (found may.0.0 may.0.1);
+  says = λ N h. subst N may.0.2 (says_finding N k.finding may.0.0 may.0.1 h);
+}
+commits k (Release a r) may = record {
+  may = may.0;
+  fits = λ kept. reserved_fits k.records a r kept may.0;
+  short = λ kept own found. kept.reserved.short a (has_map (λ p. p.0) k.records.reserved (a, r) may.0);
+  says = λ N h. (may.1.2, may.1.4, subst N may.1.3 (says_finding N k.finding may.1.0 may.1.1 h));
+}
+
 says_order : (N : Assignment → Type 0) (w : World) (c : ℕ) (k : Controller) (o : Order) → MayOrder w c k o → AddsOrder (Says N) c k o
-says_order N w c k (Commit (Reserve a r)) may = λ h. record { enrolled = h.enrolled; outstanding = tt; finding = h.finding }
-says_order N w c k (Commit (Enrol a r)) may =
-    λ h. record {
-      enrolled = h.enrolled;
-      outstanding = subst N may.1.0.2 (says_finding N k.finding may.1.0.0 may.1.0.1 h.finding);
-      finding = h.finding;
-    }
-says_order N w c k (Commit (Release a r)) may = λ h. record {
+says_order N w c k (Commit x) may = λ h. record {
   enrolled = h.enrolled;
-  outstanding = (may.1.1.2, may.1.1.4, subst N may.1.1.3 (says_finding N k.finding may.1.1.0 may.1.1.1 h.finding));
+  outstanding = (commits k x may.1).says N h.finding;
   finding = h.finding;
 }
 says_order N w c k (Put q f) may = tt
@@ -105,16 +126,7 @@ later_says N f (Some x) h new = new x refl
 abbrev pub FoundBy : (Assignment → Type 0) → World → Event → Type 0
 FoundBy N w (event.Sent c f h) =
     (x : Finding) → found_by (search_of (trace_running w c)) (asked_of (trace_running w c)) (command_of f) h ≡ Some x → N (assigned x)
-FoundBy N w (event.Acted c i o) = Unit {0}
-FoundBy N w (event.Offered c f) = Unit {0}
-FoundBy N w (event.Destroyed c f set) = Unit {0}
-FoundBy N w (event.Collided c f d g) = Unit {0}
-FoundBy N w event.Lapsed = Unit {0}
-FoundBy N w event.Quiet = Unit {0}
-FoundBy N w (event.Power g on) = Unit {0}
-FoundBy N w (event.Expired g) = Unit {0}
-FoundBy N w (event.Down c) = Unit {0}
-FoundBy N w (event.Up c kept) = Unit {0}
+FoundBy N w _ = Unit {0}
 
 pub says_add : (N : Assignment → Type 0) (w : World) (e : Event) → Allowed w e → FoundBy N w e → Adds (Says N) w e
 says_add N w (event.Acted c i o) here found = says_order N w c (controller_informed (controller_at w c) i) o here.order
@@ -123,25 +135,16 @@ says_add N w (event.Sent c f h) here found = λ there k. record {
   outstanding = k.outstanding;
   finding = later_says N (controller_at w c).finding (found_by (search_of (trace_running w c)) (asked_of (trace_running w c)) (command_of f) h) k.finding found;
 }
-says_add N w (event.Offered c f) here found = tt
-says_add N w (event.Destroyed c f set) here found = tt
-says_add N w (event.Collided c f d g) here found = tt
-says_add N w event.Lapsed here found = tt
-says_add N w event.Quiet here found = tt
-says_add N w (event.Power g on) here found = tt
-says_add N w (event.Expired g) here found = tt
-says_add N w (event.Down c) here found = tt
-says_add N w (event.Up c kept) here found = tt
+says_add N w _ here found = tt
 
 pub says_more : (N M : Assignment → Type 0) → ((x : Assignment) → N x → M x) → (kept : Kept) (o : Option Record) (f : Option Finding) → SaysOnly N kept o f
     → SaysOnly M kept o f
 says_more N M more kept o f h =
     record { enrolled = λ x k. more x (h.enrolled x k); outstanding = of_record o h.outstanding; finding = of_finding f h.finding } where
       of_record : (o : Option Record) → SaysRecord N o → SaysRecord M o
-      of_record None h = tt
-      of_record (Some (Reserve a r)) h = tt
       of_record (Some (Enrol a r)) h = more (a, r) h
       of_record (Some (Release a r)) h = (h.0, h.1, more (h.0, r) h.2)
+      of_record _ h = tt
 
       of_finding : (f : Option Finding) → SaysFinding N f → SaysFinding M f
       of_finding None h = tt

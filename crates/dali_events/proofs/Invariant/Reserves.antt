@@ -1,4 +1,4 @@
-use Rattle.std.proofs.Common.{◌≡◌, ℕ, ◌<◌, ◌⊎◌, inl, inr, List, [], ◌∷◌, ◌++◌, refl, sym, ap, subst, ◌∙◌, length, get_or, Option, Some, None}
+use Rattle.std.proofs.Common.{◌≡◌, ℕ, ◌<◌, ◌⊎◌, inl, inr, List, refl, ap, subst, ◌∙◌, length, get_or, Option, Some, None}
 use Rattle.std.proofs.lemmas.List.{get_or-map, length-map}
 use Rattle.dali_script.specs.declared.block.Block.{Block}
 use Rattle.dali_script.specs.declared.records.Record.{Record}
@@ -71,15 +71,7 @@ order_adds p w c k (Halt fault) may = tt
 reserves_add : (p : Plan) (w : World) (e : Event) → Allowed w e → Adds (ReservesAs p) w e
 reserves_add p w (event.Acted c i o) here = order_adds p w c (controller_informed (controller_at w c) i) o here.order
 reserves_add p w (event.Sent c f h) here = λ there k. k
-reserves_add p w (event.Offered c f) here = tt
-reserves_add p w (event.Destroyed c f set) here = tt
-reserves_add p w (event.Collided c f d g) here = tt
-reserves_add p w event.Lapsed here = tt
-reserves_add p w event.Quiet here = tt
-reserves_add p w (event.Power g on) here = tt
-reserves_add p w (event.Expired g) here = tt
-reserves_add p w (event.Down c) here = tt
-reserves_add p w (event.Up c kept) here = tt
+reserves_add p w _ here = tt
 
 pub record AllReserve (p : Plan) (cs : List Controller) : Type 0 where
   pub count : length cs ≡ length p.blocks

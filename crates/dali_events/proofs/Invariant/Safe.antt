@@ -1,5 +1,5 @@
 use Rattle.std.proofs.Common.{◌≡◌, ℕ, ◌<◌, Bool, true, false, List, [], ◌∷◌, ◌++◌, refl, sym, ap, subst, ◌∙◌, append_assoc, length, length-set, get_or, Some}
-use Rattle.std.proofs.Common.{None, inl, inr, ◌⊎◌}
+use Rattle.std.proofs.Common.{None, inl, inr}
 use Rattle.std.proofs.lemmas.List.{length-map, length-replicate, get_or-replicate}
 use Rattle.std.specs.Prelude.{if◌then◌else◌}
 use Rattle.dali_frame.specs.declared.frames.Forward.{Forward}
@@ -77,19 +77,14 @@ same_gear : (us : List Used) (w : World) → Change (IsOwned us w.controllers) w
 same_gear us w = no_change (IsOwned us w.controllers) w.gear w.gear w.drawn w.gifts refl (λ i h. (refl, refl))
 
 change_of : (us : List Used) (p : Plan) (w : World) (e : Event) → Allowed w e → HoldsWith us p w → ChangeOf us w (happens w e)
-change_of us p w (event.Acted c i o) here k = same_gear us w
-change_of us p w (event.Offered c f) here k = same_gear us w
 change_of us p w (event.Sent c f h) here k = frame_change us w c f Everyone here.up here.may k.known (p, k.draws)
 change_of us p w (event.Destroyed c f set) here k = frame_change us w c f (Only set) here.up here.may k.known (p, k.draws)
-change_of us p w (event.Collided c f d g) here k = same_gear us w
-change_of us p w event.Lapsed here k = same_gear us w
 change_of us p w event.Quiet here k =
     no_change (IsOwned us w.controllers) w.gear _ w.drawn w.gifts (length-map w.gear gear_quieted)
     (each_map fresh (SameAddresses w.gear) gear_quieted w.gear (λ i x h. h) (λ i h. (refl, refl)))
 change_of us p w (event.Power g on) here k = one_change us w (gear_powered on) g (powered_same on)
 change_of us p w (event.Expired g) here k = one_change us w gear_expired g (λ x. (refl, refl))
-change_of us p w (event.Down c) here k = same_gear us w
-change_of us p w (event.Up c kept) here k = same_gear us w
+change_of us p w _ here k = same_gear us w
 
 -- ONE EVENT
 gifts_more : (R S : Assignment → Type 0) (gs : List Gear) (ds gf : List (ℕ × ℕ))
@@ -114,16 +109,7 @@ found_of : (us : List Used) (p : Plan) (w : World) (e : Event) (M : Assignment �
     → FoundBy M w e
 found_of us p w (event.Sent c f h) M here k more =
     λ x e. more (assigned x) (found_names (IsOwned us w.controllers) w c f h here k.known k.gifts (tells_if (owns w.bus.owner c) w.trace w.gear k.tells) x e)
-found_of us p w (event.Acted c i o) M here k more = tt
-found_of us p w (event.Offered c f) M here k more = tt
-found_of us p w (event.Destroyed c f set) M here k more = tt
-found_of us p w (event.Collided c f d g) M here k more = tt
-found_of us p w event.Lapsed M here k more = tt
-found_of us p w event.Quiet M here k more = tt
-found_of us p w (event.Power g on) M here k more = tt
-found_of us p w (event.Expired g) M here k more = tt
-found_of us p w (event.Down c) M here k more = tt
-found_of us p w (event.Up c kept) M here k more = tt
+found_of us p w _ M here k more = tt
 
 tells_sent : (us : List Used) (p : Plan) (w : World) (c : ℕ) (f : Forward) (h : Answer) → Allowed w (event.Sent c f h) → HoldsWith us p w
     → Tells (asked_of (happens w (event.Sent c f h)).trace) (happens w (event.Sent c f h)).gear
@@ -141,9 +127,6 @@ tells_step : (us : List Used) (p : Plan) (w : World) (e : Event) → Allowed w e
 tells_step us p w (event.Acted c i o) here k = tells_unless _ w.trace w.gear k.tells
 tells_step us p w (event.Offered c f) here k = k.tells
 tells_step us p w (event.Sent c f h) here k = tells_sent us p w c f h here k
-tells_step us p w (event.Destroyed c f set) here k = tt
-tells_step us p w (event.Collided c f d g) here k = tt
-tells_step us p w event.Lapsed here k = tt
 tells_step us p w event.Quiet here k =
     tells_stay (IsOwned us w.controllers) w.gear _ w.drawn w.gifts _ _ (change_of us p w event.Quiet here k) (asked_of w.trace) k.tells
 tells_step us p w (event.Power g on) here k =
@@ -152,6 +135,7 @@ tells_step us p w (event.Expired g) here k =
     tells_stay (IsOwned us w.controllers) w.gear _ w.drawn w.gifts _ _ (change_of us p w (event.Expired g) here k) (asked_of w.trace) k.tells
 tells_step us p w (event.Down c) here k = tells_unless _ w.trace w.gear k.tells
 tells_step us p w (event.Up c kept) here k = k.tells
+tells_step us p w _ here k = tt
 
 module _ (us : List Used) (once : IsOnce (used_shorts us)) (p : Plan) (plan : IsPlan p) (w : World) (e : Event) (here : Allowed w e) (leaves : LeavesUsed us e)
     (k : HoldsWith us p w) where

@@ -136,7 +136,6 @@ short_powered true g small = go (g.powered) where
   go false = small
 
 pub known_step : (w : World) (e : Event) → Allowed w e → IsKnown w → IsKnown (happens w e)
-known_step w (event.Acted c i o) here known = record { knows = knows_unless _ w.trace w.gear known.knows; short = known.short }
 known_step w (event.Offered c f) here known = record { knows = known.knows; short = known.short }
 known_step w (event.Sent c f h) here known =
     record { knows = knows_sent w c f h here known; short = shorts_taken Everyone (command_of f) w.gear w.left (read_spelled f) known.short }
@@ -159,8 +158,8 @@ known_step w (event.Expired g) here known = record {
       (λ there h on. knows_inactive (stage_of w.trace) (gear_expired (gear_at w g)) refl) known.knows;
   short = each_changed fresh (λ k g. IsShort g) gear_expired w.gear g (λ there h. h) known.short;
 }
-known_step w (event.Down c) here known = record { knows = knows_unless _ w.trace w.gear known.knows; short = known.short }
 known_step w (event.Up c kept) here known = record { knows = known.knows; short = known.short }
+known_step w _ here known = record { knows = knows_unless _ w.trace w.gear known.knows; short = known.short }
 
 pub known_start : (p : Plan) (capacity : ℕ) → IsKnown (start p capacity)
 known_start p capacity = record { knows = knows_free _; short = λ i h. at i (subst (λ n. i < n) (length-replicate p.gear fresh) h) } where

@@ -1,4 +1,4 @@
-use Rattle.std.proofs.Common.{◌≡◌, ℕ, ◌<◌, ◌⊎◌, inl, inr, List, [], ◌∷◌, refl, sym, ap, subst, ◌∙◌, length, get_or, Option, Some, None}
+use Rattle.std.proofs.Common.{◌≡◌, ℕ, ◌<◌, ◌⊎◌, inl, inr, List, [], sym, ap, subst, ◌∙◌, length, get_or, Option, Some, None}
 use Rattle.std.proofs.lemmas.List.{get_or-map, length-map}
 use Rattle.dali_script.specs.declared.records.Record.{Record}
 use Rattle.dali_script.specs.declared.records.Record.TheVariants.{Reserve}
@@ -54,15 +54,7 @@ order_spares us c k i (Halt fault) leaves = tt
 spares_add : (us : List Used) (w : World) (e : Event) → LeavesUsed us e → Adds (SparesAs us) w e
 spares_add us w (event.Acted c i o) leaves = order_spares us c (controller_informed (controller_at w c) i) i o leaves
 spares_add us w (event.Sent c f h) leaves = λ there k. k
-spares_add us w (event.Offered c f) leaves = tt
-spares_add us w (event.Destroyed c f set) leaves = tt
-spares_add us w (event.Collided c f d g) leaves = tt
-spares_add us w event.Lapsed leaves = tt
-spares_add us w event.Quiet leaves = tt
-spares_add us w (event.Power g on) leaves = tt
-spares_add us w (event.Expired g) leaves = tt
-spares_add us w (event.Down c) leaves = tt
-spares_add us w (event.Up c kept) leaves = tt
+spares_add us w _ leaves = tt
 
 abbrev pub AllSpare : List Used → List Controller → Type 0
 AllSpare us cs = Each nobody (Of (SparesAs us)) cs

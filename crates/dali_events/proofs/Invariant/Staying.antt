@@ -1,7 +1,7 @@
-use Rattle.std.proofs.Common.{◌≡◌, ℕ, List, [], ◌∷◌, refl, sym, ap, subst, ◌∙◌, get_or, Option, Some, None}
+use Rattle.std.proofs.Common.{◌≡◌, ℕ, List, [], ◌∷◌, refl, sym, ap, subst, ◌∙◌, get_or, Option, Some}
 use Rattle.dali_script.specs.declared.finding.Finding.{Finding}
 use Rattle.dali_script.specs.declared.records.Record.{Record}
-use Rattle.dali_script.specs.declared.records.Record.TheVariants.{Reserve, Enrol, Release}
+use Rattle.dali_script.specs.declared.records.Record.TheVariants.{Reserve, Release}
 use Rattle.dali_script.specs.Records.{Assignment, Kept, Has}
 use Rattle.dali_script.proofs.Lists.{without_other}
 use Rattle.dali_script.proofs.Members.{Each, has_left, same_member}
@@ -34,12 +34,11 @@ Stays N cs x c kept o f = StaysOnly N cs x c kept o f
 
 still_keep : (N : Assignment → Type 0) (x : Assignment) → Unopposed N x → (kept : Kept) (o : Option Record) → SaysRecord N o → Has kept.reserved x
     → Has (with_outstanding kept o).reserved x
-still_keep N x alone kept None says h = h
 still_keep N x alone kept (Some (Reserve a r)) says h = has_left kept.reserved ((a, r) ∷ []) x h
-still_keep N x alone kept (Some (Enrol a r)) says h = h
 still_keep N x alone kept (Some (Release a r)) says h = without_other (a, r) kept.reserved x h other where
   other : x ≡ (a, r) → ⊥
   other e = alone says.0 (λ same. says.1 (same ∙ ap (λ p. p.0) e)) (subst (λ n. N (says.0, n)) (sym (ap (λ p. p.1) e)) says.2)
+still_keep N x alone kept _ says h = h
 
 stays_stand : (N : Assignment → Type 0) (cs : List Controller) (x : Assignment) → Unopposed N x → Stands (Stays N cs x)
 stays_stand N cs x alone = record {
@@ -58,15 +57,7 @@ stays_order N cs x c k (Halt fault) adds = tt
 stays_add : (N : Assignment → Type 0) (cs : List Controller) (x : Assignment) (w : World) (e : Event) → Adds (Says N) w e → Adds (Stays N cs x) w e
 stays_add N cs x w (event.Acted c i o) adds = stays_order N cs x c (controller_informed (controller_at w c) i) o adds
 stays_add N cs x w (event.Sent c f h) adds = λ there k. record { says = adds there k.says; still = k.still }
-stays_add N cs x w (event.Offered c f) adds = tt
-stays_add N cs x w (event.Destroyed c f set) adds = tt
-stays_add N cs x w (event.Collided c f d g) adds = tt
-stays_add N cs x w event.Lapsed adds = tt
-stays_add N cs x w event.Quiet adds = tt
-stays_add N cs x w (event.Power g on) adds = tt
-stays_add N cs x w (event.Expired g) adds = tt
-stays_add N cs x w (event.Down c) adds = tt
-stays_add N cs x w (event.Up c kept) adds = tt
+stays_add N cs x w _ adds = tt
 
 -- one event, by what controllers say before it and after it
 pub still_reserved : (N M : Assignment → Type 0) (x : Assignment) → Unopposed M x → (w : World) (e : Event) → Allowed w e → ((y : Assignment) → N y → M y)

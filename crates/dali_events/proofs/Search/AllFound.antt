@@ -188,12 +188,7 @@ ready_event p plan w (event.Destroyed c f set) here calm known draws ready =
 ready_event p plan w event.Quiet here calm known draws ready = absurd calm
 ready_event p plan w (event.Power g on) here calm known draws ready = absurd calm
 ready_event p plan w (event.Expired g) here calm known draws ready = absurd calm
-ready_event p plan w (event.Acted c i o) here calm known draws ready = ready
-ready_event p plan w (event.Offered c f) here calm known draws ready = ready
-ready_event p plan w (event.Collided c f d g) here calm known draws ready = ready
-ready_event p plan w event.Lapsed here calm known draws ready = ready
-ready_event p plan w (event.Down c) here calm known draws ready = ready
-ready_event p plan w (event.Up c kept) here calm known draws ready = ready
+ready_event p plan w _ here calm known draws ready = ready
 
 ready_all : (p : Plan) → IsPlan p → (w : World) (es : List Event) → AllAllowed w es → AreCalm es → IsKnown w → Draws p.draws w.gear w.drawn w.left
     → ReadyAll w.gear → ReadyAll (after_all w es).gear

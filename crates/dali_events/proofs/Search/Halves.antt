@@ -88,7 +88,6 @@ stage_free : (t : List Entry) → t ≡ [] → stage_of t ≡ stage.Free
 stage_free t e = ap stage_of e ∙ stage_none
 
 alone_step : (w : World) (e : Event) → Allowed w e → Alone w.trace w.gear → Alone (happens w e).trace (happens w e).gear
-alone_step w (event.Acted c i o) here h = alone_unless _ w.trace w.gear h
 alone_step w (event.Offered c f) here h = h
 alone_step w (event.Sent c f a) here h =
     alone_if (goes_on w c (trace_running w c ++ entry f a ∷ [])) (trace_running w c ++ entry f a ∷ []) (row_after Everyone (command_of f) 0 w.gear w.left)
@@ -101,8 +100,8 @@ alone_step w event.Lapsed here h = alone_none w.gear
 alone_step w event.Quiet here h = λ x e. each_map fresh Whole gear_quieted w.gear (λ k g one on. refl) (h x e)
 alone_step w (event.Power g on) here h = λ x e. each_changed fresh Whole (gear_powered on) w.gear g (λ there one. alone_powered on g (gear_at w g) one) (h x e)
 alone_step w (event.Expired g) here h = λ x e. each_changed fresh Whole gear_expired w.gear g (λ there one. one) (h x e)
-alone_step w (event.Down c) here h = alone_unless _ w.trace w.gear h
 alone_step w (event.Up c kept) here h = h
+alone_step w _ here h = alone_unless _ w.trace w.gear h
 
 alone_all : (w : World) (es : List Event) → AllAllowed w es → Alone w.trace w.gear → Alone (after_all w es).trace (after_all w es).gear
 alone_all w [] all h = h

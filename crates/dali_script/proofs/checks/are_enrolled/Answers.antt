@@ -1,4 +1,4 @@
-use Rattle.std.proofs.Common.{◌≡◌, sym, ◌∙◌, true, false}
+use Rattle.std.proofs.Common.{◌≡◌, sym, ◌∙◌}
 use Rattle.dali_frame.specs.Random.{low_of}
 use Rattle.dali_script.proofs.Fronts.{enrolled_none, enrolled_more, next_enrolled, marks_none, marks_more, seen_none, seen_more}
 use Rattle.dali_script.proofs.checks.are_enrolled.Goals as goal

@@ -1,4 +1,4 @@
-use Rattle.std.proofs.Common.{◌≡◌, ◌<◌, ◌≤◌, true, arith}
+use Rattle.std.proofs.Common.{◌≤◌, arith}
 use Rattle.dali_script.specs.Records.{InBlock}
 use Rattle.dali_script.proofs.Fronts.{address_at, within_more}
 use Rattle.dali_script.proofs.checks.are_within.Goals as goal

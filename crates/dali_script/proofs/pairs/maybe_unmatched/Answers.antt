@@ -1,4 +1,4 @@
-use Rattle.std.proofs.Common.{◌<◌, subst}
+use Rattle.std.proofs.Common.{subst}
 use Rattle.dali_script.specs.Records.{HasRandom}
 use Rattle.dali_script.proofs.Fronts.{address_at}
 use Rattle.dali_script.proofs.Matching.{matching_one, matching_marked}

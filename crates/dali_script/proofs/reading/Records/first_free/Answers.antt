@@ -1,4 +1,4 @@
-use Rattle.std.proofs.Common.{◌≡◌, ℕ, ◌<◌, ◌≤◌, true, false, arith, subst, sym, ap, ◌∙◌}
+use Rattle.std.proofs.Common.{◌≡◌, ℕ, ◌<◌, ◌≤◌, true, false, arith, subst, sym, ◌∙◌}
 use Rattle.dali_script.specs.Records.{HasAddress, IsLeastFree}
 use Rattle.dali_script.proofs.Lists.{reserved_more}
 use Rattle.dali_script.proofs.Fronts.{least_found}
