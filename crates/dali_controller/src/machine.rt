@@ -110,7 +110,8 @@ impl Machine {
     ///
     /// `NotDue`: the machine waits for something else, and nothing changed; `due` says for what. After `Done` and
     /// `Halt` it waits for nothing. The block stays, and a record that is ordered fits it. Which transaction begins
-    /// next is a function of what the machine was told (`course`), and its first frame is the one that is put.
+    /// next is a function of what the machine was told (`course`), and its first frame is the one that is put. A later
+    /// frame is the one that the running transaction sends next; where it sends no more, none is put (`whole`).
     pub fn step(&mut self, input: Input) -> Result<Order, StepError>
         ensures due { IsOk result ↔ (accepts (due_after self.old.last) input ≡ true) }
         ensures not_due { OnErr result (self.new ≡ self.old) }
@@ -118,6 +119,7 @@ impl Machine {
         ensures state { IfOk result (λ order. self.new ≡ machine_after self.old input order) }
         ensures begins { IfOk result (BeginsWith self.new.course) }
         ensures followed { IfOk result (λ order. IsFollowedAt self.old input order) }
+        ensures whole { IsWhole self.new }
         ensures block { self.new.kept.block ≡ self.old.kept.block }
         ensures fits { IfOk result (λ order. IfSome (record_ordered (Some order)) (Fits self.old.kept.block)) }
     {

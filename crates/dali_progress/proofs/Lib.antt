@@ -18,3 +18,4 @@ mod Refused
 mod Numbers
 mod Accounted
 mod Spared
+mod Sweep

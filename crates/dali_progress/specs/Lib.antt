@@ -2,3 +2,4 @@ pub mod Rounds
 pub mod Running
 pub mod Surveyed
 pub mod Spared
+pub mod Swept

@@ -21,6 +21,7 @@ ghost use Rattle.dali_script.specs.declared.orders.Order.TheVariants.{Put, Commi
 ghost use Rattle.dali_script.specs.Records.{Has};
 ghost use Rattle.dali_controller.specs.Course.{address_for};
 ghost use Rattle.dali_controller.specs.Machine.{Machine};
+ghost use Rattle.dali_controller.specs.Whole.{IsWhole};
 ghost use Rattle.dali_script.specs.declared.orders.End.{End};
 ghost use Rattle.dali_events.specs.declared.event.Event.{Event};
 ghost use Rattle.dali_events.specs.Plan.{Plan, IsPlan};
@@ -38,6 +39,7 @@ ghost use Rattle.dali_progress.specs.Rounds.{IsTabled};
 ghost use Rattle.dali_progress.specs.Surveyed.{Step, IsCourse, ArePlain, WasHeard, IsAccounted, HasSurveyed};
 ghost use Rattle.dali_progress.specs.Surveyed.{stage_told};
 ghost use Rattle.dali_progress.specs.Spared.{ReservesBySurvey};
+ghost use Rattle.dali_progress.specs.Swept.{BeginsBySurvey, AreWhole, AreSteady, frames_asked, frames_lost};
 ghost use Rattle.dali_progress.specs.Running.{HasCommissioned, WasRefused};
 
 /// A new site with one controller is one on which it starts alone.
@@ -133,6 +135,20 @@ pub fn nothing_is_given_where_somebody_was_heard()
         → IsCourse (s ∷ earlier) n → ArePlain (s ∷ earlier) → s.order ≡ Put LATER f → HasSurveyed n → n.opened ≡ true
         → stage_told s ≡ Unnamed q → address_for n.kept.reserved (value_of q) ≡ Some a → WasHeard (s ∷ earlier) a
         → Has n.kept.enrolled (a, value_of q) }
+{}
+
+/// A SWEEP IS BOUNDED. Of every list of inputs that are due, from a survey on, whatever bus, store and other
+/// controllers do: while a machine asks short addresses for their random addresses, at most 320 of its frames are sent
+/// and heard, five for each short address, and at most five more for each that was destroyed or not sent. Where whoever
+/// is there answers at once, so that no answer follows a silence, they are at most 192, and three more for each that
+/// was lost.
+///
+/// So the sweep ends: after so many answers the machine asks no more.
+pub fn a_sweep_is_bounded()
+    ensures any { (steps : List Step) (n : Machine) → IsCourse steps n → BeginsBySurvey steps → AreWhole steps
+        → IsWhole n → frames_asked steps ≤ 320 + 5 * frames_lost steps }
+    ensures steady { (steps : List Step) (n : Machine) → IsCourse steps n → BeginsBySurvey steps → AreWhole steps
+        → IsWhole n → AreSteady steps → frames_asked steps ≤ 192 + 3 * frames_lost steps }
 {}
 
 /// USED GEAR THAT WERE HEARD ARE LEFT ALONE. Of a site some of whose gear come with short addresses, all different:

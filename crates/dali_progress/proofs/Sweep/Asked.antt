@@ -1,0 +1,251 @@
+use Rattle.std.proofs.Common.{◌≡◌, ℕ, ◌+◌, ◌<◌, ◌≤◌, ◌⊎◌, inl, inr, Bool, true, false, [], refl, sym, ap, subst, ◌∙◌, arith}
+use Rattle.std.proofs.Common.{Option, Some, None}
+use Rattle.std.specs.Prelude.{◌==◌, nat_lt, zero, suc}
+use Rattle.std.proofs.lemmas.Bool.Decides.{nat_tests}
+use Rattle.dali_frame.specs.declared.frames.Answer.{Answer}
+use Rattle.dali_frame.specs.declared.frames.Answer.TheVariants.{Silence, Byte, Damaged}
+use Rattle.dali_frame.specs.declared.frames.Forward.{Forward}
+use Rattle.dali_frame.specs.declared.numbers.SearchAddress.{SearchAddress}
+use Rattle.dali_frame.specs.Priority.{FIRST, LATER}
+use Rattle.dali_special.specs.declared.command.Command.{Command}
+use Rattle.dali_special.specs.declared.command.Command.TheVariants.{RandomByte}
+use Rattle.dali_special.specs.declared.command.Part.TheVariants.{High, Middle, Low}
+use Rattle.dali_special.specs.Command.{command_of}
+use Rattle.dali_script.specs.declared.records.Record.{Record}
+use Rattle.dali_script.specs.declared.stage.Stage.{Stage}
+use Rattle.dali_script.specs.declared.stage.Stage.TheVariants as stage
+use Rattle.dali_script.specs.Records.{Kept}
+use Rattle.dali_script.specs.Stages.{stage_of, next_stage, byte_heard, bytes_heard, number_heard}
+use Rattle.dali_script.proofs.Transactions.{stage_more, stage_none}
+use Rattle.dali_script.specs.declared.orders.Order.{Order}
+use Rattle.dali_script.specs.declared.orders.Order.TheVariants.{Put, Commit, Done, Halt}
+use Rattle.dali_script.specs.declared.orders.End.{End}
+use Rattle.dali_script.specs.declared.orders.Fault.{Fault}
+use Rattle.dali_controller.specs.declared.purpose.Purpose.{Purpose}
+use Rattle.dali_controller.specs.declared.purpose.Purpose.TheVariants.{Opening, Probing, Visiting, Resolving, Closing, Asking, Waking}
+use Rattle.dali_controller.specs.declared.way.Way.TheVariants.{Surveying, Drawing}
+use Rattle.dali_controller.specs.Course.{Course}
+use Rattle.dali_controller.specs.Machine.{Machine, machine_heard, asked_at, asked_after_silence}
+use Rattle.dali_controller.specs.Next.{next_course, begins_at, goes_on_to, asked_once, draws}
+use Rattle.dali_controller.specs.Orders.{IsAllowed, machine_ordered}
+use Rattle.dali_controller.specs.Whole.{IsWhole, IsSending, Pending, Sends}
+use Rattle.dali_progress.proofs.Sweep.Left.{waits, at_stage, of_purpose, of_last, beyond, left, beyond_less, waits_most, waits_least, goes_moves, Moves}
+
+-- A SWEEP IS BOUNDED: what each order leaves once a frame of it was heard.
+
+-- ---------------------------------------------------------------- what an order leaves
+
+-- by what kind of order it is: a first frame, a later one of a transaction that runs, or none
+pub by_order : (t : Machine) (P : Order → Type 0) → ((f : Forward) → P (Put FIRST f)) → ((f : Forward) → (t.trace ≡ [] → ⊥) → P (Put LATER f))
+    → ((x : Record) → P (Commit x)) → ((e : End) → P (Done e)) → ((w : Fault) → P (Halt w)) → (o : Order) → IsAllowed t o → P o
+by_order t P first later commit done halt (Put p f) (inl may) = subst (λ q. P (Put q f)) (sym may.0) (first f)
+by_order t P first later commit done halt (Put p f) (inr may) = subst (λ q. P (Put q f)) (sym may.0) (later f may.1)
+by_order t P first later commit done halt (Commit x) may = commit x
+by_order t P first later commit done halt (Done e) may = done e
+by_order t P first later commit done halt (Halt w) may = halt w
+
+-- a transaction that begins on another course: no more than to the addresses that were not looked at
+pub moved_left : (u : ℕ) (t n : Machine) (d : Course) → n.course ≡ d → n.trace ≡ [] → Moves t.course d → left u n ≤ beyond u t.course.from
+moved_left u t n d is free moves = go moves.way where
+  go : (d.way ≡ Drawing) ⊎ (d.way ≡ Surveying) → left u n ≤ beyond u t.course.from
+  go (inl draws) = let way : n.course.way ≡ Drawing = ap (λ c. c.way) is ∙ draws in rw way (omega arith)
+  go (inr surveys) =
+      let way : n.course.way ≡ Surveying = ap (λ c. c.way) is ∙ surveys in
+      let from : n.course.from ≡ d.from = ap (λ c. c.from) is in
+      rw (way, from) (on n.last moves.on) where
+        purpose : n.course.purpose ≡ d.purpose
+        purpose = ap (λ c. c.purpose) is
+
+        waiting : (p : Purpose) → of_purpose u n.asked p (stage_of n.trace) ≤ u + 2
+        waiting (Asking a) = rw (free, stage_none) (waits_most u n.asked)
+        waiting Opening = omega arith
+        waiting Probing = omega arith
+        waiting Visiting = omega arith
+        waiting (Resolving a) = omega arith
+        waiting (Closing e) = omega arith
+        waiting Waking = omega arith
+
+        most : (last : Option Order) → of_last u n last ≤ u + 2
+        most None = omega arith
+        most (Some (Put p f)) = waiting n.course.purpose
+        most (Some (Commit x)) = omega arith
+        most (Some (Done e)) = omega arith
+        most (Some (Halt w)) = omega arith
+
+        none : (last : Option Order) → ((k j : ℕ) (s : Stage) → of_purpose k j d.purpose s ≡ 0) → of_last u n last ≡ 0
+        none None asks = refl
+        none (Some (Put p f)) asks = rw purpose (asks u n.asked (stage_of n.trace))
+        none (Some (Commit x)) asks = refl
+        none (Some (Done e)) asks = refl
+        none (Some (Halt w)) asks = refl
+
+        on : (last : Option Order)
+            → ((d.from ≡ t.course.from) × ((k j : ℕ) (s : Stage) → of_purpose k j d.purpose s ≡ 0)) ⊎ ((t.course.from < d.from) × (d.from ≤ 64))
+            → beyond u d.from + of_last u n last ≤ beyond u t.course.from
+        on last (inl same) = rw (same.0, none last same.1) (omega arith)
+        on last (inr less) =
+            let fewer : beyond u d.from + (u + 2) ≤ beyond u t.course.from = beyond_less u t.course.from d.from less.0 less.1 in
+            let some : of_last u n last ≤ u + 2 = most last in
+            omega (arith, fewer, some)
+
+-- on the same course: what the outstanding frame leaves, too
+pub same_left : (u : ℕ) (t n : Machine) → n.course ≡ t.course → t.course.way ≡ Surveying → left u n ≡ beyond u t.course.from + of_last u n n.last
+same_left u t n is surveys =
+    let way : n.course.way ≡ Surveying = ap (λ c. c.way) is ∙ surveys in
+    let from : n.course.from ≡ t.course.from = ap (λ c. c.from) is in
+    rw (way, from) refl
+
+-- ---------------------------------------------------------------- a frame of the sweep
+
+-- WHERE the transaction of a question is: which frame is sent after which
+abbrev Asks : ℕ → Stage → Command → Type 0
+Asks a s c =
+    ((s ≡ stage.Free) × (c ≡ RandomByte a High))
+    ⊎ (((b : ℕ) × (x : ℕ) × (s ≡ stage.HighAsked b (Some x)) × (c ≡ RandomByte b Middle))
+    ⊎ ((b : ℕ) × (x : ℕ × ℕ) × (s ≡ stage.MiddleAsked b (Some x)) × (c ≡ RandomByte b Low)))
+
+some_same : {A : Type 0} (x y : A) → Some x ≡ Some y → x ≡ y
+some_same x y same = cc
+
+asks_of : (k : Kept) (n : SearchAddress) (a : ℕ) (s : Stage) (c : Command) → Sends k n (Asking a) s c → Asks a s c
+asks_of k n a stage.Free c sends = inl (refl, sends.0)
+asks_of k n a (stage.HighAsked b (Some x)) c sends = inr (inl (b, x, refl, sym (some_same (RandomByte b Middle) c sends.0)))
+asks_of k n a (stage.MiddleAsked b (Some x)) c sends = inr (inr (b, x, refl, sym (some_same (RandomByte b Low) c sends.0)))
+asks_of k n a (stage.Unnamed r) c sends = absurd (let other = sends.0 in cc)
+asks_of k n a _ c sends = absurd (let none = sends.0 in cc)
+
+-- a machine that sends a later frame is where that frame is sent
+later_asks : (t : Machine) (f : Forward) (a : ℕ) (s : Stage) → t.course.purpose ≡ Asking a → stage_of t.trace ≡ s → IsWhole (machine_ordered t (Put LATER f))
+    → Asks a s (command_of f)
+later_asks t f a s purpose at whole =
+    asks_of t.kept t.course.number a s (command_of f)
+    (subst (λ r. Sends t.kept t.course.number (Asking a) r (command_of f)) at
+    (subst (λ p. Sends t.kept t.course.number p (stage_of t.trace) (command_of f)) purpose whole.sends))
+
+-- silence is asked again with one frame less to go
+silent_less : (u k a j : ℕ) (h : Answer) → j ≡ asked_at (stage.HighAsked a (byte_heard h)) h k → (j == 0) ≡ false → waits u j + 1 ≤ waits u k
+silent_less u zero a j Silence is some = rw is (omega arith)
+silent_less u (suc zero) a j Silence is some = rw is (omega arith)
+silent_less u (suc (suc k)) a j Silence is some =
+    let past : nat_lt (suc (suc k)) 2 ≡ false = grind (arith, nat_tests) in
+    let none : asked_after_silence (suc (suc k)) ≡ 0 = rw past refl in
+    absurd (let zero_again : (j == 0) ≡ true = rw (is, none) refl in cc)
+silent_less u k a j (Byte v) is some = absurd (let none : (j == 0) ≡ true = rw is refl in cc)
+silent_less u k a j Damaged is some = absurd (let none : (j == 0) ≡ true = rw is refl in cc)
+
+-- the first query was heard
+first_left : (u : ℕ) (t : Machine) (a k : ℕ) (h : Answer) → 1 ≤ u → t.course.way ≡ Surveying → t.course.purpose ≡ Asking a
+    → stage_of t.trace ≡ stage.HighAsked a (byte_heard h) → t.asked ≡ asked_at (stage.HighAsked a (byte_heard h)) h k → (h ≡ Silence) ⊎ (3 ≤ waits u k)
+    → (o : Order) → IsAllowed t o → IsWhole (machine_ordered t o) → 1 + left u (machine_ordered t o) ≤ beyond u t.course.from + waits u k
+first_left u t a k h one surveys purpose at asked steady =
+    by_order t (λ o. IsWhole (machine_ordered t o) → 1 + left u (machine_ordered t o) ≤ beyond u t.course.from + waits u k) first later
+    (λ x whole. rest (machine_ordered t (Commit x)) refl refl) (λ e whole. rest (machine_ordered t (Done e)) refl refl)
+    (λ w whole. rest (machine_ordered t (Halt w)) refl refl) where
+      least : 1 ≤ waits u k
+      least = waits_least u k one
+
+      rest : (n : Machine) → n.course ≡ t.course → of_last u n n.last ≡ 0 → 1 + left u n ≤ beyond u t.course.from + waits u k
+      rest n is none = rw (same_left u t n is surveys, none) (omega (arith, least))
+
+      first : (f : Forward) → IsWhole (machine_ordered t (Put FIRST f)) → 1 + left u (machine_ordered t (Put FIRST f)) ≤ beyond u t.course.from + waits u k
+      first f whole = go (t.asked == 0) refl where
+        begins : next_course t ≡ asked_once t (t.asked == 0)
+        begins = ap (begins_at t) at
+
+        go : (b : Bool) → (t.asked == 0) ≡ b → 1 + left u (machine_ordered t (Put FIRST f)) ≤ beyond u t.course.from + waits u k
+        go true is =
+            let on : next_course t ≡ goes_on_to t = begins ∙ ap (asked_once t) is in
+            let fewer : left u (machine_ordered t (Put FIRST f)) ≤ beyond u t.course.from =
+            moved_left u t (machine_ordered t (Put FIRST f)) (goes_on_to t) on refl (goes_moves t surveys) in
+            omega (arith, fewer, least)
+        go false is =
+            let on : next_course t ≡ t.course = begins ∙ ap (asked_once t) is in
+            let again : of_last u (machine_ordered t (Put FIRST f)) (Some (Put FIRST f)) ≡ waits u t.asked = rw (on, purpose, stage_none) refl in
+            let fewer : waits u t.asked + 1 ≤ waits u k = silent_less u k a t.asked h asked is in
+            rw (same_left u t (machine_ordered t (Put FIRST f)) on surveys, again) (omega (arith, fewer))
+
+      later : (f : Forward) → (t.trace ≡ [] → ⊥) → IsWhole (machine_ordered t (Put LATER f))
+          → 1 + left u (machine_ordered t (Put LATER f)) ≤ beyond u t.course.from + waits u k
+      later f running whole = go steady (later_asks t f a (stage.HighAsked a (byte_heard h)) purpose at whole) where
+        two : of_last u (machine_ordered t (Put LATER f)) (Some (Put LATER f)) ≡ 2
+        two = rw (purpose, at) refl
+
+        go : (h ≡ Silence) ⊎ (3 ≤ waits u k) → Asks a (stage.HighAsked a (byte_heard h)) (command_of f)
+            → 1 + left u (machine_ordered t (Put LATER f)) ≤ beyond u t.course.from + waits u k
+        go (inr enough) asks = rw (same_left u t (machine_ordered t (Put LATER f)) refl surveys, two) (omega (arith, enough))
+        go (inl silent) (inl other) = absurd (let never = other.0 in cc)
+        go (inl silent) (inr (inl (b, x, same, c))) =
+            absurd (let none : stage.HighAsked a None ≡ stage.HighAsked b (Some x) = ap (λ r. stage.HighAsked a (byte_heard r)) (sym silent) ∙ same in cc)
+        go (inl silent) (inr (inr (b, x, same, c))) = absurd (cc)
+
+-- a later query was heard: more of the transaction follows, or another begins
+over_left : (u : ℕ) (t : Machine) (a r : ℕ) (s : Stage) → 1 ≤ r → t.course.way ≡ Surveying → t.course.purpose ≡ Asking a → stage_of t.trace ≡ s
+    → begins_at t s ≡ goes_on_to t → ((c : Command) → Asks a s c → at_stage u t.asked s + 1 ≤ r)
+    → (o : Order) → IsAllowed t o → IsWhole (machine_ordered t o) → 1 + left u (machine_ordered t o) ≤ beyond u t.course.from + r
+over_left u t a r s one surveys purpose at over more =
+    by_order t (λ o. IsWhole (machine_ordered t o) → 1 + left u (machine_ordered t o) ≤ beyond u t.course.from + r) first later
+    (λ x whole. rest (machine_ordered t (Commit x)) refl refl) (λ e whole. rest (machine_ordered t (Done e)) refl refl)
+    (λ w whole. rest (machine_ordered t (Halt w)) refl refl) where
+      rest : (n : Machine) → n.course ≡ t.course → of_last u n n.last ≡ 0 → 1 + left u n ≤ beyond u t.course.from + r
+      rest n is none = rw (same_left u t n is surveys, none) (omega (arith, one))
+
+      first : (f : Forward) → IsWhole (machine_ordered t (Put FIRST f)) → 1 + left u (machine_ordered t (Put FIRST f)) ≤ beyond u t.course.from + r
+      first f whole =
+          let on : next_course t ≡ goes_on_to t = ap (begins_at t) at ∙ over in
+          let fewer : left u (machine_ordered t (Put FIRST f)) ≤ beyond u t.course.from =
+          moved_left u t (machine_ordered t (Put FIRST f)) (goes_on_to t) on refl (goes_moves t surveys) in
+          omega (arith, fewer, one)
+
+      later : (f : Forward) → (t.trace ≡ [] → ⊥) → IsWhole (machine_ordered t (Put LATER f))
+          → 1 + left u (machine_ordered t (Put LATER f)) ≤ beyond u t.course.from + r
+      later f running whole =
+          let here : of_last u (machine_ordered t (Put LATER f)) (Some (Put LATER f)) ≡ at_stage u t.asked s = rw (purpose, at) refl in
+          let fewer : at_stage u t.asked s + 1 ≤ r = more (command_of f) (later_asks t f a s purpose at whole) in
+          rw (same_left u t (machine_ordered t (Put LATER f)) refl surveys, here) (omega (arith, fewer))
+
+self : (b : ℕ) → (b == b) ≡ true
+self b = grind (arith, nat_tests)
+
+-- a frame of the sweep that was heard
+pub sent_left : (u : ℕ) (m : Machine) (h : Answer) (p : ℕ) (f : Forward) (a : ℕ) → 1 ≤ u → m.course.way ≡ Surveying → m.course.purpose ≡ Asking a
+    → m.last ≡ Some (Put p f) → IsWhole m → (h ≡ Silence) ⊎ (3 ≤ waits u m.asked) → (o : Order) → IsAllowed (machine_heard m (Some f) h) o
+    → IsWhole (machine_ordered (machine_heard m (Some f) h) o) → 1 + left u (machine_ordered (machine_heard m (Some f) h) o) ≤ left u m
+sent_left u m h p f a one surveys purpose last whole steady o may after =
+    subst (λ r. 1 + left u (machine_ordered (machine_heard m (Some f) h) o) ≤ r) (sym here)
+    (go (asks_of m.kept m.course.number a (stage_of m.trace) (command_of f) sends)) where
+      waiting : of_last u m m.last ≡ at_stage u m.asked (stage_of m.trace)
+      waiting = rw (last, purpose) refl
+
+      here : left u m ≡ beyond u m.course.from + at_stage u m.asked (stage_of m.trace)
+      here = same_left u m m refl surveys ∙ ap (λ r. beyond u m.course.from + r) waiting
+
+      sends : Sends m.kept m.course.number (Asking a) (stage_of m.trace) (command_of f)
+      sends = subst (λ q. Sends m.kept m.course.number q (stage_of m.trace) (command_of f)) purpose (sending m.last last whole).sends where
+        sending : (l : Option Order) → l ≡ Some (Put p f) → Pending m l → IsSending m f
+        sending None e w = absurd (cc)
+        sending (Some (Put q g)) e w = subst (IsSending m) (let same : g ≡ f = cc in same) w
+        sending (Some (Commit x)) e w = absurd (cc)
+        sending (Some (Done x)) e w = absurd (cc)
+        sending (Some (Halt x)) e w = absurd (cc)
+
+      at : stage_of (machine_heard m (Some f) h).trace ≡ next_stage (stage_of m.trace) (command_of f) h
+      at = stage_more m.trace (record { frame = f; heard = h })
+
+      go : Asks a (stage_of m.trace) (command_of f)
+          → 1 + left u (machine_ordered (machine_heard m (Some f) h) o) ≤ beyond u m.course.from + at_stage u m.asked (stage_of m.trace)
+      go (inl (free, high)) =
+          let next : next_stage (stage_of m.trace) (command_of f) h ≡ stage.HighAsked a (byte_heard h) = rw (free, high) refl in
+          let silent : (machine_heard m (Some f) h).asked ≡ asked_at (stage.HighAsked a (byte_heard h)) h m.asked = rw (purpose, at ∙ next) refl in
+          rw free (first_left u (machine_heard m (Some f) h) a m.asked h one surveys purpose (at ∙ next) silent steady o may after)
+      go (inr (inl (b, x, same, middle))) =
+          let next : next_stage (stage_of m.trace) (command_of f) h ≡ stage.MiddleAsked b (bytes_heard (Some x) h) = rw (same, middle, self b) refl in
+          rw same (over_left u (machine_heard m (Some f) h) a 2 (stage.MiddleAsked b (bytes_heard (Some x) h)) (omega arith) surveys purpose (at ∙ next) refl
+          (λ c asks. omega arith) o may after)
+      go (inr (inr (b, x, same, low))) =
+          let next : next_stage (stage_of m.trace) (command_of f) h ≡ stage.Spelled b (number_heard (Some x) h) = rw (same, low, self b) refl in
+          rw same (over_left u (machine_heard m (Some f) h) a 1 (stage.Spelled b (number_heard (Some x) h)) (omega arith) surveys purpose (at ∙ next) refl
+          (λ c asks. absurd (never asks)) o may after) where
+            never : {n : Option ℕ} {c : Command} → Asks a (stage.Spelled b n) c → ⊥
+            never (inl is) = let other = is.0 in cc
+            never (inr (inl is)) = let other = is.2 in cc
+            never (inr (inr is)) = let other = is.2 in cc

@@ -1,0 +1,323 @@
+use Rattle.std.proofs.Common.{◌≡◌, ℕ, ◌+◌, ◌*◌, ◌≤◌, ◌⊎◌, inl, inr, true, List, [], ◌∷◌, refl, sym, ap, subst, ◌∙◌, arith}
+use Rattle.std.proofs.Common.{Option, Some, None}
+use Rattle.std.specs.Prelude.{zero, suc}
+use Rattle.dali_frame.specs.declared.frames.Answer.{Answer}
+use Rattle.dali_frame.specs.declared.frames.Answer.TheVariants.{Silence}
+use Rattle.dali_frame.specs.declared.frames.Forward.{Forward}
+use Rattle.dali_script.specs.declared.records.Record.{Record}
+use Rattle.dali_script.specs.Records.{Kept}
+use Rattle.dali_script.specs.declared.orders.Input.{Input}
+use Rattle.dali_script.specs.declared.orders.Input.TheVariants as input
+use Rattle.dali_script.specs.declared.orders.Order.{Order}
+use Rattle.dali_script.specs.declared.orders.Order.TheVariants.{Put, Commit, Done, Halt}
+use Rattle.dali_script.specs.declared.orders.Fault.{Fault}
+use Rattle.dali_script.specs.declared.orders.Fault.TheVariants as fault
+use Rattle.dali_script.specs.declared.orders.Due.TheVariants as due
+use Rattle.dali_script.specs.Due.{due_after, accepts, frame_put, record_ordered}
+use Rattle.dali_controller.specs.declared.purpose.Purpose.TheVariants.{Opening, Asking}
+use Rattle.dali_controller.specs.declared.way.Way.{Way}
+use Rattle.dali_controller.specs.declared.way.Way.TheVariants.{Fresh, Surveying, Drawing}
+use Rattle.dali_controller.specs.Machine.{Machine, at_first, machine_told, machine_heard, machine_committed}
+use Rattle.dali_controller.specs.Orders.{IsGiven, IsAllowed, machine_after, machine_ordered}
+use Rattle.dali_controller.specs.Whole.{IsWhole, IsReady, Pending, Knows}
+use Rattle.dali_progress.specs.Surveyed.{Step, IsTaken, IsCourse}
+use Rattle.dali_progress.specs.Swept.{IsSurveyed, BeginsBySurvey, AreWhole, was_sent, was_lost, frames_asked, frames_lost, IsSteady, AreSteady}
+use Rattle.dali_progress.proofs.Sweep.Left.{waits, of_purpose, of_last, beyond, left, beyond_most}
+use Rattle.dali_progress.proofs.Sweep.Asked.{same_left, sent_left}
+use Rattle.dali_progress.proofs.Sweep.Others.{Rests, asking_or, any_left, calm_left, kept_left, other_left}
+
+-- A SWEEP IS BOUNDED: each step, and all of a course.
+
+-- ---------------------------------------------------------------- a step
+
+-- a record that is outstanding ended the transaction before it
+abbrev IsAlone : Machine → Type 0
+IsAlone m = (x : Record) → m.last ≡ Some (Commit x) → m.trace ≡ []
+
+alone_after : (t : Machine) (o : Order) → IsAlone (machine_ordered t o)
+alone_after t (Commit y) x is = refl
+alone_after t (Put p f) x is = absurd (cc)
+alone_after t (Done e) x is = absurd (cc)
+alone_after t (Halt w) x is = absurd (cc)
+
+put_is : (last : Option Order) (i : Input) → accepts due.Bus i ≡ true → accepts (due_after last) i ≡ true → (p : ℕ) × (f : Forward) × (last ≡ Some (Put p f))
+put_is (Some (Put p f)) i bus e = (p, f, refl)
+put_is None (input.Heard h) bus e = absurd (cc)
+put_is None input.Destroyed bus e = absurd (cc)
+put_is None input.Lapsed bus e = absurd (cc)
+put_is (Some (Commit x)) (input.Heard h) bus e = absurd (cc)
+put_is (Some (Commit x)) input.Destroyed bus e = absurd (cc)
+put_is (Some (Commit x)) input.Lapsed bus e = absurd (cc)
+put_is (Some (Done x)) i bus e = absurd (cc)
+put_is (Some (Halt w)) i bus e = absurd (cc)
+put_is last input.Start bus e = absurd (cc)
+put_is last input.Survey bus e = absurd (cc)
+put_is last input.Committed bus e = absurd (cc)
+put_is last input.CommitFailed bus e = absurd (cc)
+
+commit_is : (last : Option Order) → accepts (due_after last) input.Committed ≡ true → (x : Record) × (last ≡ Some (Commit x))
+commit_is None e = absurd (cc)
+commit_is (Some (Put p f)) e = absurd (cc)
+commit_is (Some (Commit x)) e = (x, refl)
+commit_is (Some (Done e)) due = absurd (cc)
+commit_is (Some (Halt w)) due = absurd (cc)
+
+started : (last : Option Order) (i : Input) → accepts due.Start i ≡ true → accepts (due_after last) i ≡ true → last ≡ None
+started None i start e = refl
+started (Some (Put p f)) input.Start start e = absurd (cc)
+started (Some (Put p f)) input.Survey start e = absurd (cc)
+started (Some (Commit x)) input.Start start e = absurd (cc)
+started (Some (Commit x)) input.Survey start e = absurd (cc)
+started (Some (Done x)) i start e = absurd (cc)
+started (Some (Halt w)) i start e = absurd (cc)
+started (Some o) (input.Heard h) start e = absurd (cc)
+started (Some o) input.Destroyed start e = absurd (cc)
+started (Some o) input.Lapsed start e = absurd (cc)
+started (Some o) input.Committed start e = absurd (cc)
+started (Some o) input.CommitFailed start e = absurd (cc)
+
+-- an answer that is counted: silence, or one for which enough frames are left
+abbrev IsCounted : ℕ → Machine → Input → Type 0
+IsCounted u m i = (h : Answer) → i ≡ input.Heard h → (h ≡ Silence) ⊎ (3 ≤ waits u m.asked)
+
+-- WHAT A STEP SENDS of a sweep it makes fewer
+abbrev Counts : ℕ → Machine → Input → Machine → Type 0
+Counts u m i n = was_sent i m.course.purpose + left u n ≤ left u m + (u + 2) * was_lost i m.course.purpose
+
+lost_counts : (u : ℕ) (m t : Machine) (i : Input) (o : Order) → t.course ≡ m.course → m.course.way ≡ Surveying
+    → ((a : ℕ) → m.course.purpose ≡ Asking a → (was_sent i m.course.purpose ≡ 0) × (was_lost i m.course.purpose ≡ 1))
+    → (Rests m.course.purpose → (was_sent i m.course.purpose ≡ 0) × (was_lost i m.course.purpose ≡ 0)) → IsAllowed t o
+    → Counts u m i (machine_ordered t o)
+lost_counts u m t i o same surveys asks rests may = go (asking_or m.course.purpose) where
+  way : t.course.way ≡ Surveying
+  way = ap (λ c. c.way) same ∙ surveys
+
+  from : beyond u t.course.from ≡ beyond u m.course.from
+  from = ap (λ c. beyond u c.from) same
+
+  here : left u m ≡ beyond u m.course.from + of_last u m m.last
+  here = same_left u m m refl surveys
+
+  one_more : (n : ℕ) → n * 1 ≡ n
+  one_more n = omega arith
+
+  no_more : (n : ℕ) → n * 0 ≡ 0
+  no_more n = omega arith
+
+  go : ((a : ℕ) × (m.course.purpose ≡ Asking a)) ⊎ Rests m.course.purpose → Counts u m i (machine_ordered t o)
+  go (inl (a, is)) =
+      let both = asks a is in
+      let most : left u (machine_ordered t o) ≤ beyond u t.course.from + (u + 2) = any_left u t way o may in
+      rw (both.0, both.1, here, one_more) (omega (arith, most, from))
+  go (inr calm) =
+      let both = rests calm in
+      let fewer : left u (machine_ordered t o) ≤ beyond u t.course.from =
+      calm_left u t way (λ k j s. ap (λ c. of_purpose k j c.purpose s) same ∙ calm.0 k j s) o may in
+      rw (both.0, both.1, here, no_more) (omega (arith, fewer, from))
+
+no_more : (n : ℕ) → n * 0 ≡ 0
+no_more n = omega arith
+
+heard_counts : (u : ℕ) (m : Machine) (h : Answer) (p : ℕ) (f : Forward) (o : Order) → 1 ≤ u → m.course.way ≡ Surveying → m.last ≡ Some (Put p f) → IsWhole m
+    → (h ≡ Silence) ⊎ (3 ≤ waits u m.asked) → IsAllowed (machine_heard m (Some f) h) o → IsWhole (machine_ordered (machine_heard m (Some f) h) o)
+    → Counts u m (input.Heard h) (machine_ordered (machine_heard m (Some f) h) o)
+heard_counts u m h p f o one surveys last whole counted may after = go (asking_or m.course.purpose) where
+  go : ((a : ℕ) × (m.course.purpose ≡ Asking a)) ⊎ Rests m.course.purpose → Counts u m (input.Heard h) (machine_ordered (machine_heard m (Some f) h) o)
+  go (inl (a, is)) =
+      let sent : was_sent (input.Heard h) m.course.purpose ≡ 1 = rw is refl in
+      let fewer : 1 + left u (machine_ordered (machine_heard m (Some f) h) o) ≤ left u m =
+      sent_left u m h p f a one surveys is last whole counted o may after in
+      rw (sent, no_more) (omega (arith, fewer))
+  go (inr calm) =
+      let sent : was_sent (input.Heard h) m.course.purpose ≡ 0 = calm.1 h in
+      let fewer : left u (machine_ordered (machine_heard m (Some f) h) o) ≤ beyond u m.course.from =
+      calm_left u (machine_heard m (Some f) h) surveys (λ k j s. calm.0 k j s) o may in
+      let here : left u m ≡ beyond u m.course.from + of_last u m m.last = same_left u m m refl surveys in
+      rw (sent, no_more) (omega (arith, fewer, here))
+
+committed_counts : (u : ℕ) (m : Machine) (x : Record) (o : Order) → m.course.way ≡ Surveying → m.last ≡ Some (Commit x) → m.trace ≡ []
+    → IsAllowed (machine_committed m (Some x)) o → Counts u m input.Committed (machine_ordered (machine_committed m (Some x)) o)
+committed_counts u m x o surveys last free may =
+    let fewer : left u (machine_ordered (machine_committed m (Some x)) o) ≤ beyond u m.course.from =
+    kept_left u (machine_committed m (Some x)) x surveys last free o may in
+    let here : left u m ≡ beyond u m.course.from + of_last u m m.last = same_left u m m refl surveys in
+    rw no_more (omega (arith, fewer, here))
+
+failed_counts : (u : ℕ) (m : Machine) (w : Fault) → m.course.way ≡ Surveying → Counts u m input.CommitFailed (machine_ordered m (Halt w))
+failed_counts u m w surveys =
+    let there : left u (machine_ordered m (Halt w)) ≡ beyond u m.course.from + 0 = same_left u m (machine_ordered m (Halt w)) refl surveys in
+    let here : left u m ≡ beyond u m.course.from + of_last u m m.last = same_left u m m refl surveys in
+    rw no_more (omega (arith, there, here))
+
+-- while it sweeps
+survey_counts : (u : ℕ) (m : Machine) (i : Input) (o : Order) → 1 ≤ u → m.course.way ≡ Surveying → (m.last ≡ None → ⊥) → accepts (due_after m.last) i ≡ true
+    → IsGiven m i o → IsWhole m → IsAlone m → IsWhole (machine_after m i o) → IsCounted u m i → Counts u m i (machine_after m i o)
+survey_counts u m input.Start o one surveys running due given whole alone after counted = absurd (running (started m.last input.Start refl due))
+survey_counts u m input.Survey o one surveys running due given whole alone after counted = absurd (running (started m.last input.Survey refl due))
+survey_counts u m (input.Heard h) o one surveys running due given whole alone after counted =
+    let put = put_is m.last (input.Heard h) refl due in
+    let told : machine_told m (input.Heard h) ≡ machine_heard m (Some put.1) h = ap (λ l. machine_heard m (frame_put l) h) put.2 in
+    subst (λ t. IsAllowed t o → IsWhole (machine_ordered t o) → Counts u m (input.Heard h) (machine_ordered t o)) (sym told)
+    (heard_counts u m h put.0 put.1 o one surveys put.2 whole (counted h refl)) given.answered.allowed after
+survey_counts u m input.Destroyed o one surveys running due given whole alone after counted =
+    lost_counts u m (machine_told m input.Destroyed) input.Destroyed o refl surveys (λ a is. (refl, rw is refl)) (λ calm. (refl, calm.2))
+    given.answered.allowed
+survey_counts u m input.Lapsed o one surveys running due given whole alone after counted =
+    lost_counts u m (machine_told m input.Lapsed) input.Lapsed o refl surveys (λ a is. (refl, rw is refl)) (λ calm. (refl, calm.3)) given.answered.allowed
+survey_counts u m input.Committed o one surveys running due given whole alone after counted =
+    let kept = commit_is m.last due in
+    let told : machine_told m input.Committed ≡ machine_committed m (Some kept.0) = ap (λ l. machine_committed m (record_ordered l)) kept.1 in
+    subst (λ t. IsAllowed t o → Counts u m input.Committed (machine_ordered t o)) (sym told)
+    (committed_counts u m kept.0 o surveys kept.1 (alone kept.0 kept.1)) given.answered.allowed
+survey_counts u m input.CommitFailed o one surveys running due given whole alone after counted =
+    subst (λ q. Counts u m input.CommitFailed (machine_ordered m q)) (sym given.answered) (failed_counts u m fault.Store surveys)
+
+-- where no survey sweeps nobody is asked
+nothing_counts : (u : ℕ) (m t : Machine) (i : Input) (o : Order) → t.course ≡ m.course → (m.course.way ≡ Surveying → ⊥) → was_sent i m.course.purpose ≡ 0
+    → IsAllowed t o → Counts u m i (machine_ordered t o)
+nothing_counts u m t i o same other sent may =
+    let none : left u (machine_ordered t o) ≡ 0 = other_left u t (λ is. other (ap (λ c. c.way) (sym same) ∙ is)) o may in
+    rw (sent, none) (omega arith)
+
+unasked : (m : Machine) (p : ℕ) (f : Forward) (h : Answer) → (m.course.way ≡ Surveying → ⊥) → m.last ≡ Some (Put p f) → IsWhole m
+    → was_sent (input.Heard h) m.course.purpose ≡ 0
+unasked m p f h other last whole = go (asking_or m.course.purpose) where
+  ready : (l : Option Order) → l ≡ Some (Put p f) → Pending m l → IsReady m
+  ready None e w = absurd (cc)
+  ready (Some (Put q g)) e w = w.ready
+  ready (Some (Commit x)) e w = absurd (cc)
+  ready (Some (Done x)) e w = absurd (cc)
+  ready (Some (Halt x)) e w = absurd (cc)
+
+  go : ((a : ℕ) × (m.course.purpose ≡ Asking a)) ⊎ Rests m.course.purpose → was_sent (input.Heard h) m.course.purpose ≡ 0
+  go (inl (a, is)) =
+      absurd (other (subst (λ q. Knows m.course.way m.kept m.course.number m.course.search m.opened q) is (ready m.last last whole).knows).1)
+  go (inr calm) = calm.1 h
+
+other_counts : (u : ℕ) (m : Machine) (i : Input) (o : Order) → (m.course.way ≡ Surveying → ⊥) → (m.last ≡ None → ⊥) → accepts (due_after m.last) i ≡ true
+    → IsGiven m i o → IsWhole m → Counts u m i (machine_after m i o)
+other_counts u m input.Start o other running due given whole = absurd (running (started m.last input.Start refl due))
+other_counts u m input.Survey o other running due given whole = absurd (running (started m.last input.Survey refl due))
+other_counts u m (input.Heard h) o other running due given whole =
+    let put = put_is m.last (input.Heard h) refl due in
+    let same : (machine_told m (input.Heard h)).course ≡ m.course = rw put.2 refl in
+    nothing_counts u m (machine_told m (input.Heard h)) (input.Heard h) o same other (unasked m put.0 put.1 h other put.2 whole) given.answered.allowed
+other_counts u m input.Destroyed o other running due given whole =
+    nothing_counts u m (machine_told m input.Destroyed) input.Destroyed o refl other refl given.answered.allowed
+other_counts u m input.Lapsed o other running due given whole =
+    nothing_counts u m (machine_told m input.Lapsed) input.Lapsed o refl other refl given.answered.allowed
+other_counts u m input.Committed o other running due given whole =
+    let kept = commit_is m.last due in
+    let same : (machine_told m input.Committed).course ≡ m.course = rw kept.1 refl in
+    nothing_counts u m (machine_told m input.Committed) input.Committed o same other refl given.answered.allowed
+other_counts u m input.CommitFailed o other running due given whole =
+    subst (λ q. Counts u m input.CommitFailed (machine_ordered m q)) (sym given.answered)
+    (nothing_counts u m m input.CommitFailed (Halt fault.Store) refl other refl tt)
+
+way_is : (y : Way) → (y ≡ Surveying) ⊎ (y ≡ Surveying → ⊥)
+way_is Surveying = inl refl
+way_is Fresh = inr (λ e. cc)
+way_is Drawing = inr (λ e. cc)
+
+step_counts : (u : ℕ) (m : Machine) (i : Input) (o : Order) → 1 ≤ u → (m.last ≡ None → ⊥) → accepts (due_after m.last) i ≡ true → IsGiven m i o → IsWhole m
+    → IsAlone m → IsWhole (machine_after m i o) → IsCounted u m i → Counts u m i (machine_after m i o)
+step_counts u m i o one running due given whole alone after counted = go (way_is m.course.way) where
+  go : (m.course.way ≡ Surveying) ⊎ (m.course.way ≡ Surveying → ⊥) → Counts u m i (machine_after m i o)
+  go (inl surveys) = survey_counts u m i o one surveys running due given whole alone after counted
+  go (inr other) = other_counts u m i o other running due given whole
+
+-- ---------------------------------------------------------------- a course
+
+abbrev AreCounted : ℕ → List Step → Type 0
+AreCounted u [] = Unit {0}
+AreCounted u (s ∷ earlier) = IsCounted u s.before s.told × AreCounted u earlier
+
+record Bounded (u : ℕ) (steps : List Step) (n : Machine) : Type 0 where
+  running : n.last ≡ None → ⊥
+  alone : IsAlone n
+  frames : frames_asked steps + left u n ≤ (u + 2) * 64 + (u + 2) * frames_lost steps
+
+runs_after : (t : Machine) (o : Order) → (machine_ordered t o).last ≡ None → ⊥
+runs_after t o e = cc
+
+first_bounded : (u : ℕ) (s : Step) (n : Machine) → IsSurveyed s → IsTaken s n → Bounded u (s ∷ []) n
+first_bounded u s n begins taken =
+    subst (λ (x : Machine). Bounded u (s ∷ []) x) (sym taken.after) (record {
+      running = runs_after (machine_told s.before s.told) s.order;
+      alone = alone_after (machine_told s.before s.told) s.order;
+      frames = from s.before s.told begins.1.0 begins.1.1 begins.1.2 begins.0 taken.given;
+    }) where
+      from : (m : Machine) (i : Input) (id : ℕ) (k : Kept) → m ≡ at_first id k → i ≡ input.Survey → IsGiven m i s.order
+          → (was_sent i m.course.purpose + 0) + left u (machine_after m i s.order) ≤ (u + 2) * 64 + (u + 2) * (was_lost i m.course.purpose + 0)
+      from m i id k is told given =
+          subst (λ (x : Machine). IsGiven x i s.order
+          → (was_sent i x.course.purpose + 0) + left u (machine_after x i s.order) ≤ (u + 2) * 64 + (u + 2) * (was_lost i x.course.purpose + 0)) (sym is)
+          (subst (λ j. IsGiven (at_first id k) j s.order
+          → (was_sent j Opening + 0) + left u (machine_after (at_first id k) j s.order) ≤ (u + 2) * 64 + (u + 2) * (was_lost j Opening + 0)) (sym told)
+          (λ g.
+          let fewer : left u (machine_after (at_first id k) input.Survey s.order) ≤ beyond u 0 =
+          calm_left u (machine_told (at_first id k) input.Survey) refl (λ a b c. refl) s.order g.answered.allowed in
+          let most : beyond u 0 ≤ (u + 2) * 64 = beyond_most u 0 in
+          rw no_more (omega (arith, fewer, most)))) given
+
+more_bounded : (u : ℕ) (s : Step) (earlier : List Step) (n : Machine) → 1 ≤ u → Bounded u earlier s.before → IsTaken s n → IsWhole s.before → IsWhole n
+    → IsCounted u s.before s.told → Bounded u (s ∷ earlier) n
+more_bounded u s earlier n one before taken whole after counted =
+    subst (λ (x : Machine). IsWhole x → Bounded u (s ∷ earlier) x) (sym taken.after) (λ w. record {
+      running = runs_after (machine_told s.before s.told) s.order;
+      alone = alone_after (machine_told s.before s.told) s.order;
+      frames = sum (was_sent s.told s.before.course.purpose) (frames_asked earlier) (left u (machine_after s.before s.told s.order)) (left u s.before)
+          ((u + 2) * 64) (u + 2) (was_lost s.told s.before.course.purpose) (frames_lost earlier)
+          (step_counts u s.before s.told s.order one before.running taken.due taken.given whole before.alone w counted) before.frames;
+    }) after where
+      times : (m a b : ℕ) → m * (a + b) ≡ m * a + m * b
+      times m a b = omega arith
+
+      sum : (sent asked now before_it top m lost old : ℕ) → sent + now ≤ before_it + m * lost → asked + before_it ≤ top + m * old
+          → (sent + asked) + now ≤ top + m * (lost + old)
+      sum sent asked now before_it top m lost old step was = rw times (omega (arith, step, was))
+
+bounded : (u : ℕ) (steps : List Step) (n : Machine) → 1 ≤ u → IsCourse steps n → BeginsBySurvey steps → AreWhole steps → IsWhole n → AreCounted u steps
+    → Bounded u steps n
+bounded u [] n one course begins are whole counted = elim begins [ ]
+bounded u (s ∷ []) n one course begins are whole counted = first_bounded u s n begins course.1
+bounded u (s ∷ (r ∷ earlier)) n one course begins are whole counted =
+    more_bounded u s (r ∷ earlier) n one (bounded u (r ∷ earlier) s.before one course.0 begins are.1 are.0 counted.1) course.1 are.0 whole counted.0
+
+-- whoever may be silent twice
+always_counted : (m : Machine) (i : Input) → IsCounted 3 m i
+always_counted m i h is = inr (go m.asked) where
+  go : (k : ℕ) → 3 ≤ waits 3 k
+  go zero = omega arith
+  go (suc zero) = omega arith
+  go (suc (suc k)) = omega arith
+
+all_counted : (steps : List Step) → AreCounted 3 steps
+all_counted [] = tt
+all_counted (s ∷ earlier) = (always_counted s.before s.told, all_counted earlier)
+
+pub any_bounded : (steps : List Step) (n : Machine) → IsCourse steps n → BeginsBySurvey steps → AreWhole steps → IsWhole n
+    → frames_asked steps ≤ 320 + 5 * frames_lost steps
+any_bounded steps n course begins are whole =
+    let most : frames_asked steps + left 3 n ≤ 320 + 5 * frames_lost steps =
+    (bounded 3 steps n (omega arith) course begins are whole (all_counted steps)).frames in
+    omega (arith, most)
+
+-- nobody answers who was silent
+same_answer : (h k : Answer) → input.Heard h ≡ input.Heard k → h ≡ k
+same_answer h k same = cc
+
+steady_counted : (s : Step) → IsSteady s → IsCounted 1 s.before s.told
+steady_counted s (inl silent) h is = inl (same_answer h Silence (sym is ∙ silent))
+steady_counted s (inr none) h is = inr (rw none (omega arith))
+
+all_steady : (steps : List Step) → AreSteady steps → AreCounted 1 steps
+all_steady [] are = tt
+all_steady (s ∷ earlier) are = (steady_counted s are.0, all_steady earlier are.1)
+
+pub steady_bounded : (steps : List Step) (n : Machine) → IsCourse steps n → BeginsBySurvey steps → AreWhole steps → IsWhole n → AreSteady steps
+    → frames_asked steps ≤ 192 + 3 * frames_lost steps
+steady_bounded steps n course begins are whole steady =
+    let most : frames_asked steps + left 1 n ≤ 192 + 3 * frames_lost steps =
+    (bounded 1 steps n (omega arith) course begins are whole (all_steady steps steady)).frames in
+    omega (arith, most)

@@ -1,0 +1,53 @@
+use Rattle.std.specs.Prelude.{◌≡◌, ◌⊎◌, ℕ, ◌+◌, List, [], ◌∷◌}
+use Rattle.dali_frame.specs.declared.frames.Answer.TheVariants.{Silence}
+use Rattle.dali_script.specs.Records.{Kept}
+use Rattle.dali_script.specs.declared.orders.Input.{Input}
+use Rattle.dali_script.specs.declared.orders.Input.TheVariants as input
+use Rattle.dali_controller.specs.declared.purpose.Purpose.{Purpose}
+use Rattle.dali_controller.specs.declared.purpose.Purpose.TheVariants.{Asking}
+use Rattle.dali_controller.specs.Machine.{at_first}
+use Rattle.dali_controller.specs.Whole.{IsWhole}
+use Rattle.dali_progress.specs.Surveyed.{Step}
+
+-- THE SWEEP of a survey: the frames that ask short addresses for their random addresses.
+
+-- The course begins with a machine before its start, which is told to survey.
+abbrev pub IsSurveyed : Step → Type 0
+IsSurveyed s = (s.told ≡ input.Survey) × ((id : ℕ) × (k : Kept) × (s.before ≡ at_first id k))
+
+abbrev pub BeginsBySurvey : List Step → Type 0
+BeginsBySurvey [] = ⊥
+BeginsBySurvey (s ∷ []) = IsSurveyed s
+BeginsBySurvey (s ∷ (r ∷ earlier)) = BeginsBySurvey (r ∷ earlier)
+
+-- each machine of it is whole, as the contract of a step says of the machine that it leaves
+abbrev pub AreWhole : List Step → Type 0
+AreWhole [] = Unit {0}
+AreWhole (s ∷ earlier) = IsWhole s.before × AreWhole earlier
+
+-- the frames of the sweep that were sent, and those that were destroyed or not sent
+abbrev pub was_sent : Input → Purpose → ℕ
+was_sent (input.Heard h) (Asking a) = 1
+was_sent _ p = 0
+
+abbrev pub was_lost : Input → Purpose → ℕ
+was_lost input.Destroyed (Asking a) = 1
+was_lost input.Lapsed (Asking a) = 1
+was_lost _ p = 0
+
+abbrev pub frames_asked : List Step → ℕ
+frames_asked [] = 0
+frames_asked (s ∷ earlier) =
+    was_sent s.told s.before.course.purpose + frames_asked earlier
+
+abbrev pub frames_lost : List Step → ℕ
+frames_lost [] = 0
+frames_lost (s ∷ earlier) = was_lost s.told s.before.course.purpose + frames_lost earlier
+
+-- Whoever is there answers at once: where a short address was silent, it is silent again.
+abbrev pub IsSteady : Step → Type 0
+IsSteady s = (s.told ≡ input.Heard Silence) ⊎ (s.before.asked ≡ 0)
+
+abbrev pub AreSteady : List Step → Type 0
+AreSteady [] = Unit {0}
+AreSteady (s ∷ earlier) = IsSteady s × AreSteady earlier
