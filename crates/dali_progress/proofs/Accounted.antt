@@ -1,4 +1,4 @@
-use Rattle.std.proofs.Common.{◌≡◌, ℕ, ◌+◌, ◌*◌, ◌%◌, ◌^◌, ◌<◌, ◌≤◌, ◌⊎◌, inl, inr, Bool, true, false, List, [], ◌∷◌, ◌++◌, refl, sym, ap, subst, ◌∙◌, arith}
+use Rattle.std.proofs.Common.{◌≡◌, ℕ, ◌+◌, ◌*◌, ◌%◌, ◌^◌, ◌<◌, ◌≤◌, ◌⊎◌, inl, inr, Bool, true, false, List, [], ◌∷◌, refl, sym, ap, subst, ◌∙◌, arith}
 use Rattle.std.proofs.Common.{Option, Some, None, w64}
 use Rattle.std.specs.Prelude.{◌==◌, ◌&&◌, ◌||◌, ◌-◌, nat_eq, max, not, is_some, zero, suc, MatchOption, if◌then◌else◌, bit_or}
 use Rattle.dali_script.specs.declared.orders.Due.TheVariants as due
@@ -40,7 +40,7 @@ use Rattle.dali_controller.proofs.Courses.{found_number}
 use Rattle.dali_controller.specs.Orders.{IsGiven, IsSought, IsAnswered, IsOrdered, AfterFinding, AfterReserved, AfterMaskBy, AfterMaskOn, AfterMaskSurveyed}
 use Rattle.dali_controller.specs.Orders.{machine_after}
 use Rattle.dali_controller.specs.Orders.{machine_ordered}
-use Rattle.dali_progress.specs.Surveyed.{Step, IsTaken, IsCourse, stage_told, heard_at, heard_by, Hears, WasHeard, IsPlain, ArePlain, IsAccounted}
+use Rattle.dali_progress.specs.Surveyed.{Step, IsTaken, IsCourse, stage_told, heard_at, heard_by, WasHeard, IsPlain, ArePlain, IsAccounted}
 
 -- WHO WAS HEARD IN A SURVEY IS ACCOUNTED FOR.
 
@@ -204,7 +204,7 @@ marked_step m input.CommitFailed o a small plain due given has = inl has
 never_due : (last : Option Order) (w : Fault) (i : Input) → last ≡ Some (Halt w) → accepts (due_after last) i ≡ true → ⊥
 never_due last w i is due = let none : false ≡ true = subst (λ l. accepts (due_after l) i ≡ true) is due in cc
 
-accounted_stays : (s : Step) (n : Machine) (a : ℕ) → a < 64 → IsTaken s n → IsPlain (stage_told s) → IsAccounted s.before a → IsAccounted n a
+pub accounted_stays : (s : Step) (n : Machine) (a : ℕ) → a < 64 → IsTaken s n → IsPlain (stage_told s) → IsAccounted s.before a → IsAccounted n a
 accounted_stays s n a small taken plain was = subst (λ (x : Machine). IsAccounted x a) (sym taken.after) (go was) where
   go : IsAccounted s.before a → IsAccounted (machine_after s.before s.told s.order) a
   go (inl has) = marked_step s.before s.told s.order a small plain taken.due taken.given has
@@ -221,7 +221,7 @@ heard_of_survey (Resolving c) h s a e = absurd (cc)
 heard_of_survey (Closing x) h s a e = absurd (cc)
 heard_of_survey Waking h s a e = absurd (cc)
 
-accounted_by : (m : Machine) (i : Input) (o : Order) (a : ℕ) → a < 64 → IsPlain (stage_of (machine_told m i).trace) → accepts (due_after m.last) i ≡ true
+pub accounted_by : (m : Machine) (i : Input) (o : Order) (a : ℕ) → a < 64 → IsPlain (stage_of (machine_told m i).trace) → accepts (due_after m.last) i ≡ true
     → IsGiven m i o → heard_by i m.course.purpose (stage_of (machine_told m i).trace) ≡ Some a → IsAccounted (machine_after m i o) a
 accounted_by m (input.Heard h) o a small plain due given e =
     let is = heard_of_survey m.course.purpose h (stage_of (machine_told m (input.Heard h)).trace) a e in
@@ -305,21 +305,26 @@ given_open m input.Destroyed a n other answered = ordered_open (machine_told m i
 given_open m input.Lapsed a n other answered = ordered_open (machine_told m input.Lapsed) a n other answered
 given_open m input.Committed a n other answered = ordered_open (machine_told m input.Committed) a n other answered
 
--- so it reserves no address under which somebody was heard
-pub never_reserved : (s : Step) (earlier : List Step) (n : Machine) (a r : ℕ) → a < 64 → IsCourse (s ∷ earlier) n → ArePlain (s ∷ earlier)
-    → s.order ≡ Commit (Reserve a r) → (n.course.way ≡ Fresh → ⊥) → WasHeard (s ∷ earlier) a → ⊥
-never_reserved s earlier n a r small course plain is other heard =
+-- so it reserves no address that is accounted for
+pub unreserved : (s : Step) (n : Machine) (a r : ℕ) → IsTaken s n → s.order ≡ Commit (Reserve a r) → (n.course.way ≡ Fresh → ⊥) → IsAccounted n a → ⊥
+unreserved s n a r taken is other counts =
     let t : Machine = machine_told s.before s.told in
-    let after : n ≡ machine_ordered t (Commit (Reserve a r)) = course.1.after ∙ ap (machine_ordered t) is in
+    let after : n ≡ machine_ordered t (Commit (Reserve a r)) = taken.after ∙ ap (machine_ordered t) is in
     let surveys : t.course.way ≡ Fresh → ⊥ = λ e. other (ap (λ (x : Machine). x.course.way) after ∙ e) in
-    let open_there = given_open s.before s.told a r surveys (subst (IsAnswered s.before s.told) is course.1.given.answered) in
-    go t open_there (subst (λ (x : Machine). IsAccounted x a) after (accounted (s ∷ earlier) n a small course plain heard))
+    let open_there = given_open s.before s.told a r surveys (subst (IsAnswered s.before s.told) is taken.given.answered) in
+    go t open_there (subst (λ (x : Machine). IsAccounted x a) after counts)
   where
     go : (t : Machine) → is_open t.kept t.heard a ≡ true → IsAccounted (machine_ordered t (Commit (Reserve a r))) a → ⊥
     go t free (inl marked) = open_unmarked t.kept t.heard a free marked
     go t free (inr (inl (q, has))) = open_unenrolled t.kept t.heard a q free has
     go t free (inr (inr (inl (q, last)))) = cc
     go t free (inr (inr (inr (w, last)))) = cc
+
+-- and none under which somebody was heard
+pub never_reserved : (s : Step) (earlier : List Step) (n : Machine) (a r : ℕ) → a < 64 → IsCourse (s ∷ earlier) n → ArePlain (s ∷ earlier)
+    → s.order ≡ Commit (Reserve a r) → (n.course.way ≡ Fresh → ⊥) → WasHeard (s ∷ earlier) a → ⊥
+never_reserved s earlier n a r small course plain is other heard =
+    unreserved s n a r course.1 is other (accounted (s ∷ earlier) n a small course plain heard)
 
 -- what is reserved is given unless it is another's
 false_both : (one two : Bool) → (one || two) ≡ false → (one ≡ false) × (two ≡ false)

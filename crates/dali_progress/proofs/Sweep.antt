@@ -1,5 +1,6 @@
--- How many frames a sweep sends: what may still be sent, which each frame makes fewer.
+-- The sweep of a survey: how many frames it sends, and that what is given afterwards was silent.
 pub mod Left
 pub mod Asked
 pub mod Others
 pub mod Course
+pub mod Silent

@@ -1,4 +1,4 @@
-use Rattle.std.specs.Prelude.{◌≡◌, ◌⊎◌, ℕ, ◌+◌, List, [], ◌∷◌}
+use Rattle.std.specs.Prelude.{◌≡◌, ◌⊎◌, ℕ, ◌+◌, List, [], ◌∷◌, None}
 use Rattle.dali_frame.specs.declared.frames.Answer.TheVariants.{Silence}
 use Rattle.dali_script.specs.Records.{Kept}
 use Rattle.dali_script.specs.declared.orders.Input.{Input}
@@ -7,7 +7,8 @@ use Rattle.dali_controller.specs.declared.purpose.Purpose.{Purpose}
 use Rattle.dali_controller.specs.declared.purpose.Purpose.TheVariants.{Asking}
 use Rattle.dali_controller.specs.Machine.{at_first}
 use Rattle.dali_controller.specs.Whole.{IsWhole}
-use Rattle.dali_progress.specs.Surveyed.{Step}
+use Rattle.dali_script.specs.declared.stage.Stage.TheVariants as stage
+use Rattle.dali_progress.specs.Surveyed.{Step, stage_told}
 
 -- THE SWEEP of a survey: the frames that ask short addresses for their random addresses.
 
@@ -51,3 +52,15 @@ IsSteady s = (s.told ≡ input.Heard Silence) ⊎ (s.before.asked ≡ 0)
 abbrev pub AreSteady : List Step → Type 0
 AreSteady [] = Unit {0}
 AreSteady (s ∷ earlier) = IsSteady s × AreSteady earlier
+
+-- A SHORT ADDRESS WAS SILENT: its question was heard as silence, after it had been so twice in a
+-- row.
+pub record FallsSilent (s : Step) (a : ℕ) : Type 0 where
+  pub told : s.told ≡ input.Heard Silence
+  pub asking : s.before.course.purpose ≡ Asking a
+  pub question : stage_told s ≡ stage.HighAsked a None
+  pub twice : s.before.asked ≡ 2
+
+abbrev pub WasSilent : List Step → ℕ → Type 0
+WasSilent [] a = ⊥
+WasSilent (s ∷ earlier) a = FallsSilent s a ⊎ WasSilent earlier a

@@ -39,7 +39,7 @@ ghost use Rattle.dali_progress.specs.Rounds.{IsTabled};
 ghost use Rattle.dali_progress.specs.Surveyed.{Step, IsCourse, ArePlain, WasHeard, IsAccounted, HasSurveyed};
 ghost use Rattle.dali_progress.specs.Surveyed.{stage_told};
 ghost use Rattle.dali_progress.specs.Spared.{ReservesBySurvey};
-ghost use Rattle.dali_progress.specs.Swept.{BeginsBySurvey, AreWhole, AreSteady, frames_asked, frames_lost};
+ghost use Rattle.dali_progress.specs.Swept.{BeginsBySurvey, AreWhole, AreSteady, frames_asked, frames_lost, WasSilent};
 ghost use Rattle.dali_progress.specs.Running.{HasCommissioned, WasRefused};
 
 /// A new site with one controller is one on which it starts alone.
@@ -149,6 +149,15 @@ pub fn a_sweep_is_bounded()
         → IsWhole n → frames_asked steps ≤ 320 + 5 * frames_lost steps }
     ensures steady { (steps : List Step) (n : Machine) → IsCourse steps n → BeginsBySurvey steps → AreWhole steps
         → IsWhole n → AreSteady steps → frames_asked steps ≤ 192 + 3 * frames_lost steps }
+{}
+
+/// WHAT A SURVEY RESERVES WAS SILENT. Where a machine that began by a survey orders to reserve a short address, it has
+/// asked that address, and heard silence three times in a row. It says so of every list of inputs that are due,
+/// whatever bus, store and other controllers do.
+pub fn what_is_reserved_was_silent()
+    ensures { (s : Step) (earlier : List Step) (n : Machine) (a r : ℕ) → a < 64 → IsCourse (s ∷ earlier) n
+        → BeginsBySurvey (s ∷ earlier) → ArePlain (s ∷ earlier) → AreWhole (s ∷ earlier) → IsWhole n
+        → s.order ≡ Commit (Reserve a r) → HasSurveyed n → WasSilent (s ∷ earlier) a }
 {}
 
 /// USED GEAR THAT WERE HEARD ARE LEFT ALONE. Of a site some of whose gear come with short addresses, all different:

@@ -98,24 +98,29 @@ same_left u t n is surveys =
 -- ---------------------------------------------------------------- a frame of the sweep
 
 -- WHERE the transaction of a question is: which frame is sent after which
-abbrev Asks : ℕ → Stage → Command → Type 0
+abbrev pub Asks : ℕ → Stage → Command → Type 0
 Asks a s c =
     ((s ≡ stage.Free) × (c ≡ RandomByte a High))
-    ⊎ (((b : ℕ) × (x : ℕ) × (s ≡ stage.HighAsked b (Some x)) × (c ≡ RandomByte b Middle))
-    ⊎ ((b : ℕ) × (x : ℕ × ℕ) × (s ≡ stage.MiddleAsked b (Some x)) × (c ≡ RandomByte b Low)))
+    ⊎ (((b : ℕ) × (x : ℕ) × (s ≡ stage.HighAsked b (Some x)) × (c ≡ RandomByte b Middle) × (b ≡ a))
+    ⊎ ((b : ℕ) × (x : ℕ × ℕ) × (s ≡ stage.MiddleAsked b (Some x)) × (c ≡ RandomByte b Low) × (b ≡ a)))
 
 some_same : {A : Type 0} (x y : A) → Some x ≡ Some y → x ≡ y
 some_same x y same = cc
 
-asks_of : (k : Kept) (n : SearchAddress) (a : ℕ) (s : Stage) (c : Command) → Sends k n (Asking a) s c → Asks a s c
+same_asked : (a b : ℕ) → (Asking a ≡ Resolving b) ⊎ (Asking a ≡ Asking b) → b ≡ a
+same_asked a b (inl e) = absurd (cc)
+same_asked a b (inr e) = cc
+
+pub asks_of : (k : Kept) (n : SearchAddress) (a : ℕ) (s : Stage) (c : Command) → Sends k n (Asking a) s c → Asks a s c
 asks_of k n a stage.Free c sends = inl (refl, sends.0)
-asks_of k n a (stage.HighAsked b (Some x)) c sends = inr (inl (b, x, refl, sym (some_same (RandomByte b Middle) c sends.0)))
-asks_of k n a (stage.MiddleAsked b (Some x)) c sends = inr (inr (b, x, refl, sym (some_same (RandomByte b Low) c sends.0)))
+asks_of k n a (stage.HighAsked b (Some x)) c sends = inr (inl (b, x, refl, sym (some_same (RandomByte b Middle) c sends.0), same_asked a b sends.1.0))
+asks_of k n a (stage.MiddleAsked b (Some x)) c sends = inr (inr (b, x, refl, sym (some_same (RandomByte b Low) c sends.0), same_asked a b sends.1.0))
 asks_of k n a (stage.Unnamed r) c sends = absurd (let other = sends.0 in cc)
 asks_of k n a _ c sends = absurd (let none = sends.0 in cc)
 
 -- a machine that sends a later frame is where that frame is sent
-later_asks : (t : Machine) (f : Forward) (a : ℕ) (s : Stage) → t.course.purpose ≡ Asking a → stage_of t.trace ≡ s → IsWhole (machine_ordered t (Put LATER f))
+pub later_asks : (t : Machine) (f : Forward) (a : ℕ) (s : Stage) → t.course.purpose ≡ Asking a → stage_of t.trace ≡ s
+    → IsWhole (machine_ordered t (Put LATER f))
     → Asks a s (command_of f)
 later_asks t f a s purpose at whole =
     asks_of t.kept t.course.number a s (command_of f)
@@ -174,9 +179,9 @@ first_left u t a k h one surveys purpose at asked steady =
             → 1 + left u (machine_ordered t (Put LATER f)) ≤ beyond u t.course.from + waits u k
         go (inr enough) asks = rw (same_left u t (machine_ordered t (Put LATER f)) refl surveys, two) (omega (arith, enough))
         go (inl silent) (inl other) = absurd (let never = other.0 in cc)
-        go (inl silent) (inr (inl (b, x, same, c))) =
+        go (inl silent) (inr (inl (b, x, same, c, here))) =
             absurd (let none : stage.HighAsked a None ≡ stage.HighAsked b (Some x) = ap (λ r. stage.HighAsked a (byte_heard r)) (sym silent) ∙ same in cc)
-        go (inl silent) (inr (inr (b, x, same, c))) = absurd (cc)
+        go (inl silent) (inr (inr (b, x, same, c, here))) = absurd (cc)
 
 -- a later query was heard: more of the transaction follows, or another begins
 over_left : (u : ℕ) (t : Machine) (a r : ℕ) (s : Stage) → 1 ≤ r → t.course.way ≡ Surveying → t.course.purpose ≡ Asking a → stage_of t.trace ≡ s
@@ -203,7 +208,7 @@ over_left u t a r s one surveys purpose at over more =
           let fewer : at_stage u t.asked s + 1 ≤ r = more (command_of f) (later_asks t f a s purpose at whole) in
           rw (same_left u t (machine_ordered t (Put LATER f)) refl surveys, here) (omega (arith, fewer))
 
-self : (b : ℕ) → (b == b) ≡ true
+pub self : (b : ℕ) → (b == b) ≡ true
 self b = grind (arith, nat_tests)
 
 -- a frame of the sweep that was heard
@@ -237,11 +242,11 @@ sent_left u m h p f a one surveys purpose last whole steady o may after =
           let next : next_stage (stage_of m.trace) (command_of f) h ≡ stage.HighAsked a (byte_heard h) = rw (free, high) refl in
           let silent : (machine_heard m (Some f) h).asked ≡ asked_at (stage.HighAsked a (byte_heard h)) h m.asked = rw (purpose, at ∙ next) refl in
           rw free (first_left u (machine_heard m (Some f) h) a m.asked h one surveys purpose (at ∙ next) silent steady o may after)
-      go (inr (inl (b, x, same, middle))) =
+      go (inr (inl (b, x, same, middle, one_asked))) =
           let next : next_stage (stage_of m.trace) (command_of f) h ≡ stage.MiddleAsked b (bytes_heard (Some x) h) = rw (same, middle, self b) refl in
           rw same (over_left u (machine_heard m (Some f) h) a 2 (stage.MiddleAsked b (bytes_heard (Some x) h)) (omega arith) surveys purpose (at ∙ next) refl
           (λ c asks. omega arith) o may after)
-      go (inr (inr (b, x, same, low))) =
+      go (inr (inr (b, x, same, low, one_asked))) =
           let next : next_stage (stage_of m.trace) (command_of f) h ≡ stage.Spelled b (number_heard (Some x) h) = rw (same, low, self b) refl in
           rw same (over_left u (machine_heard m (Some f) h) a 1 (stage.Spelled b (number_heard (Some x) h)) (omega arith) surveys purpose (at ∙ next) refl
           (λ c asks. absurd (never asks)) o may after) where

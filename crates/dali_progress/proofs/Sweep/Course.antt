@@ -31,16 +31,17 @@ use Rattle.dali_progress.proofs.Sweep.Others.{Rests, asking_or, any_left, calm_l
 -- ---------------------------------------------------------------- a step
 
 -- a record that is outstanding ended the transaction before it
-abbrev IsAlone : Machine → Type 0
+abbrev pub IsAlone : Machine → Type 0
 IsAlone m = (x : Record) → m.last ≡ Some (Commit x) → m.trace ≡ []
 
-alone_after : (t : Machine) (o : Order) → IsAlone (machine_ordered t o)
+pub alone_after : (t : Machine) (o : Order) → IsAlone (machine_ordered t o)
 alone_after t (Commit y) x is = refl
 alone_after t (Put p f) x is = absurd (cc)
 alone_after t (Done e) x is = absurd (cc)
 alone_after t (Halt w) x is = absurd (cc)
 
-put_is : (last : Option Order) (i : Input) → accepts due.Bus i ≡ true → accepts (due_after last) i ≡ true → (p : ℕ) × (f : Forward) × (last ≡ Some (Put p f))
+pub put_is : (last : Option Order) (i : Input) → accepts due.Bus i ≡ true → accepts (due_after last) i ≡ true
+    → (p : ℕ) × (f : Forward) × (last ≡ Some (Put p f))
 put_is (Some (Put p f)) i bus e = (p, f, refl)
 put_is None (input.Heard h) bus e = absurd (cc)
 put_is None input.Destroyed bus e = absurd (cc)
@@ -55,14 +56,14 @@ put_is last input.Survey bus e = absurd (cc)
 put_is last input.Committed bus e = absurd (cc)
 put_is last input.CommitFailed bus e = absurd (cc)
 
-commit_is : (last : Option Order) → accepts (due_after last) input.Committed ≡ true → (x : Record) × (last ≡ Some (Commit x))
+pub commit_is : (last : Option Order) → accepts (due_after last) input.Committed ≡ true → (x : Record) × (last ≡ Some (Commit x))
 commit_is None e = absurd (cc)
 commit_is (Some (Put p f)) e = absurd (cc)
 commit_is (Some (Commit x)) e = (x, refl)
 commit_is (Some (Done e)) due = absurd (cc)
 commit_is (Some (Halt w)) due = absurd (cc)
 
-started : (last : Option Order) (i : Input) → accepts due.Start i ≡ true → accepts (due_after last) i ≡ true → last ≡ None
+pub started : (last : Option Order) (i : Input) → accepts due.Start i ≡ true → accepts (due_after last) i ≡ true → last ≡ None
 started None i start e = refl
 started (Some (Put p f)) input.Start start e = absurd (cc)
 started (Some (Put p f)) input.Survey start e = absurd (cc)
@@ -237,7 +238,7 @@ record Bounded (u : ℕ) (steps : List Step) (n : Machine) : Type 0 where
   alone : IsAlone n
   frames : frames_asked steps + left u n ≤ (u + 2) * 64 + (u + 2) * frames_lost steps
 
-runs_after : (t : Machine) (o : Order) → (machine_ordered t o).last ≡ None → ⊥
+pub runs_after : (t : Machine) (o : Order) → (machine_ordered t o).last ≡ None → ⊥
 runs_after t o e = cc
 
 first_bounded : (u : ℕ) (s : Step) (n : Machine) → IsSurveyed s → IsTaken s n → Bounded u (s ∷ []) n
