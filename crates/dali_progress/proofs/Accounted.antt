@@ -125,7 +125,7 @@ settled t a n (Commit x) is = inr (inr (inl (n, ap (λ y. Some (Commit y)) is)))
 settled t a n (Done e) is = elim is [ ]
 settled t a n (Halt w) is = inr (inr (inr (w, refl)))
 
-put_of : (last : Option Order) (h : Answer) → accepts (due_after last) (input.Heard h) ≡ true → (f : Forward) × (frame_put last ≡ Some f)
+pub put_of : (last : Option Order) (h : Answer) → accepts (due_after last) (input.Heard h) ≡ true → (f : Forward) × (frame_put last ≡ Some f)
 put_of None h e = absurd (cc)
 put_of (Some (Put p f)) h e = (f, refl)
 put_of (Some (Commit x)) h e = absurd (cc)
@@ -136,7 +136,7 @@ told_heard : (m : Machine) (f : Forward) (h : Answer) → frame_put m.last ≡ S
     → (machine_told m (input.Heard h)).heard ≡ heard_after m.course.purpose (stage_of (machine_told m (input.Heard h)).trace) h m.heard
 told_heard m f h e = rw e refl
 
-told_course : (m : Machine) (f : Forward) (h : Answer) → frame_put m.last ≡ Some f → (machine_told m (input.Heard h)).course ≡ m.course
+pub told_course : (m : Machine) (f : Forward) (h : Answer) → frame_put m.last ≡ Some f → (machine_told m (input.Heard h)).course ≡ m.course
 told_course m f h e = rw e refl
 
 heard_step : (m : Machine) (h : Answer) (o : Order) (a : ℕ) → accepts (due_after m.last) (input.Heard h) ≡ true → IsGiven m (input.Heard h) o
@@ -162,7 +162,7 @@ enrolled_stays k (Reserve a r) y has = has
 enrolled_stays k (Enrol a r) y has = has_left k.enrolled ((a, r) ∷ []) y has
 enrolled_stays k (Release a r) y has = has
 
-told_enrolled : (m : Machine) (i : Input) (y : Assignment) → Has m.kept.enrolled y → Has (machine_told m i).kept.enrolled y
+pub told_enrolled : (m : Machine) (i : Input) (y : Assignment) → Has m.kept.enrolled y → Has (machine_told m i).kept.enrolled y
 told_enrolled m input.Start y has = has
 told_enrolled m input.Survey y has = has
 told_enrolled m (input.Heard h) y has = go (frame_put m.last) where
@@ -201,7 +201,7 @@ marked_step m input.Lapsed o a small plain due given has = inl has
 marked_step m input.Committed o a small plain due given has = inl (ap (λ s. has_short s a) (committed_heard m (record_ordered m.last)) ∙ has)
 marked_step m input.CommitFailed o a small plain due given has = inl has
 
-never_due : (last : Option Order) (w : Fault) (i : Input) → last ≡ Some (Halt w) → accepts (due_after last) i ≡ true → ⊥
+pub never_due : (last : Option Order) (w : Fault) (i : Input) → last ≡ Some (Halt w) → accepts (due_after last) i ≡ true → ⊥
 never_due last w i is due = let none : false ≡ true = subst (λ l. accepts (due_after l) i ≡ true) is due in cc
 
 pub accounted_stays : (s : Step) (n : Machine) (a : ℕ) → a < 64 → IsTaken s n → IsPlain (stage_told s) → IsAccounted s.before a → IsAccounted n a

@@ -1,6 +1,7 @@
--- The sweep of a survey: how many frames it sends, and that what is given afterwards was silent.
+-- The sweep of a survey: how many frames it sends, that what is given afterwards was silent, and who is in the table.
 pub mod Left
 pub mod Asked
 pub mod Others
 pub mod Course
 pub mod Silent
+pub mod Told

@@ -1,11 +1,16 @@
-use Rattle.std.specs.Prelude.{◌≡◌, ◌⊎◌, ℕ, ◌+◌, List, [], ◌∷◌, None}
+use Rattle.std.specs.Prelude.{◌≡◌, ◌⊎◌, ℕ, ◌+◌, ◌<◌, List, [], ◌∷◌, Some, None}
+use Rattle.dali_frame.specs.declared.frames.Answer.{Answer}
 use Rattle.dali_frame.specs.declared.frames.Answer.TheVariants.{Silence}
-use Rattle.dali_script.specs.Records.{Kept}
+use Rattle.dali_frame.specs.Random.{MASK24}
+use Rattle.dali_script.specs.declared.records.Record.TheVariants.{Enrol}
+use Rattle.dali_script.specs.declared.orders.Fault.{Fault}
+use Rattle.dali_script.specs.declared.orders.Order.TheVariants.{Commit, Halt}
+use Rattle.dali_script.specs.Records.{Kept, Has}
 use Rattle.dali_script.specs.declared.orders.Input.{Input}
 use Rattle.dali_script.specs.declared.orders.Input.TheVariants as input
 use Rattle.dali_controller.specs.declared.purpose.Purpose.{Purpose}
 use Rattle.dali_controller.specs.declared.purpose.Purpose.TheVariants.{Asking}
-use Rattle.dali_controller.specs.Machine.{at_first}
+use Rattle.dali_controller.specs.Machine.{Machine, at_first}
 use Rattle.dali_controller.specs.Whole.{IsWhole}
 use Rattle.dali_script.specs.declared.stage.Stage.TheVariants as stage
 use Rattle.dali_progress.specs.Surveyed.{Step, stage_told}
@@ -64,3 +69,21 @@ pub record FallsSilent (s : Step) (a : ℕ) : Type 0 where
 abbrev pub WasSilent : List Step → ℕ → Type 0
 WasSilent [] a = ⊥
 WasSilent (s ∷ earlier) a = FallsSilent s a ⊎ WasSilent earlier a
+
+-- A GEAR TOLD ITS RANDOM ADDRESS: three bytes were heard under its short address, of a number that
+-- gear draw.
+pub record Tells (s : Step) (a r : ℕ) : Type 0 where
+  pub heard : (h : Answer) × (s.told ≡ input.Heard h)
+  pub asking : (b : ℕ) × (s.before.course.purpose ≡ Asking b)
+  pub number : stage_told s ≡ stage.Spelled a (Some r)
+  pub drawn : r < MASK24
+
+abbrev pub WasTold : List Step → ℕ → ℕ → Type 0
+WasTold [] a r = ⊥
+WasTold (s ∷ earlier) a r = Tells s a r ⊎ WasTold earlier a r
+
+-- whose number the table has, or is about to have; or the machine has halted
+abbrev pub IsNamed : Machine → ℕ → ℕ → Type 0
+IsNamed n a r =
+    Has n.kept.enrolled (a, r)
+    ⊎ ((n.last ≡ Some (Commit (Enrol a r))) ⊎ ((w : Fault) × (n.last ≡ Some (Halt w))))

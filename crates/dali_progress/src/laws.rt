@@ -40,6 +40,7 @@ ghost use Rattle.dali_progress.specs.Surveyed.{Step, IsCourse, ArePlain, WasHear
 ghost use Rattle.dali_progress.specs.Surveyed.{stage_told};
 ghost use Rattle.dali_progress.specs.Spared.{ReservesBySurvey};
 ghost use Rattle.dali_progress.specs.Swept.{BeginsBySurvey, AreWhole, AreSteady, frames_asked, frames_lost, WasSilent};
+ghost use Rattle.dali_progress.specs.Swept.{WasTold, IsNamed};
 ghost use Rattle.dali_progress.specs.Running.{HasCommissioned, WasRefused};
 
 /// A new site with one controller is one on which it starts alone.
@@ -158,6 +159,13 @@ pub fn what_is_reserved_was_silent()
     ensures { (s : Step) (earlier : List Step) (n : Machine) (a r : ℕ) → a < 64 → IsCourse (s ∷ earlier) n
         → BeginsBySurvey (s ∷ earlier) → ArePlain (s ∷ earlier) → AreWhole (s ∷ earlier) → IsWhole n
         → s.order ≡ Commit (Reserve a r) → HasSurveyed n → WasSilent (s ∷ earlier) a }
+{}
+
+/// WHO TELLS ITS RANDOM ADDRESS IS IN THE TABLE. Where a machine asked a short address, and heard three bytes of a number
+/// that gear draw, that address is enrolled with that number from then on, or about to be, or the machine has halted;
+/// whoever gave the gear its address.
+pub fn who_tells_its_number_is_enrolled()
+    ensures { (steps : List Step) (n : Machine) (a r : ℕ) → IsCourse steps n → WasTold steps a r → IsNamed n a r }
 {}
 
 /// USED GEAR THAT WERE HEARD ARE LEFT ALONE. Of a site some of whose gear come with short addresses, all different:

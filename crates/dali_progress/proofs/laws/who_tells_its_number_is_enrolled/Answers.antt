@@ -1,0 +1,5 @@
+use Rattle.dali_progress.proofs.Sweep.Told.{who_told}
+use Rattle.dali_progress.proofs.laws.who_tells_its_number_is_enrolled.Goals as goal
+
+pub returns : goal.returns
+returns c = who_told
