@@ -4,7 +4,7 @@
 ghost use Rattle.std.specs.Prelude.{◌≡◌, ◌<◌};
 
 use super::threads::{Blanks, blanks, last_two, line_of};
-use super::values::Ordered::{Done, Enrol, Put, Reserve};
+use super::values::Ordered::{Commit, Done, Put};
 use super::values::{Ordered, forward, one_reserved, same, site_of};
 use arrayvec::ArrayVec;
 use dali_line::{Bus, Driver, Line, Port, Ready, UpRefusal};
@@ -112,7 +112,7 @@ fn reserves<B: Bus, R: Abort + Wait>(
     driver: &mut B::Driver,
     site: &mut SiteState,
 ) {
-    let frames = runs_until(rt, bus, port, driver, site, Reserve(0));
+    let frames = runs_until(rt, bus, port, driver, site, Commit("reserve", 0));
     same(rt, &frames, &Some(109));
 }
 
@@ -127,7 +127,7 @@ fn ends<B: Bus, R: Abort + Wait>(
 ) {
     same(
         rt,
-        &runs_until(rt, bus, port, driver, site, Enrol(0)),
+        &runs_until(rt, bus, port, driver, site, Commit("enrol", 0)),
         &Some(frames.0),
     );
     let end = Done(End::AllFound);

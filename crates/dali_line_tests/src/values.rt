@@ -40,30 +40,24 @@ fn bytes_of(frame: Forward) -> u16 {
     u16::from_be_bytes([frame.address_byte, frame.opcode_byte])
 }
 
-/// An order, by its numbers: the bytes of its frame, or the short address of its record.
+/// An order, by its numbers: the bytes of its frame, or the name of its record and its short address.
 #[derive(Clone, Copy, Debug, PartialEq, Eq)]
 pub enum Ordered {
     Put(u16),
-    Reserve(u8),
-    Enrol(u8),
-    Release(u8),
+    Commit(&'static str, u8),
     Done(End),
     Halt(Fault),
 }
 
 impl Ordered {
-    fn commit(record: Record) -> Ordered {
-        match record {
-            Record::Reserve(address, _) => Ordered::Reserve(address.number()),
-            Record::Enrol(address, _) => Ordered::Enrol(address.number()),
-            Record::Release(address, _) => Ordered::Release(address.number()),
-        }
+    fn commit(record: &Record) -> Ordered {
+        Ordered::Commit(record.name(), record.address().number())
     }
 
     pub fn of(order: Order) -> Ordered {
         match order {
             Order::Put(_, frame) => Ordered::Put(bytes_of(frame)),
-            Order::Commit(record) => Ordered::commit(record),
+            Order::Commit(record) => Ordered::commit(&record),
             Order::Done(end) => Ordered::Done(end),
             Order::Halt(fault) => Ordered::Halt(fault),
         }

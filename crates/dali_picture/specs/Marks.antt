@@ -5,7 +5,6 @@ use Rattle.dali_frame.specs.declared.frames.Answer.TheVariants as answer
 use Rattle.dali_special.specs.declared.command.Command.{Command}
 use Rattle.dali_special.specs.declared.command.Command.TheVariants as command
 use Rattle.dali_special.specs.Command.{command_of}
-use Rattle.dali_script.specs.declared.records.Record.TheVariants.{Reserve, Enrol, Release}
 use Rattle.dali_script.specs.declared.orders.Order.{Order}
 use Rattle.dali_script.specs.declared.orders.Order.TheVariants.{Put, Commit, Done, Halt}
 use Rattle.dali_events.specs.declared.event.Event.{Event}
@@ -47,9 +46,7 @@ heard_look answer.Damaged = reply.Damaged
 -- what a controller's order looks like
 abbrev pub order_look : Order → Look
 order_look (Put p f) = look.Asked (tone_of f)
-order_look (Commit (Reserve a r)) = look.Reserves
-order_look (Commit (Enrol a r)) = look.Enrols
-order_look (Commit (Release a r)) = look.Releases
+order_look (Commit x) = look.Commits x
 order_look (Done e) = look.Ended
 order_look (Halt w) = look.Halted
 

@@ -3,6 +3,7 @@
 ghost use Rattle.std.specs.Prelude.{◌≡◌, map, IfOk};
 ghost use Rattle.dali_picture.specs.Marks.{tone_of, heard_look, order_look, mark_of};
 
+use crate::played::append;
 use dali_frame::{Answer, Forward};
 use dali_script::{Order, Record};
 use dali_special::Command;
@@ -54,10 +55,8 @@ pub enum Reply {
 pub enum Look {
     /// A frame waits for the bus.
     Asked(Tone),
-    /// A reservation, an enrolment or a release is to be kept.
-    Reserves,
-    Enrols,
-    Releases,
+    /// This record is to be kept.
+    Commits(Record),
     /// A commissioning ended.
     Ended,
     /// A machine halted.
@@ -132,9 +131,7 @@ fn order_look(order: Order) -> Look
 {
     match order {
         Order::Put(_, frame) => Look::Asked(tone_of(frame)),
-        Order::Commit(Record::Reserve(..)) => Look::Reserves,
-        Order::Commit(Record::Enrol(..)) => Look::Enrols,
-        Order::Commit(Record::Release(..)) => Look::Releases,
+        Order::Commit(record) => Look::Commits(record),
         Order::Done(_) => Look::Ended,
         Order::Halt(_) => Look::Halted,
     }
@@ -206,7 +203,7 @@ pub fn marks_of(alloc: Global, log: &[Event]) -> Result<Vec<Mark>, AllocError>
 {
     let mut marks = Vec::with_capacity(alloc, log.len())?;
     for event in log {
-        marks.push(mark_of(*event))?;
+        append(&mut marks, &mark_of(*event))?;
     }
     Ok(marks)
 }

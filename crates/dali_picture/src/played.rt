@@ -67,7 +67,7 @@ fn keep_line<'a>(lines: &mut Vec<PlayedLine<'a>>, line: PlayedLine<'a>) -> Resul
 }
 
 /// Puts one item more at the end of a list.
-fn append<T: Copy>(list: &mut Vec<T>, item: &T) -> Result<(), AllocError>
+pub(crate) fn append<T: Copy>(list: &mut Vec<T>, item: &T) -> Result<(), AllocError>
     ensures { IfOk result (λ _. list.new.items ≡ list.old.items ++ item.now ∷ []) }
 {
     list.push(*item)?;

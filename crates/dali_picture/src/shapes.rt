@@ -6,6 +6,7 @@ use crate::stays::{Shown, Stay};
 use crate::transactions::{Purpose, Transaction};
 use crate::words::{push_event, push_fold, push_plain, push_short, push_shown, push_transaction};
 use dali_gear::InitialisationState;
+use dali_script::Record;
 use dali_world::Event;
 use std::alloc::AllocError;
 
@@ -32,14 +33,21 @@ fn reply_class(reply: Reply) -> &'static str {
     }
 }
 
+/// The class that shows which record is kept.
+fn record_class(record: Record) -> &'static str {
+    match record {
+        Record::Reserve(..) => "p",
+        Record::Enrol(..) => "e",
+        Record::Release(..) => "x",
+    }
+}
+
 /// The shape of a mark, and its classes.
 fn shape_of(look: Look) -> (&'static str, &'static str, &'static str) {
     match look {
         Look::Asked(tone) => ("ask", tone_class(tone), ""),
         Look::Sent(tone, reply) => ("frame", tone_class(tone), reply_class(reply)),
-        Look::Reserves => ("commit", "p", ""),
-        Look::Enrols => ("commit", "e", ""),
-        Look::Releases => ("commit", "x", ""),
+        Look::Commits(record) => ("commit", record_class(record), ""),
         Look::Ended => ("end", "e", ""),
         Look::Halted => ("end", "h", ""),
         Look::Destroyed => ("struck", "h", ""),

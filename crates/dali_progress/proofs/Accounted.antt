@@ -11,13 +11,12 @@ use Rattle.dali_frame.specs.declared.frames.Forward.{Forward}
 use Rattle.dali_frame.specs.declared.numbers.SearchAddress.{SearchAddress}
 use Rattle.dali_frame.specs.Random.{value_of, MASK24}
 use Rattle.dali_script.specs.declared.records.Record.{Record}
-use Rattle.dali_script.specs.declared.records.Record.TheVariants.{Reserve, Enrol, Release}
+use Rattle.dali_script.specs.declared.records.Record.TheVariants.{Reserve, Enrol}
 use Rattle.dali_script.specs.declared.stage.Stage.{Stage}
 use Rattle.dali_script.specs.declared.stage.Stage.TheVariants as stage
-use Rattle.dali_script.specs.Records.{Kept, Assignment, Has, HasAddress, with_record}
+use Rattle.dali_script.specs.Records.{Kept, Assignment, Has, HasAddress}
 use Rattle.dali_script.specs.Stages.{stage_of}
-use Rattle.dali_script.proofs.Lists.{has_last, has_map}
-use Rattle.dali_script.proofs.Members.{has_left}
+use Rattle.dali_script.proofs.Lists.{has_last, has_map, enrolled_stays}
 use Rattle.dali_script.specs.declared.orders.Input.{Input}
 use Rattle.dali_script.specs.declared.orders.Input.TheVariants as input
 use Rattle.dali_script.specs.declared.orders.Order.{Order}
@@ -156,11 +155,6 @@ heard_step m h o a due given (inr (b, asks, (n, told, less))) =
 committed_heard : (m : Machine) (x : Option Record) → (machine_committed m x).heard ≡ m.heard
 committed_heard m None = refl
 committed_heard m (Some x) = refl
-
-enrolled_stays : (k : Kept) (x : Record) (y : Assignment) → Has k.enrolled y → Has (with_record k x).enrolled y
-enrolled_stays k (Reserve a r) y has = has
-enrolled_stays k (Enrol a r) y has = has_left k.enrolled ((a, r) ∷ []) y has
-enrolled_stays k (Release a r) y has = has
 
 pub told_enrolled : (m : Machine) (i : Input) (y : Assignment) → Has m.kept.enrolled y → Has (machine_told m i).kept.enrolled y
 told_enrolled m input.Start y has = has

@@ -13,13 +13,12 @@ use Rattle.dali_arbiter.specs.Arbiter.{total, next, request_of}
 use Rattle.dali_frame.specs.Priority.{FIRST, LATER}
 use Rattle.dali_gear.specs.Gear.{Gear}
 use Rattle.dali_script.specs.declared.block.Block.{Block}
-use Rattle.dali_script.specs.Records.{Kept, IsKept, IsFull, without_records}
+use Rattle.dali_script.specs.Records.{Kept, IsKept, without_records}
 use Rattle.dali_script.specs.declared.orders.Input.{Input}
 use Rattle.dali_script.specs.declared.orders.Input.TheVariants as input
 use Rattle.dali_script.specs.declared.orders.Order.{Order}
 use Rattle.dali_script.specs.declared.orders.Order.TheVariants.{Put, Commit, Done, Halt}
 use Rattle.dali_script.specs.declared.orders.End.{End}
-use Rattle.dali_script.specs.declared.orders.End.TheVariants.{AllFound, BlockFull, GaveUp}
 use Rattle.dali_controller.specs.Machine.{Machine, at_first}
 use Rattle.dali_controller.specs.Orders.{IsGiven, machine_after}
 use Rattle.dali_events.specs.declared.event.Event.{Event}
@@ -37,10 +36,10 @@ use Rattle.dali_standing.specs.Seats.{MayAnswer}
 use Rattle.dali_standing.specs.Standing.{machine_in, machines_at, machines_after}
 use Rattle.dali_world.specs.Site.{SiteState, opened_site, world, site_logged, machines, machine_at, next_request}
 use Rattle.dali_world.proofs.Logs.{machines_more, records_now}
-use Rattle.dali_progress.specs.Rounds.{StartsAlone, Succeeds, IsOfRound, Rounds, site_after, is_frame, frames, GoesOn, HasEnded, HasNext, IsDone, AreTabled}
+use Rattle.dali_progress.specs.Rounds.{StartsAlone, Succeeds, IsOfRound, Rounds, site_after, is_frame, frames, GoesOn, HasEnded, HasNext, EndsWell, IsDone}
+use Rattle.dali_progress.specs.Rounds.{AreTabled}
 use Rattle.dali_progress.specs.Rounds.{IsTabled}
 use Rattle.dali_progress.proofs.Lone.{still, Heard, Moment}
-use Rattle.dali_progress.proofs.Stands.{EndsWell}
 use Rattle.dali_progress.proofs.Goes.{Goes, Holds, IsKnown, slack_in, acted_less, sent_less, goes_acted, goes_sent}
 
 -- A LIST OF EVENTS OF ROUNDS, one after the other.
@@ -305,13 +304,9 @@ ended_by s c es e a rounds ended =
     (world (site_after s es)).gear all.rest ended g.holds in
     (all.runs.machine, g.lone.kept, well.0, well.1)
 
-done_by : (s : SiteState) (c : ℕ) (e : End) (m : Machine) → m.kept ≡ (controller_at (world s) c).records → EndsWell e m.kept (world s).gear → IsDone s c e
-done_by s c AllFound m kept well = well
-done_by s c BlockFull m kept well = subst (λ (k : Kept). IsFull k.block k.reserved) kept well
-done_by s c GaveUp m kept well = well
-
 pub ends : (s : SiteState) (c : ℕ) (es : List Event) (e : End) → StartsAlone s c → Rounds s c es → HasEnded (site_after s es) c e → IsDone (site_after s es) c e
-ends s c es e a rounds ended = let by = ended_by s c es e a rounds ended in done_by (site_after s es) c e by.0 by.1 by.2
+ends s c es e a rounds ended =
+    let by = ended_by s c es e a rounds ended in subst (λ (k : Kept). EndsWell e k (world (site_after s es)).gear) by.1 by.2
 
 pub tabled : (s : SiteState) (c : ℕ) (es : List Event) (e : End) → StartsAlone s c → Rounds s c es → HasEnded (site_after s es) c e
     → IsTabled s (site_after s es) c

@@ -22,7 +22,7 @@ use Rattle.dali_script.specs.declared.stage.Stage.{Stage}
 use Rattle.dali_script.specs.declared.stage.Stage.TheVariants as stage
 use Rattle.dali_script.specs.Stages.{next_stage, queried, verified, IsSearched}
 use Rattle.dali_script.specs.declared.orders.End.{End}
-use Rattle.dali_script.specs.declared.orders.End.TheVariants.{AllFound, BlockFull, GaveUp}
+use Rattle.dali_script.specs.declared.orders.End.TheVariants.{AllFound}
 use Rattle.dali_search.specs.Least.{Search, Agrees, Gives, HasAtMost}
 use Rattle.dali_controller.specs.declared.purpose.Purpose.{Purpose}
 use Rattle.dali_controller.specs.declared.purpose.Purpose.TheVariants.{Opening, Probing, Visiting, Resolving, Closing, Asking, Waking}
@@ -38,8 +38,9 @@ use Rattle.dali_events.proofs.Search.Heard as hearing
 use Rattle.dali_events.proofs.Search.Opened as opening
 use Rattle.dali_events.proofs.Search.Programming as programming
 use Rattle.dali_events.proofs.Search.Withdrawing as withdrawing
+use Rattle.dali_progress.specs.Rounds.{EndsWell}
 use Rattle.dali_progress.proofs.Stands.{sent_at, search_frames, probe_frames, Opens, ProbeStage, Probes, VisitStage, IsVisited, VisitFrames, Visits, HaveShort}
-use Rattle.dali_progress.proofs.Stands.{Names, VisitsAt, EndsWell, Closes, At, Sends}
+use Rattle.dali_progress.proofs.Stands.{Names, VisitsAt, Closes, At, Sends}
 
 -- A FRAME IS SENT, and each gear with power takes it. The transaction goes on to its next stage, and one frame less is
 -- left to be sent.
@@ -466,8 +467,7 @@ ends_still AllFound k gs numbers well = λ i in_row on.
     let same = leaving.short_after_all Terminate gs numbers tt i there in
     let short = well i there (sym same.0 ∙ on) in
     (short.0, same.1 ∙ short.1)
-ends_still BlockFull k gs numbers well = well
-ends_still GaveUp k gs numbers well = absurd well
+ends_still _ k gs numbers well = well
 
 closing_sent : (e : End) (s : Stage) (k : Kept) (opened : Bool) (x : Search) (n : SearchAddress) (gs : List Gear) (numbers : List ℕ) (left : ℕ) (c : Command)
     (h : Answer)

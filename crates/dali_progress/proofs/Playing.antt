@@ -38,15 +38,7 @@ abbrev pub OfRound : World → List (Option Machine) → ℕ → Event → Type 
 OfRound w ms c (event.Acted d i o) = (d ≡ c) × Succeeds i × MayAnswer (machine_in ms c) i o
 OfRound w ms c (event.Sent d f h) =
     (r : Request) × (next w.bus ≡ Some r) × (d ≡ r.sender) × (f ≡ r.frame) × (h ≡ heard_of (answers_of Everyone (command_of f) 0 w.gear))
-OfRound w ms c (event.Offered d f) = ⊥
-OfRound w ms c (event.Destroyed d f set) = ⊥
-OfRound w ms c (event.Collided d f o g) = ⊥
-OfRound w ms c event.Lapsed = ⊥
-OfRound w ms c event.Quiet = ⊥
-OfRound w ms c (event.Power g on) = ⊥
-OfRound w ms c (event.Expired g) = ⊥
-OfRound w ms c (event.Down d) = ⊥
-OfRound w ms c (event.Up d kept) = ⊥
+OfRound w ms c _ = ⊥
 
 abbrev pub Plays : World → List (Option Machine) → ℕ → List Event → Type 0
 Plays w ms c [] = Unit {0}
@@ -121,15 +113,7 @@ is_quiet w f h = is_silence h && is_silence (heard_of (answers_of Everyone (comm
 abbrev pub is_of_round : World → ℕ → Event → Bool
 is_of_round w c (event.Acted d i o) = (d == c) && succeeds i
 is_of_round w c (event.Sent d f h) = is_next (next w.bus) d f && is_quiet w f h
-is_of_round w c (event.Offered d f) = false
-is_of_round w c (event.Destroyed d f set) = false
-is_of_round w c (event.Collided d f o g) = false
-is_of_round w c event.Lapsed = false
-is_of_round w c event.Quiet = false
-is_of_round w c (event.Power g on) = false
-is_of_round w c (event.Expired g) = false
-is_of_round w c (event.Down d) = false
-is_of_round w c (event.Up d kept) = false
+is_of_round w c _ = false
 
 abbrev pub passes : World → ℕ → List Event → Bool
 passes w c [] = true

@@ -5,12 +5,11 @@ use Rattle.dali_frame.specs.Random.{value_of, MASK24}
 use Rattle.dali_special.specs.declared.command.Command.{Command}
 use Rattle.dali_special.specs.declared.command.Command.TheVariants.{Program}
 use Rattle.dali_gear.specs.Gear.{Gear, is_active}
-use Rattle.dali_script.specs.Records.{Assignment, Kept, Has, HasRandom, IsFull}
+use Rattle.dali_script.specs.Records.{Assignment, Kept, Has, HasRandom}
 use Rattle.dali_script.specs.declared.stage.Stage.{Stage}
 use Rattle.dali_script.specs.declared.stage.Stage.TheVariants as stage
 use Rattle.dali_script.specs.Stages.{IsSearched, IsTrace, stage_of}
 use Rattle.dali_script.specs.declared.orders.End.{End}
-use Rattle.dali_script.specs.declared.orders.End.TheVariants.{AllFound, BlockFull, GaveUp}
 use Rattle.dali_search.specs.declared.step.Step.TheVariants.{Again}
 use Rattle.dali_search.specs.Least.{Search, Agrees, Gives}
 use Rattle.dali_search.specs.Narrowing.{IsNarrowing}
@@ -19,10 +18,9 @@ use Rattle.dali_controller.specs.declared.purpose.Purpose.TheVariants.{Opening, 
 use Rattle.dali_controller.specs.declared.way.Way.TheVariants.{Fresh}
 use Rattle.dali_controller.specs.Course.{first_of, turn_of, sought, is_yes}
 use Rattle.dali_controller.specs.Machine.{Machine}
-use Rattle.dali_events.specs.Searching.{HasShort}
 use Rattle.dali_events.specs.Wanted.{is_wanted, wants, is_bare, OfPowered, IsOpened, NoneNamed, NoneNamedBut}
 use Rattle.dali_events.proofs.Search.Opened.{AreOpening}
-use Rattle.dali_progress.specs.Rounds.{AreTabled}
+use Rattle.dali_progress.specs.Rounds.{EndsWell, AreTabled}
 
 -- HOW FAR COMMISSIONING IS, where nothing is disturbed: what is true of gear, records and search at each stage of the
 -- running transaction, and how many frames are left to be sent, at the most.
@@ -166,12 +164,7 @@ CloseStage stage.Free = Unit {0}
 CloseStage stage.Terminated = Unit {0}
 CloseStage _ = ⊥
 
--- what its end says
-abbrev pub EndsWell : End → Kept → List Gear → Type 0
-EndsWell AllFound k gs = OfPowered gs HasShort
-EndsWell BlockFull k gs = IsFull k.block k.reserved
-EndsWell GaveUp k gs = ⊥
-
+-- and what its end says
 pub record Closes (e : End) (s : Stage) (k : Kept) (gs : List Gear) (left : ℕ) : Type 0 where
   pub stage_is : CloseStage s
   pub well : EndsWell e k gs

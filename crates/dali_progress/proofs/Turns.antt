@@ -12,7 +12,7 @@ use Rattle.dali_special.specs.Command.{command_of, frame_of, IsSpelled}
 use Rattle.dali_special.proofs.Table.{read_written}
 use Rattle.dali_gear.specs.Gear.{Gear, fresh}
 use Rattle.dali_script.specs.declared.records.Record.{Record}
-use Rattle.dali_script.specs.declared.records.Record.TheVariants.{Reserve, Enrol, Release}
+use Rattle.dali_script.specs.declared.records.Record.TheVariants.{Reserve, Enrol}
 use Rattle.dali_script.specs.Records.{Assignment, Kept, Has, HasAddress, HasRandom, IsKept, IsMap, with_record}
 use Rattle.dali_script.specs.declared.stage.Stage.{Stage}
 use Rattle.dali_script.specs.declared.stage.Stage.TheVariants as stage
@@ -49,8 +49,8 @@ use Rattle.dali_events.specs.Searching.{HasShort}
 use Rattle.dali_events.specs.Wanted.{is_wanted, wants, is_bare, OfPowered, IsOpened, NoneNamed}
 use Rattle.dali_events.proofs.Search.Wanted as wanted
 use Rattle.dali_events.proofs.Search.Opened as opening
-use Rattle.dali_progress.specs.Rounds.{AreTabled}
-use Rattle.dali_progress.proofs.Stands.{to_come, search_frames, probe_frames, Opens, Probes, VisitFrames, Visits, Leaves, VisitsAt, EndsWell, Closes, At}
+use Rattle.dali_progress.specs.Rounds.{EndsWell, AreTabled}
+use Rattle.dali_progress.proofs.Stands.{to_come, search_frames, probe_frames, Opens, Probes, VisitFrames, Visits, Leaves, VisitsAt, Closes, At}
 use Rattle.dali_progress.proofs.Stands.{IsWithin, Stands, Sends}
 use Rattle.dali_progress.proofs.Frames.{value_sought}
 use Rattle.dali_progress.proofs.Tables.{tabled_over}
@@ -88,7 +88,7 @@ pub record Enrols (before : List Gear) (m : Machine) (b r : ℕ) (gs : List Gear
 abbrev pub CommitsTo : List Gear → Machine → Record → List Gear → ℕ → Type 0
 CommitsTo before m (Reserve a r) gs left = Reserves before m r gs left
 CommitsTo before m (Enrol b r) gs left = Enrols before m b r gs left
-CommitsTo before m (Release a r) gs left = ⊥
+CommitsTo before m _ gs left = ⊥
 
 -- what is to come of an order
 abbrev pub IsNext : List Gear → Machine → Order → List Gear → ℕ → Type 0
@@ -616,7 +616,7 @@ pub committed : (before : List Gear) (m : Machine) (x : Record) (o : Order) (gs 
     → IsGivenBy (with_kept m x) o → IsNext before (machine_ordered (with_kept m x) o) o gs left
 committed before m (Reserve a r) o gs left calm v free last map g = reserved_next before m a r o gs left calm v free last g
 committed before m (Enrol b r) o gs left calm v free last map g = enrolled_next before m b r o gs left calm v free last map g
-committed before m (Release a r) o gs left calm v free last map g = absurd v
+committed before m _ o gs left calm v free last map g = absurd v
 
 -- a frame is put then
 pub committed_begins : (before : List Gear) (m : Machine) (x : Record) (o : Order) (gs : List Gear) (left : ℕ) → IsUndisturbed m → CommitsTo before m x gs left
@@ -624,4 +624,4 @@ pub committed_begins : (before : List Gear) (m : Machine) (x : Record) (o : Orde
     → IsGivenBy (with_kept m x) o → o ≡ beginning (next_course (with_kept m x))
 committed_begins before m (Reserve a r) o gs left calm v free last map g = reserved_begins m a r o calm free last g
 committed_begins before m (Enrol b r) o gs left calm v free last map g = enrolled_begins before m b r o gs left v free last map g
-committed_begins before m (Release a r) o gs left calm v free last map g = absurd v
+committed_begins before m _ o gs left calm v free last map g = absurd v

@@ -7,7 +7,7 @@ use Rattle.dali_gear.specs.Row.{answers_of, heard_of}
 use Rattle.dali_arbiter.specs.declared.request.Request.{Request}
 use Rattle.dali_arbiter.specs.Arbiter.{idle, total}
 use Rattle.dali_script.specs.declared.block.Block.{Block}
-use Rattle.dali_script.specs.Records.{Assignment, Has, IsFull, without_records}
+use Rattle.dali_script.specs.Records.{Assignment, Kept, Has, IsFull, without_records}
 use Rattle.dali_script.specs.declared.orders.Input.{Input}
 use Rattle.dali_script.specs.declared.orders.Input.TheVariants as input
 use Rattle.dali_script.specs.declared.orders.Order.TheVariants.{Done}
@@ -19,8 +19,8 @@ use Rattle.dali_events.specs.declared.event.Event.TheVariants as event
 use Rattle.dali_events.specs.World.{controller_at}
 use Rattle.dali_events.specs.Allowed.{Allowed, IsUp, IsDue}
 use Rattle.dali_events.specs.Runs.{IsRun}
-use Rattle.dali_events.specs.Searching.{EachPowered, HasShort}
-use Rattle.dali_events.specs.Wanted.{gear_of}
+use Rattle.dali_events.specs.Searching.{HasShort}
+use Rattle.dali_events.specs.Wanted.{gear_of, OfPowered}
 use Rattle.dali_standing.specs.Seats.{MayAnswer}
 use Rattle.dali_world.specs.Site.{SiteState, world, machine_at, next_request, site_logged}
 
@@ -114,11 +114,13 @@ GoesOn s c = ((e : End) × HasEnded s c e) ⊎ (HasDue s c ⊎ HasNext s)
 
 -- WHAT AN END SAYS: that each gear with power has a short address, or that each address of the
 -- block is reserved; it never gives up
+abbrev pub EndsWell : End → Kept → List Gear → Type 0
+EndsWell AllFound k gs = OfPowered gs HasShort
+EndsWell BlockFull k gs = IsFull k.block k.reserved
+EndsWell GaveUp k gs = ⊥
+
 abbrev pub IsDone : SiteState → ℕ → End → Type 0
-IsDone s c AllFound = EachPowered (world s) HasShort
-IsDone s c BlockFull =
-    IsFull (controller_at (world s) c).records.block (controller_at (world s) c).records.reserved
-IsDone s c GaveUp = ⊥
+IsDone s c e = EndsWell e (controller_at (world s) c).records (world s).gear
 
 -- THE TABLE, as entries of short and random address: it names each gear that has a short address,
 -- but one that had it before

@@ -161,9 +161,9 @@ pub fn what_is_reserved_was_silent()
         → s.order ≡ Commit (Reserve a r) → HasSurveyed n → WasSilent (s ∷ earlier) a }
 {}
 
-/// WHO TELLS ITS RANDOM ADDRESS IS IN THE TABLE. Where a machine asked a short address, and heard three bytes of a number
-/// that gear draw, that address is enrolled with that number from then on, or about to be, or the machine has halted;
-/// whoever gave the gear its address.
+/// WHO TELLS ITS RANDOM ADDRESS IS IN THE TABLE. Where a machine asked a short address, and heard three bytes of a
+/// number that gear draw, that address is enrolled with that number from then on, or about to be, or the machine has
+/// halted; whoever gave the gear its address.
 pub fn who_tells_its_number_is_enrolled()
     ensures { (steps : List Step) (n : Machine) (a r : ℕ) → IsCourse steps n → WasTold steps a r → IsNamed n a r }
 {}

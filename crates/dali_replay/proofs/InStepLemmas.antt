@@ -130,15 +130,7 @@ ups_in_step w ss c kept held known there agrees all =
 abbrev pub IsOther : Event → Type 0
 IsOther (event.Acted c i o) = ⊥
 IsOther (event.Up c kept) = ⊥
-IsOther (event.Offered c f) = Unit {0}
-IsOther (event.Sent c f h) = Unit {0}
-IsOther (event.Destroyed c f set) = Unit {0}
-IsOther (event.Collided c f d g) = Unit {0}
-IsOther event.Lapsed = Unit {0}
-IsOther event.Quiet = Unit {0}
-IsOther (event.Power g on) = Unit {0}
-IsOther (event.Expired g) = Unit {0}
-IsOther (event.Down c) = Unit {0}
+IsOther _ = Unit {0}
 
 like : (p : Option Record) (held : Kept) (k j : Controller) → j.records ≡ k.records → j.outstanding ≡ k.outstanding → (IsCommit j.last → IsCommit k.last)
     → IsInStepBy p held k → IsInStepBy p held j
@@ -162,16 +154,13 @@ owner_alike ss cs (Some c) all = alike ss told_lapsed (λ k. refl) (λ k. refl) 
 others_in_step : (w : World) (ss : List Store) (e : Event) → IsOther e → AllInStep w.controllers ss → AllInStep (happens w e).controllers ss
 others_in_step w ss (event.Acted c i o) other all = absurd other
 others_in_step w ss (event.Up c kept) other all = absurd other
-others_in_step w ss (event.Offered c f) other all = all
 others_in_step w ss (event.Sent c f h) other all = alike ss (told_sent (trace_running w c) f h) (λ k. refl) (λ k. refl) (λ k h. h) w.controllers c all
 others_in_step w ss (event.Destroyed c f set) other all = alike ss (told_destroyed f) (λ k. refl) (λ k. refl) (λ k h. h) w.controllers c all
 others_in_step w ss (event.Collided c f d g) other all =
     alike ss (told_destroyed g) (λ k. refl) (λ k. refl) (λ k h. h) _ d (alike ss (told_destroyed f) (λ k. refl) (λ k. refl) (λ k h. h) w.controllers c all)
 others_in_step w ss event.Lapsed other all = owner_alike ss w.controllers w.bus.owner all
-others_in_step w ss event.Quiet other all = all
-others_in_step w ss (event.Power g on) other all = all
-others_in_step w ss (event.Expired g) other all = all
 others_in_step w ss (event.Down c) other all = alike ss gone_down (λ k. refl) (λ k. refl) (λ k h. absurd h) w.controllers c all
+others_in_step w ss _ other all = all
 
 -- ---------------------------------------------------------------- the same of installations
 

@@ -59,6 +59,8 @@ pub enum InNumbers {
     Reserve(u8, u32),
     Enrol(u8, u32),
     Release(u8, u32),
+    /// Of a kind that no test names, by its code.
+    Other(u8, u8, u32),
 }
 
 impl InNumbers {
@@ -74,20 +76,22 @@ impl InNumbers {
             InNumbers::Release(address, number) => {
                 Ok(Record::Release(short(address)?, random(number)?))
             }
+            InNumbers::Other(..) => Err(Fail::from("a kind that tests name")),
         }
     }
 
     pub fn of(record: Record) -> InNumbers {
-        match record {
-            Record::Reserve(address, number) => InNumbers::Reserve(
-                address.number(),
-                number.value(),
-            ),
-            Record::Enrol(address, number) => InNumbers::Enrol(address.number(), number.value()),
-            Record::Release(address, number) => InNumbers::Release(
-                address.number(),
-                number.value(),
-            ),
+        InNumbers::by(&record)
+    }
+
+    fn by(record: &Record) -> InNumbers {
+        let address = record.address().number();
+        let number = record.random().value();
+        match record.code() {
+            1 => InNumbers::Reserve(address, number),
+            2 => InNumbers::Enrol(address, number),
+            3 => InNumbers::Release(address, number),
+            code => InNumbers::Other(code, address, number),
         }
     }
 }

@@ -36,13 +36,6 @@ silenced_capacity b c = go (owns b.owner c) where
 
 pub capacity_kept : (w : World) (e : Event) → (happens w e).bus.capacity ≡ w.bus.capacity
 capacity_kept w (event.Acted c i o) = acted_capacity w.bus c o
-capacity_kept w (event.Offered c f) = refl
-capacity_kept w (event.Sent c f h) = refl
-capacity_kept w (event.Destroyed c f set) = refl
 capacity_kept w (event.Collided c f d g) = collided_capacity w.bus
-capacity_kept w event.Lapsed = refl
-capacity_kept w event.Quiet = refl
-capacity_kept w (event.Power g on) = refl
-capacity_kept w (event.Expired g) = refl
 capacity_kept w (event.Down c) = silenced_capacity w.bus c
-capacity_kept w (event.Up c kept) = refl
+capacity_kept w _ = refl

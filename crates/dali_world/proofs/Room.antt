@@ -20,17 +20,12 @@ use Rattle.dali_events.proofs.Invariant.Safe.{Holds, holds_step, holds_after}
 
 -- as many gear as before
 pub gear_count : (w : World) (e : Event) → length (happens w e).gear ≡ length w.gear
-gear_count w (event.Acted c i o) = refl
-gear_count w (event.Offered c f) = refl
 gear_count w (event.Sent c f h) = row_length Everyone (command_of f) 0 w.gear w.left
 gear_count w (event.Destroyed c f set) = row_length (Only set) (command_of f) 0 w.gear w.left
-gear_count w (event.Collided c f d g) = refl
-gear_count w event.Lapsed = refl
 gear_count w event.Quiet = length-map w.gear gear_quieted
 gear_count w (event.Power g on) = length-set w.gear g _
 gear_count w (event.Expired g) = length-set w.gear g _
-gear_count w (event.Down c) = refl
-gear_count w (event.Up c kept) = refl
+gear_count w _ = refl
 
 -- each gear was given at most one address
 gifts_within : (p : Plan) (w : World) → Holds p w → length w.gifts ≤ length w.gear

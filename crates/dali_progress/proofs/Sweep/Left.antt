@@ -153,8 +153,7 @@ rest_moves : (t : Machine) (last : Option Order) → t.course.way ≡ Surveying 
 rest_moves t None is = inr (goes_moves t is)
 rest_moves t (Some (Put p f)) is = inl refl
 rest_moves t (Some (Commit (Reserve a n))) is = inr (quiet t.course (at_rest t (Some (Commit (Reserve a n)))) is refl refl (λ u k s. refl))
-rest_moves t (Some (Commit (Enrol a n))) is = inr (goes_moves t is)
-rest_moves t (Some (Commit (Release a n))) is = inr (goes_moves t is)
+rest_moves t (Some (Commit x)) is = inr (goes_moves t is)
 rest_moves t (Some (Done e)) is = inr (goes_moves t is)
 rest_moves t (Some (Halt w)) is = inr (goes_moves t is)
 

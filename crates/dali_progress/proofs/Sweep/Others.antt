@@ -113,8 +113,7 @@ kept_left u t x surveys last free =
 
       moves : (y : Record) → Moves t.course (at_rest t (Some (Commit y)))
       moves (Reserve a n) = quiet t.course (at_rest t (Some (Commit (Reserve a n)))) surveys refl refl (λ u k s. refl)
-      moves (Enrol a n) = goes_moves t surveys
-      moves (Release a n) = goes_moves t surveys
+      moves _ = goes_moves t surveys
 
       first : (f : Forward) → left u (machine_ordered t (Put FIRST f)) ≤ beyond u t.course.from
       first f =
@@ -173,8 +172,7 @@ rest_way : (t : Machine) (last : Option Order) → KeepsWay t.course (at_rest t 
 rest_way t None = goes_way t
 rest_way t (Some (Put p f)) = inl refl
 rest_way t (Some (Commit (Reserve a n))) = inl refl
-rest_way t (Some (Commit (Enrol a n))) = goes_way t
-rest_way t (Some (Commit (Release a n))) = goes_way t
+rest_way t (Some (Commit x)) = goes_way t
 rest_way t (Some (Done e)) = goes_way t
 rest_way t (Some (Halt w)) = goes_way t
 

@@ -504,8 +504,7 @@ kept_next m x o a b small purpose last whole free unreserved may (inl low) =
       goes : (y : Record) → ((c r : ℕ) → y ≡ Reserve c r → ⊥)
           → at_rest (machine_committed m (Some x)) (Some (Commit y)) ≡ goes_on_to (machine_committed m (Some x))
       goes (Reserve c r) other = absurd (other c r refl)
-      goes (Enrol c r) other = refl
-      goes (Release c r) other = refl
+      goes _ other = refl
 
 seen_next : (m : Machine) (i : Input) (o : Order) (a b : ℕ) → a < 64 → m.asked ≤ 2 → (m.last ≡ None → ⊥) → m.course.purpose ≡ Asking b
     → accepts (due_after m.last) i ≡ true → IsGiven m i o → IsPlain (stage_of (machine_told m i).trace) → IsWhole m → IsAlone m → IsWhole (machine_after m i o)
