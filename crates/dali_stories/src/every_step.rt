@@ -1,12 +1,42 @@
-//! The commissioning of one gear, disturbed once, at each of its steps: each time it ends, once, and the table names
-//! the gear by the address that it has, or is empty.
+//! The commissioning of one gear by a start and by a survey, disturbed once, at each of its steps: each time it ends,
+//! once, and the table names the gear by the address that it has, or is empty.
 
 use super::story::played;
 use std::process::Abort;
 use std::test::Fail;
 
-/// How many rounds the undisturbed commissioning has, the one with its end included.
-const ROUNDS: u32 = 124;
+/// A way to begin: its line of the script, how many rounds the undisturbed commissioning then has, the one with its end
+/// included, and the last short address that the gear may be given.
+struct Beginning {
+    line: &'static str,
+    rounds: u32,
+    last: &'static str,
+}
+
+const START: Beginning = Beginning {
+    line: "",
+    rounds: 124,
+    last: "0",
+};
+
+/// Whoever is heard under 0 by mistake keeps that address from the gear, which is given 1.
+const SURVEY: Beginning = Beginning {
+    line: "survey 0\n",
+    rounds: 323,
+    last: "1",
+};
+
+/// What happens once, at each step. Where no commit is outstanding the line `fail 0` is refused, and the commissioning
+/// goes on.
+const DISTURBANCES: [&str; 7] = [
+    "go 0\npump lost",
+    "go 0\npump noise",
+    "go 0\npump collision",
+    "go 0\npump destroyed -",
+    "go 0\npump destroyed 0",
+    "fail 0",
+    "down 0\nup 0",
+];
 
 /// Whether a line reports an end of controller 0.
 fn is_end(line: &str) -> bool {
@@ -37,68 +67,65 @@ fn addresses_in(state: &str) -> Option<(&str, &str)> {
     Some((random, short))
 }
 
-/// Whether reports have one end, the gear has the short address 0 or none, and the table is empty or names the gear by
-/// it. None where they don't show the gear or the table.
-fn are_true(reports: &str) -> Option<bool> {
+/// Whether a table is empty, or has one entry, with these two.
+fn names(table: &str, short: &str, random: &str) -> bool {
+    match table.strip_prefix(" ") {
+        Some(entry) => entry.split_once('=') == Some((short, random)),
+        None => table == "",
+    }
+}
+
+/// Whether reports have one end, the gear has no short address, or 0 to the last one, and the table is empty or names
+/// the gear by it. None where they don't show the gear or the table.
+fn are_true(reports: &str, last: &str) -> Option<bool> {
     let (random, short) = addresses_in(after(reports, "gear 0 on ")?)?;
     let table = after(reports, "table 0:")?;
-    let is_named = table == "" || table.strip_prefix(" 0=") == Some(random);
-    let is_given = short == "-" || short == "0";
-    Some(ends_in(reports) == 1 && is_given && is_named)
+    let is_given = short == "-" || short == "0" || short == last;
+    Some(ends_in(reports) == 1 && is_given && names(table, short, random))
 }
 
 /// A script is played to its end, and its reports are true.
-fn ends_truly<R: Abort + AllocGlobal>(rt: &R, script: &str) -> Result<(), Fail> {
+fn ends_truly<R: Abort + AllocGlobal>(rt: &R, script: &str, last: &str) -> Result<(), Fail> {
     let (end, text) = played(rt.alloc(), script.as_bytes())?;
     let reports = text.as_str();
     assert!(rt; end == Ok(()), "of {script:?}");
-    assert!(rt; are_true(reports) == Some(true), "of {script:?}: {reports}");
+    assert!(rt;
+        are_true(reports, last) == Some(true),
+        "of {script:?}: {reports}"
+    );
     Ok(())
 }
 
 /// Disturbs the commissioning after k rounds, for each k, and wants one end and a true table of each.
-fn check_every_step<R: Abort + AllocGlobal>(rt: &R, disturbance: &str) -> Result<(), Fail> {
-    for k in 0..ROUNDS {
+fn check_every_step<R: Abort + AllocGlobal>(
+    rt: &R,
+    begins: &Beginning,
+    disturbance: &str,
+) -> Result<(), Fail> {
+    for k in 0..begins.rounds {
+        let line = begins.line;
         let script = format!(in rt.alloc();
-            "site 1 0-3\ndraws 123456 654321\nrun {k}\n{disturbance}\nrun 1000\nshow\n"
+            "site 1 0-3\ndraws 123456 654321\n{line}run {k}\n{disturbance}\nrun 1000\nshow\n"
         )?;
-        ends_truly(rt, script.as_str())?;
+        ends_truly(rt, script.as_str(), begins.last)?;
+    }
+    Ok(())
+}
+
+/// Disturbs the commissioning in each way.
+fn check_all<R: Abort + AllocGlobal>(rt: &R, begins: &Beginning) -> Result<(), Fail> {
+    for disturbance in DISTURBANCES {
+        check_every_step(rt, begins, disturbance)?;
     }
     Ok(())
 }
 
 #[test]
-fn an_answer_is_lost_at_every_step(rt: HostRuntime) -> Result<(), Fail> {
-    check_every_step(&rt, "go 0\npump lost")
+fn a_start_is_disturbed_at_every_step(rt: HostRuntime) -> Result<(), Fail> {
+    check_all(&rt, &START)
 }
 
 #[test]
-fn noise_is_heard_at_every_step(rt: HostRuntime) -> Result<(), Fail> {
-    check_every_step(&rt, "go 0\npump noise")
-}
-
-#[test]
-fn a_collision_comes_at_every_step(rt: HostRuntime) -> Result<(), Fail> {
-    check_every_step(&rt, "go 0\npump collision")
-}
-
-#[test]
-fn a_frame_is_destroyed_at_every_step(rt: HostRuntime) -> Result<(), Fail> {
-    check_every_step(&rt, "go 0\npump destroyed -")
-}
-
-#[test]
-fn a_destroyed_frame_is_taken_at_every_step(rt: HostRuntime) -> Result<(), Fail> {
-    check_every_step(&rt, "go 0\npump destroyed 0")
-}
-
-#[test]
-fn a_commit_fails_at_every_step(rt: HostRuntime) -> Result<(), Fail> {
-    // Where no commit is outstanding the line is refused, and the commissioning goes on.
-    check_every_step(&rt, "fail 0")
-}
-
-#[test]
-fn a_restart_comes_at_every_step(rt: HostRuntime) -> Result<(), Fail> {
-    check_every_step(&rt, "down 0\nup 0")
+fn a_survey_is_disturbed_at_every_step(rt: HostRuntime) -> Result<(), Fail> {
+    check_all(&rt, &SURVEY)
 }
