@@ -9,8 +9,7 @@ RANDOMS = "000000 000001 123456 7FFFFF 800000 FFFFFD FFFFFE FFFFFF abcdef".split
 BLOCKS = "0-0 0-3 3-0 4-7 0-63 62-63 63-63 0-64 60-255 0-256 1-".split()
 LISTS = "- 0 1 0,1 0,0 1,2,3 127 128 0, ,0 0,,1".split()
 NAMES = "bench site draws frame go survey store fail pump lapse arc down up run off on expire quiet show".split()
-TROUBLES = "lost noise collision destroyed".split()
-WORDS = [*NUMBERS, *FRAMES, *RANDOMS, *BLOCKS, *LISTS, *NAMES, *TROUBLES, "", "12345", "#"]
+WORDS = [*NUMBERS, *FRAMES, *RANDOMS, *BLOCKS, *LISTS, *NAMES, *site_script.FRAME_TROUBLES, "", "12345", "#"]
 BYTES = b" \n\t\r\0#-,0F:\x7f\x80\xff"
 EVENTS = 65_536
 CHANCES = (0.002, 0.01, 0.05, 0.2)
@@ -30,11 +29,11 @@ def bench_line(draw, gear):
 
 
 def pump_line(draw, gear):
-    trouble = draw.choice(("", "", "", " lost", " noise", " collision", " destroyed"))
-    if trouble == " destroyed":
+    trouble = draw.choice((None, None, None, *site_script.FRAME_TROUBLES))
+    if trouble == "destroyed":
         takers = [str(g) for g in range(gear) if draw.random() < 0.5]
-        trouble += " " + (",".join(takers) or "-")
-    return f"pump{trouble}"
+        return f"pump destroyed {','.join(takers) or '-'}"
+    return f"pump {trouble}" if trouble else "pump"
 
 
 def site_line(draw, gear, controllers):

@@ -190,8 +190,6 @@ PLACES = (
     Place(THREADS, line("GEAR ="), "InitialisationState", "{kebab}"),
     Place(FORMS, block("SITE_LINE =", "\n)"), "Trouble", "{word}", "None"),
     Place(FORMS, block("causes = (", "\n    )"), "PlanError", '("{name}",', "NoMemory"),
-    Place("tools/script_mutations.py", line("TROUBLES ="), "Trouble", "{word}", "None"),
-    Place("tools/script_mutations.py", block("def pump_line(", "return"), "Trouble", '" {word}"', "None"),
     Place("tools/site_script.py", block("FRAME_TROUBLES = {", "\n}"), "Trouble", '"{word}":', "None"),
     Place("tools/troubles", line("TROUBLES ="), "Trouble", '"{word}', "None"),
     Place(SITE, line("ENDS ="), "End", '"{name}"'),
