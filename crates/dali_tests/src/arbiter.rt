@@ -1,23 +1,88 @@
-//! Whose frame is next.
+//! Whose frame is next, by steps that one function plays.
 
-use super::values::{forward, same};
+use super::values::{bytes_of, forward, priority, same};
 use dali_arbiter::{Arbiter, NewError, OfferError, Request};
 use dali_frame::Priority;
 use std::process::Abort;
 use std::test::Fail;
 
-fn priority(number: u8) -> Result<Priority, Fail> {
-    match Priority::of(number) {
-        Some(priority) => Ok(priority),
-        None => Err(Fail::from("a priority")),
+/// A request, by its sender, the number of its priority, and the bytes of its frame.
+type Asked = (u8, u8, u16);
+
+fn asked(request: Option<Request>) -> Option<Asked> {
+    match request {
+        Some(it) => Some((it.sender, it.priority.number(), bytes_of(it.frame))),
+        None => None,
     }
 }
 
-/// A request is offered, and taken or refused so.
+fn level(priority: Option<Priority>) -> Option<u8> {
+    match priority {
+        Some(priority) => Some(priority.number()),
+        None => None,
+    }
+}
+
+/// A step of a test: a call and what it answers, or what the bus shows.
+#[derive(Clone, Copy)]
+enum Step {
+    /// A request is offered, and taken or refused so.
+    Offers(Asked, Result<(), OfferError>),
+    /// This request is next and is sent; with more to come, its sender owns the bus.
+    Sends(Asked, bool),
+    /// The next request collides, with this one or with none.
+    Collides(Option<Asked>),
+    /// The next request is destroyed.
+    Destroyed,
+    /// The bus lapses, and this sender owned it.
+    Lapses(Option<u8>),
+    /// This sender falls silent.
+    Silent(u8),
+    /// This request is next.
+    Next(Option<Asked>),
+    /// So many requests wait, and this sender owns the bus.
+    Waits(usize, Option<u8>),
+    /// The best priority of those that wait.
+    Best(Option<u8>),
+    /// Whether no request waits, and whether no more may.
+    Room(bool, bool),
+}
+
+/// A step after which there is one request less, at least.
+fn takes<R: Abort>(rt: &R, arbiter: &mut Arbiter, step: Step) {
+    let next = arbiter.pick();
+    assert!(rt; next.is_some());
+    match step {
+        Step::Sends(wanted, more) => {
+            same(rt, &asked(next), &Some(wanted));
+            arbiter.sent(more);
+        }
+        Step::Collides(wanted) => same(rt, &asked(arbiter.collided()), &wanted),
+        _ => arbiter.destroyed(),
+    }
+}
+
+/// A step that changes nothing.
+fn looks<R: Abort>(rt: &R, arbiter: &Arbiter, step: Step) {
+    match step {
+        Step::Next(wanted) => same(rt, &asked(arbiter.pick()), &wanted),
+        Step::Waits(many, owner) => {
+            same(rt, &(arbiter.len(), arbiter.owner()), &(many, owner));
+        }
+        Step::Best(wanted) => {
+            same(rt, &level(arbiter.lists().best()), &wanted);
+        }
+        Step::Room(empty, full) => {
+            same(rt, &(arbiter.is_empty(), arbiter.is_full()), &(empty, full));
+        }
+        _ => assert!(rt; false),
+    }
+}
+
 fn offers<R: Abort>(
     rt: &R,
     arbiter: &mut Arbiter,
-    request: (u8, u8, u16),
+    request: Asked,
     wanted: Result<(), OfferError>,
 ) -> Result<(), Fail> {
     let (sender, level, bytes) = request;
@@ -26,130 +91,105 @@ fn offers<R: Abort>(
     Ok(())
 }
 
-/// A request, by its sender, its priority and its frame.
-fn request(sender: u8, level: u8, bytes: u16) -> Result<Request, Fail> {
-    Ok(Request {
-        sender,
-        priority: priority(level)?,
-        frame: forward(bytes),
-    })
-}
-
-/// This request is next and is sent; with more to come, its sender owns the bus.
-fn sends<R: Abort>(rt: &R, arbiter: &mut Arbiter, wanted: Request, more: bool) -> Result<(), Fail> {
-    let Some(next) = arbiter.pick() else {
-        return Err(Fail::from("a request"));
-    };
-    same(rt, &next, &wanted);
-    arbiter.sent(more);
-    Ok(())
-}
-
-/// The next request collides, with this one or with none.
-fn collides<R: Abort>(rt: &R, arbiter: &mut Arbiter, wanted: Option<Request>) -> Result<(), Fail> {
-    if arbiter.pick().is_none() {
-        return Err(Fail::from("a request"));
+/// The steps are as they say.
+fn plays<R: Abort>(rt: &R, arbiter: &mut Arbiter, steps: &[Step]) -> Result<(), Fail> {
+    for step in steps {
+        match *step {
+            Step::Offers(request, wanted) => offers(rt, arbiter, request, wanted)?,
+            Step::Sends(..) | Step::Collides(_) | Step::Destroyed => takes(rt, arbiter, *step),
+            Step::Lapses(owner) => same(rt, &arbiter.lapse(), &owner),
+            Step::Silent(sender) => arbiter.silence(sender),
+            _ => looks(rt, arbiter, *step),
+        }
     }
-    same(rt, &arbiter.collided(), &wanted);
     Ok(())
 }
 
-/// So many requests wait, and this sender owns the bus.
-fn waits<R: Abort>(rt: &R, arbiter: &Arbiter, many: usize, owner: Option<u8>) {
-    same(rt, &(arbiter.len(), arbiter.owner()), &(many, owner));
+/// The steps, on a bus with room for so many requests.
+fn tells<R: Abort + AllocGlobal>(rt: &R, capacity: usize, steps: &[Step]) -> Result<(), Fail> {
+    let mut arbiter = Arbiter::new(rt.alloc(), capacity)?;
+    plays(rt, &mut arbiter, steps)
 }
 
-fn owner_first<R: Abort>(rt: &R, arbiter: &mut Arbiter) -> Result<(), Fail> {
-    offers(rt, arbiter, (0, 3, 0xA100), Ok(()))?;
-    offers(rt, arbiter, (1, 3, 0xB1FF), Ok(()))?;
-    offers(rt, arbiter, (0, 2, 0xFE80), Ok(()))?;
-    sends(rt, arbiter, request(0, 2, 0xFE80)?, false)?;
-    sends(rt, arbiter, request(0, 3, 0xA100)?, true)?;
-    waits(rt, arbiter, 1, Some(0));
-    same(rt, &arbiter.pick(), &None);
-    let barred = Err(OfferError::NotOwner);
-    offers(rt, arbiter, (1, 1, 0xA5FF), barred)?;
-    offers(rt, arbiter, (0, 1, 0xA5FF), Ok(()))?;
-    same(rt, &arbiter.pick(), &Some(request(0, 1, 0xA5FF)?));
-    same(rt, &arbiter.lapse(), &Some(0));
-    waits(rt, arbiter, 1, None);
-    same(rt, &arbiter.pick(), &Some(request(1, 3, 0xB1FF)?));
-    same(rt, &arbiter.lists().best(), &Some(priority(3)?));
-    arbiter.silence(1);
-    same(rt, &arbiter.is_empty(), &true);
-    Ok(())
-}
+const FULL: Result<(), OfferError> = Err(OfferError::QueueFull);
+
+const BARRED: Result<(), OfferError> = Err(OfferError::NotOwner);
+
+const OWNER_FIRST: [Step; 16] = [
+    Step::Offers((0, 3, 0xA100), Ok(())),
+    Step::Offers((1, 3, 0xB1FF), Ok(())),
+    Step::Offers((0, 2, 0xFE80), Ok(())),
+    Step::Sends((0, 2, 0xFE80), false),
+    Step::Sends((0, 3, 0xA100), true),
+    Step::Waits(1, Some(0)),
+    Step::Next(None),
+    Step::Offers((1, 1, 0xA5FF), BARRED),
+    Step::Offers((0, 1, 0xA5FF), Ok(())),
+    Step::Next(Some((0, 1, 0xA5FF))),
+    Step::Lapses(Some(0)),
+    Step::Waits(1, None),
+    Step::Next(Some((1, 3, 0xB1FF))),
+    Step::Best(Some(3)),
+    Step::Silent(1),
+    Step::Room(true, false),
+];
 
 #[test]
 fn the_owner_goes_first(rt: HostRuntime) -> Result<(), Fail> {
-    let mut arbiter = Arbiter::new(rt.alloc(), 4)?;
-    owner_first(&rt, &mut arbiter)
+    tells(&rt, 4, &OWNER_FIRST)
 }
 
-fn collisions<R: Abort>(rt: &R, arbiter: &mut Arbiter) -> Result<(), Fail> {
-    offers(rt, arbiter, (0, 3, 0xA100), Ok(()))?;
-    offers(rt, arbiter, (1, 3, 0xA100), Ok(()))?;
-    collides(rt, arbiter, Some(request(1, 3, 0xA100)?))?;
-    waits(rt, arbiter, 0, None);
-    offers(rt, arbiter, (0, 3, 0xA100), Ok(()))?;
-    offers(rt, arbiter, (0, 3, 0xA100), Ok(()))?;
-    collides(rt, arbiter, None)?;
-    waits(rt, arbiter, 1, None);
-    if arbiter.pick().is_none() {
-        return Err(Fail::from("a request"));
-    }
-    arbiter.destroyed();
-    waits(rt, arbiter, 0, None);
-    Ok(())
-}
+const COLLISIONS: [Step; 10] = [
+    Step::Offers((0, 3, 0xA100), Ok(())),
+    Step::Offers((1, 3, 0xA100), Ok(())),
+    Step::Collides(Some((1, 3, 0xA100))),
+    Step::Waits(0, None),
+    Step::Offers((0, 3, 0xA100), Ok(())),
+    Step::Offers((0, 3, 0xA100), Ok(())),
+    Step::Collides(None),
+    Step::Waits(1, None),
+    Step::Destroyed,
+    Step::Waits(0, None),
+];
 
 #[test]
 fn only_another_sender_collides(rt: HostRuntime) -> Result<(), Fail> {
-    let mut arbiter = Arbiter::new(rt.alloc(), 4)?;
-    collisions(&rt, &mut arbiter)
+    tells(&rt, 4, &COLLISIONS)
 }
 
-fn full_queue<R: Abort>(rt: &R, arbiter: &mut Arbiter) -> Result<(), Fail> {
-    let full = Err(OfferError::QueueFull);
-    let barred = Err(OfferError::NotOwner);
-    offers(rt, arbiter, (1, 1, 0xA5FF), barred)?;
-    offers(rt, arbiter, (0, 3, 0xA5FF), Ok(()))?;
-    same(rt, &arbiter.is_full(), &true);
-    offers(rt, arbiter, (1, 3, 0xA5FF), full)?;
-    offers(rt, arbiter, (1, 1, 0xA5FF), barred)?;
-    waits(rt, arbiter, 1, None);
-    arbiter.silence(0);
-    offers(rt, arbiter, (1, 3, 0xA5FF), Ok(()))
-}
+const ONE_ROOM: [Step; 8] = [
+    Step::Offers((1, 1, 0xA5FF), BARRED),
+    Step::Offers((0, 3, 0xA5FF), Ok(())),
+    Step::Room(false, true),
+    Step::Offers((1, 3, 0xA5FF), FULL),
+    Step::Offers((1, 1, 0xA5FF), BARRED),
+    Step::Waits(1, None),
+    Step::Silent(0),
+    Step::Offers((1, 3, 0xA5FF), Ok(())),
+];
 
 #[test]
 fn a_full_queue_takes_one_more_when_one_has_left(rt: HostRuntime) -> Result<(), Fail> {
-    let mut arbiter = Arbiter::new(rt.alloc(), 1)?;
-    full_queue(&rt, &mut arbiter)
+    tells(&rt, 1, &ONE_ROOM)
 }
 
-/// A queue of this capacity is made, or refused so.
-fn is_made<R: Abort + AllocGlobal>(rt: &R, capacity: usize, wanted: Result<usize, NewError>) {
-    let made = Arbiter::new(rt.alloc(), capacity).map(|it| it.capacity());
-    same(rt, &made, &wanted);
+/// The capacity of a queue that is made for so many requests, or why it is not.
+fn made<R: AllocGlobal>(rt: &R, capacity: usize) -> Result<usize, NewError> {
+    match Arbiter::new(rt.alloc(), capacity) {
+        Ok(arbiter) => Ok(arbiter.capacity()),
+        Err(error) => Err(error),
+    }
 }
 
 #[test]
 fn capacities_are_1_to_1024(rt: HostRuntime) {
-    is_made(&rt, 0, Err(NewError::BadCapacity));
-    is_made(&rt, 1, Ok(1));
-    is_made(&rt, 64, Ok(64));
-    is_made(&rt, 1024, Ok(1024));
-    is_made(&rt, 1025, Err(NewError::BadCapacity));
-}
-
-#[test]
-fn refusals_have_numbers(rt: HostRuntime) {
-    let numbers = [
-        OfferError::QueueFull.number(),
-        OfferError::NotOwner.number(),
-        NewError::NoMemory.number(),
-        NewError::BadCapacity.number(),
-    ];
-    same(&rt, &numbers, &[1, 2, 1, 2]);
+    for (capacity, wanted) in [
+        (0, Err(NewError::BadCapacity)),
+        (1, Ok(1)),
+        (64, Ok(64)),
+        (1024, Ok(1024)),
+        (1025, Err(NewError::BadCapacity)),
+    ] {
+        same(&rt, &made(&rt, capacity), &wanted);
+    }
 }

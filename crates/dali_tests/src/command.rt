@@ -3,6 +3,7 @@
 use super::values::{frame, same, short};
 use dali_frame::Forward;
 use dali_special::{Command, Part, Target};
+use std::process::Abort;
 use std::test::Fail;
 
 /// How many of the 65,536 frames have each command, counted on the standard's tables.
@@ -52,6 +53,14 @@ fn row_of(command: Command) -> usize {
     }
 }
 
+/// The frame of four digits is this command, and the command is that frame.
+fn is_frame_of<R: Abort>(rt: &R, text: &[u8], command: Command) -> Result<(), Fail> {
+    let frame = frame(text)?;
+    same(rt, &Command::read(frame), &command);
+    same(rt, &command.write(), &frame);
+    Ok(())
+}
+
 #[test]
 fn commands_have_frames(rt: HostRuntime) -> Result<(), Fail> {
     let five = short(5)?;
@@ -74,9 +83,7 @@ fn commands_have_frames(rt: HostRuntime) -> Result<(), Fail> {
         (b"0BC3", Command::RandomByte(five, Part::Middle)),
         (b"7FC4", Command::RandomByte(short(63)?, Part::Low)),
     ] {
-        let frame = frame(text)?;
-        same(&rt, &Command::read(frame), &command);
-        same(&rt, &command.write(), &frame);
+        is_frame_of(&rt, text, command)?;
     }
     Ok(())
 }

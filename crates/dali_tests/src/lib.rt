@@ -8,6 +8,8 @@
 #[cfg(test)]
 mod arbiter;
 #[cfg(test)]
+mod codes;
+#[cfg(test)]
 mod command;
 #[cfg(test)]
 mod directory;
@@ -17,6 +19,8 @@ mod frame;
 mod gear;
 #[cfg(test)]
 mod machine;
+#[cfg(test)]
+mod machine_stories;
 #[cfg(test)]
 mod memory;
 #[cfg(test)]
@@ -31,8 +35,6 @@ mod rounds;
 mod search;
 #[cfg(test)]
 mod site;
-#[cfg(test)]
-mod store;
 #[cfg(test)]
 mod survey;
 #[cfg(test)]

@@ -1,6 +1,8 @@
 //! Plans of sites, and what each is refused for.
 
 use super::values::same;
+use dali_frame::Random24;
+use dali_script::Block;
 use dali_world::{Plan, PlanError};
 use std::process::Abort;
 use std::test::Fail;
@@ -14,62 +16,79 @@ fn refused<R: Abort + AllocGlobal>(
     wanted: PlanError,
 ) {
     assert!(rt; draws.len() <= 1024);
-    let refusal = Plan::new(rt.alloc(), gear, blocks, draws).err();
+    let refusal = match Plan::new(rt.alloc(), gear, blocks, draws) {
+        Ok(_) => None,
+        Err(error) => Some(error),
+    };
     same(rt, &refusal, &Some(wanted));
 }
 
-#[test]
-fn gear_and_controllers_are_counted_first(rt: HostRuntime) {
-    let five = [(0, 0), (1, 1), (2, 2), (3, 3), (4, 4)];
-    refused(&rt, 0, &[(0, 3)], &[], PlanError::GearCount);
-    refused(&rt, 129, &[], &[0xFFFFFF], PlanError::GearCount);
-    refused(&rt, 1, &[], &[], PlanError::ControllerCount);
-    refused(&rt, 1, &five, &[], PlanError::ControllerCount);
-}
+/// What is planned: so much gear, these blocks and these numbers; and the cause for which it is refused.
+type Planned<'a> = (u32, &'a [(u8, u8)], &'a [u32], PlanError);
+
+const REFUSED: [Planned<'static>; 12] = [
+    // Gear and controllers are counted first.
+    (0, &[(0, 3)], &[], PlanError::GearCount),
+    (129, &[], &[0xFFFFFF], PlanError::GearCount),
+    (1, &[], &[], PlanError::ControllerCount),
+    (
+        1,
+        &[(0, 0), (1, 1), (2, 2), (3, 3), (4, 4)],
+        &[],
+        PlanError::ControllerCount,
+    ),
+    // Blocks are in order and disjoint.
+    (1, &[(0, 3), (3, 2)], &[], PlanError::BlockOrder),
+    (1, &[(4, 3)], &[], PlanError::BlockOrder),
+    (1, &[(0, 64)], &[], PlanError::BlockOrder),
+    (1, &[(0, 3), (3, 5)], &[], PlanError::BlockOverlap),
+    (
+        1,
+        &[(4, 7), (0, 3), (5, 5)],
+        &[0xFFFFFF],
+        PlanError::BlockOverlap,
+    ),
+    // Numbers are drawn once.
+    (1, &[(0, 3)], &[1, 1, 0xFFFFFF], PlanError::DrawTooLarge),
+    (1, &[(0, 3)], &[0x1000000], PlanError::DrawTooLarge),
+    (1, &[(0, 3)], &[0x123456, 0, 0x123456], PlanError::DrawTwice),
+];
 
 #[test]
-fn blocks_are_in_order_and_disjoint(rt: HostRuntime) {
-    refused(&rt, 1, &[(0, 3), (3, 2)], &[], PlanError::BlockOrder);
-    refused(&rt, 1, &[(4, 3)], &[], PlanError::BlockOrder);
-    refused(&rt, 1, &[(0, 64)], &[], PlanError::BlockOrder);
-    refused(&rt, 1, &[(0, 3), (3, 5)], &[], PlanError::BlockOverlap);
-    let overlap = [(4, 7), (0, 3), (5, 5)];
-    refused(&rt, 1, &overlap, &[0xFFFFFF], PlanError::BlockOverlap);
-}
-
-#[test]
-fn numbers_are_drawn_once(rt: HostRuntime) {
-    let one = [(0, 3)];
-    refused(&rt, 1, &one, &[1, 1, 0xFFFFFF], PlanError::DrawTooLarge);
-    refused(&rt, 1, &one, &[0x1000000], PlanError::DrawTooLarge);
-    refused(&rt, 1, &one, &[0x123456, 0, 0x123456], PlanError::DrawTwice);
-}
-
-fn has<R: Abort>(rt: &R, plan: &Plan, gear: u32, blocks: &[(u8, u8)], draws: &[u32]) {
-    same(rt, &plan.gear(), &gear);
-    assert!(rt; plan.blocks().len() == blocks.len());
-    for (block, wanted) in plan.blocks().iter().zip(blocks) {
-        same(rt, &(block.first.number(), block.last.number()), wanted);
+fn plans_are_refused_in_order(rt: HostRuntime) {
+    for (gear, blocks, draws, wanted) in REFUSED {
+        refused(&rt, gear, blocks, draws, wanted);
     }
-    assert!(rt; plan.draws().len() == draws.len());
-    for (draw, wanted) in plan.draws().iter().zip(draws) {
-        same(rt, &draw.value(), wanted);
+}
+
+/// The numbers of a block.
+fn bounds_of(blocks: &[Block], at: usize) -> Option<(u8, u8)> {
+    match blocks.get(at) {
+        Some(block) => Some((block.first.number(), block.last.number())),
+        None => None,
+    }
+}
+
+fn draw_of(draws: &[Random24], at: usize) -> Option<u32> {
+    match draws.get(at) {
+        Some(draw) => Some(draw.value()),
+        None => None,
+    }
+}
+
+/// A plan has two blocks and two draws.
+fn has<R: Abort>(rt: &R, plan: &Plan, blocks: [(u8, u8); 2], draws: [u32; 2]) {
+    let counts = (plan.gear(), plan.blocks().len(), plan.draws().len());
+    same(rt, &counts, &(128, 2, 2));
+    for at in 0..2 {
+        same(rt, &bounds_of(plan.blocks(), at), &Some(blocks[at]));
+        same(rt, &draw_of(plan.draws(), at), &Some(draws[at]));
     }
 }
 
 #[test]
 fn a_plan_has_what_it_was_made_of(rt: HostRuntime) -> Result<(), Fail> {
     let plan = Plan::new(rt.alloc(), 128, &[(0, 3), (4, 63)], &[0xFFFFFE, 0])?;
-    has(&rt, &plan, 128, &[(0, 3), (4, 63)], &[0xFFFFFE, 0]);
+    has(&rt, &plan, [(0, 3), (4, 63)], [0xFFFFFE, 0]);
     Ok(())
-}
-
-#[test]
-fn refusals_have_numbers(rt: HostRuntime) {
-    let numbers = [
-        PlanError::NoMemory.number(),
-        PlanError::GearCount.number(),
-        PlanError::DrawTwice.number(),
-    ];
-    same(&rt, &numbers, &[1, 2, 7]);
 }

@@ -2,11 +2,24 @@
 
 use super::values::InNumbers::{Enrol, Release, Reserve};
 use super::values::{InNumbers, are_pairs, block, kept_of, random, same, short};
-use dali_script::{AddError, Kept, Pair, Record};
+use dali_frame::Short;
+use dali_script::{AddError, Block, Kept, Pair, Record};
 use std::process::Abort;
 use std::test::Fail;
 
-/// Records take one more, or refuse it so.
+/// A step of a test: a call and what it answers, or what the records show.
+#[derive(Clone, Copy)]
+enum Step {
+    /// Records take one more, or refuse it so.
+    Adds(InNumbers, Result<(), AddError>),
+    /// The least address that is free has this number.
+    Free(Option<u8>),
+    /// What is reserved and what is enrolled, oldest first.
+    Keeps(&'static [(u8, u32)], &'static [(u8, u32)]),
+    /// The address that is reserved for a number.
+    Reserved(u32, Option<u8>),
+}
+
 fn adds<R: Abort>(
     rt: &R,
     kept: &mut Kept,
@@ -14,69 +27,97 @@ fn adds<R: Abort>(
     wanted: Result<(), AddError>,
 ) -> Result<(), Fail> {
     let added = pair.record()?;
-    if !kept.fits(&added) {
-        return Err(Fail::from("a record that fits"));
-    }
+    assert!(rt; kept.fits(&added));
     same(rt, &kept.add(added), &wanted);
     Ok(())
 }
 
-/// The least address that is free has this number.
-fn is_free<R: Abort>(rt: &R, kept: &Kept, wanted: Option<u8>) {
-    let free = kept.first_free().map(|it| it.number());
-    same(rt, &free, &wanted);
+fn number_of(address: Option<Short>) -> Option<u8> {
+    match address {
+        Some(address) => Some(address.number()),
+        None => None,
+    }
 }
 
-/// What is reserved and what is enrolled, oldest first.
+fn is_free<R: Abort>(rt: &R, kept: &Kept, wanted: Option<u8>) {
+    same(rt, &number_of(kept.first_free()), &wanted);
+}
+
+fn is_reserved<R: Abort>(rt: &R, kept: &Kept, number: u32, wanted: Option<u8>) -> Result<(), Fail> {
+    let reserved = kept.reserved_for(random(number)?);
+    same(rt, &number_of(reserved), &wanted);
+    Ok(())
+}
+
 fn keeps<R: Abort>(rt: &R, kept: &Kept, reserved: &[(u8, u32)], enrolled: &[(u8, u32)]) {
     are_pairs(rt, kept.reserved(), reserved);
     are_pairs(rt, kept.enrolled(), enrolled);
 }
 
-/// Records of the block 4 to 7, of which none is there yet.
-fn fill_in_order<R: Abort>(rt: &R, kept: &mut Kept) -> Result<(), Fail> {
-    is_free(rt, kept, Some(4));
-    adds(rt, kept, Reserve(4, 0x0ABCDE), Ok(()))?;
-    is_free(rt, kept, Some(5));
-    adds(rt, kept, Reserve(4, 1), Err(AddError::AddressTaken))?;
-    adds(rt, kept, Reserve(5, 0x0ABCDE), Err(AddError::RandomTaken))?;
-    // An enrolment of an address is no reservation of it.
-    adds(rt, kept, Enrol(5, 0x0ABCDE), Ok(()))?;
-    is_free(rt, kept, Some(5));
-    let reserved = kept.reserved_for(random(0x0ABCDE)?);
-    same(rt, &reserved, &Some(short(4)?));
-    same(rt, &kept.block(), &block(4, 7)?);
-    keeps(rt, kept, &[(4, 0x0ABCDE)], &[(5, 0x0ABCDE)]);
+/// The steps are as they say.
+fn plays<R: Abort>(rt: &R, kept: &mut Kept, steps: &[Step]) -> Result<(), Fail> {
+    for step in steps {
+        match *step {
+            Step::Adds(pair, wanted) => adds(rt, kept, pair, wanted)?,
+            Step::Free(wanted) => is_free(rt, kept, wanted),
+            Step::Keeps(reserved, enrolled) => keeps(rt, kept, reserved, enrolled),
+            Step::Reserved(number, wanted) => is_reserved(rt, kept, number, wanted)?,
+        }
+    }
     Ok(())
 }
+
+/// The steps, on records of this block.
+fn tells<R: Abort>(
+    rt: &R,
+    bounds: (u8, u8),
+    records: &[InNumbers],
+    steps: &[Step],
+) -> Result<(), Fail> {
+    let mut kept = kept_of(bounds, records)?;
+    same(rt, &kept.block(), &block(bounds.0, bounds.1)?);
+    plays(rt, &mut kept, steps)
+}
+
+const IN_ORDER: [Step; 9] = [
+    Step::Free(Some(4)),
+    Step::Adds(Reserve(4, 0x0ABCDE), Ok(())),
+    Step::Free(Some(5)),
+    Step::Adds(Reserve(4, 1), Err(AddError::AddressTaken)),
+    Step::Adds(Reserve(5, 0x0ABCDE), Err(AddError::RandomTaken)),
+    // An enrolment of an address is no reservation of it.
+    Step::Adds(Enrol(5, 0x0ABCDE), Ok(())),
+    Step::Free(Some(5)),
+    Step::Reserved(0x0ABCDE, Some(4)),
+    Step::Keeps(&[(4, 0x0ABCDE)], &[(5, 0x0ABCDE)]),
+];
 
 #[test]
 fn records_are_kept_in_order(rt: HostRuntime) -> Result<(), Fail> {
-    let mut kept = kept_of((4, 7), &[])?;
-    fill_in_order(&rt, &mut kept)
+    // An empty block has no free address.
+    tells(&rt, (5, 4), &[], &[Step::Free(None)])?;
+    tells(&rt, (4, 7), &[], &IN_ORDER)
 }
 
 /// Three reservations, of which the second is released, and then what is free again is reserved.
-fn release_one<R: Abort>(rt: &R, kept: &mut Kept) -> Result<(), Fail> {
-    adds(rt, kept, Release(5, 3), Err(AddError::NotReserved))?;
-    adds(rt, kept, Release(7, 2), Err(AddError::NotReserved))?;
+const RELEASED: [Step; 10] = [
+    Step::Adds(Release(5, 3), Err(AddError::NotReserved)),
+    Step::Adds(Release(7, 2), Err(AddError::NotReserved)),
     // An enrolment is no reservation.
-    adds(rt, kept, Release(6, 9), Err(AddError::NotReserved))?;
-    adds(rt, kept, Release(5, 2), Ok(()))?;
-    keeps(rt, kept, &[(4, 1), (6, 3)], &[(6, 9)]);
-    is_free(rt, kept, Some(5));
-    adds(rt, kept, Release(5, 2), Err(AddError::NotReserved))?;
-    adds(rt, kept, Reserve(5, 7), Ok(()))?;
-    adds(rt, kept, Reserve(7, 2), Ok(()))?;
-    keeps(rt, kept, &[(4, 1), (6, 3), (5, 7), (7, 2)], &[(6, 9)]);
-    Ok(())
-}
+    Step::Adds(Release(6, 9), Err(AddError::NotReserved)),
+    Step::Adds(Release(5, 2), Ok(())),
+    Step::Keeps(&[(4, 1), (6, 3)], &[(6, 9)]),
+    Step::Free(Some(5)),
+    Step::Adds(Release(5, 2), Err(AddError::NotReserved)),
+    Step::Adds(Reserve(5, 7), Ok(())),
+    Step::Adds(Reserve(7, 2), Ok(())),
+    Step::Keeps(&[(4, 1), (6, 3), (5, 7), (7, 2)], &[(6, 9)]),
+];
 
 #[test]
 fn a_released_address_is_free_again(rt: HostRuntime) -> Result<(), Fail> {
     let records = [Reserve(4, 1), Reserve(5, 2), Reserve(6, 3), Enrol(6, 9)];
-    let mut kept = kept_of((4, 7), &records)?;
-    release_one(&rt, &mut kept)
+    tells(&rt, (4, 7), &records, &RELEASED)
 }
 
 /// A copy is the same as these records, and not as other ones.
@@ -100,50 +141,44 @@ fn are_same(pairs: &[Pair], wanted: &[Pair; 2]) -> bool {
     pairs.len() == 2 && pairs[0].is(wanted[0]) && pairs[1].is(wanted[1])
 }
 
-/// Whether block 4 to 7 has records with these two reservations and these two enrolments, and whether they are those.
-fn made_of(reserved: Numbers, enrolled: Numbers) -> Result<(bool, bool), Fail> {
-    let [(first, one), (second, two)] = reserved;
-    let reserved = [
+fn pairs_of(numbers: Numbers) -> Result<[Pair; 2], Fail> {
+    let [(first, one), (second, two)] = numbers;
+    Ok([
         Pair::of(short(first)?, random(one)?),
         Pair::of(short(second)?, random(two)?),
-    ];
-    let [(first, one), (second, two)] = enrolled;
-    let enrolled = [
-        Pair::of(short(first)?, random(one)?),
-        Pair::of(short(second)?, random(two)?),
-    ];
-    Ok(match Kept::of(block(4, 7)?, &reserved, &enrolled) {
-        Some(kept) => (
-            true,
-            are_same(kept.reserved(), &reserved) && are_same(kept.enrolled(), &enrolled),
+    ])
+}
+
+/// Whether records of this block have these reservations and these enrolments; None where there are no such records.
+fn made(block: Block, reserved: &[Pair; 2], enrolled: &[Pair; 2]) -> Option<bool> {
+    match Kept::of(block, reserved, enrolled) {
+        Some(kept) => Some(
+            are_same(kept.reserved(), reserved) && are_same(kept.enrolled(), enrolled),
         ),
-        None => (false, false),
-    })
+        None => None,
+    }
+}
+
+/// The same of block 4 to 7, by numbers.
+fn made_of(reserved: Numbers, enrolled: Numbers) -> Result<Option<bool>, Fail> {
+    let (reserved, enrolled) = (pairs_of(reserved)?, pairs_of(enrolled)?);
+    Ok(made(block(4, 7)?, &reserved, &enrolled))
 }
 
 #[test]
 fn records_are_made_of_two_lists(rt: HostRuntime) -> Result<(), Fail> {
     let enrolled = [(5, 1), (63, 9)];
-    same(
-        &rt,
-        &made_of([(4, 1), (7, 0xFFFFFE)], enrolled)?,
-        &(true, true),
-    );
-    let cases = [
-        [(4, 1), (4, 2)],
-        [(4, 1), (5, 1)],
-        [(4, 1), (8, 2)],
-        [(3, 1), (4, 2)],
-        [(4, 1), (5, 0xFFFFFF)],
-    ];
-    for reserved in cases {
-        same(&rt, &made_of(reserved, enrolled)?, &(false, false));
+    for (reserved, enrolled, wanted) in [
+        ([(4, 1), (7, 0xFFFFFE)], enrolled, Some(true)),
+        ([(4, 1), (4, 2)], enrolled, None),
+        ([(4, 1), (5, 1)], enrolled, None),
+        ([(4, 1), (8, 2)], enrolled, None),
+        ([(3, 1), (4, 2)], enrolled, None),
+        ([(4, 1), (5, 0xFFFFFF)], enrolled, None),
+        ([(4, 1), (5, 2)], [(9, 1), (9, 2)], None),
+    ] {
+        same(&rt, &made_of(reserved, enrolled)?, &wanted);
     }
-    same(
-        &rt,
-        &made_of([(4, 1), (5, 2)], [(9, 1), (9, 2)])?,
-        &(false, false),
-    );
     Ok(())
 }
 
@@ -171,75 +206,61 @@ fn records_fit_their_block(rt: HostRuntime) -> Result<(), Fail> {
 }
 
 /// Whether records are those from before with this one more, with another one, and themselves with this one more.
-fn has_more<R: Abort>(
-    rt: &R,
-    kept: &Kept,
-    before: &Kept,
-    last: &Record,
-    other: &Record,
-    wanted: [bool; 3],
-) {
-    let told = [
+fn more_of(kept: &Kept, before: &Kept, last: &Record, other: &Record) -> [bool; 3] {
+    [
         kept.is_with(before, last),
         kept.is_with(before, other),
         kept.is_with(kept, last),
-    ];
-    same(rt, &told, &wanted);
+    ]
+}
+
+/// What is told of records, by those from before, those of now, the last one and another one.
+fn told(
+    before: &[InNumbers],
+    now: &[InNumbers],
+    last: InNumbers,
+    other: InNumbers,
+) -> Result<[bool; 3], Fail> {
+    let (before, now) = (kept_of((4, 7), before)?, kept_of((4, 7), now)?);
+    let (last, other) = (last.record()?, other.record()?);
+    Ok(more_of(&now, &before, &last, &other))
 }
 
 #[test]
 fn one_record_more_is_told(rt: HostRuntime) -> Result<(), Fail> {
-    let last = Enrol(5, 0x0ABCDE).record()?;
-    let other = Reserve(5, 0x0ABCDE).record()?;
-    let fewer = kept_of((4, 7), &[Reserve(4, 0x0ABCDE)])?;
-    let more = [Reserve(4, 0x0ABCDE), Enrol(5, 0x0ABCDE)];
-    let kept = kept_of((4, 7), &more)?;
-    has_more(&rt, &kept, &fewer, &last, &other, [true, false, false]);
+    let one = [Reserve(4, 0x0ABCDE)];
+    let two = [Reserve(4, 0x0ABCDE), Enrol(5, 0x0ABCDE)];
+    let added = told(&one, &two, Enrol(5, 0x0ABCDE), Reserve(5, 0x0ABCDE))?;
+    same(&rt, &added, &[true, false, false]);
+    // A release of what is not reserved leaves all as it is.
+    let three = [Reserve(4, 1), Reserve(5, 2), Reserve(6, 3)];
+    let two = [Reserve(4, 1), Reserve(6, 3)];
+    let released = told(&three, &two, Release(5, 2), Release(4, 1))?;
+    same(&rt, &released, &[true, false, true]);
     Ok(())
 }
 
-#[test]
-fn one_reservation_fewer_is_told(rt: HostRuntime) -> Result<(), Fail> {
-    let gone = Release(5, 2).record()?;
-    let other = Release(4, 1).record()?;
-    let before = kept_of((4, 7), &[Reserve(4, 1), Reserve(5, 2), Reserve(6, 3)])?;
-    let kept = kept_of((4, 7), &[Reserve(4, 1), Reserve(6, 3)])?;
-    // A release of what is not reserved leaves all as it is.
-    has_more(&rt, &kept, &before, &gone, &other, [true, false, true]);
-    Ok(())
+/// A reservation and an enrolment of this address, which is the least one that is free.
+fn fill<R: Abort>(rt: &R, kept: &mut Kept, number: u8) -> Result<(), Fail> {
+    let drawn = u32::from(number);
+    let steps = [
+        Step::Free(Some(number)),
+        Step::Adds(Reserve(number, drawn), Ok(())),
+        Step::Adds(Enrol(number, drawn), Ok(())),
+    ];
+    plays(rt, kept, &steps)
 }
 
 /// A reservation and an enrolment of each short address.
 fn fill_all<R: Abort>(rt: &R, kept: &mut Kept) -> Result<(), Fail> {
     for number in 0..64 {
-        is_free(rt, kept, Some(number));
-        let drawn = u32::from(number);
-        adds(rt, kept, Reserve(number, drawn), Ok(()))?;
-        adds(rt, kept, Enrol(number, drawn), Ok(()))?;
+        fill(rt, kept, number)?;
     }
-    is_free(rt, kept, None);
-    same(rt, &kept.reserved_for(random(64)?), &None);
-    Ok(())
+    plays(rt, kept, &[Step::Free(None), Step::Reserved(64, None)])
 }
 
 #[test]
 fn every_address_has_room(rt: HostRuntime) -> Result<(), Fail> {
     let mut kept = kept_of((0, 63), &[])?;
     fill_all(&rt, &mut kept)
-}
-
-#[test]
-fn an_empty_block_has_no_free_address(rt: HostRuntime) -> Result<(), Fail> {
-    is_free(&rt, &kept_of((5, 4), &[])?, None);
-    Ok(())
-}
-
-#[test]
-fn refusals_have_numbers(rt: HostRuntime) {
-    let numbers = [
-        AddError::AddressTaken.number(),
-        AddError::RandomTaken.number(),
-        AddError::NotReserved.number(),
-    ];
-    same(&rt, &numbers, &[3, 4, 6]);
 }

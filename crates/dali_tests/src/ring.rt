@@ -1,7 +1,6 @@
 //! Queues in slots that are linked by their numbers.
 
-use super::values::same;
-use dali_frame::Priority;
+use super::values::{priority, same};
 use dali_ring::{NewError, Ring, Sent};
 use std::process::Abort;
 use std::test::Fail;
@@ -21,19 +20,19 @@ impl Sent for Item {
     }
 }
 
-/// An item, by its sender and its name.
-const fn by(sender: u8, name: u8) -> Item {
-    Item { sender, name }
+/// A step of a test: a call and what it answers, or what the ring shows.
+#[derive(Clone, Copy)]
+enum Step {
+    /// An item comes last in a list, or is handed back.
+    Pushes(u8, Item, Result<(), Item>),
+    /// This item is the oldest of a list, and leaves.
+    Pops(u8, Option<Item>),
+    /// All items of a sender leave: so many, and so many are left.
+    Loses(u8, usize, usize),
+    /// The best list that has an item.
+    Best(Option<u8>),
 }
 
-fn priority(number: u8) -> Result<Priority, Fail> {
-    match Priority::of(number) {
-        Some(priority) => Ok(priority),
-        None => Err(Fail::from("a priority")),
-    }
-}
-
-/// An item comes last in a list, or is handed back.
 fn pushes<R: Abort>(
     rt: &R,
     ring: &mut Ring<Item>,
@@ -41,12 +40,10 @@ fn pushes<R: Abort>(
     item: Item,
     wanted: Result<(), Item>,
 ) -> Result<(), Fail> {
-    let level = priority(level)?;
-    same(rt, &ring.push(level, item), &wanted);
+    same(rt, &ring.push(priority(level)?, item), &wanted);
     Ok(())
 }
 
-/// This item is the oldest of a list, and leaves.
 fn pops<R: Abort>(
     rt: &R,
     ring: &mut Ring<Item>,
@@ -54,68 +51,109 @@ fn pops<R: Abort>(
     wanted: Option<Item>,
 ) -> Result<(), Fail> {
     let level = priority(level)?;
-    same(rt, &ring.front(level), &wanted);
-    same(rt, &ring.pop(level), &wanted);
+    same(rt, &(ring.front(level), ring.pop(level)), &(wanted, wanted));
     Ok(())
 }
 
-/// The senders that go, one after the other, and how many items go with each.
 fn loses<R: Abort>(rt: &R, ring: &mut Ring<Item>, sender: u8, many: usize, left: usize) {
     let gone = ring.remove_of(sender);
     same(rt, &(gone, ring.len()), &(many, left));
 }
 
-fn full_of_three<R: Abort>(rt: &R, ring: &mut Ring<Item>) -> Result<(), Fail> {
-    pushes(rt, ring, 3, by(0, 1), Ok(()))?;
-    pushes(rt, ring, 3, by(1, 2), Ok(()))?;
-    pushes(rt, ring, 2, by(0, 3), Ok(()))?;
-    pushes(rt, ring, 1, by(2, 4), Err(by(2, 4)))?;
-    same(rt, &ring.best(), &Some(priority(2)?));
-    loses(rt, ring, 0, 2, 1);
-    same(rt, &ring.best(), &Some(priority(3)?));
-    pops(rt, ring, 3, Some(by(1, 2)))?;
-    pops(rt, ring, 3, None)?;
-    same(rt, &ring.best(), &None);
+fn is_best<R: Abort>(rt: &R, ring: &Ring<Item>, wanted: Option<u8>) {
+    let best = match ring.best() {
+        Some(priority) => Some(priority.number()),
+        None => None,
+    };
+    same(rt, &best, &wanted);
+}
+
+/// The steps are as they say.
+fn plays<R: Abort>(rt: &R, ring: &mut Ring<Item>, steps: &[Step]) -> Result<(), Fail> {
+    for step in steps {
+        match *step {
+            Step::Pushes(level, item, wanted) => pushes(rt, ring, level, item, wanted)?,
+            Step::Pops(level, wanted) => pops(rt, ring, level, wanted)?,
+            Step::Loses(sender, many, left) => loses(rt, ring, sender, many, left),
+            Step::Best(wanted) => is_best(rt, ring, wanted),
+        }
+    }
     Ok(())
 }
+
+/// The steps, so many times, on a ring with room for so many items.
+fn tells<R: Abort + AllocGlobal>(
+    rt: &R,
+    capacity: usize,
+    rounds: u32,
+    steps: &[Step],
+) -> Result<(), Fail> {
+    let mut ring = Ring::new(rt.alloc(), capacity)?;
+    plays_rounds(rt, &mut ring, rounds, steps)?;
+    same(rt, &ring.capacity(), &capacity);
+    Ok(())
+}
+
+fn plays_rounds<R: Abort>(
+    rt: &R,
+    ring: &mut Ring<Item>,
+    rounds: u32,
+    steps: &[Step],
+) -> Result<(), Fail> {
+    for _ in 0..rounds {
+        plays(rt, ring, steps)?;
+    }
+    Ok(())
+}
+
+const FULL_OF_THREE: [Step; 10] = [
+    Step::Pushes(3, Item { sender: 0, name: 1 }, Ok(())),
+    Step::Pushes(3, Item { sender: 1, name: 2 }, Ok(())),
+    Step::Pushes(2, Item { sender: 0, name: 3 }, Ok(())),
+    Step::Pushes(
+        1,
+        Item { sender: 2, name: 4 },
+        Err(Item { sender: 2, name: 4 }),
+    ),
+    Step::Best(Some(2)),
+    Step::Loses(0, 2, 1),
+    Step::Best(Some(3)),
+    Step::Pops(3, Some(Item { sender: 1, name: 2 })),
+    Step::Pops(3, None),
+    Step::Best(None),
+];
 
 #[test]
 fn a_full_ring_hands_an_item_back_and_a_sender_takes_its_items_along(
     rt: HostRuntime,
 ) -> Result<(), Fail> {
-    let mut ring = Ring::new(rt.alloc(), 3)?;
-    full_of_three(&rt, &mut ring)
+    tells(&rt, 3, 1, &FULL_OF_THREE)
 }
 
-/// Items leave from the middle and from the end, and slots are used again and again.
-fn used_again<R: Abort>(rt: &R, ring: &mut Ring<Item>) -> Result<(), Fail> {
-    for round in 0..3 {
-        pushes(rt, ring, 5, by(1, round), Ok(()))?;
-        pushes(rt, ring, 5, by(0, round), Ok(()))?;
-        pushes(rt, ring, 5, by(2, round), Ok(()))?;
-        pushes(rt, ring, 5, by(0, round), Ok(()))?;
-        loses(rt, ring, 0, 2, 2);
-        pushes(rt, ring, 5, by(3, round), Ok(()))?;
-        pops(rt, ring, 5, Some(by(1, round)))?;
-        pops(rt, ring, 5, Some(by(2, round)))?;
-        pops(rt, ring, 5, Some(by(3, round)))?;
-        pops(rt, ring, 5, None)?;
-    }
-    same(rt, &ring.capacity(), &4);
-    Ok(())
-}
+/// Items leave from the middle and from the end.
+const USED: [Step; 10] = [
+    Step::Pushes(5, Item { sender: 1, name: 0 }, Ok(())),
+    Step::Pushes(5, Item { sender: 0, name: 1 }, Ok(())),
+    Step::Pushes(5, Item { sender: 2, name: 2 }, Ok(())),
+    Step::Pushes(5, Item { sender: 0, name: 3 }, Ok(())),
+    Step::Loses(0, 2, 2),
+    Step::Pushes(5, Item { sender: 3, name: 4 }, Ok(())),
+    Step::Pops(5, Some(Item { sender: 1, name: 0 })),
+    Step::Pops(5, Some(Item { sender: 2, name: 2 })),
+    Step::Pops(5, Some(Item { sender: 3, name: 4 })),
+    Step::Pops(5, None),
+];
 
+/// Slots are used again and again.
 #[test]
 fn slots_are_used_again_in_order(rt: HostRuntime) -> Result<(), Fail> {
-    let mut ring = Ring::new(rt.alloc(), 4)?;
-    used_again(&rt, &mut ring)
+    tells(&rt, 4, 3, &USED)
 }
 
 #[test]
 fn a_ring_has_room_for_1_to_1024(rt: HostRuntime) {
-    let none: Result<Ring<Item>, NewError> = Ring::new(rt.alloc(), 0);
-    same(&rt, &none.err(), &Some(NewError::BadCapacity));
-    let many: Result<Ring<Item>, NewError> = Ring::new(rt.alloc(), 1025);
-    same(&rt, &many.err(), &Some(NewError::BadCapacity));
-    same(&rt, &NewError::BadCapacity.number(), &2);
+    for capacity in [0, 1025] {
+        let none: Result<Ring<Item>, NewError> = Ring::new(rt.alloc(), capacity);
+        same(&rt, &none.err(), &Some(NewError::BadCapacity));
+    }
 }

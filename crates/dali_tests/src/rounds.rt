@@ -94,15 +94,26 @@ fn keeps<R: Abort>(
     are_pairs(rt, site.kept(c).enrolled(), enrolled);
 }
 
+/// The short address of a gear, if there is such a gear.
+fn short_of(site: &SiteState, number: u32) -> Option<Option<u8>> {
+    if number >= site.plan().gear() {
+        return None;
+    }
+    match site.gear(number).short() {
+        Some(address) => Some(Some(address.number())),
+        None => Some(None),
+    }
+}
+
 /// The gear of these numbers have these short addresses, and no other has one.
 fn have<R: Abort>(rt: &R, site: &SiteState, wanted: &[Option<u8>]) {
     assert!(rt; site.plan().gear() as usize == wanted.len());
-    let mut number = 0u32;
-    for short in wanted {
-        assert!(rt; number < site.plan().gear());
-        let held = site.gear(number).short().map(|it| it.number());
-        same(rt, &held, short);
-        number = number.saturating_add(1);
+    for number in 0..site.plan().gear() {
+        same(
+            rt,
+            &short_of(site, number),
+            &wanted.get(number as usize).copied(),
+        );
     }
 }
 
@@ -134,14 +145,6 @@ fn both_end<R: Abort>(rt: &R, site: &mut SiteState) {
     have(rt, site, &[Some(2), Some(0), Some(1)]);
 }
 
-#[test]
-fn two_controllers_name_all_gear_alike(rt: HostRuntime) -> Result<(), Fail> {
-    let draws = [1, 2, 3, 0x300000, 0x100000, 0x200000];
-    let mut site = site_of(rt.alloc(), 3, &[(0, 2), (3, 5)], &draws)?;
-    both_end(&rt, &mut site);
-    Ok(())
-}
-
 const SMALL_BLOCK: [Told; 3] = [
     (0, Commit(Reserve(7, 0x100000))),
     (0, Commit(Enrol(7, 0x100000))),
@@ -153,29 +156,12 @@ fn block_fills<R: Abort>(rt: &R, site: &mut SiteState) {
     have(rt, site, &[Some(7), None]);
 }
 
-#[test]
-fn the_smallest_block_is_full_after_one_gear(rt: HostRuntime) -> Result<(), Fail> {
-    let mut site = site_of(rt.alloc(), 2, &[(7, 7)], &[0x100000, 0x200000])?;
-    block_fills(&rt, &mut site);
-    Ok(())
-}
-
 fn gives_up<R: Abort>(rt: &R, site: &mut SiteState) {
     let destroyed = Trouble::Destroyed(GearSet::NONE);
-    same(
-        rt,
-        &runs(rt, site, &destroyed, &[(0, Done(End::GaveUp))]),
-        &0,
-    );
+    let frames = runs(rt, site, &destroyed, &[(0, Done(End::GaveUp))]);
+    same(rt, &frames, &0);
     // An act and a destroyed frame, eight times, and the act that gives up.
     same(rt, &site.log().len(), &17);
-}
-
-#[test]
-fn eight_destroyed_frames_are_the_end(rt: HostRuntime) -> Result<(), Fail> {
-    let mut site = site_of(rt.alloc(), 1, &[(0, 3)], &[])?;
-    gives_up(&rt, &mut site);
-    Ok(())
 }
 
 const LEFT_BEHIND: [Told; 7] = [
@@ -202,8 +188,59 @@ fn leaves_one_behind<R: Abort>(rt: &R, site: &mut SiteState) -> Result<(), Fail>
     Ok(())
 }
 
+/// What is played on a site of its own.
+#[derive(Clone, Copy)]
+enum Story {
+    /// Two controllers name all gear alike.
+    BothEnd,
+    /// The smallest block is full after one gear.
+    BlockFills,
+    /// Eight destroyed frames are the end.
+    GivesUp,
+    /// A release leaves other reservations.
+    LeavesOneBehind,
+}
+
+fn plays<R: Abort>(rt: &R, site: &mut SiteState, story: Story) -> Result<(), Fail> {
+    match story {
+        Story::BothEnd => both_end(rt, site),
+        Story::BlockFills => block_fills(rt, site),
+        Story::GivesUp => gives_up(rt, site),
+        Story::LeavesOneBehind => leaves_one_behind(rt, site)?,
+    }
+    Ok(())
+}
+
+/// How many gear a site has, its blocks and the numbers that its gear draw, and what is played on it.
+type Site<'a> = (u32, &'a [(u8, u8)], &'a [u32], Story);
+
+const STORIES: [Site<'static>; 4] = [
+    (
+        3,
+        &[(0, 2), (3, 5)],
+        &[1, 2, 3, 0x300000, 0x100000, 0x200000],
+        Story::BothEnd,
+    ),
+    (2, &[(7, 7)], &[0x100000, 0x200000], Story::BlockFills),
+    (1, &[(0, 3)], &[], Story::GivesUp),
+    (
+        1,
+        &[(0, 3), (4, 7)],
+        &[0x123456, 0x0ABCDE],
+        Story::LeavesOneBehind,
+    ),
+];
+
+fn tells<R: Abort + AllocGlobal>(rt: &R, site: &Site<'_>) -> Result<(), Fail> {
+    let (gear, blocks, draws, story) = *site;
+    let mut site = site_of(rt.alloc(), gear, blocks, draws)?;
+    plays(rt, &mut site, story)
+}
+
 #[test]
-fn a_release_leaves_other_reservations(rt: HostRuntime) -> Result<(), Fail> {
-    let mut site = site_of(rt.alloc(), 1, &[(0, 3), (4, 7)], &[0x123456, 0x0ABCDE])?;
-    leaves_one_behind(&rt, &mut site)
+fn rounds_end_as_they_do_in_scripts(rt: HostRuntime) -> Result<(), Fail> {
+    for site in STORIES {
+        tells(&rt, &site)?;
+    }
+    Ok(())
 }

@@ -5,12 +5,22 @@ use dali_search::{Search, Step};
 use std::process::Abort;
 use std::test::Fail;
 
+/// Whether one of these numbers is at most this one.
+fn has_at_most(members: &[u32], most: u32) -> bool {
+    for member in members {
+        if *member <= most {
+            return true;
+        }
+    }
+    false
+}
+
 /// What a search over a set of numbers ends with, after how many probes.
 fn end_of(members: &[u32]) -> Option<(Step, usize)> {
     let mut search = Search::new();
     for probes in 1..30 {
         let probe = search.probe().value();
-        let step = search.answer(members.iter().any(|member| *member <= probe));
+        let step = search.answer(has_at_most(members, probe));
         if step != Step::Again {
             return Some((step, probes));
         }
@@ -27,13 +37,18 @@ fn finds<R: Abort>(rt: &R, number: u32, probes: usize) -> Result<(), Fail> {
 
 #[test]
 fn searches_end_with_the_least_member(rt: HostRuntime) -> Result<(), Fail> {
-    finds(&rt, 0x000000, 25)?;
-    finds(&rt, 0x000001, 25)?;
-    finds(&rt, 0x123456, 25)?;
-    finds(&rt, 0x7FFFFF, 25)?;
-    finds(&rt, 0x800000, 25)?;
-    finds(&rt, 0xFFFFFD, 25)?;
-    finds(&rt, 0xFFFFFE, 24)
+    for (number, probes) in [
+        (0x000000, 25),
+        (0x000001, 25),
+        (0x123456, 25),
+        (0x7FFFFF, 25),
+        (0x800000, 25),
+        (0xFFFFFD, 25),
+        (0xFFFFFE, 24),
+    ] {
+        finds(&rt, number, probes)?;
+    }
+    Ok(())
 }
 
 #[test]
@@ -69,34 +84,34 @@ fn an_end_comes_again(rt: HostRuntime) {
     asks(&rt, &mut Search::new(), &probes, Step::Nobody);
 }
 
-/// The search that is made of the three numbers of this one.
+/// The search that is made of the three numbers of this one, where it is the same.
 fn made_again(search: &Search) -> Option<Search> {
-    Search::of(search.answers(), search.least(), search.probe())
+    let made = Search::of(search.answers(), search.least(), search.probe())?;
+    if made.probe() == search.probe() && made.step() == search.step() {
+        Some(made)
+    } else {
+        None
+    }
 }
 
 /// Whether a search for this number that is made again after each answer goes on as it would have, to its end.
 fn goes_on_anew(number: u32) -> bool {
     let mut search = Search::new();
     for _ in 0..26 {
-        let Some(made) = made_again(&search) else {
-            return false;
-        };
-        if made.probe() != search.probe() || made.step() != search.step() {
-            return false;
+        match made_again(&search) {
+            Some(made) => search = made,
+            None => return false,
         }
-        search = made;
-        let yes = number <= search.probe().value();
-        search.answer(yes);
+        search.answer(number <= search.probe().value());
     }
     search.step() != Step::Again
 }
 
 #[test]
 fn a_search_is_made_again_of_three_numbers(rt: HostRuntime) {
-    same(&rt, &goes_on_anew(0), &true);
-    same(&rt, &goes_on_anew(0x123456), &true);
-    same(&rt, &goes_on_anew(0xFFFFFE), &true);
-    same(&rt, &goes_on_anew(0xFFFFFF), &true);
+    for number in [0, 0x123456, 0xFFFFFE, 0xFFFFFF] {
+        same(&rt, &(number, goes_on_anew(number)), &(number, true));
+    }
 }
 
 /// Whether there is a search of so many answers that leave this least number, with this probe.

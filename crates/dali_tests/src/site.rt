@@ -96,12 +96,6 @@ fn wide_queue<R: Abort>(rt: &R, site: &mut SiteState) -> Result<(), Fail> {
     Ok(())
 }
 
-#[test]
-fn a_wide_queue_is_empty_when_its_controller_went_down(rt: HostRuntime) -> Result<(), Fail> {
-    let mut site = site_of(rt.alloc(), &[(0, 3)], 4096, 1024)?;
-    wide_queue(&rt, &mut site)
-}
-
 /// The bus lapses, and this controller owned it.
 fn lapses<R: Abort>(rt: &R, site: &mut SiteState, wanted: Result<Option<u8>, Refusal>) {
     same(rt, &site.lapse(), &wanted);
@@ -137,15 +131,6 @@ fn log_fills<R: Abort>(rt: &R, site: &mut SiteState, events: u16) {
     }
 }
 
-#[test]
-fn a_log_of_any_size_fills(rt: HostRuntime) -> Result<(), Fail> {
-    for events in 1..21 {
-        let mut site = site_of(rt.alloc(), &[(0, 3)], events, 16)?;
-        log_fills(&rt, &mut site, events);
-    }
-    Ok(())
-}
-
 /// Controller 0 comes up with this record or none, or is refused so.
 fn comes_up<R: Abort>(
     rt: &R,
@@ -173,38 +158,6 @@ fn shows<R: Abort>(rt: &R, receipt: Result<Receipt, Refusal>, wanted: (u8, Input
         Err(_) => None,
     };
     same(rt, &shown, &Some(wanted));
-}
-
-/// A request for arc power is a step too; what befalls the bus is none.
-fn receipts<R: Abort>(rt: &R, site: &mut SiteState) {
-    shows(
-        rt,
-        site.act(0, Input::Start),
-        (0, Input::Start, Put(3, 0xA100), 1),
-    );
-    sends(rt, site, 0xA100);
-    shows(rt, site.act(0, SILENCE), (0, SILENCE, Put(1, 0xA5FF), 2));
-    does(rt, site.arc(0, forward(0xFE80)), Ok(()));
-    shows(
-        rt,
-        site.act(1, Input::Start),
-        (1, Input::Start, Put(3, 0xA100), 1),
-    );
-    sends(rt, site, 0xA5FF);
-    shows(rt, site.act(0, SILENCE), (0, SILENCE, Put(1, 0xA5FF), 4));
-    lapses(rt, site, Ok(Some(0)));
-    shows(
-        rt,
-        site.act(0, Input::Lapsed),
-        (0, Input::Lapsed, Put(3, 0xA100), 5),
-    );
-}
-
-#[test]
-fn receipts_count_the_steps_of_a_controller(rt: HostRuntime) -> Result<(), Fail> {
-    let mut site = site_of(rt.alloc(), &[(0, 1), (2, 3)], 64, 16)?;
-    receipts(&rt, &mut site);
-    Ok(())
 }
 
 /// Who owns the bus, whether no request waits, and of controller 0 what it was told and what is due.
@@ -293,13 +246,6 @@ fn commissioned<R: Abort>(rt: &R, site: &mut SiteState) {
     has_given(rt, site, 0x123456, 0);
 }
 
-#[test]
-fn a_commissioning_stands_in_the_log(rt: HostRuntime) -> Result<(), Fail> {
-    let mut site = site_of(rt.alloc(), &[(0, 3)], 4096, 16)?;
-    commissioned(&rt, &mut site);
-    Ok(())
-}
-
 /// The record whose commit is due for controller 0.
 fn has_ordered<R: Abort>(rt: &R, site: &SiteState, wanted: Option<InNumbers>) {
     assert!(rt; !site.plan().blocks().is_empty());
@@ -314,8 +260,11 @@ fn reserves<R: Abort>(rt: &R, site: &mut SiteState) {
 }
 
 /// A step of a test: a call and what it answers, or what the site shows.
+#[derive(Clone, Copy)]
 enum Step {
     Acts(u8, Input, Result<Ordered, Refusal>),
+    /// A controller acts, and its receipt shows this order and this number of its step.
+    Receipt(u8, Input, Ordered, u32),
     Pumps(Trouble, Result<Report, Refusal>),
     /// The frame of these bytes, of controller 0, is sent.
     Sends(u16),
@@ -339,6 +288,14 @@ enum Step {
     Crowded(bool),
     /// The record whose commit is due for controller 0.
     Ordered(Option<InNumbers>),
+    /// Controller 0 goes on to its first record, which is not committed.
+    Reserves,
+    /// One gear is commissioned, and all of it stands in the log.
+    Commissions,
+    /// So many requests wait as may wait, and all of a controller leave with it.
+    Waits,
+    /// A commissioning fills the log, which has room for so many events, and is refused from then on.
+    Fills(u16),
 }
 
 /// A step that calls the site and answers no more than that it was accepted.
@@ -350,6 +307,15 @@ fn calls<R: Abort>(rt: &R, site: &mut SiteState, step: &Step) {
         Step::Quiet(wanted) => does(rt, site.quiet(), wanted),
         Step::Down(wanted) => does(rt, site.down(0), wanted),
         _ => assert!(rt; false),
+    }
+}
+
+/// A step that is many rounds of a commissioning.
+fn runs<R: Abort>(rt: &R, site: &mut SiteState, step: &Step) {
+    match *step {
+        Step::Reserves => reserves(rt, site),
+        Step::Fills(events) => log_fills(rt, site, events),
+        _ => commissioned(rt, site),
     }
 }
 
@@ -370,6 +336,9 @@ fn plays<R: Abort>(rt: &R, site: &mut SiteState, steps: &[Step]) -> Result<(), F
     for step in steps {
         match *step {
             Step::Acts(c, input, wanted) => acts(rt, site, c, input, wanted),
+            Step::Receipt(c, input, order, number) => {
+                shows(rt, site.act(c, input), (c, input, order, number));
+            }
             Step::Pumps(trouble, wanted) => pumps(rt, site, trouble, wanted),
             Step::Sends(bytes) => sends(rt, site, bytes),
             Step::Lapses(wanted) => lapses(rt, site, wanted),
@@ -379,6 +348,8 @@ fn plays<R: Abort>(rt: &R, site: &mut SiteState, steps: &[Step]) -> Result<(), F
             | Step::Keeps(..)
             | Step::Crowded(_)
             | Step::Ordered(_) => looks(rt, site, step),
+            Step::Waits => wide_queue(rt, site)?,
+            Step::Reserves | Step::Commissions | Step::Fills(_) => runs(rt, site, step),
             _ => calls(rt, site, step),
         }
     }
@@ -403,6 +374,24 @@ fn tells<R: Abort + AllocGlobal>(
     plays(rt, &mut site, steps)
 }
 
+#[test]
+fn a_commissioning_stands_in_the_log(rt: HostRuntime) -> Result<(), Fail> {
+    tells(&rt, &[(0, 3)], 4096, 16, &[Step::Commissions])
+}
+
+#[test]
+fn a_wide_queue_is_empty_when_its_controller_went_down(rt: HostRuntime) -> Result<(), Fail> {
+    tells(&rt, &[(0, 3)], 4096, 1024, &[Step::Waits])
+}
+
+#[test]
+fn a_log_of_any_size_fills(rt: HostRuntime) -> Result<(), Fail> {
+    for events in 1..21 {
+        tells(&rt, &[(0, 3)], events, 16, &[Step::Fills(events)])?;
+    }
+    Ok(())
+}
+
 const FULL_QUEUE: Result<(), Refusal> = Err(Refusal::QueueFull);
 
 const FULL_LOG: Result<(), Refusal> = Err(Refusal::LogFull);
@@ -420,11 +409,6 @@ const SMALL_QUEUE: [Step; 8] = [
     Step::Sends(0xA100),
     Step::Acts(1, Input::Start, Ok(Put(3, 0xA100))),
 ];
-
-#[test]
-fn a_full_queue_refuses(rt: HostRuntime) -> Result<(), Fail> {
-    tells(&rt, &[(0, 1), (2, 3)], 16, 1, &SMALL_QUEUE)
-}
 
 /// A site with room for one event, which has come. A full log changes no reader.
 const SMALL_LOG: [Step; 14] = [
@@ -457,10 +441,16 @@ const SMALL_BOTH: [Step; 5] = [
 const SMALL_DOWN: [Step; 2] = [Step::Down(Ok(())), Step::Up(None, FULL_LOG)];
 
 #[test]
-fn a_full_log_refuses(rt: HostRuntime) -> Result<(), Fail> {
-    tells(&rt, &[(0, 3)], 1, 1, &SMALL_LOG)?;
-    tells(&rt, &[(0, 3)], 1, 1, &SMALL_BOTH)?;
-    tells(&rt, &[(0, 3)], 1, 1, &SMALL_DOWN)
+fn a_full_queue_and_a_full_log_refuse(rt: HostRuntime) -> Result<(), Fail> {
+    tells(&rt, &[(0, 1), (2, 3)], 16, 1, &SMALL_QUEUE)?;
+    for steps in [
+        SMALL_LOG.as_slice(),
+        SMALL_BOTH.as_slice(),
+        SMALL_DOWN.as_slice(),
+    ] {
+        tells(&rt, &[(0, 3)], 1, 1, steps)?;
+    }
+    Ok(())
 }
 
 /// Each event of gear, bus and controllers stands in the log as it was called.
@@ -503,12 +493,15 @@ const ALL_READ: [Step; 11] = [
 
 #[test]
 fn calls_stand_in_the_log_and_readers_follow(rt: HostRuntime) -> Result<(), Fail> {
-    tells(&rt, &[(0, 3)], 16, 16, &ALL_LOGGED)?;
-    tells(&rt, &[(0, 3)], 16, 16, &ALL_READ)
+    for steps in [ALL_LOGGED.as_slice(), ALL_READ.as_slice()] {
+        tells(&rt, &[(0, 3)], 16, 16, steps)?;
+    }
+    Ok(())
 }
 
 /// While the record is outstanding a controller may come up without it, and with no other.
-const WITHOUT_RECORD: [Step; 6] = [
+const WITHOUT_RECORD: [Step; 7] = [
+    Step::Reserves,
     Step::Down(Ok(())),
     Step::Up(Some(Reserve(1, 0x123456)), DISAGREES),
     Step::Up(Some(Enrol(0, 0x123456)), DISAGREES),
@@ -518,7 +511,8 @@ const WITHOUT_RECORD: [Step; 6] = [
 ];
 
 /// Or with it.
-const WITH_RECORD: [Step; 4] = [
+const WITH_RECORD: [Step; 5] = [
+    Step::Reserves,
     Step::Down(Ok(())),
     Step::Up(Some(Reserve(0, 0x123456)), Ok(())),
     Step::Logged(221, Event::Up(0, true)),
@@ -526,7 +520,8 @@ const WITH_RECORD: [Step; 4] = [
 ];
 
 /// A record that is committed must be there.
-const COMMITTED_RECORD: [Step; 6] = [
+const COMMITTED_RECORD: [Step; 7] = [
+    Step::Reserves,
     Step::Acts(0, Input::Committed, Ok(Put(3, 0xB112))),
     Step::Down(Ok(())),
     Step::Up(None, DISAGREES),
@@ -536,26 +531,44 @@ const COMMITTED_RECORD: [Step; 6] = [
 ];
 
 /// A record that failed is not kept.
-const FAILED_RECORD: [Step; 4] = [
+const FAILED_RECORD: [Step; 5] = [
+    Step::Reserves,
     Step::Acts(0, Input::CommitFailed, Ok(Halt(Fault::Store))),
     Step::Reads((None, true, None, Due::Nothing)),
     Step::Keeps(None, None),
     Step::Ordered(None),
 ];
 
-/// The steps, on a site whose controller has ordered its first record, which is not committed.
-fn tells_behind_a_record<R: Abort + AllocGlobal>(rt: &R, steps: &[Step]) -> Result<(), Fail> {
-    let mut site = site_of(rt.alloc(), &[(0, 3)], 4096, 16)?;
-    reserves(rt, &mut site);
-    plays(rt, &mut site, steps)
+/// A request for arc power is a step too; what befalls the bus is none.
+const RECEIPTS: [Step; 10] = [
+    Step::Receipt(0, Input::Start, Put(3, 0xA100), 1),
+    Step::Sends(0xA100),
+    Step::Receipt(0, SILENCE, Put(1, 0xA5FF), 2),
+    Step::Offers(0xFE80, Ok(())),
+    Step::Receipt(1, Input::Start, Put(3, 0xA100), 1),
+    Step::Sends(0xA5FF),
+    Step::Receipt(0, SILENCE, Put(1, 0xA5FF), 4),
+    Step::Lapses(Ok(Some(0))),
+    Step::Receipt(0, Input::Lapsed, Put(3, 0xA100), 5),
+    Step::Crowded(false),
+];
+
+#[test]
+fn receipts_count_the_steps_of_a_controller(rt: HostRuntime) -> Result<(), Fail> {
+    tells(&rt, &[(0, 1), (2, 3)], 64, 16, &RECEIPTS)
 }
 
 #[test]
 fn a_record_is_outstanding(rt: HostRuntime) -> Result<(), Fail> {
-    tells_behind_a_record(&rt, &WITHOUT_RECORD)?;
-    tells_behind_a_record(&rt, &WITH_RECORD)?;
-    tells_behind_a_record(&rt, &COMMITTED_RECORD)?;
-    tells_behind_a_record(&rt, &FAILED_RECORD)
+    for steps in [
+        WITHOUT_RECORD.as_slice(),
+        WITH_RECORD.as_slice(),
+        COMMITTED_RECORD.as_slice(),
+        FAILED_RECORD.as_slice(),
+    ] {
+        tells(&rt, &[(0, 3)], 4096, 16, steps)?;
+    }
+    Ok(())
 }
 
 #[test]
@@ -567,22 +580,4 @@ fn a_trouble_says_what_is_heard(rt: HostRuntime) {
         Trouble::Noise.heard(byte),
     ];
     same(&rt, &heard, &[byte, Answer::Silence, Answer::Damaged]);
-}
-
-#[test]
-fn refusals_have_numbers(rt: HostRuntime) {
-    let numbers = [
-        Refusal::UnknownController.number(),
-        Refusal::UnknownGear.number(),
-        Refusal::ControllerDown.number(),
-        Refusal::ControllerUp.number(),
-        Refusal::NotDue.number(),
-        Refusal::NotArc.number(),
-        Refusal::StoreDisagrees.number(),
-        Refusal::DrawsSpent.number(),
-        Refusal::QueueFull.number(),
-        Refusal::LogFull.number(),
-        Refusal::NoMemory.number(),
-    ];
-    same(&rt, &numbers, &[1, 1, 2, 2, 3, 4, 5, 6, 7, 8, 9]);
 }

@@ -1,13 +1,13 @@
 //! A machine that begins by a survey: what it asks, whom it enrols, what it gives and what it leaves alone.
 
 use super::machine::{
-    DAMAGED, FOUND, Moment, OPENING, PROBE, SILENCE, YES, byte, goes_on, machine_of, ordered,
-    searches_from,
+    DAMAGED, FOUND, Moment, OPENED, PROBE, SILENCE, YES, goes_on, machine_of, ordered, searches,
 };
 use super::values::InNumbers::{Enrol, Release, Reserve};
 use super::values::Ordered::{Commit, Done, Halt, NotDue, Put};
-use super::values::{InNumbers, same, short};
+use super::values::{InNumbers, Ordered, same, short};
 use dali_controller::Machine;
+use dali_frame::Answer;
 use dali_script::{End, Fault, Input};
 use std::process::Abort;
 use std::test::Fail;
@@ -34,6 +34,25 @@ fn heard_after(heard: &[Heard], frame: u16) -> Input {
     SILENCE
 }
 
+/// What the machine is told behind an order: a record is the next of these, and is kept.
+fn told_after<R: Abort>(
+    rt: &R,
+    order: Ordered,
+    heard: &[Heard],
+    records: &[InNumbers],
+    kept: &mut usize,
+) -> Input {
+    match order {
+        Put(_, frame) => heard_after(heard, frame),
+        Commit(record) => {
+            same(rt, &records.get(*kept).copied(), &Some(record));
+            *kept = kept.saturating_add(1);
+            Input::Committed
+        }
+        Done(_) | Halt(_) | NotDue => Input::Start,
+    }
+}
+
 /// The machine surveys, for so many orders; what it orders to be kept are these records, and they are kept.
 fn surveys<R: Abort>(
     rt: &R,
@@ -45,157 +64,254 @@ fn surveys<R: Abort>(
     let mut told = Input::Survey;
     let mut kept: usize = 0;
     for _ in 0..orders {
-        told = match ordered(machine, told) {
-            Put(_, frame) => heard_after(heard, frame),
-            Commit(record) => {
-                same(rt, &records.get(kept).copied(), &Some(record));
-                kept = kept.saturating_add(1);
-                Input::Committed
-            }
-            Done(_) | Halt(_) | NotDue => Input::Start,
-        };
+        told = told_after(rt, ordered(machine, told), heard, records, &mut kept);
     }
     same(rt, &kept, &records.len());
 }
 
-/// A machine of a block, with records of before, surveys so, and is then told one part after the other.
-fn plays<R: Abort>(
-    rt: &R,
-    bounds: (u8, u8),
-    before: &[InNumbers],
-    heard: &[Heard],
-    records: &[InNumbers],
-    orders: u32,
-    parts: &[&[Moment]],
-) -> Result<(), Fail> {
-    let mut machine = machine_of(bounds, before)?;
+/// A story of a survey: its name, the block and the records of before, what is heard, what is kept, how many orders the
+/// survey has, and what the machine is told then and orders, one part after the other.
+type Surveyed<'a> = (
+    &'a str,
+    (u8, u8),
+    &'a [InNumbers],
+    &'a [Heard],
+    &'a [InNumbers],
+    u32,
+    &'a [&'a [Moment]],
+);
+
+/// A machine that has surveyed so, and was told one part after the other.
+fn played<R: Abort>(rt: &R, story: &Surveyed<'_>) -> Result<Machine, Fail> {
+    let (name, block, before, heard, records, orders, parts) = *story;
+    let mut machine = machine_of(block, before)?;
     surveys(rt, &mut machine, heard, records, orders);
-    goes_on(rt, &mut machine, parts);
+    goes_on(rt, name, &mut machine, parts);
+    Ok(machine)
+}
+
+/// The survey loses a question, and asks it again.
+const ASKED_AGAIN: [Moment; 9] = [
+    (Input::Survey, Put(3, 0x01C2)),
+    (SILENCE, Put(3, 0x01C2)),
+    (Input::Destroyed, Put(3, 0x01C2)),
+    (Input::Lapsed, Put(3, 0x01C2)),
+    (SILENCE, Put(3, 0x01C2)),
+    (Input::Heard(Answer::Byte(0x12)), Put(1, 0x01C3)),
+    (Input::Destroyed, Put(3, 0x01C2)),
+    (DAMAGED, Put(3, 0x03C2)),
+    (Input::Start, NotDue),
+];
+
+/// A byte is heard, and then the question is lost and nobody answers any more.
+const ANSWERED_ONCE: [Moment; 6] = [
+    (Input::Survey, Put(3, 0x01C2)),
+    (Input::Heard(Answer::Byte(0x12)), Put(1, 0x01C3)),
+    (Input::Destroyed, Put(3, 0x01C2)),
+    (SILENCE, Put(3, 0x01C2)),
+    (SILENCE, Put(3, 0x01C2)),
+    (SILENCE, Put(3, 0x03C2)),
+];
+
+/// Gear that tells its number under address 0.
+const TOLD: [Heard; 3] = [
+    (0x01C2, Input::Heard(Answer::Byte(0x12))),
+    (0x01C3, Input::Heard(Answer::Byte(0x34))),
+    (0x01C4, Input::Heard(Answer::Byte(0x56))),
+];
+
+/// With no other address in the block no gear draws a number.
+const NOTHING_TO_GIVE: [&[Moment]; 3] = [
+    &WAKE,
+    &PROBE,
+    &[(SILENCE, Put(3, 0xA100)), (SILENCE, Done(End::AllFound))],
+];
+
+/// Plays stories of surveys: one more costs no proof.
+fn all_play<R: Abort>(rt: &R, stories: &[Surveyed<'_>]) -> Result<(), Fail> {
+    for story in stories {
+        played(rt, story)?;
+    }
     Ok(())
 }
 
-#[test]
-fn silence_is_asked_three_times_under_each_address(rt: HostRuntime) -> Result<(), Fail> {
-    let opens = [(SILENCE, Put(3, 0xA100))];
-    let closes = [
-        (SILENCE, Put(3, 0xA100)),
-        (SILENCE, Done(End::AllFound)),
-        (Input::Survey, NotDue),
-    ];
-    let parts: [&[Moment]; 6] = [&WAKE, &PROBE, &opens, &OPENING[1..], &PROBE, &closes];
-    plays(&rt, (0, 3), &[], &[], &[], 192, &parts)
-}
+const SURVEYS: [Surveyed<'static>; 5] = [
+    (
+        "silence is asked three times under each address",
+        (0, 3),
+        &[],
+        &[],
+        &[],
+        192,
+        &[
+            &WAKE,
+            &PROBE,
+            &[(SILENCE, Put(3, 0xA100))],
+            &OPENED,
+            &PROBE,
+            &[
+                (SILENCE, Put(3, 0xA100)),
+                (SILENCE, Done(End::AllFound)),
+                (Input::Survey, NotDue),
+            ],
+        ],
+    ),
+    (
+        "gear that tells a number is enrolled",
+        (8, 9),
+        &[],
+        &TOLD,
+        &[Enrol(0, 0x123456)],
+        193,
+        &[&WAKE],
+    ),
+    (
+        "another address that is reserved for the number is given back",
+        (8, 9),
+        &[Reserve(9, 0x123456)],
+        &TOLD,
+        &[Enrol(0, 0x123456), Release(9, 0x123456)],
+        194,
+        &[&WAKE],
+    ),
+    (
+        "what the table names is asked only where it is reserved",
+        (8, 9),
+        &[Enrol(1, 0x111111), Enrol(2, 0x222222)],
+        &[],
+        &[],
+        186,
+        &[&WAKE],
+    ),
+    (
+        "another number at an address of the table is a conflict",
+        (0, 3),
+        &[Reserve(0, 0x111111), Enrol(0, 0x111111)],
+        &[],
+        &[],
+        0,
+        &[&[
+            (Input::Survey, Put(3, 0x01C2)),
+            (Input::Heard(Answer::Byte(0x12)), Put(1, 0x01C3)),
+            (Input::Heard(Answer::Byte(0x34)), Put(1, 0x01C4)),
+            (Input::Heard(Answer::Byte(0x56)), Halt(Fault::Conflict)),
+        ]],
+    ),
+];
 
 #[test]
-fn gear_that_tell_a_number_are_enrolled(rt: HostRuntime) -> Result<(), Fail> {
-    let told = [
-        (0x01C2, byte(0x12)),
-        (0x01C3, byte(0x34)),
-        (0x01C4, byte(0x56)),
-    ];
-    let enrolled = [Enrol(0, 0x123456)];
-    plays(&rt, (8, 9), &[], &told, &enrolled, 193, &[&WAKE])?;
-    // Another address that is reserved for the number is given back.
-    let before = [Reserve(9, 0x123456)];
-    let released = [Enrol(0, 0x123456), Release(9, 0x123456)];
-    plays(&rt, (8, 9), &before, &told, &released, 194, &[&WAKE])?;
-    // What the table names is asked only where it is reserved.
-    let named = [Enrol(1, 0x111111), Enrol(2, 0x222222)];
-    plays(&rt, (8, 9), &named, &[], &[], 186, &[&WAKE])?;
-    let conflict = [
-        (Input::Survey, Put(3, 0x01C2)),
-        (byte(0x12), Put(1, 0x01C3)),
-        (byte(0x34), Put(1, 0x01C4)),
-        (byte(0x56), Halt(Fault::Conflict)),
-    ];
-    let other = [Reserve(0, 0x111111), Enrol(0, 0x111111)];
-    plays(&rt, (0, 3), &other, &[], &[], 0, &[&conflict])
+fn surveys_enrol_what_is_told(rt: HostRuntime) -> Result<(), Fail> {
+    all_play(&rt, &SURVEYS)
 }
 
-/// An address that is somebody's, whose number is not told, is given to nobody: with no other in the block no gear
-/// draws a number.
-#[test]
-fn what_was_heard_is_not_given(rt: HostRuntime) -> Result<(), Fail> {
-    let ends = [(SILENCE, Put(3, 0xA100)), (SILENCE, Done(End::AllFound))];
-    let parts: [&[Moment]; 3] = [&WAKE, &PROBE, &ends];
-    let damaged = [(0x01C2, DAMAGED)];
-    plays(&rt, (0, 0), &[], &damaged, &[], 190, &parts)?;
-    let cut_off = [(0x01C2, byte(0x12))];
-    plays(&rt, (0, 0), &[], &cut_off, &[], 191, &parts)?;
-    let undrawn = [(0x01C2, YES), (0x01C3, YES), (0x01C4, YES)];
-    plays(&rt, (0, 0), &[], &undrawn, &[], 192, &parts)
-}
-
-/// A byte was heard, and then the question was lost and nobody answers any more: somebody was there.
-#[test]
-fn who_answered_once_was_heard(rt: HostRuntime) -> Result<(), Fail> {
-    let asks = [
-        (Input::Survey, Put(3, 0x01C2)),
-        (byte(0x12), Put(1, 0x01C3)),
-        (Input::Destroyed, Put(3, 0x01C2)),
-        (SILENCE, Put(3, 0x01C2)),
-        (SILENCE, Put(3, 0x01C2)),
-        (SILENCE, Put(3, 0x03C2)),
-    ];
-    let mut machine = machine_of((0, 3), &[])?;
-    goes_on(&rt, &mut machine, &[&asks]);
-    let heard = machine.heard();
-    same(&rt, &heard.has(short(0)?), &true);
-    same(&rt, &heard.has(short(1)?), &false);
-    Ok(())
-}
-
-/// The gear at 000000 has no short address, and 0 is reserved for it; then it is told this.
-fn reserved<R: Abort>(
-    rt: &R,
-    bounds: (u8, u8),
-    heard: &[Heard],
-    orders: u32,
-    parts: &[&[Moment]],
-) -> Result<(), Fail> {
-    let mut machine = machine_of(bounds, &[Reserve(0, 0x000000)])?;
-    surveys(rt, &mut machine, heard, &[], orders);
-    goes_on(rt, &mut machine, &[&WAKE]);
-    searches_from(rt, &mut machine, SILENCE, PROBES);
-    goes_on(rt, &mut machine, &[&FOUND]);
-    goes_on(rt, &mut machine, parts);
-    Ok(())
-}
-
-#[test]
-fn an_address_of_somebody_else_is_not_given_by_a_reservation(rt: HostRuntime) -> Result<(), Fail> {
-    let given = [(YES, Put(1, 0xB701))];
-    reserved(&rt, (0, 1), &[], 192, &[&given])?;
-    let damaged = [(0x01C2, DAMAGED)];
-    let opens = [(YES, Put(3, 0xA100))];
-    reserved(&rt, (0, 1), &damaged, 190, &[&opens, &OPENING[1..]])?;
-    let closes = [(YES, Put(3, 0xA100)), (SILENCE, Done(End::BlockFull))];
-    reserved(&rt, (0, 0), &damaged, 190, &[&closes])
-}
-
-#[test]
-fn a_question_that_is_lost_is_asked_again(rt: HostRuntime) -> Result<(), Fail> {
-    let asks = [
-        (Input::Survey, Put(3, 0x01C2)),
-        (SILENCE, Put(3, 0x01C2)),
-        (Input::Destroyed, Put(3, 0x01C2)),
-        (Input::Lapsed, Put(3, 0x01C2)),
-        (SILENCE, Put(3, 0x01C2)),
-        (byte(0x12), Put(1, 0x01C3)),
-        (Input::Destroyed, Put(3, 0x01C2)),
-        (DAMAGED, Put(3, 0x03C2)),
-        (Input::Start, NotDue),
-    ];
-    plays(&rt, (0, 3), &[], &[], &[], 0, &[&asks])?;
-    let lost = (Input::Destroyed, Put(3, 0x01C2));
-    let given_up = (Input::Destroyed, Done(End::GaveUp));
-    plays(
-        &rt,
+const UNTOLD: [Surveyed<'static>; 5] = [
+    // An address that is somebody's, whose number is not told, is given to nobody.
+    (
+        "what was damaged is not given",
+        (0, 0),
+        &[],
+        &[(0x01C2, DAMAGED)],
+        &[],
+        190,
+        &NOTHING_TO_GIVE,
+    ),
+    (
+        "what was cut off is not given",
+        (0, 0),
+        &[],
+        &[(0x01C2, Input::Heard(Answer::Byte(0x12)))],
+        &[],
+        191,
+        &NOTHING_TO_GIVE,
+    ),
+    (
+        "what has drawn no number is not given",
+        (0, 0),
+        &[],
+        &[(0x01C2, YES), (0x01C3, YES), (0x01C4, YES)],
+        &[],
+        192,
+        &NOTHING_TO_GIVE,
+    ),
+    (
+        "a question that is lost is asked again",
         (0, 3),
         &[],
         &[],
         &[],
         0,
-        &[&asks[..1], &[lost; 7], &[given_up]],
-    )
+        &[&ASKED_AGAIN],
+    ),
+    (
+        "eight lost questions in a row give up",
+        (0, 3),
+        &[],
+        &[],
+        &[],
+        0,
+        &[
+            &[(Input::Survey, Put(3, 0x01C2))],
+            &[(Input::Destroyed, Put(3, 0x01C2)); 7],
+            &[(Input::Destroyed, Done(End::GaveUp))],
+        ],
+    ),
+];
+
+#[test]
+fn surveys_leave_alone_what_is_not_told(rt: HostRuntime) -> Result<(), Fail> {
+    all_play(&rt, &UNTOLD)
+}
+
+/// Whether somebody was heard under these addresses.
+fn has_heard<R: Abort>(rt: &R, machine: &Machine, wanted: &[(u8, bool)]) -> Result<(), Fail> {
+    for (address, is_heard) in wanted {
+        same(rt, &machine.heard().has(short(*address)?), is_heard);
+    }
+    Ok(())
+}
+
+/// Somebody was there who answered once.
+#[test]
+fn who_answered_once_was_heard(rt: HostRuntime) -> Result<(), Fail> {
+    let story: Surveyed<'_> = ("heard", (0, 3), &[], &[], &[], 0, &[&ANSWERED_ONCE]);
+    has_heard(&rt, &played(&rt, &story)?, &[(0, true), (1, false)])
+}
+
+/// What a machine does for which 0 is reserved for the gear at 000000, which has no short address: its block, what its
+/// survey hears, how many orders that has, and what it is told when it has found the gear.
+type Reserved<'a> = ((u8, u8), &'a [Heard], u32, &'a [&'a [Moment]]);
+
+fn gives<R: Abort>(rt: &R, reserved: &Reserved<'_>) -> Result<(), Fail> {
+    let (block, heard, orders, parts) = *reserved;
+    let records = [Reserve(0, 0x000000)];
+    let story: Surveyed<'_> = ("reserved", block, &records, heard, &[], orders, &[&WAKE]);
+    let mut machine = played(rt, &story)?;
+    searches(rt, &mut machine, SILENCE, PROBES);
+    goes_on(rt, "found", &mut machine, &[&FOUND]);
+    goes_on(rt, "found", &mut machine, parts);
+    Ok(())
+}
+
+const RESERVED: [Reserved<'static>; 3] = [
+    ((0, 1), &[], 192, &[&[(YES, Put(1, 0xB701))]]),
+    (
+        (0, 1),
+        &[(0x01C2, DAMAGED)],
+        190,
+        &[&[(YES, Put(3, 0xA100))], &OPENED],
+    ),
+    (
+        (0, 0),
+        &[(0x01C2, DAMAGED)],
+        190,
+        &[&[(YES, Put(3, 0xA100)), (SILENCE, Done(End::BlockFull))]],
+    ),
+];
+
+#[test]
+fn an_address_of_somebody_else_is_not_given_by_a_reservation(rt: HostRuntime) -> Result<(), Fail> {
+    for reserved in RESERVED {
+        gives(&rt, &reserved)?;
+    }
+    Ok(())
 }

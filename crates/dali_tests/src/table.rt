@@ -1,7 +1,8 @@
 //! The table of enrolled gear.
 
-use super::values::{are_pairs, block, random, same, short};
-use dali_enrol::{DirectoryError, Table, TableError};
+use super::values::{addresses, are_pairs, block, same, short};
+use dali_enrol::{Table, TableError};
+use dali_frame::{Random24, Short};
 use std::process::Abort;
 use std::test::Fail;
 
@@ -12,8 +13,8 @@ fn enrols<R: Abort>(
     gear: (u8, u32),
     wanted: Result<(), TableError>,
 ) -> Result<(), Fail> {
-    let (address, number) = gear;
-    same(rt, &table.enrol(short(address)?, random(number)?), &wanted);
+    let (address, number) = addresses(gear)?;
+    same(rt, &table.enrol(address, number), &wanted);
     Ok(())
 }
 
@@ -29,18 +30,27 @@ fn enrols_all<R: Abort>(
     Ok(())
 }
 
-/// The number at this address, and the address of this number.
+/// The number at an address, and the address of a number.
+fn found(table: &Table, address: Short, number: Random24) -> (Option<u32>, Option<u8>) {
+    let value = match table.by_address(address) {
+        Some(random) => Some(random.value()),
+        None => None,
+    };
+    match table.by_random(number) {
+        Some(short) => (value, Some(short.number())),
+        None => (value, None),
+    }
+}
+
+/// This number is at this address, and this address is of this number.
 fn finds<R: Abort>(
     rt: &R,
     table: &Table,
     gear: (u8, u32),
     wanted: (Option<u32>, Option<u8>),
 ) -> Result<(), Fail> {
-    let (address, number) = gear;
-    let found = table.by_address(short(address)?).map(|it| it.value());
-    same(rt, &found, &wanted.0);
-    let found = table.by_random(random(number)?).map(|it| it.number());
-    same(rt, &found, &wanted.1);
+    let (address, number) = addresses(gear)?;
+    same(rt, &found(table, address, number), &wanted);
     Ok(())
 }
 
@@ -96,11 +106,16 @@ fn a_table_has_room_for_every_short_address(rt: HostRuntime) -> Result<(), Fail>
     fill(&rt, &mut table)
 }
 
+/// Whether an address is of the table's block.
+fn is_own(table: &Table, number: u8) -> Result<bool, Fail> {
+    Ok(table.is_own(short(number)?))
+}
+
 fn owns<R: Abort>(rt: &R, table: &Table, addresses: &[(u8, bool)]) -> Result<(), Fail> {
-    same(rt, &table.block(), &block(0, 3)?);
     for (number, own) in addresses {
-        same(rt, &table.is_own(short(*number)?), own);
+        same(rt, &is_own(table, *number)?, own);
     }
+    same(rt, &table.block(), &block(0, 3)?);
     Ok(())
 }
 
@@ -108,15 +123,4 @@ fn owns<R: Abort>(rt: &R, table: &Table, addresses: &[(u8, bool)]) -> Result<(),
 fn own_addresses_lie_in_the_block(rt: HostRuntime) -> Result<(), Fail> {
     let addresses = [(0, true), (3, true), (4, false), (5, false), (63, false)];
     owns(&rt, &table_of()?, &addresses)
-}
-
-#[test]
-fn refusals_have_numbers(rt: HostRuntime) {
-    let numbers = [
-        TableError::AddressTaken.number(),
-        TableError::RandomTaken.number(),
-        TableError::NoMemory.number(),
-        DirectoryError::NoMemory.number(),
-    ];
-    same(&rt, &numbers, &[1, 2, 3, 1]);
 }

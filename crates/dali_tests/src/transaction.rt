@@ -4,9 +4,10 @@
 //! BB00=09`. A byte is two digits, and `??` is a damaged answer.
 
 use super::values::InNumbers::Reserve;
-use super::values::{frame, kept_of, random, same, short};
+use super::values::{addresses, frame, kept_of, same};
 use dali_frame::{Answer, Forward, Random24, SearchAddress, Short};
 use dali_script::{Entry, Finding, Kept, Stage, Trace};
+use std::alloc::Global;
 use std::process::Abort;
 use std::test::Fail;
 
@@ -53,21 +54,31 @@ fn entry_of(word: &str) -> Result<Entry, Fail> {
     })
 }
 
+/// The frame of a word is sent after those of the trace.
+fn send_word(trace: &mut Trace, kept: &Kept, word: &str) -> Result<(), Fail> {
+    let entry = entry_of(word)?;
+    send(trace, kept, entry.frame, entry.heard)
+}
+
 /// The trace of these frames.
 fn trace_of(kept: &Kept, frames: &str) -> Result<Trace, Fail> {
     let mut trace = Trace::new();
     for word in frames.split_ascii_whitespace() {
-        let entry = entry_of(word)?;
-        send(&mut trace, kept, entry.frame, entry.heard)?;
+        send_word(&mut trace, kept, word)?;
     }
     Ok(trace)
+}
+
+/// Whether a trace allows the frame of this word.
+fn allows(kept: &Kept, trace: &Trace, text: &str) -> Result<bool, Fail> {
+    Ok(trace.allows(kept, frame(text.as_bytes())?))
 }
 
 /// After these frames just those are allowed, of all of `FRAMES`; where none is, the transaction is complete.
 fn follows<R: Abort>(rt: &R, kept: &Kept, frames: &str, allowed: &str) -> Result<(), Fail> {
     let trace = trace_of(kept, frames)?;
     for text in FRAMES.split_ascii_whitespace() {
-        let is_allowed = trace.allows(kept, frame(text.as_bytes())?);
+        let is_allowed = allows(kept, &trace, text)?;
         same(rt, &(text, is_allowed), &(text, allowed.contains(text)));
     }
     same(rt, &trace.complete(kept), &allowed.is_empty());
@@ -92,11 +103,6 @@ A100 A5FF A5FF A700 > A700
 A100 A5FF A5FF A700 A700 >
 FE80 >";
 
-#[test]
-fn openings_go_on_by_their_table(rt: HostRuntime) -> Result<(), Fail> {
-    each_follows(&rt, &one_reserved()?, OPENINGS)
-}
-
 /// Every position of the scripts that use a search address, where an address is reserved for the number.
 const SEARCHES: &str = "B10A > B3BC
 B10A B3BC > B5DE
@@ -115,11 +121,6 @@ B10A B3BC B5DE BB00=FF B709 BB00=FF >
 B10A B3BC B5DE BB00=FF B709 BB00=?? >
 B10A B3BC B5DE BB00=FF B709 BB00=0B >";
 
-#[test]
-fn searches_go_on_by_their_table(rt: HostRuntime) -> Result<(), Fail> {
-    each_follows(&rt, &one_reserved()?, SEARCHES)
-}
-
 /// Every position of the queries of a random address, whatever is heard, and whatever is reserved.
 const QUERIES: &str = "09C2 > 09C3
 09C2=0A > 09C3
@@ -127,11 +128,6 @@ const QUERIES: &str = "09C2 > 09C3
 09C2=0A 09C3=BC > 09C4
 09C2=0A 09C3=BC 09C4 >
 09C2=0A 09C3=BC 09C4=DE >";
-
-#[test]
-fn queries_of_a_random_address_go_on_by_their_table(rt: HostRuntime) -> Result<(), Fail> {
-    each_follows(&rt, &none_reserved()?, QUERIES)
-}
 
 /// Where nothing is reserved, an address that was heard leads to WITHDRAW, and nothing else goes on.
 const UNRESERVED: &str = "B10A B3BC B5DE BB00=09 > AB00
@@ -143,126 +139,107 @@ B10A B3BC B5DE BB00=81 >
 B10A B3BC B5DE BB00=08 >";
 
 #[test]
-fn nothing_is_programmed_without_a_reservation(rt: HostRuntime) -> Result<(), Fail> {
-    each_follows(&rt, &none_reserved()?, UNRESERVED)
-}
-
-/// Each of these traces has this finding.
-fn each_finds<R: Abort>(
-    rt: &R,
-    kept: &Kept,
-    traces: &[&str],
-    wanted: Option<(Short, Random24)>,
-) -> Result<(), Fail> {
-    for frames in traces {
-        let finding = trace_of(kept, *frames)?.finding();
-        same(rt, &finding, &wanted);
+fn transactions_go_on_by_their_tables(rt: HostRuntime) -> Result<(), Fail> {
+    for rows in [OPENINGS, SEARCHES] {
+        each_follows(&rt, &one_reserved()?, rows)?;
+    }
+    for rows in [QUERIES, UNRESERVED] {
+        each_follows(&rt, &none_reserved()?, rows)?;
     }
     Ok(())
 }
 
-fn findings<R: Abort>(rt: &R, kept: &Kept) -> Result<(), Fail> {
-    let found = Some((short(4)?, random(0x0ABCDE)?));
-    let finding = [
-        "B10A B3BC B5DE BB00=09",
+/// What a trace shows: the gear that it found, by its number under QUERY SHORT ADDRESS or by the queries of a random
+/// address; or that it ends with a first QUERY SHORT ADDRESS that was heard as silence.
+#[derive(Clone, Copy)]
+enum Shown {
+    Nothing,
+    Unanswered,
+    Queried(u8, u32),
+    Resolved(u8, u32),
+}
+
+/// The gear that was found, whether that was by the queries of a random address, and whether nobody answered.
+type Found = (Option<(Short, Random24)>, bool, bool);
+
+fn shown_by(trace: &Trace) -> Found {
+    let is_resolved = match trace.how_found() {
+        Some(Finding::Resolved(..)) => true,
+        Some(Finding::Queried(..)) | None => false,
+    };
+    let is_unanswered = matches!(trace.stage(), Stage::Unanswered(_));
+    (trace.finding(), is_resolved, is_unanswered)
+}
+
+fn wanted_of(shown: Shown) -> Result<Found, Fail> {
+    Ok(match shown {
+        Shown::Nothing => (None, false, false),
+        Shown::Unanswered => (None, false, true),
+        Shown::Queried(address, number) => (Some(addresses((address, number))?), false, false),
+        Shown::Resolved(address, number) => (Some(addresses((address, number))?), true, false),
+    })
+}
+
+/// Each of these traces shows this.
+fn each_shows<R: Abort>(rt: &R, kept: &Kept, rows: &[(&str, Shown)]) -> Result<(), Fail> {
+    for (frames, wanted) in rows {
+        let shown = shown_by(&trace_of(kept, *frames)?);
+        same(rt, &(*frames, shown), &(*frames, wanted_of(*wanted)?));
+    }
+    Ok(())
+}
+
+/// Traces that need no reservation.
+const UNRESERVED_SHOWN: [(&str, Shown); 10] = [
+    ("B10A B3BC B5DE", Shown::Nothing),
+    ("B10A B3BC B5DE BB00=09", Shown::Queried(4, 0x0ABCDE)),
+    ("B10A B3BC B5DE BB00", Shown::Unanswered),
+    ("B10A B3BC B5DE BB00=FF", Shown::Nothing),
+    // Silence is told apart from damage, and from what is no address.
+    ("B10A B3BC B5DE BB00=??", Shown::Nothing),
+    ("B10A B3BC B5DE BB00=81", Shown::Nothing),
+    ("09C2=0A 09C3=BC", Shown::Nothing),
+    ("09C2=0A 09C3=BC 09C4", Shown::Nothing),
+    ("09C2=0A 09C3=BC 09C4=DE", Shown::Resolved(4, 0x0ABCDE)),
+    ("09C2=0A 09C3=BC 09C4=??", Shown::Nothing),
+];
+
+/// Traces of a gear for which an address is reserved, and of queries of which one was not heard.
+const RESERVED_SHOWN: [(&str, Shown); 4] = [
+    (
         "B10A B3BC B5DE BB00=FF B709 BB00=09",
-        "09C2=0A 09C3=BC 09C4=DE",
-    ];
-    let others = [
-        "09C2=0A 09C3=BC",
-        "09C2=0A 09C3=BC 09C4",
-        "09C2=0A 09C3=BC 09C4=??",
-        "09C2=0A 09C3 09C4=DE",
-        "09C2=?? 09C3=BC 09C4=DE",
-        "B10A B3BC B5DE BB00=FF",
-        "B10A B3BC B5DE BB00",
-        "B10A B3BC B5DE BB00=??",
-        "B10A B3BC B5DE BB00=81",
-    ];
-    each_finds(rt, kept, &finding, found)?;
-    each_finds(rt, kept, &others, None)
-}
+        Shown::Queried(4, 0x0ABCDE),
+    ),
+    ("B10A B3BC B5DE BB00=FF B709 BB00", Shown::Nothing),
+    ("09C2=0A 09C3 09C4=DE", Shown::Nothing),
+    ("09C2=?? 09C3=BC 09C4=DE", Shown::Nothing),
+];
 
 #[test]
-fn findings_are_addresses_that_were_heard(rt: HostRuntime) -> Result<(), Fail> {
-    findings(&rt, &one_reserved()?)
-}
-
-/// Whether each of these traces ends with a first QUERY SHORT ADDRESS that was heard as silence.
-fn each_is_unanswered<R: Abort>(
-    rt: &R,
-    kept: &Kept,
-    traces: &[&str],
-    wanted: bool,
-) -> Result<(), Fail> {
-    for frames in traces {
-        let stage = trace_of(kept, *frames)?.stage();
-        same(rt, &matches!(stage, Stage::Unanswered(_)), &wanted);
+fn traces_show_whom_they_found(rt: HostRuntime) -> Result<(), Fail> {
+    for kept in [one_reserved()?, none_reserved()?] {
+        each_shows(&rt, &kept, &UNRESERVED_SHOWN)?;
     }
-    Ok(())
+    each_shows(&rt, &one_reserved()?, &RESERVED_SHOWN)
 }
 
-fn unanswered<R: Abort>(rt: &R, kept: &Kept) -> Result<(), Fail> {
-    let heard = [
-        "B10A B3BC B5DE",
-        "B10A B3BC B5DE BB00=??",
-        "B10A B3BC B5DE BB00=81",
-        "B10A B3BC B5DE BB00=FF B709 BB00",
-    ];
-    each_is_unanswered(rt, kept, &["B10A B3BC B5DE BB00"], true)?;
-    each_is_unanswered(rt, kept, &heard, false)
-}
-
-#[test]
-fn silence_is_told_apart_from_damage(rt: HostRuntime) -> Result<(), Fail> {
-    unanswered(&rt, &one_reserved()?)
-}
-
-/// Whether each of these traces has a finding of the queries of a random address.
-fn each_is_resolved<R: Abort>(
-    rt: &R,
-    kept: &Kept,
-    traces: &[&str],
-    wanted: bool,
-) -> Result<(), Fail> {
-    for frames in traces {
-        let is_resolved = match trace_of(kept, *frames)?.how_found() {
-            Some(Finding::Resolved(..)) => true,
-            Some(Finding::Queried(..)) | None => false,
-        };
-        same(rt, &is_resolved, &wanted);
-    }
-    Ok(())
-}
-
-fn kinds<R: Abort>(rt: &R, kept: &Kept) -> Result<(), Fail> {
-    each_is_resolved(rt, kept, &["09C2=0A 09C3=BC 09C4=DE"], true)?;
-    each_is_resolved(
-        rt,
-        kept,
-        &["B10A B3BC B5DE BB00=09", "09C2=0A 09C3=BC"],
-        false,
-    )
-}
-
-#[test]
-fn findings_tell_how_gear_was_found(rt: HostRuntime) -> Result<(), Fail> {
-    kinds(&rt, &none_reserved()?)
+/// Whether a trace ends with the confirmation of address 4 for `0ABCDE`.
+fn is_confirmed(trace: &Trace) -> Result<bool, Fail> {
+    let (address, number) = addresses((4, 0x0ABCDE))?;
+    Ok(match trace.stage() {
+        Stage::Confirmed(searched, given) => {
+            searched == SearchAddress::of(number) && given == address
+        }
+        _ => false,
+    })
 }
 
 /// After a trace that was sent with a reservation, records without it allow no WITHDRAW.
 fn asks_again<R: Abort>(rt: &R, trace: &Trace, kept: &Kept, none: &Kept) -> Result<(), Fail> {
-    let searched = SearchAddress::of(random(0x0ABCDE)?);
-    let given = short(4)?;
-    let is_confirmed = match trace.stage() {
-        Stage::Confirmed(number, address) => number == searched && address == given,
-        _ => false,
-    };
-    same(rt, &is_confirmed, &true);
-    let withdraw = frame(b"AB00")?;
-    let allowed = [trace.allows(kept, withdraw), trace.allows(none, withdraw)];
-    same(rt, &allowed, &[true, false]);
-    same(rt, &trace.complete(none), &true);
+    let withdraw = [allows(kept, trace, "AB00")?, allows(none, trace, "AB00")?];
+    same(rt, &withdraw, &[true, false]);
+    let shown = [is_confirmed(trace)?, trace.complete(none)];
+    same(rt, &shown, &[true, true]);
     Ok(())
 }
 
@@ -297,20 +274,25 @@ fn are_alike<R: Abort>(
     other: &Trace,
 ) -> Result<(), Fail> {
     for text in FRAMES.split_ascii_whitespace() {
-        let frame = frame(text.as_bytes())?;
-        let (was, wanted) = (one.allows(kept, frame), other.allows(kept, frame));
-        same(rt, &(frames, text, was), &(frames, text, wanted));
+        let were = (allows(kept, one, text)?, allows(kept, other, text)?);
+        same(rt, &(frames, text, were.0), &(frames, text, were.1));
     }
     same(rt, &one.finding(), &other.finding());
     Ok(())
 }
 
-/// No controller sends these frames.
-fn is_no_trace<R: Abort + AllocGlobal>(rt: &R, frames: &str) -> Result<(), Fail> {
-    let mut entries = Vec::new(rt.alloc());
+/// The entries of these frames.
+fn entries_of(alloc: Global, frames: &str) -> Result<Vec<Entry>, Fail> {
+    let mut entries = Vec::new(alloc);
     for word in frames.split_ascii_whitespace() {
         entries.push(entry_of(word)?)?;
     }
+    Ok(entries)
+}
+
+/// No controller sends these frames.
+fn is_no_trace<R: Abort + AllocGlobal>(rt: &R, frames: &str) -> Result<(), Fail> {
+    let entries = entries_of(rt.alloc(), frames)?;
     let is_trace = entries.len() <= 8 && Trace::of(entries.as_slice()).is_some();
     same(rt, &(frames, is_trace), &(frames, false));
     Ok(())

@@ -3,7 +3,7 @@
 //! Orders and records are compared by their numbers, and frames are told by theirs, so that a test has few calls
 //! that may fail.
 
-use dali_frame::{Forward, Random24, Short};
+use dali_frame::{Forward, Priority, Random24, Short};
 use dali_script::{Block, End, Fault, Kept, Order, Pair, Record};
 use std::fmt::Debug;
 use std::process::Abort;
@@ -25,6 +25,21 @@ pub fn random(number: u32) -> Result<Random24, Fail> {
     match Random24::of(number) {
         Some(random) => Ok(random),
         None => Err(Fail::from("a random address")),
+    }
+}
+
+/// The short and the random address of these numbers.
+pub fn addresses(numbers: (u8, u32)) -> Result<(Short, Random24), Fail> {
+    match (Short::of(numbers.0), Random24::of(numbers.1)) {
+        (Some(short), Some(random)) => Ok((short, random)),
+        _ => Err(Fail::from("a short and a random address")),
+    }
+}
+
+pub fn priority(number: u8) -> Result<Priority, Fail> {
+    match Priority::of(number) {
+        Some(priority) => Ok(priority),
+        None => Err(Fail::from("a priority")),
     }
 }
 
@@ -64,18 +79,22 @@ pub enum InNumbers {
 }
 
 impl InNumbers {
-    pub fn record(self) -> Result<Record, Fail> {
+    /// Its two numbers.
+    fn numbers(self) -> (u8, u32) {
         match self {
-            InNumbers::Reserve(address, number) => {
-                Ok(Record::Reserve(short(address)?, random(number)?))
-            }
-            InNumbers::Enrol(address, number) => Ok(Record::Enrol(
-                short(address)?,
-                random(number)?,
-            )),
-            InNumbers::Release(address, number) => {
-                Ok(Record::Release(short(address)?, random(number)?))
-            }
+            InNumbers::Reserve(address, number)
+            | InNumbers::Enrol(address, number)
+            | InNumbers::Release(address, number)
+            | InNumbers::Other(_, address, number) => (address, number),
+        }
+    }
+
+    pub fn record(self) -> Result<Record, Fail> {
+        let (address, number) = addresses(self.numbers())?;
+        match self {
+            InNumbers::Reserve(..) => Ok(Record::Reserve(address, number)),
+            InNumbers::Enrol(..) => Ok(Record::Enrol(address, number)),
+            InNumbers::Release(..) => Ok(Record::Release(address, number)),
             InNumbers::Other(..) => Err(Fail::from("a kind that tests name")),
         }
     }
@@ -138,10 +157,18 @@ impl Ordered {
     }
 }
 
+/// The numbers of the pair at this place.
+fn numbers_at(pairs: &[Pair], at: usize) -> Option<(u8, u32)> {
+    match pairs.get(at) {
+        Some(pair) => Some((pair.address(), pair.random().value())),
+        None => None,
+    }
+}
+
 /// These pairs of a short and a random address are these numbers, in this order.
 pub fn are_pairs(rt: &impl Abort, pairs: &[Pair], wanted: &[(u8, u32)]) {
     assert!(rt; pairs.len() == wanted.len());
-    for (pair, numbers) in pairs.iter().zip(wanted) {
-        same(rt, &(pair.address(), pair.random().value()), numbers);
+    for at in 0..wanted.len() {
+        same(rt, &numbers_at(pairs, at), &Some(wanted[at]));
     }
 }
