@@ -211,6 +211,16 @@ over_left u t a r s one surveys purpose at over more =
 pub self : (b : ℕ) → (b == b) ≡ true
 self b = grind (arith, nat_tests)
 
+-- a machine that put a frame sends it
+pub sending_of : (m : Machine) (p : ℕ) (f : Forward) → m.last ≡ Some (Put p f) → IsWhole m → IsSending m f
+sending_of m p f = go m.last where
+  go : (l : Option Order) → l ≡ Some (Put p f) → Pending m l → IsSending m f
+  go None e w = absurd (cc)
+  go (Some (Put q g)) e w = subst (IsSending m) (let same : g ≡ f = cc in same) w
+  go (Some (Commit x)) e w = absurd (cc)
+  go (Some (Done x)) e w = absurd (cc)
+  go (Some (Halt x)) e w = absurd (cc)
+
 -- a frame of the sweep that was heard
 pub sent_left : (u : ℕ) (m : Machine) (h : Answer) (p : ℕ) (f : Forward) (a : ℕ) → 1 ≤ u → m.course.way ≡ Surveying → m.course.purpose ≡ Asking a
     → m.last ≡ Some (Put p f) → IsWhole m → (h ≡ Silence) ⊎ (3 ≤ waits u m.asked) → (o : Order) → IsAllowed (machine_heard m (Some f) h) o
@@ -225,13 +235,7 @@ sent_left u m h p f a one surveys purpose last whole steady o may after =
       here = same_left u m m refl surveys ∙ ap (λ r. beyond u m.course.from + r) waiting
 
       sends : Sends m.kept m.course.number (Asking a) (stage_of m.trace) (command_of f)
-      sends = subst (λ q. Sends m.kept m.course.number q (stage_of m.trace) (command_of f)) purpose (sending m.last last whole).sends where
-        sending : (l : Option Order) → l ≡ Some (Put p f) → Pending m l → IsSending m f
-        sending None e w = absurd (cc)
-        sending (Some (Put q g)) e w = subst (IsSending m) (let same : g ≡ f = cc in same) w
-        sending (Some (Commit x)) e w = absurd (cc)
-        sending (Some (Done x)) e w = absurd (cc)
-        sending (Some (Halt x)) e w = absurd (cc)
+      sends = subst (λ q. Sends m.kept m.course.number q (stage_of m.trace) (command_of f)) purpose (sending_of m p f last whole).sends
 
       at : stage_of (machine_heard m (Some f) h).trace ≡ next_stage (stage_of m.trace) (command_of f) h
       at = stage_more m.trace (record { frame = f; heard = h })

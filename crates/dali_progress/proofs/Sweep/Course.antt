@@ -19,11 +19,11 @@ use Rattle.dali_controller.specs.declared.way.Way.{Way}
 use Rattle.dali_controller.specs.declared.way.Way.TheVariants.{Fresh, Surveying, Drawing}
 use Rattle.dali_controller.specs.Machine.{Machine, at_first, machine_told, machine_heard, machine_committed}
 use Rattle.dali_controller.specs.Orders.{IsGiven, IsAllowed, machine_after, machine_ordered}
-use Rattle.dali_controller.specs.Whole.{IsWhole, IsReady, Pending, Knows}
+use Rattle.dali_controller.specs.Whole.{IsWhole, Knows}
 use Rattle.dali_progress.specs.Surveyed.{Step, IsTaken, IsCourse}
 use Rattle.dali_progress.specs.Swept.{IsSurveyed, BeginsBySurvey, AreWhole, was_sent, was_lost, frames_asked, frames_lost, IsSteady, AreSteady}
 use Rattle.dali_progress.proofs.Sweep.Left.{waits, of_purpose, of_last, beyond, left, beyond_most}
-use Rattle.dali_progress.proofs.Sweep.Asked.{same_left, sent_left}
+use Rattle.dali_progress.proofs.Sweep.Asked.{same_left, sent_left, sending_of}
 use Rattle.dali_progress.proofs.Sweep.Others.{Rests, asking_or, any_left, calm_left, kept_left, other_left}
 
 -- A SWEEP IS BOUNDED: each step, and all of a course.
@@ -183,16 +183,9 @@ nothing_counts u m t i o same other sent may =
 unasked : (m : Machine) (p : ℕ) (f : Forward) (h : Answer) → (m.course.way ≡ Surveying → ⊥) → m.last ≡ Some (Put p f) → IsWhole m
     → was_sent (input.Heard h) m.course.purpose ≡ 0
 unasked m p f h other last whole = go (asking_or m.course.purpose) where
-  ready : (l : Option Order) → l ≡ Some (Put p f) → Pending m l → IsReady m
-  ready None e w = absurd (cc)
-  ready (Some (Put q g)) e w = w.ready
-  ready (Some (Commit x)) e w = absurd (cc)
-  ready (Some (Done x)) e w = absurd (cc)
-  ready (Some (Halt x)) e w = absurd (cc)
-
   go : ((a : ℕ) × (m.course.purpose ≡ Asking a)) ⊎ Rests m.course.purpose → was_sent (input.Heard h) m.course.purpose ≡ 0
   go (inl (a, is)) =
-      absurd (other (subst (λ q. Knows m.course.way m.kept m.course.number m.course.search m.opened q) is (ready m.last last whole).knows).1)
+      absurd (other (subst (λ q. Knows m.course.way m.kept m.course.number m.course.search m.opened q) is (sending_of m p f last whole).ready.knows).1)
   go (inr calm) = calm.1 h
 
 other_counts : (u : ℕ) (m : Machine) (i : Input) (o : Order) → (m.course.way ≡ Surveying → ⊥) → (m.last ≡ None → ⊥) → accepts (due_after m.last) i ≡ true

@@ -37,7 +37,7 @@ use Rattle.dali_controller.specs.Whole.{IsWhole, IsReady, IsSending, Pending, Se
 use Rattle.dali_progress.specs.Surveyed.{Step, IsTaken, IsCourse, IsPlain, ArePlain, IsAccounted, stage_told, heard_at, heard_by}
 use Rattle.dali_progress.specs.Swept.{IsSurveyed, BeginsBySurvey, AreWhole, WasSilent}
 use Rattle.dali_progress.proofs.Accounted.{accounted_by, accounted_stays, unreserved}
-use Rattle.dali_progress.proofs.Sweep.Asked.{by_order, Asks, asks_of, later_asks, self}
+use Rattle.dali_progress.proofs.Sweep.Asked.{by_order, Asks, asks_of, later_asks, self, sending_of}
 use Rattle.dali_progress.proofs.Sweep.Course.{IsAlone, alone_after, put_is, commit_is, started, runs_after}
 
 -- WHAT IS GIVEN WAS SILENT: once a sweep is over, each short address was silent or is accounted for.
@@ -150,15 +150,6 @@ sweeping_ready : (m : Machine) (b : ℕ) → m.course.purpose ≡ Asking b → I
 sweeping_ready m b purpose ready =
     let knows = subst (λ q. Knows m.course.way m.kept m.course.number m.course.search m.opened q) purpose ready.knows in
     record { way = knows.1; opened = knows.0 }
-
-sending_of : (m : Machine) (p : ℕ) (f : Forward) → m.last ≡ Some (Put p f) → IsWhole m → IsSending m f
-sending_of m p f = go m.last where
-  go : (l : Option Order) → l ≡ Some (Put p f) → Pending m l → IsSending m f
-  go None e w = absurd (cc)
-  go (Some (Put q g)) e w = subst (IsSending m) (let same : g ≡ f = cc in same) w
-  go (Some (Commit x)) e w = absurd (cc)
-  go (Some (Done x)) e w = absurd (cc)
-  go (Some (Halt x)) e w = absurd (cc)
 
 storing_of : (m : Machine) (x : Record) → m.last ≡ Some (Commit x) → IsWhole m → IsReady m
 storing_of m x = go m.last where
@@ -437,7 +428,7 @@ heard_next m h o a b p f small count purpose last due given plain whole after wh
   go : (m.course.from ≤ a) ⊎ ((b ≡ a) × ((x : Record) → m.last ≡ Some (Commit x) → ⊥)) → SeenNext m (input.Heard h) o a
   go (inl low) =
       inr (back (ahead (machine_heard m (Some f) h) a b small purpose sweeps.way hears.opened low
-          (begins_by_stage (machine_heard m (Some f) h) b h m hears) o may))
+      (begins_by_stage (machine_heard m (Some f) h) b h m hears) o may))
   go (inr (here, none)) = by (came_of m (machine_heard m (Some f) h) h a b p f count purpose here last hears o may there) where
     by : Third m (machine_heard m (Some f) h) h a ⊎ ((heard_at (stage_of (machine_heard m (Some f) h).trace) h ≡ Some b)
         ⊎ (IsEnded (machine_ordered (machine_heard m (Some f) h) o) ⊎ IsToCome (machine_ordered (machine_heard m (Some f) h) o) a))
@@ -474,11 +465,11 @@ lost_next m t o a b p f small purpose last whole course same_last opened free ma
       → IsEnded (machine_ordered t o) ⊎ (IsAccounted (machine_ordered t o) a ⊎ IsToCome (machine_ordered t o) a)
   go (inl low) =
       ahead t a b small asks (ap (λ c. c.way) course ∙ sweeps.way) (opened ∙ sweeps.opened) (subst (λ (c : Course). c.from ≤ a) (sym course) low)
-          (inl same) o may
+      (inl same) o may
   go (inr (here, none)) =
       by (again t a b stage.Free asks here same at (λ n e. cc) (ap finding_of free ∙ none_found)
       (λ c n e. let other : Some (Put p f) ≡ Some (Commit (Enrol c n)) = sym last ∙ (sym same_last ∙ e) in cc)
-          (λ g running whole. absurd (running free)) o may after)
+      (λ g running whole. absurd (running free)) o may after)
     where
       by : IsEnded (machine_ordered t o) ⊎ IsToCome (machine_ordered t o) a
           → IsEnded (machine_ordered t o) ⊎ (IsAccounted (machine_ordered t o) a ⊎ IsToCome (machine_ordered t o) a)
