@@ -10,6 +10,7 @@ ghost use Rattle.dali_frame.specs.declared.numbers.SearchAddress.{SearchAddress}
 ghost use Rattle.dali_frame.specs.Random.{value_of, number_of};
 ghost use Rattle.dali_frame.specs.declared.frames.Answer.TheVariants.{Byte};
 ghost use Rattle.dali_special.specs.declared.command.Command.TheVariants.{Randomise, RandomByte};
+ghost use Rattle.dali_special.specs.declared.command.Part.{Part};
 ghost use Rattle.dali_special.specs.declared.command.Part.TheVariants.{High, Middle, Low};
 ghost use Rattle.dali_special.specs.Command.{command_of};
 ghost use Rattle.dali_script.specs.declared.trace.Entry.{Entry};
@@ -18,7 +19,8 @@ ghost use Rattle.dali_script.specs.Records.{Has};
 ghost use Rattle.dali_script.specs.Scripts.{IsFirst};
 ghost use Rattle.dali_script.specs.Stages.{stage_of};
 ghost use Rattle.dali_events.specs.declared.event.Event.TheVariants.{Sent};
-ghost use Rattle.dali_gear.specs.Row.{heard_of};
+ghost use Rattle.dali_gear.specs.declared.row.Reach.TheVariants.{Everyone};
+ghost use Rattle.dali_gear.specs.Row.{heard_of, answers_of};
 ghost use Rattle.dali_events.specs.declared.event.Event.{Event};
 ghost use Rattle.dali_events.specs.World.{World, gear_at, start};
 ghost use Rattle.dali_events.specs.Happens.{happens, trace_running, entry};
@@ -147,6 +149,14 @@ pub fn random_addresses_are_told()
         → trace_running (after p capacity log) c ≡ entry f (Byte high) ∷ entry g (Byte middle) ∷ []
         → command_of f ≡ RandomByte a High → command_of g ≡ RandomByte a Middle → command_of h ≡ RandomByte a Low
         → Names (after p capacity log) (a, number_of high middle low) }
+{}
+
+/// SILENCE IS NOBODY. Where no gear answers a query of a random address to a short address, no gear with power has that
+/// short address. What is heard may be silence where a gear did answer, since answers may be lost: the law speaks of
+/// the answers.
+pub fn silence_is_nobody()
+    ensures { (w : World) (a : ℕ) (part : Part) → answers_of Everyone (RandomByte a part) 0 w.gear ≡ []
+        → EachPowered w (λ g. g.short ≡ Some a → ⊥) }
 {}
 
 /// RECORDS ARE KEPT. At each moment of every run the records of a controller are those of its block, with each address

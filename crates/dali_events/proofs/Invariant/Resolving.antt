@@ -1,4 +1,5 @@
 use Rattle.std.proofs.Common.{◌≡◌, ℕ, ◌<◌, Bool, true, false, List, [], refl, sym, ap, subst, ◌∙◌, arith, length, get_or, Option, Some, None}
+use Rattle.std.proofs.lemmas.Bool.Decides.{nat_tests}
 use Rattle.std.specs.Prelude.{◌==◌, if◌then◌else◌}
 use Rattle.dali_frame.specs.declared.frames.Answer.{Answer}
 use Rattle.dali_frame.specs.declared.frames.Answer.TheVariants.{Byte}
@@ -11,12 +12,15 @@ use Rattle.dali_gear.specs.declared.row.Reach.TheVariants.{Everyone}
 use Rattle.dali_gear.specs.Gear.{Gear, fresh, has_short, byte_at, answer}
 use Rattle.dali_gear.specs.Row.{answers_of}
 use Rattle.dali_script.specs.declared.trace.Entry.{Entry}
-use Rattle.dali_script.specs.Records.{Assignment}
+use Rattle.dali_script.specs.Records.{Assignment, Has}
 use Rattle.dali_script.specs.Findings.{Asked, nothing, high_byte, two_bytes, asked_after, asked_of}
 use Rattle.dali_script.proofs.Transactions.{equal}
 use Rattle.dali_script.proofs.Members.{same_member}
 use Rattle.dali_events.specs.Allowed.{Hears}
-use Rattle.dali_events.proofs.Invariant.Answers.{answered, byte_answered}
+use Rattle.dali_events.specs.World.{World, gear_at}
+use Rattle.dali_events.specs.Searching.{EachPowered}
+use Rattle.dali_events.proofs.Invariant.Answers.{answered, byte_answered, answers_have}
+use Rattle.dali_events.proofs.Invariant.Sending.{powered_takes}
 use Rattle.dali_events.proofs.Invariant.Gifts.{Gifts, Change}
 
 -- WHAT QUERIES OF A RANDOM ADDRESS HAVE SAID: the bytes that were heard so far are those of some gear with the short
@@ -124,3 +128,14 @@ tells_more R gs ds gf gifts _ h q hears k = tt
 -- a number is its three bytes
 pub whole_number : (r high middle low : ℕ) → high_of r ≡ high → middle_of r ≡ middle → low_of r ≡ low → r ≡ number_of high middle low
 whole_number r high middle low one two three = omega arith
+
+-- WHERE NOBODY ANSWERS A QUERY OF A RANDOM ADDRESS nobody with power has the short address
+same_short : (a : ℕ) → (a == a) ≡ true
+same_short a = grind (arith, nat_tests)
+
+pub nobody_answers : (w : World) (a : ℕ) (part : Part) → answers_of Everyone (RandomByte a part) 0 w.gear ≡ []
+    → EachPowered w (λ g. g.short ≡ Some a → ⊥)
+nobody_answers w a part none g there on short =
+    let tells : answer (RandomByte a part) (gear_at w g) ≡ Some (byte_at part (gear_at w g).random) = rw (short, same_short a) refl in
+    subst (λ xs. Has xs (byte_at part (gear_at w g).random)) none
+    (answers_have Everyone (RandomByte a part) w.gear g (byte_at part (gear_at w g).random) there (powered_takes g (gear_at w g) on) tells)
