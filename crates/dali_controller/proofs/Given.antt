@@ -113,7 +113,7 @@ nothing_after t s stage ends f running lawful =
     (follows_lawful t.kept.block t.kept.reserved t.trace f lawful).leads_on)
 
 -- no record is ordered without a cause
-unwarranted : (t : Machine) (x : Record) → ((r : SearchAddress) → stage_of t.trace ≡ Unnamed r → ⊥) → finding_of t.trace ≡ None → IsNoEnrolment t.last
+pub unwarranted : (t : Machine) (x : Record) → ((r : SearchAddress) → stage_of t.trace ≡ Unnamed r → ⊥) → finding_of t.trace ≡ None → IsNoEnrolment t.last
     → IsWarranted t x → ⊥
 unwarranted t (Reserve a r) named none last w = named w.0 w.1
 unwarranted t (Release a r) named none last w = last w.0 r w.1

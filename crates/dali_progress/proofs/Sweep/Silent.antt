@@ -9,7 +9,7 @@ use Rattle.dali_frame.specs.Priority.{FIRST, LATER}
 use Rattle.dali_special.specs.declared.command.Command.{Command}
 use Rattle.dali_special.specs.Command.{command_of}
 use Rattle.dali_script.specs.declared.records.Record.{Record}
-use Rattle.dali_script.specs.declared.records.Record.TheVariants.{Reserve, Enrol, Release}
+use Rattle.dali_script.specs.declared.records.Record.TheVariants.{Reserve, Enrol}
 use Rattle.dali_script.specs.declared.stage.Stage.{Stage}
 use Rattle.dali_script.specs.declared.stage.Stage.TheVariants as stage
 use Rattle.dali_script.specs.Records.{Kept, Has, HasAddress}
@@ -30,6 +30,7 @@ use Rattle.dali_controller.specs.declared.purpose.Purpose.TheVariants.{Asking}
 use Rattle.dali_controller.specs.declared.way.Way.TheVariants.{Fresh, Surveying}
 use Rattle.dali_controller.specs.Course.{Course, number_at, is_asked, asked_among, next_asked, going_on, going_on_early, ask_or_wake}
 use Rattle.dali_controller.proofs.Courses.{found_number}
+use Rattle.dali_controller.proofs.Given.{unwarranted}
 use Rattle.dali_controller.specs.Machine.{Machine, at_first, machine_told, machine_heard, machine_committed, asked_at, asked_after, asked_after_silence}
 use Rattle.dali_controller.specs.Next.{next_course, begins_at, goes_on_to, at_rest, asked_once}
 use Rattle.dali_controller.specs.Orders.{IsGiven, IsAllowed, MayCommit, machine_after, machine_ordered}
@@ -125,9 +126,7 @@ none_found = refl
 -- where nothing is found, and no gear answered MASK, no record is ordered
 no_record : (t : Machine) (s : Stage) (x : Record) → stage_of t.trace ≡ s → ((n : _) → s ≡ stage.Unnamed n → ⊥) → finding_of t.trace ≡ None
     → ((b n : ℕ) → t.last ≡ Some (Commit (Enrol b n)) → ⊥) → MayCommit t x → ⊥
-no_record t s (Reserve a r) at named none last may = named may.warranted.0 (sym at ∙ may.warranted.1)
-no_record t s (Enrol b r) at named none last may = let found : None ≡ Some may.warranted.0 = sym none ∙ may.warranted.2 in cc
-no_record t s (Release a r) at named none last may = last may.warranted.0 r may.warranted.1
+no_record t s x at named none last may = unwarranted t x (λ n e. named n (sym at ∙ e)) none last may.warranted
 
 -- nor is an address reserved while a short address is asked
 no_reservation : (t : Machine) (s : Stage) (c r : ℕ) → stage_of t.trace ≡ s → ((n : _) → s ≡ stage.Unnamed n → ⊥) → MayCommit t (Reserve c r) → ⊥
