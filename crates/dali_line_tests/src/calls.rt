@@ -57,7 +57,10 @@ fn goes<B: Bus, R: Abort + Wait>(
     let c = bus.controller(port);
     let was = shown(bus.act(rt, port, input));
     same(rt, &was, &shown(site.act(c, input)));
-    was.ok().map(|it| it.0)
+    match was {
+        Ok((ordered, _)) => Some(ordered),
+        Err(_) => None,
+    }
 }
 
 /// The bus has its turn under this trouble.
@@ -93,56 +96,113 @@ fn runs_until<B: Bus, R: Abort + Wait>(
     None
 }
 
-/// What is played: each story is a bus with its site, a controller's port, and its driver.
+/// A step of a story, which the line and the site take alike. A story has two ports: the first, and the other one,
+/// which is that of the last controller.
 #[derive(Clone, Copy)]
-enum Story {
-    /// The controller goes down after its store has its first record, and before it is told.
-    Restart,
-    /// The bus lapses while PROGRAM SHORT ADDRESS waits.
-    Lapse,
-    /// Two controllers send at once; then one of them sends arc power.
-    Collision,
+enum Step {
+    /// The other port's controller orders this after so many frames.
+    Until(Ordered, u32),
+    /// A controller acts on what it is given, and orders this: the first port's, or the other one's.
+    Goes(bool, Ordered),
+    /// The bus has its turn under this trouble.
+    Pumps(Trouble),
+    /// The bus lapses, and controller 0 owned it.
+    Lapses,
+    /// What the driver may do.
+    Ready(Ready),
+    /// All waits end.
+    Stops,
+    /// Controller 0 goes down.
+    Down,
+    /// It comes up with the records of its store, or is refused with others.
+    Up,
+    UpWithOthers,
+    /// The other port's controller, of number 1, offers arc power.
+    Arc,
+    /// What befalls gear and bus.
+    Quiet,
+    Power,
+    Expire,
 }
 
-/// Controller 0 has an address reserved, and is to be told.
-fn reserves<B: Bus, R: Abort + Wait>(
-    rt: &R,
-    bus: &B,
-    port: &mut B::Port,
-    driver: &mut B::Driver,
-    site: &mut SiteState,
-) {
-    let frames = runs_until(rt, bus, port, driver, site, Commit("reserve", 0));
-    same(rt, &frames, &Some(109));
-}
+/// The controller goes down after its store has its first record, and before it is told.
+const RESTART: [Step; 7] = [
+    Step::Until(Commit("reserve", 0), 109),
+    Step::Down,
+    Step::UpWithOthers,
+    Step::Up,
+    Step::Until(Commit("enrol", 0), 7),
+    Step::Until(Done(End::AllFound), 10),
+    Step::Ready(Ready::Over),
+];
 
-/// Controller 0 enrols its gear after so many frames, and ends after so many more.
-fn ends<B: Bus, R: Abort + Wait>(
+/// The bus lapses while PROGRAM SHORT ADDRESS waits.
+const LAPSE: [Step; 9] = [
+    Step::Until(Commit("reserve", 0), 109),
+    Step::Until(Put(0xB701), 4),
+    Step::Lapses,
+    Step::Pumps(Trouble::None),
+    Step::Goes(false, Put(0xB112)),
+    Step::Pumps(Trouble::None),
+    Step::Until(Commit("enrol", 0), 6),
+    Step::Until(Done(End::AllFound), 5),
+    Step::Ready(Ready::Over),
+];
+
+/// Two controllers send at once; then one of them sends arc power.
+const COLLISION: [Step; 8] = [
+    Step::Goes(true, Put(0xA100)),
+    Step::Goes(false, Put(0xA100)),
+    Step::Pumps(Trouble::Collision),
+    Step::Goes(true, Put(0xA100)),
+    Step::Goes(false, Put(0xA100)),
+    Step::Pumps(Trouble::AnswerLost),
+    Step::Arc,
+    Step::Pumps(Trouble::None),
+];
+
+/// How each story ends.
+const STOP: [Step; 5] = [
+    Step::Quiet,
+    Step::Power,
+    Step::Expire,
+    Step::Stops,
+    Step::Ready(Ready::Stopped),
+];
+
+/// A step that any bus takes.
+fn bus_does<B: Bus, R: Abort + Wait>(
     rt: &R,
     bus: &B,
-    port: &mut B::Port,
+    ports: (&mut B::Port, &mut B::Port),
     driver: &mut B::Driver,
     site: &mut SiteState,
-    frames: (u32, u32),
+    step: &Step,
 ) {
-    same(
-        rt,
-        &runs_until(rt, bus, port, driver, site, Commit("enrol", 0)),
-        &Some(frames.0),
-    );
-    let end = Done(End::AllFound);
-    same(
-        rt,
-        &runs_until(rt, bus, port, driver, site, end),
-        &Some(frames.1),
-    );
-    same(rt, &bus.ready(rt, driver), &Ready::Over);
+    let (first, other) = ports;
+    match *step {
+        Step::Until(ordered, frames) => {
+            let was = runs_until(rt, bus, other, driver, site, ordered);
+            same(rt, &was, &Some(frames));
+        }
+        Step::Goes(true, ordered) => same(rt, &goes(rt, bus, first, site), &Some(ordered)),
+        Step::Goes(false, ordered) => same(rt, &goes(rt, bus, other, site), &Some(ordered)),
+        Step::Pumps(trouble) => pumps(rt, bus, driver, site, &trouble),
+        Step::Lapses => {
+            let owners = [bus.lapse(rt, driver), site.lapse()];
+            same(rt, &owners, &[Ok(Some(0)), Ok(Some(0))]);
+        }
+        Step::Ready(wanted) => same(rt, &bus.ready(rt, driver), &wanted),
+        _ => {
+            bus.stop(rt);
+            assert!(rt; !bus.wait(rt, other));
+        }
+    }
 }
 
 /// What a call answered that says no more than that it was accepted.
 fn does<R: Abort>(rt: &R, answer: Result<(), Refusal>, other: Result<(), Refusal>) {
-    same(rt, &answer, &Ok(()));
-    same(rt, &other, &Ok(()));
+    same(rt, &[answer, other], &[Ok(()), Ok(())]);
 }
 
 /// What a line answered where a controller was to come up.
@@ -153,85 +213,60 @@ pub fn comes_up<R: Abort>(rt: &R, was: Result<(), UpRefusal>, wanted: &Result<()
 /// The records with which a controller may come up again: those of its store, and others.
 type Records<'a> = (&'a Kept, &'a Kept);
 
-fn restarts<P0: Ledger, P1: Ledger, P2: Ledger, P3: Ledger, D: Ledger, R: Abort + Wait>(
+/// A step that a line takes, and no other bus.
+fn line_does<P0: Ledger, P1: Ledger, P2: Ledger, P3: Ledger, D: Ledger, R: Abort + Wait>(
     rt: &R,
     line: &Line<P0, P1, P2, P3, D>,
-    port: &mut Port<P0, P1, P2, P3, D>,
+    other: &mut Port<P0, P1, P2, P3, D>,
     driver: &mut Driver<P0, P1, P2, P3, D>,
     site: &mut SiteState,
     records: Records<'_>,
+    step: &Step,
 ) {
     let (kept, wrong) = records;
-    reserves(rt, line, port, driver, site);
-    does(rt, line.down(rt, driver, 0), site.down(0));
-    let refused = Refusal::StoreDisagrees;
-    comes_up(
-        rt,
-        line.up(rt, driver, 0, wrong),
-        &Err(UpRefusal::Site(refused)),
-    );
-    same(rt, &site.up(0, wrong), &Err(refused));
-    comes_up(rt, line.up(rt, driver, 0, kept), &Ok(()));
-    same(rt, &site.up(0, kept), &Ok(()));
-    ends(rt, line, port, driver, site, (7, 10));
-}
-
-fn lapses<P0: Ledger, P1: Ledger, P2: Ledger, P3: Ledger, D: Ledger, R: Abort + Wait>(
-    rt: &R,
-    line: &Line<P0, P1, P2, P3, D>,
-    port: &mut Port<P0, P1, P2, P3, D>,
-    driver: &mut Driver<P0, P1, P2, P3, D>,
-    site: &mut SiteState,
-) {
-    reserves(rt, line, port, driver, site);
-    let program = Put(0xB701);
-    same(
-        rt,
-        &runs_until(rt, line, port, driver, site, program),
-        &Some(4),
-    );
-    let owner = line.lapse(rt, driver);
-    same(rt, &owner, &site.lapse());
-    same(rt, &owner, &Ok(Some(0)));
-    pumps(rt, line, driver, site, &Trouble::None);
-    same(rt, &goes(rt, line, port, site), &Some(Put(0xB112)));
-    pumps(rt, line, driver, site, &Trouble::None);
-    ends(rt, line, port, driver, site, (6, 5));
-}
-
-fn collides<P0: Ledger, P1: Ledger, P2: Ledger, P3: Ledger, D: Ledger, R: Abort + Wait>(
-    rt: &R,
-    line: &Line<P0, P1, P2, P3, D>,
-    first: &mut Port<P0, P1, P2, P3, D>,
-    second: &mut Port<P0, P1, P2, P3, D>,
-    driver: &mut Driver<P0, P1, P2, P3, D>,
-    site: &mut SiteState,
-) {
-    let terminate = Some(Put(0xA100));
-    for trouble in [Trouble::Collision, Trouble::AnswerLost] {
-        same(rt, &goes(rt, line, first, site), &terminate);
-        same(rt, &goes(rt, line, second, site), &terminate);
-        pumps(rt, line, driver, site, &trouble);
-    }
+    let disagrees = Refusal::StoreDisagrees;
     let arc = forward(0xFE80);
-    does(rt, line.arc(rt, second, arc), site.arc(1, arc));
-    pumps(rt, line, driver, site, &Trouble::None);
+    match *step {
+        Step::Down => does(rt, line.down(rt, driver, 0), site.down(0)),
+        Step::Up => {
+            comes_up(rt, line.up(rt, driver, 0, kept), &Ok(()));
+            same(rt, &site.up(0, kept), &Ok(()));
+        }
+        Step::UpWithOthers => {
+            let refused = Err(UpRefusal::Site(disagrees));
+            comes_up(rt, line.up(rt, driver, 0, wrong), &refused);
+            same(rt, &site.up(0, wrong), &Err(disagrees));
+        }
+        Step::Arc => does(rt, line.arc(rt, other, arc), site.arc(1, arc)),
+        Step::Quiet => does(rt, line.quiet(rt, driver), site.quiet()),
+        Step::Power => does(rt, line.power(rt, driver, 0, false), site.power(0, false)),
+        _ => does(rt, line.expire(rt, driver, 0), site.expire(0)),
+    }
 }
 
-/// What befalls gear and bus, and the end of all waits.
-fn stops<P0: Ledger, P1: Ledger, P2: Ledger, P3: Ledger, D: Ledger, R: Abort + Wait>(
+/// The line and the site take these steps.
+fn both_do<P0: Ledger, P1: Ledger, P2: Ledger, P3: Ledger, D: Ledger, R: Abort + Wait>(
     rt: &R,
     line: &Line<P0, P1, P2, P3, D>,
-    port: &mut Port<P0, P1, P2, P3, D>,
+    ports: (&mut Port<P0, P1, P2, P3, D>, &mut Port<P0, P1, P2, P3, D>),
     driver: &mut Driver<P0, P1, P2, P3, D>,
     site: &mut SiteState,
+    records: Records<'_>,
+    steps: &[Step],
 ) {
-    does(rt, line.quiet(rt, driver), site.quiet());
-    does(rt, line.power(rt, driver, 0, false), site.power(0, false));
-    does(rt, line.expire(rt, driver, 0), site.expire(0));
-    line.stop(rt);
-    assert!(rt; !line.wait(rt, port));
-    same(rt, &line.ready(rt, driver), &Ready::Stopped);
+    let (first, other) = ports;
+    for step in steps {
+        match *step {
+            Step::Down
+            | Step::Up
+            | Step::UpWithOthers
+            | Step::Arc
+            | Step::Quiet
+            | Step::Power
+            | Step::Expire => line_does(rt, line, other, driver, site, records, step),
+            _ => bus_does(rt, line, (first, other), driver, site, step),
+        }
+    }
 }
 
 /// A spare port has nothing due, and each call with it is refused.
@@ -253,14 +288,10 @@ fn played<P0: Ledger, P1: Ledger, P2: Ledger, P3: Ledger, D: Ledger, R: Abort + 
     driver: &mut Driver<P0, P1, P2, P3, D>,
     site: &mut SiteState,
     records: Records<'_>,
-    story: Story,
+    story: &[Step],
 ) {
-    match story {
-        Story::Restart => restarts(rt, line, other, driver, site, records),
-        Story::Lapse => lapses(rt, line, other, driver, site),
-        Story::Collision => collides(rt, line, port, other, driver, site),
-    }
-    stops(rt, line, other, driver, site);
+    both_do(rt, line, (port, other), driver, site, records, story);
+    both_do(rt, line, (port, other), driver, site, records, &STOP);
     speaks_for_nobody(rt, line, &mut Port::default());
 }
 
@@ -276,7 +307,7 @@ fn beside<P0: Ledger, P1: Ledger, P2: Ledger, P3: Ledger, D: Ledger, R: Abort + 
     blanks: Blanks,
     site: &mut SiteState,
     records: Records<'_>,
-    story: Story,
+    story: &[Step],
 )
     requires first { (blanks.0.name ≡ P0.name) × (blanks.0.parts ≡ P0.parts) × (0 < P0.parts) }
     requires second { (blanks.1.name ≡ P1.name) × (blanks.1.parts ≡ P1.parts) × (0 < P1.parts) }
@@ -312,7 +343,7 @@ fn plays_on_both<R: Abort + Wait>(
     rt: &R,
     sites: (SiteState, SiteState),
     records: Records<'_>,
-    story: Story,
+    story: &[Step],
 ) {
     let (under, mut site) = sites;
     let blanks = blanks();
@@ -335,7 +366,7 @@ fn two_records() -> Result<(Kept, Kept), Fail> {
 fn plays<R: Abort + Wait + AllocGlobal>(
     rt: &R,
     blocks: &[(u8, u8)],
-    story: Story,
+    story: &[Step],
 ) -> Result<(), Fail> {
     let (kept, wrong) = two_records()?;
     let sites = two_sites(rt.alloc(), blocks)?;
@@ -344,16 +375,9 @@ fn plays<R: Abort + Wait + AllocGlobal>(
 }
 
 #[test]
-fn a_line_answers_as_a_site_over_a_restart(rt: HostRuntime) -> Result<(), Fail> {
-    plays(&rt, &[(0, 3)], Story::Restart)
-}
-
-#[test]
-fn a_line_answers_as_a_site_over_a_lapse(rt: HostRuntime) -> Result<(), Fail> {
-    plays(&rt, &[(0, 3)], Story::Lapse)
-}
-
-#[test]
-fn a_line_answers_as_a_site_over_a_collision(rt: HostRuntime) -> Result<(), Fail> {
-    plays(&rt, &[(0, 1), (2, 3)], Story::Collision)
+fn a_line_answers_as_a_site(rt: HostRuntime) -> Result<(), Fail> {
+    for story in [RESTART.as_slice(), LAPSE.as_slice()] {
+        plays(&rt, &[(0, 3)], story)?;
+    }
+    plays(&rt, &[(0, 1), (2, 3)], &COLLISION)
 }

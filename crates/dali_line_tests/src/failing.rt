@@ -9,7 +9,7 @@ ghost use Rattle.dali_reserve.specs.Store.{IsReplay, HasRecords};
 use super::calls::comes_up;
 use super::threads::{Blanks, TURNS, blanks, line_of, site_with, store_of};
 use super::values::{block, same};
-use dali_enrol::Directory;
+use dali_enrol::{Directory, Table};
 use dali_line::{Bus, Driver, Line, OpenGate, Outcome, Pumper, Worker};
 use dali_reserve::{Keep, KeepError, MemoryKeep};
 use dali_script::{AddError, Block, End, Fault, Kept, Record};
@@ -185,16 +185,26 @@ fn restarts<P0: Ledger, P1: Ledger, P2: Ledger, P3: Ledger, D: Ledger, R: Abort 
     comes_up(rt, line.up(rt, driver, 0, kept), &Ok(()));
 }
 
+/// Whether a table has a gear under the address that the gear has.
+fn is_named(site: &SiteState, table: &Table, number: u32) -> bool {
+    if number >= site.plan().gear() {
+        return false;
+    }
+    let gear = site.gear(number);
+    match gear.short() {
+        Some(address) => table.by_address(address) == Some(gear.random()),
+        None => false,
+    }
+}
+
 /// The table of the one controller has each of three gear, under the addresses that the gear has.
 fn table_is_true<R: Abort>(rt: &R, site: &SiteState) {
-    assert!(rt; site.plan().blocks().len() == 1 && site.plan().gear() == 3);
+    assert!(rt; site.plan().blocks().len() == 1);
     match site.table(0) {
         Some(table) => {
             same(rt, &table.entries().len(), &3);
             for number in 0..3 {
-                let gear = site.gear(number);
-                let named = gear.short().and_then(|address| table.by_address(address));
-                same(rt, &named, &Some(gear.random()));
+                assert!(rt; is_named(site, table, number));
             }
         }
         None => assert!(rt; false),

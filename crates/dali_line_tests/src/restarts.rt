@@ -142,15 +142,6 @@ fn works<B: Bus, G: Gate, R: Abort + Wait>(
     }
 }
 
-/// The ports of two controllers of a line, its driver, and the store of the first controller.
-#[derive(Drop)]
-struct Crew<P0: Ledger, P1: Ledger, P2: Ledger, P3: Ledger, D: Ledger> {
-    port: Port<P0, P1, P2, P3, D>,
-    other: Port<P0, P1, P2, P3, D>,
-    driver: Driver<P0, P1, P2, P3, D>,
-    keep: MemoryKeep,
-}
-
 /// Controller 0 comes up with what its store reads.
 fn goes_up<P0: Ledger, P1: Ledger, P2: Ledger, P3: Ledger, D: Ledger, R: Abort + Wait>(
     rt: &R,
@@ -188,59 +179,73 @@ fn goes_down<P0: Ledger, P1: Ledger, P2: Ledger, P3: Ledger, D: Ledger, R: Abort
     same(rt, &line.down(rt, &mut driver, 0), &Ok(()));
 }
 
-/// While its worker is at this commit controller 0 goes down, and is not brought up. The worker ends, and with what its
-/// store reads then the controller comes up, and another worker goes on to the end; and so it does once more.
-fn restarted<P0: Ledger, P1: Ledger, P2: Ledger, P3: Ledger, D: Ledger, R: Abort + Wait>(
+/// A line that drives itself.
+type Driven<'a, P0, P1, P2, P3, D> = DrivenBus<'a, Line<P0, P1, P2, P3, D>>;
+
+/// While its worker is at this commit controller 0 goes down, and is not brought up. The worker ends.
+fn goes_down_at<P0: Ledger, P1: Ledger, P2: Ledger, P3: Ledger, D: Ledger, R: Abort + Wait>(
     rt: &R,
     alloc: Global,
-    line: &Line<P0, P1, P2, P3, D>,
-    crew: Crew<P0, P1, P2, P3, D>,
+    bus: &Driven<'_, P0, P1, P2, P3, D>,
+    port: Port<P0, P1, P2, P3, D>,
+    keep: MemoryKeep,
     records: &Kept,
     commit: u8,
-) -> Crew<P0, P1, P2, P3, D> {
-    let Crew {
-        port,
-        other,
-        driver,
-        keep,
-    } = crew;
-    let driver = Mutex::new(driver);
-    let has_waited = AtomicBool::new(false);
-    let bus = DrivenBus {
-        bus: line,
-        driver: &driver,
-        has_waited: &has_waited,
-    };
+) -> (Port<P0, P1, P2, P3, D>, MemoryKeep) {
     let done = Mutex::new(Done {
         before: commit,
         down: None,
         up: None,
     });
     let gate = Restarting {
-        line,
-        driver: &driver,
+        line: bus.bus,
+        driver: bus.driver,
         records,
         done: &done,
     };
     let worker = Worker::new(port, keep, gate);
-    let (port, mut keep) = works(rt, alloc, &bus, worker, TURNS, Outcome::Down);
+    let (port, keep) = works(rt, alloc, bus, worker, TURNS, Outcome::Down);
     has_tried(rt, &done);
-    stays_down(rt, line, &driver, records);
-    goes_up(rt, line, &driver, &mut keep);
+    stays_down(rt, bus.bus, bus.driver, records);
+    (port, keep)
+}
+
+/// Controller 0 comes up with what its store reads, and another worker goes on to the end.
+fn goes_on<P0: Ledger, P1: Ledger, P2: Ledger, P3: Ledger, D: Ledger, R: Abort + Wait>(
+    rt: &R,
+    alloc: Global,
+    bus: &Driven<'_, P0, P1, P2, P3, D>,
+    port: Port<P0, P1, P2, P3, D>,
+    mut keep: MemoryKeep,
+) -> (Port<P0, P1, P2, P3, D>, MemoryKeep) {
+    goes_up(rt, bus.bus, bus.driver, &mut keep);
+    works(
+        rt,
+        alloc,
+        bus,
+        Worker::new(port, keep, OpenGate),
+        TURNS,
+        FOUND,
+    )
+}
+
+/// Controller 0 goes down at this commit, and goes on; and it goes down once more when it has ended.
+fn restarted<P0: Ledger, P1: Ledger, P2: Ledger, P3: Ledger, D: Ledger, R: Abort + Wait>(
+    rt: &R,
+    alloc: Global,
+    bus: &Driven<'_, P0, P1, P2, P3, D>,
+    port: Port<P0, P1, P2, P3, D>,
+    keep: MemoryKeep,
+    records: &Kept,
+    commit: u8,
+) -> MemoryKeep {
+    let (port, keep) = goes_down_at(rt, alloc, bus, port, keep, records, commit);
+    let (port, keep) = goes_on(rt, alloc, bus, port, keep);
+    goes_down(rt, bus.bus, bus.driver);
     let worker = Worker::new(port, keep, OpenGate);
-    let (port, mut keep) = works(rt, alloc, &bus, worker, TURNS, FOUND);
-    goes_down(rt, line, &driver);
-    let worker = Worker::new(port, keep, OpenGate);
-    let (port, mut keep) = works(rt, alloc, &bus, worker, TURNS, Outcome::Down);
-    goes_up(rt, line, &driver, &mut keep);
-    let worker = Worker::new(port, keep, OpenGate);
-    let (port, keep) = works(rt, alloc, &bus, worker, TURNS, FOUND);
-    Crew {
-        port,
-        other,
-        driver: driver.into_inner(),
-        keep,
-    }
+    let (port, keep) = works(rt, alloc, bus, worker, TURNS, Outcome::Down);
+    let (_port, keep) = goes_on(rt, alloc, bus, port, keep);
+    keep
 }
 
 /// The gate took the controller down, and did not bring it up.
@@ -255,73 +260,42 @@ fn has_tried<R: Abort + Wait>(rt: &R, done: &Mutex<Done>) {
 fn flooded<P0: Ledger, P1: Ledger, P2: Ledger, P3: Ledger, D: Ledger, R: Abort + Wait>(
     rt: &R,
     alloc: Global,
-    line: &Line<P0, P1, P2, P3, D>,
-    crew: Crew<P0, P1, P2, P3, D>,
+    bus: &Driven<'_, P0, P1, P2, P3, D>,
+    ports: (Port<P0, P1, P2, P3, D>, &Mutex<Port<P0, P1, P2, P3, D>>),
+    keep: MemoryKeep,
     turns: u8,
     end: Outcome,
-) -> Crew<P0, P1, P2, P3, D> {
-    let Crew {
-        port,
-        other,
-        driver,
-        keep,
-    } = crew;
-    let driver = Mutex::new(driver);
-    let other = Mutex::new(other);
+) -> MemoryKeep {
+    let (port, other) = ports;
     let turns = Mutex::new(turns);
-    let has_waited = AtomicBool::new(false);
-    let bus = DrivenBus {
-        bus: line,
-        driver: &driver,
-        has_waited: &has_waited,
-    };
     let gate = Flooding {
-        line,
-        port: &other,
+        line: bus.bus,
+        port: other,
         turns: &turns,
         stops: end == Outcome::Stopped,
     };
     let worker = Worker::new(port, keep, gate);
-    let (port, keep) = works(rt, alloc, &bus, worker, TURNS, end);
-    assert!(rt; has_waited.load(SeqCst));
-    Crew {
-        port,
-        other: other.into_inner(),
-        driver: driver.into_inner(),
-        keep,
-    }
+    let (_port, keep) = works(rt, alloc, bus, worker, TURNS, end);
+    assert!(rt; bus.has_waited.load(SeqCst));
+    keep
 }
 
 /// A worker runs for so many turns at most, and ends so.
-fn runs<P0: Ledger, P1: Ledger, P2: Ledger, P3: Ledger, D: Ledger, R: Abort + Wait>(
+fn runs<B: Bus, R: Abort + Wait>(
     rt: &R,
     alloc: Global,
-    line: &Line<P0, P1, P2, P3, D>,
-    crew: Crew<P0, P1, P2, P3, D>,
+    bus: &B,
+    port: B::Port,
+    keep: MemoryKeep,
     turns: u32,
     end: Outcome,
-) -> Crew<P0, P1, P2, P3, D> {
-    let Crew {
-        port,
-        other,
-        driver,
-        keep,
-    } = crew;
-    let driver = Mutex::new(driver);
-    let has_waited = AtomicBool::new(false);
-    let bus = DrivenBus {
-        bus: line,
-        driver: &driver,
-        has_waited: &has_waited,
-    };
+) -> MemoryKeep
+where
+    B::Port: Drop,
+{
     let worker = Worker::new(port, keep, OpenGate);
-    let (port, keep) = works(rt, alloc, &bus, worker, turns, end);
-    Crew {
-        port,
-        other,
-        driver: driver.into_inner(),
-        keep,
-    }
+    let (_port, keep) = works(rt, alloc, bus, worker, turns, end);
+    keep
 }
 
 /// As much arc power is offered as may wait. How many frames.
@@ -338,39 +312,37 @@ fn offered<P0: Ledger, P1: Ledger, P2: Ledger, P3: Ledger, D: Ledger, R: Wait>(
     100
 }
 
-/// While controller 0 owns the bus, so much arc power waits that it is refused. A pumper lets the bus lapse and sends
-/// the first of the arc power, and the controller goes on.
+/// While controller 0 owns the bus, so much arc power waits that it is refused.
+fn is_crowded<P0: Ledger, P1: Ledger, P2: Ledger, P3: Ledger, D: Ledger, R: Abort + Wait>(
+    rt: &R,
+    line: &Line<P0, P1, P2, P3, D>,
+    port: &mut Port<P0, P1, P2, P3, D>,
+    other: &mut Port<P0, P1, P2, P3, D>,
+    driver: &mut Driver<P0, P1, P2, P3, D>,
+) {
+    assert!(rt; line.act(rt, port, Input::Start).is_ok());
+    let _ = line.pump(rt, driver, Trouble::None);
+    same(rt, &offered(rt, line, other), &64);
+    same(rt, &line.ready(rt, driver), &Ready::Full);
+    let heard = Input::Heard(Answer::Silence);
+    let refused = line.act(rt, port, heard).err();
+    same(rt, &refused, &Some(Refusal::QueueFull));
+}
+
+/// A pumper lets the bus lapse then and sends the first of the arc power, and the controller goes on.
 fn lapses<P0: Ledger, P1: Ledger, P2: Ledger, P3: Ledger, D: Ledger, R: Abort + Wait>(
     rt: &R,
     line: &Line<P0, P1, P2, P3, D>,
-    crew: Crew<P0, P1, P2, P3, D>,
-) -> Crew<P0, P1, P2, P3, D> {
-    let Crew {
-        mut port,
-        mut other,
-        mut driver,
-        keep,
-    } = crew;
-    assert!(rt; line.act(rt, &mut port, Input::Start).is_ok());
-    let _ = line.pump(rt, &mut driver, Trouble::None);
-    same(rt, &offered(rt, line, &mut other), &64);
-    same(rt, &line.ready(rt, &mut driver), &Ready::Full);
-    let heard = Input::Heard(Answer::Silence);
-    same(
-        rt,
-        &line.act(rt, &mut port, heard).err(),
-        &Some(Refusal::QueueFull),
-    );
+    port: &mut Port<P0, P1, P2, P3, D>,
+    other: &mut Port<P0, P1, P2, P3, D>,
+    mut driver: Driver<P0, P1, P2, P3, D>,
+) -> Driver<P0, P1, P2, P3, D> {
+    is_crowded(rt, line, port, other, &mut driver);
     let (driver, refusal) = Pumper::new(driver, OpenGate).run(rt, line, 2);
     same(rt, &refusal, &None);
-    same(rt, &line.next(rt, &mut port), &Some(Input::Lapsed));
-    assert!(rt; line.act(rt, &mut port, Input::Lapsed).is_ok());
-    Crew {
-        port,
-        other,
-        driver,
-        keep,
-    }
+    same(rt, &line.next(rt, port), &Some(Input::Lapsed));
+    assert!(rt; line.act(rt, port, Input::Lapsed).is_ok());
+    driver
 }
 
 /// What is played.
@@ -390,6 +362,36 @@ enum Story {
     Lapse,
 }
 
+/// A story is played on a line that drives itself. Its driver and the store of controller 0 then.
+fn driven<P0: Ledger, P1: Ledger, P2: Ledger, P3: Ledger, D: Ledger, R: Abort + Wait>(
+    rt: &R,
+    alloc: Global,
+    line: &Line<P0, P1, P2, P3, D>,
+    ports: (Port<P0, P1, P2, P3, D>, Port<P0, P1, P2, P3, D>),
+    driver: Driver<P0, P1, P2, P3, D>,
+    keep: MemoryKeep,
+    records: &Kept,
+    story: Story,
+) -> (Driver<P0, P1, P2, P3, D>, MemoryKeep) {
+    let (port, other) = ports;
+    let driver = Mutex::new(driver);
+    let other = Mutex::new(other);
+    let has_waited = AtomicBool::new(false);
+    let bus = DrivenBus {
+        bus: line,
+        driver: &driver,
+        has_waited: &has_waited,
+    };
+    let keep = match story {
+        Story::Restart(commit) => restarted(rt, alloc, &bus, port, keep, records, commit),
+        Story::Full => flooded(rt, alloc, &bus, (port, &other), keep, 3, FOUND),
+        Story::Untold => flooded(rt, alloc, &bus, (port, &other), keep, 0, Outcome::Stopped),
+        Story::Unmade => runs(rt, alloc, &bus, port, keep, 110, Outcome::TurnsSpent),
+        Story::Rest | Story::Lapse => runs(rt, alloc, &bus, port, keep, TURNS, FOUND),
+    };
+    (driver.into_inner(), keep)
+}
+
 /// A story is played on a line round this site. The site and the store of controller 0 then.
 fn played<P0: Ledger, P1: Ledger, P2: Ledger, P3: Ledger, D: Ledger, R: Abort + Wait>(
     rt: &R,
@@ -407,22 +409,20 @@ fn played<P0: Ledger, P1: Ledger, P2: Ledger, P3: Ledger, D: Ledger, R: Abort + 
     requires driver { (blanks.4.name ≡ D.name) × (blanks.4.parts ≡ D.parts) × (0 < D.parts) }
 {
     let (line, mut ports, driver) = line_of::<P0, P1, P2, P3, D>(site, blanks);
-    let (port, other) = last_two(&mut ports);
-    let crew = Crew {
-        port,
-        other,
-        driver,
-        keep,
+    let (mut port, mut other) = last_two(&mut ports);
+    let (driver, keep) = match story {
+        Story::Lapse => (lapses(rt, &line, &mut port, &mut other, driver), keep),
+        _ => driven(
+            rt,
+            alloc,
+            &line,
+            (port, other),
+            driver,
+            keep,
+            records,
+            story,
+        ),
     };
-    let crew = match story {
-        Story::Restart(commit) => restarted(rt, alloc, &line, crew, records, commit),
-        Story::Full => flooded(rt, alloc, &line, crew, 3, FOUND),
-        Story::Untold => flooded(rt, alloc, &line, crew, 0, Outcome::Stopped),
-        Story::Unmade => runs(rt, alloc, &line, crew, 110, Outcome::TurnsSpent),
-        Story::Rest => runs(rt, alloc, &line, crew, TURNS, FOUND),
-        Story::Lapse => lapses(rt, &line, crew),
-    };
-    let Crew { driver, keep, .. } = crew;
     (line.close(ports, driver), keep)
 }
 
@@ -439,28 +439,61 @@ fn plays<R: Abort + Wait>(
     played::<Brand, Brand, Brand, Brand, Brand, R>(rt, alloc, site, blanks, keep, records, story)
 }
 
-/// Controller 0 has all gear in its table, and its store reads what the site remembers.
-fn has_all<R: Abort>(rt: &R, site: &SiteState, keep: &mut MemoryKeep) {
-    assert!(rt; site.plan().blocks().len() == 2);
-    let gear = site.plan().gear() as usize;
-    match site.table(0) {
-        Some(table) => same(rt, &table.entries().len(), &gear),
-        None => assert!(rt; false),
+/// Whether the store of controller 0 reads what the site remembers.
+fn reads_the_same(site: &SiteState, keep: &mut MemoryKeep) -> Option<bool> {
+    if site.plan().blocks().is_empty() {
+        return None;
     }
     match keep.read() {
-        Ok(kept) => assert!(rt; kept.same(site.kept(0))),
-        Err(_) => assert!(rt; false),
+        Ok(kept) => Some(kept.same(site.kept(0))),
+        Err(_) => None,
     }
 }
 
-/// What is due for controller 0, and whether its store has a record that it was not told of.
-fn is_left<R: Abort>(rt: &R, site: &SiteState, keep: &mut MemoryKeep, has_more: bool) {
-    assert!(rt; site.plan().blocks().len() == 2);
-    same(rt, &site.due(0), &Due::Store);
-    assert!(rt; site.ordered(0).is_some());
-    match keep.read() {
-        Ok(kept) => assert!(rt; kept.same(site.kept(0)) != has_more),
-        Err(_) => assert!(rt; false),
+/// How many gear the table of controller 0 has.
+fn in_table(site: &SiteState) -> Option<usize> {
+    if site.plan().blocks().is_empty() {
+        return None;
+    }
+    match site.table(0) {
+        Some(table) => Some(table.entries().len()),
+        None => None,
+    }
+}
+
+/// Whether a commit is due for controller 0.
+fn has_due_commit(site: &SiteState) -> bool {
+    !site.plan().blocks().is_empty() && site.due(0) == Due::Store && site.ordered(0).is_some()
+}
+
+/// How a story ends.
+#[derive(Clone, Copy)]
+enum After {
+    /// Controller 0 has all gear in its table, and its store reads what the site remembers.
+    All,
+    /// A commit is due for controller 0. Whether its store has a record that it was not told of.
+    Left(bool),
+    /// The bus lapsed once.
+    Lapsed,
+}
+
+fn is_lapse(event: &&Event) -> bool {
+    matches!(event, Event::Lapsed)
+}
+
+/// The site and the store of controller 0 are so.
+fn are_so<R: Abort>(rt: &R, site: &SiteState, keep: &mut MemoryKeep, after: After) {
+    match after {
+        After::All => {
+            let all = site.plan().gear() as usize;
+            let found = (in_table(site), reads_the_same(site, keep));
+            same(rt, &found, &(Some(all), Some(true)));
+        }
+        After::Left(has_more) => {
+            let left = (has_due_commit(site), reads_the_same(site, keep));
+            same(rt, &left, &(true, Some(!has_more)));
+        }
+        After::Lapsed => same(rt, &site.log().iter().filter(is_lapse).count(), &1),
     }
 }
 
@@ -470,72 +503,52 @@ fn begun(alloc: Global, gear: u32) -> Result<(SiteState, MemoryKeep), Fail> {
     Ok((site_with(alloc, gear, &[(0, 3), (4, 7)])?, keep))
 }
 
-/// A story ends with all gear found.
-fn ends_well<R: Abort + Wait>(
+/// One story after the other on a site, and how each ends.
+fn tells<R: Abort + Wait>(
     rt: &R,
     alloc: Global,
     begun: (SiteState, MemoryKeep),
     records: &Kept,
-    story: Story,
+    stories: &[(Story, After)],
 ) {
-    let (site, keep) = begun;
-    let (site, mut keep) = plays(rt, alloc, site, keep, records, story);
-    has_all(rt, &site, &mut keep);
+    let (mut site, mut keep) = begun;
+    for (story, after) in stories {
+        (site, keep) = plays(rt, alloc, site, keep, records, *story);
+        are_so(rt, &site, &mut keep, *after);
+    }
 }
 
-/// A story ends with a commit due, and a worker goes on to the end.
-fn goes_on<R: Abort + Wait>(
-    rt: &R,
-    alloc: Global,
-    begun: (SiteState, MemoryKeep),
-    records: &Kept,
-    story: Story,
-    has_more: bool,
-) {
-    let (site, keep) = begun;
-    let (site, mut keep) = plays(rt, alloc, site, keep, records, story);
-    is_left(rt, &site, &mut keep, has_more);
-    ends_well(rt, alloc, (site, keep), records, Story::Rest);
-}
+/// How many gear there are, and stories of them. Two gear take four commits: a reservation and an enrolment of each, in
+/// turn.
+const STORIES: [(u32, &[(Story, After)]); 8] = [
+    (2, &[(Story::Restart(0), After::All)]),
+    (2, &[(Story::Restart(1), After::All)]),
+    (2, &[(Story::Restart(2), After::All)]),
+    (2, &[(Story::Restart(3), After::All)]),
+    (2, &[(Story::Full, After::All)]),
+    // A commit that is due is gone on with.
+    (
+        2,
+        &[
+            (Story::Untold, After::Left(true)),
+            (Story::Rest, After::All),
+        ],
+    ),
+    (
+        2,
+        &[
+            (Story::Unmade, After::Left(false)),
+            (Story::Rest, After::All),
+        ],
+    ),
+    (1, &[(Story::Lapse, After::Lapsed)]),
+];
 
-/// Two gear take four commits: a reservation and an enrolment of each, in turn.
 #[test]
-fn a_restart_while_a_commit_is_made(rt: HostRuntime) -> Result<(), Fail> {
+fn a_worker_alone_goes_on(rt: HostRuntime) -> Result<(), Fail> {
     let records = Kept::new(block(0, 3)?);
-    for commit in 0..4 {
-        let site = begun(rt.alloc(), 2)?;
-        ends_well(&rt, rt.alloc(), site, &records, Story::Restart(commit));
+    for (gear, stories) in STORIES {
+        tells(&rt, rt.alloc(), begun(rt.alloc(), gear)?, &records, stories);
     }
     Ok(())
-}
-
-#[test]
-fn a_full_queue_is_waited_for(rt: HostRuntime) -> Result<(), Fail> {
-    let records = Kept::new(block(0, 3)?);
-    let site = begun(rt.alloc(), 2)?;
-    ends_well(&rt, rt.alloc(), site, &records, Story::Full);
-    Ok(())
-}
-
-#[test]
-fn a_commit_that_is_due_is_gone_on_with(rt: HostRuntime) -> Result<(), Fail> {
-    let records = Kept::new(block(0, 3)?);
-    for (story, has_more) in [(Story::Untold, true), (Story::Unmade, false)] {
-        let site = begun(rt.alloc(), 2)?;
-        goes_on(&rt, rt.alloc(), site, &records, story, has_more);
-    }
-    Ok(())
-}
-
-#[test]
-fn a_full_queue_lets_the_bus_lapse(rt: HostRuntime) -> Result<(), Fail> {
-    let records = Kept::new(block(0, 3)?);
-    let (site, keep) = begun(rt.alloc(), 1)?;
-    let (site, _keep) = plays(&rt, rt.alloc(), site, keep, &records, Story::Lapse);
-    assert!(rt; site.log().iter().filter(is_lapse).count() == 1);
-    Ok(())
-}
-
-fn is_lapse(event: &&Event) -> bool {
-    matches!(event, Event::Lapsed)
 }

@@ -3,12 +3,10 @@
 ghost use Rattle.std.specs.Prelude.{IsTrue, IfOk};
 ghost use Rattle.sqlite_disk.specs.Memory.{memory_is_usable};
 
-use super::stores::{commits, commits_are_read_back, reads};
-use super::values::InNumbers::{Enrol, Reserve};
+use super::stores::{Deed, done_over};
 use super::values::block;
-use dali_reserve::{Keep, KeepError};
-use dali_sqlite::SqliteKeep;
-use sqlite::{Alter, Connection, Error, FileStore, Files, Options};
+use dali_script::Block;
+use sqlite::{Connection, Error, FileStore, Files, Options};
 use sqlite_disk::Memory;
 use std::alloc::Global;
 use std::process::Abort;
@@ -40,59 +38,19 @@ fn closed(conn: Connection<FileStore<Memory>>) -> Result<Memory, Fail>
     }
 }
 
-/// A part of the story of a store.
-#[derive(Clone, Copy)]
-enum Part {
-    /// It is new, and commits.
-    First,
-    /// It reads what was committed, and goes on.
-    Second,
-}
-
-fn goes_on<K: Keep>(rt: &impl Abort, keep: &mut K) -> Result<(), Fail> {
-    let added = [
-        (Reserve(3, 0x000002), Err(KeepError::AddressTaken)),
-        (Reserve(2, 0x000002), Ok(())),
-        (Enrol(2, 0x000002), Ok(())),
-    ];
-    commits(rt, keep, &added)?;
-    let reserved = [(0, 0x123456), (3, 0xFFFFFE), (1, 0x000000), (2, 0x000002)];
-    let enrolled = [(0, 0x123456), (9, 0x000001), (2, 0x000002)];
-    reads(rt, keep, &reserved, &enrolled)
-}
-
-fn told<K: Keep>(rt: &impl Abort, keep: &mut K, part: Part) -> Result<(), Fail> {
-    match part {
-        Part::First => commits_are_read_back(rt, keep),
-        Part::Second => goes_on(rt, keep),
-    }
-}
-
-/// A part of the story of a store of the block 0 to 3 over this connection, which is given back.
-fn told_over<S: Alter + Drop>(
+/// Something is done with a store of this block in this file, which is closed in the end.
+fn done_in(
     rt: &impl Abort,
-    conn: Connection<S>,
-    part: Part,
-) -> Result<Connection<S>, Fail> {
-    match SqliteKeep::over(conn, block(0, 3)?) {
-        Ok(keep) => {
-            let mut keep = keep;
-            match told(rt, &mut keep, part) {
-                Ok(()) => Ok(keep.into_connection()),
-                Err(fail) => Err(fail),
-            }
-        }
-        Err(error) => Err(Fail::from(error)),
-    }
-}
-
-/// A part of the story of a store in this file, which is closed in the end.
-fn told_in(rt: &impl Abort, alloc: Global, db: Memory, part: Part) -> Result<Memory, Fail>
+    alloc: Global,
+    db: Memory,
+    block: &Block,
+    deed: Deed<'_>,
+) -> Result<Memory, Fail>
     requires { IsTrue (memory_is_usable db) }
     ensures { IfOk result (λ db. IsTrue (memory_is_usable db)) }
 {
     match opened(alloc, db) {
-        Ok(conn) => match told_over(rt, conn, part) {
+        Ok(conn) => match done_over(rt, conn, block, deed) {
             Ok(conn) => closed(conn),
             Err(fail) => Err(fail),
         },
@@ -100,15 +58,17 @@ fn told_in(rt: &impl Abort, alloc: Global, db: Memory, part: Part) -> Result<Mem
     }
 }
 
-fn told_twice(rt: &impl Abort, alloc: Global) -> Result<Memory, Fail> {
-    match told_in(rt, alloc, Memory::new(alloc), Part::First) {
-        Ok(db) => told_in(rt, alloc, db, Part::Second),
+/// A list of commits in a file that is new, and more of them when it was closed and opened again.
+fn done_twice(rt: &impl Abort, alloc: Global, block: &Block) -> Result<Memory, Fail> {
+    match done_in(rt, alloc, Memory::new(alloc), block, Deed::List) {
+        Ok(db) => done_in(rt, alloc, db, block, Deed::MoreOfList),
         Err(fail) => Err(fail),
     }
 }
 
 #[test]
 fn records_outlive_their_store(rt: HostRuntime) -> Result<(), Fail> {
-    told_twice(&rt, rt.alloc())?;
+    let block = block(0, 3)?;
+    done_twice(&rt, rt.alloc(), &block)?;
     Ok(())
 }

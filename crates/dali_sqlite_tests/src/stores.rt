@@ -1,4 +1,7 @@
-//! One story over both stores, through the promises of every store.
+//! Stories over both stores, through the promises of every store.
+//!
+//! What is done with a store is told by a `Deed`. One function does it with any store, one over any connection, and one
+//! names what lies under a database in memory.
 
 ghost use Rattle.std.specs.Prelude.{◌≡◌, ◌⊎◌, List, [], ◌∷◌, ◌++◌, OnOk, IfOk, false};
 ghost use Rattle.dali_script.specs.declared.records.Record.{Record};
@@ -6,7 +9,7 @@ ghost use Rattle.dali_script.specs.declared.records.Record.{Record};
 use super::values::InNumbers::{Enrol, Release, Reserve};
 use super::values::{InNumbers, are_pairs, block, number, same};
 use dali_reserve::{Keep, KeepError, MemoryKeep};
-use dali_script::{Kept, Record};
+use dali_script::{Block, Kept, Record};
 use dali_sqlite::SqliteKeep;
 use sqlite::{Alter, Connection, MemStore};
 use std::alloc::Global;
@@ -57,7 +60,7 @@ pub fn reads<K: Keep>(
 }
 
 /// A list of commits with each refusal, and what is read back.
-pub fn commits_are_read_back<K: Keep>(rt: &impl Abort, keep: &mut K) -> Result<(), Fail> {
+fn commits_are_read_back<K: Keep>(rt: &impl Abort, keep: &mut K) -> Result<(), Fail> {
     let added = [
         (Reserve(0, 0x123456), Ok(())),
         (Reserve(0, 0x000001), Err(KeepError::AddressTaken)),
@@ -90,39 +93,6 @@ fn released_addresses_are_free_again<K: Keep>(rt: &impl Abort, keep: &mut K) -> 
     reads(rt, keep, &[(0, 0x000001)], &[])
 }
 
-/// A store over a database in memory, of this block.
-pub fn in_memory(alloc: Global, bounds: (u8, u8)) -> Result<SqliteKeep<MemStore>, Fail> {
-    let conn = Connection::open_in_memory(alloc)?;
-    Ok(SqliteKeep::over(conn, block(bounds.0, bounds.1)?)?)
-}
-
-#[test]
-fn a_store_in_memory_keeps_a_list(rt: HostRuntime) -> Result<(), Fail> {
-    let mut keep = MemoryKeep::new(block(0, 3)?);
-    commits_are_read_back(&rt, &mut keep)
-}
-
-#[test]
-fn a_store_in_a_database_keeps_a_list(rt: HostRuntime) -> Result<(), Fail> {
-    let mut keep = in_memory(rt.alloc(), (0, 3))?;
-    commits_are_read_back(&rt, &mut keep)
-}
-
-#[test]
-fn a_store_in_memory_releases(rt: HostRuntime) -> Result<(), Fail> {
-    let mut keep = MemoryKeep::new(block(0, 3)?);
-    released_addresses_are_free_again(&rt, &mut keep)
-}
-
-/// A new store over the same connection reads the same.
-#[test]
-fn a_store_in_a_database_releases(rt: HostRuntime) -> Result<(), Fail> {
-    let mut keep = in_memory(rt.alloc(), (0, 3))?;
-    released_addresses_are_free_again(&rt, &mut keep)?;
-    let again = SqliteKeep::over(keep.into_connection(), block(0, 3)?);
-    reads(&rt, &mut again?, &[(0, 0x000001)], &[])
-}
-
 /// Commits a record that fits records of the store's block, with no read before it.
 fn commit_unread<K: Keep>(
     keep: &mut K,
@@ -152,17 +122,8 @@ fn begins<K: Keep>(rt: &impl Abort, keep: &mut K, none: &Kept) -> Result<(), Fai
     reads(rt, keep, &[(2, 1)], &[(2, 1)])
 }
 
-/// A new store takes its first commits without a read.
-#[test]
-fn the_first_commit_needs_no_read(rt: HostRuntime) -> Result<(), Fail> {
-    let none = Kept::new(block(0, 3)?);
-    let conn = Connection::open_in_memory(rt.alloc())?;
-    let mut keep = SqliteKeep::over(conn, none.block())?;
-    begins(&rt, &mut keep, &none)
-}
-
 /// A reservation and an enrolment of each short address are committed.
-pub fn fill<K: Keep>(rt: &impl Abort, keep: &mut K) -> Result<(), Fail> {
+fn fill<K: Keep>(rt: &impl Abort, keep: &mut K) -> Result<(), Fail> {
     for address in 0..64 {
         let drawn = u32::from(address) + 0x400000;
         let added = [
@@ -171,7 +132,7 @@ pub fn fill<K: Keep>(rt: &impl Abort, keep: &mut K) -> Result<(), Fail> {
         ];
         commits(rt, keep, &added)?;
     }
-    Ok(())
+    is_full(rt, keep)
 }
 
 /// Every address is taken, in both kinds.
@@ -186,20 +147,149 @@ fn is_full<K: Keep>(rt: &impl Abort, keep: &mut K) -> Result<(), Fail> {
     Ok(())
 }
 
-#[test]
-fn every_address_has_room_in_memory(rt: HostRuntime) -> Result<(), Fail> {
-    let mut keep = MemoryKeep::new(block(0, 63)?);
-    fill(&rt, &mut keep)?;
-    is_full(&rt, &mut keep)
+/// What another program may read of a store, and what was released of it.
+fn has_rows<K: Keep>(rt: &impl Abort, keep: &mut K) -> Result<(), Fail> {
+    let added = [
+        (Reserve(2, 0x123456), Ok(())),
+        (Enrol(9, 0xFFFFFE), Ok(())),
+        (Release(2, 0x123456), Ok(())),
+    ];
+    commits(rt, keep, &added)
+}
+
+/// More commits over the list of `commits_are_read_back`.
+fn goes_on<K: Keep>(rt: &impl Abort, keep: &mut K) -> Result<(), Fail> {
+    let added = [
+        (Reserve(3, 0x000002), Err(KeepError::AddressTaken)),
+        (Reserve(2, 0x000002), Ok(())),
+        (Enrol(2, 0x000002), Ok(())),
+    ];
+    commits(rt, keep, &added)?;
+    let reserved = [(0, 0x123456), (3, 0xFFFFFE), (1, 0x000000), (2, 0x000002)];
+    let enrolled = [(0, 0x123456), (9, 0x000001), (2, 0x000002)];
+    reads(rt, keep, &reserved, &enrolled)
+}
+
+/// What is done with a store, and what is read back.
+#[derive(Clone, Copy)]
+pub enum Deed<'a> {
+    /// A list of commits, with each refusal.
+    List,
+    /// More commits over that list.
+    MoreOfList,
+    /// A reservation is released, and its address reserved for another number.
+    Release,
+    /// Commits without a read before them.
+    Unread,
+    /// A reservation and an enrolment of each short address.
+    Fill,
+    /// Every address is taken, in both kinds.
+    Full,
+    /// The records that the documents show as rows.
+    Rows,
+    /// These are reserved and enrolled.
+    Reads(&'a [(u8, u32)], &'a [(u8, u32)]),
+}
+
+/// Something is done with a store of this block.
+fn does<K: Keep>(rt: &impl Abort, keep: &mut K, block: &Block, deed: Deed<'_>) -> Result<(), Fail>
+    requires { K.block keep.old ≡ block.now }
+{
+    match deed {
+        Deed::List => commits_are_read_back(rt, keep),
+        Deed::MoreOfList => goes_on(rt, keep),
+        Deed::Release => released_addresses_are_free_again(rt, keep),
+        Deed::Unread => begins(rt, keep, &Kept::new(*block)),
+        Deed::Fill => fill(rt, keep),
+        Deed::Full => is_full(rt, keep),
+        Deed::Rows => has_rows(rt, keep),
+        Deed::Reads(reserved, enrolled) => reads(rt, keep, reserved, enrolled),
+    }
+}
+
+/// Something is done with a store over this connection, which is given back.
+pub fn done_over<S: Alter + Drop>(
+    rt: &impl Abort,
+    conn: Connection<S>,
+    block: &Block,
+    deed: Deed<'_>,
+) -> Result<Connection<S>, Fail> {
+    match SqliteKeep::over(conn, *block) {
+        Ok(keep) => {
+            let mut keep = keep;
+            match does(rt, &mut keep, block, deed) {
+                Ok(()) => Ok(keep.into_connection()),
+                Err(fail) => Err(fail),
+            }
+        }
+        Err(error) => Err(Fail::from(error)),
+    }
+}
+
+/// Something is done with a store over this connection, and then something with a new store over it.
+fn both_done_over<S: Alter + Drop>(
+    rt: &impl Abort,
+    conn: Connection<S>,
+    block: &Block,
+    deeds: (Deed<'_>, Deed<'_>),
+) -> Result<Connection<S>, Fail> {
+    match done_over(rt, conn, block, deeds.0) {
+        Ok(conn) => done_over(rt, conn, block, deeds.1),
+        Err(fail) => Err(fail),
+    }
+}
+
+/// Both are done with stores of this block over one database in memory, one store after the other.
+fn done_in_database(
+    rt: &impl Abort,
+    alloc: Global,
+    bounds: (u8, u8),
+    deeds: (Deed<'_>, Deed<'_>),
+) -> Result<Connection<MemStore>, Fail> {
+    let block = block(bounds.0, bounds.1)?;
+    match Connection::open_in_memory(alloc) {
+        Ok(conn) => both_done_over(rt, conn, &block, deeds),
+        Err(error) => Err(Fail::from(error)),
+    }
+}
+
+/// This is done with a store of this block in memory.
+fn done_in_memory(rt: &impl Abort, bounds: (u8, u8), deed: Deed<'_>) -> Result<(), Fail> {
+    let block = block(bounds.0, bounds.1)?;
+    does(rt, &mut MemoryKeep::new(block), &block, deed)
 }
 
 #[test]
-fn every_address_has_room_in_a_database(rt: HostRuntime) -> Result<(), Fail> {
-    let mut keep = in_memory(rt.alloc(), (0, 63))?;
-    fill(&rt, &mut keep)?;
-    is_full(&rt, &mut keep)?;
-    let again = SqliteKeep::over(keep.into_connection(), block(0, 63)?);
-    is_full(&rt, &mut again?)
+fn a_store_in_memory_does_as_every_store(rt: HostRuntime) -> Result<(), Fail> {
+    done_in_memory(&rt, (0, 3), Deed::List)?;
+    done_in_memory(&rt, (0, 3), Deed::Release)?;
+    done_in_memory(&rt, (0, 63), Deed::Fill)
+}
+
+/// What is done with a store in a database, of this block, and what a new store over it reads then.
+const IN_A_DATABASE: [((u8, u8), (Deed<'static>, Deed<'static>)); 4] = [
+    (
+        (0, 3),
+        (
+            Deed::List,
+            Deed::Reads(
+                &[(0, 0x123456), (3, 0xFFFFFE), (1, 0x000000)],
+                &[(0, 0x123456), (9, 0x000001)],
+            ),
+        ),
+    ),
+    ((0, 3), (Deed::Release, Deed::Reads(&[(0, 0x000001)], &[]))),
+    // A new store takes its first commits without a read.
+    ((0, 3), (Deed::Unread, Deed::Reads(&[(2, 1)], &[(2, 1)]))),
+    ((0, 63), (Deed::Fill, Deed::Full)),
+];
+
+#[test]
+fn a_store_in_a_database_does_as_every_store(rt: HostRuntime) -> Result<(), Fail> {
+    for (bounds, deeds) in IN_A_DATABASE {
+        done_in_database(&rt, rt.alloc(), bounds, deeds)?;
+    }
+    Ok(())
 }
 
 /// The rows are those that the documents show.
@@ -227,12 +317,6 @@ fn shows_rows<S: Alter>(rt: &impl Abort, conn: &mut Connection<S>) -> Result<(),
 
 #[test]
 fn records_are_rows_that_other_programs_read(rt: HostRuntime) -> Result<(), Fail> {
-    let mut keep = in_memory(rt.alloc(), (0, 3))?;
-    let added = [
-        (Reserve(2, 0x123456), Ok(())),
-        (Enrol(9, 0xFFFFFE), Ok(())),
-        (Release(2, 0x123456), Ok(())),
-    ];
-    commits(&rt, &mut keep, &added)?;
-    shows_rows(&rt, &mut keep.into_connection())
+    let deeds = (Deed::Rows, Deed::Reads(&[], &[(9, 0xFFFFFE)]));
+    shows_rows(&rt, &mut done_in_database(&rt, rt.alloc(), (0, 3), deeds)?)
 }

@@ -1,10 +1,11 @@
 //! What other programs may leave in the table.
 
-use super::stores::reads;
+use super::stores::{Deed, done_over};
 use super::values::{block, run, same};
 use dali_reserve::KeepError;
+use dali_script::Block;
 use dali_sqlite::SqliteKeep;
-use sqlite::{Connection, MemStore};
+use sqlite::{Alter, Connection, Error};
 use std::alloc::Global;
 use std::process::Abort;
 use std::test::Fail;
@@ -19,18 +20,33 @@ pub const TABLE: &str = "CREATE TABLE record(
 /// A table of the same columns, which takes all values.
 const LOOSE: &str = "CREATE TABLE record(seq INTEGER PRIMARY KEY, kind, address, random);";
 
-/// A database in memory, after these statements of another program.
-fn database(alloc: Global, table: &str, rows: &str) -> Result<Connection<MemStore>, Fail> {
-    let mut conn = Connection::open_in_memory(alloc)?;
-    run(&mut conn, table)?;
-    run(&mut conn, rows)?;
-    Ok(conn)
+/// Another program runs these statements.
+fn run_both<S: Alter>(conn: &mut Connection<S>, table: &str, rows: &str) -> Result<(), Error> {
+    run(conn, table)?;
+    run(conn, rows)
 }
 
-/// What a store of the block 0 to 3 over such a database answers.
+/// What a store of this block answers over this connection, on which another program runs these statements before.
+fn answer_over<S: Alter + Drop>(
+    conn: Connection<S>,
+    table: &str,
+    rows: &str,
+    block: Block,
+) -> Result<Result<(), KeepError>, Error> {
+    let mut conn = conn;
+    match run_both(&mut conn, table, rows) {
+        Ok(()) => Ok(SqliteKeep::over(conn, block).map(|_| ())),
+        Err(error) => Err(error),
+    }
+}
+
+/// What a store of the block 0 to 3 answers over such a database in memory.
 fn over(alloc: Global, table: &str, rows: &str) -> Result<Result<(), KeepError>, Fail> {
-    let conn = database(alloc, table, rows)?;
-    Ok(SqliteKeep::over(conn, block(0, 3)?).map(|_| ()))
+    let block = block(0, 3)?;
+    match Connection::open_in_memory(alloc) {
+        Ok(conn) => Ok(answer_over(conn, table, rows, block)?),
+        Err(error) => Err(Fail::from(error)),
+    }
 }
 
 /// Each of these leaves a table over which a store is refused so.
@@ -119,17 +135,31 @@ fn other_tables_of_this_name_fail(rt: HostRuntime) -> Result<(), Fail> {
     are_refused(&rt, rt.alloc(), "", &tables, KeepError::StoreFailed)
 }
 
-/// A store of the block 0 to 3 over such a database reads these.
-fn holds(
+/// A store of this block reads these over this connection, on which another program adds these rows before.
+fn holds_over<S: Alter + Drop>(
     rt: &impl Abort,
-    alloc: Global,
+    conn: Connection<S>,
     rows: &str,
-    reserved: &[(u8, u32)],
-    enrolled: &[(u8, u32)],
+    block: &Block,
+    wanted: Deed<'_>,
 ) -> Result<(), Fail> {
-    let conn = database(alloc, TABLE, rows)?;
-    let mut keep = SqliteKeep::over(conn, block(0, 3)?)?;
-    reads(rt, &mut keep, reserved, enrolled)
+    let mut conn = conn;
+    match run_both(&mut conn, TABLE, rows) {
+        Ok(()) => match done_over(rt, conn, block, wanted) {
+            Ok(_) => Ok(()),
+            Err(fail) => Err(fail),
+        },
+        Err(error) => Err(Fail::from(error)),
+    }
+}
+
+/// A store of the block 0 to 3 reads these over such a database in memory.
+fn holds(rt: &impl Abort, alloc: Global, rows: &str, wanted: Deed<'_>) -> Result<(), Fail> {
+    let block = block(0, 3)?;
+    match Connection::open_in_memory(alloc) {
+        Ok(conn) => holds_over(rt, conn, rows, &block, wanted),
+        Err(error) => Err(Fail::from(error)),
+    }
 }
 
 #[test]
@@ -138,7 +168,7 @@ fn rows_may_come_in_any_order(rt: HostRuntime) -> Result<(), Fail> {
         "INSERT INTO record VALUES (3, 1, 3, 16777214), (1, 1, 0, 7), (4, 2, 9, 7), (2, 2, 0, 0)";
     let reserved = [(0, 7), (3, 0xFFFFFE)];
     let enrolled = [(0, 0), (9, 7)];
-    holds(&rt, rt.alloc(), rows, &reserved, &enrolled)
+    holds(&rt, rt.alloc(), rows, Deed::Reads(&reserved, &enrolled))
 }
 
 /// A database that was written before there were releases. Gear 7 has another address than the reserved one.
@@ -148,5 +178,5 @@ fn a_list_without_releases_reads_as_it_did(rt: HostRuntime) -> Result<(), Fail> 
         "INSERT INTO record VALUES (1, 1, 0, 7), (2, 2, 0, 0), (3, 1, 3, 16777214), (4, 2, 9, 7)";
     let reserved = [(0, 7), (3, 0xFFFFFE)];
     let enrolled = [(0, 0), (9, 7)];
-    holds(&rt, rt.alloc(), rows, &reserved, &enrolled)
+    holds(&rt, rt.alloc(), rows, Deed::Reads(&reserved, &enrolled))
 }

@@ -23,10 +23,12 @@ fn a_script_needs_its_first_two_lines(rt: HostRuntime) -> Result<(), Fail> {
     Ok(())
 }
 
-#[test]
-fn the_first_line_says_what_is_set_up(rt: HostRuntime) -> Result<(), Fail> {
-    are_bad(
-        &rt,
+/// What stands before a bad line, its reports, and lines that are bad behind it.
+type Bad<'a> = (&'a str, &'a str, &'a [&'a str]);
+
+const BAD: [Bad<'static>; 12] = [
+    // The first line says what is set up.
+    (
         "",
         "",
         &[
@@ -45,13 +47,9 @@ fn the_first_line_says_what_is_set_up(rt: HostRuntime) -> Result<(), Fail> {
             "bench 1\r",
             "sites 1 0-3",
         ],
-    )
-}
-
-#[test]
-fn numbers_of_a_bench_have_six_digits(rt: HostRuntime) -> Result<(), Fail> {
-    are_bad(
-        &rt,
+    ),
+    // Numbers of a bench have six digits.
+    (
         "bench 1\n",
         "",
         &[
@@ -63,13 +61,9 @@ fn numbers_of_a_bench_have_six_digits(rt: HostRuntime) -> Result<(), Fail> {
             "draws 123456  654321",
             "draws 123456 ",
         ],
-    )
-}
-
-#[test]
-fn lines_of_a_bench_have_their_words(rt: HostRuntime) -> Result<(), Fail> {
-    are_bad(
-        &rt,
+    ),
+    // Lines of a bench have their words.
+    (
         "bench 1\ndraws\nframe A900\n",
         "A900 silence\n",
         &[
@@ -108,13 +102,9 @@ fn lines_of_a_bench_have_their_words(rt: HostRuntime) -> Result<(), Fail> {
             "run 1",
             "\t",
         ],
-    )
-}
-
-#[test]
-fn lines_of_a_site_are_bad_on_a_bench(rt: HostRuntime) -> Result<(), Fail> {
-    are_bad(
-        &rt,
+    ),
+    // Lines of a site are bad on a bench.
+    (
         "bench 1\ndraws\nquiet\n",
         "ok\n",
         &[
@@ -133,13 +123,9 @@ fn lines_of_a_site_are_bad_on_a_bench(rt: HostRuntime) -> Result<(), Fail> {
             "up 0",
             "run 1",
         ],
-    )
-}
-
-#[test]
-fn a_site_needs_a_number_of_gear(rt: HostRuntime) -> Result<(), Fail> {
-    are_bad(
-        &rt,
+    ),
+    // A site needs a number of gear.
+    (
         "",
         "",
         &[
@@ -160,13 +146,9 @@ fn a_site_needs_a_number_of_gear(rt: HostRuntime) -> Result<(), Fail> {
             "bench 1 0-3",
             "\tsite 1 0-3",
         ],
-    )
-}
-
-#[test]
-fn a_block_is_two_numbers(rt: HostRuntime) -> Result<(), Fail> {
-    are_bad(
-        &rt,
+    ),
+    // A block is two numbers.
+    (
         "",
         "",
         &[
@@ -198,13 +180,9 @@ fn a_block_is_two_numbers(rt: HostRuntime) -> Result<(), Fail> {
             "site 1 0-3\r",
             "site 1 0-3 4-7 8-",
         ],
-    )
-}
-
-#[test]
-fn numbers_of_a_site_have_six_digits(rt: HostRuntime) -> Result<(), Fail> {
-    are_bad(
-        &rt,
+    ),
+    // Numbers of a site have six digits.
+    (
         "site 1 0-3\n",
         "",
         &[
@@ -225,13 +203,9 @@ fn numbers_of_a_site_have_six_digits(rt: HostRuntime) -> Result<(), Fail> {
             "run 1",
             "site 1 0-3",
         ],
-    )
-}
-
-#[test]
-fn lines_of_one_word_have_no_more(rt: HostRuntime) -> Result<(), Fail> {
-    are_bad(
-        &rt,
+    ),
+    // Lines of one word have no more.
+    (
         "site 2 0-3 4-7\ndraws\nquiet\n",
         "ok\n",
         &[
@@ -239,13 +213,9 @@ fn lines_of_one_word_have_no_more(rt: HostRuntime) -> Result<(), Fail> {
             "quiet ", "quiet 0", "quiet -", "quiets", "quiet\r", "quiet\t", " quiet", "Quiet",
             "show ", "show 0", "show -", "shows", "show\r", "show\t", " show", "Show",
         ],
-    )
-}
-
-#[test]
-fn a_pump_has_one_of_four_troubles(rt: HostRuntime) -> Result<(), Fail> {
-    are_bad(
-        &rt,
+    ),
+    // A pump has one of four troubles.
+    (
         "site 2 0-3 4-7\ndraws\nquiet\n",
         "ok\n",
         &[
@@ -274,13 +244,9 @@ fn a_pump_has_one_of_four_troubles(rt: HostRuntime) -> Result<(), Fail> {
             "pump destroyed",
             "pump destroy 0",
         ],
-    )
-}
-
-#[test]
-fn a_set_of_gear_is_numbers_with_commas(rt: HostRuntime) -> Result<(), Fail> {
-    are_bad(
-        &rt,
+    ),
+    // A set of gear is numbers with commas.
+    (
         "site 2 0-3 4-7\ndraws\nquiet\n",
         "ok\n",
         &[
@@ -315,13 +281,9 @@ fn a_set_of_gear_is_numbers_with_commas(rt: HostRuntime) -> Result<(), Fail> {
             "pump destroyed 0\r",
             "pump destroyed 0;1",
         ],
-    )
-}
-
-#[test]
-fn arc_power_has_a_controller_and_a_frame(rt: HostRuntime) -> Result<(), Fail> {
-    are_bad(
-        &rt,
+    ),
+    // Arc power has a controller and a frame.
+    (
         "site 2 0-3 4-7\ndraws\nquiet\n",
         "ok\n",
         &[
@@ -350,13 +312,9 @@ fn arc_power_has_a_controller_and_a_frame(rt: HostRuntime) -> Result<(), Fail> {
             "arcs 0 FE80",
             "Arc 0 FE80",
         ],
-    )
-}
-
-#[test]
-fn lines_of_a_bench_and_of_a_plan_are_bad_on_a_site(rt: HostRuntime) -> Result<(), Fail> {
-    are_bad(
-        &rt,
+    ),
+    // Lines of a bench and of a plan are bad on a site.
+    (
         "site 2 0-3 4-7\ndraws\nquiet\n",
         "ok\n",
         &[
@@ -373,7 +331,15 @@ fn lines_of_a_bench_and_of_a_plan_are_bad_on_a_site(rt: HostRuntime) -> Result<(
             "go 0#",
             "start 0",
         ],
-    )
+    ),
+];
+
+#[test]
+fn these_are_bad_lines(rt: HostRuntime) -> Result<(), Fail> {
+    for (before, reports, lines) in BAD {
+        are_bad(&rt, before, reports, lines)?;
+    }
+    Ok(())
 }
 
 /// What may not stand behind the name of a line with one number.

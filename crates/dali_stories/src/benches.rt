@@ -6,7 +6,7 @@ use std::process::Abort;
 use std::test::Fail;
 
 /// Stories with their names.
-const STORIES: [(&str, &str); 11] = [
+const STORIES: [(&str, &str); 12] = [
     (
         "a pair is broken by another frame",
         "bench 1
@@ -187,6 +187,19 @@ const STORIES: [(&str, &str); 11] = [
          show > gear 0 on enabled 123456 FFFFFF -
          > gear 1 off enabled FFFFFF FFFFFF -",
     ),
+    (
+        "an erased address is gone and a malformed byte changes nothing",
+        "bench 1
+         draws
+         frame A500 > A500 silence
+         frame A500 > A500 silence
+         frame B70B > B70B silence
+         frame B702 > B702 silence
+         frame B781 > B781 silence
+         show > gear 0 on enabled FFFFFF FFFFFF 5
+         frame B7FF > B7FF silence
+         show > gear 0 on enabled FFFFFF FFFFFF -",
+    ),
 ];
 
 #[test]
@@ -218,25 +231,6 @@ fn gear_that_never_drew_a_number_is_found_under_the_mask(rt: HostRuntime) -> Res
     )
 }
 
-#[test]
-fn an_erased_address_is_gone_and_a_malformed_byte_changes_nothing(
-    rt: HostRuntime,
-) -> Result<(), Fail> {
-    plays(
-        &rt,
-        "bench 1
-         draws
-         frame A500 > A500 silence
-         frame A500 > A500 silence
-         frame B70B > B70B silence
-         frame B702 > B702 silence
-         frame B781 > B781 silence
-         show > gear 0 on enabled FFFFFF FFFFFF 5
-         frame B7FF > B7FF silence
-         show > gear 0 on enabled FFFFFF FFFFFF -",
-    )
-}
-
 /// Gear 0 has address 5 and gear 1 none, and no initialisation runs.
 const ONE_ADDRESS: &str = "bench 2
                            draws 000001 000002
@@ -262,7 +256,7 @@ fn initialises<R: Abort + AllocGlobal>(
          > gear 1 on {second} 000002 000001 -"
     )?;
     let parts = [(ONE_ADDRESS, 1), (initialise, 2), (shown.as_str(), 1)];
-    plays_parts(rt, &parts)
+    plays_parts(rt, initialise, &parts)
 }
 
 #[test]

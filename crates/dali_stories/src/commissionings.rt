@@ -1,10 +1,10 @@
 //! Whole commissionings, undisturbed: of one controller, of several at once, and of several one after the other.
 
-use super::story::{all_play, plays, plays_parts};
+use super::story::{all_parts_play, all_play};
 use std::test::Fail;
 
 /// Stories with their names.
-const STORIES: [(&str, &str); 11] = [
+const STORIES: [(&str, &str); 14] = [
     (
         "one controller gives one gear an address",
         "site 1 0-3
@@ -203,40 +203,9 @@ const STORIES: [(&str, &str); 11] = [
          go 0 > 0: put 1 A5FF
          pump > 0: sent A5FF silence",
     ),
-];
-
-#[test]
-fn stories(rt: HostRuntime) -> Result<(), Fail> {
-    all_play(&rt, &STORIES)
-}
-
-#[test]
-fn a_full_queue_takes_no_more_requests(rt: HostRuntime) -> Result<(), Fail> {
-    plays_parts(
-        &rt,
-        &[
-            (
-                "site 1 0-3
-                 draws",
-                1,
-            ),
-            ("arc 0 FE80 > 0: put 2 FE80", 64),
-            (
-                "arc 0 FE80 > refused 7 QueueFull
-                 go 0 > refused 7 QueueFull",
-                1,
-            ),
-        ],
-    )
-}
-
-#[test]
-fn the_opening_of_another_controller_begins_a_commissioning_anew(
-    rt: HostRuntime,
-) -> Result<(), Fail> {
     // Controller 0 has found 000001 when controller 1 opens: both gear draw again.
-    plays(
-        &rt,
+    (
+        "the opening of another controller begins a commissioning anew",
         "site 2 0-3 4-7
          draws 000001 000002 000003 000004
          down 1 > ok
@@ -260,15 +229,11 @@ fn the_opening_of_another_controller_begins_a_commissioning_anew(
          > gear 1 on disabled 000004 FFFFFE 5
          > table 0: 4=000003 5=000004
          > table 1: 4=000003 5=000004",
-    )
-}
-
-#[test]
-fn controllers_that_run_at_once_reserve_for_the_same_gear(rt: HostRuntime) -> Result<(), Fail> {
+    ),
     // Each of four controllers reserves an address for each gear that all find, and three release theirs again. The
     // first, which gives both its addresses, closes; the others end with it, so six gear have none.
-    plays(
-        &rt,
+    (
+        "controllers that run at once reserve for the same gear",
         "site 8 0-1 2-3 4-5 6-7
          draws 2265B1 91B758 D8F16A CD613E C386BB 1027C4 414C34 1E2FEB 7ED4D5 C2CE6F 7311D8 78E510 A6CECC \
          612E76 C9E9C6 35BF99 18072E 7CE42C 0741C7 E4B06C D5F4B3 63CA82 6EC9D2 9B810E C324C9 C46471 008A05 \
@@ -315,14 +280,10 @@ fn controllers_that_run_at_once_reserve_for_the_same_gear(rt: HostRuntime) -> Re
          > table 1: 0=008A05 1=442E3D
          > table 2: 0=008A05 1=442E3D
          > table 3: 0=008A05 1=442E3D",
-    )
-}
-
-#[test]
-fn controllers_one_after_the_other_address_all_gear(rt: HostRuntime) -> Result<(), Fail> {
+    ),
     // The same site, its controllers brought up one at a time: eight gear with eight addresses.
-    plays(
-        &rt,
+    (
+        "controllers one after the other address all gear",
         "site 8 0-1 2-3 4-5 6-7
          draws 2265B1 91B758 D8F16A CD613E C386BB 1027C4 414C34 1E2FEB 7ED4D5 C2CE6F 7311D8 78E510 A6CECC \
          612E76 C9E9C6 35BF99 18072E 7CE42C 0741C7 E4B06C
@@ -368,5 +329,29 @@ fn controllers_one_after_the_other_address_all_gear(rt: HostRuntime) -> Result<(
          > table 1: 2=612E76 3=7311D8
          > table 2: 4=18072E 5=35BF99
          > table 3: 6=0741C7 7=E4B06C",
-    )
+    ),
+];
+
+/// Stories in parts, each of which is played so many times.
+const IN_PARTS: [(&str, &[(&str, u32)]); 1] = [(
+    "a full queue takes no more requests",
+    &[
+        (
+            "site 1 0-3
+                 draws",
+            1,
+        ),
+        ("arc 0 FE80 > 0: put 2 FE80", 64),
+        (
+            "arc 0 FE80 > refused 7 QueueFull
+                 go 0 > refused 7 QueueFull",
+            1,
+        ),
+    ],
+)];
+
+#[test]
+fn stories(rt: HostRuntime) -> Result<(), Fail> {
+    all_play(&rt, &STORIES)?;
+    all_parts_play(&rt, &IN_PARTS)
 }

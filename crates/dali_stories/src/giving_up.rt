@@ -1,6 +1,6 @@
 //! When a controller gives up: transactions that are lost and searches that lead to nobody, in a row.
 
-use super::story::{all_play, plays_parts};
+use super::story::{all_parts_play, all_play};
 use std::test::Fail;
 
 /// Stories with their names.
@@ -56,21 +56,21 @@ const STORIES: [(&str, &str); 3] = [
     ),
 ];
 
-#[test]
-fn stories(rt: HostRuntime) -> Result<(), Fail> {
-    all_play(&rt, &STORIES)
-}
-
 /// A search where nobody is: noise answers its first COMPARE, and it ends at FFFFFE.
 const SILENT_SEARCH: &str = "run 3 > ran 3
                              go 0 > 0: put 1 A900
                              pump noise > 0: sent A900 damaged
                              run 96 > ran 96";
 
-#[test]
-fn the_sixteenth_silent_search_gives_up(rt: HostRuntime) -> Result<(), Fail> {
-    plays_parts(
-        &rt,
+/// A search whose answer to QUERY SHORT ADDRESS is lost.
+const UNHEARD_SEARCH: &str = "run 103 > ran 103
+                              go 0 > 0: put 1 BB00
+                              pump lost > 0: sent BB00 silence";
+
+/// Stories in parts, each of which is played so many times.
+const IN_PARTS: [(&str, &[(&str, u32)]); 4] = [
+    (
+        "the sixteenth silent search gives up",
         &[
             (
                 "site 1 0-3
@@ -86,15 +86,11 @@ fn the_sixteenth_silent_search_gives_up(rt: HostRuntime) -> Result<(), Fail> {
                 1,
             ),
         ],
-    )
-}
-
-#[test]
-fn visits_of_the_start_are_no_silent_searches(rt: HostRuntime) -> Result<(), Fail> {
+    ),
     // The restarted controller visits 123456, for which it has reserved an address, and hears nobody, nor who has that
     // address. Were that visit counted, the commissioning would give up at the fifteenth silent search after it.
-    plays_parts(
-        &rt,
+    (
+        "visits of the start are no silent searches",
         &[
             (
                 "site 1 0-3
@@ -115,19 +111,10 @@ fn visits_of_the_start_are_no_silent_searches(rt: HostRuntime) -> Result<(), Fai
                 1,
             ),
         ],
-    )
-}
-
-/// A search whose answer to QUERY SHORT ADDRESS is lost.
-const UNHEARD_SEARCH: &str = "run 103 > ran 103
-                              go 0 > 0: put 1 BB00
-                              pump lost > 0: sent BB00 silence";
-
-#[test]
-fn silent_searches_are_counted_anew_after_a_find(rt: HostRuntime) -> Result<(), Fail> {
+    ),
     // Fifteen of them before each of two gear is enrolled.
-    plays_parts(
-        &rt,
+    (
+        "silent searches are counted anew after a find",
         &[
             (
                 "site 2 0-3
@@ -151,15 +138,11 @@ fn silent_searches_are_counted_anew_after_a_find(rt: HostRuntime) -> Result<(), 
                 1,
             ),
         ],
-    )
-}
-
-#[test]
-fn tries_are_counted_anew_after_a_transaction(rt: HostRuntime) -> Result<(), Fail> {
+    ),
     // Seven destroyed frames before the opening and seven before the first probe. Were the tries not counted
     // anew, the first of the second seven would end the commissioning.
-    plays_parts(
-        &rt,
+    (
+        "tries are counted anew after a transaction",
         &[
             (
                 "site 1 0-3
@@ -185,5 +168,11 @@ fn tries_are_counted_anew_after_a_transaction(rt: HostRuntime) -> Result<(), Fai
                 1,
             ),
         ],
-    )
+    ),
+];
+
+#[test]
+fn stories(rt: HostRuntime) -> Result<(), Fail> {
+    all_play(&rt, &STORIES)?;
+    all_parts_play(&rt, &IN_PARTS)
 }

@@ -1,7 +1,7 @@
 //! What a site refuses: each refusal that a line can report, which comes first where two causes hold, and what is
 //! left of it.
 
-use super::story::{all_play, plays_parts};
+use super::story::{all_parts_play, all_play};
 use std::test::Fail;
 
 /// Stories with their names.
@@ -147,16 +147,11 @@ const STORIES: [(&str, &str); 8] = [
     ),
 ];
 
-#[test]
-fn stories(rt: HostRuntime) -> Result<(), Fail> {
-    all_play(&rt, &STORIES)
-}
-
-#[test]
-fn a_full_queue_is_refused_last_but_the_log(rt: HostRuntime) -> Result<(), Fail> {
+/// Stories in parts, each of which is played so many times.
+const IN_PARTS: [(&str, &[(&str, u32)]); 13] = [
     // An unknown controller, one that is down, what is not due and what is no arc power come before the full queue.
-    plays_parts(
-        &rt,
+    (
+        "a full queue is refused last but the log",
         &[
             (
                 "site 1 0-3 4-7
@@ -183,14 +178,10 @@ fn a_full_queue_is_refused_last_but_the_log(rt: HostRuntime) -> Result<(), Fail>
                 1,
             ),
         ],
-    )
-}
-
-#[test]
-fn a_go_that_is_refused_for_the_queue_leaves_its_commit_made(rt: HostRuntime) -> Result<(), Fail> {
+    ),
     // The store has the record, so that `store` finds nothing due; the next `go` makes no second commit.
-    plays_parts(
-        &rt,
+    (
+        "a go that is refused for the queue leaves its commit made",
         &[
             (
                 "site 1 0-3
@@ -213,15 +204,9 @@ fn a_go_that_is_refused_for_the_queue_leaves_its_commit_made(rt: HostRuntime) ->
                 1,
             ),
         ],
-    )
-}
-
-#[test]
-fn a_controller_that_halts_after_a_refused_go_takes_up_its_record(
-    rt: HostRuntime,
-) -> Result<(), Fail> {
-    plays_parts(
-        &rt,
+    ),
+    (
+        "a controller that halts after a refused go takes up its record",
         &[
             (
                 "site 1 0-3
@@ -243,15 +228,9 @@ fn a_controller_that_halts_after_a_refused_go_takes_up_its_record(
                 1,
             ),
         ],
-    )
-}
-
-#[test]
-fn a_controller_that_goes_down_after_a_refused_go_takes_up_its_record(
-    rt: HostRuntime,
-) -> Result<(), Fail> {
-    plays_parts(
-        &rt,
+    ),
+    (
+        "a controller that goes down after a refused go takes up its record",
         &[
             (
                 "site 1 0-3
@@ -273,13 +252,9 @@ fn a_controller_that_goes_down_after_a_refused_go_takes_up_its_record(
                 1,
             ),
         ],
-    )
-}
-
-#[test]
-fn a_fail_that_is_refused_for_the_queue_makes_no_commit(rt: HostRuntime) -> Result<(), Fail> {
-    plays_parts(
-        &rt,
+    ),
+    (
+        "a fail that is refused for the queue makes no commit",
         &[
             (
                 "site 1 0-3
@@ -302,13 +277,9 @@ fn a_fail_that_is_refused_for_the_queue_makes_no_commit(rt: HostRuntime) -> Resu
                 1,
             ),
         ],
-    )
-}
-
-#[test]
-fn a_run_that_is_refused_for_the_queue_leaves_its_commit_made(rt: HostRuntime) -> Result<(), Fail> {
-    plays_parts(
-        &rt,
+    ),
+    (
+        "a run that is refused for the queue leaves its commit made",
         &[
             (
                 "site 1 0-3
@@ -331,14 +302,10 @@ fn a_run_that_is_refused_for_the_queue_leaves_its_commit_made(rt: HostRuntime) -
                 1,
             ),
         ],
-    )
-}
-
-#[test]
-fn a_full_log_takes_no_event(rt: HostRuntime) -> Result<(), Fail> {
+    ),
     // The log has room for 65,536 events. Each other cause comes before the full log, and an idle pump is no event.
-    plays_parts(
-        &rt,
+    (
+        "a full log takes no event",
         &[
             (
                 "site 2 0-3 4-7
@@ -377,13 +344,9 @@ fn a_full_log_takes_no_event(rt: HostRuntime) -> Result<(), Fail> {
                 1,
             ),
         ],
-    )
-}
-
-#[test]
-fn a_full_log_sends_no_frame(rt: HostRuntime) -> Result<(), Fail> {
-    plays_parts(
-        &rt,
+    ),
+    (
+        "a full log sends no frame",
         &[
             (
                 "site 1 0-3
@@ -405,13 +368,9 @@ fn a_full_log_sends_no_frame(rt: HostRuntime) -> Result<(), Fail> {
                 1,
             ),
         ],
-    )
-}
-
-#[test]
-fn the_last_event_of_a_log_is_taken(rt: HostRuntime) -> Result<(), Fail> {
-    plays_parts(
-        &rt,
+    ),
+    (
+        "the last event of a log is taken",
         &[
             (
                 "site 1 0-3
@@ -429,13 +388,9 @@ fn the_last_event_of_a_log_is_taken(rt: HostRuntime) -> Result<(), Fail> {
                 1,
             ),
         ],
-    )
-}
-
-#[test]
-fn spent_draws_come_before_a_full_log(rt: HostRuntime) -> Result<(), Fail> {
-    plays_parts(
-        &rt,
+    ),
+    (
+        "spent draws come before a full log",
         &[
             (
                 "site 1 0-3
@@ -454,13 +409,9 @@ fn spent_draws_come_before_a_full_log(rt: HostRuntime) -> Result<(), Fail> {
                 1,
             ),
         ],
-    )
-}
-
-#[test]
-fn a_full_queue_comes_before_a_full_log(rt: HostRuntime) -> Result<(), Fail> {
-    plays_parts(
-        &rt,
+    ),
+    (
+        "a full queue comes before a full log",
         &[
             (
                 "site 1 0-3
@@ -481,13 +432,9 @@ fn a_full_queue_comes_before_a_full_log(rt: HostRuntime) -> Result<(), Fail> {
                 1,
             ),
         ],
-    )
-}
-
-#[test]
-fn a_go_that_is_refused_for_the_log_leaves_its_commit_made(rt: HostRuntime) -> Result<(), Fail> {
-    plays_parts(
-        &rt,
+    ),
+    (
+        "a go that is refused for the log leaves its commit made",
         &[
             (
                 "site 1 0-3
@@ -506,14 +453,10 @@ fn a_go_that_is_refused_for_the_log_leaves_its_commit_made(rt: HostRuntime) -> R
                 1,
             ),
         ],
-    )
-}
-
-#[test]
-fn a_fail_that_is_refused_for_the_log_makes_no_commit(rt: HostRuntime) -> Result<(), Fail> {
+    ),
     // A commit in the store is no event: `store` works though the log is full.
-    plays_parts(
-        &rt,
+    (
+        "a fail that is refused for the log makes no commit",
         &[
             (
                 "site 1 0-3
@@ -531,5 +474,11 @@ fn a_fail_that_is_refused_for_the_log_makes_no_commit(rt: HostRuntime) -> Result
                 1,
             ),
         ],
-    )
+    ),
+];
+
+#[test]
+fn stories(rt: HostRuntime) -> Result<(), Fail> {
+    all_play(&rt, &STORIES)?;
+    all_parts_play(&rt, &IN_PARTS)
 }

@@ -1,10 +1,10 @@
 //! Controllers that go down and come up, and records that are kept, or not, before they do.
 
-use super::story::{all_play, plays, plays_parts};
+use super::story::{all_parts_play, all_play};
 use std::test::Fail;
 
 /// Stories with their names.
-const STORIES: [(&str, &str); 7] = [
+const STORIES: [(&str, &str); 9] = [
     (
         // The record is in the store, and the controller is not told before it goes down.
         "a commit before a restart is gone on from",
@@ -130,19 +130,8 @@ const STORIES: [(&str, &str); 7] = [
          > gear 2 on disabled 220000 FFFFFE 2
          > table 0: 0=110000 1=120000 2=220000",
     ),
-];
-
-#[test]
-fn stories(rt: HostRuntime) -> Result<(), Fail> {
-    all_play(&rt, &STORIES)
-}
-
-#[test]
-fn a_frame_that_waits_when_its_controller_goes_down_is_never_sent(
-    rt: HostRuntime,
-) -> Result<(), Fail> {
-    plays(
-        &rt,
+    (
+        "a frame that waits when its controller goes down is never sent",
         "site 1 0-3 4-7
          draws 123456 654321
          go 0 > 0: put 3 A100
@@ -160,18 +149,12 @@ fn a_frame_that_waits_when_its_controller_goes_down_is_never_sent(
          go 1 > 1: put 3 A100
          go 1 > refused 3 NotDue
          pump > 1: sent A100 silence",
-    )
-}
-
-/// No memory is refused to a controller that comes up, however many records it has: none, one pair, and three.
-#[test]
-fn a_controller_that_goes_down_before_its_release_keeps_the_reservation(
-    rt: HostRuntime,
-) -> Result<(), Fail> {
+    ),
+    // No memory is refused to a controller that comes up, however many records it has: none, one pair, and three.
     // Controller 1 gave the gear address 4, and controller 0 had reserved 1 for it. The enrolment is kept, and the
     // release is ordered and not kept.
-    plays(
-        &rt,
+    (
+        "a controller that goes down before its release keeps the reservation",
         "site 1 0-3 4-7
          draws 123456 0ABCDE
          down 1 > ok
@@ -193,8 +176,8 @@ fn a_controller_that_goes_down_before_its_release_keeps_the_reservation(
          show > gear 0 on disabled 0ABCDE 123456 4
          > table 0: 4=0ABCDE
          > table 1: 4=0ABCDE",
-    )
-}
+    ),
+];
 
 /// Controller 1 gave gear 0 address 4, and controller 0, which had reserved 1 for it, orders the release.
 const TO_THE_RELEASE: &str = "site 2 0-3 4-7
@@ -212,26 +195,44 @@ const TO_THE_RELEASE: &str = "site 2 0-3 4-7
     go 0 > 0: commit release 1 000003
     down 1 > ok";
 
-#[test]
-fn a_release_that_is_kept_before_a_restart_frees_the_address(rt: HostRuntime) -> Result<(), Fail> {
-    let restarted = "store 0 > ok
+/// Stories in parts, each of which is played so many times.
+const IN_PARTS: [(&str, &[(&str, u32)]); 2] = [
+    (
+        "a release that is kept before a restart frees the address",
+        &[
+            (TO_THE_RELEASE, 1),
+            (
+                "store 0 > ok
         down 0 > ok
         up 0 > ok
         run 1000 > 0: commit reserve 1 000005
         > 0: commit enrol 1 000005
         > 0: done all-found
-        > ran 128";
-    plays_parts(&rt, &[(TO_THE_RELEASE, 1), (restarted, 1)])
-}
-
-#[test]
-fn a_release_that_is_not_kept_leaves_the_reservation(rt: HostRuntime) -> Result<(), Fail> {
-    let failed = "fail 0 > 0: halt store
+        > ran 128",
+                1,
+            ),
+        ],
+    ),
+    (
+        "a release that is not kept leaves the reservation",
+        &[
+            (TO_THE_RELEASE, 1),
+            (
+                "fail 0 > 0: halt store
         down 0 > ok
         up 0 > ok
         run 1000 > 0: commit reserve 2 000005
         > 0: commit enrol 2 000005
         > 0: done all-found
-        > ran 128";
-    plays_parts(&rt, &[(TO_THE_RELEASE, 1), (failed, 1)])
+        > ran 128",
+                1,
+            ),
+        ],
+    ),
+];
+
+#[test]
+fn stories(rt: HostRuntime) -> Result<(), Fail> {
+    all_play(&rt, &STORIES)?;
+    all_parts_play(&rt, &IN_PARTS)
 }

@@ -82,38 +82,55 @@ fn push_part(part: &str, script: &mut String, reports: &mut String) -> Result<()
     Ok(())
 }
 
-/// Plays the parts of a story one after the other, each so many times.
-pub fn plays_parts<R: Abort + AllocGlobal>(rt: &R, parts: &[(&str, u32)]) -> Result<(), Fail> {
-    let mut script = String::new(rt.alloc());
-    let mut reports = String::new(rt.alloc());
+/// Appends the script and the reports of the parts of a story, each so many times.
+fn push_parts(
+    parts: &[(&str, u32)],
+    script: &mut String,
+    reports: &mut String,
+) -> Result<(), Fail> {
     for (part, times) in parts {
         for _ in 0..*times {
-            push_part(part, &mut script, &mut reports)?;
+            push_part(part, script, reports)?;
         }
     }
-    ends(rt, script.as_str(), reports.as_str(), Ok(()))
+    Ok(())
 }
 
-/// Plays a story.
-pub fn plays<R: Abort + AllocGlobal>(rt: &R, story: &str) -> Result<(), Fail> {
-    plays_parts(rt, &[(story, 1)])
-}
-
-/// Plays a story that has a name.
-fn named<R: Abort + AllocGlobal>(rt: &R, name: &str, story: &str) -> Result<(), Fail> {
+/// Plays the parts of a story that has a name one after the other, each so many times.
+pub fn plays_parts<R: Abort + AllocGlobal>(
+    rt: &R,
+    name: &str,
+    parts: &[(&str, u32)],
+) -> Result<(), Fail> {
     let mut script = String::new(rt.alloc());
     let mut reports = String::new(rt.alloc());
-    push_part(story, &mut script, &mut reports)?;
+    push_parts(parts, &mut script, &mut reports)?;
     let (end, text) = played(rt.alloc(), script.as_bytes())?;
     assert_eq!(rt; text.as_str(), reports.as_str(), "{name}");
     assert_eq!(rt; end, Ok(()), "{name}");
     Ok(())
 }
 
+/// Plays a story.
+pub fn plays<R: Abort + AllocGlobal>(rt: &R, story: &str) -> Result<(), Fail> {
+    plays_parts(rt, story, &[(story, 1)])
+}
+
 /// Plays stories, each of which has a name. One test plays many: a story more costs no proof.
 pub fn all_play<R: Abort + AllocGlobal>(rt: &R, stories: &[(&str, &str)]) -> Result<(), Fail> {
     for (name, story) in stories {
-        named(rt, name, story)?;
+        plays_parts(rt, name, &[(story, 1)])?;
+    }
+    Ok(())
+}
+
+/// Plays stories in parts, each of which has a name.
+pub fn all_parts_play<R: Abort + AllocGlobal>(
+    rt: &R,
+    stories: &[(&str, &[(&str, u32)])],
+) -> Result<(), Fail> {
+    for (name, parts) in stories {
+        plays_parts(rt, name, parts)?;
     }
     Ok(())
 }

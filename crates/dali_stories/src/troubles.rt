@@ -346,68 +346,89 @@ fn resolves<R: Abort + AllocGlobal>(
     story: &'static str,
     end: &'static str,
 ) -> Result<(), Fail> {
-    plays_parts(rt, &[(PROGRAMMED_AND_OFF, 1), (story, 1), (end, 1)])
+    let parts = [(PROGRAMMED_AND_OFF, 1), (story, 1), (end, 1)];
+    plays_parts(rt, story, &parts)
 }
 
-#[test]
-fn a_byte_of_a_random_address_is_lost(rt: HostRuntime) -> Result<(), Fail> {
-    let high = "run 4 > ran 4
+const QUERIES: [(&str, &str); 11] = [
+    // A byte of a random address is lost.
+    (
+        "run 4 > ran 4
                 go 0 > 0: put 3 01C2
                 pump lost > 0: sent 01C2 silence
-                run 2 > ran 2";
-    resolves(&rt, high, NOT_FOUND)?;
-    let middle = "run 5 > ran 5
+                run 2 > ran 2",
+        NOT_FOUND,
+    ),
+    (
+        "run 5 > ran 5
                   go 0 > 0: put 1 01C3
                   pump lost > 0: sent 01C3 silence
-                  run 1 > ran 1";
-    resolves(&rt, middle, NOT_FOUND)?;
-    let low = "run 6 > ran 6
+                  run 1 > ran 1",
+        NOT_FOUND,
+    ),
+    (
+        "run 6 > ran 6
                go 0 > 0: put 1 01C4
-               pump lost > 0: sent 01C4 silence";
-    resolves(&rt, low, NOT_FOUND)
-}
-
-#[test]
-fn a_byte_of_a_random_address_is_damaged(rt: HostRuntime) -> Result<(), Fail> {
-    let high = "run 4 > ran 4
+               pump lost > 0: sent 01C4 silence",
+        NOT_FOUND,
+    ),
+    // A byte of a random address is damaged.
+    (
+        "run 4 > ran 4
                 go 0 > 0: put 3 01C2
                 pump noise > 0: sent 01C2 damaged
-                run 2 > ran 2";
-    resolves(&rt, high, NOT_FOUND)?;
-    let middle = "run 5 > ran 5
+                run 2 > ran 2",
+        NOT_FOUND,
+    ),
+    (
+        "run 5 > ran 5
                   go 0 > 0: put 1 01C3
                   pump noise > 0: sent 01C3 damaged
-                  run 1 > ran 1";
-    resolves(&rt, middle, NOT_FOUND)?;
-    let low = "run 6 > ran 6
+                  run 1 > ran 1",
+        NOT_FOUND,
+    ),
+    (
+        "run 6 > ran 6
                go 0 > 0: put 1 01C4
-               pump noise > 0: sent 01C4 damaged";
-    resolves(&rt, low, NOT_FOUND)
-}
-
-#[test]
-fn a_query_of_a_random_address_is_destroyed(rt: HostRuntime) -> Result<(), Fail> {
-    // All three are sent again.
-    let high = "run 4 > ran 4
+               pump noise > 0: sent 01C4 damaged",
+        NOT_FOUND,
+    ),
+    // A query of a random address is destroyed. All three are sent again.
+    (
+        "run 4 > ran 4
                 go 0 > 0: put 3 01C2
-                pump destroyed - > 0: destroyed 01C2";
-    resolves(&rt, high, FOUND)?;
-    let middle = "run 5 > ran 5
+                pump destroyed - > 0: destroyed 01C2",
+        FOUND,
+    ),
+    (
+        "run 5 > ran 5
                   go 0 > 0: put 1 01C3
-                  pump destroyed 0 > 0: destroyed 01C3";
-    resolves(&rt, middle, FOUND)?;
-    let low = "run 6 > ran 6
+                  pump destroyed 0 > 0: destroyed 01C3",
+        FOUND,
+    ),
+    (
+        "run 6 > ran 6
                go 0 > 0: put 1 01C4
-               pump destroyed - > 0: destroyed 01C4";
-    resolves(&rt, low, FOUND)
-}
+               pump destroyed - > 0: destroyed 01C4",
+        FOUND,
+    ),
+    // The bus lapses among queries of a random address.
+    (
+        "run 5 > ran 5
+                      lapse > lapse 0",
+        FOUND,
+    ),
+    (
+        "run 6 > ran 6
+                        lapse > lapse 0",
+        FOUND,
+    ),
+];
 
 #[test]
-fn the_bus_lapses_among_queries_of_a_random_address(rt: HostRuntime) -> Result<(), Fail> {
-    let after_high = "run 5 > ran 5
-                      lapse > lapse 0";
-    resolves(&rt, after_high, FOUND)?;
-    let after_middle = "run 6 > ran 6
-                        lapse > lapse 0";
-    resolves(&rt, after_middle, FOUND)
+fn queries_of_a_random_address_are_disturbed(rt: HostRuntime) -> Result<(), Fail> {
+    for (story, end) in QUERIES {
+        resolves(&rt, story, end)?;
+    }
+    Ok(())
 }
