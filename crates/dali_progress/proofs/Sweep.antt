@@ -3,5 +3,7 @@ pub mod Left
 pub mod Asked
 pub mod Others
 pub mod Course
+pub mod Coming
 pub mod Silent
 pub mod Told
+pub mod Spelled

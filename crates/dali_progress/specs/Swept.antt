@@ -1,10 +1,10 @@
-use Rattle.std.specs.Prelude.{◌≡◌, ◌⊎◌, ℕ, ◌+◌, ◌<◌, List, [], ◌∷◌, Some, None}
+use Rattle.std.specs.Prelude.{◌≡◌, ◌⊎◌, ℕ, ◌+◌, List, [], ◌∷◌, Some, None}
 use Rattle.dali_frame.specs.declared.frames.Answer.{Answer}
-use Rattle.dali_frame.specs.declared.frames.Answer.TheVariants.{Silence}
-use Rattle.dali_frame.specs.Random.{MASK24}
+use Rattle.dali_frame.specs.declared.frames.Answer.TheVariants.{Silence, Byte}
 use Rattle.dali_script.specs.declared.records.Record.TheVariants.{Enrol}
 use Rattle.dali_script.specs.declared.orders.Fault.{Fault}
-use Rattle.dali_script.specs.declared.orders.Order.TheVariants.{Commit, Halt}
+use Rattle.dali_script.specs.declared.orders.End.{End}
+use Rattle.dali_script.specs.declared.orders.Order.TheVariants.{Commit, Done, Halt}
 use Rattle.dali_script.specs.Records.{Kept, Has}
 use Rattle.dali_script.specs.declared.orders.Input.{Input}
 use Rattle.dali_script.specs.declared.orders.Input.TheVariants as input
@@ -70,20 +70,31 @@ abbrev pub WasSilent : List Step → ℕ → Type 0
 WasSilent [] a = ⊥
 WasSilent (s ∷ earlier) a = FallsSilent s a ⊎ WasSilent earlier a
 
--- A GEAR TOLD ITS RANDOM ADDRESS: three bytes were heard under its short address, of a number that
--- gear draw.
-pub record Tells (s : Step) (a r : ℕ) : Type 0 where
+-- A GEAR TOLD ITS RANDOM ADDRESS: three bytes were heard under its short address, and this is their
+-- number.
+pub record Spells (s : Step) (a r : ℕ) : Type 0 where
   pub heard : (h : Answer) × (s.told ≡ input.Heard h)
   pub asking : (b : ℕ) × (s.before.course.purpose ≡ Asking b)
   pub number : stage_told s ≡ stage.Spelled a (Some r)
-  pub drawn : r < MASK24
 
-abbrev pub WasTold : List Step → ℕ → ℕ → Type 0
-WasTold [] a r = ⊥
-WasTold (s ∷ earlier) a r = Tells s a r ⊎ WasTold earlier a r
+abbrev pub WasSpelled : List Step → ℕ → ℕ → Type 0
+WasSpelled [] a r = ⊥
+WasSpelled (s ∷ earlier) a r = Spells s a r ⊎ WasSpelled earlier a r
 
 -- whose number the table has, or is about to have; or the machine has halted
 abbrev pub IsNamed : Machine → ℕ → ℕ → Type 0
 IsNamed n a r =
     Has n.kept.enrolled (a, r)
     ⊎ ((n.last ≡ Some (Commit (Enrol a r))) ⊎ ((w : Fault) × (n.last ≡ Some (Halt w))))
+
+-- What is heard of a short address is a byte each time.
+abbrev pub IsClean : ℕ → Step → Type 0
+IsClean a s =
+    (h : Answer) → s.told ≡ input.Heard h → s.before.course.purpose ≡ Asking a
+    → (v : ℕ) × (h ≡ Byte v)
+
+-- The sweep is over: no short address is asked any more, and the machine has not ended.
+pub record IsSwept (n : Machine) : Type 0 where
+  pub quiet : (b : ℕ) → n.course.purpose ≡ Asking b → ⊥
+  pub runs : (e : End) → n.last ≡ Some (Done e) → ⊥
+  pub whole : (w : Fault) → n.last ≡ Some (Halt w) → ⊥

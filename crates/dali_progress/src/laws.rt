@@ -12,7 +12,7 @@ ghost use Rattle.std.specs.Prelude.{◌≡◌, ◌⊎◌, ℕ, ◌+◌, ◌*◌,
 ghost use Rattle.std.specs.List.{count_by, AllByRecursion};
 ghost use Rattle.dali_frame.specs.declared.frames.Forward.{Forward};
 ghost use Rattle.dali_frame.specs.declared.numbers.SearchAddress.{SearchAddress};
-ghost use Rattle.dali_frame.specs.Random.{value_of};
+ghost use Rattle.dali_frame.specs.Random.{value_of, MASK24};
 ghost use Rattle.dali_frame.specs.Priority.{LATER};
 ghost use Rattle.dali_script.specs.declared.block.Block.{Block};
 ghost use Rattle.dali_script.specs.declared.records.Record.TheVariants.{Reserve};
@@ -40,7 +40,7 @@ ghost use Rattle.dali_progress.specs.Surveyed.{Step, IsCourse, ArePlain, WasHear
 ghost use Rattle.dali_progress.specs.Surveyed.{stage_told};
 ghost use Rattle.dali_progress.specs.Spared.{ReservesBySurvey};
 ghost use Rattle.dali_progress.specs.Swept.{BeginsBySurvey, AreWhole, AreSteady, frames_asked, frames_lost, WasSilent};
-ghost use Rattle.dali_progress.specs.Swept.{WasTold, IsNamed};
+ghost use Rattle.dali_progress.specs.Swept.{WasSpelled, IsNamed, IsClean, IsSwept};
 ghost use Rattle.dali_progress.specs.Running.{HasCommissioned, WasRefused};
 
 /// A new site with one controller is one on which it starts alone.
@@ -163,9 +163,16 @@ pub fn what_is_reserved_was_silent()
 
 /// WHO TELLS ITS RANDOM ADDRESS IS IN THE TABLE. Where a machine asked a short address, and heard three bytes of a
 /// number that gear draw, that address is enrolled with that number from then on, or about to be, or the machine has
-/// halted; whoever gave the gear its address.
+/// halted; whoever gave the gear its address (`told`).
+///
+/// Once the sweep of a survey is over, each short address under which every answer was a byte is in the table so, or
+/// told `FFFFFF`, which is no number that gear draw (`swept`).
 pub fn who_tells_its_number_is_enrolled()
-    ensures { (steps : List Step) (n : Machine) (a r : ℕ) → IsCourse steps n → WasTold steps a r → IsNamed n a r }
+    ensures told { (steps : List Step) (n : Machine) (a r : ℕ) → IsCourse steps n → r < MASK24
+        → WasSpelled steps a r → IsNamed n a r }
+    ensures swept { (steps : List Step) (n : Machine) (a : ℕ) → a < 64 → IsCourse steps n → BeginsBySurvey steps
+        → ArePlain steps → AreWhole steps → IsWhole n → AllByRecursion (IsClean a) steps → IsSwept n
+        → ((r : ℕ) × IsNamed n a r) ⊎ WasSpelled steps a MASK24 }
 {}
 
 /// USED GEAR THAT WERE HEARD ARE LEFT ALONE. Of a site some of whose gear come with short addresses, all different:

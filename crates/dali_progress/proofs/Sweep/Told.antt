@@ -16,7 +16,7 @@ use Rattle.dali_controller.specs.declared.purpose.Purpose.TheVariants.{Asking}
 use Rattle.dali_controller.specs.Machine.{Machine, machine_told}
 use Rattle.dali_controller.specs.Orders.{IsGiven, IsSought, AfterFinding, machine_after, machine_ordered}
 use Rattle.dali_progress.specs.Surveyed.{Step, IsTaken, IsCourse}
-use Rattle.dali_progress.specs.Swept.{Tells, WasTold, IsNamed}
+use Rattle.dali_progress.specs.Swept.{Spells, WasSpelled, IsNamed}
 use Rattle.dali_progress.proofs.Accounted.{told_enrolled, put_of, told_course, never_due}
 
 -- WHO TOLD ITS RANDOM ADDRESS IS IN THE TABLE.
@@ -58,15 +58,15 @@ stays_named s n a r taken was = subst (λ (x : Machine). IsNamed x a r) (sym tak
   go (inr (inl last)) = enrolling s.before s.told s.order a r last taken.due taken.given
   go (inr (inr (w, last))) = absurd (never_due s.before.last w s.told last taken.due)
 
-told_named : (s : Step) (n : Machine) (a r : ℕ) → IsTaken s n → Tells s a r → IsNamed n a r
-told_named s n a r taken tells =
+told_named : (s : Step) (n : Machine) (a r : ℕ) → IsTaken s n → r < MASK24 → Spells s a r → IsNamed n a r
+told_named s n a r taken drawn tells =
     subst (λ (x : Machine). IsNamed x a r) (sym taken.after)
     (subst (λ i. accepts (due_after s.before.last) i ≡ true → IsGiven s.before i s.order → stage_of (machine_told s.before i).trace ≡ stage.Spelled a (Some r)
     → IsNamed (machine_after s.before i s.order) a r) (sym tells.heard.1)
-    (λ due given number. named_by s.before tells.heard.0 s.order a tells.asking.0 r due given tells.asking.1 number tells.drawn)
+    (λ due given number. named_by s.before tells.heard.0 s.order a tells.asking.0 r due given tells.asking.1 number drawn)
     taken.due taken.given tells.number)
 
-pub who_told : (steps : List Step) (n : Machine) (a r : ℕ) → IsCourse steps n → WasTold steps a r → IsNamed n a r
-who_told [] n a r course told = elim told [ ]
-who_told (s ∷ earlier) n a r course (inl here) = told_named s n a r course.1 here
-who_told (s ∷ earlier) n a r course (inr before) = stays_named s n a r course.1 (who_told earlier s.before a r course.0 before)
+pub who_told : (steps : List Step) (n : Machine) (a r : ℕ) → IsCourse steps n → r < MASK24 → WasSpelled steps a r → IsNamed n a r
+who_told [] n a r course drawn spelled = elim spelled [ ]
+who_told (s ∷ earlier) n a r course drawn (inl here) = told_named s n a r course.1 drawn here
+who_told (s ∷ earlier) n a r course drawn (inr before) = stays_named s n a r course.1 (who_told earlier s.before a r course.0 drawn before)
