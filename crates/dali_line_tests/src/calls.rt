@@ -5,7 +5,7 @@ ghost use Rattle.std.specs.Prelude.{◌≡◌, ◌<◌};
 
 use super::threads::{Blanks, blanks, last_two, line_of};
 use super::values::Ordered::{Commit, Done, Put};
-use super::values::{Ordered, forward, one_reserved, same, site_of};
+use super::values::{ENROL, Ordered, RESERVE, forward, one_reserved, same, site_of};
 use arrayvec::ArrayVec;
 use dali_line::{Bus, Driver, Line, Port, Ready, UpRefusal};
 use dali_script::{Due, End, Input, Kept};
@@ -127,24 +127,24 @@ enum Step {
 
 /// The controller goes down after its store has its first record, and before it is told.
 const RESTART: [Step; 7] = [
-    Step::Until(Commit("reserve", 0), 109),
+    Step::Until(Commit(RESERVE, 0), 109),
     Step::Down,
     Step::UpWithOthers,
     Step::Up,
-    Step::Until(Commit("enrol", 0), 7),
+    Step::Until(Commit(ENROL, 0), 7),
     Step::Until(Done(End::AllFound), 10),
     Step::Ready(Ready::Over),
 ];
 
 /// The bus lapses while PROGRAM SHORT ADDRESS waits.
 const LAPSE: [Step; 9] = [
-    Step::Until(Commit("reserve", 0), 109),
+    Step::Until(Commit(RESERVE, 0), 109),
     Step::Until(Put(0xB701), 4),
     Step::Lapses,
     Step::Pumps(Trouble::None),
     Step::Goes(false, Put(0xB112)),
     Step::Pumps(Trouble::None),
-    Step::Until(Commit("enrol", 0), 6),
+    Step::Until(Commit(ENROL, 0), 6),
     Step::Until(Done(End::AllFound), 5),
     Step::Ready(Ready::Over),
 ];

@@ -40,18 +40,23 @@ fn bytes_of(frame: Forward) -> u16 {
     u16::from_be_bytes([frame.address_byte, frame.opcode_byte])
 }
 
-/// An order, by its numbers: the bytes of its frame, or the name of its record and its short address.
+/// The codes of records that tests name.
+pub const RESERVE: u8 = 1;
+
+pub const ENROL: u8 = 2;
+
+/// An order, by its numbers: the bytes of its frame, or the code of its record and its short address.
 #[derive(Clone, Copy, Debug, PartialEq, Eq)]
 pub enum Ordered {
     Put(u16),
-    Commit(&'static str, u8),
+    Commit(u8, u8),
     Done(End),
     Halt(Fault),
 }
 
 impl Ordered {
     fn commit(record: &Record) -> Ordered {
-        Ordered::Commit(record.name(), record.address().number())
+        Ordered::Commit(record.code(), record.address().number())
     }
 
     pub fn of(order: Order) -> Ordered {
