@@ -193,10 +193,17 @@ fn bus_does<B: Bus, R: Abort + Wait>(
             same(rt, &owners, &[Ok(Some(0)), Ok(Some(0))]);
         }
         Step::Ready(wanted) => same(rt, &bus.ready(rt, driver), &wanted),
-        _ => {
+        Step::Stops => {
             bus.stop(rt);
             assert!(rt; !bus.wait(rt, other));
         }
+        Step::Down
+        | Step::Up
+        | Step::UpWithOthers
+        | Step::Arc
+        | Step::Quiet
+        | Step::Power
+        | Step::Expire => assert!(rt; false),
     }
 }
 
@@ -240,7 +247,13 @@ fn line_does<P0: Ledger, P1: Ledger, P2: Ledger, P3: Ledger, D: Ledger, R: Abort
         Step::Arc => does(rt, line.arc(rt, other, arc), site.arc(1, arc)),
         Step::Quiet => does(rt, line.quiet(rt, driver), site.quiet()),
         Step::Power => does(rt, line.power(rt, driver, 0, false), site.power(0, false)),
-        _ => does(rt, line.expire(rt, driver, 0), site.expire(0)),
+        Step::Expire => does(rt, line.expire(rt, driver, 0), site.expire(0)),
+        Step::Until(..)
+        | Step::Goes(..)
+        | Step::Pumps(_)
+        | Step::Lapses
+        | Step::Ready(_)
+        | Step::Stops => assert!(rt; false),
     }
 }
 
@@ -264,7 +277,12 @@ fn both_do<P0: Ledger, P1: Ledger, P2: Ledger, P3: Ledger, D: Ledger, R: Abort +
             | Step::Quiet
             | Step::Power
             | Step::Expire => line_does(rt, line, other, driver, site, records, step),
-            _ => bus_does(rt, line, (first, other), driver, site, step),
+            Step::Until(..)
+            | Step::Goes(..)
+            | Step::Pumps(_)
+            | Step::Lapses
+            | Step::Ready(_)
+            | Step::Stops => bus_does(rt, line, (first, other), driver, site, step),
         }
     }
 }
