@@ -24,8 +24,8 @@ WORKSPACES = ((ROOT / "crates.txt", CRATES), (ROOT / "extra/programs.txt", ROOT 
 PARTS = ("src", "specs", "proofs")
 # What one check takes at most, in bytes of memory.
 MEMORY = 2_500_000_000
-# How many lines of a crate are worth a job.
-JOB = 1_000
+# From how many lines on a second job is worth what it costs.
+LARGE = 2_000
 REFUSED, MISSING, INTERRUPTED = 126, 127, 130
 
 
@@ -166,12 +166,13 @@ class Build:
         return [*first, "sh", "-c", " && ".join(map(shlex.join, commands(crate, self.jobs(crate, is_longest))))]
 
     def jobs(self, crate, is_longest):
-        """How many jobs prove a crate. Each loads the libraries for itself, so two of them cost more than one.
+        """How many jobs prove a crate.
 
-        The crate with the longest chain behind it may soon run alone: it has one for each thousand lines, as far as processors
-        and memory allow. Each other crate has one.
+        Each loads the libraries for itself and what the others proved, so two of them take a quarter more of processor time,
+        and three still more for little. A large crate with the longest chain behind it has two: all else waits for it in the
+        end. Each other crate has one.
         """
-        wanted = min(-(-crate.lines // JOB), 4) if is_longest else 1
+        wanted = 2 if is_longest and crate.lines >= LARGE else 1
         return max(min(self.processors, wanted, free_memory() // MEMORY), 1)
 
     def wait_for(self, crate, ran):
