@@ -1,4 +1,6 @@
 pub mod Agreement
+mod Ascents
+mod Blocks
 mod Heard
 mod Narrowing
 mod Led

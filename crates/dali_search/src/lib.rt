@@ -3,10 +3,12 @@
 //! A search is a pure value: it knows nothing of a bus, and takes no memory.
 #![tactic(auto)]
 
+mod ascent;
 pub mod laws;
 mod left;
 mod search;
 mod step;
 
+pub use ascent::Ascent;
 pub use search::Search;
 pub use step::Step;

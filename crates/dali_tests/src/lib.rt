@@ -8,6 +8,8 @@
 #[cfg(test)]
 mod arbiter;
 #[cfg(test)]
+mod ascent;
+#[cfg(test)]
 mod codes;
 #[cfg(test)]
 mod command;
