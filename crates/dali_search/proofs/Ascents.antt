@@ -72,12 +72,12 @@ from_drawn a small = found (a.found == 0) where
   stepped true = grind (arith, nat_tests)
   stepped false = omega arith
 
-  anew : (b : Bool) → (if b then a.top else (if nat_lt a.steps 3 then end_of_block (scale a + a.steps) a.low else 0xFFFFFE)) < 0xFFFFFF
+  anew : (b : Bool) → (if b then a.top else (if nat_lt a.steps 4 then end_of_block (scale a + a.steps) a.low else 0xFFFFFE)) < 0xFFFFFF
   anew true = small
-  anew false = stepped (nat_lt a.steps 3)
+  anew false = stepped (nat_lt a.steps 4)
 
   found : (b : Bool)
-      → (if b then 0xFFFFFE else (if a.is_anew then a.top else (if nat_lt a.steps 3 then end_of_block (scale a + a.steps) a.low else 0xFFFFFE))) < 0xFFFFFF
+      → (if b then 0xFFFFFE else (if a.is_anew then a.top else (if nat_lt a.steps 4 then end_of_block (scale a + a.steps) a.low else 0xFFFFFE))) < 0xFFFFFF
   found true = omega arith
   found false = anew a.is_anew
 
@@ -114,18 +114,18 @@ from_silent a is some = found (a.found == 0) where
   stepped false = refl
 
   anew : (b : Bool) → a.is_anew ≡ b
-      → (if b then a.top else (if nat_lt a.steps 3 then end_of_block (scale a + a.steps) a.low else 0xFFFFFE)) ≡ 0xFFFFFE
+      → (if b then a.top else (if nat_lt a.steps 4 then end_of_block (scale a + a.steps) a.low else 0xFFFFFE)) ≡ 0xFFFFFE
   anew true e = let none : a.silent ≡ 0 = is.anew e in absurd (omega (arith, none, some))
-  anew false e = stepped (nat_lt a.steps 3)
+  anew false e = stepped (nat_lt a.steps 4)
 
   found : (b : Bool)
-      → (if b then 0xFFFFFE else (if a.is_anew then a.top else (if nat_lt a.steps 3 then end_of_block (scale a + a.steps) a.low else 0xFFFFFE))) ≡ 0xFFFFFE
+      → (if b then 0xFFFFFE else (if a.is_anew then a.top else (if nat_lt a.steps 4 then end_of_block (scale a + a.steps) a.low else 0xFFFFFE))) ≡ 0xFFFFFE
   found true = refl
   found false = anew a.is_anew refl
 
--- and from the third on each asks FFFFFE
-from_third : (a : Ascent) → a.is_anew ≡ false → 3 ≤ a.steps → from_known a ≡ 0xFFFFFE
-from_third a new most = grind (arith, nat_tests)
+-- and from the fourth on each asks FFFFFE
+from_fourth : (a : Ascent) → a.is_anew ≡ false → 4 ≤ a.steps → from_known a ≡ 0xFFFFFE
+from_fourth a new most = grind (arith, nat_tests)
 
 -- ---------------------------------------------------------------- what an answer leaves
 
@@ -146,7 +146,7 @@ yes_is a is again =
 -- what a no leaves of the counts, by the number that was asked
 record IsCounted (a : Ascent) (asked steps silent : ℕ) : Type 0 where
   few : silent ≤ 2
-  most : steps ≤ 3 + silent
+  most : steps ≤ 4 + silent
   silence : 0 < silent → asked + 1 ≡ 0xFFFFFF
 
 pub no_is : (a : Ascent) → IsAscent a → leads_to a ≡ Again → IsAscent (told_no a (asked_next a))
@@ -175,7 +175,7 @@ no_is a is again =
         let below : with_ones (apart a.low a.high - 1) a.low < a.high = (halved a.low a.high h.less h.small).below in
         let asked : asked_next a < a.high = rw h.asked below in
         let none : 0 < a.silent → ⊥ = λ some. let low : a.low ≡ 0xFFFFFF = is.silence some in omega (arith, low, h.less, h.small) in
-        let most : a.steps ≤ 3 + a.silent = is.steps in
+        let most : a.steps ≤ 4 + a.silent = is.steps in
         record {
           few = grind (arith, nat_tests, h.small, none, asked);
           most = grind (arith, nat_tests, h.small, none, asked, most);
@@ -184,7 +184,7 @@ no_is a is again =
 
     stepping : IsStepping a → Counted
     stepping s = at (asked_next a == 0xFFFFFE) refl where
-      most : a.steps ≤ 3 + a.silent
+      most : a.steps ≤ 4 + a.silent
       most = is.steps
 
       at : (b : Bool) → (asked_next a == 0xFFFFFE) ≡ b
@@ -194,7 +194,7 @@ no_is a is again =
         most = steps (is_bounded a || a.is_anew);
         silence = λ some. grind (arith, nat_tests);
       } where
-        steps : (b : Bool) → (if b then a.steps else a.steps + 1) ≤ 3 + (a.silent + 1)
+        steps : (b : Bool) → (if b then a.steps else a.steps + 1) ≤ 4 + (a.silent + 1)
         steps true = omega (arith, most)
         steps false = omega (arith, most)
       at false e = record {
@@ -211,10 +211,10 @@ no_is a is again =
         open_ended : is_bounded a ≡ false
         open_ended = let top : 0xFFFFFF ≤ a.high = s.top in grind (arith, nat_tests)
 
-        steps : (b : Bool) → a.is_anew ≡ b → (if is_bounded a || a.is_anew then a.steps else a.steps + 1) ≤ 3 + a.silent
+        steps : (b : Bool) → a.is_anew ≡ b → (if is_bounded a || a.is_anew then a.steps else a.steps + 1) ≤ 4 + a.silent
         steps true new = rw (open_ended, new) most
         steps false new =
-            let early : 3 ≤ a.steps → ⊥ = λ late. other (s.asked ∙ from_third a new late) in
+            let early : 4 ≤ a.steps → ⊥ = λ late. other (s.asked ∙ from_fourth a new late) in
             rw (open_ended, new) (omega (arith, early))
 
 -- ---------------------------------------------------------------- that it ends
@@ -269,15 +269,15 @@ fewer_no a asked is again asked_is = elim (going_on a again) [
   stepping s false b_is true c_is false e_is = rw (b_is, c_is, e_is) (omega arith)
   stepping s false b_is false c_is true e_is = let few : a.silent < 2 = s.few in rw (b_is, c_is, e_is) (omega (arith, few))
   stepping s false b_is false c_is false e_is =
-      let early : 3 ≤ a.steps → ⊥ = λ late. other (asked_is ∙ s.asked ∙ from_third a c_is late) in
+      let early : 4 ≤ a.steps → ⊥ = λ late. other (asked_is ∙ s.asked ∙ from_fourth a c_is late) in
       rw (b_is, c_is, e_is) (omega (arith, early))
     where
       other : asked ≡ 0xFFFFFE → ⊥
       other same = grind (arith, nat_tests)
 
-pub left_at_most : (a : Ascent) → answers_left a ≤ 30
+pub left_at_most : (a : Ascent) → answers_left a ≤ 31
 left_at_most a = at (is_bounded a) a.is_anew where
-  at : (b c : Bool) → (if b then apart a.low a.high else 24 + (2 - a.silent) + (3 - a.steps) + one_if c) ≤ 30
+  at : (b c : Bool) → (if b then apart a.low a.high else 24 + (2 - a.silent) + (4 - a.steps) + one_if c) ≤ 31
   at true c = let most : apart a.low a.high ≤ 24 = most_apart a.low a.high in omega (arith, most)
   at false true = omega arith
   at false false = omega arith

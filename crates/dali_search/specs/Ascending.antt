@@ -50,13 +50,13 @@ abbrev pub scale : Ascent → ℕ
 scale a = apart ((a.top + 1) / a.found) 0 - 1
 
 -- A STEP UP, while nobody has answered: from the member that was found last to the end of a block
--- of about the mean distance, then of blocks twice and four times as large, and then FFFFFE. Before
--- a member was found it is FFFFFE at once. Who begins anew first asks whether a member was passed
--- over, below those that were found.
+-- of about the mean distance, then of blocks twice, four and eight times as large, and then FFFFFE.
+-- Before a member was found it is FFFFFE at once. Who begins anew first asks whether a member was
+-- passed over, below those that were found.
 abbrev pub step_up : Ascent → ℕ
 step_up a =
     if a.is_anew then a.top
-    else (if nat_lt a.steps 3 then end_of_block (scale a + a.steps) a.low else 0xFFFFFE)
+    else (if nat_lt a.steps 4 then end_of_block (scale a + a.steps) a.low else 0xFFFFFE)
 
 abbrev pub from_known : Ascent → ℕ
 from_known a = if a.found == 0 then 0xFFFFFE else step_up a
@@ -156,7 +156,7 @@ one_if false = 0
 abbrev pub answers_left : Ascent → ℕ
 answers_left a =
     if is_bounded a then apart a.low a.high
-    else 24 + (2 - a.silent) + (3 - a.steps) + one_if a.is_anew
+    else 24 + (2 - a.silent) + (4 - a.steps) + one_if a.is_anew
 
 -- WHAT IS TRUE OF EVERY ASCENT: its numbers are of 24 bits; a no under FFFFFE leaves none, and is
 -- none of the step up with which it begins anew; and what was found is below FFFFFF.
@@ -166,6 +166,6 @@ pub record IsAscent (a : Ascent) : Type 0 where
   pub silence : 0 < a.silent → a.low ≡ 0xFFFFFF
   pub anew : a.is_anew ≡ true → a.silent ≡ 0
   pub few : a.silent ≤ 2
-  pub steps : a.steps ≤ 3 + a.silent
+  pub steps : a.steps ≤ 4 + a.silent
   pub found : a.found ≤ 255
   pub top : a.top < 0xFFFFFF

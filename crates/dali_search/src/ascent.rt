@@ -13,8 +13,8 @@ use std::marker::Model;
 /// The number that stands for nothing known; no gear draws it.
 const NONE: u32 = 0xFFFFFF;
 
-/// How many steps up are of the mean distance of what was found, twice it and four times it.
-const STEPS: u8 = 3;
+/// How many steps up there are: of the mean distance of what was found, and of twice, four and eight times that.
+const STEPS: u8 = 4;
 
 /// How often nobody must have answered under the greatest number that gear draw.
 const SILENCES: u8 = 2;
@@ -23,7 +23,7 @@ const SILENCES: u8 = 2;
 /// answer COMPARE (IEC 62386-102:2014, COMPARE), each of which is taken out of the set when it was found.
 ///
 /// It goes up from the number that was found last, so it asks under `FFFFFE` only where nobody is left nearby, and says
-/// that nobody is left only after two silences there. Each of its searches takes at most 30 answers. Two numbers that
+/// that nobody is left only after two silences there. Each of its searches takes at most 31 answers. Two numbers that
 /// it asks one after the other mostly differ in one byte.
 #[derive(Drop)]
 pub struct Ascent {
@@ -258,7 +258,7 @@ impl Ascent {
 
         // It ends.
         ensures fewer { leads_to self.old ≡ Again → answers_left self.new < answers_left self.old }
-        ensures count { answers_left self.new ≤ 30 }
+        ensures count { answers_left self.new ≤ 31 }
     {
         if let Step::Again = self.step() {
             let asked = self.asked();

@@ -76,13 +76,13 @@ const SECOND: &[(u32, bool)] = &[
     (0x123460, true),
 ];
 
-/// The third goes three steps up, and asks FFFFFE then.
+/// The third goes four steps up, and asks FFFFFE then.
 const THIRD: &[(u32, bool)] = &[
     (0x17FFFF, false),
     (0x1FFFFF, false),
     (0x3FFFFF, false),
-    (0xFFFFFE, true),
     (0x7FFFFF, false),
+    (0xFFFFFE, true),
     (0xBFFFFF, true),
     (0x9FFFFF, true),
     (0x8FFFFF, false),
