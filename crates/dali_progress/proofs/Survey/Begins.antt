@@ -1,0 +1,360 @@
+use Rattle.std.proofs.Common.{◌≡◌, ℕ, ◌+◌, ◌-◌, ◌*◌, ◌<◌, ◌≤◌, ◌⊎◌, inl, inr, Bool, true, false, zero, suc, List, [], ◌∷◌, ◌++◌, refl, sym, ap, subst, ◌∙◌}
+use Rattle.std.proofs.Common.{arith}
+use Rattle.std.proofs.Common.{Option, Some, None}
+use Rattle.std.specs.Prelude.{◌==◌, ◌&&◌, ◌||◌, not, is_some, nat_lt, MatchOption, if◌then◌else◌}
+use Rattle.std.specs.List.{count_by}
+use Rattle.std.proofs.lemmas.Bool.Decides.{nat_tests}
+use Rattle.dali_frame.specs.declared.numbers.SearchAddress.{SearchAddress}
+use Rattle.dali_frame.specs.declared.frames.Forward.{Forward}
+use Rattle.dali_frame.specs.Random.{MASK24}
+use Rattle.dali_frame.specs.Priority.{FIRST, LATER}
+use Rattle.dali_special.specs.declared.command.Command.{Command}
+use Rattle.dali_special.specs.Command.{command_of, frame_of, IsSpelled}
+use Rattle.dali_special.proofs.Table.{read_written}
+use Rattle.dali_gear.specs.Gear.{Gear}
+use Rattle.dali_script.specs.declared.records.Record.{Record}
+use Rattle.dali_script.specs.declared.records.Record.TheVariants.{Reserve, Enrol}
+use Rattle.dali_script.specs.Records.{Assignment, Kept, Has, HasAddress, with_record}
+use Rattle.dali_script.specs.declared.stage.Stage.{Stage}
+use Rattle.dali_script.specs.declared.stage.Stage.TheVariants as stage
+use Rattle.dali_script.specs.Findings.{finding_of}
+use Rattle.dali_script.specs.Stages.{IsTrace, stage_of}
+use Rattle.dali_script.proofs.Lists.{has_map, has_cases}
+use Rattle.dali_script.proofs.Transactions.{stage_none}
+use Rattle.dali_script.proofs.Found.{trace_none}
+use Rattle.dali_script.specs.declared.orders.Order.{Order}
+use Rattle.dali_script.specs.declared.orders.Order.TheVariants.{Put, Commit, Done, Halt}
+use Rattle.dali_script.specs.declared.orders.Fault.TheVariants as fault
+use Rattle.dali_controller.specs.declared.purpose.Purpose.{Purpose}
+use Rattle.dali_controller.specs.declared.purpose.Purpose.TheVariants.{Probing}
+use Rattle.dali_controller.specs.declared.shorts.Shorts.{Shorts}
+use Rattle.dali_controller.specs.declared.way.Way.{Way}
+use Rattle.dali_controller.specs.declared.way.Way.TheVariants.{Fresh, Surveying}
+use Rattle.dali_controller.specs.Shorts.{has_short}
+use Rattle.dali_controller.specs.Course.{Course, first_of, turn_of, number_at, is_open, open_among, least_open, is_another, is_anothers}
+use Rattle.dali_controller.specs.Course.{is_asked, asked_among, next_asked, ask_or_wake, asking, waking, going_on, going_on_early, searching_anew}
+use Rattle.dali_controller.specs.Machine.{Machine}
+use Rattle.dali_controller.specs.Next.{next_course, course_by, beginning, goes_on_to, BeginsWith}
+use Rattle.dali_controller.specs.Orders.{machine_ordered, IsAllowed, IsCaused}
+use Rattle.dali_controller.specs.Whole.{IsWhole}
+use Rattle.dali_controller.proofs.Courses.{found_number}
+use Rattle.dali_controller.proofs.Given as given
+use Rattle.dali_controller.proofs.Given.{IsGivenBy, IsNoEnrolment}
+use Rattle.dali_events.specs.Wanted.{is_wanted, wants, IsOpened, NoneNamed}
+use Rattle.dali_events.proofs.Search.Leaving.{SameCore}
+use Rattle.dali_progress.specs.Rounds.{AreTabled}
+use Rattle.dali_progress.proofs.Stands.{search_frames, Sends}
+use Rattle.dali_progress.proofs.Turns.{begins_search}
+use Rattle.dali_progress.proofs.Survey.Queried.{TabledBelow, unseen, below_all}
+use Rattle.dali_progress.proofs.Survey.Stands.{wake_frames, AreBefore, IsOwn, searched_by, frames_after, Hunts, AreTaken, SurveyEnds}
+use Rattle.dali_progress.proofs.Survey.Stands.{SurveyAt, SurveyStands}
+
+-- A TRANSACTION OF A SURVEY BEGINS, or goes on; and what is to come of an order.
+
+-- what every machine has that is not disturbed
+pub record Calm (m : Machine) : Type 0 where
+  pub tries : m.tries ≡ 0
+  pub silent : m.silent ≡ 0
+
+-- a gear that told its number is to be enrolled, and then the next short address is asked
+pub record EnrolsSwept (start : List Gear) (m : Machine) (a r : ℕ) (gs : List Gear) (left : ℕ) : Type 0 where
+  pub way : m.course.way ≡ Surveying
+  pub opened : m.opened ≡ false
+  pub asked : m.asked ≡ 0
+  pub small : a < 64
+  pub from_is : m.course.from ≡ a + 1
+  pub nothing : m.kept.reserved ≡ []
+  pub same : SameCore start gs
+  pub tabled : TabledBelow (a + 1) start (m.kept.enrolled ++ (a, r) ∷ []) gs
+  pub before : AreBefore a m.kept.enrolled
+  pub frames : 3 * (63 - a) + wake_frames gs ≤ left
+
+-- a gear that was given its address is to be enrolled, and then a new search begins
+pub record EnrolsHunted (start : List Gear) (m : Machine) (b r : ℕ) (gs : List Gear) (left : ℕ) : Type 0 where
+  pub way : m.course.way ≡ Fresh → ⊥
+  pub opened : m.opened ≡ true
+  pub own : IsOwn m.kept m.heard
+  pub ready : IsOpened (searched_by m.course.way gs)
+  pub unnamed : NoneNamed (searched_by m.course.way gs)
+  pub reserved : Has m.kept.reserved (b, r)
+  pub tabled : AreTabled (unseen start) ((b, r) ∷ m.kept.enrolled) (searched_by m.course.way gs)
+  pub frames : search_frames (count_by is_wanted (searched_by m.course.way gs)) + frames_after m.course.way gs ≤ left
+
+-- a reservation is to be kept, and then its gear is visited once more
+pub record ReservesHunted (start : List Gear) (m : Machine) (a r : ℕ) (gs : List Gear) (left : ℕ) : Type 0 where
+  pub way : m.course.way ≡ Fresh → ⊥
+  pub opened : m.opened ≡ true
+  pub own : IsOwn m.kept m.heard
+  pub open_is : is_open m.kept m.heard a ≡ true
+  pub ready : IsOpened (searched_by m.course.way gs)
+  pub unnamed : NoneNamed (searched_by m.course.way gs)
+  pub wanted : wants (searched_by m.course.way gs) r ≡ true
+  pub drawn : r < MASK24
+  pub more : ℕ
+  pub count : count_by is_wanted (searched_by m.course.way gs) ≡ suc more
+  pub tabled : AreTabled (unseen start) m.kept.enrolled (searched_by m.course.way gs)
+  pub frames : 7 + search_frames more + frames_after m.course.way gs ≤ left
+
+abbrev pub SurveyCommits : List Gear → Machine → Record → List Gear → ℕ → Type 0
+SurveyCommits start m (Enrol a r) gs left = EnrolsSwept start m a r gs left ⊎ EnrolsHunted start m a r gs left
+SurveyCommits start m (Reserve a r) gs left = ReservesHunted start m a r gs left
+SurveyCommits start m _ gs left = ⊥
+
+-- what is to come of an order
+abbrev pub IsNext : List Gear → Machine → Order → List Gear → ℕ → Type 0
+IsNext start m (Put p f) gs left = SurveyStands start m gs left × Sends m.course.purpose m.course.number m.kept (stage_of m.trace) (command_of f)
+IsNext start m (Commit x) gs left = Calm m × SurveyCommits start m x gs left
+IsNext start m (Done e) gs left = SurveyEnds e m.kept m.heard gs × AreTabled (unseen start) m.kept.enrolled gs
+IsNext start m (Halt why) gs left = ⊥
+
+pub calm_ordered : (start : List Gear) (t : Machine) (o : Order) (gs : List Gear) (left : ℕ) → SurveyStands start t gs left → Calm (machine_ordered t o)
+calm_ordered start t o gs left st = record { tries = st.tries; silent = st.silent }
+
+pub calm_of : (start : List Gear) (t : Machine) (gs : List Gear) (left : ℕ) → SurveyStands start t gs left → Calm t
+calm_of start t gs left st = record { tries = st.tries; silent = st.silent }
+
+-- ---------------------------------------------------------------- a later frame, and a first one
+
+pub later_by : (start : List Gear) (t : Machine) (o : Order) (p : Purpose) (s : Stage) (c : Command) (gs : List Gear) (left : ℕ) → SurveyStands start t gs left
+    → o ≡ Put LATER (frame_of c) → IsSpelled c → t.course.purpose ≡ p → stage_of t.trace ≡ s → Sends p t.course.number t.kept s c
+    → IsNext start (machine_ordered t o) o gs left
+later_by start t o p s c gs left st is spelled purpose at sends = subst (λ q. IsNext start (machine_ordered t q) q gs left) (sym is) (
+  record { tries = st.tries; silent = st.silent; trace = st.trace; at = st.at },
+  subst (λ d. Sends t.course.purpose t.course.number t.kept (stage_of t.trace) d) (sym (read_written c spelled)) (rw (purpose, at) sends),
+)
+
+pub turns_by : (start : List Gear) (t : Machine) (o : Order) (p : Purpose) (s : Stage) (c : Command) (gs : List Gear) (left : ℕ) → IsGivenBy t o
+    → SurveyStands start t gs left → t.course.purpose ≡ p → stage_of t.trace ≡ s → turn_of p t.course.number s ≡ Some c → IsSpelled c
+    → Sends p t.course.number t.kept s c → IsNext start (machine_ordered t o) o gs left
+turns_by start t o p s c gs left g st purpose at turn spelled sends =
+    later_by start t o p s c gs left st (given.turns t o c g (rw (purpose, at) turn)) spelled purpose at sends
+
+goes_first : (start : List Gear) (t : Machine) (o : Order) (gs : List Gear) (left : ℕ) → Calm t → o ≡ beginning (next_course t)
+    → IsSpelled (first_of (next_course t).purpose (next_course t).number)
+    → SurveyAt (next_course t).purpose (next_course t).way stage.Free t.kept t.heard t.opened t.asked (next_course t).search (next_course t).number
+    (next_course t).from start gs left
+    → IsNext start (machine_ordered t o) o gs left
+goes_first start t o gs left calm is spelled at = subst (λ q. IsNext start (machine_ordered t q) q gs left) (sym is) (
+  record {
+    tries = calm.tries;
+    silent = calm.silent;
+    trace = subst (λ s. IsTrace s []) (sym stage_none) trace_none;
+    at = subst (λ s. SurveyAt (next_course t).purpose (next_course t).way s t.kept t.heard t.opened t.asked (next_course t).search (next_course t).number
+        (next_course t).from start gs left) (sym stage_none) at;
+  },
+  subst (λ s. Sends (next_course t).purpose (next_course t).number t.kept s (command_of (frame_of (first_of (next_course t).purpose (next_course t).number))))
+      (sym stage_none)
+      (read_written (first_of (next_course t).purpose (next_course t).number) spelled),
+)
+
+pub first_by : (start : List Gear) (t : Machine) (o : Order) (cs : Course) (gs : List Gear) (left : ℕ) → Calm t → o ≡ beginning (next_course t)
+    → next_course t ≡ cs → IsSpelled (first_of cs.purpose cs.number)
+    → SurveyAt cs.purpose cs.way stage.Free t.kept t.heard t.opened t.asked cs.search cs.number cs.from start gs left
+    → IsNext start (machine_ordered t o) o gs left
+first_by start t o cs gs left calm is same spelled at =
+    goes_first start t o gs left calm is (subst (λ (d : Course). IsSpelled (first_of d.purpose d.number)) (sym same) spelled)
+    (subst (λ (d : Course). SurveyAt d.purpose d.way stage.Free t.kept t.heard t.opened t.asked d.search d.number d.from start gs left) (sym same) at)
+
+-- ---------------------------------------------------------------- a transaction that is over although a frame might follow
+
+-- no later frame is put, since a whole machine sends none there
+pub begins_whole : (t : Machine) (o : Order) (s : Stage) → IsGivenBy t o → stage_of t.trace ≡ s → ((r : SearchAddress) → s ≡ stage.Unnamed r → ⊥)
+    → (s ≡ stage.Terminated → ⊥) → finding_of t.trace ≡ None → IsNoEnrolment t.last → (t.tries ≡ 8 → ⊥)
+    → ((f : Forward) → IsWhole (machine_ordered t (Put LATER f)) → ⊥) → IsWhole (machine_ordered t o) → o ≡ beginning (next_course t)
+begins_whole t o s g at named closed found last tries later = go o g where
+  first : (f : Forward) → BeginsWith (course_by t (Put FIRST f)) (Put FIRST f) → Put FIRST f ≡ beginning (next_course t)
+  first f begins = ap (λ h. Put FIRST h) (begins refl)
+
+  go : (o : Order) → IsGivenBy t o → IsWhole (machine_ordered t o) → o ≡ beginning (next_course t)
+  go (Put p f) g whole = by g.ordered.allowed where
+    by : IsAllowed t (Put p f) → Put p f ≡ beginning (next_course t)
+    by (inl may) = ap (λ q. Put q f) may.0 ∙ first f (subst (λ q. BeginsWith (course_by t (Put q f)) (Put q f)) may.0 g.begins)
+    by (inr may) = absurd (later f (subst (λ q. IsWhole (machine_ordered t (Put q f))) may.0 whole))
+  go (Commit x) g whole = absurd (given.unwarranted t x (λ r e. named r (sym at ∙ e)) found last g.ordered.allowed.warranted)
+  go (Done e) g whole = absurd (by g.ordered.caused) where
+    by : IsCaused t t.course (Done e) → ⊥
+    by (inl cause) = tries cause.1
+    by (inr cause) = closed (sym at ∙ cause.1)
+  go (Halt fault.Conflict) g whole = absurd (by g.ordered.caused) where
+    by : IsCaused t t.course (Halt fault.Conflict) → ⊥
+    by cause = let none = cause.2 in cc
+  go (Halt fault.Store) g whole = absurd g.ordered.caused
+
+-- ---------------------------------------------------------------- the next short address, or the wake
+
+asked_unnamed : (k : Kept) (f : ℕ) → (HasAddress k.enrolled f → ⊥) → is_asked k f ≡ true
+asked_unnamed k f none = go (number_at k.enrolled f) (found_number k.enrolled f) where
+  go : (o : Option ℕ) → MatchOption o (HasAddress k.enrolled f → ⊥) (λ r. Has k.enrolled (f, r)) → (not (is_some o) || is_some (number_at k.reserved f)) ≡ true
+  go None said = refl
+  go (Some r) has = absurd (none (has_map (λ (q : Assignment). q.0) k.enrolled (f, r) has))
+
+next_here : (k : Kept) (f : ℕ) → f < 64 → is_asked k f ≡ true → next_asked k f ≡ Some f
+next_here k f small is =
+    let more : 64 - f ≡ suc (64 - (f + 1)) = omega arith in
+    ap (λ n. asked_among k n f) more ∙ ap (λ b. if b then Some f else asked_among k (64 - (f + 1)) (f + 1)) is
+
+next_none : (k : Kept) (f : ℕ) → f ≡ 64 → next_asked k f ≡ None
+next_none k f is = let none : 64 - f ≡ 0 = omega (arith, is) in ap (λ n. asked_among k n f) none
+
+address_before : (xs : List Assignment) (f : ℕ) → AreBefore f xs → HasAddress xs f → ⊥
+address_before [] f before has = has
+address_before (p ∷ xs) f before (inl is) = let less : p.0 < f = before p.0 p.1 (inl refl) in omega (arith, is, less)
+address_before (p ∷ xs) f before (inr has) = address_before xs f (λ b r h. before b r (inr h)) has
+
+pub asks_on : (start : List Gear) (t : Machine) (o : Order) (f : ℕ) (gs : List Gear) (left : ℕ) → Calm t → o ≡ beginning (next_course t)
+    → next_course t ≡ goes_on_to t → t.course.way ≡ Surveying → t.opened ≡ false → t.asked ≡ 0 → t.course.from ≡ f → f ≤ 64 → t.kept.reserved ≡ []
+    → SameCore start gs → TabledBelow f start t.kept.enrolled gs → AreBefore f t.kept.enrolled → 3 * (64 - f) + wake_frames gs ≤ left
+    → IsNext start (machine_ordered t o) o gs left
+asks_on start t o f gs left calm is next surveys opened asked from few nothing same tabled before enough = go (nat_lt f 64) refl where
+  course : next_course t ≡ ask_or_wake t.course (next_asked t.kept f)
+  course =
+      next ∙ ap (λ b. going_on t.kept b t.course) opened ∙ ap (λ y. going_on_early t.kept y t.course) surveys
+      ∙ ap (λ n. ask_or_wake t.course (next_asked t.kept n)) from
+
+  go : (b : Bool) → nat_lt f 64 ≡ b → IsNext start (machine_ordered t o) o gs left
+  go true less =
+      let small : f < 64 = grind (arith, nat_tests, less) in
+      let here : next_asked t.kept f ≡ Some f = next_here t.kept f small (asked_unnamed t.kept f (address_before t.kept.enrolled f before)) in
+      first_by start t o (asking t.course f) gs left calm is (course ∙ ap (ask_or_wake t.course) here) small (
+        surveys,
+        opened,
+        record {
+          small = small;
+          from_is = refl;
+          nothing = nothing;
+          same = same;
+          stage_is = inl asked;
+          tabled = tabled;
+          before = before;
+          frames = count (wake_frames gs) t.asked small asked enough;
+        },
+      )
+    where
+      count : (wake asked : ℕ) → f < 64 → asked ≡ 0 → 3 * (64 - f) + wake ≤ left → 3 * (63 - f) + (3 - asked) + wake ≤ left
+      count wake asked small none enough = omega (arith, small, none, enough)
+  go false over =
+      let past : 64 ≤ f = grind (arith, nat_tests, over) in
+      let end : f ≡ 64 = omega (arith, past, few) in
+      first_by start t o (waking t.course) gs left calm is (course ∙ ap (ask_or_wake t.course) (next_none t.kept f end)) tt (
+        surveys,
+        asked,
+        record {
+          stage_is = opened;
+          nothing = nothing;
+          gear = λ k in_row on. tt;
+          tabled = below_all start t.kept.enrolled gs same (subst (λ n. TabledBelow n start t.kept.enrolled gs) end tabled);
+          frames = count (wake_frames gs) enough;
+        },
+      )
+    where
+      count : (wake : ℕ) → 3 * (64 - f) + wake ≤ left → wake ≤ left + 0
+      count wake enough = omega (arith, enough)
+
+-- ---------------------------------------------------------------- a new search
+
+pub searches_by : (start : List Gear) (t : Machine) (o : Order) (y : Way) (rest : ℕ) (gs : List Gear) (left : ℕ) → Calm t → o ≡ beginning (next_course t)
+    → next_course t ≡ searching_anew t.course → t.course.way ≡ y → (y ≡ Fresh → ⊥) → t.opened ≡ true → IsOwn t.kept t.heard
+    → IsOpened (searched_by y gs) → NoneNamed (searched_by y gs) → AreTabled (unseen start) t.kept.enrolled (searched_by y gs)
+    → search_frames (count_by is_wanted (searched_by y gs)) ≤ rest → rest + frames_after y gs ≤ left → IsNext start (machine_ordered t o) o gs left
+searches_by start t o y rest gs left calm is next way other opened own ready unnamed tabled enough frames =
+    first_by start t o (searching_anew t.course) gs left calm is next tt
+    (subst (λ z. Hunts Probing z stage.Free t.kept t.heard t.opened (searching_anew t.course).search (searching_anew t.course).number start gs left) (sym way)
+    (record {
+      way = other;
+      opened_is = opened;
+      own = own;
+      rest = rest;
+      at = (refl, begins_search t.course (searched_by y gs) rest ready unnamed enough);
+      tabled = tabled;
+      frames = frames;
+    }))
+
+-- ---------------------------------------------------------------- what is reserved stays nobody else's
+
+not_both : (one two : Bool) → one ≡ false → two ≡ false → (one || two) ≡ false
+not_both one two none nothing = rw (none, nothing) refl
+
+false_both : (one two : Bool) → (one || two) ≡ false → (one ≡ false) × (two ≡ false)
+false_both true two e = absurd (cc)
+false_both false two e = (refl, e)
+
+-- with one entry more of the table
+another_more : (xs : List Assignment) (b r c q : ℕ) → is_another q (number_at xs c) ≡ false → (b ≡ c → q ≡ r)
+    → is_another q (number_at (xs ++ (b, r) ∷ []) c) ≡ false
+another_more [] b r c q was own = go (b == c) refl where
+  same : (m n : ℕ) → m ≡ n → not (n == m) ≡ false
+  same m n e = grind (arith, nat_tests, e)
+
+  go : (t : Bool) → (b == c) ≡ t → is_another q (if t then Some r else None) ≡ false
+  go true is = same q r (own (let at : b ≡ c = grind (arith, nat_tests, is) in at))
+  go false is = refl
+another_more (p ∷ xs) b r c q was own = go (p.0 == c) was (λ e. another_more xs b r c q e own) where
+  go : (t : Bool) → is_another q (if t then Some p.1 else number_at xs c) ≡ false
+      → (is_another q (number_at xs c) ≡ false → is_another q (number_at (xs ++ (b, r) ∷ []) c) ≡ false)
+      → is_another q (if t then Some p.1 else number_at (xs ++ (b, r) ∷ []) c) ≡ false
+  go true was later = was
+  go false was later = later was
+
+pub own_enrolled : (k : Kept) (heard : Shorts) (b r : ℕ) → IsOwn k heard → ((q : ℕ) → Has k.reserved (b, q) → q ≡ r) → IsOwn (with_record k (Enrol b r)) heard
+own_enrolled k heard b r own one c q has =
+    let was = false_both (has_short heard c) (is_another q (number_at k.enrolled c)) (own c q has) in
+    not_both (has_short heard c) (is_another q (number_at (k.enrolled ++ (b, r) ∷ []) c)) was.0
+    (another_more k.enrolled b r c q was.1 (λ e. one q (subst (λ n. Has k.reserved (n, q)) (sym e) has)))
+
+-- what is open is nobody's
+open_parts : (one two three : Bool) → (not one && not two && not three) ≡ true → (one ≡ false) × (two ≡ false) × (three ≡ false)
+open_parts true two three e = absurd (cc)
+open_parts false true three e = absurd (cc)
+open_parts false false true e = absurd (cc)
+open_parts false false false e = (refl, refl, refl)
+
+open_own : (k : Kept) (heard : Shorts) (a r : ℕ) → is_open k heard a ≡ true → is_anothers k heard a r ≡ false
+open_own k heard a r is =
+    let parts = open_parts (is_some (number_at k.reserved a)) (is_some (number_at k.enrolled a)) (has_short heard a) is in
+    not_both (has_short heard a) (is_another r (number_at k.enrolled a)) parts.2 (none (number_at k.enrolled a) parts.1) where
+      none : (o : Option ℕ) → is_some o ≡ false → is_another r o ≡ false
+      none None e = refl
+      none (Some n) e = absurd (cc)
+
+pub own_reserved : (k : Kept) (heard : Shorts) (a r : ℕ) → IsOwn k heard → is_open k heard a ≡ true → IsOwn (with_record k (Reserve a r)) heard
+own_reserved k heard a r own is c q has = go (has_cases k.reserved (a, r) (c, q) has) where
+  go : Has k.reserved (c, q) ⊎ (◌≡◌ {A = Assignment} (a, r) (c, q)) → is_anothers k heard c q ≡ false
+  go (inl was) = own c q was
+  go (inr same) =
+      let one : a ≡ c = ap (λ (x : Assignment). x.0) same in
+      let two : r ≡ q = ap (λ (x : Assignment). x.1) same in
+      subst (λ n. is_anothers k heard n q ≡ false) one (subst (λ n. is_anothers k heard a n ≡ false) two (open_own k heard a r is))
+
+pub own_none : (k : Kept) (heard : Shorts) → k.reserved ≡ [] → IsOwn k heard
+own_none k heard none a r has = absurd (subst (λ xs. Has xs (a, r)) none has)
+
+-- ---------------------------------------------------------------- where none is open, all are taken
+
+taken_at : (k : Kept) (heard : Shorts) (a : ℕ) → is_open k heard a ≡ false → HasAddress k.reserved a ⊎ (HasAddress k.enrolled a ⊎ (has_short heard a ≡ true))
+taken_at k heard a is =
+    go (number_at k.reserved a) (found_number k.reserved a) (number_at k.enrolled a) (found_number k.enrolled a) (has_short heard a) refl is where
+      go : (o : Option ℕ) → MatchOption o (HasAddress k.reserved a → ⊥) (λ r. Has k.reserved (a, r))
+          → (p : Option ℕ) → MatchOption p (HasAddress k.enrolled a → ⊥) (λ r. Has k.enrolled (a, r)) → (b : Bool) → has_short heard a ≡ b
+          → (not (is_some o) && not (is_some p) && not b) ≡ false → HasAddress k.reserved a ⊎ (HasAddress k.enrolled a ⊎ (has_short heard a ≡ true))
+      go (Some r) has p said b marked e = inl (has_map (λ (q : Assignment). q.0) k.reserved (a, r) has)
+      go None none (Some r) has b marked e = inr (inl (has_map (λ (q : Assignment). q.0) k.enrolled (a, r) has))
+      go None none None said true marked e = inr (inr marked)
+      go None none None said false marked e = absurd (cc)
+
+none_open : (k : Kept) (heard : Shorts) (n from : ℕ) → open_among k heard n from ≡ None → (a : ℕ) → from ≤ a → a < from + n → is_open k heard a ≡ false
+none_open k heard zero from none a low high = absurd (omega (arith, low, high))
+none_open k heard (suc n) from none a low high = go (is_open k heard from) refl none (none_open k heard n (from + 1)) where
+  go : (b : Bool) → is_open k heard from ≡ b → (if b then Some from else open_among k heard n (from + 1)) ≡ None
+      → (open_among k heard n (from + 1) ≡ None → (d : ℕ) → from + 1 ≤ d → d < from + 1 + n → is_open k heard d ≡ false) → is_open k heard a ≡ false
+  go true is e more = absurd (cc)
+  go false is e more = here (from == a) refl where
+    here : (t : Bool) → (from == a) ≡ t → is_open k heard a ≡ false
+    here true same = subst (λ d. is_open k heard d ≡ false) (let at : from ≡ a = grind (arith, nat_tests, same) in at) is
+    here false other =
+        let apart : from ≡ a → ⊥ = grind (arith, nat_tests, other) in
+        more e a (omega (arith, low, apart)) (omega (arith, high))
+
+pub all_taken : (k : Kept) (heard : Shorts) → least_open k heard ≡ None → AreTaken k heard
+all_taken k heard none a within =
+    taken_at k heard a (none_open k heard (k.block.last + 1 - k.block.first) k.block.first none a within.0
+    (let low : k.block.first ≤ a = within.0 in let high : a ≤ k.block.last = within.1 in omega (arith, low, high)))

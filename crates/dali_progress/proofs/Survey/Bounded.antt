@@ -1,0 +1,306 @@
+use Rattle.std.proofs.Common.{◌≡◌, ℕ, ◌+◌, ◌*◌, ◌≤◌, ◌⊎◌, inl, inr, true, suc, List, [], ◌∷◌, refl, sym, ap, subst, ◌∙◌, arith, length}
+use Rattle.std.proofs.Common.{Option, Some, None}
+use Rattle.std.specs.Prelude.{if◌then◌else◌}
+use Rattle.std.proofs.lemmas.List.{append-nil}
+use Rattle.std.specs.List.{count_by}
+use Rattle.dali_frame.specs.declared.frames.Forward.{Forward}
+use Rattle.dali_frame.specs.declared.frames.Answer.{Answer}
+use Rattle.dali_special.specs.Command.{command_of}
+use Rattle.dali_gear.specs.declared.row.Reach.TheVariants.{Everyone}
+use Rattle.dali_gear.specs.Gear.{Gear}
+use Rattle.dali_gear.specs.Row.{answers_of, heard_of}
+use Rattle.dali_arbiter.specs.declared.request.Request.{Request}
+use Rattle.dali_arbiter.specs.Arbiter.{total, next, request_of}
+use Rattle.dali_frame.specs.Priority.{FIRST, LATER}
+use Rattle.dali_script.specs.Records.{Has, without_records}
+use Rattle.dali_script.specs.declared.orders.Input.{Input}
+use Rattle.dali_script.specs.declared.orders.Input.TheVariants as input
+use Rattle.dali_script.specs.declared.orders.Order.{Order}
+use Rattle.dali_script.specs.declared.orders.Order.TheVariants.{Put, Commit, Done, Halt}
+use Rattle.dali_script.specs.declared.orders.End.{End}
+use Rattle.dali_script.specs.declared.orders.End.TheVariants.{AllFound, BlockFull, GaveUp}
+use Rattle.dali_controller.specs.Machine.{Machine, at_first}
+use Rattle.dali_controller.specs.Orders.{machine_after}
+use Rattle.dali_events.specs.declared.event.Event.{Event}
+use Rattle.dali_events.specs.declared.event.Event.TheVariants as event
+use Rattle.dali_events.specs.World.{World, controller_at}
+use Rattle.dali_events.specs.Happens.{happens}
+use Rattle.dali_events.specs.Allowed.{Allowed, IsUp, IsDue}
+use Rattle.dali_events.specs.Laws.{FindingsAgree}
+use Rattle.dali_events.specs.Runs.{IsRun, AreDrawn}
+use Rattle.dali_events.specs.Wanted.{gear_of, is_bare}
+use Rattle.dali_events.proofs.Invariant.Agreeing.{findings_agree_in}
+use Rattle.dali_events.proofs.Invariant.Safe.{keeps_promise}
+use Rattle.dali_events.proofs.Search.Halves.{gear_are_searched}
+use Rattle.dali_standing.specs.Seats.{MayAnswer}
+use Rattle.dali_standing.specs.Standing.{machine_in}
+use Rattle.dali_world.specs.Site.{SiteState, world, site_logged, machine_at, next_request}
+use Rattle.dali_progress.specs.Rounds.{StartsAlone, IsOfRound, site_after, is_frame, frames, HasEnded, HasNext, AreTabled}
+use Rattle.dali_progress.specs.Surveys.{Surveys, LeavesWhole, IsOfSurvey, SurveyRounds, SurveyGoesOn, SurveyEndsWell, IsSurveyDone, IsUnseen}
+use Rattle.dali_progress.specs.Surveys.{IsSurveyTabled}
+use Rattle.dali_progress.proofs.Lone.{Moment}
+use Rattle.dali_progress.proofs.Goes.{IsKnown, slack_in}
+use Rattle.dali_progress.proofs.Bounded.{world_logged, run_logged, machines_logged, acted_machine, drawn_now, kept_now, nothing_waits, heard_free}
+use Rattle.dali_progress.proofs.Survey.Drawn.{numbered_of}
+use Rattle.dali_progress.proofs.Survey.Queried.{OneGear, IsPassed, core_self, unseen, unseen_was}
+use Rattle.dali_progress.proofs.Survey.Stands.{SurveyEnds}
+use Rattle.dali_progress.proofs.Survey.Goes.{Goes, Holds, IsSurveyed, goes_acted, goes_sent, sent_less}
+
+-- A LIST OF EVENTS OF A SURVEY, one after the other.
+
+-- a site on which a survey goes on
+pub record Runs (start : List Gear) (s : SiteState) (c left : ℕ) : Type 0 where
+  pub run : IsRun s.plan s.queue s.log
+  pub machine : Machine
+  pub there : machine_at s c ≡ Some machine
+  pub goes : Goes start (world s) s.queue c machine left
+
+-- what is known of it, since its log is a run
+one_now : (s : SiteState) → IsRun s.plan s.queue s.log → OneGear (world s).gear
+one_now s run g h a one two =
+    ((keeps_promise s.plan s.queue s.log run).always s.log [] (append-nil s.log)).one_gear g h a (one.there, one.short) (two.there, two.short)
+
+agree_now : (s : SiteState) → IsRun s.plan s.queue s.log → FindingsAgree (world s)
+agree_now s run = findings_agree_in s.plan s.queue s.log [] (subst (λ es. IsRun s.plan s.queue es) (sym (append-nil s.log)) run)
+
+surveyed_now : (s : SiteState) (c : ℕ) → IsRun s.plan s.queue s.log → IsUp (world s) c → IsSurveyed (world s) c
+surveyed_now s c run up =
+    record { kept = kept_now s c run up; numbered = numbered_of (world s) (drawn_now s run); one = one_now s run; agree = agree_now s run }
+
+-- frames that were sent are frames that are no longer left
+pub record RunsOn (start : List Gear) (s : SiteState) (c left : ℕ) (e : Event) : Type 0 where
+  pub rest : ℕ
+  pub sum : left ≡ (if is_frame e then 1 else 0) + rest
+  pub less : 3 * rest + slack_in (world (site_logged s e)) c + 1 ≤ 3 * left + slack_in (world s) c
+  pub runs : Runs start (site_logged s e) c rest
+
+acted_on : (start : List Gear) (s : SiteState) (c left : ℕ) (i : Input) (o : Order) → Runs start s c left → Allowed (world s) (event.Acted c i o) → Surveys i
+    → MayAnswer (machine_at s c) i o → LeavesWhole (machine_at s c) i o → RunsOn start s c left (event.Acted c i o)
+acted_on start s c left i o r here surveys may whole = record {
+  rest = left;
+  sum = omega arith;
+  less = less_acted (slack_in (world (site_logged s (event.Acted c i o))) c)
+      (subst (λ w. slack_in w c + 1 ≤ slack_in (world s) c) (sym (world_logged s (event.Acted c i o))) on.1);
+  runs = record {
+    run = run_logged s (event.Acted c i o) r.run here;
+    machine = machine_after r.machine i o;
+    there = acted_machine s c i o r.machine r.there;
+    goes = subst (λ w. Goes start w s.queue c (machine_after r.machine i o) left) (sym (world_logged s (event.Acted c i o))) on.0;
+  };
+} where
+  on : Goes start (happens (world s) (event.Acted c i o)) s.queue c (machine_after r.machine i o) left
+      × (slack_in (happens (world s) (event.Acted c i o)) c + 1 ≤ slack_in (world s) c)
+  on =
+      goes_acted start (world s) s.queue c r.machine i o left r.goes surveys here (subst (λ n. MayAnswer n i o) r.there may)
+      (subst (λ n. LeavesWhole n i o) r.there whole) (surveyed_now s c r.run r.goes.lone.up)
+
+  less_acted : (x : ℕ) → x + 1 ≤ slack_in (world s) c → 3 * left + x + 1 ≤ 3 * left + slack_in (world s) c
+  less_acted x less = omega (arith, less)
+
+sent_on : (start : List Gear) (s : SiteState) (c left : ℕ) (r : Request) (h : Answer) → Runs start s c left
+    → Allowed (world s) (event.Sent r.sender r.frame h) → next_request s ≡ Some r
+    → h ≡ heard_of (answers_of Everyone (command_of r.frame) 0 (world s).gear) → RunsOn start s c left (event.Sent r.sender r.frame h)
+sent_on start s c left r h u here is heard =
+    let run : IsRun s.plan s.queue (site_logged s (event.Sent r.sender r.frame h)).log = run_logged s (event.Sent r.sender r.frame h) u.run here in
+    let known : IsKnown (world s) r.sender r.frame h = record {
+      drawn = drawn_now s u.run;
+      then = subst AreDrawn (world_logged s (event.Sent r.sender r.frame h)) (drawn_now (site_logged s (event.Sent r.sender r.frame h)) run);
+      seeks = λ n at. gear_are_searched s.plan s.queue s.log n u.run at;
+    } in
+    let slacks = sent_less start (world s) s.queue c u.machine r h left u.goes is in
+    let sent = goes_sent start (world s) s.queue c u.machine r h left u.goes is here known (surveyed_now s c u.run u.goes.lone.up) heard in
+    record {
+      rest = sent.0;
+      sum = sent.1 ∙ omega arith;
+      less = less_sent sent.0 (slack_in (world (site_logged s (event.Sent r.sender r.frame h))) c) (slack_in (world s) c) left sent.1
+          (ap (λ w. slack_in w c) (world_logged s (event.Sent r.sender r.frame h)) ∙ slacks.0) slacks.1;
+      runs = record {
+        run = run;
+        machine = u.machine;
+        there = ap (λ ms. machine_in ms c) (machines_logged s (event.Sent r.sender r.frame h)) ∙ u.there;
+        goes = subst (λ w. Goes start w s.queue c u.machine sent.0) (sym (world_logged s (event.Sent r.sender r.frame h))) sent.2;
+      };
+    }
+  where
+    less_sent : (rest x y left : ℕ) → left ≡ suc rest → x ≡ 2 → y ≡ 0 → 3 * rest + x + 1 ≤ 3 * left + y
+    less_sent rest x y left is two none = omega (arith, is, two, none)
+
+sent_by : (start : List Gear) (s : SiteState) (c left d : ℕ) (f : Forward) (h : Answer) → Runs start s c left → Allowed (world s) (event.Sent d f h)
+    → IsOfRound s c (event.Sent d f h) → RunsOn start s c left (event.Sent d f h)
+sent_by start s c left d f h u here of =
+    subst (λ e. Allowed (world s) e → RunsOn start s c left e) (sym (ap (λ n. event.Sent n f h) of.2 ∙ ap (λ g. event.Sent of.0.sender g h) of.3))
+    (λ now. sent_on start s c left of.0 h u now of.1 (of.4 ∙ ap (λ g. heard_of (answers_of Everyone (command_of g) 0 (world s).gear)) of.3)) here
+
+runs_on : (start : List Gear) (s : SiteState) (c left : ℕ) (e : Event) → Runs start s c left → Allowed (world s) e → IsOfSurvey s c e → RunsOn start s c left e
+runs_on start s c left (event.Acted d i o) u here of =
+    subst (λ n. Allowed (world s) (event.Acted n i o) → RunsOn start s c left (event.Acted n i o)) (sym of.0)
+    (λ now. acted_on start s c left i o u now of.1 of.2 of.3) here
+runs_on start s c left (event.Sent d f h) u here of = sent_by start s c left d f h u here of
+runs_on start s c left _ u here of = absurd of
+
+-- ALL ROUNDS
+pub record RunsAll (start : List Gear) (s : SiteState) (c left : ℕ) (es : List Event) : Type 0 where
+  pub rest : ℕ
+  pub sum : left ≡ frames es + rest
+  pub less : 3 * rest + slack_in (world (site_after s es)) c + length es ≤ 3 * left + slack_in (world s) c
+  pub runs : Runs start (site_after s es) c rest
+
+runs_all : (start : List Gear) (s : SiteState) (c left : ℕ) (es : List Event) → Runs start s c left → SurveyRounds s c es → RunsAll start s c left es
+runs_all start s c left [] u rounds = record { rest = left; sum = omega arith; less = omega arith; runs = u }
+runs_all start s c left (e ∷ es) u rounds =
+    let on = runs_on start s c left e u rounds.0 rounds.1 in
+    let all = runs_all start (site_logged s e) c on.rest es on.runs rounds.2 in
+    record {
+      rest = all.rest;
+      sum = both (if is_frame e then 1 else 0) (frames es) left on.rest all.rest on.sum all.sum;
+      less = fewer all.rest on.rest left (slack_in (world (site_after (site_logged s e) es)) c) (slack_in (world (site_logged s e)) c) (slack_in (world s) c)
+          (length es) on.less all.less;
+      runs = all.runs;
+    }
+  where
+    both : (x more left rest last : ℕ) → left ≡ x + rest → rest ≡ more + last → left ≡ x + more + last
+    both x more left rest last one two = omega (arith, one, two)
+
+    fewer : (last rest left x y z n : ℕ) → 3 * rest + y + 1 ≤ 3 * left + z → 3 * last + x + n ≤ 3 * rest + y → 3 * last + x + suc n ≤ 3 * left + z
+    fewer last rest left x y z n one two = omega (arith, one, two)
+
+-- THE START
+starts : (s : SiteState) (c : ℕ) → StartsAlone s c → Runs (world s).gear s c (111 * count_by is_bare (world s).gear + 209)
+starts s c a = record {
+  run = a.run;
+  machine = at_first c (without_records a.block);
+  there = a.machine;
+  goes = record {
+    lone = record {
+      up = a.up;
+      kept = sym a.records;
+      last = sym a.last;
+      addresses = rw a.last tt;
+      moment = rw (a.last, a.told) ((a.bus, a.trace), refl);
+    };
+    found = rw a.told refl;
+    holds = rw (a.last, a.told) (record {
+      calm = record { tries = refl; silent = refl };
+      free = refl;
+      nothing = refl;
+      empty = refl;
+      unopened = refl;
+      unasked = refl;
+      first = refl;
+      same = core_self (world s).gear;
+      frames = omega arith;
+    });
+  };
+}
+
+runs_after : (s : SiteState) (c : ℕ) (es : List Event) → StartsAlone s c → SurveyRounds s c es
+    → RunsAll (world s).gear s c (111 * count_by is_bare (world s).gear + 209) es
+runs_after s c es a rounds = runs_all (world s).gear s c (111 * count_by is_bare (world s).gear + 209) es (starts s c a) rounds
+
+-- NO MORE FRAMES than these are sent
+pub bounded : (s : SiteState) (c : ℕ) (es : List Event) → StartsAlone s c → SurveyRounds s c es → frames es ≤ 111 * count_by is_bare (world s).gear + 209
+bounded s c es a rounds = let all = runs_after s c es a rounds in omega (arith, all.sum)
+
+-- and no more events come
+pub few_events : (s : SiteState) (c : ℕ) (es : List Event) → StartsAlone s c → SurveyRounds s c es → length es ≤ 333 * count_by is_bare (world s).gear + 628
+few_events s c es a rounds =
+    let all = runs_after s c es a rounds in
+    let one : slack_in (world s) c ≡ 1 = rw (a.last) refl in
+    few (count_by is_bare (world s).gear) all.rest (slack_in (world (site_after s es)) c) (length es)
+    (subst (λ x. 3 * all.rest + slack_in (world (site_after s es)) c + length es ≤ 3 * (111 * count_by is_bare (world s).gear + 209) + x) one all.less)
+  where
+    few : (n rest x k : ℕ) → 3 * rest + x + k ≤ 3 * (111 * n + 209) + 1 → k ≤ 333 * n + 628
+    few n rest x k less = omega (arith, less)
+
+-- ---------------------------------------------------------------- it ends, or goes on
+
+-- what is due or next, by the last order and by what was told
+abbrev IsDueIn : World → ℕ → Type 0
+IsDueIn w c = (i : Input) × Surveys i × IsDue (controller_at w c) i × (total w.bus ≡ 0)
+
+due_by : (start : List Gear) (w : World) (q c : ℕ) (m : Machine) (last : Option Order) (told : Option Input) (left : ℕ) → (controller_at w c).last ≡ last
+    → (controller_at w c).told ≡ told → Moment w q c m (controller_at w c).outstanding last told → Holds start m last told w.gear left
+    → ((e : End) × (last ≡ Some (Done e))) ⊎ (IsDueIn w c ⊎ ((r : Request) × (next w.bus ≡ Some r)))
+due_by start w q c m None (Some input.Start) left is told at holds = inr (inl (input.Survey, tt, told, ap total at.0.0 ∙ nothing_waits q None))
+due_by start w q c m (Some (Put p f)) (Some (input.Heard h)) left is told at holds = inr (inl (input.Heard h, tt, told, heard_free w q c m f h at))
+due_by start w q c m (Some (Put p f)) None left is told (inl later) holds = inr (inr (request_of c LATER f, ap next later.1))
+due_by start w q c m (Some (Put p f)) None left is told (inr first) holds = inr (inr (request_of c FIRST f, ap next first.1))
+due_by start w q c m (Some (Commit x)) None left is told at holds = inr (inl (input.Committed, tt, rw is tt, ap total at.0.0 ∙ nothing_waits q None))
+due_by start w q c m (Some (Done e)) None left is told at holds = inl (e, refl)
+due_by start w q c m (Some (Halt why)) None left is told at holds = absurd holds
+due_by start w q c m None None left is told at holds = absurd at
+due_by start w q c m None (Some i) left is told at holds = absurd at
+due_by start w q c m (Some (Put p f)) (Some i) left is told at holds = absurd at
+due_by start w q c m (Some (Commit x)) (Some i) left is told at holds = absurd at
+due_by start w q c m (Some (Done e)) (Some i) left is told at holds = absurd at
+due_by start w q c m (Some (Halt why)) (Some i) left is told at holds = absurd at
+
+pub goes_on : (s : SiteState) (c : ℕ) (es : List Event) → StartsAlone s c → SurveyRounds s c es → SurveyGoesOn (site_after s es) c
+goes_on s c es a rounds =
+    go (due_by (world s).gear (world (site_after s es)) _ c all.runs.machine (controller_at (world (site_after s es)) c).last
+    (controller_at (world (site_after s es)) c).told all.rest refl refl all.runs.goes.lone.moment all.runs.goes.holds) where
+      all : RunsAll (world s).gear s c (111 * count_by is_bare (world s).gear + 209) es
+      all = runs_after s c es a rounds
+
+      go : ((e : End) × HasEnded (site_after s es) c e) ⊎ (IsDueIn (world (site_after s es)) c ⊎ HasNext (site_after s es)) → SurveyGoesOn (site_after s es) c
+      go (inl ended) = inl ended
+      go (inr (inl due)) = inr (inl (record { input = due.0; surveys = due.1; due = due.2; free = due.3 }))
+      go (inr (inr next)) = inr (inr next)
+
+-- ---------------------------------------------------------------- an end says what is true
+
+well_by : (start : List Gear) (m : Machine) (last : Option Order) (told : Option Input) (e : End) (gs : List Gear) (left : ℕ) → last ≡ Some (Done e)
+    → Holds start m last told gs left → SurveyEnds e m.kept m.heard gs × AreTabled (unseen start) m.kept.enrolled gs
+well_by start m (Some (Done x)) None e gs left is holds = (subst (λ y. SurveyEnds y m.kept m.heard gs) (let same : x ≡ e = cc in same) holds.0, holds.1)
+well_by start m (Some (Done x)) (Some i) e gs left is holds = absurd holds
+well_by start m None told e gs left is holds = absurd (cc)
+well_by start m (Some (Put p f)) told e gs left is holds = absurd (cc)
+well_by start m (Some (Commit x)) told e gs left is holds = absurd (cc)
+well_by start m (Some (Halt why)) told e gs left is holds = absurd (cc)
+
+-- what an end leaves
+pub record EndsBy (s after : SiteState) (c : ℕ) (e : End) : Type 0 where
+  pub machine : Machine
+  pub there : machine_at after c ≡ Some machine
+  pub kept : machine.kept ≡ (controller_at (world after) c).records
+  pub well : SurveyEnds e machine.kept machine.heard (world after).gear
+  pub tabled : AreTabled (unseen (world s).gear) machine.kept.enrolled (world after).gear
+
+ended_by : (s : SiteState) (c : ℕ) (es : List Event) (e : End) → StartsAlone s c → SurveyRounds s c es → HasEnded (site_after s es) c e
+    → EndsBy s (site_after s es) c e
+ended_by s c es e a rounds ended =
+    let all = runs_after s c es a rounds in
+    let g = all.runs.goes in
+    let well = well_by (world s).gear all.runs.machine (controller_at (world (site_after s es)) c).last (controller_at (world (site_after s es)) c).told e
+    (world (site_after s es)).gear all.rest ended g.holds in
+    record { machine = all.runs.machine; there = all.runs.there; kept = g.lone.kept; well = well.0; tabled = well.1 }
+
+ends_so : (e : End) (m : Machine) (gs : List Gear) → SurveyEnds e m.kept m.heard gs → SurveyEndsWell e m gs
+ends_so AllFound m gs well = well
+ends_so BlockFull m gs well = well
+ends_so GaveUp m gs well = well
+
+pub ends : (s : SiteState) (c : ℕ) (es : List Event) (e : End) → StartsAlone s c → SurveyRounds s c es → HasEnded (site_after s es) c e
+    → IsSurveyDone (site_after s es) c e
+ends s c es e a rounds ended m there =
+    let by = ended_by s c es e a rounds ended in
+    let same : by.machine ≡ m = one by.machine m (sym by.there ∙ there) in
+    subst (λ n. SurveyEndsWell e n (world (site_after s es)).gear) same (ends_so e by.machine (world (site_after s es)).gear by.well)
+  where
+    one : (x y : Machine) → Some x ≡ Some y → x ≡ y
+    one x y e = cc
+
+pub tabled : (s : SiteState) (c : ℕ) (es : List Event) (e : End) → StartsAlone s c → SurveyRounds s c es → HasEnded (site_after s es) c e
+    → IsSurveyTabled s (site_after s es) c
+tabled s c es e a rounds ended g short in_row small is =
+    let by = ended_by s c es e a rounds ended in go by (by.tabled g short in_row is) where
+      go : (by : EndsBy s (site_after s es) c e) → ((gear_of (unseen (world s).gear) g).short ≡ Some short)
+          ⊎ Has by.machine.kept.enrolled (short, (gear_of (world (site_after s es)).gear g).random)
+          → Has (controller_at (world (site_after s es)) c).records.enrolled (short, (gear_of (world (site_after s es)).gear g).random)
+          ⊎ (((gear_of (world s).gear g).short ≡ Some short) × IsUnseen (gear_of (world s).gear g))
+      go by (inr has) = inl (subst (λ k. Has k.enrolled (short, (gear_of (world (site_after s es)).gear g).random)) by.kept has)
+      go by (inl had) = let was = unseen_was (world s).gear g short had in inr (was.0, passed was.1) where
+        passed : IsPassed (gear_of (world s).gear g) short → IsUnseen (gear_of (world s).gear g)
+        passed (inl off) = inl off
+        passed (inr (inl mask)) = inr mask
+        passed (inr (inr large)) = absurd (omega (arith, small, large))

@@ -1,0 +1,5 @@
+use Rattle.dali_progress.proofs.Survey.Bounded.{ends, tabled}
+use Rattle.dali_progress.proofs.laws.ends_of_surveys_are_true.Goals as goal
+
+pub returns : goal.returns
+returns c = record { done = ends; table = tabled }
