@@ -61,7 +61,7 @@ run_logged s e run here = run_more s.plan s.queue s.log e run here
 pub machines_logged : (s : SiteState) (e : Event) → machines (site_logged s e) ≡ machines_after (world s) (machines s) e
 machines_logged s e = machines_more (start s.plan s.queue) (machines_at 0 s.plan.blocks) s.log e
 
-some_within : (ms : List (Option Machine)) (c : ℕ) (m : Machine) → get_or ms c None ≡ Some m → c < length ms
+pub some_within : (ms : List (Option Machine)) (c : ℕ) (m : Machine) → get_or ms c None ≡ Some m → c < length ms
 some_within [] c m is = absurd (cc)
 some_within (x ∷ ms) zero m is = omega arith
 some_within (x ∷ ms) (suc c) m is = let inside : c < length ms = some_within ms c m is in omega (arith, inside)

@@ -9,3 +9,5 @@ pub mod Hunting
 pub mod Kept
 pub mod Goes
 pub mod Bounded
+pub mod Again
+pub mod Quiet

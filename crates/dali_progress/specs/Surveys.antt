@@ -2,28 +2,50 @@ use Rattle.std.specs.Prelude.{◌≡◌, ◌⊎◌, ℕ, ◌<◌, true, false, L
 use Rattle.std.specs.Prelude.{Some, None}
 use Rattle.dali_frame.specs.Random.{MASK24}
 use Rattle.dali_gear.specs.Gear.{Gear}
-use Rattle.dali_arbiter.specs.Arbiter.{total}
-use Rattle.dali_script.specs.Records.{Assignment, Has, HasAddress, InBlock}
+use Rattle.dali_arbiter.specs.Arbiter.{idle, total}
+use Rattle.dali_script.specs.Records.{Assignment, Kept, Has, HasAddress, InBlock}
 use Rattle.dali_script.specs.declared.orders.Input.{Input}
 use Rattle.dali_script.specs.declared.orders.Input.TheVariants as input
+use Rattle.dali_script.specs.declared.records.Record.{Record}
 use Rattle.dali_script.specs.declared.orders.Order.{Order}
+use Rattle.dali_script.specs.declared.orders.Order.TheVariants.{Commit}
 use Rattle.dali_script.specs.declared.orders.End.{End}
 use Rattle.dali_script.specs.declared.orders.End.TheVariants.{AllFound, BlockFull, GaveUp}
 use Rattle.dali_controller.specs.Shorts.{has_short}
-use Rattle.dali_controller.specs.Machine.{Machine}
+use Rattle.dali_controller.specs.Machine.{Machine, at_first}
 use Rattle.dali_controller.specs.Orders.{machine_after}
 use Rattle.dali_controller.specs.Whole.{IsWhole}
 use Rattle.dali_events.specs.declared.event.Event.{Event}
 use Rattle.dali_events.specs.declared.event.Event.TheVariants as event
 use Rattle.dali_events.specs.World.{controller_at}
-use Rattle.dali_events.specs.Allowed.{Allowed, IsDue}
+use Rattle.dali_events.specs.Allowed.{Allowed, IsUp, IsDue}
+use Rattle.dali_events.specs.Runs.{IsRun}
 use Rattle.dali_events.specs.Searching.{HasShort}
 use Rattle.dali_events.specs.Wanted.{gear_of, OfPowered}
 use Rattle.dali_standing.specs.Seats.{MayAnswer}
 use Rattle.dali_world.specs.Site.{SiteState, world, machine_at, site_logged}
 use Rattle.dali_progress.specs.Rounds.{IsOfRound, HasEnded, HasNext}
 
--- A WHOLE SURVEY, of one controller that is alone (`StartsAlone`) on a bus that nothing disturbs.
+-- A WHOLE SURVEY, of one controller that is alone on a bus that nothing disturbs.
+
+-- WHAT IT KEEPS from before: nothing, or what a survey that ended has left. Each address that is
+-- reserved is enrolled so.
+abbrev pub IsSettled : Kept → Type 0
+IsSettled k = (x : Assignment) → Has k.reserved x → Has k.enrolled x
+
+-- ONE CONTROLLER ALONE, which is to survey: it is up, and has just begun, with such records; no
+-- request waits, of whomever, and nobody owns the bus.
+pub record SurveysAlone (s : SiteState) (c : ℕ) : Type 0 where
+  pub run : IsRun s.plan s.queue s.log
+  pub up : IsUp (world s) c
+  pub told : (controller_at (world s) c).told ≡ Some input.Start
+  pub last : (controller_at (world s) c).last ≡ None
+  pub kept : Kept
+  pub records : (controller_at (world s) c).records ≡ kept
+  pub settled : IsSettled kept
+  pub machine : machine_at s c ≡ Some (at_first c kept)
+  pub bus : (world s).bus ≡ idle s.queue
+  pub trace : (world s).trace ≡ []
 
 -- WHAT A ROUND OF A SURVEY DOES: the same as a round that begins by Start (`IsOfRound`), but the
 -- controller surveys where Start is due. Its machine is whole afterwards, as the contract of its
@@ -115,3 +137,21 @@ AreSurveyed before entries gs =
 abbrev pub IsSurveyTabled : SiteState → SiteState → ℕ → Type 0
 IsSurveyTabled before s c =
     AreSurveyed (world before).gear (controller_at (world s) c).records.enrolled (world s).gear
+
+-- A QUIET SURVEY commits nothing.
+abbrev pub CommitsNothing : Event → Type 0
+CommitsNothing e = (c : ℕ) (i : Input) (x : Record) → e ≡ event.Acted c i (Commit x) → ⊥
+
+-- and then it was the table of before that names them
+abbrev pub WasTabled : SiteState → SiteState → ℕ → Type 0
+WasTabled before s c =
+    AreSurveyed (world before).gear (controller_at (world before) c).records.enrolled
+    (world s).gear
+
+-- and what it keeps is such as a survey may begin with
+abbrev pub IsSettledAt : SiteState → ℕ → Type 0
+IsSettledAt s c = IsSettled (controller_at (world s) c).records
+
+-- the site once the controller went down and came up again, with the records that it kept
+abbrev pub restarted : SiteState → ℕ → SiteState
+restarted s c = site_logged (site_logged s (event.Down c)) (event.Up c false)

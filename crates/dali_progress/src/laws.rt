@@ -39,7 +39,8 @@ ghost use Rattle.dali_progress.specs.Rounds.{IsTabled};
 ghost use Rattle.dali_progress.specs.Surveyed.{Step, IsCourse, ArePlain, WasHeard, IsAccounted, HasSurveyed};
 ghost use Rattle.dali_progress.specs.Surveyed.{stage_told};
 ghost use Rattle.dali_progress.specs.Spared.{ReservesBySurvey};
-ghost use Rattle.dali_progress.specs.Surveys.{SurveyRounds, SurveyGoesOn, IsSurveyDone, IsSurveyTabled};
+ghost use Rattle.dali_progress.specs.Surveys.{SurveysAlone, SurveyRounds, SurveyGoesOn, IsSurveyDone, IsSurveyTabled};
+ghost use Rattle.dali_progress.specs.Surveys.{IsSettledAt, restarted, CommitsNothing, WasTabled};
 ghost use Rattle.dali_progress.specs.Swept.{BeginsBySurvey, AreWhole, AreSteady, frames_asked, frames_lost, WasSilent};
 ghost use Rattle.dali_progress.specs.Swept.{WasSpelled, IsNamed, IsClean, IsSwept};
 ghost use Rattle.dali_progress.specs.Running.{HasCommissioned, WasRefused};
@@ -121,25 +122,35 @@ pub fn a_run_commissions()
         → Ran limit (installation_of p) sent text m → HasCommissioned (installation_of p).site m.site 0 }
 {}
 
-/// A WHOLE SURVEY IS BOUNDED. On a site on which a controller is alone, with nothing kept and nothing on the bus, and
-/// nothing disturbs it: with n gear that have power and no short address, its survey sends at most 111 n + 209 frames.
-/// Three go to each of the 64 short addresses: three questions where nobody answers, and the three queries of a random
-/// address where a gear does. Three wake gear, and then come a last probe of four, an opening of five, another last
-/// probe, and the close; for each of the n at most 25 probes of four frames, and 11 frames of visits.
+/// WHO STARTS ALONE SURVEYS ALONE. A survey may begin with nothing kept, as a start does (`starts`); and with what such
+/// a survey has left at its end, once its controller went down and came up again with these records (`again`). So what
+/// is said of one is said of each that follows.
+pub fn who_starts_alone_surveys_alone()
+    ensures starts { (s : SiteState) (c : ℕ) → StartsAlone s c → SurveysAlone s c }
+    ensures again { (s : SiteState) (c : ℕ) (es : List Event) (e : End) → SurveysAlone s c → SurveyRounds s c es
+        → HasEnded (site_after s es) c e → SurveysAlone (restarted (site_after s es) c) c }
+{}
+
+/// A WHOLE SURVEY IS BOUNDED. On a site on which a controller is alone, with nothing on the bus, and nothing disturbs
+/// it; each address that it has reserved is enrolled so. With n gear that have power and no short address, its survey
+/// sends at most 111 n + 209 frames. Three go to each of the 64 short addresses at the most: three questions where
+/// nobody answers, and the three queries of a random address where a gear does. Three wake gear, and then come a last
+/// probe of four, an opening of five, another last probe, and the close; for each of the n at most 25 probes of four
+/// frames, and 11 frames of visits.
 ///
 /// The gear may have short addresses from before, whoever gave them, and numbers that they drew or none. No more than
 /// 333 n + 628 events come.
 pub fn a_survey_is_bounded()
-    ensures frames { (s : SiteState) (c : ℕ) (es : List Event) → StartsAlone s c → SurveyRounds s c es
+    ensures frames { (s : SiteState) (c : ℕ) (es : List Event) → SurveysAlone s c → SurveyRounds s c es
         → frames es ≤ 111 * count_by is_bare (world s).gear + 209 }
-    ensures events { (s : SiteState) (c : ℕ) (es : List Event) → StartsAlone s c → SurveyRounds s c es
+    ensures events { (s : SiteState) (c : ℕ) (es : List Event) → SurveysAlone s c → SurveyRounds s c es
         → length es ≤ 333 * count_by is_bare (world s).gear + 628 }
 {}
 
 /// A SURVEY GOES ON OR HAS ENDED. At each moment of such a survey the controller has ended; or something is due for it
 /// that may be done, with no request waiting; or a request is next on the bus. It never halts.
 pub fn a_survey_goes_on()
-    ensures { (s : SiteState) (c : ℕ) (es : List Event) → StartsAlone s c → SurveyRounds s c es
+    ensures { (s : SiteState) (c : ℕ) (es : List Event) → SurveysAlone s c → SurveyRounds s c es
         → SurveyGoesOn (site_after s es) c }
 {}
 
@@ -149,12 +160,20 @@ pub fn a_survey_goes_on()
 /// heard whose number it does not know. It never gives up (`done`).
 ///
 /// Either way its table names each gear that has a short address, with its random address, whoever gave it; but one
-/// that had it before the survey, and then had no power or no number that gear draw (`table`).
+/// that had it before the survey, and then had no power or no number that gear draw (`table`). And each address that it
+/// has reserved is enrolled so (`settled`).
+///
+/// So one survey that nothing disturbs says all this at its end. Where it committed nothing, it was the table that it
+/// began with that names them (`quiet`). That three runs in a row be quiet is asked where the bus may lose answers.
 pub fn ends_of_surveys_are_true()
-    ensures done { (s : SiteState) (c : ℕ) (es : List Event) (e : End) → StartsAlone s c → SurveyRounds s c es
+    ensures done { (s : SiteState) (c : ℕ) (es : List Event) (e : End) → SurveysAlone s c → SurveyRounds s c es
         → HasEnded (site_after s es) c e → IsSurveyDone (site_after s es) c e }
-    ensures table { (s : SiteState) (c : ℕ) (es : List Event) (e : End) → StartsAlone s c → SurveyRounds s c es
+    ensures table { (s : SiteState) (c : ℕ) (es : List Event) (e : End) → SurveysAlone s c → SurveyRounds s c es
         → HasEnded (site_after s es) c e → IsSurveyTabled s (site_after s es) c }
+    ensures settled { (s : SiteState) (c : ℕ) (es : List Event) (e : End) → SurveysAlone s c → SurveyRounds s c es
+        → HasEnded (site_after s es) c e → IsSettledAt (site_after s es) c }
+    ensures quiet { (s : SiteState) (c : ℕ) (es : List Event) (e : End) → SurveysAlone s c → SurveyRounds s c es
+        → AllByRecursion CommitsNothing es → HasEnded (site_after s es) c e → WasTabled s (site_after s es) c }
 {}
 
 /// A SURVEY GIVES NOTHING AWAY WHERE IT HEARD SOMEBODY. Where a machine that began by a survey heard somebody under a

@@ -1,7 +1,7 @@
 use Rattle.std.proofs.Common.{◌≡◌, ℕ, ◌+◌, ◌-◌, ◌*◌, ◌<◌, ◌≤◌, ◌⊎◌, inl, inr, Bool, true, false, zero, suc, List, [], ◌∷◌, ◌++◌, refl, sym, ap, subst, ◌∙◌}
 use Rattle.std.proofs.Common.{arith}
 use Rattle.std.proofs.Common.{Option, Some, None}
-use Rattle.std.specs.Prelude.{◌==◌, ◌&&◌, ◌||◌, not, is_some, nat_lt, MatchOption, if◌then◌else◌}
+use Rattle.std.specs.Prelude.{◌==◌, ◌&&◌, ◌||◌, not, is_some, MatchOption, if◌then◌else◌}
 use Rattle.std.specs.List.{count_by}
 use Rattle.std.proofs.lemmas.Bool.Decides.{nat_tests}
 use Rattle.dali_frame.specs.declared.numbers.SearchAddress.{SearchAddress}
@@ -14,7 +14,7 @@ use Rattle.dali_special.proofs.Table.{read_written}
 use Rattle.dali_gear.specs.Gear.{Gear}
 use Rattle.dali_script.specs.declared.records.Record.{Record}
 use Rattle.dali_script.specs.declared.records.Record.TheVariants.{Reserve, Enrol}
-use Rattle.dali_script.specs.Records.{Assignment, Kept, Has, HasAddress, with_record}
+use Rattle.dali_script.specs.Records.{Assignment, Kept, Has, HasAddress, with_record, IsMap}
 use Rattle.dali_script.specs.declared.stage.Stage.{Stage}
 use Rattle.dali_script.specs.declared.stage.Stage.TheVariants as stage
 use Rattle.dali_script.specs.Findings.{finding_of}
@@ -43,10 +43,13 @@ use Rattle.dali_controller.proofs.Given.{IsGivenBy, IsNoEnrolment}
 use Rattle.dali_events.specs.Wanted.{is_wanted, wants, IsOpened, NoneNamed}
 use Rattle.dali_events.proofs.Search.Leaving.{SameCore}
 use Rattle.dali_progress.specs.Rounds.{AreTabled}
+use Rattle.dali_progress.specs.Surveys.{IsSettled}
+use Rattle.dali_progress.proofs.Sweep.Coming.{asked_later, asked_before, unasked_enrolled}
+use Rattle.dali_script.proofs.Members.{same_member}
 use Rattle.dali_progress.proofs.Stands.{search_frames, Sends}
 use Rattle.dali_progress.proofs.Turns.{begins_search}
-use Rattle.dali_progress.proofs.Survey.Queried.{TabledBelow, unseen, below_all}
-use Rattle.dali_progress.proofs.Survey.Stands.{wake_frames, AreBefore, IsOwn, searched_by, frames_after, Hunts, AreTaken, SurveyEnds}
+use Rattle.dali_progress.proofs.Survey.Queried.{OneShort, IsTrue, TabledBelow, unseen, below_all, below_named}
+use Rattle.dali_progress.proofs.Survey.Stands.{IsClear, wake_frames, IsOwn, searched_by, frames_after, Hunts, AreTaken, SurveyEnds}
 use Rattle.dali_progress.proofs.Survey.Stands.{SurveyAt, SurveyStands}
 
 -- A TRANSACTION OF A SURVEY BEGINS, or goes on; and what is to come of an order.
@@ -63,10 +66,11 @@ pub record EnrolsSwept (start : List Gear) (m : Machine) (a r : ℕ) (gs : List 
   pub asked : m.asked ≡ 0
   pub small : a < 64
   pub from_is : m.course.from ≡ a + 1
-  pub nothing : m.kept.reserved ≡ []
+  pub settled : IsSettled m.kept
+  pub clear : IsClear m.kept m.heard
+  pub unreserved : (c : ℕ) → Has m.kept.reserved (c, r) → ⊥
   pub same : SameCore start gs
   pub tabled : TabledBelow (a + 1) start (m.kept.enrolled ++ (a, r) ∷ []) gs
-  pub before : AreBefore a m.kept.enrolled
   pub frames : 3 * (63 - a) + wake_frames gs ≤ left
 
 -- a gear that was given its address is to be enrolled, and then a new search begins
@@ -77,6 +81,7 @@ pub record EnrolsHunted (start : List Gear) (m : Machine) (b r : ℕ) (gs : List
   pub ready : IsOpened (searched_by m.course.way gs)
   pub unnamed : NoneNamed (searched_by m.course.way gs)
   pub reserved : Has m.kept.reserved (b, r)
+  pub settled : (x : Assignment) → Has m.kept.reserved x → Has m.kept.enrolled x ⊎ (x.1 ≡ r)
   pub tabled : AreTabled (unseen start) ((b, r) ∷ m.kept.enrolled) (searched_by m.course.way gs)
   pub frames : search_frames (count_by is_wanted (searched_by m.course.way gs)) + frames_after m.course.way gs ≤ left
 
@@ -85,6 +90,7 @@ pub record ReservesHunted (start : List Gear) (m : Machine) (a r : ℕ) (gs : Li
   pub way : m.course.way ≡ Fresh → ⊥
   pub opened : m.opened ≡ true
   pub own : IsOwn m.kept m.heard
+  pub settled : IsSettled m.kept
   pub open_is : is_open m.kept m.heard a ≡ true
   pub ready : IsOpened (searched_by m.course.way gs)
   pub unnamed : NoneNamed (searched_by m.course.way gs)
@@ -104,7 +110,7 @@ SurveyCommits start m _ gs left = ⊥
 abbrev pub IsNext : List Gear → Machine → Order → List Gear → ℕ → Type 0
 IsNext start m (Put p f) gs left = SurveyStands start m gs left × Sends m.course.purpose m.course.number m.kept (stage_of m.trace) (command_of f)
 IsNext start m (Commit x) gs left = Calm m × SurveyCommits start m x gs left
-IsNext start m (Done e) gs left = SurveyEnds e m.kept m.heard gs × AreTabled (unseen start) m.kept.enrolled gs
+IsNext start m (Done e) gs left = SurveyEnds e m.kept m.heard gs × AreTabled (unseen start) m.kept.enrolled gs × IsSettled m.kept
 IsNext start m (Halt why) gs left = ⊥
 
 pub calm_ordered : (start : List Gear) (t : Machine) (o : Order) (gs : List Gear) (left : ℕ) → SurveyStands start t gs left → Calm (machine_ordered t o)
@@ -182,87 +188,85 @@ begins_whole t o s g at named closed found last tries later = go o g where
 
 -- ---------------------------------------------------------------- the next short address, or the wake
 
-asked_unnamed : (k : Kept) (f : ℕ) → (HasAddress k.enrolled f → ⊥) → is_asked k f ≡ true
-asked_unnamed k f none = go (number_at k.enrolled f) (found_number k.enrolled f) where
-  go : (o : Option ℕ) → MatchOption o (HasAddress k.enrolled f → ⊥) (λ r. Has k.enrolled (f, r)) → (not (is_some o) || is_some (number_at k.reserved f)) ≡ true
-  go None said = refl
-  go (Some r) has = absurd (none (has_map (λ (q : Assignment). q.0) k.enrolled (f, r) has))
-
-next_here : (k : Kept) (f : ℕ) → f < 64 → is_asked k f ≡ true → next_asked k f ≡ Some f
-next_here k f small is =
-    let more : 64 - f ≡ suc (64 - (f + 1)) = omega arith in
-    ap (λ n. asked_among k n f) more ∙ ap (λ b. if b then Some f else asked_among k (64 - (f + 1)) (f + 1)) is
-
-next_none : (k : Kept) (f : ℕ) → f ≡ 64 → next_asked k f ≡ None
-next_none k f is = let none : 64 - f ≡ 0 = omega (arith, is) in ap (λ n. asked_among k n f) none
-
-address_before : (xs : List Assignment) (f : ℕ) → AreBefore f xs → HasAddress xs f → ⊥
-address_before [] f before has = has
-address_before (p ∷ xs) f before (inl is) = let less : p.0 < f = before p.0 p.1 (inl refl) in omega (arith, is, less)
-address_before (p ∷ xs) f before (inr has) = address_before xs f (λ b r h. before b r (inr h)) has
+asked_within : (k : Kept) (n from c : ℕ) → asked_among k n from ≡ Some c → (from ≤ c) × (c < from + n)
+asked_within k zero from c e = absurd (cc)
+asked_within k (suc n) from c e = go (is_asked k from) e (asked_within k n (from + 1) c) where
+  go : (b : Bool) → (if b then Some from else asked_among k n (from + 1)) ≡ Some c
+      → (asked_among k n (from + 1) ≡ Some c → (from + 1 ≤ c) × (c < from + 1 + n)) → (from ≤ c) × (c < from + suc n)
+  go true e more = let same : from ≡ c = cc in (omega (arith, same), omega (arith, same))
+  go false e more = let there = more e in let low : from + 1 ≤ c = there.0 in let high : c < from + 1 + n = there.1 in (omega (arith, low), omega (arith, high))
 
 pub asks_on : (start : List Gear) (t : Machine) (o : Order) (f : ℕ) (gs : List Gear) (left : ℕ) → Calm t → o ≡ beginning (next_course t)
-    → next_course t ≡ goes_on_to t → t.course.way ≡ Surveying → t.opened ≡ false → t.asked ≡ 0 → t.course.from ≡ f → f ≤ 64 → t.kept.reserved ≡ []
-    → SameCore start gs → TabledBelow f start t.kept.enrolled gs → AreBefore f t.kept.enrolled → 3 * (64 - f) + wake_frames gs ≤ left
-    → IsNext start (machine_ordered t o) o gs left
-asks_on start t o f gs left calm is next surveys opened asked from few nothing same tabled before enough = go (nat_lt f 64) refl where
-  course : next_course t ≡ ask_or_wake t.course (next_asked t.kept f)
-  course =
-      next ∙ ap (λ b. going_on t.kept b t.course) opened ∙ ap (λ y. going_on_early t.kept y t.course) surveys
-      ∙ ap (λ n. ask_or_wake t.course (next_asked t.kept n)) from
+    → next_course t ≡ goes_on_to t → t.course.way ≡ Surveying → t.opened ≡ false → t.asked ≡ 0 → t.course.from ≡ f → f ≤ 64 → IsSettled t.kept
+    → IsClear t.kept t.heard → OneShort gs → IsTrue t.kept.enrolled gs → SameCore start gs → TabledBelow f start t.kept.enrolled gs
+    → 3 * (64 - f) + wake_frames gs ≤ left → IsNext start (machine_ordered t o) o gs left
+asks_on start t o f gs left calm is next surveys opened asked from few settled clear one holds same tabled enough =
+    go (next_asked t.kept f) course (asked_later t.kept (64 - f) f) (asked_before t.kept (64 - f) f) (asked_within t.kept (64 - f) f) where
+      course : next_course t ≡ ask_or_wake t.course (next_asked t.kept f)
+      course =
+          next ∙ ap (λ b. going_on t.kept b t.course) opened ∙ ap (λ y. going_on_early t.kept y t.course) surveys
+          ∙ ap (λ n. ask_or_wake t.course (next_asked t.kept n)) from
 
-  go : (b : Bool) → nat_lt f 64 ≡ b → IsNext start (machine_ordered t o) o gs left
-  go true less =
-      let small : f < 64 = grind (arith, nat_tests, less) in
-      let here : next_asked t.kept f ≡ Some f = next_here t.kept f small (asked_unnamed t.kept f (address_before t.kept.enrolled f before)) in
-      first_by start t o (asking t.course f) gs left calm is (course ∙ ap (ask_or_wake t.course) here) small (
-        surveys,
-        opened,
-        record {
-          small = small;
-          from_is = refl;
-          nothing = nothing;
-          same = same;
-          stage_is = inl asked;
-          tabled = tabled;
-          before = before;
-          frames = count (wake_frames gs) t.asked small asked enough;
-        },
-      )
-    where
-      count : (wake asked : ℕ) → f < 64 → asked ≡ 0 → 3 * (64 - f) + wake ≤ left → 3 * (63 - f) + (3 - asked) + wake ≤ left
-      count wake asked small none enough = omega (arith, small, none, enough)
-  go false over =
-      let past : 64 ≤ f = grind (arith, nat_tests, over) in
-      let end : f ≡ 64 = omega (arith, past, few) in
-      first_by start t o (waking t.course) gs left calm is (course ∙ ap (ask_or_wake t.course) (next_none t.kept f end)) tt (
-        surveys,
-        asked,
-        record {
-          stage_is = opened;
-          nothing = nothing;
-          gear = λ k in_row on. tt;
-          tabled = below_all start t.kept.enrolled gs same (subst (λ n. TabledBelow n start t.kept.enrolled gs) end tabled);
-          frames = count (wake_frames gs) enough;
-        },
-      )
-    where
-      count : (wake : ℕ) → 3 * (64 - f) + wake ≤ left → wake ≤ left + 0
-      count wake enough = omega (arith, enough)
+      go : (p : Option ℕ) → next_course t ≡ ask_or_wake t.course p
+          → (p ≡ None → (c : ℕ) → f ≤ c → c < f + (64 - f) → is_asked t.kept c ≡ false)
+          → ((d : ℕ) → p ≡ Some d → (c : ℕ) → f ≤ c → c < d → is_asked t.kept c ≡ false)
+          → ((d : ℕ) → p ≡ Some d → (f ≤ d) × (d < f + (64 - f))) → IsNext start (machine_ordered t o) o gs left
+      go (Some d) at none before within =
+          let there = within d refl in
+          let low : f ≤ d = there.0 in
+          let high : d < f + (64 - f) = there.1 in
+          let small : d < 64 = omega (arith, high, few) in
+          first_by start t o (asking t.course d) gs left calm is at small (
+            surveys,
+            opened,
+            record {
+              small = small;
+              from_is = refl;
+              settled = settled;
+              clear = clear;
+              same = same;
+              stage_is = inl asked;
+              tabled = below_named f d start t.kept.enrolled gs one holds tabled
+                  (λ c past under. unasked_enrolled t.kept c (before d refl c past under));
+              frames = count (wake_frames gs) d t.asked low small asked enough;
+            },
+          )
+        where
+          count : (wake d asked : ℕ) → f ≤ d → d < 64 → asked ≡ 0 → 3 * (64 - f) + wake ≤ left → 3 * (63 - d) + (3 - asked) + wake ≤ left
+          count wake d asked low small none enough = omega (arith, low, small, none, enough)
+      go None at none before within =
+          first_by start t o (waking t.course) gs left calm is at tt (
+            surveys,
+            asked,
+            record {
+              stage_is = opened;
+              settled = settled;
+              clear = clear;
+              gear = λ k in_row on. tt;
+              tabled = below_all start t.kept.enrolled gs same
+                  (below_named f 64 start t.kept.enrolled gs one holds tabled
+                  (λ c past under. unasked_enrolled t.kept c (none refl c past (omega (arith, under, few)))));
+              frames = count (wake_frames gs) enough;
+            },
+          )
+        where
+          count : (wake : ℕ) → 3 * (64 - f) + wake ≤ left → wake ≤ left + 0
+          count wake enough = omega (arith, enough)
 
 -- ---------------------------------------------------------------- a new search
 
 pub searches_by : (start : List Gear) (t : Machine) (o : Order) (y : Way) (rest : ℕ) (gs : List Gear) (left : ℕ) → Calm t → o ≡ beginning (next_course t)
     → next_course t ≡ searching_anew t.course → t.course.way ≡ y → (y ≡ Fresh → ⊥) → t.opened ≡ true → IsOwn t.kept t.heard
-    → IsOpened (searched_by y gs) → NoneNamed (searched_by y gs) → AreTabled (unseen start) t.kept.enrolled (searched_by y gs)
+    → IsSettled t.kept → IsOpened (searched_by y gs) → NoneNamed (searched_by y gs) → AreTabled (unseen start) t.kept.enrolled (searched_by y gs)
     → search_frames (count_by is_wanted (searched_by y gs)) ≤ rest → rest + frames_after y gs ≤ left → IsNext start (machine_ordered t o) o gs left
-searches_by start t o y rest gs left calm is next way other opened own ready unnamed tabled enough frames =
+searches_by start t o y rest gs left calm is next way other opened own settled ready unnamed tabled enough frames =
     first_by start t o (searching_anew t.course) gs left calm is next tt
     (subst (λ z. Hunts Probing z stage.Free t.kept t.heard t.opened (searching_anew t.course).search (searching_anew t.course).number start gs left) (sym way)
     (record {
       way = other;
       opened_is = opened;
       own = own;
+      settled = settled;
       rest = rest;
       at = (refl, begins_search t.course (searched_by y gs) rest ready unnamed enough);
       tabled = tabled;
@@ -325,8 +329,20 @@ own_reserved k heard a r own is c q has = go (has_cases k.reserved (a, r) (c, q)
       let two : r ≡ q = ap (λ (x : Assignment). x.1) same in
       subst (λ n. is_anothers k heard n q ≡ false) one (subst (λ n. is_anothers k heard a n ≡ false) two (open_own k heard a r is))
 
-pub own_none : (k : Kept) (heard : Shorts) → k.reserved ≡ [] → IsOwn k heard
-own_none k heard none a r has = absurd (subst (λ xs. Has xs (a, r)) none has)
+pub own_settled : (k : Kept) (heard : Shorts) → IsMap k.enrolled → IsSettled k → IsClear k heard → IsOwn k heard
+own_settled k heard map settled clear c q has =
+    not_both (has_short heard c) (is_another q (number_at k.enrolled c)) (clear c q has)
+    (go (number_at k.enrolled c) (found_number k.enrolled c)) where
+      entry : Has k.enrolled (c, q)
+      entry = settled (c, q) has
+
+      same : (m n : ℕ) → m ≡ n → not (m == n) ≡ false
+      same m n e = grind (arith, nat_tests, e)
+
+      go : (o : Option ℕ) → MatchOption o (HasAddress k.enrolled c → ⊥) (λ n. Has k.enrolled (c, n)) → is_another q o ≡ false
+      go None none = refl
+      go (Some n) there =
+          same n q (ap (λ (x : Assignment). x.1) (same_member (λ (x : Assignment). x.0) k.enrolled (c, n) (c, q) map.address_once there entry refl))
 
 -- ---------------------------------------------------------------- where none is open, all are taken
 

@@ -1,6 +1,8 @@
-use Rattle.std.proofs.Common.{◌≡◌, ℕ, ◌+◌, ◌*◌, ◌≤◌, ◌⊎◌, inl, inr, true, suc, List, [], ◌∷◌, refl, sym, ap, subst, ◌∙◌, arith, length}
+use Rattle.std.proofs.Common.{◌≡◌, ℕ, ◌+◌, ◌*◌, ◌≤◌, ◌⊎◌, inl, inr, suc, List, [], ◌∷◌, refl, sym, ap, subst, ◌∙◌, arith, length}
 use Rattle.std.proofs.Common.{Option, Some, None}
-use Rattle.std.specs.Prelude.{if◌then◌else◌}
+use Rattle.std.specs.Prelude.{◌==◌, if◌then◌else◌}
+use Rattle.std.proofs.lemmas.Nat.Bits.{bit_at-zero}
+use Rattle.dali_events.specs.Promise.{KeepsPromiseNow}
 use Rattle.std.proofs.lemmas.List.{append-nil}
 use Rattle.std.specs.List.{count_by}
 use Rattle.dali_frame.specs.declared.frames.Forward.{Forward}
@@ -12,6 +14,7 @@ use Rattle.dali_gear.specs.Row.{answers_of, heard_of}
 use Rattle.dali_arbiter.specs.declared.request.Request.{Request}
 use Rattle.dali_arbiter.specs.Arbiter.{total, next, request_of}
 use Rattle.dali_frame.specs.Priority.{FIRST, LATER}
+use Rattle.dali_script.specs.declared.records.Record.{Record}
 use Rattle.dali_script.specs.Records.{Has, without_records}
 use Rattle.dali_script.specs.declared.orders.Input.{Input}
 use Rattle.dali_script.specs.declared.orders.Input.TheVariants as input
@@ -36,13 +39,14 @@ use Rattle.dali_standing.specs.Seats.{MayAnswer}
 use Rattle.dali_standing.specs.Standing.{machine_in}
 use Rattle.dali_world.specs.Site.{SiteState, world, site_logged, machine_at, next_request}
 use Rattle.dali_progress.specs.Rounds.{StartsAlone, IsOfRound, site_after, is_frame, frames, HasEnded, HasNext, AreTabled}
-use Rattle.dali_progress.specs.Surveys.{Surveys, LeavesWhole, IsOfSurvey, SurveyRounds, SurveyGoesOn, SurveyEndsWell, IsSurveyDone, IsUnseen}
+use Rattle.dali_progress.specs.Surveys.{SurveysAlone, IsSettled, IsSettledAt, Surveys, LeavesWhole, IsOfSurvey, SurveyRounds, SurveyGoesOn, SurveyEndsWell}
+use Rattle.dali_progress.specs.Surveys.{IsSurveyDone, IsUnseen}
 use Rattle.dali_progress.specs.Surveys.{IsSurveyTabled}
-use Rattle.dali_progress.proofs.Lone.{Moment}
+use Rattle.dali_progress.proofs.Lone.{Rests, Moment}
 use Rattle.dali_progress.proofs.Goes.{IsKnown, slack_in}
 use Rattle.dali_progress.proofs.Bounded.{world_logged, run_logged, machines_logged, acted_machine, drawn_now, kept_now, nothing_waits, heard_free}
 use Rattle.dali_progress.proofs.Survey.Drawn.{numbered_of}
-use Rattle.dali_progress.proofs.Survey.Queried.{OneGear, IsPassed, core_self, unseen, unseen_was}
+use Rattle.dali_progress.proofs.Survey.Queried.{OneShort, IsTrue, IsPassed, core_self, unseen, unseen_was}
 use Rattle.dali_progress.proofs.Survey.Stands.{SurveyEnds}
 use Rattle.dali_progress.proofs.Survey.Goes.{Goes, Holds, IsSurveyed, goes_acted, goes_sent, sent_less}
 
@@ -56,16 +60,27 @@ pub record Runs (start : List Gear) (s : SiteState) (c left : ℕ) : Type 0 wher
   pub goes : Goes start (world s) s.queue c machine left
 
 -- what is known of it, since its log is a run
-one_now : (s : SiteState) → IsRun s.plan s.queue s.log → OneGear (world s).gear
-one_now s run g h a one two =
-    ((keeps_promise s.plan s.queue s.log run).always s.log [] (append-nil s.log)).one_gear g h a (one.there, one.short) (two.there, two.short)
+promise_now : (s : SiteState) → IsRun s.plan s.queue s.log → KeepsPromiseNow (world s)
+promise_now s run = (keeps_promise s.plan s.queue s.log run).always s.log [] (append-nil s.log)
+
+one_now : (s : SiteState) → IsRun s.plan s.queue s.log → OneShort (world s).gear
+one_now s run g h a in_row there one two = (promise_now s run).one_gear g h a (in_row, one) (there, two)
+
+true_now : (s : SiteState) (c : ℕ) → IsRun s.plan s.queue s.log → IsUp (world s) c → IsTrue (controller_at (world s) c).records.enrolled (world s).gear
+true_now s c run up a r has = let there = (promise_now s run).tables c (a, r) (up.known, has) in (there.0, there.1.0, there.1.1, there.2)
 
 agree_now : (s : SiteState) → IsRun s.plan s.queue s.log → FindingsAgree (world s)
 agree_now s run = findings_agree_in s.plan s.queue s.log [] (subst (λ es. IsRun s.plan s.queue es) (sym (append-nil s.log)) run)
 
 surveyed_now : (s : SiteState) (c : ℕ) → IsRun s.plan s.queue s.log → IsUp (world s) c → IsSurveyed (world s) c
 surveyed_now s c run up =
-    record { kept = kept_now s c run up; numbered = numbered_of (world s) (drawn_now s run); one = one_now s run; agree = agree_now s run }
+    record {
+      kept = kept_now s c run up;
+      numbered = numbered_of (world s) (drawn_now s run);
+      one = one_now s run;
+      holds = true_now s c run up;
+      agree = agree_now s run;
+    }
 
 -- frames that were sent are frames that are no longer left
 pub record RunsOn (start : List Gear) (s : SiteState) (c left : ℕ) (e : Event) : Type 0 where
@@ -93,6 +108,8 @@ acted_on start s c left i o r here surveys may whole = record {
   on =
       goes_acted start (world s) s.queue c r.machine i o left r.goes surveys here (subst (λ n. MayAnswer n i o) r.there may)
       (subst (λ n. LeavesWhole n i o) r.there whole) (surveyed_now s c r.run r.goes.lone.up)
+      (subst KeepsPromiseNow (world_logged s (event.Acted c i o))
+      (promise_now (site_logged s (event.Acted c i o)) (run_logged s (event.Acted c i o) r.run here)))
 
   less_acted : (x : ℕ) → x + 1 ≤ slack_in (world s) c → 3 * left + x + 1 ≤ 3 * left + slack_in (world s) c
   less_acted x less = omega (arith, less)
@@ -131,7 +148,8 @@ sent_by start s c left d f h u here of =
     subst (λ e. Allowed (world s) e → RunsOn start s c left e) (sym (ap (λ n. event.Sent n f h) of.2 ∙ ap (λ g. event.Sent of.0.sender g h) of.3))
     (λ now. sent_on start s c left of.0 h u now of.1 (of.4 ∙ ap (λ g. heard_of (answers_of Everyone (command_of g) 0 (world s).gear)) of.3)) here
 
-runs_on : (start : List Gear) (s : SiteState) (c left : ℕ) (e : Event) → Runs start s c left → Allowed (world s) e → IsOfSurvey s c e → RunsOn start s c left e
+pub runs_on : (start : List Gear) (s : SiteState) (c left : ℕ) (e : Event) → Runs start s c left → Allowed (world s) e → IsOfSurvey s c e
+    → RunsOn start s c left e
 runs_on start s c left (event.Acted d i o) u here of =
     subst (λ n. Allowed (world s) (event.Acted n i o) → RunsOn start s c left (event.Acted n i o)) (sym of.0)
     (λ now. acted_on start s c left i o u now of.1 of.2 of.3) here
@@ -165,10 +183,10 @@ runs_all start s c left (e ∷ es) u rounds =
     fewer last rest left x y z n one two = omega (arith, one, two)
 
 -- THE START
-starts : (s : SiteState) (c : ℕ) → StartsAlone s c → Runs (world s).gear s c (111 * count_by is_bare (world s).gear + 209)
+pub starts : (s : SiteState) (c : ℕ) → SurveysAlone s c → Runs (world s).gear s c (111 * count_by is_bare (world s).gear + 209)
 starts s c a = record {
   run = a.run;
-  machine = at_first c (without_records a.block);
+  machine = at_first c a.kept;
   there = a.machine;
   goes = record {
     lone = record {
@@ -182,8 +200,8 @@ starts s c a = record {
     holds = rw (a.last, a.told) (record {
       calm = record { tries = refl; silent = refl };
       free = refl;
-      nothing = refl;
-      empty = refl;
+      settled = a.settled;
+      unmarked = λ b. ap (λ n. n == 1) (bit_at-zero b);
       unopened = refl;
       unasked = refl;
       first = refl;
@@ -193,16 +211,31 @@ starts s c a = record {
   };
 }
 
-runs_after : (s : SiteState) (c : ℕ) (es : List Event) → StartsAlone s c → SurveyRounds s c es
+-- nothing kept is settled, so one that starts alone surveys alone
+pub starts_so : (s : SiteState) (c : ℕ) → StartsAlone s c → SurveysAlone s c
+starts_so s c a = record {
+  run = a.run;
+  up = a.up;
+  told = a.told;
+  last = a.last;
+  kept = without_records a.block;
+  records = a.records;
+  settled = λ x has. absurd has;
+  machine = a.machine;
+  bus = a.bus;
+  trace = a.trace;
+}
+
+runs_after : (s : SiteState) (c : ℕ) (es : List Event) → SurveysAlone s c → SurveyRounds s c es
     → RunsAll (world s).gear s c (111 * count_by is_bare (world s).gear + 209) es
 runs_after s c es a rounds = runs_all (world s).gear s c (111 * count_by is_bare (world s).gear + 209) es (starts s c a) rounds
 
 -- NO MORE FRAMES than these are sent
-pub bounded : (s : SiteState) (c : ℕ) (es : List Event) → StartsAlone s c → SurveyRounds s c es → frames es ≤ 111 * count_by is_bare (world s).gear + 209
+pub bounded : (s : SiteState) (c : ℕ) (es : List Event) → SurveysAlone s c → SurveyRounds s c es → frames es ≤ 111 * count_by is_bare (world s).gear + 209
 bounded s c es a rounds = let all = runs_after s c es a rounds in omega (arith, all.sum)
 
 -- and no more events come
-pub few_events : (s : SiteState) (c : ℕ) (es : List Event) → StartsAlone s c → SurveyRounds s c es → length es ≤ 333 * count_by is_bare (world s).gear + 628
+pub few_events : (s : SiteState) (c : ℕ) (es : List Event) → SurveysAlone s c → SurveyRounds s c es → length es ≤ 333 * count_by is_bare (world s).gear + 628
 few_events s c es a rounds =
     let all = runs_after s c es a rounds in
     let one : slack_in (world s) c ≡ 1 = rw (a.last) refl in
@@ -235,7 +268,7 @@ due_by start w q c m (Some (Commit x)) (Some i) left is told at holds = absurd a
 due_by start w q c m (Some (Done e)) (Some i) left is told at holds = absurd at
 due_by start w q c m (Some (Halt why)) (Some i) left is told at holds = absurd at
 
-pub goes_on : (s : SiteState) (c : ℕ) (es : List Event) → StartsAlone s c → SurveyRounds s c es → SurveyGoesOn (site_after s es) c
+pub goes_on : (s : SiteState) (c : ℕ) (es : List Event) → SurveysAlone s c → SurveyRounds s c es → SurveyGoesOn (site_after s es) c
 goes_on s c es a rounds =
     go (due_by (world s).gear (world (site_after s es)) _ c all.runs.machine (controller_at (world (site_after s es)) c).last
     (controller_at (world (site_after s es)) c).told all.rest refl refl all.runs.goes.lone.moment all.runs.goes.holds) where
@@ -250,8 +283,9 @@ goes_on s c es a rounds =
 -- ---------------------------------------------------------------- an end says what is true
 
 well_by : (start : List Gear) (m : Machine) (last : Option Order) (told : Option Input) (e : End) (gs : List Gear) (left : ℕ) → last ≡ Some (Done e)
-    → Holds start m last told gs left → SurveyEnds e m.kept m.heard gs × AreTabled (unseen start) m.kept.enrolled gs
-well_by start m (Some (Done x)) None e gs left is holds = (subst (λ y. SurveyEnds y m.kept m.heard gs) (let same : x ≡ e = cc in same) holds.0, holds.1)
+    → Holds start m last told gs left → SurveyEnds e m.kept m.heard gs × AreTabled (unseen start) m.kept.enrolled gs × IsSettled m.kept
+well_by start m (Some (Done x)) None e gs left is holds =
+    (subst (λ y. SurveyEnds y m.kept m.heard gs) (let same : x ≡ e = cc in same) holds.0, holds.1, holds.2)
 well_by start m (Some (Done x)) (Some i) e gs left is holds = absurd holds
 well_by start m None told e gs left is holds = absurd (cc)
 well_by start m (Some (Put p f)) told e gs left is holds = absurd (cc)
@@ -265,22 +299,46 @@ pub record EndsBy (s after : SiteState) (c : ℕ) (e : End) : Type 0 where
   pub kept : machine.kept ≡ (controller_at (world after) c).records
   pub well : SurveyEnds e machine.kept machine.heard (world after).gear
   pub tabled : AreTabled (unseen (world s).gear) machine.kept.enrolled (world after).gear
+  pub settled : IsSettled machine.kept
+  pub run : IsRun after.plan after.queue after.log
+  pub up : IsUp (world after) c
+  pub rests : Rests (world after) after.queue
 
-ended_by : (s : SiteState) (c : ℕ) (es : List Event) (e : End) → StartsAlone s c → SurveyRounds s c es → HasEnded (site_after s es) c e
+rests_by : (w : World) (q c : ℕ) (m : Machine) (out : Option Record) (last : Option Order) (told : Option Input) (e : End) → last ≡ Some (Done e)
+    → Moment w q c m out last told → Rests w q
+rests_by w q c m out (Some (Done x)) None e is at = at
+rests_by w q c m out (Some (Done x)) (Some i) e is at = absurd at
+rests_by w q c m out None told e is at = absurd (cc)
+rests_by w q c m out (Some (Put p f)) told e is at = absurd (cc)
+rests_by w q c m out (Some (Commit x)) told e is at = absurd (cc)
+rests_by w q c m out (Some (Halt why)) told e is at = absurd (cc)
+
+pub ended_by : (s : SiteState) (c : ℕ) (es : List Event) (e : End) → SurveysAlone s c → SurveyRounds s c es → HasEnded (site_after s es) c e
     → EndsBy s (site_after s es) c e
 ended_by s c es e a rounds ended =
     let all = runs_after s c es a rounds in
     let g = all.runs.goes in
     let well = well_by (world s).gear all.runs.machine (controller_at (world (site_after s es)) c).last (controller_at (world (site_after s es)) c).told e
     (world (site_after s es)).gear all.rest ended g.holds in
-    record { machine = all.runs.machine; there = all.runs.there; kept = g.lone.kept; well = well.0; tabled = well.1 }
+    record {
+      machine = all.runs.machine;
+      there = all.runs.there;
+      kept = g.lone.kept;
+      well = well.0;
+      tabled = well.1;
+      settled = well.2;
+      run = all.runs.run;
+      up = g.lone.up;
+      rests = rests_by (world (site_after s es)) _ c all.runs.machine (controller_at (world (site_after s es)) c).outstanding
+          (controller_at (world (site_after s es)) c).last (controller_at (world (site_after s es)) c).told e ended g.lone.moment;
+    }
 
 ends_so : (e : End) (m : Machine) (gs : List Gear) → SurveyEnds e m.kept m.heard gs → SurveyEndsWell e m gs
 ends_so AllFound m gs well = well
 ends_so BlockFull m gs well = well
 ends_so GaveUp m gs well = well
 
-pub ends : (s : SiteState) (c : ℕ) (es : List Event) (e : End) → StartsAlone s c → SurveyRounds s c es → HasEnded (site_after s es) c e
+pub ends : (s : SiteState) (c : ℕ) (es : List Event) (e : End) → SurveysAlone s c → SurveyRounds s c es → HasEnded (site_after s es) c e
     → IsSurveyDone (site_after s es) c e
 ends s c es e a rounds ended m there =
     let by = ended_by s c es e a rounds ended in
@@ -290,7 +348,7 @@ ends s c es e a rounds ended m there =
     one : (x y : Machine) → Some x ≡ Some y → x ≡ y
     one x y e = cc
 
-pub tabled : (s : SiteState) (c : ℕ) (es : List Event) (e : End) → StartsAlone s c → SurveyRounds s c es → HasEnded (site_after s es) c e
+pub tabled : (s : SiteState) (c : ℕ) (es : List Event) (e : End) → SurveysAlone s c → SurveyRounds s c es → HasEnded (site_after s es) c e
     → IsSurveyTabled s (site_after s es) c
 tabled s c es e a rounds ended g short in_row small is =
     let by = ended_by s c es e a rounds ended in go by (by.tabled g short in_row is) where
@@ -304,3 +362,7 @@ tabled s c es e a rounds ended g short in_row small is =
         passed (inl off) = inl off
         passed (inr (inl mask)) = inr mask
         passed (inr (inr large)) = absurd (omega (arith, small, large))
+
+pub settled : (s : SiteState) (c : ℕ) (es : List Event) (e : End) → SurveysAlone s c → SurveyRounds s c es → HasEnded (site_after s es) c e
+    → IsSettledAt (site_after s es) c
+settled s c es e a rounds ended = let by = ended_by s c es e a rounds ended in subst IsSettled by.kept by.settled

@@ -48,7 +48,9 @@ use Rattle.dali_events.specs.Laws.{FindingsAgree, HasFound}
 use Rattle.dali_events.proofs.Invariant.Sending.{lawful_of}
 use Rattle.dali_events.proofs.Search.Leaving.{SameCore}
 use Rattle.dali_standing.specs.Seats.{IsFound, informed_by}
-use Rattle.dali_progress.specs.Surveys.{Surveys}
+use Rattle.dali_progress.specs.Surveys.{Surveys, IsSettled}
+use Rattle.dali_controller.specs.Shorts.{has_short}
+use Rattle.dali_events.specs.Promise.{KeepsPromiseNow}
 use Rattle.dali_progress.proofs.Lone.{IsLone, Moment, IsDueOf, due_of, Addresses, heard_kept, acted_there, sent_there, acted_last, acted_told, lone_acted}
 use Rattle.dali_progress.proofs.Lone.{lone_next, lone_sent}
 use Rattle.dali_progress.proofs.Lone.{sent_last}
@@ -56,9 +58,9 @@ use Rattle.dali_progress.proofs.Frames.{Seeks}
 use Rattle.dali_progress.proofs.Turns.{never_eight, with_kept}
 use Rattle.dali_progress.proofs.Goes.{slack, slack_in, slack_one, slack_first, not_free, no_tries, addresses_by, put_no_enrolment, IsKnown, taken_of}
 use Rattle.dali_progress.proofs.Survey.Drawn.{AreNumbered, apart_drawn}
-use Rattle.dali_progress.proofs.Survey.Queried.{OneGear, below_none}
+use Rattle.dali_progress.proofs.Survey.Queried.{OneShort, IsTrue, below_none}
 use Rattle.dali_progress.proofs.Survey.Stands.{wake_frames, SurveyAt, SurveyStands}
-use Rattle.dali_progress.proofs.Survey.Sent.{IsSurveyTaken, SurveySent, survey_sent}
+use Rattle.dali_progress.proofs.Survey.Sent.{IsSurveyTaken, IsTold, SurveySent, survey_sent}
 use Rattle.dali_progress.proofs.Survey.Begins.{Calm, SurveyCommits, IsNext, asks_on}
 use Rattle.dali_progress.proofs.Survey.Turns.{IsUncontradicted}
 use Rattle.dali_progress.proofs.Survey.Hunting.{turned}
@@ -70,8 +72,8 @@ use Rattle.dali_progress.proofs.Survey.Kept.{committed, committed_begins}
 pub record IsUnsurveyed (start : List Gear) (m : Machine) (gs : List Gear) (left : ℕ) : Type 0 where
   pub calm : Calm m
   pub free : m.trace ≡ []
-  pub nothing : m.kept.reserved ≡ []
-  pub empty : m.kept.enrolled ≡ []
+  pub settled : IsSettled m.kept
+  pub unmarked : (c : ℕ) → has_short m.heard c ≡ false
   pub unopened : m.opened ≡ false
   pub unasked : m.asked ≡ 0
   pub first : m.course.from ≡ 0
@@ -166,15 +168,15 @@ no_enrolment_yet : IsNoEnrolment None
 no_enrolment_yet b n e = cc
 
 survey_acts : (start : List Gear) (m : Machine) (o : Order) (gs : List Gear) (left : ℕ) (told : Option Input) → m.last ≡ None
-    → IsGivenBy (machine_surveying m) o → IsUnsurveyed start m gs left → ActsTo start (machine_ordered (machine_surveying m) o) o gs left None told
-survey_acts start m o gs left told last g v =
-    let t : Machine = machine_surveying m in
+    → IsGivenBy (machine_surveying m) o → OneShort gs → IsTrue m.kept.enrolled gs → IsUnsurveyed start m gs left
+    → ActsTo start (machine_ordered (machine_surveying m) o) o gs left None told
+survey_acts start m o gs left told last g one holds v =
     let at : stage_of m.trace ≡ stage.Free = ap stage_of v.free ∙ stage_none in
     let begins : o ≡ beginning (next_course (machine_surveying m)) =
     given.begins_free (machine_surveying m) o g v.free (subst IsNoEnrolment (sym last) no_enrolment_yet) (never_eight m.tries v.calm.tries) in (
       asks_on start (machine_surveying m) o 0 gs left (record { tries = v.calm.tries; silent = v.calm.silent }) begins
-          (ap (begins_at (machine_surveying m)) at ∙ ap (at_rest (machine_surveying m)) last) refl v.unopened v.unasked v.first (omega arith) v.nothing v.same
-          (below_none start m.kept.enrolled gs) (λ b r has. absurd (subst (λ xs. Has xs (b, r)) v.empty has)) (count (wake_frames gs) v.frames),
+          (ap (begins_at (machine_surveying m)) at ∙ ap (at_rest (machine_surveying m)) last) refl v.unopened v.unasked v.first (omega arith) v.settled
+          (λ c q has. v.unmarked c) one holds v.same (below_none start m.kept.enrolled gs) (count (wake_frames gs) v.frames),
       begins_slack o (machine_surveying m) 1 begins (omega arith),
     )
   where
@@ -182,12 +184,14 @@ survey_acts start m o gs left told last g v =
     count wake enough = omega (arith, enough)
 
 heard_acts : (start : List Gear) (m : Machine) (p : ℕ) (f : Forward) (h : Answer) (o : Order) (gs : List Gear) (left : ℕ)
-    → m.last ≡ Some (Put p f) → IsGivenBy (machine_told m (input.Heard h)) o → IsKept m.kept → AreNumbered gs
+    → m.last ≡ Some (Put p f) → IsGivenBy (machine_told m (input.Heard h)) o → IsKept m.kept → AreNumbered gs → OneShort gs
+    → IsTrue (machine_told m (input.Heard h)).kept.enrolled gs
     → IsUncontradicted (machine_told m (input.Heard h)) → IsWhole (machine_after m (input.Heard h) o) → Hears start m f h gs left
     → ActsTo start (machine_after m (input.Heard h) o) o gs left (Some (Put p f)) (Some (input.Heard h))
-heard_acts start m p f h o gs left is g kept numbered agreed whole hears = (
+heard_acts start m p f h o gs left is g kept numbered one holds agreed whole hears = (
   subst (λ t. IsNext start (machine_ordered t o) o gs left) (sym same)
-      (turned start (machine_heard m (Some f) h) o gs left (subst (λ t. IsGivenBy t o) same g) hears.stands kept numbered (subst IsUncontradicted same agreed)
+      (turned start (machine_heard m (Some f) h) o gs left (subst (λ t. IsGivenBy t o) same g) hears.stands kept numbered one
+      (subst (λ (t : Machine). IsTrue t.kept.enrolled gs) same holds) (subst IsUncontradicted same agreed)
       (subst (λ t. IsWhole (machine_ordered t o)) same whole) (put_no_enrolment p f m.last is) hears.running),
   (let one : slack (Some o) None ≤ 1 = slack_one o in omega (arith, one)),
 ) where
@@ -195,11 +199,13 @@ heard_acts start m p f h o gs left is g kept numbered agreed whole hears = (
   same = ap (λ l. machine_heard m (frame_put l) h) is
 
 kept_acts : (start : List Gear) (m : Machine) (x : Record) (o : Order) (gs : List Gear) (left : ℕ) (told : Option Input) → m.last ≡ Some (Commit x)
-    → IsGivenBy (machine_told m input.Committed) o → IsKept m.kept → m.trace ≡ [] → Calm m × SurveyCommits start m x gs left
+    → IsGivenBy (machine_told m input.Committed) o → IsKept m.kept → OneShort gs
+    → IsTrue (machine_told m input.Committed).kept.enrolled gs → m.trace ≡ [] → Calm m × SurveyCommits start m x gs left
     → ActsTo start (machine_after m input.Committed o) o gs left (Some (Commit x)) told
-kept_acts start m x o gs left told is g kept free commits = (
+kept_acts start m x o gs left told is g kept one holds free commits = (
   subst (λ t. IsNext start (machine_ordered t o) o gs left) (sym same)
-      (committed start m x o gs left commits.0 commits.1 free is kept.reserved (subst (λ t. IsGivenBy t o) same g)),
+      (committed start m x o gs left commits.0 commits.1 free is kept.reserved (subst (λ t. IsGivenBy t o) same g) one
+      (subst (λ (t : Machine). IsTrue t.kept.enrolled gs) same holds)),
   begins_slack o (with_kept m x) 1 (committed_begins start m x o gs left commits.0 commits.1 free is kept.reserved (subst (λ t. IsGivenBy t o) same g))
       (omega arith),
 ) where
@@ -208,29 +214,30 @@ kept_acts start m x o gs left told is g kept free commits = (
 
 acts : (start : List Gear) (w : World) (q c : ℕ) (m : Machine) (out : Option Record) (last : Option Order) (told : Option Input) (i : Input) (o : Order)
     (left : ℕ) → Moment w q c m out last told → m.last ≡ last → IsDueOf last told i → Surveys i → IsGivenBy (machine_told m i) o → IsKept m.kept
-    → AreNumbered w.gear → ((b : Answer) → i ≡ input.Heard b → IsUncontradicted (machine_told m i)) → IsWhole (machine_after m i o)
+    → AreNumbered w.gear → OneShort w.gear → IsTrue (machine_told m i).kept.enrolled w.gear
+    → ((b : Answer) → i ≡ input.Heard b → IsUncontradicted (machine_told m i)) → IsWhole (machine_after m i o)
     → Holds start m last told w.gear left → ActsTo start (machine_after m i o) o w.gear left last told
-acts start w q c m out None (Some input.Start) input.Survey o left at is due surveys g kept numbered agreed whole holds =
-    survey_acts start m o w.gear left (Some input.Start) is g holds
-acts start w q c m out (Some (Put p f)) (Some (input.Heard h)) (input.Heard a) o left at is due surveys g kept numbered agreed whole holds =
+acts start w q c m out None (Some input.Start) input.Survey o left at is due surveys g kept numbered one true_table agreed whole holds =
+    survey_acts start m o w.gear left (Some input.Start) is g one true_table holds
+acts start w q c m out (Some (Put p f)) (Some (input.Heard h)) (input.Heard a) o left at is due surveys g kept numbered one true_table agreed whole holds =
     let same : h ≡ a = cc in
     subst (λ b. ActsTo start (machine_after m (input.Heard a) o) o w.gear left (Some (Put p f)) (Some (input.Heard b))) (sym same)
-    (heard_acts start m p f a o w.gear left is g kept numbered (agreed a refl) whole (subst (λ b. Hears start m f b w.gear left) same holds))
-acts start w q c m out (Some (Commit x)) None input.Committed o left at is due surveys g kept numbered agreed whole holds =
-    kept_acts start m x o w.gear left None is g kept at.1 holds
-acts start w q c m out last told input.CommitFailed o left at is due surveys g kept numbered agreed whole holds = absurd surveys
-acts start w q c m out last told input.Start o left at is due surveys g kept numbered agreed whole holds = absurd surveys
-acts start w q c m out None told input.Committed o left at is due surveys g kept numbered agreed whole holds = absurd due
-acts start w q c m out (Some (Put p f)) told input.Committed o left at is due surveys g kept numbered agreed whole holds = absurd due
-acts start w q c m out (Some (Done e)) told input.Committed o left at is due surveys g kept numbered agreed whole holds = absurd due
-acts start w q c m out (Some (Halt why)) told input.Committed o left at is due surveys g kept numbered agreed whole holds = absurd due
-acts start w q c m out None None i o left at is due surveys g kept numbered agreed whole holds = absurd at
-acts start w q c m out None (Some input.Start) i o left at is due surveys g kept numbered agreed whole holds = absurd (cc)
-acts start w q c m out None (Some j) i o left at is due surveys g kept numbered agreed whole holds = absurd at
-acts start w q c m out (Some (Put p f)) (Some (input.Heard h)) i o left at is due surveys g kept numbered agreed whole holds = absurd (cc)
-acts start w q c m out (Some (Put p f)) (Some j) i o left at is due surveys g kept numbered agreed whole holds = absurd at
-acts start w q c m out (Some l) (Some j) i o left at is due surveys g kept numbered agreed whole holds = absurd at
-acts start w q c m out (Some l) None i o left at is due surveys g kept numbered agreed whole holds = absurd (cc)
+    (heard_acts start m p f a o w.gear left is g kept numbered one true_table (agreed a refl) whole (subst (λ b. Hears start m f b w.gear left) same holds))
+acts start w q c m out (Some (Commit x)) None input.Committed o left at is due surveys g kept numbered one true_table agreed whole holds =
+    kept_acts start m x o w.gear left None is g kept one true_table at.1 holds
+acts start w q c m out last told input.CommitFailed o left at is due surveys g kept numbered one true_table agreed whole holds = absurd surveys
+acts start w q c m out last told input.Start o left at is due surveys g kept numbered one true_table agreed whole holds = absurd surveys
+acts start w q c m out None told input.Committed o left at is due surveys g kept numbered one true_table agreed whole holds = absurd due
+acts start w q c m out (Some (Put p f)) told input.Committed o left at is due surveys g kept numbered one true_table agreed whole holds = absurd due
+acts start w q c m out (Some (Done e)) told input.Committed o left at is due surveys g kept numbered one true_table agreed whole holds = absurd due
+acts start w q c m out (Some (Halt why)) told input.Committed o left at is due surveys g kept numbered one true_table agreed whole holds = absurd due
+acts start w q c m out None None i o left at is due surveys g kept numbered one true_table agreed whole holds = absurd at
+acts start w q c m out None (Some input.Start) i o left at is due surveys g kept numbered one true_table agreed whole holds = absurd (cc)
+acts start w q c m out None (Some j) i o left at is due surveys g kept numbered one true_table agreed whole holds = absurd at
+acts start w q c m out (Some (Put p f)) (Some (input.Heard h)) i o left at is due surveys g kept numbered one true_table agreed whole holds = absurd (cc)
+acts start w q c m out (Some (Put p f)) (Some j) i o left at is due surveys g kept numbered one true_table agreed whole holds = absurd at
+acts start w q c m out (Some l) (Some j) i o left at is due surveys g kept numbered one true_table agreed whole holds = absurd at
+acts start w q c m out (Some l) None i o left at is due surveys g kept numbered one true_table agreed whole holds = absurd (cc)
 
 -- ---------------------------------------------------------------- one event more of the controller
 
@@ -280,15 +287,16 @@ next_holds start m (Halt why) gs left next = next
 pub record IsSurveyed (w : World) (c : ℕ) : Type 0 where
   pub kept : IsKept (controller_at w c).records
   pub numbered : AreNumbered w.gear
-  pub one : OneGear w.gear
+  pub one : OneShort w.gear
+  pub holds : IsTrue (controller_at w c).records.enrolled w.gear
   pub agree : FindingsAgree w
 
 pub goes_acted : (start : List Gear) (w : World) (q c : ℕ) (m : Machine) (i : Input) (o : Order) (left : ℕ) → Goes start w q c m left → Surveys i
-    → Allowed w (event.Acted c i o) → IsGiven m i o → IsWhole (machine_after m i o) → IsSurveyed w c
+    → Allowed w (event.Acted c i o) → IsGiven m i o → IsWhole (machine_after m i o) → IsSurveyed w c → KeepsPromiseNow (happens w (event.Acted c i o))
     → Goes start (happens w (event.Acted c i o)) q c (machine_after m i o) left × (slack_in (happens w (event.Acted c i o)) c + 1 ≤ slack_in w c)
-goes_acted start w q c m i o left goes surveys here given whole known = (
+goes_acted start w q c m i o left goes surveys here given whole known promise = (
   record {
-    lone = lone_acts w q c m i o goes.lone surveys (addresses_by o by.ordered.addressing) here;
+    lone = lone;
     found = subst (λ k. IsFound k (machine_after m i o)) (sym (acted_there w c i o goes.lone.up))
         (ordered_found (controller_at w c).finding (machine_told m i) o found);
     holds = rw (acted_last w c i o goes.lone.up, acted_told w c i o goes.lone.up)
@@ -298,6 +306,15 @@ goes_acted start w q c m i o left goes surveys here given whole known = (
 ) where
   by : IsGivenBy (machine_told m i) o
   by = given_by m i o (not_failed i surveys) given
+
+  lone : IsLone (happens w (event.Acted c i o)) q c (machine_after m i o)
+  lone = lone_acts w q c m i o goes.lone surveys (addresses_by o by.ordered.addressing) here
+
+  -- its table, with what was kept now
+  holds : IsTrue (machine_told m i).kept.enrolled w.gear
+  holds a r has =
+      let there = promise.tables c (a, r) (lone.up.known, subst (λ k. Has k.enrolled (a, r)) lone.kept has) in
+      (there.0, there.1.0, there.1.1, there.2)
 
   found : later (controller_at w c).finding (finding_of (machine_told m i).trace) ≡ (controller_at w c).finding
   found =
@@ -312,7 +329,7 @@ goes_acted start w q c m i o left goes surveys here given whole known = (
   out : ActsTo start (machine_after m i o) o w.gear left (controller_at w c).last (controller_at w c).told
   out =
       acts start w q c m (controller_at w c).outstanding (controller_at w c).last (controller_at w c).told i o left goes.lone.moment goes.lone.last
-      (due_of (controller_at w c) i here.due) surveys by (subst IsKept (sym goes.lone.kept) known.kept) known.numbered agreed whole goes.holds
+      (due_of (controller_at w c) i here.due) surveys by (subst IsKept (sym goes.lone.kept) known.kept) known.numbered known.one holds agreed whole goes.holds
 
 -- ---------------------------------------------------------------- its frame is sent
 
@@ -408,11 +425,16 @@ goes_sent start w q c m r h left goes is here known surveyed heard =
           numbered = surveyed.numbered;
           apart = apart_drawn w known.drawn;
         } in
+        let told_so : IsTold m.kept w.gear =
+        record {
+          kept = subst IsKept (sym goes.lone.kept) surveyed.kept;
+          holds = subst (λ k. IsTrue k.enrolled w.gear) (sym goes.lone.kept) surveyed.holds;
+        } in
         let sent : SurveySent m.course.purpose m.course.way
         (stage_of m.trace) m.kept m.heard m.opened m.asked m.course.search m.course.number m.course.from start
         w.gear w.left left (command_of r.frame) h =
         survey_sent m.course.purpose m.course.way (stage_of m.trace) m.kept m.heard m.opened m.asked m.course.search m.course.number m.course.from start w.gear
-        w.left left (command_of r.frame) h holds.0.at holds.1 taken (subst (λ t. Seeks (stage_of t) w.gear) same known.seeks) in
+        w.left left (command_of r.frame) h holds.0.at holds.1 taken told_so (subst (λ t. Seeks (stage_of t) w.gear) same known.seeks) in
         let lawful : IsLawful m.trace r.frame = (
           (controller_at w c).records.block,
           (controller_at w c).records.reserved,

@@ -1,4 +1,4 @@
-use Rattle.std.proofs.Common.{◌≡◌, ℕ, ◌+◌, ◌-◌, ◌*◌, ◌<◌, ◌≤◌, inl, inr, Bool, true, false, List, [], ◌∷◌, refl, sym, ap, subst, ◌∙◌, arith, length}
+use Rattle.std.proofs.Common.{◌≡◌, ℕ, ◌+◌, ◌-◌, ◌*◌, ◌<◌, ◌≤◌, ◌⊎◌, inl, inr, Bool, true, false, List, [], ◌∷◌, refl, sym, ap, subst, ◌∙◌, arith, length}
 use Rattle.std.proofs.Common.{Option, Some, None}
 use Rattle.std.specs.Prelude.{◌&&◌, ◌==◌, if◌then◌else◌, is_some, MatchOption}
 use Rattle.std.specs.List.{count_by}
@@ -43,14 +43,16 @@ use Rattle.dali_events.specs.Wanted.{gear_of, is_wanted, wants, is_bare, OfPower
 use Rattle.dali_events.proofs.Search.Wanted as wanted
 use Rattle.dali_events.proofs.Search.Opened as opening
 use Rattle.dali_progress.specs.Rounds.{AreTabled}
-use Rattle.dali_progress.specs.Surveys.{NoneButUndrawn}
+use Rattle.dali_progress.specs.Surveys.{NoneButUndrawn, IsSettled}
+use Rattle.dali_script.proofs.Lists.{has_map}
+use Rattle.dali_script.proofs.Members.{same_member}
 use Rattle.dali_progress.proofs.Stands.{to_come, search_frames, Opens, Probes, VisitFrames, Visits, Leaves, At}
 use Rattle.dali_progress.proofs.Tables.{tabled_over}
 use Rattle.dali_progress.proofs.Turns.{never_eight, all_have, close_frames, probed_at, has_address, drawn_of, goes_on_anew}
 use Rattle.dali_progress.proofs.Accounted.{surveyed_mask, open_is}
 use Rattle.dali_progress.proofs.Survey.Drawn.{those_drawn, is_undrawn, is_lost, AreNumbered, bare_split, drawn_tabled, kept_at, drawn_length, undrawn_random}
 use Rattle.dali_progress.proofs.Survey.Drawn.{count_nothing}
-use Rattle.dali_progress.proofs.Survey.Queried.{unseen}
+use Rattle.dali_progress.proofs.Survey.Queried.{OneShort, IsTrue, unseen}
 use Rattle.dali_progress.proofs.Survey.Stands.{IsOwn, searched_by, frames_after, Hunts, SurveyCloses, SurveyAt, SurveyStands}
 use Rattle.dali_progress.proofs.Survey.Begins.{Calm, IsNext, calm_of, calm_ordered, later_by, turns_by, first_by, searches_by, all_taken}
 use Rattle.dali_progress.proofs.Survey.Turns.{IsUncontradicted, found_at, sweep_turns, wake_turns}
@@ -83,7 +85,7 @@ opening_turns start t o stage.Opened gs left g st last purpose is running v =
           let count : count_by is_wanted gs ≡ count_by is_bare gs = opening.opened_count gs here.gear in
           searches_by start t o Drawing (search_frames (count_by is_bare gs)) gs left (calm_of start t gs left st)
           (given.begins_after t o stage.Opened g is tt (found_at start t gs left stage.Opened st is) last (never_eight t.tries st.tries))
-          (ap (begins_at t) is) v.way (λ e. cc) v.opened_is v.own (opening.opened_is gs here.gear) (opening.opened_none_named gs here.gear)
+          (ap (begins_at t) is) v.way (λ e. cc) v.opened_is v.own v.settled (opening.opened_is gs here.gear) (opening.opened_none_named gs here.gear)
           (subst (λ ks. AreTabled (unseen start) t.kept.enrolled ks) same tabled)
           (omega (arith, count)) (enough (count_by is_bare gs) v.rest (frames_after t.course.way gs) here.frames v.frames)
 opening_turns start t o _ gs left g st last purpose is running v = absurd v.at.stage_is
@@ -114,18 +116,19 @@ probed_next t h r is = ap (begins_at t) is
 -- the search is over: gear draw new numbers, or the close comes
 search_over : (start : List Gear) (t : Machine) (o : Order) (y : Way) (h : Answer) (r : SearchAddress) (rest : ℕ) (gs : List Gear) (left : ℕ) → Calm t
     → o ≡ beginning (next_course t) → stage_of t.trace ≡ stage.Probed r h → t.course.way ≡ y → (y ≡ Fresh → ⊥) → t.opened ≡ true → IsOwn t.kept t.heard
+    → IsSettled t.kept
     → (answered t.course.search (is_yes h)).step ≡ Nobody → OfPowered (searched_by y gs) HasShort
     → AreTabled (unseen start) t.kept.enrolled (searched_by y gs) → 1 ≤ rest + 0 → rest + frames_after y gs ≤ left
     → IsNext start (machine_ordered t o) o gs left
-search_over start t o Fresh h r rest gs left calm begins is way other opened own nobody all tabled some enough = absurd (other refl)
-search_over start t o Drawing h r rest gs left calm begins is way other opened own nobody all tabled some enough =
+search_over start t o Fresh h r rest gs left calm begins is way other opened own settled nobody all tabled some enough = absurd (other refl)
+search_over start t o Drawing h r rest gs left calm begins is way other opened own settled nobody all tabled some enough =
     first_by start t o (closing_by (record t.course { search = answered t.course.search (is_yes h) }) AllFound) gs left calm begins
     (probed_next t h r is ∙ ap (λ s. probed_to t s (record t.course { search = answered t.course.search (is_yes h) })) nobody
     ∙ ap (λ b. draw_or_close b (record t.course { search = answered t.course.search (is_yes h) }) AllFound) (ap (draws_by t) way)) tt
-    (record { stage_is = tt; well = inl all; tabled = tabled; frames = count rest some enough }) where
+    (record { stage_is = tt; well = inl all; settled = settled; tabled = tabled; frames = count rest some enough }) where
       count : (rest : ℕ) → 1 ≤ rest + 0 → rest + 0 ≤ left → 1 ≤ left + 0
       count rest some enough = omega (arith, some, enough)
-search_over start t o Surveying h r rest gs left calm begins is way other opened own nobody all tabled some enough = go (has_open t) refl where
+search_over start t o Surveying h r rest gs left calm begins is way other opened own settled nobody all tabled some enough = go (has_open t) refl where
   next : next_course t ≡ draw_or_close (has_open t) (record t.course { search = answered t.course.search (is_yes h) }) AllFound
   next =
       probed_next t h r is ∙ ap (λ s. probed_to t s (record t.course { search = answered t.course.search (is_yes h) })) nobody
@@ -145,6 +148,7 @@ search_over start t o Surveying h r rest gs left calm begins is way other opened
         way = refl;
         opened_is = opened;
         own = own;
+        settled = settled;
         rest = 10 + 111 * count_by is_bare gs;
         at = record { stage_is = refl; gear = λ k in_row on. tt; frames = omega arith };
         tabled = whole_table;
@@ -158,6 +162,7 @@ search_over start t o Surveying h r rest gs left calm begins is way other opened
       (record {
         stage_is = tt;
         well = inr (all_taken t.kept t.heard (nothing (least_open t.kept t.heard) none), none_but gs all);
+        settled = settled;
         tabled = whole_table;
         frames = count rest (111 * count_by is_lost gs + 9) some enough;
       }) where
@@ -203,14 +208,23 @@ probing_turns start t o (stage.Probed r h) gs left g st last purpose is running 
       let there = probed_at Again t.kept t.course (is_yes h) (searched_by t.course.way gs) v.rest e p.ready p.unnamed narrowing agrees p.frames in
       first_by start t o (after_step Again (record t.course { search = answered t.course.search (is_yes h) })) gs left (calm_of start t gs left st) begins
       (next Again e) there.0
-      (record { way = v.way; opened_is = v.opened_is; own = v.own; rest = v.rest; at = there.1; tabled = v.tabled; frames = v.frames })
+      (record { way = v.way; opened_is = v.opened_is; own = v.own; settled = v.settled; rest = v.rest; at = there.1; tabled = v.tabled; frames = v.frames })
   go (Found q) e =
       let there = probed_at (Found q) t.kept t.course (is_yes h) (searched_by t.course.way gs) v.rest e p.ready p.unnamed narrowing agrees p.frames in
       first_by start t o (after_step (Found q) (record t.course { search = answered t.course.search (is_yes h) })) gs left (calm_of start t gs left st) begins
       (next (Found q) e) there.0
-      (record { way = v.way; opened_is = v.opened_is; own = v.own; rest = v.rest; at = there.1; tabled = v.tabled; frames = v.frames })
+      (record {
+        way = v.way;
+        opened_is = v.opened_is;
+        own = v.own;
+        settled = λ x has. inl (v.settled x has);
+        rest = v.rest;
+        at = there.1;
+        tabled = v.tabled;
+        frames = v.frames;
+      })
   go Nobody e =
-      search_over start t o t.course.way h r v.rest gs left (calm_of start t gs left st) begins is refl v.way v.opened_is v.own e
+      search_over start t o t.course.way h r v.rest gs left (calm_of start t gs left st) begins is refl v.way v.opened_is v.own v.settled e
       (all_have (searched_by t.course.way gs) (answered t.course.search (is_yes h)) p.ready narrowing agrees e) v.tabled
       (close_frames (length t.course.search.answers) (count_by is_wanted (searched_by t.course.way gs)) v.rest p.frames) v.frames
 probing_turns start t o _ gs left g st last purpose is running v = absurd v.at.1.stage_is
@@ -266,6 +280,14 @@ unnamed_turns start t o r gs left g st kept purpose is v =
       some (inl e) = let enough : 7 + search_frames w.more ≤ v.rest + 4 = e.1 in omega (arith, enough)
       some (inr e) = omega (arith, e)
 
+      -- nothing is reserved for the number, so all that is reserved is enrolled
+      settled : (HasRandom t.kept.reserved (value_of r) → ⊥) → IsSettled t.kept
+      settled none x has = by (v.settled x has) where
+        by : Has t.kept.enrolled x ⊎ (x.1 ≡ value_of t.course.number) → Has t.kept.enrolled x
+        by (inl enrolled) = enrolled
+        by (inr number) =
+            absurd (none (subst (HasRandom t.kept.reserved) (number ∙ sym same) (has_map (λ (q : Assignment). q.1) t.kept.reserved x has)))
+
       reserves : (a : ℕ) → is_open t.kept t.heard a ≡ true → (HasRandom t.kept.reserved (value_of r) → ⊥)
           → IsNext start (machine_ordered t (Commit (Reserve a (value_of r)))) (Commit (Reserve a (value_of r))) gs left
       reserves a free none = (
@@ -274,6 +296,7 @@ unnamed_turns start t o r gs left g st kept purpose is v =
           way = v.way;
           opened = v.opened_is;
           own = v.own;
+          settled = settled none;
           open_is = free;
           ready = w.ready;
           unnamed = w.unnamed;
@@ -305,6 +328,7 @@ unnamed_turns start t o r gs left g st kept purpose is v =
           (record {
             stage_is = tt;
             well = all_taken t.kept t.heard least;
+            settled = settled none;
             tabled = names t.course.way v.way v.tabled;
             frames = count v.rest (frames_after t.course.way gs) (some w.frames) v.frames;
           })
@@ -331,6 +355,18 @@ withdrawn_turns start t o r a gs left g st kept purpose is v agreed = go o g (g.
   tabled : AreTabled (unseen start) ((a, value_of r) ∷ t.kept.enrolled) (searched_by t.course.way gs)
   tabled = subst (λ (m : SearchAddress). AreTabled (unseen start) ((a, value_of m) ∷ t.kept.enrolled) (searched_by t.course.way gs)) (sym w.searched) v.tabled
 
+  same : value_of t.course.number ≡ value_of r
+  same = ap value_of (sym w.searched)
+
+  -- the one that is reserved for the number is that entry
+  settled : Has t.kept.enrolled (a, value_of r) → IsSettled t.kept
+  settled entry x has = by (v.settled x has) where
+    by : Has t.kept.enrolled x ⊎ (x.1 ≡ value_of t.course.number) → Has t.kept.enrolled x
+    by (inl enrolled) = enrolled
+    by (inr number) =
+        subst (Has t.kept.enrolled)
+        (sym (same_member (λ (q : Assignment). q.1) t.kept.reserved x (a, value_of r) kept.reserved.random_once has reserved (number ∙ same))) entry
+
   twice : (x : Assignment) → Has ((a, value_of r) ∷ t.kept.enrolled) x → Has t.kept.enrolled (a, value_of r) → Has t.kept.enrolled x
   twice x (inl same) has = subst (Has t.kept.enrolled) same has
   twice x (inr h) has = h
@@ -339,6 +375,7 @@ withdrawn_turns start t o r a gs left g st kept purpose is v agreed = go o g (g.
   go (Put p f) g has =
       searches_by start t (Put p f) t.course.way v.rest gs left (calm_of start t gs left st)
       (given.withdrawn_known t (Put p f) r a g is kept.enrolled has) (ap (begins_at t) is ∙ goes_on_anew t v.opened_is) refl v.way v.opened_is v.own
+      (settled has)
       w.ready w.unnamed
       (tabled_over (unseen start) ((a, value_of r) ∷ t.kept.enrolled) t.kept.enrolled (searched_by t.course.way gs) (λ x h. twice x h has) tabled)
       w.frames v.frames
@@ -351,10 +388,15 @@ withdrawn_turns start t o r a gs left g st kept purpose is v agreed = go o g (g.
       ready = w.ready;
       unnamed = w.unnamed;
       reserved = reserved;
+      settled = λ x is. by x (v.settled x is);
       tabled = tabled;
       frames = count (search_frames (count_by is_wanted (searched_by t.course.way gs))) v.rest (frames_after t.course.way gs) w.frames v.frames;
     }),
   ) where
+    by : (x : Assignment) → Has t.kept.enrolled x ⊎ (x.1 ≡ value_of t.course.number) → Has t.kept.enrolled x ⊎ (x.1 ≡ value_of r)
+    by x (inl enrolled) = inl enrolled
+    by x (inr number) = inr (number ∙ same)
+
     count : (search rest after : ℕ) → search ≤ rest → rest + after ≤ left → search + after ≤ left
     count search rest after one two = omega (arith, one, two)
   go (Done e) g has = absurd has
@@ -389,20 +431,22 @@ closing_turns start t o e stage.Free gs left g st purpose is running v = absurd 
 closing_turns start t o e stage.Terminated gs left g st purpose is running v =
     let ends : o ≡ Done e =
     given.closed t o e g (ap closing_of purpose) is (found_at start t gs left stage.Terminated st is) (never_eight t.tries st.tries) in
-    subst (λ q. IsNext start (machine_ordered t q) q gs left) (sym ends) (v.well, v.tabled)
+    subst (λ q. IsNext start (machine_ordered t q) q gs left) (sym ends) (v.well, v.tabled, v.settled)
 closing_turns start t o e _ gs left g st purpose is running v = absurd v.stage_is
 
 -- ---------------------------------------------------------------- of whatever transaction
 
 -- after a frame that was heard
 pub turned : (start : List Gear) (t : Machine) (o : Order) (gs : List Gear) (left : ℕ) → IsGivenBy t o → SurveyStands start t gs left → IsKept t.kept
-    → AreNumbered gs → IsUncontradicted t → IsWhole (machine_ordered t o) → IsNoEnrolment t.last → (stage_of t.trace ≡ stage.Free → ⊥)
+    → AreNumbered gs → OneShort gs → IsTrue t.kept.enrolled gs → IsUncontradicted t → IsWhole (machine_ordered t o) → IsNoEnrolment t.last
+    → (stage_of t.trace ≡ stage.Free → ⊥)
     → IsNext start (machine_ordered t o) o gs left
-turned start t o gs left g st kept numbered agreed whole last running = go t.course.purpose refl st.at where
+turned start t o gs left g st kept numbered one holds agreed whole last running = go t.course.purpose refl st.at where
   go : (p : Purpose) → t.course.purpose ≡ p → SurveyAt p t.course.way (stage_of t.trace) t.kept t.heard t.opened t.asked t.course.search t.course.number
       t.course.from start gs left → IsNext start (machine_ordered t o) o gs left
-  go (Asking a) purpose at = sweep_turns start t o a (stage_of t.trace) gs left g st last purpose refl running at.0 at.1 at.2 numbered agreed whole
-  go Waking purpose at = wake_turns start t o (stage_of t.trace) gs left g st last purpose refl running at.0 at.2 numbered whole
+  go (Asking a) purpose at =
+      sweep_turns start t o a (stage_of t.trace) gs left g st last purpose refl running at.0 at.1 at.2 kept numbered one holds agreed whole
+  go Waking purpose at = wake_turns start t o (stage_of t.trace) gs left g st last purpose refl running at.0 at.2 kept numbered whole
   go Opening purpose at = opening_turns start t o (stage_of t.trace) gs left g st last purpose refl running at
   go Probing purpose at = probing_turns start t o (stage_of t.trace) gs left g st last purpose refl running at
   go Visiting purpose at = visiting_turns start t o (stage_of t.trace) gs left g st kept purpose refl running at agreed

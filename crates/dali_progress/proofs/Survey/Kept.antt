@@ -1,18 +1,19 @@
 use Rattle.std.proofs.Common.{◌≡◌, ℕ, ◌+◌, ◌-◌, ◌*◌, ◌<◌, ◌≤◌, ◌⊎◌, inl, inr, true, List, [], ◌∷◌, ◌++◌, refl, sym, ap, subst, ◌∙◌, arith}
 use Rattle.std.proofs.Common.{Some}
 use Rattle.std.specs.List.{count_by}
+use Rattle.dali_frame.specs.Random.{value_of}
 use Rattle.dali_gear.specs.Gear.{Gear}
 use Rattle.dali_script.specs.declared.records.Record.{Record}
 use Rattle.dali_script.specs.declared.records.Record.TheVariants.{Reserve, Enrol}
 use Rattle.dali_script.specs.Records.{Assignment, Has, HasRandom, IsMap}
 use Rattle.dali_script.specs.declared.stage.Stage.TheVariants as stage
 use Rattle.dali_script.specs.Stages.{stage_of}
-use Rattle.dali_script.proofs.Lists.{has_last, has_cases}
+use Rattle.dali_script.proofs.Lists.{has_last, has_before, has_cases}
 use Rattle.dali_script.proofs.Members.{same_member}
 use Rattle.dali_script.proofs.Transactions.{stage_none}
 use Rattle.dali_script.specs.declared.orders.Order.{Order}
 use Rattle.dali_script.specs.declared.orders.Order.TheVariants.{Commit}
-use Rattle.dali_controller.specs.Course.{visiting}
+use Rattle.dali_controller.specs.Course.{visiting, sought}
 use Rattle.dali_controller.specs.Machine.{Machine}
 use Rattle.dali_controller.specs.Next.{next_course, begins_at, at_rest, beginning}
 use Rattle.dali_controller.specs.Orders.{machine_ordered}
@@ -23,7 +24,7 @@ use Rattle.dali_progress.proofs.Stands.{search_frames}
 use Rattle.dali_progress.proofs.Frames.{value_sought}
 use Rattle.dali_progress.proofs.Tables.{tabled_over}
 use Rattle.dali_progress.proofs.Turns.{never_eight, no_enrolment, has_random, entry_last, goes_on_anew, with_kept}
-use Rattle.dali_progress.proofs.Survey.Queried.{unseen}
+use Rattle.dali_progress.proofs.Survey.Queried.{OneShort, IsTrue, unseen}
 use Rattle.dali_progress.proofs.Survey.Stands.{wake_frames, searched_by}
 use Rattle.dali_progress.proofs.Survey.Begins.{Calm, EnrolsSwept, EnrolsHunted, ReservesHunted, SurveyCommits, IsNext, first_by, asks_on, searches_by}
 use Rattle.dali_progress.proofs.Survey.Begins.{own_enrolled, own_reserved}
@@ -35,22 +36,19 @@ use Rattle.dali_progress.proofs.Survey.Begins.{own_enrolled, own_reserved}
 swept_begins : (start : List Gear) (m : Machine) (a r : ℕ) (o : Order) (gs : List Gear) (left : ℕ) → EnrolsSwept start m a r gs left → m.trace ≡ []
     → m.last ≡ Some (Commit (Enrol a r)) → IsGivenBy (with_kept m (Enrol a r)) o → o ≡ beginning (next_course (with_kept m (Enrol a r)))
 swept_begins start m a r o gs left v free last g =
-    given.enrolled (with_kept m (Enrol a r)) o a r g last free (λ c has. absurd (subst (λ xs. Has xs (c, r)) v.nothing has))
+    given.enrolled (with_kept m (Enrol a r)) o a r g last free (λ c has. absurd (v.unreserved c has))
 
 swept_next : (start : List Gear) (m : Machine) (a r : ℕ) (o : Order) (gs : List Gear) (left : ℕ) → Calm m → EnrolsSwept start m a r gs left → m.trace ≡ []
-    → m.last ≡ Some (Commit (Enrol a r)) → IsGivenBy (with_kept m (Enrol a r)) o → IsNext start (machine_ordered (with_kept m (Enrol a r)) o) o gs left
-swept_next start m a r o gs left calm v free last g =
+    → m.last ≡ Some (Commit (Enrol a r)) → IsGivenBy (with_kept m (Enrol a r)) o → OneShort gs → IsTrue (m.kept.enrolled ++ (a, r) ∷ []) gs
+    → IsNext start (machine_ordered (with_kept m (Enrol a r)) o) o gs left
+swept_next start m a r o gs left calm v free last g one holds =
     let at : stage_of m.trace ≡ stage.Free = ap stage_of free ∙ stage_none in
     asks_on start (with_kept m (Enrol a r)) o (a + 1) gs left (record { tries = calm.tries; silent = calm.silent })
     (swept_begins start m a r o gs left v free last g)
     (ap (begins_at (with_kept m (Enrol a r))) at ∙ ap (at_rest (with_kept m (Enrol a r))) last) v.way v.opened v.asked v.from_is
-    (let small : a < 64 = v.small in omega (arith, small)) v.nothing v.same v.tabled
-    (λ c q has. before c q (has_cases m.kept.enrolled (a, r) (c, q) has)) (count (wake_frames gs) v.small v.frames)
+    (let small : a < 64 = v.small in omega (arith, small)) (λ x has. has_before m.kept.enrolled (a, r) x (v.settled x has)) v.clear one holds v.same v.tabled
+    (count (wake_frames gs) v.small v.frames)
   where
-    before : (c q : ℕ) → Has m.kept.enrolled (c, q) ⊎ (◌≡◌ {A = Assignment} (a, r) (c, q)) → c < a + 1
-    before c q (inl has) = let less : c < a = v.before c q has in omega (arith, less)
-    before c q (inr same) = let is : a ≡ c = ap (λ (x : Assignment). x.0) same in omega (arith, is)
-
     count : (wake : ℕ) → a < 64 → 3 * (63 - a) + wake ≤ left → 3 * (64 - (a + 1)) + wake ≤ left
     count wake small enough = omega (arith, small, enough)
 
@@ -74,10 +72,17 @@ hunted_next start m b r o gs left calm v free last map g =
     v.opened
     (own_enrolled m.kept m.heard b r v.own (λ q has. ap (λ (x : Assignment). x.1)
     (same_member (λ (x : Assignment). x.0) m.kept.reserved (b, q) (b, r) map.address_once has v.reserved refl)))
+    (λ x has. settled x has (v.settled x has))
     v.ready v.unnamed
     (tabled_over (unseen start) ((b, r) ∷ m.kept.enrolled) (m.kept.enrolled ++ (b, r) ∷ []) (searched_by m.course.way gs) (entry_last m.kept.enrolled (b, r))
     v.tabled)
     (omega arith) v.frames
+  where
+    settled : (x : Assignment) → Has m.kept.reserved x → Has m.kept.enrolled x ⊎ (x.1 ≡ r) → Has (m.kept.enrolled ++ (b, r) ∷ []) x
+    settled x has (inl entry) = has_before m.kept.enrolled (b, r) x entry
+    settled x has (inr number) =
+        subst (Has (m.kept.enrolled ++ (b, r) ∷ []))
+        (sym (same_member (λ (q : Assignment). q.1) m.kept.reserved x (b, r) map.random_once has v.reserved number)) (has_last m.kept.enrolled (b, r))
 
 reserved_begins : (m : Machine) (a r : ℕ) (o : Order) → Calm m → m.trace ≡ [] → m.last ≡ Some (Commit (Reserve a r)) → IsGivenBy (with_kept m (Reserve a r)) o
     → o ≡ beginning (next_course (with_kept m (Reserve a r)))
@@ -94,6 +99,7 @@ reserved_next start m a r o gs left calm v free last g =
       way = v.way;
       opened_is = v.opened;
       own = own_reserved m.kept m.heard a r v.own v.open_is;
+      settled = λ x has. settled x (has_cases m.kept.reserved (a, r) x has);
       rest = 7 + search_frames v.more;
       at = (
         refl,
@@ -120,15 +126,20 @@ reserved_next start m a r o gs left calm v free last g =
       tabled = v.tabled;
       frames = v.frames;
     })
+  where
+    settled : (x : Assignment) → Has m.kept.reserved x ⊎ ((a, r) ≡ x) → Has m.kept.enrolled x ⊎ (x.1 ≡ value_of (sought r))
+    settled x (inl has) = inl (v.settled x has)
+    settled x (inr same) = inr (sym (ap (λ (q : Assignment). q.1) same) ∙ sym (value_sought r))
 
 -- ---------------------------------------------------------------- of whichever
 
 pub committed : (start : List Gear) (m : Machine) (x : Record) (o : Order) (gs : List Gear) (left : ℕ) → Calm m → SurveyCommits start m x gs left → m.trace ≡ []
-    → m.last ≡ Some (Commit x) → IsMap m.kept.reserved → IsGivenBy (with_kept m x) o → IsNext start (machine_ordered (with_kept m x) o) o gs left
-committed start m (Reserve a r) o gs left calm v free last map g = reserved_next start m a r o gs left calm v free last g
-committed start m (Enrol b r) o gs left calm (inl v) free last map g = swept_next start m b r o gs left calm v free last g
-committed start m (Enrol b r) o gs left calm (inr v) free last map g = hunted_next start m b r o gs left calm v free last map g
-committed start m _ o gs left calm v free last map g = absurd v
+    → m.last ≡ Some (Commit x) → IsMap m.kept.reserved → IsGivenBy (with_kept m x) o → OneShort gs
+    → IsTrue (with_kept m x).kept.enrolled gs → IsNext start (machine_ordered (with_kept m x) o) o gs left
+committed start m (Reserve a r) o gs left calm v free last map g one holds = reserved_next start m a r o gs left calm v free last g
+committed start m (Enrol b r) o gs left calm (inl v) free last map g one holds = swept_next start m b r o gs left calm v free last g one holds
+committed start m (Enrol b r) o gs left calm (inr v) free last map g one holds = hunted_next start m b r o gs left calm v free last map g
+committed start m _ o gs left calm v free last map g one holds = absurd v
 
 pub committed_begins : (start : List Gear) (m : Machine) (x : Record) (o : Order) (gs : List Gear) (left : ℕ) → Calm m → SurveyCommits start m x gs left
     → m.trace ≡ [] → m.last ≡ Some (Commit x) → IsMap m.kept.reserved → IsGivenBy (with_kept m x) o → o ≡ beginning (next_course (with_kept m x))

@@ -28,6 +28,18 @@ pub record Holds (gs : List Gear) (g a : ℕ) : Type 0 where
 abbrev pub OneGear : List Gear → Type 0
 OneGear gs = (g h a : ℕ) → Holds gs g a → Holds gs h a → g ≡ h
 
+-- and whether they have power or not
+abbrev pub OneShort : List Gear → Type 0
+OneShort gs =
+    (g h a : ℕ) → g < length gs → h < length gs → (gear_of gs g).short ≡ Some a → (gear_of gs h).short ≡ Some a → g ≡ h
+
+pub one_gear : (gs : List Gear) → OneShort gs → OneGear gs
+one_gear gs one g h a first second = one g h a first.there second.there first.short second.short
+
+-- each entry of the table is true
+abbrev pub IsTrue : List Assignment → List Gear → Type 0
+IsTrue xs gs = (a r : ℕ) → Has xs (a, r) → (g : ℕ) × (g < length gs) × ((gear_of gs g).short ≡ Some a) × ((gear_of gs g).random ≡ r)
+
 abbrev pub Nobody : List Gear → ℕ → Type 0
 Nobody gs a = (g : ℕ) → Holds gs g a → ⊥
 
@@ -257,6 +269,19 @@ below_next b start xs ys gs same tabled more here g a h short less = go (nat_lt 
           → ((gear_of (unseen start) g).short ≡ Some a) ⊎ Has ys (a, (gear_of gs g).random)
       by (inl mask) = inl (passed_before start gs g a same h short (inr (inl mask)))
       by (inr has) = inr (subst (λ n. Has ys (n, (gear_of gs g).random)) (sym is) has)
+
+-- those that the table names need not be asked
+pub below_named : (f d : ℕ) (start : List Gear) (xs : List Assignment) (gs : List Gear) → OneShort gs → IsTrue xs gs → TabledBelow f start xs gs
+    → ((c : ℕ) → f ≤ c → c < d → (r : ℕ) × Has xs (c, r)) → TabledBelow d start xs gs
+below_named f d start xs gs one holds tabled named g a h short less = go (nat_lt a f) refl where
+  go : (t : Bool) → nat_lt a f ≡ t → ((gear_of (unseen start) g).short ≡ Some a) ⊎ Has xs (a, (gear_of gs g).random)
+  go true under = tabled g a h short (let low : a < f = grind (arith, nat_tests, under) in low)
+  go false over =
+      let past : f ≤ a = grind (arith, nat_tests, over) in
+      let entry = named a past less in
+      let there = holds a entry.0 entry.1 in
+      let same : there.0 ≡ g = one there.0 g a there.1 h there.2 short in
+      inr (subst (λ r. Has xs (a, r)) (sym there.3 ∙ ap (λ i. (gear_of gs i).random) same) entry.1)
 
 pub below_none : (start : List Gear) (xs : List Assignment) (gs : List Gear) → TabledBelow 0 start xs gs
 below_none start xs gs g a h short less = absurd (omega (arith, less))

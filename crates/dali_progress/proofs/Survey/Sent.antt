@@ -1,7 +1,7 @@
 use Rattle.std.proofs.Common.{◌≡◌, ℕ, ◌+◌, ◌-◌, ◌*◌, ◌<◌, ◌≤◌, ◌⊎◌, inl, inr, Bool, true, false, zero, suc, List, [], ◌∷◌, refl, sym, ap, subst, ◌∙◌, arith}
 use Rattle.std.proofs.Common.{length}
 use Rattle.std.proofs.Common.{Some, None}
-use Rattle.std.specs.Prelude.{nat_lt, ◌&&◌}
+use Rattle.std.specs.Prelude.{◌==◌, nat_lt, ◌&&◌, if◌then◌else◌}
 use Rattle.std.proofs.lemmas.Bool.Decides.{nat_tests}
 use Rattle.dali_frame.specs.declared.frames.Answer.{Answer}
 use Rattle.dali_frame.specs.declared.frames.Answer.TheVariants.{Silence, Byte}
@@ -17,7 +17,13 @@ use Rattle.dali_gear.specs.declared.row.Reach.TheVariants.{Everyone}
 use Rattle.dali_gear.specs.Gear.{Gear, byte_at, draws_a_number}
 use Rattle.dali_gear.specs.Row.{takes, left_after, row_after, drawn_one, drawn_of, answers_of, heard_of}
 use Rattle.dali_gear.proofs.RowLemmas.{needs_none}
-use Rattle.dali_script.specs.Records.{Kept, Has}
+use Rattle.dali_script.proofs.Lists.{has_map}
+use Rattle.std.proofs.lemmas.Nat.Bits.{bit_at_set_other, bit_at_clear_same, bit_at_clear_other}
+use Rattle.std.proofs.Common.{w64}
+use Rattle.dali_controller.specs.Shorts.{has_short, with_short, without_short}
+use Rattle.dali_events.proofs.Search.Wanted.{number_same, same_number}
+use Rattle.dali_progress.specs.Surveys.{IsSettled}
+use Rattle.dali_script.specs.Records.{Assignment, IsKept, Kept, Has}
 use Rattle.dali_script.specs.declared.stage.Stage.{Stage}
 use Rattle.dali_script.specs.declared.stage.Stage.TheVariants as stage
 use Rattle.dali_script.specs.Stages.{next_stage}
@@ -31,7 +37,7 @@ use Rattle.dali_controller.specs.declared.shorts.Shorts.{Shorts}
 use Rattle.dali_controller.specs.declared.way.Way.{Way}
 use Rattle.dali_controller.specs.declared.way.Way.TheVariants.{Fresh, Surveying, Drawing}
 use Rattle.dali_controller.specs.Course.{sought}
-use Rattle.dali_controller.specs.Machine.{opened_after, woken_after, heard_after, asked_after, asked_after_silence, asked_at}
+use Rattle.dali_controller.specs.Machine.{opened_after, woken_after, heard_after, asked_after, asked_after_silence, asked_at, marked_at}
 use Rattle.dali_controller.proofs.Courses.{not_woken}
 use Rattle.dali_events.specs.Wanted.{gear_of, AreApart, IsOpened}
 use Rattle.dali_events.proofs.Invariant.Takes.{row_length}
@@ -47,8 +53,10 @@ use Rattle.dali_progress.proofs.Tables.{IsTabledTo, at_tabled, tabled_left}
 use Rattle.dali_progress.proofs.Survey.Drawn.{those_drawn, IsSearching, IsSoughtBy, AreNumbered, not_randomise, row_drawn, answers_drawn, searching_of}
 use Rattle.dali_progress.proofs.Survey.Drawn.{no_draw}
 use Rattle.dali_progress.proofs.Survey.Drawn.{still_of, lost_same, seek_drawn}
-use Rattle.dali_progress.proofs.Survey.Queried.{Holds, OneGear, Nobody, HasAnswered, asked_gear, core_then, holds_on, holds_back, unseen, below_on}
-use Rattle.dali_progress.proofs.Survey.Stands.{wake_frames, silent_left, asked_left, Tells, AskStage, Sweeps, Wakes, searched_by, frames_after}
+use Rattle.dali_progress.proofs.Survey.Queried.{Holds, OneGear, OneShort, one_gear, IsTrue, Nobody, HasAnswered, asked_gear, core_then, holds_on, holds_back}
+use Rattle.dali_progress.proofs.Survey.Queried.{unseen, below_on}
+use Rattle.dali_progress.proofs.Survey.Stands.{IsClear, IsClearBut, IsClearAt, wake_frames, silent_left, asked_left, Tells, AskStage, Sweeps, Wakes}
+use Rattle.dali_progress.proofs.Survey.Stands.{searched_by, frames_after}
 use Rattle.dali_progress.proofs.Survey.Stands.{IsOnWay, opened_at, Hunts, SurveyEnds, SurveyCloses, SurveyAt}
 
 -- A FRAME OF A SURVEY IS SENT, and one frame less is left.
@@ -56,9 +64,29 @@ use Rattle.dali_progress.proofs.Survey.Stands.{IsOnWay, opened_at, Hunts, Survey
 -- what is known of the gear, beside what was heard
 pub record IsSurveyTaken (c : Command) (gs : List Gear) (numbers : List ℕ) (h : Answer) : Type 0 where
   pub taken : IsTaken c gs numbers h
-  pub one : OneGear gs
+  pub one : OneShort gs
   pub numbered : AreNumbered gs
   pub apart : IsOpened (those_drawn gs) → AreApart (those_drawn gs)
+
+-- and of the records
+pub record IsTold (k : Kept) (gs : List Gear) : Type 0 where
+  pub kept : IsKept k
+  pub holds : IsTrue k.enrolled gs
+
+-- ---------------------------------------------------------------- marks
+
+with_other : (s : Shorts) (b c : ℕ) → b < 64 → (c ≡ b → ⊥) → has_short (with_short s b) c ≡ has_short s c
+with_other s b c small apart = ap (λ n. n == 1) (bit_at_set_other w64 s.bits b small c apart)
+
+without_same : (s : Shorts) (b c : ℕ) → b < 64 → c ≡ b → has_short (without_short s b) c ≡ false
+without_same s b c small same = subst (λ n. has_short (without_short s b) n ≡ false) (sym same) (ap (λ n. n == 1) (bit_at_clear_same w64 s.bits b small))
+
+without_other : (s : Shorts) (b c : ℕ) → b < 64 → c < 64 → (c ≡ b → ⊥) → has_short (without_short s b) c ≡ has_short s c
+without_other s b c small within apart = ap (λ n. n == 1) (bit_at_clear_other w64 s.bits b small c within apart)
+
+clear_with : (k : Kept) (heard : Shorts) (b a : ℕ) → b ≡ a → a < 64 → IsClearBut k heard a → IsClearBut k (with_short heard b) a
+clear_with k heard b a same small clear c q has apart =
+    with_other heard b c (subst (λ n. n < 64) (sym same) small) (λ e. apart (e ∙ same)) ∙ clear c q has apart
 
 -- ---------------------------------------------------------------- a question
 
@@ -81,17 +109,17 @@ nobody_on : (gs hs : List Gear) (a : ℕ) → SameCore gs hs → Nobody gs a →
 nobody_on gs hs a same none g holds = none g (holds_back gs hs g a same holds)
 
 -- the same sweep, one frame later
-sweeps_on : (a : ℕ) (s t : Stage) (k : Kept) (asked now from : ℕ) (start gs hs : List Gear) (left l : ℕ) → Sweeps a s k asked from start gs left
-    → SameCore gs hs
-    → AskStage t a now hs → 3 * (63 - a) + asked_left t now + wake_frames gs ≤ l → Sweeps a t k now from start hs l
-sweeps_on a s t k asked now from start gs hs left l v same stage enough = record {
+sweeps_on : (a : ℕ) (s t : Stage) (k : Kept) (marks after : Shorts) (asked now from : ℕ) (start gs hs : List Gear) (left l : ℕ)
+    → Sweeps a s k marks asked from start gs left → SameCore gs hs → AskStage t a now hs → IsClearAt t a k after
+    → 3 * (63 - a) + asked_left t now + wake_frames gs ≤ l → Sweeps a t k after now from start hs l
+sweeps_on a s t k marks after asked now from start gs hs left l v same stage clear enough = record {
   small = v.small;
   from_is = v.from_is;
-  nothing = v.nothing;
+  settled = v.settled;
+  clear = clear;
   same = core_then start gs hs v.same same;
   stage_is = stage;
   tabled = below_on a start k.enrolled gs hs same v.tabled;
-  before = v.before;
   frames = subst (λ n. 3 * (63 - a) + asked_left t now + (111 * n + 17) ≤ l) (sym (leaving.core_count_bare gs hs same)) enough;
 }
 
@@ -106,56 +134,60 @@ spend : (base need now wake left : ℕ) → base + need + wake ≤ left → now 
 spend base need now wake zero enough less = absurd (omega (arith, enough, less))
 spend base need now wake (suc l) enough less = (l, refl, omega (arith, enough, less))
 
-abbrev SweptTo : ℕ → Stage → Kept → ℕ → ℕ → List Gear → List Gear → List ℕ → ℕ → Command → Answer → Type 0
-SweptTo a s k asked from start gs numbers left c h =
+abbrev SweptTo : ℕ → Stage → Kept → Shorts → ℕ → ℕ → List Gear → List Gear → List ℕ → ℕ → Command → Answer → Type 0
+SweptTo a s k marks asked from start gs numbers left c h =
     (l : ℕ) × (left ≡ suc l)
-    × Sweeps a (next_stage s c h) k (asked_at (next_stage s c h) h asked) from start (row_after Everyone c 0 gs numbers) l
+    × Sweeps a (next_stage s c h) k (marked_at (next_stage s c h) h marks) (asked_at (next_stage s c h) h asked) from start
+    (row_after Everyone c 0 gs numbers) l
 
-first_asked : (a : ℕ) (k : Kept) (asked from : ℕ) (start gs : List Gear) (numbers : List ℕ) (left : ℕ) (h : Answer)
-    → Sweeps a stage.Free k asked from start gs left → OneGear gs → h ≡ heard_of (answers_of Everyone (RandomByte a High) 0 gs)
-    → SweptTo a stage.Free k asked from start gs numbers left (RandomByte a High) h
-first_asked a k asked from start gs numbers left h v one heard = go (heard_high a High gs h one heard) where
+first_asked : (a : ℕ) (k : Kept) (marks : Shorts) (asked from : ℕ) (start gs : List Gear) (numbers : List ℕ) (left : ℕ) (h : Answer)
+    → Sweeps a stage.Free k marks asked from start gs left → OneGear gs → h ≡ heard_of (answers_of Everyone (RandomByte a High) 0 gs)
+    → SweptTo a stage.Free k marks asked from start gs numbers left (RandomByte a High) h
+first_asked a k marks asked from start gs numbers left h v one heard = go (heard_high a High gs h one heard) where
   same : SameCore gs (row_after Everyone (RandomByte a High) 0 gs numbers)
   same = leaving.core_after (RandomByte a High) gs numbers tt
 
   go : ((g : ℕ) × Holds gs g a × (h ≡ Byte (high_of (gear_of gs g).random))) ⊎ (Nobody gs a × (h ≡ Silence))
-      → SweptTo a stage.Free k asked from start gs numbers left (RandomByte a High) h
-  go (inl (g, holds, is)) = subst (λ b. SweptTo a stage.Free k asked from start gs numbers left (RandomByte a High) b) (sym is) (by v.stage_is) where
-    by : (asked ≡ 0) ⊎ (Nobody gs a × (asked ≤ 2))
-        → SweptTo a stage.Free k asked from start gs numbers left (RandomByte a High) (Byte (high_of (gear_of gs g).random))
-    by (inr nobody) = absurd (nobody.0 g holds)
-    by (inl none) =
-        let less = spend (3 * (63 - a)) (3 - asked) 2 (wake_frames gs) left v.frames (omega (arith, none)) in (
-          less.0,
-          less.1,
-          sweeps_on a stage.Free (stage.HighAsked a (Some (high_of (gear_of gs g).random))) k asked 0 from start gs _ left less.0 v same
-              (refl, tells_on gs _ a g (λ r. high_of (gear_of gs g).random ≡ high_of r) same holds refl) less.2,
-        )
-  go (inr (none, is)) = subst (λ b. SweptTo a stage.Free k asked from start gs numbers left (RandomByte a High) b) (sym is) (by (few v.stage_is)) where
-    few : (asked ≡ 0) ⊎ (Nobody gs a × (asked ≤ 2)) → asked ≤ 2
-    few (inl zero_is) = omega (arith, zero_is)
-    few (inr nobody) = nobody.1
+      → SweptTo a stage.Free k marks asked from start gs numbers left (RandomByte a High) h
+  go (inl (g, holds, is)) =
+      subst (λ b. SweptTo a stage.Free k marks asked from start gs numbers left (RandomByte a High) b) (sym is) (by v.stage_is) where
+        by : (asked ≡ 0) ⊎ (Nobody gs a × (asked ≤ 2))
+            → SweptTo a stage.Free k marks asked from start gs numbers left (RandomByte a High) (Byte (high_of (gear_of gs g).random))
+        by (inr nobody) = absurd (nobody.0 g holds)
+        by (inl none) =
+            let less = spend (3 * (63 - a)) (3 - asked) 2 (wake_frames gs) left v.frames (omega (arith, none)) in (
+              less.0,
+              less.1,
+              sweeps_on a stage.Free (stage.HighAsked a (Some (high_of (gear_of gs g).random))) k marks (with_short marks a) asked 0 from start gs _ left less.0
+                  v same (refl, tells_on gs _ a g (λ r. high_of (gear_of gs g).random ≡ high_of r) same holds refl)
+                  (clear_with k marks a a refl v.small (λ c q has apart. v.clear c q has)) less.2,
+            )
+  go (inr (none, is)) =
+      subst (λ b. SweptTo a stage.Free k marks asked from start gs numbers left (RandomByte a High) b) (sym is) (by (few v.stage_is)) where
+        few : (asked ≡ 0) ⊎ (Nobody gs a × (asked ≤ 2)) → asked ≤ 2
+        few (inl zero_is) = omega (arith, zero_is)
+        few (inr nobody) = nobody.1
 
-    by : asked ≤ 2 → SweptTo a stage.Free k asked from start gs numbers left (RandomByte a High) Silence
-    by small =
-        let again = silence_again asked small in
-        let less = spend (3 * (63 - a)) (3 - asked) (silent_left (asked_after_silence asked)) (wake_frames gs) left v.frames again.1 in (
-          less.0,
-          less.1,
-          sweeps_on a stage.Free (stage.HighAsked a None) k asked (asked_after_silence asked) from start gs _ left less.0 v same
-              (refl, nobody_on gs _ a same none, again.0) less.2,
-        )
+        by : asked ≤ 2 → SweptTo a stage.Free k marks asked from start gs numbers left (RandomByte a High) Silence
+        by small =
+            let again = silence_again asked small in
+            let less = spend (3 * (63 - a)) (3 - asked) (silent_left (asked_after_silence asked)) (wake_frames gs) left v.frames again.1 in (
+              less.0,
+              less.1,
+              sweeps_on a stage.Free (stage.HighAsked a None) k marks marks asked (asked_after_silence asked) from start gs _ left less.0 v same
+                  (refl, nobody_on gs _ a same none, again.0) v.clear less.2,
+            )
 
-second_asked : (a b u : ℕ) (k : Kept) (asked from : ℕ) (start gs : List Gear) (numbers : List ℕ) (left : ℕ) (h : Answer)
-    → Sweeps a (stage.HighAsked b (Some u)) k asked from start gs left → OneGear gs → h ≡ heard_of (answers_of Everyone (RandomByte b Middle) 0 gs)
-    → SweptTo a (stage.HighAsked b (Some u)) k asked from start gs numbers left (RandomByte b Middle) h
-second_asked a b u k asked from start gs numbers left h v one heard =
+second_asked : (a b u : ℕ) (k : Kept) (marks : Shorts) (asked from : ℕ) (start gs : List Gear) (numbers : List ℕ) (left : ℕ) (h : Answer)
+    → Sweeps a (stage.HighAsked b (Some u)) k marks asked from start gs left → OneGear gs → h ≡ heard_of (answers_of Everyone (RandomByte b Middle) 0 gs)
+    → SweptTo a (stage.HighAsked b (Some u)) k marks asked from start gs numbers left (RandomByte b Middle) h
+second_asked a b u k marks asked from start gs numbers left h v one heard =
     go (heard_high a Middle gs h one (subst (λ d. h ≡ heard_of (answers_of Everyone (RandomByte d Middle) 0 gs)) v.stage_is.0 heard)) where
       same : SameCore gs (row_after Everyone (RandomByte b Middle) 0 gs numbers)
       same = leaving.core_after (RandomByte b Middle) gs numbers tt
 
       go : ((g : ℕ) × Holds gs g a × (h ≡ Byte (middle_of (gear_of gs g).random))) ⊎ (Nobody gs a × (h ≡ Silence))
-          → SweptTo a (stage.HighAsked b (Some u)) k asked from start gs numbers left (RandomByte b Middle) h
+          → SweptTo a (stage.HighAsked b (Some u)) k marks asked from start gs numbers left (RandomByte b Middle) h
       go (inr (none, is)) = absurd (none v.stage_is.1.0 v.stage_is.1.1)
       go (inl (g, holds, is)) =
           let at : g ≡ v.stage_is.1.0 = one g v.stage_is.1.0 a holds v.stage_is.1.1 in
@@ -165,24 +197,59 @@ second_asked a b u k asked from start gs numbers left h v one heard =
           let less = spend (3 * (63 - a)) 2 1 (wake_frames gs) left v.frames (omega arith) in (
             less.0,
             less.1,
-            rw there (sweeps_on a (stage.HighAsked b (Some u)) (stage.MiddleAsked b (Some (u, middle_of (gear_of gs g).random))) k asked 0 from start gs _ left
-                less.0 v same
-                (v.stage_is.0, tells_on gs _ a g (λ r. (u ≡ high_of r) × (middle_of (gear_of gs g).random ≡ middle_of r)) same holds (high, refl)) less.2),
+            rw there (sweeps_on a (stage.HighAsked b (Some u)) (stage.MiddleAsked b (Some (u, middle_of (gear_of gs g).random))) k marks (with_short marks b)
+                asked 0 from start gs _ left less.0 v same
+                (v.stage_is.0, tells_on gs _ a g (λ r. (u ≡ high_of r) × (middle_of (gear_of gs g).random ≡ middle_of r)) same holds (high, refl))
+                (clear_with k marks b a v.stage_is.0 v.small v.clear) less.2),
           )
 
-third_asked : (a b : ℕ) (x : ℕ × ℕ) (k : Kept) (asked from : ℕ) (start gs : List Gear) (numbers : List ℕ) (left : ℕ) (h : Answer)
-    → Sweeps a (stage.MiddleAsked b (Some x)) k asked from start gs left → OneGear gs → h ≡ heard_of (answers_of Everyone (RandomByte b Low) 0 gs)
-    → SweptTo a (stage.MiddleAsked b (Some x)) k asked from start gs numbers left (RandomByte b Low) h
-third_asked a b x k asked from start gs numbers left h v one heard =
-    go (heard_high a Low gs h one (subst (λ d. h ≡ heard_of (answers_of Everyone (RandomByte d Low) 0 gs)) v.stage_is.0 heard)) where
+-- a number was told: the mark goes, or it is FFFFFF, and the address is not reserved
+told_clear : (a b n : ℕ) (k : Kept) (marks : Shorts) (gs : List Gear) (g : ℕ) → b ≡ a → a < 64 → IsSettled k → IsTold k gs → OneShort gs → Holds gs g a
+    → n ≡ (gear_of gs g).random → IsClearBut k marks a → IsClear k (if n == MASK24 then with_short marks b else without_short marks b)
+told_clear a b n k marks gs g same small settled told one holds number clear c q has = go (n == MASK24) refl (c == a) refl where
+  within : b < 64
+  within = subst (λ m. m < 64) (sym same) small
+
+  low : c < 64
+  low = told.kept.reserved.short c (has_map (λ (x : Assignment). x.0) k.reserved (c, q) has)
+
+  below : q < MASK24
+  below = told.kept.reserved_drawn q (has_map (λ (x : Assignment). x.1) k.reserved (c, q) has)
+
+  apart : (c == a) ≡ false → c ≡ a → ⊥
+  apart other e = let at : (c == a) ≡ true = number_same c a e in let never : true ≡ false = sym at ∙ other in cc
+
+  go : (t : Bool) → (n == MASK24) ≡ t → (u : Bool) → (c == a) ≡ u → has_short (if t then with_short marks b else without_short marks b) c ≡ false
+  go false drew true at = without_same marks b c within (same_number c a at ∙ sym same)
+  go false drew false other = without_other marks b c within low (λ e. apart other (e ∙ same)) ∙ clear c q has (apart other)
+  go true mask false other = with_other marks b c within (λ e. apart other (e ∙ same)) ∙ clear c q has (apart other)
+  go true mask true at =
+      let entry = told.holds c q (settled (c, q) has) in
+      let is : entry.0 ≡ g = one entry.0 g a entry.1 holds.there (entry.2 ∙ ap (λ m. Some m) (same_number c a at)) holds.short in
+      let random : q ≡ n = sym entry.3 ∙ ap (λ i. (gear_of gs i).random) is ∙ sym number in
+      absurd (let top : n ≡ MASK24 = same_number n MASK24 mask in omega (arith, below, random, top))
+
+third_asked : (a b : ℕ) (x : ℕ × ℕ) (k : Kept) (marks : Shorts) (asked from : ℕ) (start gs : List Gear) (numbers : List ℕ) (left : ℕ) (h : Answer)
+    → Sweeps a (stage.MiddleAsked b (Some x)) k marks asked from start gs left → OneShort gs → IsTold k gs
+    → h ≡ heard_of (answers_of Everyone (RandomByte b Low) 0 gs)
+    → SweptTo a (stage.MiddleAsked b (Some x)) k marks asked from start gs numbers left (RandomByte b Low) h
+third_asked a b x k marks asked from start gs numbers left h v one told heard =
+    go (heard_high a Low gs h (one_gear gs one) (subst (λ d. h ≡ heard_of (answers_of Everyone (RandomByte d Low) 0 gs)) v.stage_is.0 heard)) where
       same : SameCore gs (row_after Everyone (RandomByte b Low) 0 gs numbers)
       same = leaving.core_after (RandomByte b Low) gs numbers tt
 
+      tells : (g : ℕ) → Holds gs g a → (i : ℕ) → Holds (row_after Everyone (RandomByte b Low) 0 gs numbers) i a
+          → (gear_of gs g).random ≡ (gear_of (row_after Everyone (RandomByte b Low) 0 gs numbers) i).random
+      tells g holds i has =
+          let back : Holds gs i a = holds_back gs (row_after Everyone (RandomByte b Low) 0 gs numbers) i a same has in
+          let at : g ≡ i = one_gear gs one g i a holds back in
+          ap (λ j. (gear_of gs j).random) at ∙ sym (same.each i back.there).same_random
+
       go : ((g : ℕ) × Holds gs g a × (h ≡ Byte (low_of (gear_of gs g).random))) ⊎ (Nobody gs a × (h ≡ Silence))
-          → SweptTo a (stage.MiddleAsked b (Some x)) k asked from start gs numbers left (RandomByte b Low) h
+          → SweptTo a (stage.MiddleAsked b (Some x)) k marks asked from start gs numbers left (RandomByte b Low) h
       go (inr (none, is)) = absurd (none v.stage_is.1.0 v.stage_is.1.1)
       go (inl (g, holds, is)) =
-          let at : g ≡ v.stage_is.1.0 = one g v.stage_is.1.0 a holds v.stage_is.1.1 in
+          let at : g ≡ v.stage_is.1.0 = one_gear gs one g v.stage_is.1.0 a holds v.stage_is.1.1 in
           let high : x.0 ≡ high_of (gear_of gs g).random = v.stage_is.1.2.0 ∙ ap (λ i. high_of (gear_of gs i).random) (sym at) in
           let middle : x.1 ≡ middle_of (gear_of gs g).random = v.stage_is.1.2.1 ∙ ap (λ i. middle_of (gear_of gs i).random) (sym at) in
           let number : number_of x.0 x.1 (low_of (gear_of gs g).random) ≡ (gear_of gs g).random =
@@ -192,42 +259,37 @@ third_asked a b x k asked from start gs numbers left h v one heard =
           let less = spend (3 * (63 - a)) 1 0 (wake_frames gs) left v.frames (omega arith) in (
             less.0,
             less.1,
-            rw there (sweeps_on a (stage.MiddleAsked b (Some x)) (stage.Spelled b (Some (gear_of gs g).random)) k asked 0 from start gs _ left less.0 v same
-                (v.stage_is.0, told g holds, refl) less.2),
+            rw there (sweeps_on a (stage.MiddleAsked b (Some x)) (stage.Spelled b (Some (gear_of gs g).random)) k marks
+                (if (gear_of gs g).random == MASK24 then with_short marks b else without_short marks b) asked 0 from start gs _ left less.0 v same
+                (v.stage_is.0, tells g holds, refl)
+                (told_clear a b (gear_of gs g).random k marks gs g v.stage_is.0 v.small v.settled told one holds refl v.clear) less.2),
           )
-        where
-          told : (g : ℕ) → Holds gs g a → (i : ℕ) → Holds (row_after Everyone (RandomByte b Low) 0 gs numbers) i a
-              → (gear_of gs g).random ≡ (gear_of (row_after Everyone (RandomByte b Low) 0 gs numbers) i).random
-          told g holds i has =
-              let back : Holds gs i a = holds_back gs (row_after Everyone (RandomByte b Low) 0 gs numbers) i a same has in
-              let at : g ≡ i = one g i a holds back in
-              ap (λ j. (gear_of gs j).random) at ∙ sym (same.each i back.there).same_random
 
-sweeps_sent : (a : ℕ) (s : Stage) (k : Kept) (asked from : ℕ) (n : SearchAddress) (start gs : List Gear) (numbers : List ℕ) (left : ℕ) (c : Command)
-    (h : Answer)
-    → Sweeps a s k asked from start gs left → Sends (Asking a) n k s c → OneGear gs → h ≡ heard_of (answers_of Everyone c 0 gs)
-    → SweptTo a s k asked from start gs numbers left c h
-sweeps_sent a stage.Free k asked from n start gs numbers left c h v is one heard =
-    subst (λ d. h ≡ heard_of (answers_of Everyone d 0 gs) → SweptTo a stage.Free k asked from start gs numbers left d h) (sym is)
-    (first_asked a k asked from start gs numbers left h v one) heard
-sweeps_sent a (stage.HighAsked b (Some u)) k asked from n start gs numbers left c h v is one heard =
-    subst (λ d. h ≡ heard_of (answers_of Everyone d 0 gs) → SweptTo a (stage.HighAsked b (Some u)) k asked from start gs numbers left d h)
+sweeps_sent : (a : ℕ) (s : Stage) (k : Kept) (marks : Shorts) (asked from : ℕ) (n : SearchAddress) (start gs : List Gear) (numbers : List ℕ) (left : ℕ)
+    (c : Command) (h : Answer) → Sweeps a s k marks asked from start gs left → Sends (Asking a) n k s c → OneShort gs → IsTold k gs
+    → h ≡ heard_of (answers_of Everyone c 0 gs) → SweptTo a s k marks asked from start gs numbers left c h
+sweeps_sent a stage.Free k marks asked from n start gs numbers left c h v is one told heard =
+    subst (λ d. h ≡ heard_of (answers_of Everyone d 0 gs) → SweptTo a stage.Free k marks asked from start gs numbers left d h) (sym is)
+    (first_asked a k marks asked from start gs numbers left h v (one_gear gs one)) heard
+sweeps_sent a (stage.HighAsked b (Some u)) k marks asked from n start gs numbers left c h v is one told heard =
+    subst (λ d. h ≡ heard_of (answers_of Everyone d 0 gs) → SweptTo a (stage.HighAsked b (Some u)) k marks asked from start gs numbers left d h)
     (some_is (RandomByte b Middle) c is)
-    (second_asked a b u k asked from start gs numbers left h v one) heard
-sweeps_sent a (stage.HighAsked b None) k asked from n start gs numbers left c h v is one heard = absurd (cc)
-sweeps_sent a (stage.MiddleAsked b (Some x)) k asked from n start gs numbers left c h v is one heard =
-    subst (λ d. h ≡ heard_of (answers_of Everyone d 0 gs) → SweptTo a (stage.MiddleAsked b (Some x)) k asked from start gs numbers left d h)
+    (second_asked a b u k marks asked from start gs numbers left h v (one_gear gs one)) heard
+sweeps_sent a (stage.HighAsked b None) k marks asked from n start gs numbers left c h v is one told heard = absurd (cc)
+sweeps_sent a (stage.MiddleAsked b (Some x)) k marks asked from n start gs numbers left c h v is one told heard =
+    subst (λ d. h ≡ heard_of (answers_of Everyone d 0 gs) → SweptTo a (stage.MiddleAsked b (Some x)) k marks asked from start gs numbers left d h)
     (some_is (RandomByte b Low) c is)
-    (third_asked a b x k asked from start gs numbers left h v one) heard
-sweeps_sent a (stage.Spelled b (Some m)) k asked from n start gs numbers left c h v is one heard = absurd (cc)
-sweeps_sent a _ k asked from n start gs numbers left c h v is one heard = absurd v.stage_is
+    (third_asked a b x k marks asked from start gs numbers left h v one told) heard
+sweeps_sent a (stage.Spelled b (Some m)) k marks asked from n start gs numbers left c h v is one told heard = absurd (cc)
+sweeps_sent a _ k marks asked from n start gs numbers left c h v is one told heard = absurd v.stage_is
 
 -- ---------------------------------------------------------------- the wake
 
-abbrev WokenTo : Stage → Kept → Bool → List Gear → List Gear → List ℕ → ℕ → Command → Answer → Type 0
-WokenTo s k opened start gs numbers left c h =
+abbrev WokenTo : Stage → Kept → Shorts → Bool → List Gear → List Gear → List ℕ → ℕ → Command → Answer → Type 0
+WokenTo s k marks opened start gs numbers left c h =
     (l : ℕ) × (left ≡ suc l)
-    × Wakes (next_stage s c h) k (woken_after (next_stage s c h) Waking (opened_after (next_stage s c h) opened)) start (row_after Everyone c 0 gs numbers) l
+    × Wakes (next_stage s c h) k marks (woken_after (next_stage s c h) Waking (opened_after (next_stage s c h) opened)) start
+    (row_after Everyone c 0 gs numbers) l
 
 wake_less : (c : Command) (gs : List Gear) (numbers : List ℕ) (left sent : ℕ) → LeavesShort c → wake_frames gs ≤ left + sent → sent < 3
     → (l : ℕ) × (left ≡ suc l) × (wake_frames (row_after Everyone c 0 gs numbers) ≤ l + (sent + 1))
@@ -235,54 +297,59 @@ wake_less c gs numbers left sent leaves enough small =
     let less = one_less (wake_frames gs) left sent enough (omega (arith, small)) in
     (less.0, less.1, subst (λ n. 111 * n + 17 ≤ less.0 + (sent + 1)) (sym (leaving.count_bare_after c gs numbers leaves)) less.2)
 
-wakes_sent : (s : Stage) (k : Kept) (opened : Bool) (n : SearchAddress) (start gs : List Gear) (numbers : List ℕ) (left : ℕ) (c : Command) (h : Answer)
-    → Wakes s k opened start gs left → Sends Waking n k s c → WokenTo s k opened start gs numbers left c h
-wakes_sent stage.Free k opened n start gs numbers left c h v is = subst (λ d. WokenTo stage.Free k opened start gs numbers left d h) (sym is) go where
-  go : WokenTo stage.Free k opened start gs numbers left Terminate h
-  go =
-      let less = wake_less Terminate gs numbers left 0 tt v.frames (omega arith) in (
-        less.0,
-        less.1,
-        record {
-          stage_is = v.stage_is;
-          nothing = v.nothing;
-          gear = opening.opening_terminated gs numbers;
-          tabled = tabled_left (unseen start) k.enrolled gs numbers Terminate tt v.tabled;
-          frames = less.2;
-        },
-      )
-wakes_sent stage.Terminated k opened n start gs numbers left c h v is =
-    subst (λ d. WokenTo stage.Terminated k opened start gs numbers left d h) (some_is (Initialise Unaddressed) c is) go where
-      go : WokenTo stage.Terminated k opened start gs numbers left (Initialise Unaddressed) h
+wakes_sent : (s : Stage) (k : Kept) (marks : Shorts) (opened : Bool) (n : SearchAddress) (start gs : List Gear) (numbers : List ℕ) (left : ℕ) (c : Command)
+    (h : Answer)
+    → Wakes s k marks opened start gs left → Sends Waking n k s c → WokenTo s k marks opened start gs numbers left c h
+wakes_sent stage.Free k marks opened n start gs numbers left c h v is =
+    subst (λ d. WokenTo stage.Free k marks opened start gs numbers left d h) (sym is) go where
+      go : WokenTo stage.Free k marks opened start gs numbers left Terminate h
+      go =
+          let less = wake_less Terminate gs numbers left 0 tt v.frames (omega arith) in (
+            less.0,
+            less.1,
+            record {
+              stage_is = v.stage_is;
+              settled = v.settled;
+              clear = v.clear;
+              gear = opening.opening_terminated gs numbers;
+              tabled = tabled_left (unseen start) k.enrolled gs numbers Terminate tt v.tabled;
+              frames = less.2;
+            },
+          )
+wakes_sent stage.Terminated k marks opened n start gs numbers left c h v is =
+    subst (λ d. WokenTo stage.Terminated k marks opened start gs numbers left d h) (some_is (Initialise Unaddressed) c is) go where
+      go : WokenTo stage.Terminated k marks opened start gs numbers left (Initialise Unaddressed) h
       go =
           let less = wake_less (Initialise Unaddressed) gs numbers left 1 tt v.frames (omega arith) in (
             less.0,
             less.1,
             record {
               stage_is = v.stage_is;
-              nothing = v.nothing;
+              settled = v.settled;
+              clear = v.clear;
               gear = opening.opening_initialised_once gs numbers v.gear;
               tabled = tabled_left (unseen start) k.enrolled gs numbers (Initialise Unaddressed) tt v.tabled;
               frames = less.2;
             },
           )
-wakes_sent stage.InitialisedOnce k opened n start gs numbers left c h v is =
-    subst (λ d. WokenTo stage.InitialisedOnce k opened start gs numbers left d h) (some_is (Initialise Unaddressed) c is) go where
-      go : WokenTo stage.InitialisedOnce k opened start gs numbers left (Initialise Unaddressed) h
+wakes_sent stage.InitialisedOnce k marks opened n start gs numbers left c h v is =
+    subst (λ d. WokenTo stage.InitialisedOnce k marks opened start gs numbers left d h) (some_is (Initialise Unaddressed) c is) go where
+      go : WokenTo stage.InitialisedOnce k marks opened start gs numbers left (Initialise Unaddressed) h
       go =
           let less = wake_less (Initialise Unaddressed) gs numbers left 2 tt v.frames (omega arith) in (
             less.0,
             less.1,
             record {
               stage_is = refl;
-              nothing = v.nothing;
+              settled = v.settled;
+              clear = v.clear;
               gear = opening.opening_initialised gs numbers v.gear;
               tabled = tabled_left (unseen start) k.enrolled gs numbers (Initialise Unaddressed) tt v.tabled;
               frames = less.2;
             },
           )
-wakes_sent stage.Initialised k opened n start gs numbers left c h v is = absurd (cc)
-wakes_sent _ k opened n start gs numbers left c h v is = absurd v.stage_is
+wakes_sent stage.Initialised k marks opened n start gs numbers left c h v is = absurd (cc)
+wakes_sent _ k marks opened n start gs numbers left c h v is = absurd v.stage_is
 
 -- ---------------------------------------------------------------- a search, or the opening
 
@@ -388,7 +455,7 @@ hunts_sent p y s k heard opened x n start gs numbers left c h hunt v is t seek =
       → v.rest + frames_after y (row_after Everyone c 0 gs numbers) ≤ left → HuntedTo p y s k heard opened x n start gs numbers left c h
   done y way l less at tabled enough =
       let one = spend_one v.rest (frames_after y (row_after Everyone c 0 gs numbers)) left l less enough in
-      (one.0, one.1, record { way = way; opened_is = v.opened_is; own = v.own; rest = l; at = at; tabled = tabled; frames = one.2 })
+      (one.0, one.1, record { way = way; opened_is = v.opened_is; own = v.own; settled = v.settled; rest = l; at = at; tabled = tabled; frames = one.2 })
 
   opens : (hs : List Gear) (l : ℕ) → At p (next_stage s c h) k (opened_after (next_stage s c h) (opened_at p s)) x n hs l
       → At p (next_stage s c h) k (opened_at p (next_stage s c h)) x n hs l
@@ -463,6 +530,7 @@ closes_sent e stage.Free k heard n start gs numbers left c h v is =
             record {
               stage_is = tt;
               well = ends_still e k heard gs numbers v.well;
+              settled = v.settled;
               tabled = tabled_left (unseen start) k.enrolled gs numbers Terminate tt v.tabled;
               frames = less.2;
             },
@@ -492,40 +560,40 @@ hunts_as : (p : Purpose) (y : Way) (t : Stage) (k : Kept) (heard : Shorts) (open
     (left : ℕ)
     → now ≡ true → Hunts p y t k heard opened x n start gs left → Hunts p y t k heard now x n start gs left
 hunts_as p y t k heard opened now x n start gs left is v =
-    record { way = v.way; opened_is = is; own = v.own; rest = v.rest; at = v.at; tabled = v.tabled; frames = v.frames }
+    record { way = v.way; opened_is = is; own = v.own; settled = v.settled; rest = v.rest; at = v.at; tabled = v.tabled; frames = v.frames }
 
 pub survey_sent : (p : Purpose) (y : Way) (s : Stage) (k : Kept) (heard : Shorts) (opened : Bool) (asked : ℕ) (x : Search) (n : SearchAddress) (from : ℕ)
     (start gs : List Gear) (numbers : List ℕ) (left : ℕ) (c : Command) (h : Answer) → SurveyAt p y s k heard opened asked x n from start gs left
-    → Sends p n k s c → IsSurveyTaken c gs numbers h → Seeks s gs → SurveySent p y s k heard opened asked x n from start gs numbers left c h
-survey_sent (Asking a) y s k heard opened asked x n from start gs numbers left c h at is t seek =
-    let sent = sweeps_sent a s k asked from n start gs numbers left c h at.2 is t.one t.taken.heard in
+    → Sends p n k s c → IsSurveyTaken c gs numbers h → IsTold k gs → Seeks s gs → SurveySent p y s k heard opened asked x n from start gs numbers left c h
+survey_sent (Asking a) y s k heard opened asked x n from start gs numbers left c h at is t told seek =
+    let sent = sweeps_sent a s k heard asked from n start gs numbers left c h at.2 is t.one told t.taken.heard in
     let unwoken : woken_after (next_stage s c h) (Asking a) (opened_after (next_stage s c h) opened) ≡ false =
     not_woken (next_stage s c h) (Asking a) (opened_after (next_stage s c h) opened) (λ e. cc)
     ∙ ap (opened_after (next_stage s c h)) at.1 ∙ asked_unopened (next_stage s c h) a _ (row_after Everyone c 0 gs numbers) sent.2.stage_is in
     (sent.0, sent.1, (at.0, unwoken, sent.2))
-survey_sent Waking y s k heard opened asked x n from start gs numbers left c h at is t seek =
-    let sent = wakes_sent s k opened n start gs numbers left c h at.2 is in (sent.0, sent.1, (at.0, at.1, sent.2))
-survey_sent Opening y s k heard opened asked x n from start gs numbers left c h at is t seek =
+survey_sent Waking y s k heard opened asked x n from start gs numbers left c h at is t told seek =
+    let sent = wakes_sent s k heard opened n start gs numbers left c h at.2 is in (sent.0, sent.1, (at.0, at.1, sent.2))
+survey_sent Opening y s k heard opened asked x n from start gs numbers left c h at is t told seek =
     let sent = hunts_sent Opening y s k heard opened x n start gs numbers left c h tt at is t seek in (
       sent.0,
       sent.1,
       hunts_as Opening y (next_stage s c h) k heard opened _ x n start _ sent.0
           (opened_on Opening (next_stage s c h) opened (λ e. cc) at.opened_is) sent.2,
     )
-survey_sent Probing y s k heard opened asked x n from start gs numbers left c h at is t seek =
+survey_sent Probing y s k heard opened asked x n from start gs numbers left c h at is t told seek =
     let sent = hunts_sent Probing y s k heard opened x n start gs numbers left c h tt at is t seek in (
       sent.0,
       sent.1,
       hunts_as Probing y (next_stage s c h) k heard opened _ x n start _ sent.0
           (opened_on Probing (next_stage s c h) opened (λ e. cc) at.opened_is) sent.2,
     )
-survey_sent Visiting y s k heard opened asked x n from start gs numbers left c h at is t seek =
+survey_sent Visiting y s k heard opened asked x n from start gs numbers left c h at is t told seek =
     let sent = hunts_sent Visiting y s k heard opened x n start gs numbers left c h tt at is t seek in (
       sent.0,
       sent.1,
       hunts_as Visiting y (next_stage s c h) k heard opened _ x n start _ sent.0
           (opened_on Visiting (next_stage s c h) opened (λ e. cc) at.opened_is) sent.2,
     )
-survey_sent (Closing e) y s k heard opened asked x n from start gs numbers left c h at is t seek =
+survey_sent (Closing e) y s k heard opened asked x n from start gs numbers left c h at is t told seek =
     let sent = closes_sent e s k heard n start gs numbers left c h at is in (sent.0, sent.1, sent.2)
-survey_sent (Resolving a) y s k heard opened asked x n from start gs numbers left c h at is t seek = absurd at
+survey_sent (Resolving a) y s k heard opened asked x n from start gs numbers left c h at is t told seek = absurd at

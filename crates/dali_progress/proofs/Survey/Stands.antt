@@ -1,7 +1,7 @@
-use Rattle.std.proofs.Common.{◌≡◌, ℕ, ◌+◌, ◌-◌, ◌*◌, ◌<◌, ◌≤◌, ◌⊎◌, Bool, true, false, zero, suc, List, [], Some, None}
+use Rattle.std.proofs.Common.{◌≡◌, ℕ, ◌+◌, ◌-◌, ◌*◌, ◌<◌, ◌≤◌, ◌⊎◌, Bool, true, false, zero, suc, List, Some, None}
 use Rattle.std.specs.List.{count_by}
 use Rattle.dali_frame.specs.declared.numbers.SearchAddress.{SearchAddress}
-use Rattle.dali_frame.specs.Random.{high_of, middle_of}
+use Rattle.dali_frame.specs.Random.{value_of, high_of, middle_of}
 use Rattle.dali_gear.specs.Gear.{Gear}
 use Rattle.dali_script.specs.Records.{Assignment, Kept, Has, HasAddress, InBlock}
 use Rattle.dali_script.specs.declared.stage.Stage.{Stage}
@@ -23,7 +23,7 @@ use Rattle.dali_events.specs.Wanted.{gear_of, is_bare, OfPowered}
 use Rattle.dali_events.proofs.Search.Leaving.{SameCore}
 use Rattle.dali_events.proofs.Search.Opened.{AreOpening}
 use Rattle.dali_progress.specs.Rounds.{AreTabled}
-use Rattle.dali_progress.specs.Surveys.{NoneButUndrawn}
+use Rattle.dali_progress.specs.Surveys.{NoneButUndrawn, IsSettled}
 use Rattle.dali_progress.proofs.Stands.{to_come, At, CloseStage, sent_at}
 use Rattle.dali_progress.proofs.Survey.Drawn.{those_drawn, is_lost}
 use Rattle.dali_progress.proofs.Survey.Queried.{Holds, Nobody, TabledBelow, unseen}
@@ -60,18 +60,26 @@ AskStage (stage.MiddleAsked b (Some x)) a asked gs = (b ≡ a) × Tells gs a (λ
 AskStage (stage.Spelled b (Some n)) a asked gs = (b ≡ a) × ((g : ℕ) → Holds gs g a → n ≡ (gear_of gs g).random) × (asked ≡ 0)
 AskStage _ a asked gs = ⊥
 
--- the table so far is of addresses that were asked
-abbrev pub AreBefore : ℕ → List Assignment → Type 0
-AreBefore a xs = (b r : ℕ) → Has xs (b, r) → b < a
+-- what is reserved is not marked, but the one that is asked, while somebody tells a number there
+abbrev pub IsClear : Kept → Shorts → Type 0
+IsClear k heard = (c q : ℕ) → Has k.reserved (c, q) → has_short heard c ≡ false
 
-pub record Sweeps (a : ℕ) (s : Stage) (k : Kept) (asked from : ℕ) (start gs : List Gear) (left : ℕ) : Type 0 where
+abbrev pub IsClearBut : Kept → Shorts → ℕ → Type 0
+IsClearBut k heard a = (c q : ℕ) → Has k.reserved (c, q) → (c ≡ a → ⊥) → has_short heard c ≡ false
+
+abbrev pub IsClearAt : Stage → ℕ → Kept → Shorts → Type 0
+IsClearAt (stage.HighAsked b (Some v)) a k heard = IsClearBut k heard a
+IsClearAt (stage.MiddleAsked b x) a k heard = IsClearBut k heard a
+IsClearAt _ a k heard = IsClear k heard
+
+pub record Sweeps (a : ℕ) (s : Stage) (k : Kept) (heard : Shorts) (asked from : ℕ) (start gs : List Gear) (left : ℕ) : Type 0 where
   pub small : a < 64
   pub from_is : from ≡ a + 1
-  pub nothing : k.reserved ≡ []
+  pub settled : IsSettled k
+  pub clear : IsClearAt s a k heard
   pub same : SameCore start gs
   pub stage_is : AskStage s a asked gs
   pub tabled : TabledBelow a start k.enrolled gs
-  pub before : AreBefore a k.enrolled
   pub frames : 3 * (63 - a) + asked_left s asked + wake_frames gs ≤ left
 
 -- ---------------------------------------------------------------- the wake
@@ -83,9 +91,10 @@ WakeStage stage.InitialisedOnce opened = opened ≡ false
 WakeStage stage.Initialised opened = opened ≡ true
 WakeStage _ opened = ⊥
 
-pub record Wakes (s : Stage) (k : Kept) (opened : Bool) (start gs : List Gear) (left : ℕ) : Type 0 where
+pub record Wakes (s : Stage) (k : Kept) (heard : Shorts) (opened : Bool) (start gs : List Gear) (left : ℕ) : Type 0 where
   pub stage_is : WakeStage s opened
-  pub nothing : k.reserved ≡ []
+  pub settled : IsSettled k
+  pub clear : IsClear k heard
   pub gear : AreOpening s gs
   pub tabled : AreTabled (unseen start) k.enrolled gs
   pub frames : wake_frames gs ≤ left + sent_at s
@@ -108,6 +117,11 @@ frames_after Fresh gs = 0
 frames_after Surveying gs = 111 * count_by is_lost gs + 9
 frames_after Drawing gs = 0
 
+-- and is enrolled, but for the number that is visited
+abbrev pub IsSettledBut : Purpose → SearchAddress → Kept → Type 0
+IsSettledBut Visiting n k = (x : Assignment) → Has k.reserved x → Has k.enrolled x ⊎ (x.1 ≡ value_of n)
+IsSettledBut p n k = IsSettled k
+
 -- only what draws opens
 abbrev pub IsOnWay : Purpose → Way → Type 0
 IsOnWay Opening y = y ≡ Drawing
@@ -122,6 +136,7 @@ pub record Hunts (p : Purpose) (y : Way) (s : Stage) (k : Kept) (heard : Shorts)
   pub way : IsOnWay p y
   pub opened_is : opened ≡ true
   pub own : IsOwn k heard
+  pub settled : IsSettledBut p n k
   pub rest : ℕ
   pub at : At p s k (opened_at p s) x n (searched_by y gs) rest
   pub tabled : AreTabled (unseen start) (to_come s n k.enrolled) (searched_by y gs)
@@ -142,6 +157,7 @@ SurveyEnds GaveUp k heard gs = ⊥
 pub record SurveyCloses (e : End) (s : Stage) (k : Kept) (heard : Shorts) (start gs : List Gear) (left : ℕ) : Type 0 where
   pub stage_is : CloseStage s
   pub well : SurveyEnds e k heard gs
+  pub settled : IsSettled k
   pub tabled : AreTabled (unseen start) k.enrolled gs
   pub frames : 1 ≤ left + sent_at s
 
@@ -149,8 +165,8 @@ pub record SurveyCloses (e : End) (s : Stage) (k : Kept) (heard : Shorts) (start
 
 abbrev pub SurveyAt : Purpose → Way → Stage → Kept → Shorts → Bool → ℕ → Search → SearchAddress → ℕ → List Gear → List Gear → ℕ → Type 0
 SurveyAt (Asking a) y s k heard opened asked x n from start gs left =
-    (y ≡ Surveying) × (opened ≡ false) × Sweeps a s k asked from start gs left
-SurveyAt Waking y s k heard opened asked x n from start gs left = (y ≡ Surveying) × (asked ≡ 0) × Wakes s k opened start gs left
+    (y ≡ Surveying) × (opened ≡ false) × Sweeps a s k heard asked from start gs left
+SurveyAt Waking y s k heard opened asked x n from start gs left = (y ≡ Surveying) × (asked ≡ 0) × Wakes s k heard opened start gs left
 SurveyAt Opening y s k heard opened asked x n from start gs left = Hunts Opening y s k heard opened x n start gs left
 SurveyAt Probing y s k heard opened asked x n from start gs left = Hunts Probing y s k heard opened x n start gs left
 SurveyAt Visiting y s k heard opened asked x n from start gs left = Hunts Visiting y s k heard opened x n start gs left

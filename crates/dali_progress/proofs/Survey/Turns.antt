@@ -15,7 +15,7 @@ use Rattle.dali_gear.specs.Gear.{Gear}
 use Rattle.dali_script.specs.declared.records.Record.TheVariants.{Enrol}
 use Rattle.dali_script.specs.declared.finding.Finding.{Finding}
 use Rattle.dali_script.specs.declared.finding.Finding.TheVariants.{Resolved}
-use Rattle.dali_script.specs.Records.{Has}
+use Rattle.dali_script.specs.Records.{Has, HasRandom, IsKept, IsFresh, MayAdd}
 use Rattle.dali_script.specs.declared.stage.Stage.{Stage}
 use Rattle.dali_script.specs.declared.stage.Stage.TheVariants as stage
 use Rattle.dali_script.specs.Findings.{assigned, finding_of}
@@ -29,18 +29,19 @@ use Rattle.dali_controller.specs.Machine.{Machine}
 use Rattle.dali_controller.specs.Next.{next_course, begins_at, beginning, asked_once}
 use Rattle.dali_controller.specs.Orders.{machine_ordered, Contradicts, AfterFinding, IsSought}
 use Rattle.dali_controller.specs.Whole.{IsWhole, Sends as SendsWhole}
+use Rattle.dali_controller.proofs.Given as given
 use Rattle.dali_controller.proofs.Given.{IsGivenBy, IsNoEnrolment}
 use Rattle.dali_events.specs.Wanted.{gear_of, is_wanted, is_bare, IsOpened, NoneNamed}
 use Rattle.dali_events.proofs.Search.Wanted as wanted
 use Rattle.dali_progress.proofs.Stands.{search_frames}
-use Rattle.dali_progress.proofs.Turns.{never_eight}
+use Rattle.dali_progress.proofs.Turns.{never_eight, has_random}
 use Rattle.dali_progress.proofs.Sweep.Asked.{sending_of}
 use Rattle.dali_progress.proofs.Survey.Drawn.{those_drawn, is_lost, AreNumbered, bare_split, woken_opened, woken_none_named, tabled_drawn}
-use Rattle.dali_progress.proofs.Survey.Queried.{Holds, unseen, below_next}
+use Rattle.dali_progress.proofs.Survey.Queried.{Holds, OneShort, IsTrue, unseen, below_next}
 use Rattle.dali_progress.proofs.Survey.Stands.{wake_frames, silent_left, Sweeps, Wakes}
 use Rattle.dali_progress.proofs.Survey.Stands.{SurveyStands}
 use Rattle.dali_progress.proofs.Survey.Begins.{IsNext, calm_of, calm_ordered, turns_by, first_by}
-use Rattle.dali_progress.proofs.Survey.Begins.{begins_whole, asks_on, searches_by, own_none}
+use Rattle.dali_progress.proofs.Survey.Begins.{begins_whole, asks_on, searches_by, own_settled}
 
 -- A CONTROLLER THAT SURVEYS ACTS on what it was told, and what it orders goes on with the survey.
 
@@ -71,9 +72,9 @@ again_left (suc k) e = omega arith
 
 silent_turns : (start : List Gear) (t : Machine) (o : Order) (a b : ℕ) (gs : List Gear) (left : ℕ) → IsGivenBy t o → SurveyStands start t gs left
     → IsNoEnrolment t.last → t.course.purpose ≡ Asking a → stage_of t.trace ≡ stage.HighAsked b None → t.course.way ≡ Surveying → t.opened ≡ false
-    → Sweeps a (stage.HighAsked b None) t.kept t.asked t.course.from start gs left → IsWhole (machine_ordered t o)
-    → IsNext start (machine_ordered t o) o gs left
-silent_turns start t o a b gs left g st last purpose is surveys opened v whole = go (t.asked == 0) refl where
+    → Sweeps a (stage.HighAsked b None) t.kept t.heard t.asked t.course.from start gs left → IsWhole (machine_ordered t o)
+    → OneShort gs → IsTrue t.kept.enrolled gs → IsNext start (machine_ordered t o) o gs left
+silent_turns start t o a b gs left g st last purpose is surveys opened v whole one holds = go (t.asked == 0) refl where
   begins : o ≡ beginning (next_course t)
   begins =
       begins_whole t o (stage.HighAsked b None) g is (λ r e. cc) (λ e. cc) (found_at start t gs left (stage.HighAsked b None) st is) last
@@ -85,9 +86,9 @@ silent_turns start t o a b gs left g st last purpose is surveys opened v whole =
   go : (e : Bool) → (t.asked == 0) ≡ e → IsNext start (machine_ordered t o) o gs left
   go true none =
       asks_on start t o (a + 1) gs left (calm_of start t gs left st) begins (next ∙ ap (asked_once t) none) surveys opened
-      (let zero_is : t.asked ≡ 0 = grind (arith, nat_tests, none) in zero_is) v.from_is (let small : a < 64 = v.small in omega (arith, small)) v.nothing v.same
+      (let zero_is : t.asked ≡ 0 = grind (arith, nat_tests, none) in zero_is) v.from_is
+      (let small : a < 64 = v.small in omega (arith, small)) v.settled v.clear one holds v.same
       (below_next a start t.kept.enrolled t.kept.enrolled gs v.same v.tabled (λ x h. h) (λ i holds. absurd (v.stage_is.1 i holds)))
-      (λ c r has. (let less : c < a = v.before c r has in omega (arith, less)))
       (count (silent_left t.asked) (wake_frames gs) v.small v.frames) where
         count : (some wake : ℕ) → a < 64 → 3 * (63 - a) + some + wake ≤ left → 3 * (64 - (a + 1)) + wake ≤ left
         count some wake small enough = omega (arith, small, enough)
@@ -99,11 +100,11 @@ silent_turns start t o a b gs left g st last purpose is surveys opened v whole =
         record {
           small = v.small;
           from_is = v.from_is;
-          nothing = v.nothing;
+          settled = v.settled;
+          clear = v.clear;
           same = v.same;
           stage_is = inr (v.stage_is.1, v.stage_is.2);
           tabled = v.tabled;
-          before = v.before;
           frames = count (3 - t.asked) (silent_left t.asked) (wake_frames gs) (again_left t.asked again) v.frames;
         },
       )) where
@@ -113,29 +114,37 @@ silent_turns start t o a b gs left g st last purpose is surveys opened v whole =
 -- three bytes told a number
 told_turns : (start : List Gear) (t : Machine) (o : Order) (a b n : ℕ) (gs : List Gear) (left : ℕ) → IsGivenBy t o → SurveyStands start t gs left
     → t.course.purpose ≡ Asking a → stage_of t.trace ≡ stage.Spelled b (Some n) → t.course.way ≡ Surveying → t.opened ≡ false
-    → Sweeps a (stage.Spelled b (Some n)) t.kept t.asked t.course.from start gs left → AreNumbered gs → IsUncontradicted t
-    → IsNext start (machine_ordered t o) o gs left
-told_turns start t o a b n gs left g st purpose is surveys opened v numbered agrees = go (nat_lt n MASK24) refl where
+    → Sweeps a (stage.Spelled b (Some n)) t.kept t.heard t.asked t.course.from start gs left → IsKept t.kept → AreNumbered gs → OneShort gs
+    → IsTrue t.kept.enrolled gs → IsUncontradicted t → IsNext start (machine_ordered t o) o gs left
+told_turns start t o a b n gs left g st purpose is surveys opened v kept numbered one holds agrees = go (nat_lt n MASK24) refl where
   count : (wake : ℕ) → a < 64 → 3 * (63 - a) + 0 + wake ≤ left → 3 * (64 - (a + 1)) + wake ≤ left
   count wake small enough = omega (arith, small, enough)
 
   same_count : (wake : ℕ) → 3 * (63 - a) + 0 + wake ≤ left → 3 * (63 - a) + wake ≤ left
   same_count wake enough = omega (arith, enough)
 
-  -- the entry would be of an address that was asked before
-  never : (r : ℕ) → Has t.kept.enrolled (b, r) → ⊥
-  never r has = let less : b < a = v.before b r has in let same : b ≡ a = v.stage_is.0 in omega (arith, less, same)
+  sought : n < MASK24 → IsSought t.course.purpose t.course.number n
+  sought small = subst (λ p. IsSought p t.course.number n) (sym purpose) small
 
-  -- no number that gear draw
+  -- the next short address, where whoever has this one is in the table, or has no number that gear draw
+  goes : (q : Order) → q ≡ beginning (next_course t)
+      → ((i : ℕ) → Holds gs i a → ((gear_of gs i).random ≡ MASK24) ⊎ Has t.kept.enrolled (a, (gear_of gs i).random))
+      → IsNext start (machine_ordered t q) q gs left
+  goes q begins here =
+      asks_on start t q (a + 1) gs left (calm_of start t gs left st) begins (ap (begins_at t) is) surveys opened v.stage_is.2 v.from_is
+      (let small : a < 64 = v.small in omega (arith, small)) v.settled v.clear one holds v.same
+      (below_next a start t.kept.enrolled t.kept.enrolled gs v.same v.tabled (λ x h. h) here)
+      (count (wake_frames gs) v.small v.frames)
+
   none_drawn : (n < MASK24 → ⊥) → (i : ℕ) → Holds gs i a → ((gear_of gs i).random ≡ MASK24) ⊎ Has t.kept.enrolled (a, (gear_of gs i).random)
-  none_drawn large i holds = by (numbered i holds.there) where
+  none_drawn large i has = by (numbered i has.there) where
     by : ((gear_of gs i).random ≡ MASK24) ⊎ ((gear_of gs i).random < MASK24)
         → ((gear_of gs i).random ≡ MASK24) ⊎ Has t.kept.enrolled (a, (gear_of gs i).random)
     by (inl mask) = inl mask
-    by (inr small) = absurd (large (subst (λ m. m < MASK24) (sym (v.stage_is.1 i holds)) small))
+    by (inr small) = absurd (large (subst (λ m. m < MASK24) (sym (v.stage_is.1 i has)) small))
 
-  enrols : IsNext start (machine_ordered t (Commit (Enrol a n))) (Commit (Enrol a n)) gs left
-  enrols = (
+  enrols : (HasRandom t.kept.enrolled n → ⊥) → IsNext start (machine_ordered t (Commit (Enrol a n))) (Commit (Enrol a n)) gs left
+  enrols unknown = (
     calm_ordered start t (Commit (Enrol a n)) gs left st,
     inl (record {
       way = surveys;
@@ -143,52 +152,53 @@ told_turns start t o a b n gs left g st purpose is surveys opened v numbered agr
       asked = v.stage_is.2;
       small = v.small;
       from_is = v.from_is;
-      nothing = v.nothing;
+      settled = v.settled;
+      clear = v.clear;
+      unreserved = λ c has. unknown (has_random t.kept.enrolled c n (v.settled (c, n) has));
       same = v.same;
       tabled = below_next a start t.kept.enrolled (t.kept.enrolled ++ (a, n) ∷ []) gs v.same v.tabled (λ x h. has_before t.kept.enrolled (a, n) x h)
-          (λ i holds. inr (subst (λ r. Has (t.kept.enrolled ++ (a, n) ∷ []) (a, r)) (v.stage_is.1 i holds) (has_last t.kept.enrolled (a, n))));
-      before = v.before;
+          (λ i has. inr (subst (λ r. Has (t.kept.enrolled ++ (a, n) ∷ []) (a, r)) (v.stage_is.1 i has) (has_last t.kept.enrolled (a, n))));
       frames = same_count (wake_frames gs) v.frames;
     }),
   )
 
-  follows : (q : Order) → AfterFinding t b n q → IsNext start (machine_ordered t q) q gs left
-  follows (Put p f) has = absurd (never n has)
-  follows (Commit x) same =
+  follows : (q : Order) → IsGivenBy t q → n < MASK24 → AfterFinding t b n q → IsNext start (machine_ordered t q) q gs left
+  follows (Put p f) g small has =
+      goes (Put p f) (given.spelled_known t (Put p f) b n g is (sought small) kept.enrolled has)
+      (λ i told. inr (subst (λ c. Has t.kept.enrolled (c, (gear_of gs i).random)) v.stage_is.0
+      (subst (λ r. Has t.kept.enrolled (b, r)) (v.stage_is.1 i told) has)))
+  follows (Commit x) g small same =
+      let may : IsFresh t.kept.enrolled (b, n) = subst (λ y. MayAdd t.kept y) same g.ordered.allowed.may in
       subst (λ y. IsNext start (machine_ordered t (Commit y)) (Commit y) gs left) (sym same)
-      (subst (λ c. IsNext start (machine_ordered t (Commit (Enrol c n))) (Commit (Enrol c n)) gs left) (sym v.stage_is.0) enrols)
-  follows (Done e) never = absurd never
-  follows (Halt why) contradicts = absurd (agrees (Resolved b n) (found_at start t gs left (stage.Spelled b (Some n)) st is) contradicts)
+      (subst (λ c. IsNext start (machine_ordered t (Commit (Enrol c n))) (Commit (Enrol c n)) gs left) (sym v.stage_is.0) (enrols may.1))
+  follows (Done e) g small never = absurd never
+  follows (Halt why) g small contradicts = absurd (agrees (Resolved b n) (found_at start t gs left (stage.Spelled b (Some n)) st is) contradicts)
 
   go : (s : Bool) → nat_lt n MASK24 ≡ s → IsNext start (machine_ordered t o) o gs left
   go true less =
       let small : n < MASK24 = grind (arith, nat_tests, less) in
-      follows o (g.followed.told b n is (subst (λ p. IsSought p t.course.number n) (sym purpose) small))
+      follows o g small (g.followed.told b n is (sought small))
   go false over =
       let large : n < MASK24 → ⊥ = grind (arith, nat_tests, over) in
-      asks_on start t o (a + 1) gs left (calm_of start t gs left st)
-      (g.followed.another b n is (λ s. large (subst (λ p. IsSought p t.course.number n) purpose s))) (ap (begins_at t) is) surveys opened
-      v.stage_is.2 v.from_is (let small : a < 64 = v.small in omega (arith, small)) v.nothing v.same
-      (below_next a start t.kept.enrolled t.kept.enrolled gs v.same v.tabled (λ x h. h) (none_drawn large))
-      (λ c r has. (let less : c < a = v.before c r has in omega (arith, less)))
-      (count (wake_frames gs) v.small v.frames)
+      goes o (g.followed.another b n is (λ s. large (subst (λ p. IsSought p t.course.number n) purpose s))) (none_drawn large)
 
 pub sweep_turns : (start : List Gear) (t : Machine) (o : Order) (a : ℕ) (s : Stage) (gs : List Gear) (left : ℕ) → IsGivenBy t o → SurveyStands start t gs left
     → IsNoEnrolment t.last → t.course.purpose ≡ Asking a → stage_of t.trace ≡ s → (s ≡ stage.Free → ⊥) → t.course.way ≡ Surveying → t.opened ≡ false
-    → Sweeps a s t.kept t.asked t.course.from start gs left → AreNumbered gs → IsUncontradicted t → IsWhole (machine_ordered t o)
+    → Sweeps a s t.kept t.heard t.asked t.course.from start gs left → IsKept t.kept → AreNumbered gs → OneShort gs → IsTrue t.kept.enrolled gs
+    → IsUncontradicted t → IsWhole (machine_ordered t o)
     → IsNext start (machine_ordered t o) o gs left
-sweep_turns start t o a stage.Free gs left g st last purpose is running surveys opened v numbered agrees whole = absurd (running refl)
-sweep_turns start t o a (stage.HighAsked b None) gs left g st last purpose is running surveys opened v numbered agrees whole =
-    silent_turns start t o a b gs left g st last purpose is surveys opened v whole
-sweep_turns start t o a (stage.HighAsked b (Some u)) gs left g st last purpose is running surveys opened v numbered agrees whole =
+sweep_turns start t o a stage.Free gs left g st last purpose is running surveys opened v kept numbered one holds agrees whole = absurd (running refl)
+sweep_turns start t o a (stage.HighAsked b None) gs left g st last purpose is running surveys opened v kept numbered one holds agrees whole =
+    silent_turns start t o a b gs left g st last purpose is surveys opened v whole one holds
+sweep_turns start t o a (stage.HighAsked b (Some u)) gs left g st last purpose is running surveys opened v kept numbered one holds agrees whole =
     turns_by start t o (Asking a) (stage.HighAsked b (Some u)) (RandomByte b Middle) gs left g st purpose is refl
     (subst (λ c. c < 64) (sym v.stage_is.0) v.small) refl
-sweep_turns start t o a (stage.MiddleAsked b (Some x)) gs left g st last purpose is running surveys opened v numbered agrees whole =
+sweep_turns start t o a (stage.MiddleAsked b (Some x)) gs left g st last purpose is running surveys opened v kept numbered one holds agrees whole =
     turns_by start t o (Asking a) (stage.MiddleAsked b (Some x)) (RandomByte b Low) gs left g st purpose is refl
     (subst (λ c. c < 64) (sym v.stage_is.0) v.small) refl
-sweep_turns start t o a (stage.Spelled b (Some n)) gs left g st last purpose is running surveys opened v numbered agrees whole =
-    told_turns start t o a b n gs left g st purpose is surveys opened v numbered agrees
-sweep_turns start t o a _ gs left g st last purpose is running surveys opened v numbered agrees whole = absurd v.stage_is
+sweep_turns start t o a (stage.Spelled b (Some n)) gs left g st last purpose is running surveys opened v kept numbered one holds agrees whole =
+    told_turns start t o a b n gs left g st purpose is surveys opened v kept numbered one holds agrees
+sweep_turns start t o a _ gs left g st last purpose is running surveys opened v kept numbered one holds agrees whole = absurd v.stage_is
 
 -- ---------------------------------------------------------------- the wake
 
@@ -203,13 +213,14 @@ woken_over t purpose at f whole =
 
 pub wake_turns : (start : List Gear) (t : Machine) (o : Order) (s : Stage) (gs : List Gear) (left : ℕ) → IsGivenBy t o → SurveyStands start t gs left
     → IsNoEnrolment t.last → t.course.purpose ≡ Waking → stage_of t.trace ≡ s → (s ≡ stage.Free → ⊥) → t.course.way ≡ Surveying
-    → Wakes s t.kept t.opened start gs left → AreNumbered gs → IsWhole (machine_ordered t o) → IsNext start (machine_ordered t o) o gs left
-wake_turns start t o stage.Free gs left g st last purpose is running surveys v numbered whole = absurd (running refl)
-wake_turns start t o stage.Terminated gs left g st last purpose is running surveys v numbered whole =
+    → Wakes s t.kept t.heard t.opened start gs left → IsKept t.kept → AreNumbered gs → IsWhole (machine_ordered t o)
+    → IsNext start (machine_ordered t o) o gs left
+wake_turns start t o stage.Free gs left g st last purpose is running surveys v kept numbered whole = absurd (running refl)
+wake_turns start t o stage.Terminated gs left g st last purpose is running surveys v kept numbered whole =
     turns_by start t o Waking stage.Terminated (Initialise Unaddressed) gs left g st purpose is refl tt refl
-wake_turns start t o stage.InitialisedOnce gs left g st last purpose is running surveys v numbered whole =
+wake_turns start t o stage.InitialisedOnce gs left g st last purpose is running surveys v kept numbered whole =
     turns_by start t o Waking stage.InitialisedOnce (Initialise Unaddressed) gs left g st purpose is refl tt refl
-wake_turns start t o stage.Initialised gs left g st last purpose is running surveys v numbered whole =
+wake_turns start t o stage.Initialised gs left g st last purpose is running surveys v kept numbered whole =
     let opened : IsOpened (those_drawn gs) = woken_opened gs numbered v.gear in
     let unnamed : NoneNamed (those_drawn gs) = woken_none_named gs v.gear in
     let split : count_by is_bare gs ≡ count_by is_bare (those_drawn gs) + count_by is_lost gs = bare_split gs in
@@ -217,11 +228,11 @@ wake_turns start t o stage.Initialised gs left g st last purpose is running surv
     searches_by start t o Surveying (search_frames (count_by is_wanted (those_drawn gs))) gs left (calm_of start t gs left st)
     (begins_whole t o stage.Initialised g is (λ r e. cc) (λ e. cc) (found_at start t gs left stage.Initialised st is) last
     (never_eight t.tries st.tries) (woken_over t purpose is) whole)
-    (ap (begins_at t) is) surveys (λ e. cc) v.stage_is (own_none t.kept t.heard v.nothing) opened unnamed
+    (ap (begins_at t) is) surveys (λ e. cc) v.stage_is (own_settled t.kept t.heard kept.enrolled v.settled v.clear) v.settled opened unnamed
     (tabled_drawn (unseen start) t.kept.enrolled gs v.tabled) (omega arith)
     (enough (count_by is_bare gs) (count_by is_bare (those_drawn gs)) (count_by is_lost gs) (count_by is_wanted (those_drawn gs)) split count v.frames)
   where
     enough : (bare drew lost wanted : ℕ) → bare ≡ drew + lost → wanted ≡ drew → 111 * bare + 17 ≤ left + 3
         → 111 * wanted + 5 + (111 * lost + 9) ≤ left
     enough bare drew lost wanted split count frames = omega (arith, split, count, frames)
-wake_turns start t o _ gs left g st last purpose is running surveys v numbered whole = absurd v.stage_is
+wake_turns start t o _ gs left g st last purpose is running surveys v kept numbered whole = absurd v.stage_is
