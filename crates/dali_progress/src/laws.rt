@@ -5,8 +5,11 @@
 //! succeed; frames that are next are sent, and what the gear answer is heard. So no other controller acts meanwhile, no
 //! frame is destroyed, no answer is lost or damaged, the bus never lapses, and no gear's power comes or goes.
 //!
-//! The last three speak of the runs of rounds that a replay makes of an installation with one controller (`Ran`): each
-//! is such a list of events.
+//! Three speak of the runs of rounds that a replay makes of an installation with one controller (`Ran`): each is such a
+//! list of events.
+//!
+//! Others speak of such a controller that begins by a survey (`SurveysAlone`, `SurveyRounds`), and of what a survey
+//! promises of a machine on any bus (`IsCourse`).
 
 ghost use Rattle.std.specs.Prelude.{◌≡◌, ◌⊎◌, ℕ, ◌+◌, ◌*◌, ◌<◌, ◌≤◌, true, List, [], ◌∷◌, length, Some};
 ghost use Rattle.std.specs.List.{count_by, AllByRecursion};
