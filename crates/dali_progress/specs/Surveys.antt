@@ -12,6 +12,7 @@ use Rattle.dali_script.specs.declared.orders.Order.TheVariants.{Commit}
 use Rattle.dali_script.specs.declared.orders.End.{End}
 use Rattle.dali_script.specs.declared.orders.End.TheVariants.{AllFound, BlockFull, GaveUp}
 use Rattle.dali_controller.specs.Shorts.{has_short}
+use Rattle.dali_controller.specs.Course.{is_anothers}
 use Rattle.dali_controller.specs.Machine.{Machine, at_first}
 use Rattle.dali_controller.specs.Orders.{machine_after}
 use Rattle.dali_controller.specs.Whole.{IsWhole}
@@ -28,24 +29,24 @@ use Rattle.dali_progress.specs.Rounds.{IsOfRound, HasEnded, HasNext}
 
 -- A WHOLE SURVEY, of one controller that is alone on a bus that nothing disturbs.
 
--- WHAT IT KEEPS from before: nothing, or what a survey that ended has left. Each address that is
--- reserved is enrolled so.
-abbrev pub IsSettled : Kept → Type 0
-IsSettled k = (x : Assignment) → Has k.reserved x → Has k.enrolled x
-
--- ONE CONTROLLER ALONE, which is to survey: it is up, and has just begun, with such records; no
--- request waits, of whomever, and nobody owns the bus.
+-- ONE CONTROLLER ALONE, which is to survey: it is up, and has just begun, with whatever records it
+-- keeps; no request waits, of whomever, and nobody owns the bus.
 pub record SurveysAlone (s : SiteState) (c : ℕ) : Type 0 where
   pub run : IsRun s.plan s.queue s.log
   pub up : IsUp (world s) c
   pub told : (controller_at (world s) c).told ≡ Some input.Start
   pub last : (controller_at (world s) c).last ≡ None
-  pub kept : Kept
-  pub records : (controller_at (world s) c).records ≡ kept
-  pub settled : IsSettled kept
-  pub machine : machine_at s c ≡ Some (at_first c kept)
+  pub machine : machine_at s c ≡ Some (at_first c (controller_at (world s) c).records)
   pub bus : (world s).bus ≡ idle s.queue
   pub trace : (world s).trace ≡ []
+
+-- SETTLED RECORDS: nothing, or what a survey that ended has left. Each address that is reserved is
+-- enrolled so.
+abbrev pub IsSettled : Kept → Type 0
+IsSettled k = (x : Assignment) → Has k.reserved x → Has k.enrolled x
+
+abbrev pub IsSettledAt : SiteState → ℕ → Type 0
+IsSettledAt s c = IsSettled (controller_at (world s) c).records
 
 -- WHAT A ROUND OF A SURVEY DOES: the same as a round that begins by Start (`IsOfRound`), but the
 -- controller surveys where Start is due. Its machine is whole afterwards, as the contract of its
@@ -107,20 +108,30 @@ IsTaken m a =
 abbrev pub IsBlockTaken : Machine → Type 0
 IsBlockTaken m = (a : ℕ) → InBlock m.kept.block a → IsTaken m a
 
+-- an address that it has reserved is another's: somebody else was heard under it, or is enrolled
+abbrev pub HoldsAnothers : Machine → Type 0
+HoldsAnothers m =
+    (a : ℕ) × (r : ℕ) × Has m.kept.reserved (a, r) × (is_anothers m.kept m.heard a r ≡ true)
+
 -- WHAT AN END SAYS. With all-found, each gear with power has a short address; or each address of
 -- the block is taken, and gear with power and without short address have no number yet. With
--- block-full, each address of the block is taken. It never gives up.
+-- block-full, each address of the block is taken, or one that it has reserved is another's. It
+-- never gives up.
 abbrev pub NoneButUndrawn : List Gear → Type 0
 NoneButUndrawn gs = OfPowered gs (λ g. g.short ≡ None → g.random ≡ MASK24)
 
 abbrev pub SurveyEndsWell : End → Machine → List Gear → Type 0
 SurveyEndsWell AllFound m gs = OfPowered gs HasShort ⊎ (IsBlockTaken m × NoneButUndrawn gs)
-SurveyEndsWell BlockFull m gs = IsBlockTaken m
+SurveyEndsWell BlockFull m gs = IsBlockTaken m ⊎ HoldsAnothers m
 SurveyEndsWell GaveUp m gs = ⊥
 
 abbrev pub IsSurveyDone : SiteState → ℕ → End → Type 0
 IsSurveyDone s c e =
     (m : Machine) → machine_at s c ≡ Some m → SurveyEndsWell e m (world s).gear
+
+-- with settled records nothing is another's
+abbrev pub IsAllTaken : SiteState → ℕ → Type 0
+IsAllTaken s c = (m : Machine) → machine_at s c ≡ Some m → IsBlockTaken m
 
 -- THE TABLE names each gear that has a short address, whoever gave it; but one that had it at the
 -- start and was not to be seen then: it had no power, or no number that gear draw.
@@ -147,10 +158,6 @@ abbrev pub WasTabled : SiteState → SiteState → ℕ → Type 0
 WasTabled before s c =
     AreSurveyed (world before).gear (controller_at (world before) c).records.enrolled
     (world s).gear
-
--- and what it keeps is such as a survey may begin with
-abbrev pub IsSettledAt : SiteState → ℕ → Type 0
-IsSettledAt s c = IsSettled (controller_at (world s) c).records
 
 -- the site once the controller went down and came up again, with the records that it kept
 abbrev pub restarted : SiteState → ℕ → SiteState

@@ -1,4 +1,5 @@
-use Rattle.std.proofs.Common.{◌≡◌, ℕ, ◌<◌, false, List, [], refl, sym, ap, subst, ◌∙◌, length, length-set, get_or-set_same, Some}
+use Rattle.std.proofs.Common.{true, false}
+use Rattle.std.proofs.Common.{◌≡◌, ℕ, ◌<◌, List, [], refl, sym, ap, subst, ◌∙◌, length, length-set, get_or-set_same, Some}
 use Rattle.std.proofs.Common.{None}
 use Rattle.dali_arbiter.specs.Arbiter.{Arbiter, idle, bus_silenced, owns}
 use Rattle.std.specs.Prelude.{if◌then◌else◌}
@@ -13,7 +14,7 @@ use Rattle.dali_events.specs.Runs.{IsRun}
 use Rattle.dali_standing.specs.Standing.{machine_in}
 use Rattle.dali_world.specs.Site.{SiteState, world, site_logged, machines, machine_at}
 use Rattle.dali_progress.specs.Rounds.{site_after, HasEnded}
-use Rattle.dali_progress.specs.Surveys.{SurveysAlone, SurveyRounds, IsSettled, restarted}
+use Rattle.dali_progress.specs.Surveys.{IsSettledAt, SurveysAlone, SurveyRounds, IsSettled, restarted}
 use Rattle.dali_progress.proofs.Lone.{still, Rests}
 use Rattle.dali_progress.proofs.Bounded.{world_logged, run_logged, machines_logged, some_within}
 use Rattle.dali_progress.proofs.Survey.Bounded.{EndsBy, ended_by}
@@ -54,6 +55,9 @@ trace_again w q c rests = ap (λ (b : Arbiter). if owns b.owner c then [] else w
 world_again : (s : SiteState) (c : ℕ) → world (restarted s c) ≡ happens (happens (world s) (event.Down c)) (event.Up c false)
 world_again s c = world_logged (site_logged s (event.Down c)) (event.Up c false) ∙ ap (λ w. happens w (event.Up c false)) (world_logged s (event.Down c))
 
+again_there : (s : SiteState) (c : ℕ) → IsUp (world s) c → controller_at (world (restarted s c)) c ≡ come_up false (gone_down (controller_at (world s) c))
+again_there s c up = ap (λ w. controller_at w c) (world_again s c) ∙ comes_up (world s) c up
+
 machine_again : (s : SiteState) (c : ℕ) (m : Machine) → machine_at s c ≡ Some m → IsUp (world s) c
     → machine_at (restarted s c) c ≡ Some (at_first c (controller_at (world s) c).records)
 machine_again s c m there up =
@@ -70,11 +74,10 @@ machine_again s c m there up =
     kept : controller_at (world (site_logged s (event.Down c))) c ≡ gone_down (controller_at (world s) c)
     kept = ap (λ w. controller_at w c) (world_logged s (event.Down c)) ∙ down_there (world s) c up
 
-again_by : (s after : SiteState) (c : ℕ) (e : End) → EndsBy s after c e → SurveysAlone (restarted after c) c
+again_by : (s after : SiteState) (c : ℕ) (e : End) → EndsBy true s after c e → SurveysAlone (restarted after c) c
 again_by s after c e by =
     let down : IsRun after.plan after.queue (site_logged after (event.Down c)).log = run_logged after (event.Down c) by.run by.up in
-    let there : controller_at (world (restarted after c)) c ≡ come_up false (gone_down (controller_at (world after) c)) =
-    ap (λ w. controller_at w c) (world_again after c) ∙ comes_up (world after) c by.up in
+    let there : controller_at (world (restarted after c)) c ≡ come_up false (gone_down (controller_at (world after) c)) = again_there after c by.up in
     record {
       run = run_logged (site_logged after (event.Down c)) (event.Up c false) down
           (subst (λ w. IsDown w c) (sym (world_logged after (event.Down c))) (down_is (world after) c by.up), tt);
@@ -86,14 +89,23 @@ again_by s after c e by =
       };
       told = ap (λ (k : Controller). k.told) there;
       last = ap (λ (k : Controller). k.last) there;
-      kept = (controller_at (world after) c).records;
-      records = ap (λ (k : Controller). k.records) there;
-      settled = subst IsSettled by.kept by.settled;
-      machine = machine_again after c by.machine by.there by.up;
+      machine = machine_again after c by.machine by.there by.up ∙ ap (λ (k : Controller). Some (at_first c k.records)) (sym there);
       bus = ap (λ (w : World). w.bus) (world_again after c) ∙ bus_again (world after) after.queue c by.rests;
       trace = ap (λ (w : World). w.trace) (world_again after c) ∙ trace_again (world after) after.queue c by.rests;
     }
 
 pub surveys_again : (s : SiteState) (c : ℕ) (es : List Event) (e : End) → SurveysAlone s c → SurveyRounds s c es → HasEnded (site_after s es) c e
     → SurveysAlone (restarted (site_after s es) c) c
-surveys_again s c es e a rounds ended = again_by s (site_after s es) c e (ended_by s c es e a rounds ended)
+surveys_again s c es e a rounds ended = again_by s (site_after s es) c e (ended_by true s c es e a unsettled rounds ended) where
+  unsettled : true ≡ false → IsSettledAt s c
+  unsettled never = absurd (cc)
+
+-- with the records that it kept
+pub keeps_again : (s : SiteState) (c : ℕ) (es : List Event) (e : End) → SurveysAlone s c → SurveyRounds s c es → HasEnded (site_after s es) c e
+    → IsSettledAt (site_after s es) c → IsSettledAt (restarted (site_after s es) c) c
+keeps_again s c es e a rounds ended settled =
+    let by = ended_by true s c es e a unsettled rounds ended in
+    subst (λ (k : Controller). IsSettled k.records) (sym (again_there (site_after s es) c by.up)) settled
+  where
+    unsettled : true ≡ false → IsSettledAt s c
+    unsettled never = absurd (cc)

@@ -13,7 +13,7 @@ use Rattle.dali_special.specs.Command.{command_of, frame_of, IsSpelled}
 use Rattle.dali_special.proofs.Table.{read_written}
 use Rattle.dali_gear.specs.Gear.{Gear}
 use Rattle.dali_script.specs.declared.records.Record.{Record}
-use Rattle.dali_script.specs.declared.records.Record.TheVariants.{Reserve, Enrol}
+use Rattle.dali_script.specs.declared.records.Record.TheVariants.{Reserve, Enrol, Release}
 use Rattle.dali_script.specs.Records.{Assignment, Kept, Has, HasAddress, with_record, IsMap}
 use Rattle.dali_script.specs.declared.stage.Stage.{Stage}
 use Rattle.dali_script.specs.declared.stage.Stage.TheVariants as stage
@@ -49,7 +49,7 @@ use Rattle.dali_script.proofs.Members.{same_member}
 use Rattle.dali_progress.proofs.Stands.{search_frames, Sends}
 use Rattle.dali_progress.proofs.Turns.{begins_search}
 use Rattle.dali_progress.proofs.Survey.Queried.{OneShort, IsTrue, TabledBelow, unseen, below_all, below_named}
-use Rattle.dali_progress.proofs.Survey.Stands.{IsClear, wake_frames, IsOwn, searched_by, frames_after, Hunts, AreTaken, SurveyEnds}
+use Rattle.dali_progress.proofs.Survey.Stands.{Begun, IsClear, wake_frames, IsOwn, searched_by, frames_after, Hunts, AreTaken, SurveyEnds}
 use Rattle.dali_progress.proofs.Survey.Stands.{SurveyAt, SurveyStands}
 
 -- A TRANSACTION OF A SURVEY BEGINS, or goes on; and what is to come of an order.
@@ -60,37 +60,49 @@ pub record Calm (m : Machine) : Type 0 where
   pub silent : m.silent ≡ 0
 
 -- a gear that told its number is to be enrolled, and then the next short address is asked
-pub record EnrolsSwept (start : List Gear) (m : Machine) (a r : ℕ) (gs : List Gear) (left : ℕ) : Type 0 where
+pub record EnrolsSwept (start : Begun) (m : Machine) (a r : ℕ) (gs : List Gear) (left : ℕ) : Type 0 where
   pub way : m.course.way ≡ Surveying
   pub opened : m.opened ≡ false
   pub asked : m.asked ≡ 0
   pub small : a < 64
   pub from_is : m.course.from ≡ a + 1
-  pub settled : IsSettled m.kept
-  pub clear : IsClear m.kept m.heard
-  pub unreserved : (c : ℕ) → Has m.kept.reserved (c, r) → ⊥
-  pub same : SameCore start gs
-  pub tabled : TabledBelow (a + 1) start (m.kept.enrolled ++ (a, r) ∷ []) gs
-  pub frames : 3 * (63 - a) + wake_frames gs ≤ left
+  pub settled : start.any ≡ false → IsSettled m.kept
+  pub clear : start.any ≡ false → IsClear m.kept m.heard
+  pub unreserved : start.any ≡ false → (c : ℕ) → Has m.kept.reserved (c, r) → ⊥
+  pub same : SameCore start.gear gs
+  pub tabled : TabledBelow (a + 1) start.gear (m.kept.enrolled ++ (a, r) ∷ []) gs
+  pub frames : 3 * (63 - a) + wake_frames start gs ≤ left
+
+-- what was reserved for it is to be released, and then the next short address is asked
+pub record ReleasesSwept (start : Begun) (m : Machine) (a : ℕ) (gs : List Gear) (left : ℕ) : Type 0 where
+  pub any : start.any ≡ true
+  pub way : m.course.way ≡ Surveying
+  pub opened : m.opened ≡ false
+  pub asked : m.asked ≡ 0
+  pub small : a < 64
+  pub from_is : m.course.from ≡ a + 1
+  pub same : SameCore start.gear gs
+  pub tabled : TabledBelow (a + 1) start.gear m.kept.enrolled gs
+  pub frames : 3 * (63 - a) + wake_frames start gs ≤ left
 
 -- a gear that was given its address is to be enrolled, and then a new search begins
-pub record EnrolsHunted (start : List Gear) (m : Machine) (b r : ℕ) (gs : List Gear) (left : ℕ) : Type 0 where
+pub record EnrolsHunted (start : Begun) (m : Machine) (b r : ℕ) (gs : List Gear) (left : ℕ) : Type 0 where
   pub way : m.course.way ≡ Fresh → ⊥
   pub opened : m.opened ≡ true
-  pub own : IsOwn m.kept m.heard
+  pub own : start.any ≡ false → IsOwn m.kept m.heard
   pub ready : IsOpened (searched_by m.course.way gs)
   pub unnamed : NoneNamed (searched_by m.course.way gs)
   pub reserved : Has m.kept.reserved (b, r)
-  pub settled : (x : Assignment) → Has m.kept.reserved x → Has m.kept.enrolled x ⊎ (x.1 ≡ r)
-  pub tabled : AreTabled (unseen start) ((b, r) ∷ m.kept.enrolled) (searched_by m.course.way gs)
-  pub frames : search_frames (count_by is_wanted (searched_by m.course.way gs)) + frames_after m.course.way gs ≤ left
+  pub settled : start.any ≡ false → (x : Assignment) → Has m.kept.reserved x → Has m.kept.enrolled x ⊎ (x.1 ≡ r)
+  pub tabled : AreTabled (unseen start.gear) ((b, r) ∷ m.kept.enrolled) (searched_by m.course.way gs)
+  pub frames : search_frames (count_by is_wanted (searched_by m.course.way gs)) + frames_after m.course.way start gs ≤ left
 
 -- a reservation is to be kept, and then its gear is visited once more
-pub record ReservesHunted (start : List Gear) (m : Machine) (a r : ℕ) (gs : List Gear) (left : ℕ) : Type 0 where
+pub record ReservesHunted (start : Begun) (m : Machine) (a r : ℕ) (gs : List Gear) (left : ℕ) : Type 0 where
   pub way : m.course.way ≡ Fresh → ⊥
   pub opened : m.opened ≡ true
-  pub own : IsOwn m.kept m.heard
-  pub settled : IsSettled m.kept
+  pub own : start.any ≡ false → IsOwn m.kept m.heard
+  pub settled : start.any ≡ false → IsSettled m.kept
   pub open_is : is_open m.kept m.heard a ≡ true
   pub ready : IsOpened (searched_by m.course.way gs)
   pub unnamed : NoneNamed (searched_by m.course.way gs)
@@ -98,30 +110,31 @@ pub record ReservesHunted (start : List Gear) (m : Machine) (a r : ℕ) (gs : Li
   pub drawn : r < MASK24
   pub more : ℕ
   pub count : count_by is_wanted (searched_by m.course.way gs) ≡ suc more
-  pub tabled : AreTabled (unseen start) m.kept.enrolled (searched_by m.course.way gs)
-  pub frames : 7 + search_frames more + frames_after m.course.way gs ≤ left
+  pub tabled : AreTabled (unseen start.gear) m.kept.enrolled (searched_by m.course.way gs)
+  pub frames : 7 + search_frames more + frames_after m.course.way start gs ≤ left
 
-abbrev pub SurveyCommits : List Gear → Machine → Record → List Gear → ℕ → Type 0
+abbrev pub SurveyCommits : Begun → Machine → Record → List Gear → ℕ → Type 0
 SurveyCommits start m (Enrol a r) gs left = EnrolsSwept start m a r gs left ⊎ EnrolsHunted start m a r gs left
 SurveyCommits start m (Reserve a r) gs left = ReservesHunted start m a r gs left
-SurveyCommits start m _ gs left = ⊥
+SurveyCommits start m (Release c r) gs left = (a : ℕ) × ReleasesSwept start m a gs left
 
 -- what is to come of an order
-abbrev pub IsNext : List Gear → Machine → Order → List Gear → ℕ → Type 0
+abbrev pub IsNext : Begun → Machine → Order → List Gear → ℕ → Type 0
 IsNext start m (Put p f) gs left = SurveyStands start m gs left × Sends m.course.purpose m.course.number m.kept (stage_of m.trace) (command_of f)
 IsNext start m (Commit x) gs left = Calm m × SurveyCommits start m x gs left
-IsNext start m (Done e) gs left = SurveyEnds e m.kept m.heard gs × AreTabled (unseen start) m.kept.enrolled gs × IsSettled m.kept
+IsNext start m (Done e) gs left =
+    SurveyEnds start.any e m.kept m.heard gs × AreTabled (unseen start.gear) m.kept.enrolled gs × (start.any ≡ false → IsSettled m.kept)
 IsNext start m (Halt why) gs left = ⊥
 
-pub calm_ordered : (start : List Gear) (t : Machine) (o : Order) (gs : List Gear) (left : ℕ) → SurveyStands start t gs left → Calm (machine_ordered t o)
+pub calm_ordered : (start : Begun) (t : Machine) (o : Order) (gs : List Gear) (left : ℕ) → SurveyStands start t gs left → Calm (machine_ordered t o)
 calm_ordered start t o gs left st = record { tries = st.tries; silent = st.silent }
 
-pub calm_of : (start : List Gear) (t : Machine) (gs : List Gear) (left : ℕ) → SurveyStands start t gs left → Calm t
+pub calm_of : (start : Begun) (t : Machine) (gs : List Gear) (left : ℕ) → SurveyStands start t gs left → Calm t
 calm_of start t gs left st = record { tries = st.tries; silent = st.silent }
 
 -- ---------------------------------------------------------------- a later frame, and a first one
 
-pub later_by : (start : List Gear) (t : Machine) (o : Order) (p : Purpose) (s : Stage) (c : Command) (gs : List Gear) (left : ℕ) → SurveyStands start t gs left
+pub later_by : (start : Begun) (t : Machine) (o : Order) (p : Purpose) (s : Stage) (c : Command) (gs : List Gear) (left : ℕ) → SurveyStands start t gs left
     → o ≡ Put LATER (frame_of c) → IsSpelled c → t.course.purpose ≡ p → stage_of t.trace ≡ s → Sends p t.course.number t.kept s c
     → IsNext start (machine_ordered t o) o gs left
 later_by start t o p s c gs left st is spelled purpose at sends = subst (λ q. IsNext start (machine_ordered t q) q gs left) (sym is) (
@@ -129,13 +142,13 @@ later_by start t o p s c gs left st is spelled purpose at sends = subst (λ q. I
   subst (λ d. Sends t.course.purpose t.course.number t.kept (stage_of t.trace) d) (sym (read_written c spelled)) (rw (purpose, at) sends),
 )
 
-pub turns_by : (start : List Gear) (t : Machine) (o : Order) (p : Purpose) (s : Stage) (c : Command) (gs : List Gear) (left : ℕ) → IsGivenBy t o
+pub turns_by : (start : Begun) (t : Machine) (o : Order) (p : Purpose) (s : Stage) (c : Command) (gs : List Gear) (left : ℕ) → IsGivenBy t o
     → SurveyStands start t gs left → t.course.purpose ≡ p → stage_of t.trace ≡ s → turn_of p t.course.number s ≡ Some c → IsSpelled c
     → Sends p t.course.number t.kept s c → IsNext start (machine_ordered t o) o gs left
 turns_by start t o p s c gs left g st purpose at turn spelled sends =
     later_by start t o p s c gs left st (given.turns t o c g (rw (purpose, at) turn)) spelled purpose at sends
 
-goes_first : (start : List Gear) (t : Machine) (o : Order) (gs : List Gear) (left : ℕ) → Calm t → o ≡ beginning (next_course t)
+goes_first : (start : Begun) (t : Machine) (o : Order) (gs : List Gear) (left : ℕ) → Calm t → o ≡ beginning (next_course t)
     → IsSpelled (first_of (next_course t).purpose (next_course t).number)
     → SurveyAt (next_course t).purpose (next_course t).way stage.Free t.kept t.heard t.opened t.asked (next_course t).search (next_course t).number
     (next_course t).from start gs left
@@ -153,7 +166,7 @@ goes_first start t o gs left calm is spelled at = subst (λ q. IsNext start (mac
       (read_written (first_of (next_course t).purpose (next_course t).number) spelled),
 )
 
-pub first_by : (start : List Gear) (t : Machine) (o : Order) (cs : Course) (gs : List Gear) (left : ℕ) → Calm t → o ≡ beginning (next_course t)
+pub first_by : (start : Begun) (t : Machine) (o : Order) (cs : Course) (gs : List Gear) (left : ℕ) → Calm t → o ≡ beginning (next_course t)
     → next_course t ≡ cs → IsSpelled (first_of cs.purpose cs.number)
     → SurveyAt cs.purpose cs.way stage.Free t.kept t.heard t.opened t.asked cs.search cs.number cs.from start gs left
     → IsNext start (machine_ordered t o) o gs left
@@ -196,10 +209,12 @@ asked_within k (suc n) from c e = go (is_asked k from) e (asked_within k n (from
   go true e more = let same : from ≡ c = cc in (omega (arith, same), omega (arith, same))
   go false e more = let there = more e in let low : from + 1 ≤ c = there.0 in let high : c < from + 1 + n = there.1 in (omega (arith, low), omega (arith, high))
 
-pub asks_on : (start : List Gear) (t : Machine) (o : Order) (f : ℕ) (gs : List Gear) (left : ℕ) → Calm t → o ≡ beginning (next_course t)
-    → next_course t ≡ goes_on_to t → t.course.way ≡ Surveying → t.opened ≡ false → t.asked ≡ 0 → t.course.from ≡ f → f ≤ 64 → IsSettled t.kept
-    → IsClear t.kept t.heard → OneShort gs → IsTrue t.kept.enrolled gs → SameCore start gs → TabledBelow f start t.kept.enrolled gs
-    → 3 * (64 - f) + wake_frames gs ≤ left → IsNext start (machine_ordered t o) o gs left
+pub asks_on : (start : Begun) (t : Machine) (o : Order) (f : ℕ) (gs : List Gear) (left : ℕ) → Calm t → o ≡ beginning (next_course t)
+    → next_course t ≡ goes_on_to t → t.course.way ≡ Surveying → t.opened ≡ false → t.asked ≡ 0 → t.course.from ≡ f → f ≤ 64
+    → (start.any ≡ false → IsSettled t.kept)
+    → (start.any ≡ false → IsClear t.kept t.heard) → OneShort gs → IsTrue t.kept.enrolled gs → SameCore start.gear gs
+    → TabledBelow f start.gear t.kept.enrolled gs
+    → 3 * (64 - f) + wake_frames start gs ≤ left → IsNext start (machine_ordered t o) o gs left
 asks_on start t o f gs left calm is next surveys opened asked from few settled clear one holds same tabled enough =
     go (next_asked t.kept f) course (asked_later t.kept (64 - f) f) (asked_before t.kept (64 - f) f) (asked_within t.kept (64 - f) f) where
       course : next_course t ≡ ask_or_wake t.course (next_asked t.kept f)
@@ -226,9 +241,9 @@ asks_on start t o f gs left calm is next surveys opened asked from few settled c
               clear = clear;
               same = same;
               stage_is = inl asked;
-              tabled = below_named f d start t.kept.enrolled gs one holds tabled
+              tabled = below_named f d start.gear t.kept.enrolled gs one holds tabled
                   (λ c past under. unasked_enrolled t.kept c (before d refl c past under));
-              frames = count (wake_frames gs) d t.asked low small asked enough;
+              frames = count (wake_frames start gs) d t.asked low small asked enough;
             },
           )
         where
@@ -243,10 +258,10 @@ asks_on start t o f gs left calm is next surveys opened asked from few settled c
               settled = settled;
               clear = clear;
               gear = λ k in_row on. tt;
-              tabled = below_all start t.kept.enrolled gs same
-                  (below_named f 64 start t.kept.enrolled gs one holds tabled
+              tabled = below_all start.gear t.kept.enrolled gs same
+                  (below_named f 64 start.gear t.kept.enrolled gs one holds tabled
                   (λ c past under. unasked_enrolled t.kept c (none refl c past (omega (arith, under, few)))));
-              frames = count (wake_frames gs) enough;
+              frames = count (wake_frames start gs) enough;
             },
           )
         where
@@ -255,10 +270,11 @@ asks_on start t o f gs left calm is next surveys opened asked from few settled c
 
 -- ---------------------------------------------------------------- a new search
 
-pub searches_by : (start : List Gear) (t : Machine) (o : Order) (y : Way) (rest : ℕ) (gs : List Gear) (left : ℕ) → Calm t → o ≡ beginning (next_course t)
-    → next_course t ≡ searching_anew t.course → t.course.way ≡ y → (y ≡ Fresh → ⊥) → t.opened ≡ true → IsOwn t.kept t.heard
-    → IsSettled t.kept → IsOpened (searched_by y gs) → NoneNamed (searched_by y gs) → AreTabled (unseen start) t.kept.enrolled (searched_by y gs)
-    → search_frames (count_by is_wanted (searched_by y gs)) ≤ rest → rest + frames_after y gs ≤ left → IsNext start (machine_ordered t o) o gs left
+pub searches_by : (start : Begun) (t : Machine) (o : Order) (y : Way) (rest : ℕ) (gs : List Gear) (left : ℕ) → Calm t → o ≡ beginning (next_course t)
+    → next_course t ≡ searching_anew t.course → t.course.way ≡ y → (y ≡ Fresh → ⊥) → t.opened ≡ true → (start.any ≡ false → IsOwn t.kept t.heard)
+    → (start.any ≡ false → IsSettled t.kept) → IsOpened (searched_by y gs) → NoneNamed (searched_by y gs)
+    → AreTabled (unseen start.gear) t.kept.enrolled (searched_by y gs)
+    → search_frames (count_by is_wanted (searched_by y gs)) ≤ rest → rest + frames_after y start gs ≤ left → IsNext start (machine_ordered t o) o gs left
 searches_by start t o y rest gs left calm is next way other opened own settled ready unnamed tabled enough frames =
     first_by start t o (searching_anew t.course) gs left calm is next tt
     (subst (λ z. Hunts Probing z stage.Free t.kept t.heard t.opened (searching_anew t.course).search (searching_anew t.course).number start gs left) (sym way)

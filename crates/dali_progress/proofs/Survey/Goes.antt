@@ -17,6 +17,7 @@ use Rattle.dali_arbiter.specs.declared.request.Request.{Request}
 use Rattle.dali_arbiter.specs.Arbiter.{next}
 use Rattle.dali_script.specs.declared.finding.Finding.{Finding}
 use Rattle.dali_script.specs.declared.records.Record.{Record}
+use Rattle.dali_script.specs.declared.records.Record.TheVariants.{Reserve, Enrol, Release}
 use Rattle.dali_script.specs.Records.{Assignment, Has, IsKept}
 use Rattle.dali_script.specs.Findings.{assigned, search_of, asked_of, found_by, later, finding_of}
 use Rattle.dali_script.specs.Scripts.{Lawful, IsLawful}
@@ -56,42 +57,42 @@ use Rattle.dali_progress.proofs.Lone.{lone_next, lone_sent}
 use Rattle.dali_progress.proofs.Lone.{sent_last}
 use Rattle.dali_progress.proofs.Frames.{Seeks}
 use Rattle.dali_progress.proofs.Turns.{never_eight, with_kept}
-use Rattle.dali_progress.proofs.Goes.{slack, slack_in, slack_one, slack_first, not_free, no_tries, addresses_by, put_no_enrolment, IsKnown, taken_of}
+use Rattle.dali_progress.proofs.Goes.{not_free, no_tries, addresses_by, put_no_enrolment, IsKnown, taken_of}
 use Rattle.dali_progress.proofs.Survey.Drawn.{AreNumbered, apart_drawn}
 use Rattle.dali_progress.proofs.Survey.Queried.{OneShort, IsTrue, below_none}
-use Rattle.dali_progress.proofs.Survey.Stands.{wake_frames, SurveyAt, SurveyStands}
+use Rattle.dali_progress.proofs.Survey.Stands.{Begun, wake_frames, SurveyAt, SurveyStands}
 use Rattle.dali_progress.proofs.Survey.Sent.{IsSurveyTaken, IsTold, SurveySent, survey_sent}
 use Rattle.dali_progress.proofs.Survey.Begins.{Calm, SurveyCommits, IsNext, asks_on}
 use Rattle.dali_progress.proofs.Survey.Turns.{IsUncontradicted}
 use Rattle.dali_progress.proofs.Survey.Hunting.{turned}
-use Rattle.dali_progress.proofs.Survey.Kept.{committed, committed_begins}
+use Rattle.dali_progress.proofs.Survey.Kept.{committed, begins_less, enrol_slack, enrol_one, survey_slack}
 
 -- A SURVEY GOES ON, event by event.
 
 -- before the start
-pub record IsUnsurveyed (start : List Gear) (m : Machine) (gs : List Gear) (left : ℕ) : Type 0 where
+pub record IsUnsurveyed (start : Begun) (m : Machine) (gs : List Gear) (left : ℕ) : Type 0 where
   pub calm : Calm m
   pub free : m.trace ≡ []
-  pub settled : IsSettled m.kept
+  pub settled : start.any ≡ false → IsSettled m.kept
   pub unmarked : (c : ℕ) → has_short m.heard c ≡ false
   pub unopened : m.opened ≡ false
   pub unasked : m.asked ≡ 0
   pub first : m.course.from ≡ 0
-  pub same : SameCore start gs
-  pub frames : 192 + wake_frames gs ≤ left
+  pub same : SameCore start.gear gs
+  pub frames : 192 + wake_frames start gs ≤ left
 
 -- a frame was heard: the machine stands so, once it is told
-pub record Hears (start : List Gear) (m : Machine) (f : Forward) (h : Answer) (gs : List Gear) (left : ℕ) : Type 0 where
+pub record Hears (start : Begun) (m : Machine) (f : Forward) (h : Answer) (gs : List Gear) (left : ℕ) : Type 0 where
   pub stands : SurveyStands start (machine_heard m (Some f) h) gs left
   pub running : stage_of (machine_heard m (Some f) h).trace ≡ stage.Free → ⊥
 
-abbrev pub Holds : List Gear → Machine → Option Order → Option Input → List Gear → ℕ → Type 0
+abbrev pub Holds : Begun → Machine → Option Order → Option Input → List Gear → ℕ → Type 0
 Holds start m None (Some input.Start) gs left = IsUnsurveyed start m gs left
 Holds start m (Some (Put p f)) (Some (input.Heard h)) gs left = Hears start m f h gs left
 Holds start m (Some o) None gs left = IsNext start m o gs left
 Holds start m _ _ gs left = ⊥
 
-pub record Goes (start : List Gear) (w : World) (q c : ℕ) (m : Machine) (left : ℕ) : Type 0 where
+pub record Goes (start : Begun) (w : World) (q c : ℕ) (m : Machine) (left : ℕ) : Type 0 where
   pub lone : IsLone w q c m
   pub found : IsFound (controller_at w c) m
   pub holds : Holds start m (controller_at w c).last (controller_at w c).told w.gear left
@@ -158,16 +159,25 @@ uncontradicted w c t agree there kept found x is contradicts =
 -- ---------------------------------------------------------------- the controller acts
 
 -- what is to come of its order, and that events before the next frame are one less
-abbrev ActsTo : List Gear → Machine → Order → List Gear → ℕ → Option Order → Option Input → Type 0
-ActsTo start n o gs left last told = IsNext start n o gs left × (slack (Some o) None + 1 ≤ slack last told)
+abbrev ActsTo : Begun → Machine → Order → List Gear → ℕ → Option Order → Option Input → Type 0
+ActsTo start n o gs left last told = IsNext start n o gs left × (survey_slack start.any (Some o) None + 1 ≤ survey_slack start.any last told)
 
-begins_slack : (o : Order) (t : Machine) (n : ℕ) → o ≡ beginning (next_course t) → 1 ≤ n → slack (Some o) None + 1 ≤ n
-begins_slack o t n is one = let none : slack (Some o) None ≡ 0 = slack_first o (next_course t) is in omega (arith, none, one)
+order_slack : (any : Bool) (o : Order) → survey_slack any (Some o) None ≤ enrol_slack any
+order_slack any (Put p f) = omega arith
+order_slack any (Commit (Enrol a r)) = omega arith
+order_slack any (Commit x) = enrol_one any
+order_slack any (Done e) = omega arith
+order_slack any (Halt why) = omega arith
+
+commit_slack : (any : Bool) (x : Record) (told : Option Input) → survey_slack any (Some (Commit x)) told ≡ survey_slack any (Some (Commit x)) None
+commit_slack any (Enrol a r) told = refl
+commit_slack any (Reserve a r) told = refl
+commit_slack any (Release a r) told = refl
 
 no_enrolment_yet : IsNoEnrolment None
 no_enrolment_yet b n e = cc
 
-survey_acts : (start : List Gear) (m : Machine) (o : Order) (gs : List Gear) (left : ℕ) (told : Option Input) → m.last ≡ None
+survey_acts : (start : Begun) (m : Machine) (o : Order) (gs : List Gear) (left : ℕ) (told : Option Input) → m.last ≡ None
     → IsGivenBy (machine_surveying m) o → OneShort gs → IsTrue m.kept.enrolled gs → IsUnsurveyed start m gs left
     → ActsTo start (machine_ordered (machine_surveying m) o) o gs left None told
 survey_acts start m o gs left told last g one holds v =
@@ -176,14 +186,14 @@ survey_acts start m o gs left told last g one holds v =
     given.begins_free (machine_surveying m) o g v.free (subst IsNoEnrolment (sym last) no_enrolment_yet) (never_eight m.tries v.calm.tries) in (
       asks_on start (machine_surveying m) o 0 gs left (record { tries = v.calm.tries; silent = v.calm.silent }) begins
           (ap (begins_at (machine_surveying m)) at ∙ ap (at_rest (machine_surveying m)) last) refl v.unopened v.unasked v.first (omega arith) v.settled
-          (λ c q has. v.unmarked c) one holds v.same (below_none start m.kept.enrolled gs) (count (wake_frames gs) v.frames),
-      begins_slack o (machine_surveying m) 1 begins (omega arith),
+          (λ e c q has. v.unmarked c) one holds v.same (below_none start.gear m.kept.enrolled gs) (count (wake_frames start gs) v.frames),
+      begins_less o (machine_surveying m) start.any 1 begins (omega arith),
     )
   where
     count : (wake : ℕ) → 192 + wake ≤ left → 3 * (64 - 0) + wake ≤ left
     count wake enough = omega (arith, enough)
 
-heard_acts : (start : List Gear) (m : Machine) (p : ℕ) (f : Forward) (h : Answer) (o : Order) (gs : List Gear) (left : ℕ)
+heard_acts : (start : Begun) (m : Machine) (p : ℕ) (f : Forward) (h : Answer) (o : Order) (gs : List Gear) (left : ℕ)
     → m.last ≡ Some (Put p f) → IsGivenBy (machine_told m (input.Heard h)) o → IsKept m.kept → AreNumbered gs → OneShort gs
     → IsTrue (machine_told m (input.Heard h)).kept.enrolled gs
     → IsUncontradicted (machine_told m (input.Heard h)) → IsWhole (machine_after m (input.Heard h) o) → Hears start m f h gs left
@@ -193,26 +203,26 @@ heard_acts start m p f h o gs left is g kept numbered one holds agreed whole hea
       (turned start (machine_heard m (Some f) h) o gs left (subst (λ t. IsGivenBy t o) same g) hears.stands kept numbered one
       (subst (λ (t : Machine). IsTrue t.kept.enrolled gs) same holds) (subst IsUncontradicted same agreed)
       (subst (λ t. IsWhole (machine_ordered t o)) same whole) (put_no_enrolment p f m.last is) hears.running),
-  (let one : slack (Some o) None ≤ 1 = slack_one o in omega (arith, one)),
+  (let one : survey_slack start.any (Some o) None ≤ enrol_slack start.any = order_slack start.any o in omega (arith, one)),
 ) where
   same : machine_told m (input.Heard h) ≡ machine_heard m (Some f) h
   same = ap (λ l. machine_heard m (frame_put l) h) is
 
-kept_acts : (start : List Gear) (m : Machine) (x : Record) (o : Order) (gs : List Gear) (left : ℕ) (told : Option Input) → m.last ≡ Some (Commit x)
+kept_acts : (start : Begun) (m : Machine) (x : Record) (o : Order) (gs : List Gear) (left : ℕ) (told : Option Input) → m.last ≡ Some (Commit x)
     → IsGivenBy (machine_told m input.Committed) o → IsKept m.kept → OneShort gs
     → IsTrue (machine_told m input.Committed).kept.enrolled gs → m.trace ≡ [] → Calm m × SurveyCommits start m x gs left
     → ActsTo start (machine_after m input.Committed o) o gs left (Some (Commit x)) told
-kept_acts start m x o gs left told is g kept one holds free commits = (
-  subst (λ t. IsNext start (machine_ordered t o) o gs left) (sym same)
-      (committed start m x o gs left commits.0 commits.1 free is kept.reserved (subst (λ t. IsGivenBy t o) same g) one
-      (subst (λ (t : Machine). IsTrue t.kept.enrolled gs) same holds)),
-  begins_slack o (with_kept m x) 1 (committed_begins start m x o gs left commits.0 commits.1 free is kept.reserved (subst (λ t. IsGivenBy t o) same g))
-      (omega arith),
-) where
-  same : machine_told m input.Committed ≡ with_kept m x
-  same = ap (λ l. machine_committed m (record_ordered l)) is
+kept_acts start m x o gs left told is g kept one holds free commits =
+    let to = committed start m x o gs left commits.0 commits.1 free is kept.reserved (subst (λ t. IsGivenBy t o) same g) one
+    (subst (λ (t : Machine). IsTrue t.kept.enrolled gs) same holds) in (
+      subst (λ t. IsNext start (machine_ordered t o) o gs left) (sym same) to.0,
+      subst (λ n. survey_slack start.any (Some o) None + 1 ≤ n) (sym (commit_slack start.any x told)) to.1,
+    )
+  where
+    same : machine_told m input.Committed ≡ with_kept m x
+    same = ap (λ l. machine_committed m (record_ordered l)) is
 
-acts : (start : List Gear) (w : World) (q c : ℕ) (m : Machine) (out : Option Record) (last : Option Order) (told : Option Input) (i : Input) (o : Order)
+acts : (start : Begun) (w : World) (q c : ℕ) (m : Machine) (out : Option Record) (last : Option Order) (told : Option Input) (i : Input) (o : Order)
     (left : ℕ) → Moment w q c m out last told → m.last ≡ last → IsDueOf last told i → Surveys i → IsGivenBy (machine_told m i) o → IsKept m.kept
     → AreNumbered w.gear → OneShort w.gear → IsTrue (machine_told m i).kept.enrolled w.gear
     → ((b : Answer) → i ≡ input.Heard b → IsUncontradicted (machine_told m i)) → IsWhole (machine_after m i o)
@@ -268,16 +278,19 @@ lone_acts w q c m input.Destroyed o l surveys addresses here = lone_acted w q c 
 lone_acts w q c m input.Lapsed o l surveys addresses here = lone_acted w q c m input.Lapsed o l tt addresses here
 lone_acts w q c m input.Committed o l surveys addresses here = lone_acted w q c m input.Committed o l tt addresses here
 
+abbrev pub slack_now : Bool → World → ℕ → ℕ
+slack_now any w c = survey_slack any (controller_at w c).last (controller_at w c).told
+
 not_failed : (i : Input) → Surveys i → i ≡ input.CommitFailed → ⊥
 not_failed i surveys e = subst Surveys e surveys
 
-holds_next : (start : List Gear) (m : Machine) (o : Order) (gs : List Gear) (left : ℕ) → IsNext start m o gs left → Holds start m (Some o) None gs left
+holds_next : (start : Begun) (m : Machine) (o : Order) (gs : List Gear) (left : ℕ) → IsNext start m o gs left → Holds start m (Some o) None gs left
 holds_next start m (Put p f) gs left next = next
 holds_next start m (Commit x) gs left next = next
 holds_next start m (Done e) gs left next = next
 holds_next start m (Halt why) gs left next = next
 
-next_holds : (start : List Gear) (m : Machine) (o : Order) (gs : List Gear) (left : ℕ) → Holds start m (Some o) None gs left → IsNext start m o gs left
+next_holds : (start : Begun) (m : Machine) (o : Order) (gs : List Gear) (left : ℕ) → Holds start m (Some o) None gs left → IsNext start m o gs left
 next_holds start m (Put p f) gs left next = next
 next_holds start m (Commit x) gs left next = next
 next_holds start m (Done e) gs left next = next
@@ -291,9 +304,10 @@ pub record IsSurveyed (w : World) (c : ℕ) : Type 0 where
   pub holds : IsTrue (controller_at w c).records.enrolled w.gear
   pub agree : FindingsAgree w
 
-pub goes_acted : (start : List Gear) (w : World) (q c : ℕ) (m : Machine) (i : Input) (o : Order) (left : ℕ) → Goes start w q c m left → Surveys i
+pub goes_acted : (start : Begun) (w : World) (q c : ℕ) (m : Machine) (i : Input) (o : Order) (left : ℕ) → Goes start w q c m left → Surveys i
     → Allowed w (event.Acted c i o) → IsGiven m i o → IsWhole (machine_after m i o) → IsSurveyed w c → KeepsPromiseNow (happens w (event.Acted c i o))
-    → Goes start (happens w (event.Acted c i o)) q c (machine_after m i o) left × (slack_in (happens w (event.Acted c i o)) c + 1 ≤ slack_in w c)
+    → Goes start (happens w (event.Acted c i o)) q c (machine_after m i o) left
+    × (slack_now start.any (happens w (event.Acted c i o)) c + 1 ≤ slack_now start.any w c)
 goes_acted start w q c m i o left goes surveys here given whole known promise = (
   record {
     lone = lone;
@@ -335,7 +349,7 @@ goes_acted start w q c m i o left goes surveys here given whole known promise = 
 
 -- no stage on the way is one of a search that led to no gear
 never_silent : (p : Purpose) (y : Way) (s : Stage) (k : Kept) (heard : Shorts) (opened o : Bool) (asked : ℕ) (x : Search) (n : SearchAddress) (from : ℕ)
-    (start gs : List Gear) (left : ℕ)
+    (start : Begun) (gs : List Gear) (left : ℕ)
     → SurveyAt p y s k heard opened asked x n from start gs left → silent_after s o 0 ≡ 0
 never_silent (Asking a) y (stage.Unanswered r) k heard opened o asked x n from start gs left at = absurd at.2.stage_is
 never_silent (Asking a) y (stage.Inconclusive r other) k heard opened o asked x n from start gs left at = absurd at.2.stage_is
@@ -352,7 +366,7 @@ never_silent (Closing e) y (stage.Inconclusive r other) k heard opened o asked x
 never_silent (Resolving a) y s k heard opened o asked x n from start gs left at = absurd at
 never_silent p y _ k heard opened o asked x n from start gs left at = refl
 
-stands_heard : (start : List Gear) (m : Machine) (f : Forward) (h : Answer) (gs : List Gear) (numbers : List ℕ) (left : ℕ) → SurveyStands start m gs left
+stands_heard : (start : Begun) (m : Machine) (f : Forward) (h : Answer) (gs : List Gear) (numbers : List ℕ) (left : ℕ) → SurveyStands start m gs left
     → IsLawful m.trace f
     → (sent : SurveySent m.course.purpose m.course.way (stage_of m.trace) m.kept m.heard m.opened m.asked m.course.search m.course.number m.course.from start gs
     numbers left (command_of f) h) → SurveyStands start (machine_heard m (Some f) h) (row_after Everyone (command_of f) 0 gs numbers) sent.0
@@ -400,7 +414,7 @@ found_sent w q c m p f h l last untold told running found =
     was : later (controller_at w c).finding (finding_of m.trace) ≡ (controller_at w c).finding
     was = subst (λ t. later (controller_at w c).finding (finding_of (informed_by m t).trace) ≡ (controller_at w c).finding) untold found
 
-pub goes_sent : (start : List Gear) (w : World) (q c : ℕ) (m : Machine) (r : Request) (h : Answer) (left : ℕ) → Goes start w q c m left
+pub goes_sent : (start : Begun) (w : World) (q c : ℕ) (m : Machine) (r : Request) (h : Answer) (left : ℕ) → Goes start w q c m left
     → next w.bus ≡ Some r → Allowed w (event.Sent r.sender r.frame h) → IsKnown w r.sender r.frame h → IsSurveyed w c
     → h ≡ heard_of (answers_of Everyone (command_of r.frame) 0 w.gear)
     → (l : ℕ) × (left ≡ suc l) × Goes start (happens w (event.Sent r.sender r.frame h)) q c m l
@@ -453,12 +467,13 @@ goes_sent start w q c m r h left goes is here known surveyed heard =
           },
         )
 
-pub sent_less : (start : List Gear) (w : World) (q c : ℕ) (m : Machine) (r : Request) (h : Answer) (left : ℕ) → Goes start w q c m left
-    → next w.bus ≡ Some r → (slack_in (happens w (event.Sent r.sender r.frame h)) c ≡ 2) × (slack_in w c ≡ 0)
+pub sent_less : (start : Begun) (w : World) (q c : ℕ) (m : Machine) (r : Request) (h : Answer) (left : ℕ) → Goes start w q c m left
+    → next w.bus ≡ Some r → (slack_now start.any (happens w (event.Sent r.sender r.frame h)) c ≡ enrol_slack start.any + 1) × (slack_now start.any w c ≡ 0)
 sent_less start w q c m r h left goes is =
     let put = lone_next w q c m r goes.lone is in
     let last : (controller_at w c).last ≡ Some (Put put.0 r.frame) = sym goes.lone.last ∙ put.1 in
     let lone = lone_sent w q c m put.0 r.frame h goes.lone put.1 put.2 in (
-      subst (λ d. slack_in (happens w (event.Sent d r.frame h)) c ≡ 2) (sym put.3) (rw (sent_last w c r.frame h goes.lone.up, lone.1, last) refl),
+      subst (λ d. slack_now start.any (happens w (event.Sent d r.frame h)) c ≡ enrol_slack start.any + 1) (sym put.3)
+          (rw (sent_last w c r.frame h goes.lone.up, lone.1, last) refl),
       rw (last, put.2) refl,
     )

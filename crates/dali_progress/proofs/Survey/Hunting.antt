@@ -1,14 +1,12 @@
-use Rattle.std.proofs.Common.{◌≡◌, ℕ, ◌+◌, ◌-◌, ◌*◌, ◌<◌, ◌≤◌, ◌⊎◌, inl, inr, Bool, true, false, List, [], ◌∷◌, refl, sym, ap, subst, ◌∙◌, arith, length}
+use Rattle.std.proofs.Common.{◌≡◌, ℕ, ◌+◌, ◌-◌, ◌*◌, ◌<◌, ◌≤◌, ◌⊎◌, inl, inr, Bool, true, false, suc, List, [], ◌∷◌, refl, sym, ap, subst, ◌∙◌, arith, length}
 use Rattle.std.proofs.Common.{Option, Some, None}
-use Rattle.std.specs.Prelude.{◌&&◌, ◌==◌, if◌then◌else◌, is_some, MatchOption}
+use Rattle.std.specs.Prelude.{◌==◌, if◌then◌else◌, is_some, MatchOption}
 use Rattle.std.specs.List.{count_by}
 use Rattle.dali_frame.specs.declared.frames.Answer.{Answer}
 use Rattle.dali_frame.specs.declared.numbers.SearchAddress.{SearchAddress}
 use Rattle.dali_frame.specs.Random.{value_of, MASK24}
-use Rattle.dali_frame.specs.Priority.{LATER}
 use Rattle.dali_special.specs.declared.command.Command.TheVariants.{Program, Initialise, Randomise}
 use Rattle.dali_special.specs.declared.command.Target.TheVariants.{Unaddressed}
-use Rattle.dali_special.specs.Command.{frame_of}
 use Rattle.dali_gear.specs.Gear.{Gear}
 use Rattle.dali_script.specs.declared.records.Record.TheVariants.{Reserve, Enrol}
 use Rattle.dali_script.specs.declared.finding.Finding.TheVariants.{Queried}
@@ -33,13 +31,14 @@ use Rattle.dali_controller.specs.declared.way.Way.TheVariants.{Fresh, Surveying,
 use Rattle.dali_controller.specs.Course.{is_yes, closing_of, after_step, address_for, least_open, is_open, is_anothers, drawing}
 use Rattle.dali_controller.specs.Course.{closing as closing_by}
 use Rattle.dali_controller.specs.Machine.{Machine}
-use Rattle.dali_controller.specs.Next.{next_course, begins_at, beginning, course_by, draw_or_close, draws, draws_by, has_open, probed_to, is_withheld_by}
+use Rattle.dali_controller.specs.Next.{next_course, begins_at, beginning, course_by, draw_or_close, draws, draws_by, has_open, probed_to, is_withheld}
+use Rattle.dali_controller.specs.Next.{is_withheld_by}
 use Rattle.dali_controller.specs.Orders.{machine_ordered, AfterFinding, AfterMaskBy, AfterReserved}
 use Rattle.dali_controller.specs.Whole.{IsWhole}
 use Rattle.dali_controller.proofs.Given as given
 use Rattle.dali_controller.proofs.Given.{IsGivenBy, IsNoEnrolment}
 use Rattle.dali_events.specs.Searching.{HasShort}
-use Rattle.dali_events.specs.Wanted.{gear_of, is_wanted, wants, is_bare, OfPowered}
+use Rattle.dali_events.specs.Wanted.{IsOpened, NoneNamed, gear_of, is_wanted, wants, is_bare, OfPowered}
 use Rattle.dali_events.proofs.Search.Wanted as wanted
 use Rattle.dali_events.proofs.Search.Opened as opening
 use Rattle.dali_progress.specs.Rounds.{AreTabled}
@@ -53,7 +52,7 @@ use Rattle.dali_progress.proofs.Accounted.{surveyed_mask, open_is}
 use Rattle.dali_progress.proofs.Survey.Drawn.{those_drawn, is_undrawn, is_lost, AreNumbered, bare_split, drawn_tabled, kept_at, drawn_length, undrawn_random}
 use Rattle.dali_progress.proofs.Survey.Drawn.{count_nothing}
 use Rattle.dali_progress.proofs.Survey.Queried.{OneShort, IsTrue, unseen}
-use Rattle.dali_progress.proofs.Survey.Stands.{IsOwn, searched_by, frames_after, Hunts, SurveyCloses, SurveyAt, SurveyStands}
+use Rattle.dali_progress.proofs.Survey.Stands.{Begun, spare, IsOwn, searched_by, frames_after, Hunts, SurveyCloses, SurveyAt, SurveyStands}
 use Rattle.dali_progress.proofs.Survey.Begins.{Calm, IsNext, calm_of, calm_ordered, later_by, turns_by, first_by, searches_by, all_taken}
 use Rattle.dali_progress.proofs.Survey.Turns.{IsUncontradicted, found_at, sweep_turns, wake_turns}
 
@@ -61,7 +60,7 @@ use Rattle.dali_progress.proofs.Survey.Turns.{IsUncontradicted, found_at, sweep_
 
 -- ---------------------------------------------------------------- the opening
 
-opening_turns : (start : List Gear) (t : Machine) (o : Order) (s : Stage) (gs : List Gear) (left : ℕ) → IsGivenBy t o → SurveyStands start t gs left
+opening_turns : (start : Begun) (t : Machine) (o : Order) (s : Stage) (gs : List Gear) (left : ℕ) → IsGivenBy t o → SurveyStands start t gs left
     → IsNoEnrolment t.last → t.course.purpose ≡ Opening → stage_of t.trace ≡ s → (s ≡ stage.Free → ⊥)
     → Hunts Opening t.course.way s t.kept t.heard t.opened t.course.search t.course.number start gs left → IsNext start (machine_ordered t o) o gs left
 opening_turns start t o stage.Free gs left g st last purpose is running v = absurd (running refl)
@@ -79,15 +78,15 @@ opening_turns start t o stage.Opened gs left g st last purpose is running v =
       enough bare rest after one two = omega (arith, one, two)
 
       go : (hs : List Gear) → hs ≡ gs → At Opening stage.Opened t.kept true t.course.search t.course.number hs v.rest
-          → AreTabled (unseen start) (to_come stage.Opened t.course.number t.kept.enrolled) hs → IsNext start (machine_ordered t o) o gs left
+          → AreTabled (unseen start.gear) (to_come stage.Opened t.course.number t.kept.enrolled) hs → IsNext start (machine_ordered t o) o gs left
       go hs same at tabled =
           let here : Opens stage.Opened true gs v.rest = subst (λ ks. Opens stage.Opened true ks v.rest) same at in
           let count : count_by is_wanted gs ≡ count_by is_bare gs = opening.opened_count gs here.gear in
           searches_by start t o Drawing (search_frames (count_by is_bare gs)) gs left (calm_of start t gs left st)
           (given.begins_after t o stage.Opened g is tt (found_at start t gs left stage.Opened st is) last (never_eight t.tries st.tries))
           (ap (begins_at t) is) v.way (λ e. cc) v.opened_is v.own v.settled (opening.opened_is gs here.gear) (opening.opened_none_named gs here.gear)
-          (subst (λ ks. AreTabled (unseen start) t.kept.enrolled ks) same tabled)
-          (omega (arith, count)) (enough (count_by is_bare gs) v.rest (frames_after t.course.way gs) here.frames v.frames)
+          (subst (λ ks. AreTabled (unseen start.gear) t.kept.enrolled ks) same tabled)
+          (omega (arith, count)) (enough (count_by is_bare gs) v.rest (frames_after t.course.way start gs) here.frames v.frames)
 opening_turns start t o _ gs left g st last purpose is running v = absurd v.at.stage_is
 
 -- ---------------------------------------------------------------- a probe that was answered
@@ -114,11 +113,12 @@ probed_next : (t : Machine) (h : Answer) (r : SearchAddress) → stage_of t.trac
 probed_next t h r is = ap (begins_at t) is
 
 -- the search is over: gear draw new numbers, or the close comes
-search_over : (start : List Gear) (t : Machine) (o : Order) (y : Way) (h : Answer) (r : SearchAddress) (rest : ℕ) (gs : List Gear) (left : ℕ) → Calm t
-    → o ≡ beginning (next_course t) → stage_of t.trace ≡ stage.Probed r h → t.course.way ≡ y → (y ≡ Fresh → ⊥) → t.opened ≡ true → IsOwn t.kept t.heard
-    → IsSettled t.kept
+search_over : (start : Begun) (t : Machine) (o : Order) (y : Way) (h : Answer) (r : SearchAddress) (rest : ℕ) (gs : List Gear) (left : ℕ) → Calm t
+    → o ≡ beginning (next_course t) → stage_of t.trace ≡ stage.Probed r h → t.course.way ≡ y → (y ≡ Fresh → ⊥) → t.opened ≡ true
+    → (start.any ≡ false → IsOwn t.kept t.heard)
+    → (start.any ≡ false → IsSettled t.kept)
     → (answered t.course.search (is_yes h)).step ≡ Nobody → OfPowered (searched_by y gs) HasShort
-    → AreTabled (unseen start) t.kept.enrolled (searched_by y gs) → 1 ≤ rest + 0 → rest + frames_after y gs ≤ left
+    → AreTabled (unseen start.gear) t.kept.enrolled (searched_by y gs) → 1 ≤ rest + 0 → rest + frames_after y start gs ≤ left
     → IsNext start (machine_ordered t o) o gs left
 search_over start t o Fresh h r rest gs left calm begins is way other opened own settled nobody all tabled some enough = absurd (other refl)
 search_over start t o Drawing h r rest gs left calm begins is way other opened own settled nobody all tabled some enough =
@@ -134,8 +134,8 @@ search_over start t o Surveying h r rest gs left calm begins is way other opened
       probed_next t h r is ∙ ap (λ s. probed_to t s (record t.course { search = answered t.course.search (is_yes h) })) nobody
       ∙ ap (λ b. draw_or_close b (record t.course { search = answered t.course.search (is_yes h) }) AllFound) (ap (draws_by t) way)
 
-  whole_table : AreTabled (unseen start) t.kept.enrolled gs
-  whole_table = drawn_tabled (unseen start) t.kept.enrolled gs tabled
+  whole_table : AreTabled (unseen start.gear) t.kept.enrolled gs
+  whole_table = drawn_tabled (unseen start.gear) t.kept.enrolled gs tabled
 
   split : count_by is_bare gs ≡ count_by is_lost gs
   split = let parts = bare_split gs in let none = none_bare (those_drawn gs) all in omega (arith, parts, none)
@@ -152,10 +152,10 @@ search_over start t o Surveying h r rest gs left calm begins is way other opened
         rest = 10 + 111 * count_by is_bare gs;
         at = record { stage_is = refl; gear = λ k in_row on. tt; frames = omega arith };
         tabled = whole_table;
-        frames = count rest (count_by is_bare gs) (count_by is_lost gs) split some enough;
+        frames = count rest (count_by is_bare gs) (count_by is_lost gs) (spare start.any) split some enough;
       }) where
-        count : (rest bare lost : ℕ) → bare ≡ lost → 1 ≤ rest + 0 → rest + (111 * lost + 9) ≤ left → 10 + 111 * bare + 0 ≤ left
-        count rest bare lost split some enough = omega (arith, split, some, enough)
+        count : (rest bare lost more : ℕ) → bare ≡ lost → 1 ≤ rest + 0 → rest + (111 * lost + 9 + more) ≤ left → 10 + 111 * bare + 0 ≤ left
+        count rest bare lost more split some enough = omega (arith, split, some, enough)
   go false none =
       first_by start t o (closing_by (record t.course { search = answered t.course.search (is_yes h) }) AllFound) gs left calm begins
       (next ∙ ap (λ b. draw_or_close b (record t.course { search = answered t.course.search (is_yes h) }) AllFound) none) tt
@@ -164,7 +164,7 @@ search_over start t o Surveying h r rest gs left calm begins is way other opened
         well = inr (all_taken t.kept t.heard (nothing (least_open t.kept t.heard) none), none_but gs all);
         settled = settled;
         tabled = whole_table;
-        frames = count rest (111 * count_by is_lost gs + 9) some enough;
+        frames = count rest (111 * count_by is_lost gs + 9 + spare start.any) some enough;
       }) where
         nothing : (p : Option ℕ) → is_some p ≡ false → p ≡ None
         nothing None e = refl
@@ -173,7 +173,7 @@ search_over start t o Surveying h r rest gs left calm begins is way other opened
         count : (rest after : ℕ) → 1 ≤ rest + 0 → rest + after ≤ left → 1 ≤ left + 0
         count rest after some enough = omega (arith, some, enough)
 
-probing_turns : (start : List Gear) (t : Machine) (o : Order) (s : Stage) (gs : List Gear) (left : ℕ) → IsGivenBy t o → SurveyStands start t gs left
+probing_turns : (start : Begun) (t : Machine) (o : Order) (s : Stage) (gs : List Gear) (left : ℕ) → IsGivenBy t o → SurveyStands start t gs left
     → IsNoEnrolment t.last → t.course.purpose ≡ Probing → stage_of t.trace ≡ s → (s ≡ stage.Free → ⊥)
     → Hunts Probing t.course.way s t.kept t.heard t.opened t.course.search t.course.number start gs left → IsNext start (machine_ordered t o) o gs left
 probing_turns start t o stage.Free gs left g st last purpose is running v = absurd (running refl)
@@ -217,7 +217,7 @@ probing_turns start t o (stage.Probed r h) gs left g st last purpose is running 
         way = v.way;
         opened_is = v.opened_is;
         own = v.own;
-        settled = λ x has. inl (v.settled x has);
+        settled = λ e x has. inl (v.settled e x has);
         rest = v.rest;
         at = there.1;
         tabled = v.tabled;
@@ -243,23 +243,80 @@ found_address (p ∷ xs) r = go (p.1 == r) refl (address_for xs r) (found_addres
     none_of (inr h) = none h
   go false is (Some a) there = inr there
 
-unwithheld : (t : Machine) (y : Way) (a r : ℕ) → is_anothers t.kept t.heard a r ≡ false → is_withheld_by t y a r ≡ false
-unwithheld t Fresh a r own = refl
-unwithheld t Surveying a r own = go t.opened where
-  go : (b : Bool) → (b && is_anothers t.kept t.heard a r) ≡ false
-  go true = own
-  go false = refl
-unwithheld t Drawing a r own = go t.opened where
-  go : (b : Bool) → (b && is_anothers t.kept t.heard a r) ≡ false
-  go true = own
-  go false = refl
+withheld_anothers : (t : Machine) (y : Way) (a r : ℕ) → is_withheld_by t y a r ≡ true → is_anothers t.kept t.heard a r ≡ true
+withheld_anothers t Fresh a r withheld = absurd (cc)
+withheld_anothers t Surveying a r withheld = (wanted.both_pass t.opened (is_anothers t.kept t.heard a r) withheld).1
+withheld_anothers t Drawing a r withheld = (wanted.both_pass t.opened (is_anothers t.kept t.heard a r) withheld).1
 
 undrawn_by : (t : Machine) (y : Way) → (y ≡ Fresh → ⊥) → least_open t.kept t.heard ≡ None → draws_by t y ≡ false
 undrawn_by t Fresh other none = absurd (other refl)
 undrawn_by t Surveying other none = ap is_some none
 undrawn_by t Drawing other none = refl
 
-unnamed_turns : (start : List Gear) (t : Machine) (o : Order) (r : SearchAddress) (gs : List Gear) (left : ℕ) → IsGivenBy t o → SurveyStands start t gs left
+-- what is reserved for its number is another's: gear draw new numbers, or the close comes
+withheld_turns : (start : Begun) (t : Machine) (o : Order) (r : SearchAddress) (a : ℕ) (gs : List Gear) (left : ℕ) → IsGivenBy t o
+    → SurveyStands start t gs left
+    → stage_of t.trace ≡ stage.Unnamed r
+    → Hunts Visiting t.course.way (stage.Unnamed r) t.kept t.heard t.opened t.course.search t.course.number start gs left
+    → Has t.kept.reserved (a, value_of r) → is_anothers t.kept t.heard a (value_of r) ≡ true → o ≡ beginning (next_course t)
+    → IsNext start (machine_ordered t o) o gs left
+withheld_turns start t o r a gs left g st is v has other begins =
+    go t.course.way refl v.way w.ready w.unnamed w.visited.count v.tabled v.frames where
+      w : Visits (stage.Unnamed r) t.kept t.course.number (searched_by t.course.way gs) v.rest
+      w = v.at.1
+
+      any : start.any ≡ true
+      any = by start.any refl where
+        by : (b : Bool) → start.any ≡ b → start.any ≡ true
+        by true e = e
+        by false e = absurd (let never : true ≡ false = sym other ∙ v.own e a (value_of r) has in cc)
+
+      never : start.any ≡ false → ⊥
+      never e = let both : true ≡ false = sym any ∙ e in cc
+
+      enough : VisitFrames t.kept t.course.number w.more (v.rest + 4) → 3 + search_frames w.more ≤ v.rest
+      enough (inl e) = let some : 7 + search_frames w.more ≤ v.rest + 4 = e.1 in omega (arith, some)
+      enough (inr e) = omega (arith, e)
+
+      closes : (draws t ≡ false) → AreTabled (unseen start.gear) t.kept.enrolled gs → 1 ≤ left + 0 → IsNext start (machine_ordered t o) o gs left
+      closes none tabled some =
+          first_by start t o (closing_by t.course BlockFull) gs left (calm_of start t gs left st) begins
+          (ap (begins_at t) is ∙ ap (λ b. draw_or_close b t.course BlockFull) none) tt
+          (record { stage_is = tt; well = inr (any, (a, value_of r, has, other)); settled = λ e. absurd (never e); tabled = tabled; frames = some })
+
+      some_left : (after : ℕ) → v.rest + after ≤ left → 1 ≤ left + 0
+      some_left after frames = let need : 3 + search_frames w.more ≤ v.rest = enough w.frames in omega (arith, need, frames)
+
+      go : (y : Way) → t.course.way ≡ y → (y ≡ Fresh → ⊥) → IsOpened (searched_by y gs) → NoneNamed (searched_by y gs)
+          → count_by is_wanted (searched_by y gs) ≡ suc w.more → AreTabled (unseen start.gear) t.kept.enrolled (searched_by y gs)
+          → v.rest + frames_after y start gs ≤ left → IsNext start (machine_ordered t o) o gs left
+      go Fresh way fresh ready unnamed count tabled frames = absurd (fresh refl)
+      go Drawing way fresh ready unnamed count tabled frames = closes (ap (draws_by t) way) tabled (some_left 0 frames)
+      go Surveying way fresh ready unnamed count tabled frames = by (has_open t) refl where
+        by : (b : Bool) → has_open t ≡ b → IsNext start (machine_ordered t o) o gs left
+        by false none =
+            closes (ap (draws_by t) way ∙ none) (drawn_tabled (unseen start.gear) t.kept.enrolled gs tabled)
+            (some_left (111 * count_by is_lost gs + 9 + spare start.any) frames)
+        by true open_there =
+            first_by start t o (drawing t.course) gs left (calm_of start t gs left st) begins
+            (ap (begins_at t) is ∙ ap (λ b. draw_or_close b t.course BlockFull) (ap (draws_by t) way ∙ open_there)) tt
+            (record {
+              way = refl;
+              opened_is = v.opened_is;
+              own = λ e. absurd (never e);
+              settled = λ e. absurd (never e);
+              rest = 10 + 111 * count_by is_bare gs;
+              at = record { stage_is = refl; gear = λ k in_row on. tt; frames = omega arith };
+              tabled = drawn_tabled (unseen start.gear) t.kept.enrolled gs tabled;
+              frames = sum v.rest (count_by is_bare gs) (count_by is_bare (those_drawn gs)) (count_by is_lost gs) (count_by is_wanted (those_drawn gs)) w.more
+                  (bare_split gs) (wanted.wanted_count (those_drawn gs) ready unnamed) count (enough w.frames)
+                  (subst (λ b. v.rest + (111 * count_by is_lost gs + 9 + spare b) ≤ left) any frames);
+            }) where
+              sum : (rest bare drew lost sought more : ℕ) → bare ≡ drew + lost → sought ≡ drew → sought ≡ suc more → 3 + (111 * more + 5) ≤ rest
+                  → rest + (111 * lost + 9 + 104) ≤ left → 10 + 111 * bare + 0 ≤ left
+              sum rest bare drew lost sought more split same count need frames = omega (arith, split, same, count, need, frames)
+
+unnamed_turns : (start : Begun) (t : Machine) (o : Order) (r : SearchAddress) (gs : List Gear) (left : ℕ) → IsGivenBy t o → SurveyStands start t gs left
     → IsKept t.kept → t.course.purpose ≡ Visiting → stage_of t.trace ≡ stage.Unnamed r
     → Hunts Visiting t.course.way (stage.Unnamed r) t.kept t.heard t.opened t.course.search t.course.number start gs left
     → IsNext start (machine_ordered t o) o gs left
@@ -281,8 +338,8 @@ unnamed_turns start t o r gs left g st kept purpose is v =
       some (inr e) = omega (arith, e)
 
       -- nothing is reserved for the number, so all that is reserved is enrolled
-      settled : (HasRandom t.kept.reserved (value_of r) → ⊥) → IsSettled t.kept
-      settled none x has = by (v.settled x has) where
+      settled : (HasRandom t.kept.reserved (value_of r) → ⊥) → start.any ≡ false → IsSettled t.kept
+      settled none e x has = by (v.settled e x has) where
         by : Has t.kept.enrolled x ⊎ (x.1 ≡ value_of t.course.number) → Has t.kept.enrolled x
         by (inl enrolled) = enrolled
         by (inr number) =
@@ -305,7 +362,7 @@ unnamed_turns start t o r gs left g st kept purpose is v =
           more = w.more;
           count = w.visited.count;
           tabled = v.tabled;
-          frames = count (search_frames w.more) v.rest (frames_after t.course.way gs) (frames none w.frames) v.frames;
+          frames = count (search_frames w.more) v.rest (frames_after t.course.way start gs) (frames none w.frames) v.frames;
         },
       ) where
         count : (search rest after : ℕ) → 7 + search ≤ rest → rest + after ≤ left → 7 + search + after ≤ left
@@ -313,11 +370,17 @@ unnamed_turns start t o r gs left g st kept purpose is v =
 
       go : (given_to : Option ℕ) → MatchOption given_to (HasRandom t.kept.reserved (value_of r) → ⊥) (λ a. Has t.kept.reserved (a, value_of r))
           → (free : Option ℕ) → least_open t.kept t.heard ≡ free → AfterMaskBy t r given_to free o → IsNext start (machine_ordered t o) o gs left
-      go (Some a) has free least mask =
-          let small : a < 64 = kept.reserved.short a (has_address t.kept.reserved a (value_of r) has) in
-          let puts : o ≡ Put LATER (frame_of (Program (Some a))) =
-          subst (λ b. AfterReserved t a b o) (unwithheld t t.course.way a (value_of r) (v.own a (value_of r) has)) mask in
-          later_by start t o Visiting (stage.Unnamed r) (Program (Some a)) gs left st puts small purpose is (a, small, has, refl)
+      go (Some a) has free least mask = by (is_withheld t a (value_of r)) refl where
+        small : a < 64
+        small = kept.reserved.short a (has_address t.kept.reserved a (value_of r) has)
+
+        by : (b : Bool) → is_withheld t a (value_of r) ≡ b → IsNext start (machine_ordered t o) o gs left
+        by false free =
+            later_by start t o Visiting (stage.Unnamed r) (Program (Some a)) gs left st (subst (λ b. AfterReserved t a b o) free mask) small purpose is
+            (a, small, has, refl)
+        by true withheld =
+            withheld_turns start t o r a gs left g st is v has (withheld_anothers t t.course.way a (value_of r) withheld)
+            (subst (λ b. AfterReserved t a b o) withheld mask)
       go None none (Some a) least mask =
           subst (λ q. IsNext start (machine_ordered t q) q gs left) (sym mask)
           (reserves a (open_is t.kept t.heard (t.kept.block.last + 1 - t.kept.block.first) t.kept.block.first a least) none)
@@ -327,21 +390,22 @@ unnamed_turns start t o r gs left g st kept purpose is v =
           (ap (begins_at t) is ∙ ap (λ b. draw_or_close b t.course BlockFull) none_drawn) tt
           (record {
             stage_is = tt;
-            well = all_taken t.kept t.heard least;
+            well = inl (all_taken t.kept t.heard least);
             settled = settled none;
             tabled = names t.course.way v.way v.tabled;
-            frames = count v.rest (frames_after t.course.way gs) (some w.frames) v.frames;
+            frames = count v.rest (frames_after t.course.way start gs) (some w.frames) v.frames;
           })
         where
           count : (rest after : ℕ) → 1 ≤ rest → rest + after ≤ left → 1 ≤ left + 0
           count rest after one two = omega (arith, one, two)
 
-          names : (y : Way) → (y ≡ Fresh → ⊥) → AreTabled (unseen start) t.kept.enrolled (searched_by y gs) → AreTabled (unseen start) t.kept.enrolled gs
+          names : (y : Way) → (y ≡ Fresh → ⊥) → AreTabled (unseen start.gear) t.kept.enrolled (searched_by y gs)
+              → AreTabled (unseen start.gear) t.kept.enrolled gs
           names Fresh other tabled = tabled
           names Drawing other tabled = tabled
-          names Surveying other tabled = drawn_tabled (unseen start) t.kept.enrolled gs tabled
+          names Surveying other tabled = drawn_tabled (unseen start.gear) t.kept.enrolled gs tabled
 
-withdrawn_turns : (start : List Gear) (t : Machine) (o : Order) (r : SearchAddress) (a : ℕ) (gs : List Gear) (left : ℕ) → IsGivenBy t o
+withdrawn_turns : (start : Begun) (t : Machine) (o : Order) (r : SearchAddress) (a : ℕ) (gs : List Gear) (left : ℕ) → IsGivenBy t o
     → SurveyStands start t gs left → IsKept t.kept → t.course.purpose ≡ Visiting → stage_of t.trace ≡ stage.Withdrawn r a
     → Hunts Visiting t.course.way (stage.Withdrawn r a) t.kept t.heard t.opened t.course.search t.course.number start gs left → IsUncontradicted t
     → IsNext start (machine_ordered t o) o gs left
@@ -352,15 +416,16 @@ withdrawn_turns start t o r a gs left g st kept purpose is v agreed = go o g (g.
   reserved : Has t.kept.reserved (a, value_of r)
   reserved = subst (λ (m : SearchAddress). Has t.kept.reserved (a, value_of m)) (sym w.searched) w.reserved
 
-  tabled : AreTabled (unseen start) ((a, value_of r) ∷ t.kept.enrolled) (searched_by t.course.way gs)
-  tabled = subst (λ (m : SearchAddress). AreTabled (unseen start) ((a, value_of m) ∷ t.kept.enrolled) (searched_by t.course.way gs)) (sym w.searched) v.tabled
+  tabled : AreTabled (unseen start.gear) ((a, value_of r) ∷ t.kept.enrolled) (searched_by t.course.way gs)
+  tabled = subst (λ (m : SearchAddress). AreTabled (unseen start.gear) ((a, value_of m) ∷ t.kept.enrolled) (searched_by t.course.way gs))
+      (sym w.searched) v.tabled
 
   same : value_of t.course.number ≡ value_of r
   same = ap value_of (sym w.searched)
 
   -- the one that is reserved for the number is that entry
-  settled : Has t.kept.enrolled (a, value_of r) → IsSettled t.kept
-  settled entry x has = by (v.settled x has) where
+  settled : Has t.kept.enrolled (a, value_of r) → start.any ≡ false → IsSettled t.kept
+  settled entry e x has = by (v.settled e x has) where
     by : Has t.kept.enrolled x ⊎ (x.1 ≡ value_of t.course.number) → Has t.kept.enrolled x
     by (inl enrolled) = enrolled
     by (inr number) =
@@ -377,7 +442,7 @@ withdrawn_turns start t o r a gs left g st kept purpose is v agreed = go o g (g.
       (given.withdrawn_known t (Put p f) r a g is kept.enrolled has) (ap (begins_at t) is ∙ goes_on_anew t v.opened_is) refl v.way v.opened_is v.own
       (settled has)
       w.ready w.unnamed
-      (tabled_over (unseen start) ((a, value_of r) ∷ t.kept.enrolled) t.kept.enrolled (searched_by t.course.way gs) (λ x h. twice x h has) tabled)
+      (tabled_over (unseen start.gear) ((a, value_of r) ∷ t.kept.enrolled) t.kept.enrolled (searched_by t.course.way gs) (λ x h. twice x h has) tabled)
       w.frames v.frames
   go (Commit x) g has = subst (λ y. IsNext start (machine_ordered t (Commit y)) (Commit y) gs left) (sym has) (
     calm_ordered start t (Commit (Enrol a (value_of r))) gs left st,
@@ -388,9 +453,9 @@ withdrawn_turns start t o r a gs left g st kept purpose is v agreed = go o g (g.
       ready = w.ready;
       unnamed = w.unnamed;
       reserved = reserved;
-      settled = λ x is. by x (v.settled x is);
+      settled = λ e x is. by x (v.settled e x is);
       tabled = tabled;
-      frames = count (search_frames (count_by is_wanted (searched_by t.course.way gs))) v.rest (frames_after t.course.way gs) w.frames v.frames;
+      frames = count (search_frames (count_by is_wanted (searched_by t.course.way gs))) v.rest (frames_after t.course.way start gs) w.frames v.frames;
     }),
   ) where
     by : (x : Assignment) → Has t.kept.enrolled x ⊎ (x.1 ≡ value_of t.course.number) → Has t.kept.enrolled x ⊎ (x.1 ≡ value_of r)
@@ -402,7 +467,7 @@ withdrawn_turns start t o r a gs left g st kept purpose is v agreed = go o g (g.
   go (Done e) g has = absurd has
   go (Halt why) g has = absurd (agreed (Queried a (value_of r)) (found_at start t gs left (stage.Withdrawn r a) st is) has)
 
-visiting_turns : (start : List Gear) (t : Machine) (o : Order) (s : Stage) (gs : List Gear) (left : ℕ) → IsGivenBy t o → SurveyStands start t gs left
+visiting_turns : (start : Begun) (t : Machine) (o : Order) (s : Stage) (gs : List Gear) (left : ℕ) → IsGivenBy t o → SurveyStands start t gs left
     → IsKept t.kept → t.course.purpose ≡ Visiting → stage_of t.trace ≡ s → (s ≡ stage.Free → ⊥)
     → Hunts Visiting t.course.way s t.kept t.heard t.opened t.course.search t.course.number start gs left → IsUncontradicted t
     → IsNext start (machine_ordered t o) o gs left
@@ -424,7 +489,7 @@ visiting_turns start t o _ gs left g st kept purpose is running v agreed = absur
 
 -- ---------------------------------------------------------------- the close
 
-closing_turns : (start : List Gear) (t : Machine) (o : Order) (e : End) (s : Stage) (gs : List Gear) (left : ℕ) → IsGivenBy t o → SurveyStands start t gs left
+closing_turns : (start : Begun) (t : Machine) (o : Order) (e : End) (s : Stage) (gs : List Gear) (left : ℕ) → IsGivenBy t o → SurveyStands start t gs left
     → t.course.purpose ≡ Closing e → stage_of t.trace ≡ s → (s ≡ stage.Free → ⊥)
     → SurveyCloses e s t.kept t.heard start gs left → IsNext start (machine_ordered t o) o gs left
 closing_turns start t o e stage.Free gs left g st purpose is running v = absurd (running refl)
@@ -437,7 +502,7 @@ closing_turns start t o e _ gs left g st purpose is running v = absurd v.stage_i
 -- ---------------------------------------------------------------- of whatever transaction
 
 -- after a frame that was heard
-pub turned : (start : List Gear) (t : Machine) (o : Order) (gs : List Gear) (left : ℕ) → IsGivenBy t o → SurveyStands start t gs left → IsKept t.kept
+pub turned : (start : Begun) (t : Machine) (o : Order) (gs : List Gear) (left : ℕ) → IsGivenBy t o → SurveyStands start t gs left → IsKept t.kept
     → AreNumbered gs → OneShort gs → IsTrue t.kept.enrolled gs → IsUncontradicted t → IsWhole (machine_ordered t o) → IsNoEnrolment t.last
     → (stage_of t.trace ≡ stage.Free → ⊥)
     → IsNext start (machine_ordered t o) o gs left

@@ -1,8 +1,7 @@
-use Rattle.std.proofs.Common.{◌≡◌, ℕ, ◌+◌, ◌*◌, List, [], ◌∷◌, refl, sym, ap, subst, ◌∙◌, Option, Some, None}
+use Rattle.std.proofs.Common.{◌≡◌, ℕ, ◌+◌, ◌*◌, List, [], ◌∷◌, refl, sym, ap, subst, ◌∙◌, true, false, Option, Some, None}
 use Rattle.std.specs.List.{AllByRecursion, count_by}
 use Rattle.dali_frame.specs.declared.frames.Forward.{Forward}
 use Rattle.dali_frame.specs.declared.frames.Answer.{Answer}
-use Rattle.dali_gear.specs.Gear.{Gear}
 use Rattle.dali_script.specs.declared.records.Record.{Record}
 use Rattle.dali_script.specs.Records.{Kept}
 use Rattle.dali_script.specs.declared.orders.Input.{Input}
@@ -18,10 +17,11 @@ use Rattle.dali_events.specs.Allowed.{Allowed, IsUp, IsDue, IsCommit}
 use Rattle.dali_events.specs.Wanted.{is_bare}
 use Rattle.dali_world.specs.Site.{SiteState, world, site_logged}
 use Rattle.dali_progress.specs.Rounds.{site_after, HasEnded}
-use Rattle.dali_progress.specs.Surveys.{SurveysAlone, IsOfSurvey, SurveyRounds, CommitsNothing, WasTabled, AreSurveyed}
+use Rattle.dali_progress.specs.Surveys.{IsSettledAt, SurveysAlone, IsOfSurvey, SurveyRounds, CommitsNothing, WasTabled, AreSurveyed}
 use Rattle.dali_progress.proofs.Lone.{acted_there, sent_there, lone_next}
 use Rattle.dali_progress.proofs.Bounded.{world_logged}
-use Rattle.dali_progress.proofs.Survey.Bounded.{Runs, runs_on, starts, tabled}
+use Rattle.dali_progress.proofs.Survey.Bounded.{Runs, began_at, runs_on, starts, tabled}
+use Rattle.dali_progress.proofs.Survey.Stands.{Begun, spare}
 
 -- A SURVEY THAT COMMITS NOTHING keeps the records that it began with.
 
@@ -62,7 +62,7 @@ sent_keeps w c f h up none = (
   λ x e. none x (sym (ap (λ (k : Controller). k.last) (sent_there w c f h up)) ∙ e),
 )
 
-event_keeps : (start : List Gear) (s : SiteState) (c left : ℕ) (e : Event) → Runs start s c left → Allowed (world s) e → IsOfSurvey s c e → CommitsNothing e
+event_keeps : (start : Begun) (s : SiteState) (c left : ℕ) (e : Event) → Runs start s c left → Allowed (world s) e → IsOfSurvey s c e → CommitsNothing e
     → IsNone (controller_at (world s) c).last → Keeps (world s) (happens (world s) e) c
 event_keeps start s c left (event.Acted d i o) u here of quiet none =
     subst (λ n. Allowed (world s) (event.Acted n i o) → Keeps (world s) (happens (world s) (event.Acted n i o)) c) (sym of.0)
@@ -72,7 +72,7 @@ event_keeps start s c left (event.Sent d f h) u here of quiet none =
     subst (λ n. Keeps (world s) (happens (world s) (event.Sent n f h)) c) (sym (of.2 ∙ put.3)) (sent_keeps (world s) c f h u.goes.lone.up none)
 event_keeps start s c left _ u here of quiet none = absurd of
 
-all_keep : (start : List Gear) (s : SiteState) (c left : ℕ) (es : List Event) → Runs start s c left → SurveyRounds s c es → AllByRecursion CommitsNothing es
+all_keep : (start : Begun) (s : SiteState) (c left : ℕ) (es : List Event) → Runs start s c left → SurveyRounds s c es → AllByRecursion CommitsNothing es
     → IsNone (controller_at (world s) c).last → (controller_at (world (site_after s es)) c).records ≡ (controller_at (world s) c).records
 all_keep start s c left [] u rounds quiet none = refl
 all_keep start s c left (e ∷ es) u rounds quiet none =
@@ -85,6 +85,9 @@ pub quiet_tabled : (s : SiteState) (c : ℕ) (es : List Event) (e : End) → Sur
     → HasEnded (site_after s es) c e → WasTabled s (site_after s es) c
 quiet_tabled s c es e a rounds quiet ended =
     subst (λ (k : Kept). AreSurveyed (world s).gear k.enrolled (world (site_after s es)).gear)
-    (all_keep (world s).gear s c (111 * count_by is_bare (world s).gear + 209) es (starts s c a) rounds quiet
+    (all_keep (began_at true s) s c (111 * count_by is_bare (world s).gear + 209 + spare true) es (starts true s c a unsettled) rounds quiet
     (λ x is. (let never : None ≡ Some (Commit x) = sym a.last ∙ is in cc)))
     (tabled s c es e a rounds ended)
+  where
+    unsettled : true ≡ false → IsSettledAt s c
+    unsettled never = absurd (cc)

@@ -55,7 +55,8 @@ use Rattle.dali_progress.proofs.Survey.Drawn.{no_draw}
 use Rattle.dali_progress.proofs.Survey.Drawn.{still_of, lost_same, seek_drawn}
 use Rattle.dali_progress.proofs.Survey.Queried.{Holds, OneGear, OneShort, one_gear, IsTrue, Nobody, HasAnswered, asked_gear, core_then, holds_on, holds_back}
 use Rattle.dali_progress.proofs.Survey.Queried.{unseen, below_on}
-use Rattle.dali_progress.proofs.Survey.Stands.{IsClear, IsClearBut, IsClearAt, wake_frames, silent_left, asked_left, Tells, AskStage, Sweeps, Wakes}
+use Rattle.dali_progress.proofs.Survey.Stands.{Begun, spare, IsClear, IsClearBut, IsClearAt, wake_frames, silent_left, asked_left, Tells, AskStage, Sweeps}
+use Rattle.dali_progress.proofs.Survey.Stands.{Wakes}
 use Rattle.dali_progress.proofs.Survey.Stands.{searched_by, frames_after}
 use Rattle.dali_progress.proofs.Survey.Stands.{IsOnWay, opened_at, Hunts, SurveyEnds, SurveyCloses, SurveyAt}
 
@@ -109,18 +110,18 @@ nobody_on : (gs hs : List Gear) (a : ℕ) → SameCore gs hs → Nobody gs a →
 nobody_on gs hs a same none g holds = none g (holds_back gs hs g a same holds)
 
 -- the same sweep, one frame later
-sweeps_on : (a : ℕ) (s t : Stage) (k : Kept) (marks after : Shorts) (asked now from : ℕ) (start gs hs : List Gear) (left l : ℕ)
-    → Sweeps a s k marks asked from start gs left → SameCore gs hs → AskStage t a now hs → IsClearAt t a k after
-    → 3 * (63 - a) + asked_left t now + wake_frames gs ≤ l → Sweeps a t k after now from start hs l
+sweeps_on : (a : ℕ) (s t : Stage) (k : Kept) (marks after : Shorts) (asked now from : ℕ) (start : Begun) (gs hs : List Gear) (left l : ℕ)
+    → Sweeps a s k marks asked from start gs left → SameCore gs hs → AskStage t a now hs → (start.any ≡ false → IsClearAt t a k after)
+    → 3 * (63 - a) + asked_left t now + wake_frames start gs ≤ l → Sweeps a t k after now from start hs l
 sweeps_on a s t k marks after asked now from start gs hs left l v same stage clear enough = record {
   small = v.small;
   from_is = v.from_is;
   settled = v.settled;
   clear = clear;
-  same = core_then start gs hs v.same same;
+  same = core_then start.gear gs hs v.same same;
   stage_is = stage;
-  tabled = below_on a start k.enrolled gs hs same v.tabled;
-  frames = subst (λ n. 3 * (63 - a) + asked_left t now + (111 * n + 17) ≤ l) (sym (leaving.core_count_bare gs hs same)) enough;
+  tabled = below_on a start.gear k.enrolled gs hs same v.tabled;
+  frames = subst (λ n. 3 * (63 - a) + asked_left t now + (111 * n + 17 + spare start.any) ≤ l) (sym (leaving.core_count_bare gs hs same)) enough;
 }
 
 silence_again : (n : ℕ) → n ≤ 2 → (asked_after_silence n ≤ 2) × (silent_left (asked_after_silence n) + 1 ≤ 3 - n)
@@ -134,13 +135,13 @@ spend : (base need now wake left : ℕ) → base + need + wake ≤ left → now 
 spend base need now wake zero enough less = absurd (omega (arith, enough, less))
 spend base need now wake (suc l) enough less = (l, refl, omega (arith, enough, less))
 
-abbrev SweptTo : ℕ → Stage → Kept → Shorts → ℕ → ℕ → List Gear → List Gear → List ℕ → ℕ → Command → Answer → Type 0
+abbrev SweptTo : ℕ → Stage → Kept → Shorts → ℕ → ℕ → Begun → List Gear → List ℕ → ℕ → Command → Answer → Type 0
 SweptTo a s k marks asked from start gs numbers left c h =
     (l : ℕ) × (left ≡ suc l)
     × Sweeps a (next_stage s c h) k (marked_at (next_stage s c h) h marks) (asked_at (next_stage s c h) h asked) from start
     (row_after Everyone c 0 gs numbers) l
 
-first_asked : (a : ℕ) (k : Kept) (marks : Shorts) (asked from : ℕ) (start gs : List Gear) (numbers : List ℕ) (left : ℕ) (h : Answer)
+first_asked : (a : ℕ) (k : Kept) (marks : Shorts) (asked from : ℕ) (start : Begun) (gs : List Gear) (numbers : List ℕ) (left : ℕ) (h : Answer)
     → Sweeps a stage.Free k marks asked from start gs left → OneGear gs → h ≡ heard_of (answers_of Everyone (RandomByte a High) 0 gs)
     → SweptTo a stage.Free k marks asked from start gs numbers left (RandomByte a High) h
 first_asked a k marks asked from start gs numbers left h v one heard = go (heard_high a High gs h one heard) where
@@ -155,12 +156,12 @@ first_asked a k marks asked from start gs numbers left h v one heard = go (heard
             → SweptTo a stage.Free k marks asked from start gs numbers left (RandomByte a High) (Byte (high_of (gear_of gs g).random))
         by (inr nobody) = absurd (nobody.0 g holds)
         by (inl none) =
-            let less = spend (3 * (63 - a)) (3 - asked) 2 (wake_frames gs) left v.frames (omega (arith, none)) in (
+            let less = spend (3 * (63 - a)) (3 - asked) 2 (wake_frames start gs) left v.frames (omega (arith, none)) in (
               less.0,
               less.1,
               sweeps_on a stage.Free (stage.HighAsked a (Some (high_of (gear_of gs g).random))) k marks (with_short marks a) asked 0 from start gs _ left less.0
                   v same (refl, tells_on gs _ a g (λ r. high_of (gear_of gs g).random ≡ high_of r) same holds refl)
-                  (clear_with k marks a a refl v.small (λ c q has apart. v.clear c q has)) less.2,
+                  (λ e. clear_with k marks a a refl v.small (λ c q has apart. v.clear e c q has)) less.2,
             )
   go (inr (none, is)) =
       subst (λ b. SweptTo a stage.Free k marks asked from start gs numbers left (RandomByte a High) b) (sym is) (by (few v.stage_is)) where
@@ -171,14 +172,14 @@ first_asked a k marks asked from start gs numbers left h v one heard = go (heard
         by : asked ≤ 2 → SweptTo a stage.Free k marks asked from start gs numbers left (RandomByte a High) Silence
         by small =
             let again = silence_again asked small in
-            let less = spend (3 * (63 - a)) (3 - asked) (silent_left (asked_after_silence asked)) (wake_frames gs) left v.frames again.1 in (
+            let less = spend (3 * (63 - a)) (3 - asked) (silent_left (asked_after_silence asked)) (wake_frames start gs) left v.frames again.1 in (
               less.0,
               less.1,
               sweeps_on a stage.Free (stage.HighAsked a None) k marks marks asked (asked_after_silence asked) from start gs _ left less.0 v same
                   (refl, nobody_on gs _ a same none, again.0) v.clear less.2,
             )
 
-second_asked : (a b u : ℕ) (k : Kept) (marks : Shorts) (asked from : ℕ) (start gs : List Gear) (numbers : List ℕ) (left : ℕ) (h : Answer)
+second_asked : (a b u : ℕ) (k : Kept) (marks : Shorts) (asked from : ℕ) (start : Begun) (gs : List Gear) (numbers : List ℕ) (left : ℕ) (h : Answer)
     → Sweeps a (stage.HighAsked b (Some u)) k marks asked from start gs left → OneGear gs → h ≡ heard_of (answers_of Everyone (RandomByte b Middle) 0 gs)
     → SweptTo a (stage.HighAsked b (Some u)) k marks asked from start gs numbers left (RandomByte b Middle) h
 second_asked a b u k marks asked from start gs numbers left h v one heard =
@@ -194,13 +195,13 @@ second_asked a b u k marks asked from start gs numbers left h v one heard =
           let high : u ≡ high_of (gear_of gs g).random = v.stage_is.1.2 ∙ ap (λ i. high_of (gear_of gs i).random) (sym at) in
           let there : next_stage (stage.HighAsked b (Some u)) (RandomByte b Middle) h ≡ stage.MiddleAsked b (Some (u, middle_of (gear_of gs g).random)) =
           rw is (middle_next b (Some u) (Byte (middle_of (gear_of gs g).random))) in
-          let less = spend (3 * (63 - a)) 2 1 (wake_frames gs) left v.frames (omega arith) in (
+          let less = spend (3 * (63 - a)) 2 1 (wake_frames start gs) left v.frames (omega arith) in (
             less.0,
             less.1,
             rw there (sweeps_on a (stage.HighAsked b (Some u)) (stage.MiddleAsked b (Some (u, middle_of (gear_of gs g).random))) k marks (with_short marks b)
                 asked 0 from start gs _ left less.0 v same
                 (v.stage_is.0, tells_on gs _ a g (λ r. (u ≡ high_of r) × (middle_of (gear_of gs g).random ≡ middle_of r)) same holds (high, refl))
-                (clear_with k marks b a v.stage_is.0 v.small v.clear) less.2),
+                (λ e. clear_with k marks b a v.stage_is.0 v.small (v.clear e)) less.2),
           )
 
 -- a number was told: the mark goes, or it is FFFFFF, and the address is not reserved
@@ -229,7 +230,7 @@ told_clear a b n k marks gs g same small settled told one holds number clear c q
       let random : q ≡ n = sym entry.3 ∙ ap (λ i. (gear_of gs i).random) is ∙ sym number in
       absurd (let top : n ≡ MASK24 = same_number n MASK24 mask in omega (arith, below, random, top))
 
-third_asked : (a b : ℕ) (x : ℕ × ℕ) (k : Kept) (marks : Shorts) (asked from : ℕ) (start gs : List Gear) (numbers : List ℕ) (left : ℕ) (h : Answer)
+third_asked : (a b : ℕ) (x : ℕ × ℕ) (k : Kept) (marks : Shorts) (asked from : ℕ) (start : Begun) (gs : List Gear) (numbers : List ℕ) (left : ℕ) (h : Answer)
     → Sweeps a (stage.MiddleAsked b (Some x)) k marks asked from start gs left → OneShort gs → IsTold k gs
     → h ≡ heard_of (answers_of Everyone (RandomByte b Low) 0 gs)
     → SweptTo a (stage.MiddleAsked b (Some x)) k marks asked from start gs numbers left (RandomByte b Low) h
@@ -256,16 +257,17 @@ third_asked a b x k marks asked from start gs numbers left h v one told heard =
           sym (whole_number (gear_of gs g).random x.0 x.1 (low_of (gear_of gs g).random) (sym high) (sym middle) refl) in
           let there : next_stage (stage.MiddleAsked b (Some x)) (RandomByte b Low) h ≡ stage.Spelled b (Some (gear_of gs g).random) =
           rw is (low_next b (Some x) (Byte (low_of (gear_of gs g).random)) ∙ ap (λ n. stage.Spelled b (Some n)) number) in
-          let less = spend (3 * (63 - a)) 1 0 (wake_frames gs) left v.frames (omega arith) in (
+          let less = spend (3 * (63 - a)) 1 0 (wake_frames start gs) left v.frames (omega arith) in (
             less.0,
             less.1,
             rw there (sweeps_on a (stage.MiddleAsked b (Some x)) (stage.Spelled b (Some (gear_of gs g).random)) k marks
                 (if (gear_of gs g).random == MASK24 then with_short marks b else without_short marks b) asked 0 from start gs _ left less.0 v same
                 (v.stage_is.0, tells g holds, refl)
-                (told_clear a b (gear_of gs g).random k marks gs g v.stage_is.0 v.small v.settled told one holds refl v.clear) less.2),
+                (λ e. told_clear a b (gear_of gs g).random k marks gs g v.stage_is.0 v.small (v.settled e) told one holds refl (v.clear e)) less.2),
           )
 
-sweeps_sent : (a : ℕ) (s : Stage) (k : Kept) (marks : Shorts) (asked from : ℕ) (n : SearchAddress) (start gs : List Gear) (numbers : List ℕ) (left : ℕ)
+sweeps_sent : (a : ℕ) (s : Stage) (k : Kept) (marks : Shorts) (asked from : ℕ) (n : SearchAddress) (start : Begun) (gs : List Gear) (numbers : List ℕ)
+    (left : ℕ)
     (c : Command) (h : Answer) → Sweeps a s k marks asked from start gs left → Sends (Asking a) n k s c → OneShort gs → IsTold k gs
     → h ≡ heard_of (answers_of Everyone c 0 gs) → SweptTo a s k marks asked from start gs numbers left c h
 sweeps_sent a stage.Free k marks asked from n start gs numbers left c h v is one told heard =
@@ -285,26 +287,27 @@ sweeps_sent a _ k marks asked from n start gs numbers left c h v is one told hea
 
 -- ---------------------------------------------------------------- the wake
 
-abbrev WokenTo : Stage → Kept → Shorts → Bool → List Gear → List Gear → List ℕ → ℕ → Command → Answer → Type 0
+abbrev WokenTo : Stage → Kept → Shorts → Bool → Begun → List Gear → List ℕ → ℕ → Command → Answer → Type 0
 WokenTo s k marks opened start gs numbers left c h =
     (l : ℕ) × (left ≡ suc l)
     × Wakes (next_stage s c h) k marks (woken_after (next_stage s c h) Waking (opened_after (next_stage s c h) opened)) start
     (row_after Everyone c 0 gs numbers) l
 
-wake_less : (c : Command) (gs : List Gear) (numbers : List ℕ) (left sent : ℕ) → LeavesShort c → wake_frames gs ≤ left + sent → sent < 3
-    → (l : ℕ) × (left ≡ suc l) × (wake_frames (row_after Everyone c 0 gs numbers) ≤ l + (sent + 1))
-wake_less c gs numbers left sent leaves enough small =
-    let less = one_less (wake_frames gs) left sent enough (omega (arith, small)) in
-    (less.0, less.1, subst (λ n. 111 * n + 17 ≤ less.0 + (sent + 1)) (sym (leaving.count_bare_after c gs numbers leaves)) less.2)
+wake_less : (start : Begun) (c : Command) (gs : List Gear) (numbers : List ℕ) (left sent : ℕ) → LeavesShort c → wake_frames start gs ≤ left + sent → sent < 3
+    → (l : ℕ) × (left ≡ suc l) × (wake_frames start (row_after Everyone c 0 gs numbers) ≤ l + (sent + 1))
+wake_less start c gs numbers left sent leaves enough small =
+    let less = one_less (wake_frames start gs) left sent enough (omega (arith, small)) in
+    (less.0, less.1, subst (λ n. 111 * n + 17 + spare start.any ≤ less.0 + (sent + 1)) (sym (leaving.count_bare_after c gs numbers leaves)) less.2)
 
-wakes_sent : (s : Stage) (k : Kept) (marks : Shorts) (opened : Bool) (n : SearchAddress) (start gs : List Gear) (numbers : List ℕ) (left : ℕ) (c : Command)
+wakes_sent : (s : Stage) (k : Kept) (marks : Shorts) (opened : Bool) (n : SearchAddress) (start : Begun) (gs : List Gear) (numbers : List ℕ) (left : ℕ)
+    (c : Command)
     (h : Answer)
     → Wakes s k marks opened start gs left → Sends Waking n k s c → WokenTo s k marks opened start gs numbers left c h
 wakes_sent stage.Free k marks opened n start gs numbers left c h v is =
     subst (λ d. WokenTo stage.Free k marks opened start gs numbers left d h) (sym is) go where
       go : WokenTo stage.Free k marks opened start gs numbers left Terminate h
       go =
-          let less = wake_less Terminate gs numbers left 0 tt v.frames (omega arith) in (
+          let less = wake_less start Terminate gs numbers left 0 tt v.frames (omega arith) in (
             less.0,
             less.1,
             record {
@@ -312,7 +315,7 @@ wakes_sent stage.Free k marks opened n start gs numbers left c h v is =
               settled = v.settled;
               clear = v.clear;
               gear = opening.opening_terminated gs numbers;
-              tabled = tabled_left (unseen start) k.enrolled gs numbers Terminate tt v.tabled;
+              tabled = tabled_left (unseen start.gear) k.enrolled gs numbers Terminate tt v.tabled;
               frames = less.2;
             },
           )
@@ -320,7 +323,7 @@ wakes_sent stage.Terminated k marks opened n start gs numbers left c h v is =
     subst (λ d. WokenTo stage.Terminated k marks opened start gs numbers left d h) (some_is (Initialise Unaddressed) c is) go where
       go : WokenTo stage.Terminated k marks opened start gs numbers left (Initialise Unaddressed) h
       go =
-          let less = wake_less (Initialise Unaddressed) gs numbers left 1 tt v.frames (omega arith) in (
+          let less = wake_less start (Initialise Unaddressed) gs numbers left 1 tt v.frames (omega arith) in (
             less.0,
             less.1,
             record {
@@ -328,7 +331,7 @@ wakes_sent stage.Terminated k marks opened n start gs numbers left c h v is =
               settled = v.settled;
               clear = v.clear;
               gear = opening.opening_initialised_once gs numbers v.gear;
-              tabled = tabled_left (unseen start) k.enrolled gs numbers (Initialise Unaddressed) tt v.tabled;
+              tabled = tabled_left (unseen start.gear) k.enrolled gs numbers (Initialise Unaddressed) tt v.tabled;
               frames = less.2;
             },
           )
@@ -336,7 +339,7 @@ wakes_sent stage.InitialisedOnce k marks opened n start gs numbers left c h v is
     subst (λ d. WokenTo stage.InitialisedOnce k marks opened start gs numbers left d h) (some_is (Initialise Unaddressed) c is) go where
       go : WokenTo stage.InitialisedOnce k marks opened start gs numbers left (Initialise Unaddressed) h
       go =
-          let less = wake_less (Initialise Unaddressed) gs numbers left 2 tt v.frames (omega arith) in (
+          let less = wake_less start (Initialise Unaddressed) gs numbers left 2 tt v.frames (omega arith) in (
             less.0,
             less.1,
             record {
@@ -344,7 +347,7 @@ wakes_sent stage.InitialisedOnce k marks opened n start gs numbers left c h v is
               settled = v.settled;
               clear = v.clear;
               gear = opening.opening_initialised gs numbers v.gear;
-              tabled = tabled_left (unseen start) k.enrolled gs numbers (Initialise Unaddressed) tt v.tabled;
+              tabled = tabled_left (unseen start.gear) k.enrolled gs numbers (Initialise Unaddressed) tt v.tabled;
               frames = less.2;
             },
           )
@@ -437,7 +440,7 @@ opened_next Probing n k s t c hunt is = stays_opened t
 opened_next Visiting n k s t c hunt is = stays_opened t
 opened_next _ n k s t c hunt is = absurd hunt
 
-abbrev HuntedTo : Purpose → Way → Stage → Kept → Shorts → Bool → Search → SearchAddress → List Gear → List Gear → List ℕ → ℕ → Command → Answer → Type 0
+abbrev HuntedTo : Purpose → Way → Stage → Kept → Shorts → Bool → Search → SearchAddress → Begun → List Gear → List ℕ → ℕ → Command → Answer → Type 0
 HuntedTo p y s k heard opened x n start gs numbers left c h =
     (l : ℕ) × (left ≡ suc l) × Hunts p y (next_stage s c h) k heard opened x n start (row_after Everyone c 0 gs numbers) l
 
@@ -445,24 +448,25 @@ spend_one : (rest after left l : ℕ) → rest ≡ suc l → rest + after ≤ le
 spend_one rest after zero l is enough = absurd (omega (arith, is, enough))
 spend_one rest after (suc m) l is enough = (m, refl, omega (arith, is, enough))
 
-hunts_sent : (p : Purpose) (y : Way) (s : Stage) (k : Kept) (heard : Shorts) (opened : Bool) (x : Search) (n : SearchAddress) (start gs : List Gear)
+hunts_sent : (p : Purpose) (y : Way) (s : Stage) (k : Kept) (heard : Shorts) (opened : Bool) (x : Search) (n : SearchAddress) (start : Begun) (gs : List Gear)
     (numbers : List ℕ) (left : ℕ) (c : Command) (h : Answer) → IsHunt p → Hunts p y s k heard opened x n start gs left → Sends p n k s c
     → IsSurveyTaken c gs numbers h → Seeks s gs → HuntedTo p y s k heard opened x n start gs numbers left c h
 hunts_sent p y s k heard opened x n start gs numbers left c h hunt v is t seek = go y v.way v.at v.tabled v.frames where
   done : (y : Way) → IsOnWay p y → (l : ℕ) → v.rest ≡ suc l → At p (next_stage s c h) k (opened_at p (next_stage s c h)) x n
       (searched_by y (row_after Everyone c 0 gs numbers)) l
-      → AreTabled (unseen start) (to_come (next_stage s c h) n k.enrolled) (searched_by y (row_after Everyone c 0 gs numbers))
-      → v.rest + frames_after y (row_after Everyone c 0 gs numbers) ≤ left → HuntedTo p y s k heard opened x n start gs numbers left c h
+      → AreTabled (unseen start.gear) (to_come (next_stage s c h) n k.enrolled) (searched_by y (row_after Everyone c 0 gs numbers))
+      → v.rest + frames_after y start (row_after Everyone c 0 gs numbers) ≤ left → HuntedTo p y s k heard opened x n start gs numbers left c h
   done y way l less at tabled enough =
-      let one = spend_one v.rest (frames_after y (row_after Everyone c 0 gs numbers)) left l less enough in
+      let one = spend_one v.rest (frames_after y start (row_after Everyone c 0 gs numbers)) left l less enough in
       (one.0, one.1, record { way = way; opened_is = v.opened_is; own = v.own; settled = v.settled; rest = l; at = at; tabled = tabled; frames = one.2 })
 
   opens : (hs : List Gear) (l : ℕ) → At p (next_stage s c h) k (opened_after (next_stage s c h) (opened_at p s)) x n hs l
       → At p (next_stage s c h) k (opened_at p (next_stage s c h)) x n hs l
   opens hs l at = subst (λ o. At p (next_stage s c h) k o x n hs l) (opened_next p n k s (next_stage s c h) c hunt is) at
 
-  go : (y : Way) → IsOnWay p y → At p s k (opened_at p s) x n (searched_by y gs) v.rest → AreTabled (unseen start) (to_come s n k.enrolled) (searched_by y gs)
-      → v.rest + frames_after y gs ≤ left → HuntedTo p y s k heard opened x n start gs numbers left c h
+  go : (y : Way) → IsOnWay p y → At p s k (opened_at p s) x n (searched_by y gs) v.rest
+      → AreTabled (unseen start.gear) (to_come s n k.enrolled) (searched_by y gs)
+      → v.rest + frames_after y start gs ≤ left → HuntedTo p y s k heard opened x n start gs numbers left c h
   go Fresh way at tabled enough = absurd (never_fresh p hunt way) where
     never_fresh : (p : Purpose) → IsHunt p → IsOnWay p Fresh → ⊥
     never_fresh Opening hunt way = cc
@@ -473,7 +477,7 @@ hunts_sent p y s k heard opened x n start gs numbers left c h hunt v is t seek =
       let sent : IsSentTo p s k (opened_at p s) x n gs numbers v.rest c h =
       at_sent p s k (opened_at p s) x n gs numbers v.rest c h at is t.taken seek in
       done Drawing way sent.0 sent.1 (opens (row_after Everyone c 0 gs numbers) sent.0 sent.2)
-      (at_tabled (unseen start) p s k (opened_at p s) _ x n gs numbers v.rest sent.0 c h at is seek sent.2 tabled)
+      (at_tabled (unseen start.gear) p s k (opened_at p s) _ x n gs numbers v.rest sent.0 c h at is seek sent.2 tabled)
       enough
   go Surveying way at tabled enough =
       let by : IsSoughtBy gs c = hunted_by p s k x n gs v.rest c hunt way at is seek in
@@ -481,12 +485,12 @@ hunts_sent p y s k heard opened x n start gs numbers left c h hunt v is t seek =
       at_sent p s k (opened_at p s) x n (those_drawn gs) numbers v.rest c h at is (taken_drawn c gs numbers h by t) (seeks_drawn s gs seek) in
       let row : row_after Everyone c 0 (those_drawn gs) numbers ≡ those_drawn (row_after Everyone c 0 gs numbers) =
       row_drawn c 0 gs numbers (searching_of gs c by) (still_of gs c by) in
-      let names : IsTabledTo (unseen start) s n k.enrolled (those_drawn gs) numbers c h =
-      at_tabled (unseen start) p s k (opened_at p s) _ x n (those_drawn gs) numbers v.rest sent.0 c h at is (seeks_drawn s gs seek) sent.2 tabled in
+      let names : IsTabledTo (unseen start.gear) s n k.enrolled (those_drawn gs) numbers c h =
+      at_tabled (unseen start.gear) p s k (opened_at p s) _ x n (those_drawn gs) numbers v.rest sent.0 c h at is (seeks_drawn s gs seek) sent.2 tabled in
       done Surveying way sent.0 sent.1 (opens (those_drawn (row_after Everyone c 0 gs numbers)) sent.0
       (subst (λ hs. At p (next_stage s c h) k (opened_after (next_stage s c h) (opened_at p s)) x n hs sent.0) row sent.2))
-      (subst (λ hs. AreTabled (unseen start) (to_come (next_stage s c h) n k.enrolled) hs) row names)
-      (subst (λ m. v.rest + (111 * m + 9) ≤ left) (sym (lost_same c gs numbers (searching_of gs c by) (still_of gs c by))) enough)
+      (subst (λ hs. AreTabled (unseen start.gear) (to_come (next_stage s c h) n k.enrolled) hs) row names)
+      (subst (λ m. v.rest + (111 * m + 9 + spare start.any) ≤ left) (sym (lost_same c gs numbers (searching_of gs c by) (still_of gs c by))) enough)
 
 -- ---------------------------------------------------------------- the close
 
@@ -496,28 +500,28 @@ SameName g h = (h.powered ≡ g.powered) × (h.short ≡ g.short) × (h.random �
 name_kept : (gs : List Gear) (numbers : List ℕ) (k : ℕ) → k < length gs → SameName (gear_of gs k) (gear_of (row_after Everyone Terminate 0 gs numbers) k)
 name_kept gs numbers = after_at Terminate SameName (λ g off. (refl, refl, refl)) (λ g x on. (refl, refl, refl)) gs numbers
 
-ends_still : (e : End) (k : Kept) (heard : Shorts) (gs : List Gear) (numbers : List ℕ) → SurveyEnds e k heard gs
-    → SurveyEnds e k heard (row_after Everyone Terminate 0 gs numbers)
-ends_still AllFound k heard gs numbers (inl all) = inl (λ i in_row on.
+ends_still : (any : Bool) (e : End) (k : Kept) (heard : Shorts) (gs : List Gear) (numbers : List ℕ) → SurveyEnds any e k heard gs
+    → SurveyEnds any e k heard (row_after Everyone Terminate 0 gs numbers)
+ends_still any AllFound k heard gs numbers (inl all) = inl (λ i in_row on.
     let there : i < length gs = subst (λ m. i < m) (row_length Everyone Terminate 0 gs numbers) in_row in
     let same = name_kept gs numbers i there in
     let short = all i there (sym same.0 ∙ on) in
     (short.0, same.1 ∙ short.1))
-ends_still AllFound k heard gs numbers (inr both) = inr (
+ends_still any AllFound k heard gs numbers (inr both) = inr (
   both.0,
   λ i in_row on none.
       let there : i < length gs = subst (λ m. i < m) (row_length Everyone Terminate 0 gs numbers) in_row in
       let same = name_kept gs numbers i there in
       same.2 ∙ both.1 i there (sym same.0 ∙ on) (sym same.1 ∙ none),
 )
-ends_still BlockFull k heard gs numbers well = well
-ends_still GaveUp k heard gs numbers well = well
+ends_still any BlockFull k heard gs numbers well = well
+ends_still any GaveUp k heard gs numbers well = well
 
-abbrev ClosedTo : End → Stage → Kept → Shorts → List Gear → List Gear → List ℕ → ℕ → Command → Answer → Type 0
+abbrev ClosedTo : End → Stage → Kept → Shorts → Begun → List Gear → List ℕ → ℕ → Command → Answer → Type 0
 ClosedTo e s k heard start gs numbers left c h =
     (l : ℕ) × (left ≡ suc l) × SurveyCloses e (next_stage s c h) k heard start (row_after Everyone c 0 gs numbers) l
 
-closes_sent : (e : End) (s : Stage) (k : Kept) (heard : Shorts) (n : SearchAddress) (start gs : List Gear) (numbers : List ℕ) (left : ℕ) (c : Command)
+closes_sent : (e : End) (s : Stage) (k : Kept) (heard : Shorts) (n : SearchAddress) (start : Begun) (gs : List Gear) (numbers : List ℕ) (left : ℕ) (c : Command)
     (h : Answer)
     → SurveyCloses e s k heard start gs left → Sends (Closing e) n k s c → ClosedTo e s k heard start gs numbers left c h
 closes_sent e stage.Free k heard n start gs numbers left c h v is =
@@ -529,9 +533,9 @@ closes_sent e stage.Free k heard n start gs numbers left c h v is =
             less.1,
             record {
               stage_is = tt;
-              well = ends_still e k heard gs numbers v.well;
+              well = ends_still start.any e k heard gs numbers v.well;
               settled = v.settled;
-              tabled = tabled_left (unseen start) k.enrolled gs numbers Terminate tt v.tabled;
+              tabled = tabled_left (unseen start.gear) k.enrolled gs numbers Terminate tt v.tabled;
               frames = less.2;
             },
           )
@@ -544,7 +548,7 @@ asked_unopened : (s : Stage) (a asked : ℕ) (gs : List Gear) → AskStage s a a
 asked_unopened stage.Opened a asked gs at = absurd at
 asked_unopened _ a asked gs at = refl
 
-abbrev pub SurveySent : Purpose → Way → Stage → Kept → Shorts → Bool → ℕ → Search → SearchAddress → ℕ → List Gear → List Gear → List ℕ → ℕ → Command
+abbrev pub SurveySent : Purpose → Way → Stage → Kept → Shorts → Bool → ℕ → Search → SearchAddress → ℕ → Begun → List Gear → List ℕ → ℕ → Command
     → Answer → Type 0
 SurveySent p y s k heard opened asked x n from start gs numbers left c h =
     (l : ℕ) × (left ≡ suc l)
@@ -556,14 +560,14 @@ SurveySent p y s k heard opened asked x n from start gs numbers left c h =
 opened_on : (p : Purpose) (t : Stage) (opened : Bool) → (p ≡ Waking → ⊥) → opened ≡ true → woken_after t p (opened_after t opened) ≡ true
 opened_on p t opened other is = not_woken t p (opened_after t opened) other ∙ ap (opened_after t) is ∙ stays_opened t
 
-hunts_as : (p : Purpose) (y : Way) (t : Stage) (k : Kept) (heard : Shorts) (opened now : Bool) (x : Search) (n : SearchAddress) (start gs : List Gear)
+hunts_as : (p : Purpose) (y : Way) (t : Stage) (k : Kept) (heard : Shorts) (opened now : Bool) (x : Search) (n : SearchAddress) (start : Begun) (gs : List Gear)
     (left : ℕ)
     → now ≡ true → Hunts p y t k heard opened x n start gs left → Hunts p y t k heard now x n start gs left
 hunts_as p y t k heard opened now x n start gs left is v =
     record { way = v.way; opened_is = is; own = v.own; settled = v.settled; rest = v.rest; at = v.at; tabled = v.tabled; frames = v.frames }
 
 pub survey_sent : (p : Purpose) (y : Way) (s : Stage) (k : Kept) (heard : Shorts) (opened : Bool) (asked : ℕ) (x : Search) (n : SearchAddress) (from : ℕ)
-    (start gs : List Gear) (numbers : List ℕ) (left : ℕ) (c : Command) (h : Answer) → SurveyAt p y s k heard opened asked x n from start gs left
+    (start : Begun) (gs : List Gear) (numbers : List ℕ) (left : ℕ) (c : Command) (h : Answer) → SurveyAt p y s k heard opened asked x n from start gs left
     → Sends p n k s c → IsSurveyTaken c gs numbers h → IsTold k gs → Seeks s gs → SurveySent p y s k heard opened asked x n from start gs numbers left c h
 survey_sent (Asking a) y s k heard opened asked x n from start gs numbers left c h at is t told seek =
     let sent = sweeps_sent a s k heard asked from n start gs numbers left c h at.2 is t.one told t.taken.heard in

@@ -30,11 +30,21 @@ use Rattle.dali_progress.proofs.Survey.Queried.{Holds, Nobody, TabledBelow, unse
 
 -- HOW FAR A SURVEY IS, where nothing is disturbed. `start` are the gear at its start.
 
+-- how it began: with which gear, and whether with any records, or with such that each reservation has its enrolment
+pub record Begun : Type 0 where
+  pub gear : List Gear
+  pub any : Bool
+
 -- ---------------------------------------------------------------- the sweep
 
+-- of any records what is reserved may be another's: then the search under the old numbers may be left off in a visit
+abbrev pub spare : Bool → ℕ
+spare true = 104
+spare false = 0
+
 -- so many frames take the wake, the two searches, the opening and the close, for so many gear without short address
-abbrev pub wake_frames : List Gear → ℕ
-wake_frames gs = 111 * count_by is_bare gs + 17
+abbrev pub wake_frames : Begun → List Gear → ℕ
+wake_frames start gs = 111 * count_by is_bare gs + 17 + spare start.any
 
 -- and so many the short address that is asked: three where it is silent, and three where it tells its random address
 abbrev pub silent_left : ℕ → ℕ
@@ -72,15 +82,15 @@ IsClearAt (stage.HighAsked b (Some v)) a k heard = IsClearBut k heard a
 IsClearAt (stage.MiddleAsked b x) a k heard = IsClearBut k heard a
 IsClearAt _ a k heard = IsClear k heard
 
-pub record Sweeps (a : ℕ) (s : Stage) (k : Kept) (heard : Shorts) (asked from : ℕ) (start gs : List Gear) (left : ℕ) : Type 0 where
+pub record Sweeps (a : ℕ) (s : Stage) (k : Kept) (heard : Shorts) (asked from : ℕ) (start : Begun) (gs : List Gear) (left : ℕ) : Type 0 where
   pub small : a < 64
   pub from_is : from ≡ a + 1
-  pub settled : IsSettled k
-  pub clear : IsClearAt s a k heard
-  pub same : SameCore start gs
+  pub settled : start.any ≡ false → IsSettled k
+  pub clear : start.any ≡ false → IsClearAt s a k heard
+  pub same : SameCore start.gear gs
   pub stage_is : AskStage s a asked gs
-  pub tabled : TabledBelow a start k.enrolled gs
-  pub frames : 3 * (63 - a) + asked_left s asked + wake_frames gs ≤ left
+  pub tabled : TabledBelow a start.gear k.enrolled gs
+  pub frames : 3 * (63 - a) + asked_left s asked + wake_frames start gs ≤ left
 
 -- ---------------------------------------------------------------- the wake
 
@@ -91,13 +101,13 @@ WakeStage stage.InitialisedOnce opened = opened ≡ false
 WakeStage stage.Initialised opened = opened ≡ true
 WakeStage _ opened = ⊥
 
-pub record Wakes (s : Stage) (k : Kept) (heard : Shorts) (opened : Bool) (start gs : List Gear) (left : ℕ) : Type 0 where
+pub record Wakes (s : Stage) (k : Kept) (heard : Shorts) (opened : Bool) (start : Begun) (gs : List Gear) (left : ℕ) : Type 0 where
   pub stage_is : WakeStage s opened
-  pub settled : IsSettled k
-  pub clear : IsClear k heard
+  pub settled : start.any ≡ false → IsSettled k
+  pub clear : start.any ≡ false → IsClear k heard
   pub gear : AreOpening s gs
-  pub tabled : AreTabled (unseen start) k.enrolled gs
-  pub frames : wake_frames gs ≤ left + sent_at s
+  pub tabled : AreTabled (unseen start.gear) k.enrolled gs
+  pub frames : wake_frames start gs ≤ left + sent_at s
 
 -- ---------------------------------------------------------------- the two searches, and the opening between them
 
@@ -112,10 +122,10 @@ searched_by Surveying gs = those_drawn gs
 searched_by Drawing gs = gs
 
 -- and the frames that come after it
-abbrev pub frames_after : Way → List Gear → ℕ
-frames_after Fresh gs = 0
-frames_after Surveying gs = 111 * count_by is_lost gs + 9
-frames_after Drawing gs = 0
+abbrev pub frames_after : Way → Begun → List Gear → ℕ
+frames_after Fresh start gs = 0
+frames_after Surveying start gs = 111 * count_by is_lost gs + 9 + spare start.any
+frames_after Drawing start gs = 0
 
 -- and is enrolled, but for the number that is visited
 abbrev pub IsSettledBut : Purpose → SearchAddress → Kept → Type 0
@@ -132,15 +142,15 @@ opened_at Opening s = opened_after s false
 opened_at p s = true
 
 pub record Hunts (p : Purpose) (y : Way) (s : Stage) (k : Kept) (heard : Shorts) (opened : Bool) (x : Search) (n : SearchAddress)
-    (start gs : List Gear) (left : ℕ) : Type 0 where
+    (start : Begun) (gs : List Gear) (left : ℕ) : Type 0 where
   pub way : IsOnWay p y
   pub opened_is : opened ≡ true
-  pub own : IsOwn k heard
-  pub settled : IsSettledBut p n k
+  pub own : start.any ≡ false → IsOwn k heard
+  pub settled : start.any ≡ false → IsSettledBut p n k
   pub rest : ℕ
   pub at : At p s k (opened_at p s) x n (searched_by y gs) rest
-  pub tabled : AreTabled (unseen start) (to_come s n k.enrolled) (searched_by y gs)
-  pub frames : rest + frames_after y gs ≤ left
+  pub tabled : AreTabled (unseen start.gear) (to_come s n k.enrolled) (searched_by y gs)
+  pub frames : rest + frames_after y start gs ≤ left
 
 -- ---------------------------------------------------------------- the close
 
@@ -149,21 +159,24 @@ abbrev pub AreTaken : Kept → Shorts → Type 0
 AreTaken k heard =
     (a : ℕ) → InBlock k.block a → HasAddress k.reserved a ⊎ (HasAddress k.enrolled a ⊎ (has_short heard a ≡ true))
 
-abbrev pub SurveyEnds : End → Kept → Shorts → List Gear → Type 0
-SurveyEnds AllFound k heard gs = OfPowered gs HasShort ⊎ (AreTaken k heard × NoneButUndrawn gs)
-SurveyEnds BlockFull k heard gs = AreTaken k heard
-SurveyEnds GaveUp k heard gs = ⊥
+abbrev pub HasAnothers : Kept → Shorts → Type 0
+HasAnothers k heard = (a : ℕ) × (r : ℕ) × Has k.reserved (a, r) × (is_anothers k heard a r ≡ true)
 
-pub record SurveyCloses (e : End) (s : Stage) (k : Kept) (heard : Shorts) (start gs : List Gear) (left : ℕ) : Type 0 where
+abbrev pub SurveyEnds : Bool → End → Kept → Shorts → List Gear → Type 0
+SurveyEnds any AllFound k heard gs = OfPowered gs HasShort ⊎ (AreTaken k heard × NoneButUndrawn gs)
+SurveyEnds any BlockFull k heard gs = AreTaken k heard ⊎ ((any ≡ true) × HasAnothers k heard)
+SurveyEnds any GaveUp k heard gs = ⊥
+
+pub record SurveyCloses (e : End) (s : Stage) (k : Kept) (heard : Shorts) (start : Begun) (gs : List Gear) (left : ℕ) : Type 0 where
   pub stage_is : CloseStage s
-  pub well : SurveyEnds e k heard gs
-  pub settled : IsSettled k
-  pub tabled : AreTabled (unseen start) k.enrolled gs
+  pub well : SurveyEnds start.any e k heard gs
+  pub settled : start.any ≡ false → IsSettled k
+  pub tabled : AreTabled (unseen start.gear) k.enrolled gs
   pub frames : 1 ≤ left + sent_at s
 
 -- ---------------------------------------------------------------- of whatever transaction
 
-abbrev pub SurveyAt : Purpose → Way → Stage → Kept → Shorts → Bool → ℕ → Search → SearchAddress → ℕ → List Gear → List Gear → ℕ → Type 0
+abbrev pub SurveyAt : Purpose → Way → Stage → Kept → Shorts → Bool → ℕ → Search → SearchAddress → ℕ → Begun → List Gear → ℕ → Type 0
 SurveyAt (Asking a) y s k heard opened asked x n from start gs left =
     (y ≡ Surveying) × (opened ≡ false) × Sweeps a s k heard asked from start gs left
 SurveyAt Waking y s k heard opened asked x n from start gs left = (y ≡ Surveying) × (asked ≡ 0) × Wakes s k heard opened start gs left
@@ -173,7 +186,7 @@ SurveyAt Visiting y s k heard opened asked x n from start gs left = Hunts Visiti
 SurveyAt (Closing e) y s k heard opened asked x n from start gs left = SurveyCloses e s k heard start gs left
 SurveyAt (Resolving a) y s k heard opened asked x n from start gs left = ⊥
 
-pub record SurveyStands (start : List Gear) (m : Machine) (gs : List Gear) (left : ℕ) : Type 0 where
+pub record SurveyStands (start : Begun) (m : Machine) (gs : List Gear) (left : ℕ) : Type 0 where
   pub tries : m.tries ≡ 0
   pub silent : m.silent ≡ 0
   pub trace : IsTrace (stage_of m.trace) m.trace

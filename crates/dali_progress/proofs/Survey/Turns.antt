@@ -38,7 +38,7 @@ use Rattle.dali_progress.proofs.Turns.{never_eight, has_random}
 use Rattle.dali_progress.proofs.Sweep.Asked.{sending_of}
 use Rattle.dali_progress.proofs.Survey.Drawn.{those_drawn, is_lost, AreNumbered, bare_split, woken_opened, woken_none_named, tabled_drawn}
 use Rattle.dali_progress.proofs.Survey.Queried.{Holds, OneShort, IsTrue, unseen, below_next}
-use Rattle.dali_progress.proofs.Survey.Stands.{wake_frames, silent_left, Sweeps, Wakes}
+use Rattle.dali_progress.proofs.Survey.Stands.{Begun, spare, wake_frames, silent_left, Sweeps, Wakes}
 use Rattle.dali_progress.proofs.Survey.Stands.{SurveyStands}
 use Rattle.dali_progress.proofs.Survey.Begins.{IsNext, calm_of, calm_ordered, turns_by, first_by}
 use Rattle.dali_progress.proofs.Survey.Begins.{begins_whole, asks_on, searches_by, own_settled}
@@ -50,7 +50,7 @@ abbrev pub IsUncontradicted : Machine → Type 0
 IsUncontradicted t = (x : Finding) → finding_of t.trace ≡ Some x → Contradicts t.kept.enrolled (assigned x).0 (assigned x).1 → ⊥
 
 -- the finding of a transaction by its stage
-pub found_at : (start : List Gear) (t : Machine) (gs : List Gear) (left : ℕ) (s : Stage) → SurveyStands start t gs left → stage_of t.trace ≡ s
+pub found_at : (start : Begun) (t : Machine) (gs : List Gear) (left : ℕ) (s : Stage) → SurveyStands start t gs left → stage_of t.trace ≡ s
     → finding_of t.trace ≡ finding_at s
 found_at start t gs left s st is = st.trace.finding ∙ ap finding_at is
 
@@ -70,7 +70,7 @@ again_left : (asked : ℕ) → (asked == 0) ≡ false → 3 - asked ≤ silent_l
 again_left zero e = absurd (let none : (zero == 0) ≡ true = refl in cc)
 again_left (suc k) e = omega arith
 
-silent_turns : (start : List Gear) (t : Machine) (o : Order) (a b : ℕ) (gs : List Gear) (left : ℕ) → IsGivenBy t o → SurveyStands start t gs left
+silent_turns : (start : Begun) (t : Machine) (o : Order) (a b : ℕ) (gs : List Gear) (left : ℕ) → IsGivenBy t o → SurveyStands start t gs left
     → IsNoEnrolment t.last → t.course.purpose ≡ Asking a → stage_of t.trace ≡ stage.HighAsked b None → t.course.way ≡ Surveying → t.opened ≡ false
     → Sweeps a (stage.HighAsked b None) t.kept t.heard t.asked t.course.from start gs left → IsWhole (machine_ordered t o)
     → OneShort gs → IsTrue t.kept.enrolled gs → IsNext start (machine_ordered t o) o gs left
@@ -88,8 +88,8 @@ silent_turns start t o a b gs left g st last purpose is surveys opened v whole o
       asks_on start t o (a + 1) gs left (calm_of start t gs left st) begins (next ∙ ap (asked_once t) none) surveys opened
       (let zero_is : t.asked ≡ 0 = grind (arith, nat_tests, none) in zero_is) v.from_is
       (let small : a < 64 = v.small in omega (arith, small)) v.settled v.clear one holds v.same
-      (below_next a start t.kept.enrolled t.kept.enrolled gs v.same v.tabled (λ x h. h) (λ i holds. absurd (v.stage_is.1 i holds)))
-      (count (silent_left t.asked) (wake_frames gs) v.small v.frames) where
+      (below_next a start.gear t.kept.enrolled t.kept.enrolled gs v.same v.tabled (λ x h. h) (λ i holds. absurd (v.stage_is.1 i holds)))
+      (count (silent_left t.asked) (wake_frames start gs) v.small v.frames) where
         count : (some wake : ℕ) → a < 64 → 3 * (63 - a) + some + wake ≤ left → 3 * (64 - (a + 1)) + wake ≤ left
         count some wake small enough = omega (arith, small, enough)
   go false again =
@@ -105,14 +105,14 @@ silent_turns start t o a b gs left g st last purpose is surveys opened v whole o
           same = v.same;
           stage_is = inr (v.stage_is.1, v.stage_is.2);
           tabled = v.tabled;
-          frames = count (3 - t.asked) (silent_left t.asked) (wake_frames gs) (again_left t.asked again) v.frames;
+          frames = count (3 - t.asked) (silent_left t.asked) (wake_frames start gs) (again_left t.asked again) v.frames;
         },
       )) where
         count : (now some wake : ℕ) → now ≤ some → 3 * (63 - a) + some + wake ≤ left → 3 * (63 - a) + now + wake ≤ left
         count now some wake less enough = omega (arith, less, enough)
 
 -- three bytes told a number
-told_turns : (start : List Gear) (t : Machine) (o : Order) (a b n : ℕ) (gs : List Gear) (left : ℕ) → IsGivenBy t o → SurveyStands start t gs left
+told_turns : (start : Begun) (t : Machine) (o : Order) (a b n : ℕ) (gs : List Gear) (left : ℕ) → IsGivenBy t o → SurveyStands start t gs left
     → t.course.purpose ≡ Asking a → stage_of t.trace ≡ stage.Spelled b (Some n) → t.course.way ≡ Surveying → t.opened ≡ false
     → Sweeps a (stage.Spelled b (Some n)) t.kept t.heard t.asked t.course.from start gs left → IsKept t.kept → AreNumbered gs → OneShort gs
     → IsTrue t.kept.enrolled gs → IsUncontradicted t → IsNext start (machine_ordered t o) o gs left
@@ -133,8 +133,8 @@ told_turns start t o a b n gs left g st purpose is surveys opened v kept numbere
   goes q begins here =
       asks_on start t q (a + 1) gs left (calm_of start t gs left st) begins (ap (begins_at t) is) surveys opened v.stage_is.2 v.from_is
       (let small : a < 64 = v.small in omega (arith, small)) v.settled v.clear one holds v.same
-      (below_next a start t.kept.enrolled t.kept.enrolled gs v.same v.tabled (λ x h. h) here)
-      (count (wake_frames gs) v.small v.frames)
+      (below_next a start.gear t.kept.enrolled t.kept.enrolled gs v.same v.tabled (λ x h. h) here)
+      (count (wake_frames start gs) v.small v.frames)
 
   none_drawn : (n < MASK24 → ⊥) → (i : ℕ) → Holds gs i a → ((gear_of gs i).random ≡ MASK24) ⊎ Has t.kept.enrolled (a, (gear_of gs i).random)
   none_drawn large i has = by (numbered i has.there) where
@@ -154,11 +154,11 @@ told_turns start t o a b n gs left g st purpose is surveys opened v kept numbere
       from_is = v.from_is;
       settled = v.settled;
       clear = v.clear;
-      unreserved = λ c has. unknown (has_random t.kept.enrolled c n (v.settled (c, n) has));
+      unreserved = λ e c has. unknown (has_random t.kept.enrolled c n (v.settled e (c, n) has));
       same = v.same;
-      tabled = below_next a start t.kept.enrolled (t.kept.enrolled ++ (a, n) ∷ []) gs v.same v.tabled (λ x h. has_before t.kept.enrolled (a, n) x h)
+      tabled = below_next a start.gear t.kept.enrolled (t.kept.enrolled ++ (a, n) ∷ []) gs v.same v.tabled (λ x h. has_before t.kept.enrolled (a, n) x h)
           (λ i has. inr (subst (λ r. Has (t.kept.enrolled ++ (a, n) ∷ []) (a, r)) (v.stage_is.1 i has) (has_last t.kept.enrolled (a, n))));
-      frames = same_count (wake_frames gs) v.frames;
+      frames = same_count (wake_frames start gs) v.frames;
     }),
   )
 
@@ -182,7 +182,7 @@ told_turns start t o a b n gs left g st purpose is surveys opened v kept numbere
       let large : n < MASK24 → ⊥ = grind (arith, nat_tests, over) in
       goes o (g.followed.another b n is (λ s. large (subst (λ p. IsSought p t.course.number n) purpose s))) (none_drawn large)
 
-pub sweep_turns : (start : List Gear) (t : Machine) (o : Order) (a : ℕ) (s : Stage) (gs : List Gear) (left : ℕ) → IsGivenBy t o → SurveyStands start t gs left
+pub sweep_turns : (start : Begun) (t : Machine) (o : Order) (a : ℕ) (s : Stage) (gs : List Gear) (left : ℕ) → IsGivenBy t o → SurveyStands start t gs left
     → IsNoEnrolment t.last → t.course.purpose ≡ Asking a → stage_of t.trace ≡ s → (s ≡ stage.Free → ⊥) → t.course.way ≡ Surveying → t.opened ≡ false
     → Sweeps a s t.kept t.heard t.asked t.course.from start gs left → IsKept t.kept → AreNumbered gs → OneShort gs → IsTrue t.kept.enrolled gs
     → IsUncontradicted t → IsWhole (machine_ordered t o)
@@ -211,7 +211,7 @@ woken_over t purpose at f whole =
     (subst (λ p. SendsWhole t.kept t.course.number p (stage_of t.trace) (command_of f)) purpose sends) in
     absurd (let none : None ≡ Some (command_of f) = here.0 in cc)
 
-pub wake_turns : (start : List Gear) (t : Machine) (o : Order) (s : Stage) (gs : List Gear) (left : ℕ) → IsGivenBy t o → SurveyStands start t gs left
+pub wake_turns : (start : Begun) (t : Machine) (o : Order) (s : Stage) (gs : List Gear) (left : ℕ) → IsGivenBy t o → SurveyStands start t gs left
     → IsNoEnrolment t.last → t.course.purpose ≡ Waking → stage_of t.trace ≡ s → (s ≡ stage.Free → ⊥) → t.course.way ≡ Surveying
     → Wakes s t.kept t.heard t.opened start gs left → IsKept t.kept → AreNumbered gs → IsWhole (machine_ordered t o)
     → IsNext start (machine_ordered t o) o gs left
@@ -228,11 +228,12 @@ wake_turns start t o stage.Initialised gs left g st last purpose is running surv
     searches_by start t o Surveying (search_frames (count_by is_wanted (those_drawn gs))) gs left (calm_of start t gs left st)
     (begins_whole t o stage.Initialised g is (λ r e. cc) (λ e. cc) (found_at start t gs left stage.Initialised st is) last
     (never_eight t.tries st.tries) (woken_over t purpose is) whole)
-    (ap (begins_at t) is) surveys (λ e. cc) v.stage_is (own_settled t.kept t.heard kept.enrolled v.settled v.clear) v.settled opened unnamed
-    (tabled_drawn (unseen start) t.kept.enrolled gs v.tabled) (omega arith)
-    (enough (count_by is_bare gs) (count_by is_bare (those_drawn gs)) (count_by is_lost gs) (count_by is_wanted (those_drawn gs)) split count v.frames)
+    (ap (begins_at t) is) surveys (λ e. cc) v.stage_is (λ e. own_settled t.kept t.heard kept.enrolled (v.settled e) (v.clear e)) v.settled opened unnamed
+    (tabled_drawn (unseen start.gear) t.kept.enrolled gs v.tabled) (omega arith)
+    (enough (count_by is_bare gs) (count_by is_bare (those_drawn gs)) (count_by is_lost gs) (count_by is_wanted (those_drawn gs))
+    (spare start.any) split count v.frames)
   where
-    enough : (bare drew lost wanted : ℕ) → bare ≡ drew + lost → wanted ≡ drew → 111 * bare + 17 ≤ left + 3
-        → 111 * wanted + 5 + (111 * lost + 9) ≤ left
-    enough bare drew lost wanted split count frames = omega (arith, split, count, frames)
+    enough : (bare drew lost wanted some : ℕ) → bare ≡ drew + lost → wanted ≡ drew → 111 * bare + 17 + some ≤ left + 3
+        → 111 * wanted + 5 + (111 * lost + 9 + some) ≤ left
+    enough bare drew lost wanted some split count frames = omega (arith, split, count, frames)
 wake_turns start t o _ gs left g st last purpose is running surveys v kept numbered whole = absurd v.stage_is
