@@ -241,7 +241,7 @@ accounted (s ∷ earlier) n a small course plain (inr before) =
 
 -- ---------------------------------------------------------------- what is given
 
-open_is : (k : Kept) (heard : Shorts) (n from a : ℕ) → open_among k heard n from ≡ Some a → is_open k heard a ≡ true
+pub open_is : (k : Kept) (heard : Shorts) (n from a : ℕ) → open_among k heard n from ≡ Some a → is_open k heard a ≡ true
 open_is k heard zero from a e = absurd (cc)
 open_is k heard (suc n) from a e = go (is_open k heard from) refl e (open_is k heard n (from + 1) a) where
   go : (b : Bool) → is_open k heard from ≡ b → (if b then Some from else open_among k heard n (from + 1)) ≡ Some a
@@ -352,7 +352,7 @@ programs_own t q a o true is p f put later =
     three_is_one one two = let both : FIRST ≡ LATER = sym one ∙ two in cc
 programs_own t q a o false is p f put later = refl
 
-surveyed_mask : (y : Way) (t : Machine) (c : Course) (q : SearchAddress) (o : Order) → (y ≡ Fresh → ⊥) → AfterMaskOn y t c q o → AfterMaskSurveyed t q o
+pub surveyed_mask : (y : Way) (t : Machine) (c : Course) (q : SearchAddress) (o : Order) → (y ≡ Fresh → ⊥) → AfterMaskOn y t c q o → AfterMaskSurveyed t q o
 surveyed_mask Fresh t c q o other is = absurd (other refl)
 surveyed_mask Surveying t c q o other is = is
 surveyed_mask Drawing t c q o other is = is

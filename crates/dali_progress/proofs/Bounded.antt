@@ -55,13 +55,13 @@ pub record Runs (before : List Gear) (s : SiteState) (c left : ℕ) : Type 0 whe
 pub world_logged : (s : SiteState) (e : Event) → world (site_logged s e) ≡ happens (world s) e
 world_logged s e = after_more (start s.plan s.queue) s.log e
 
-run_logged : (s : SiteState) (e : Event) → IsRun s.plan s.queue s.log → Allowed (world s) e → IsRun s.plan s.queue (site_logged s e).log
+pub run_logged : (s : SiteState) (e : Event) → IsRun s.plan s.queue s.log → Allowed (world s) e → IsRun s.plan s.queue (site_logged s e).log
 run_logged s e run here = run_more s.plan s.queue s.log e run here
 
 pub machines_logged : (s : SiteState) (e : Event) → machines (site_logged s e) ≡ machines_after (world s) (machines s) e
 machines_logged s e = machines_more (start s.plan s.queue) (machines_at 0 s.plan.blocks) s.log e
 
-some_within : (ms : List (Option Machine)) (c : ℕ) (m : Machine) → get_or ms c None ≡ Some m → c < length ms
+pub some_within : (ms : List (Option Machine)) (c : ℕ) (m : Machine) → get_or ms c None ≡ Some m → c < length ms
 some_within [] c m is = absurd (cc)
 some_within (x ∷ ms) zero m is = omega arith
 some_within (x ∷ ms) (suc c) m is = let inside : c < length ms = some_within ms c m is in omega (arith, inside)
@@ -73,10 +73,10 @@ acted_machine s c i o m there =
     ∙ get_or-set_same (machines s) c (option_map (λ n. machine_after n i o) (machine_in (machines s) c)) None (some_within (machines s) c m there)
     ∙ ap (option_map (λ n. machine_after n i o)) there
 
-drawn_now : (s : SiteState) → IsRun s.plan s.queue s.log → AreDrawn (world s)
+pub drawn_now : (s : SiteState) → IsRun s.plan s.queue s.log → AreDrawn (world s)
 drawn_now s run = are_drawn s.plan (world s) run.plan (draws_after s.plan s.queue s.log)
 
-kept_now : (s : SiteState) (c : ℕ) → IsRun s.plan s.queue s.log → IsUp (world s) c → IsKept (controller_at (world s) c).records
+pub kept_now : (s : SiteState) (c : ℕ) → IsRun s.plan s.queue s.log → IsUp (world s) c → IsKept (controller_at (world s) c).records
 kept_now s c run up = (records_now s.plan s.queue s.log run).kept c up.known
 
 -- frames that were sent are frames that are no longer left

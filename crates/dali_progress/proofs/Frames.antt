@@ -61,7 +61,7 @@ IsSentTo p s k opened x n gs numbers left c h =
     (l : ℕ) × (left ≡ suc l) × At p (next_stage s c h) k (opened_after (next_stage s c h) opened) x n (row_after Everyone c 0 gs numbers) l
 
 -- one frame less
-one_less : (need left sent : ℕ) → need ≤ left + sent → sent < need → (l : ℕ) × (left ≡ suc l) × (need ≤ l + (sent + 1))
+pub one_less : (need left sent : ℕ) → need ≤ left + sent → sent < need → (l : ℕ) × (left ≡ suc l) × (need ≤ l + (sent + 1))
 one_less need zero sent enough small = absurd (omega (arith, enough, small))
 one_less need (suc l) sent enough small = (l, refl, omega (arith, enough))
 

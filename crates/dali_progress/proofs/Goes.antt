@@ -96,7 +96,7 @@ pub record Goes (before : List Gear) (w : World) (q c : ℕ) (m : Machine) (left
 
 -- ---------------------------------------------------------------- the controller acts
 
-put_no_enrolment : (p : ℕ) (f : Forward) (last : Option Order) → last ≡ Some (Put p f) → IsNoEnrolment last
+pub put_no_enrolment : (p : ℕ) (f : Forward) (last : Option Order) → last ≡ Some (Put p f) → IsNoEnrolment last
 put_no_enrolment p f last is b n e = let other : Some (Put p f) ≡ Some (Commit (Enrol b n)) = sym is ∙ e in cc
 
 heard_next : (before : List Gear) (m : Machine) (p : ℕ) (f : Forward) (h : Answer) (o : Order) (gs : List Gear) (left : ℕ) → m.last ≡ Some (Put p f)
@@ -152,10 +152,10 @@ slack (Some (Commit x)) told = 1
 slack (Some (Done e)) told = 0
 slack (Some (Halt why)) told = 0
 
-slack_first : (o : Order) (c : Course) → o ≡ beginning c → slack (Some o) None ≡ 0
+pub slack_first : (o : Order) (c : Course) → o ≡ beginning c → slack (Some o) None ≡ 0
 slack_first o c is = rw is refl
 
-slack_one : (o : Order) → slack (Some o) None ≤ 1
+pub slack_one : (o : Order) → slack (Some o) None ≤ 1
 slack_one (Put p f) = omega arith
 slack_one (Commit x) = omega arith
 slack_one (Done e) = omega arith
@@ -202,7 +202,7 @@ acted_less before w q c m i o left goes good here given kept =
     (given_by m i o (not_failed i good) given) (subst IsKept (sym goes.lone.kept) kept) goes.holds in
     rw (acted_last w c i o goes.lone.up, acted_told w c i o goes.lone.up) less
 
-addresses_by : (o : Order) → IsAddressing o → Addresses (Some o)
+pub addresses_by : (o : Order) → IsAddressing o → Addresses (Some o)
 addresses_by (Put p f) addressing = go (command_of f) refl where
   go : (d : Command) → command_of f ≡ d → is_arc d ≡ false
   go (Arc x) e = absurd (addressing x e)
@@ -260,11 +260,11 @@ never_silent (Closing e) (stage.Inconclusive r other) k opened o x n gs left at 
 never_silent p (stage.Withdrawn r a) k opened o x n gs left at = refl
 never_silent p _ k opened o x n gs left at = refl
 
-no_tries : (complete : Bool) (n : ℕ) → n ≡ 0 → tries_after complete n ≡ 0
+pub no_tries : (complete : Bool) (n : ℕ) → n ≡ 0 → tries_after complete n ≡ 0
 no_tries true n is = refl
 no_tries false n is = is
 
-not_free : (t : List Entry) (x : Entry) → stage_of (t ++ x ∷ []) ≡ stage.Free → ⊥
+pub not_free : (t : List Entry) (x : Entry) → stage_of (t ++ x ∷ []) ≡ stage.Free → ⊥
 not_free t x e = go t (free_is_empty (t ++ x ∷ []) e) where
   go : (t : List Entry) → t ++ x ∷ [] ≡ [] → ⊥
   go [] e = cc
@@ -301,7 +301,7 @@ pub record IsKnown (w : World) (c : ℕ) (f : Forward) (h : Answer) : Type 0 whe
   pub then : AreDrawn (happens w (event.Sent c f h))
   pub seeks : (r : SearchAddress) → number_at (stage_of w.trace) ≡ Some r → Seek w.gear r
 
-taken_of : (w : World) (c : ℕ) (f : Forward) (h : Answer) → Allowed w (event.Sent c f h) → IsKnown w c f h
+pub taken_of : (w : World) (c : ℕ) (f : Forward) (h : Answer) → Allowed w (event.Sent c f h) → IsKnown w c f h
     → h ≡ heard_of (answers_of Everyone (command_of f) 0 w.gear) → IsTaken (command_of f) w.gear w.left h
 taken_of w c f h here known heard = record {
   heard = heard;

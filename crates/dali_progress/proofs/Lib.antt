@@ -19,3 +19,4 @@ mod Numbers
 mod Accounted
 mod Spared
 mod Sweep
+mod Survey

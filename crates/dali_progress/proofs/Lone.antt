@@ -178,7 +178,7 @@ before w q c m out (Some (Put p f)) (Some j) i is good due at = absurd at
 before w q c m out (Some o) (Some j) i is good due at = absurd at
 before w q c m out (Some o) None i is good due at = absurd (cc)
 
-heard_kept : (m : Machine) (o : Option Forward) (h : Answer) → (machine_heard m o h).kept ≡ m.kept
+pub heard_kept : (m : Machine) (o : Option Forward) (h : Answer) → (machine_heard m o h).kept ≡ m.kept
 heard_kept m (Some f) h = refl
 heard_kept m None h = refl
 
@@ -218,7 +218,7 @@ came w q c m i (Commit x) out at = (at, refl, refl)
 came w q c m i (Done e) out at = at
 came w q c m i (Halt why) out at = at
 
-acted_there : (w : World) (c : ℕ) (i : Input) (o : Order) → IsUp w c
+pub acted_there : (w : World) (c : ℕ) (i : Input) (o : Order) → IsUp w c
     → controller_at (happens w (event.Acted c i o)) c ≡ controller_acted (controller_at w c) i o
 acted_there w c i o up = get_or-set_same w.controllers c (controller_acted (controller_at w c) i o) nobody up.known
 
@@ -306,7 +306,7 @@ waits_at : (w : World) (q c : ℕ) (m : Machine) (out : Option Record) (last : O
     → told ≡ None → Moment w q c m out last told → Waits w q c m p f
 waits_at w q c m out last told p f is none at = rw (is, none) at at
 
-sent_there : (w : World) (c : ℕ) (f : Forward) (h : Answer) → IsUp w c
+pub sent_there : (w : World) (c : ℕ) (f : Forward) (h : Answer) → IsUp w c
     → controller_at (happens w (event.Sent c f h)) c ≡ told_sent (trace_running w c) f h (controller_at w c)
 sent_there w c f h up = get_or-set_same w.controllers c (told_sent (trace_running w c) f h (controller_at w c)) nobody up.known
 

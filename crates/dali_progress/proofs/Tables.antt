@@ -60,7 +60,7 @@ tabled_by before xs gs hs same keeps tabled k a in_row short =
     let kept = keeps k there a short in
     subst (λ r. ((gear_of before k).short ≡ Some a) ⊎ Has xs (a, r)) (sym kept.1) (tabled k a there kept.0)
 
-tabled_left : (before : List Gear) (xs : List Assignment) (gs : List Gear) (numbers : List ℕ) (c : Command) → LeavesNames c → AreTabled before xs gs
+pub tabled_left : (before : List Gear) (xs : List Assignment) (gs : List Gear) (numbers : List ℕ) (c : Command) → LeavesNames c → AreTabled before xs gs
     → AreTabled before xs (row_after Everyone c 0 gs numbers)
 tabled_left before xs gs numbers c leaves tabled =
     tabled_by before xs gs (row_after Everyone c 0 gs numbers) (row_length Everyone c 0 gs numbers)

@@ -100,7 +100,7 @@ IsNext before m (Halt why) gs left = ⊥
 calm_of : (before : List Gear) (t : Machine) (gs : List Gear) (left : ℕ) → Stands before t gs left → IsUndisturbed t
 calm_of before t gs left st = record { tries = st.tries; fresh = st.fresh; silent = st.silent; within = st.within }
 
-never_eight : (n : ℕ) → n ≡ 0 → n ≡ 8 → ⊥
+pub never_eight : (n : ℕ) → n ≡ 0 → n ≡ 8 → ⊥
 never_eight n none e = omega (arith, none, e)
 
 -- ---------------------------------------------------------------- a later frame, and a first one
@@ -154,13 +154,13 @@ tabled_at before t gs left s st is = subst (λ q. AreTabled before (to_come q t.
 
 -- ---------------------------------------------------------------- a new search
 
-search_at_first : (gs : List Gear) (left : ℕ) → search_frames (count_by is_wanted gs) ≤ left → probe_frames 0 (count_by is_wanted gs) ≤ left + 0
+pub search_at_first : (gs : List Gear) (left : ℕ) → search_frames (count_by is_wanted gs) ≤ left → probe_frames 0 (count_by is_wanted gs) ≤ left + 0
 search_at_first gs left enough = go (count_by is_wanted gs) enough where
   go : (n : ℕ) → search_frames n ≤ left → probe_frames 0 n ≤ left + 0
   go zero e = omega (arith, e)
   go (suc n) e = omega (arith, e)
 
-begins_search : (c : Course) (gs : List Gear) (left : ℕ) → IsOpened gs → NoneNamed gs → search_frames (count_by is_wanted gs) ≤ left
+pub begins_search : (c : Course) (gs : List Gear) (left : ℕ) → IsOpened gs → NoneNamed gs → search_frames (count_by is_wanted gs) ≤ left
     → Probes stage.Free (searching_anew c).search (searching_anew c).number gs left
 begins_search c gs left ready unnamed enough = record {
   stage_is = tt;
@@ -179,7 +179,7 @@ searches_anew before t o gs left calm tabled is same opened ready unnamed enough
     goes_by before t o (searching_anew t.course) gs left calm tabled is same tt (opened, begins_search t.course gs left ready unnamed enough)
 
 -- after an opening before which an opening was complete
-goes_on_anew : (t : Machine) → t.opened ≡ true → goes_on_to t ≡ searching_anew t.course
+pub goes_on_anew : (t : Machine) → t.opened ≡ true → goes_on_to t ≡ searching_anew t.course
 goes_on_anew t opened = rw opened refl
 
 -- ---------------------------------------------------------------- the opening
@@ -272,7 +272,7 @@ found_wanted gs x r ready narrowing agrees is =
     (says.0, subst (λ s. NumberOf s (λ m. m < 0xFFFFFF)) is (searching.finds_below x narrowing))
 
 -- where nobody is left, every gear with power has a short address
-all_have : (gs : List Gear) (x : Search) → IsOpened gs → IsNarrowing x → Agrees (wants gs) x.answers → x.step ≡ Nobody → OfPowered gs HasShort
+pub all_have : (gs : List Gear) (x : Search) → IsOpened gs → IsNarrowing x → Agrees (wants gs) x.answers → x.step ≡ Nobody → OfPowered gs HasShort
 all_have gs x ready narrowing agrees is k in_row on = go (get_or gs k fresh).short refl where
   nobody : (m : ℕ) → wants gs m ≡ true → ⊥
   nobody = subst (Says (wants gs)) is (searching.says_least x narrowing (wants gs) (λ m e. wanted.wanted_below gs m ready e) agrees)
@@ -286,12 +286,12 @@ found_frames : (answers n left more : ℕ) → probe_frames answers n ≤ left +
 found_frames answers zero left more enough is = absurd (omega (arith, is))
 found_frames answers (suc n) left more enough is = omega (arith, enough, is)
 
-close_frames : (answers n left : ℕ) → probe_frames answers n ≤ left + 4 → 1 ≤ left + 0
+pub close_frames : (answers n left : ℕ) → probe_frames answers n ≤ left + 4 → 1 ≤ left + 0
 close_frames answers zero left enough = omega (arith, enough)
 close_frames answers (suc n) left enough = omega (arith, enough)
 
 -- what an answer leads to
-probed_at : (s : Step) (k : Kept) (c : Course) (said : Bool) (gs : List Gear) (left : ℕ) → (answered c.search said).step ≡ s → IsOpened gs → NoneNamed gs
+pub probed_at : (s : Step) (k : Kept) (c : Course) (said : Bool) (gs : List Gear) (left : ℕ) → (answered c.search said).step ≡ s → IsOpened gs → NoneNamed gs
     → IsNarrowing (answered c.search said)
     → Agrees (wants gs) (answered c.search said).answers → probe_frames (length c.search.answers) (count_by is_wanted gs) ≤ left + 4
     → IsSpelled (first_of (after_step s (record c { search = answered c.search said })).purpose
@@ -372,13 +372,13 @@ probing_turns before t o _ gs left g st last purpose is running opened p = absur
 -- ---------------------------------------------------------------- a visit
 
 -- the number of a search address that is a random address
-drawn_of : (n : SearchAddress) (r : ℕ) → n ≡ sought r → r < MASK24 → value_of n < MASK24
+pub drawn_of : (n : SearchAddress) (r : ℕ) → n ≡ sought r → r < MASK24 → value_of n < MASK24
 drawn_of n r is drawn = subst (λ m. m < MASK24) (sym (ap value_of is ∙ value_sought r)) drawn
 
-has_random : (xs : List Assignment) (a n : ℕ) → Has xs (a, n) → HasRandom xs n
+pub has_random : (xs : List Assignment) (a n : ℕ) → Has xs (a, n) → HasRandom xs n
 has_random xs a n has = has_map (λ (q : Assignment). q.1) xs (a, n) has
 
-has_address : (xs : List Assignment) (a n : ℕ) → Has xs (a, n) → HasAddress xs a
+pub has_address : (xs : List Assignment) (a n : ℕ) → Has xs (a, n) → HasAddress xs a
 has_address xs a n has = has_map (λ (q : Assignment). q.0) xs (a, n) has
 
 unnamed_turns : (before : List Gear) (t : Machine) (o : Order) (r : SearchAddress) (gs : List Gear) (left : ℕ) → IsGivenBy t o → Stands before t gs left
@@ -540,14 +540,14 @@ within_enrolled k b r within reserved x has = go (has_cases k.enrolled (b, r) x 
   go (inl e) = within x e
   go (inr e) = subst (Has k.reserved) e reserved
 
-no_enrolment : (a r : ℕ) (last : Option Order) → last ≡ Some (Commit (Reserve a r)) → IsNoEnrolment last
+pub no_enrolment : (a r : ℕ) (last : Option Order) → last ≡ Some (Commit (Reserve a r)) → IsNoEnrolment last
 no_enrolment a r last is b n e = let other : Some (Commit (Reserve a r)) ≡ Some (Commit (Enrol b n)) = sym is ∙ e in cc
 
 -- with its record
 abbrev pub with_kept : Machine → Record → Machine
 with_kept m x = record m { kept = with_record m.kept x }
 
-entry_last : (xs : List Assignment) (y x : Assignment) → Has (y ∷ xs) x → Has (xs ++ y ∷ []) x
+pub entry_last : (xs : List Assignment) (y x : Assignment) → Has (y ∷ xs) x → Has (xs ++ y ∷ []) x
 entry_last xs y x (inl same) = subst (Has (xs ++ y ∷ [])) same (has_last xs y)
 entry_last xs y x (inr has) = has_left xs (y ∷ []) x has
 

@@ -5,8 +5,11 @@
 //! succeed; frames that are next are sent, and what the gear answer is heard. So no other controller acts meanwhile, no
 //! frame is destroyed, no answer is lost or damaged, the bus never lapses, and no gear's power comes or goes.
 //!
-//! The last three speak of the runs of rounds that a replay makes of an installation with one controller (`Ran`): each
-//! is such a list of events.
+//! Three speak of the runs of rounds that a replay makes of an installation with one controller (`Ran`): each is such a
+//! list of events.
+//!
+//! Others speak of such a controller that begins by a survey (`SurveysAlone`, `SurveyRounds`), and of what a survey
+//! promises of a machine on any bus (`IsCourse`).
 
 ghost use Rattle.std.specs.Prelude.{◌≡◌, ◌⊎◌, ℕ, ◌+◌, ◌*◌, ◌<◌, ◌≤◌, true, List, [], ◌∷◌, length, Some};
 ghost use Rattle.std.specs.List.{count_by, AllByRecursion};
@@ -23,6 +26,7 @@ ghost use Rattle.dali_controller.specs.Course.{address_for};
 ghost use Rattle.dali_controller.specs.Machine.{Machine};
 ghost use Rattle.dali_controller.specs.Whole.{IsWhole};
 ghost use Rattle.dali_script.specs.declared.orders.End.{End};
+ghost use Rattle.dali_script.specs.declared.orders.End.TheVariants.{BlockFull};
 ghost use Rattle.dali_events.specs.declared.event.Event.{Event};
 ghost use Rattle.dali_events.specs.Plan.{Plan, IsPlan};
 ghost use Rattle.dali_events.specs.Runs.{AllAllowed};
@@ -39,6 +43,8 @@ ghost use Rattle.dali_progress.specs.Rounds.{IsTabled};
 ghost use Rattle.dali_progress.specs.Surveyed.{Step, IsCourse, ArePlain, WasHeard, IsAccounted, HasSurveyed};
 ghost use Rattle.dali_progress.specs.Surveyed.{stage_told};
 ghost use Rattle.dali_progress.specs.Spared.{ReservesBySurvey};
+ghost use Rattle.dali_progress.specs.Surveys.{SurveysAlone, SurveyRounds, SurveyGoesOn, IsSurveyDone, IsSurveyTabled};
+ghost use Rattle.dali_progress.specs.Surveys.{IsSettledAt, IsAllTaken, restarted, CommitsNothing, WasTabled};
 ghost use Rattle.dali_progress.specs.Swept.{BeginsBySurvey, AreWhole, AreSteady, frames_asked, frames_lost, WasSilent};
 ghost use Rattle.dali_progress.specs.Swept.{WasSpelled, IsNamed, IsClean, IsSwept};
 ghost use Rattle.dali_progress.specs.Running.{HasCommissioned, WasRefused};
@@ -118,6 +124,72 @@ pub fn a_run_commissions()
     ensures fresh { (limit : ℕ) (p : Plan) (b : Block) (sent : ℕ) (text : List ℕ) (m : Installation) → IsPlan p
         → p.blocks ≡ b ∷ [] → p.gear ≤ 128 → p.gear ≤ length p.draws → 333 * p.gear + 31 < limit
         → Ran limit (installation_of p) sent text m → HasCommissioned (installation_of p).site m.site 0 }
+{}
+
+/// WHO STARTS ALONE SURVEYS ALONE. A survey may begin with nothing kept, as a start does (`starts`), and with any
+/// records. A controller that ended a survey, went down and came up again surveys alone once more (`again`), with the
+/// records that it kept (`kept`). So what is said of one survey is said of each that follows.
+pub fn who_starts_alone_surveys_alone()
+    ensures starts { (s : SiteState) (c : ℕ) → StartsAlone s c → SurveysAlone s c × IsSettledAt s c }
+    ensures again { (s : SiteState) (c : ℕ) (es : List Event) (e : End) → SurveysAlone s c → SurveyRounds s c es
+        → HasEnded (site_after s es) c e → SurveysAlone (restarted (site_after s es) c) c }
+    ensures kept { (s : SiteState) (c : ℕ) (es : List Event) (e : End) → SurveysAlone s c → SurveyRounds s c es
+        → HasEnded (site_after s es) c e → IsSettledAt (site_after s es) c
+        → IsSettledAt (restarted (site_after s es) c) c }
+{}
+
+/// A WHOLE SURVEY IS BOUNDED. On a site on which a controller is alone, with nothing on the bus, and nothing disturbs
+/// it: with n gear that have power and no short address, its survey sends at most 111 n + 209 frames, where each
+/// address that it has reserved is enrolled so (`settled_frames`). Three go to each of the 64 short addresses at the
+/// most: three questions where nobody answers, and the three queries of a random address where a gear does. Three wake
+/// gear, and then come a last probe of four, an opening of five, another last probe, and the close; for each of the n
+/// at most 25 probes of four frames, and 11 frames of visits.
+///
+/// With any records it sends at most 104 more (`frames`): a gear may be found whose reservation is another's, and then
+/// all draw new numbers. The gear may have short addresses from before, whoever gave them, and numbers that they drew
+/// or none. Events are no more than the other clauses say.
+pub fn a_survey_is_bounded()
+    ensures frames { (s : SiteState) (c : ℕ) (es : List Event) → SurveysAlone s c → SurveyRounds s c es
+        → frames es ≤ 111 * count_by is_bare (world s).gear + 313 }
+    ensures events { (s : SiteState) (c : ℕ) (es : List Event) → SurveysAlone s c → SurveyRounds s c es
+        → length es ≤ 444 * count_by is_bare (world s).gear + 1253 }
+    ensures settled_frames { (s : SiteState) (c : ℕ) (es : List Event) → SurveysAlone s c → IsSettledAt s c
+        → SurveyRounds s c es → frames es ≤ 111 * count_by is_bare (world s).gear + 209 }
+    ensures settled_events { (s : SiteState) (c : ℕ) (es : List Event) → SurveysAlone s c → IsSettledAt s c
+        → SurveyRounds s c es → length es ≤ 333 * count_by is_bare (world s).gear + 628 }
+{}
+
+/// A SURVEY GOES ON OR HAS ENDED. At each moment of such a survey the controller has ended; or something is due for it
+/// that may be done, with no request waiting; or a request is next on the bus. It never halts.
+pub fn a_survey_goes_on()
+    ensures { (s : SiteState) (c : ℕ) (es : List Event) → SurveysAlone s c → SurveyRounds s c es
+        → SurveyGoesOn (site_after s es) c }
+{}
+
+/// ENDS OF SURVEYS ARE TRUE. Where such a survey ends with all-found, every gear with power has a short address; or
+/// each address of its block is taken, and gear with power and without short address never drew a number. Where it
+/// ends with block-full, each address of its block is taken: reserved, or in the table, or one under which somebody was
+/// heard whose number it does not know; or one that it has reserved is another's. It never gives up (`done`).
+///
+/// Either way its table names each gear that has a short address, with its random address, whoever gave it; but one
+/// that had it before the survey, and then had no power or no number that gear draw (`table`).
+///
+/// Where each address that it had reserved was enrolled so, nothing is another's (`taken`), and it is so at the end
+/// (`settled`).
+///
+/// So one survey that nothing disturbs says all this at its end. Where it committed nothing, it was the table that it
+/// began with that names them (`quiet`). That three runs in a row be quiet is asked where the bus may lose answers.
+pub fn ends_of_surveys_are_true()
+    ensures done { (s : SiteState) (c : ℕ) (es : List Event) (e : End) → SurveysAlone s c → SurveyRounds s c es
+        → HasEnded (site_after s es) c e → IsSurveyDone (site_after s es) c e }
+    ensures table { (s : SiteState) (c : ℕ) (es : List Event) (e : End) → SurveysAlone s c → SurveyRounds s c es
+        → HasEnded (site_after s es) c e → IsSurveyTabled s (site_after s es) c }
+    ensures taken { (s : SiteState) (c : ℕ) (es : List Event) → SurveysAlone s c → IsSettledAt s c
+        → SurveyRounds s c es → HasEnded (site_after s es) c BlockFull → IsAllTaken (site_after s es) c }
+    ensures settled { (s : SiteState) (c : ℕ) (es : List Event) (e : End) → SurveysAlone s c → IsSettledAt s c
+        → SurveyRounds s c es → HasEnded (site_after s es) c e → IsSettledAt (site_after s es) c }
+    ensures quiet { (s : SiteState) (c : ℕ) (es : List Event) (e : End) → SurveysAlone s c → SurveyRounds s c es
+        → AllByRecursion CommitsNothing es → HasEnded (site_after s es) c e → WasTabled s (site_after s es) c }
 {}
 
 /// A SURVEY GIVES NOTHING AWAY WHERE IT HEARD SOMEBODY. Where a machine that began by a survey heard somebody under a

@@ -46,7 +46,7 @@ use Rattle.dali_progress.proofs.Sweep.Course.{IsAlone, alone_after, put_is, comm
 
 -- ---------------------------------------------------------------- which address is asked next
 
-asked_later : (k : Kept) (n from : ℕ) → asked_among k n from ≡ None → (a : ℕ) → from ≤ a → a < from + n → is_asked k a ≡ false
+pub asked_later : (k : Kept) (n from : ℕ) → asked_among k n from ≡ None → (a : ℕ) → from ≤ a → a < from + n → is_asked k a ≡ false
 asked_later k zero from none a low high = absurd (omega (arith, low, high))
 asked_later k (suc n) from none a low high = go (is_asked k from) refl none (asked_later k n (from + 1)) where
   go : (b : Bool) → is_asked k from ≡ b → (if b then Some from else asked_among k n (from + 1)) ≡ None
@@ -59,7 +59,7 @@ asked_later k (suc n) from none a low high = go (is_asked k from) refl none (ask
         let apart : from ≡ a → ⊥ = grind (arith, nat_tests) in
         more e a (omega (arith, low, apart)) (omega (arith, high))
 
-asked_before : (k : Kept) (n from c : ℕ) → asked_among k n from ≡ Some c → (a : ℕ) → from ≤ a → a < c → is_asked k a ≡ false
+pub asked_before : (k : Kept) (n from c : ℕ) → asked_among k n from ≡ Some c → (a : ℕ) → from ≤ a → a < c → is_asked k a ≡ false
 asked_before k zero from c some a low high = absurd (cc)
 asked_before k (suc n) from c some a low high = go (is_asked k from) refl some (asked_before k n (from + 1) c) where
   go : (b : Bool) → is_asked k from ≡ b → (if b then Some from else asked_among k n (from + 1)) ≡ Some c
@@ -71,7 +71,7 @@ asked_before k (suc n) from c some a low high = go (is_asked k from) refl some (
     here false other = let apart : from ≡ a → ⊥ = grind (arith, nat_tests) in more e a (omega (arith, low, apart)) high
 
 -- who is not asked is enrolled
-unasked_enrolled : (k : Kept) (a : ℕ) → is_asked k a ≡ false → (r : ℕ) × Has k.enrolled (a, r)
+pub unasked_enrolled : (k : Kept) (a : ℕ) → is_asked k a ≡ false → (r : ℕ) × Has k.enrolled (a, r)
 unasked_enrolled k a none = go (number_at k.enrolled a) (is_some (number_at k.reserved a)) (found_number k.enrolled a) none where
   go : (o : Option ℕ) (reserved : Bool) → MatchOption o (HasAddress k.enrolled a → ⊥) (λ r. Has k.enrolled (a, r)) → (not (is_some o) || reserved) ≡ false
       → (r : ℕ) × Has k.enrolled (a, r)

@@ -1,0 +1,392 @@
+use Rattle.std.proofs.Common.{◌≡◌, ℕ, ◌+◌, ◌-◌, ◌*◌, ◌<◌, ◌≤◌, ◌⊎◌, inl, inr, Bool, true, false, zero, suc, List, [], ◌∷◌, ◌++◌, refl, sym, ap, subst, ◌∙◌}
+use Rattle.std.proofs.Common.{arith}
+use Rattle.std.proofs.Common.{Option, Some, None}
+use Rattle.std.specs.Prelude.{◌==◌, ◌&&◌, ◌||◌, not, is_some, MatchOption, if◌then◌else◌}
+use Rattle.std.specs.List.{count_by}
+use Rattle.std.proofs.lemmas.Bool.Decides.{nat_tests}
+use Rattle.dali_frame.specs.declared.numbers.SearchAddress.{SearchAddress}
+use Rattle.dali_frame.specs.declared.frames.Forward.{Forward}
+use Rattle.dali_frame.specs.Random.{MASK24}
+use Rattle.dali_frame.specs.Priority.{FIRST, LATER}
+use Rattle.dali_special.specs.declared.command.Command.{Command}
+use Rattle.dali_special.specs.Command.{command_of, frame_of, IsSpelled}
+use Rattle.dali_special.proofs.Table.{read_written}
+use Rattle.dali_gear.specs.Gear.{Gear}
+use Rattle.dali_script.specs.declared.records.Record.{Record}
+use Rattle.dali_script.specs.declared.records.Record.TheVariants.{Reserve, Enrol, Release}
+use Rattle.dali_script.specs.Records.{Assignment, Kept, Has, HasAddress, with_record, IsMap}
+use Rattle.dali_script.specs.declared.stage.Stage.{Stage}
+use Rattle.dali_script.specs.declared.stage.Stage.TheVariants as stage
+use Rattle.dali_script.specs.Findings.{finding_of}
+use Rattle.dali_script.specs.Stages.{IsTrace, stage_of}
+use Rattle.dali_script.proofs.Lists.{has_map, has_cases}
+use Rattle.dali_script.proofs.Transactions.{stage_none}
+use Rattle.dali_script.proofs.Found.{trace_none}
+use Rattle.dali_script.specs.declared.orders.Order.{Order}
+use Rattle.dali_script.specs.declared.orders.Order.TheVariants.{Put, Commit, Done, Halt}
+use Rattle.dali_script.specs.declared.orders.Fault.TheVariants as fault
+use Rattle.dali_controller.specs.declared.purpose.Purpose.{Purpose}
+use Rattle.dali_controller.specs.declared.purpose.Purpose.TheVariants.{Probing}
+use Rattle.dali_controller.specs.declared.shorts.Shorts.{Shorts}
+use Rattle.dali_controller.specs.declared.way.Way.{Way}
+use Rattle.dali_controller.specs.declared.way.Way.TheVariants.{Fresh, Surveying}
+use Rattle.dali_controller.specs.Shorts.{has_short}
+use Rattle.dali_controller.specs.Course.{Course, first_of, turn_of, number_at, is_open, open_among, least_open, is_another, is_anothers}
+use Rattle.dali_controller.specs.Course.{is_asked, asked_among, next_asked, ask_or_wake, asking, waking, going_on, going_on_early, searching_anew}
+use Rattle.dali_controller.specs.Machine.{Machine}
+use Rattle.dali_controller.specs.Next.{next_course, course_by, beginning, goes_on_to, BeginsWith}
+use Rattle.dali_controller.specs.Orders.{machine_ordered, IsAllowed, IsCaused}
+use Rattle.dali_controller.specs.Whole.{IsWhole}
+use Rattle.dali_controller.proofs.Courses.{found_number}
+use Rattle.dali_controller.proofs.Given as given
+use Rattle.dali_controller.proofs.Given.{IsGivenBy, IsNoEnrolment}
+use Rattle.dali_events.specs.Wanted.{is_wanted, wants, IsOpened, NoneNamed}
+use Rattle.dali_events.proofs.Search.Leaving.{SameCore}
+use Rattle.dali_progress.specs.Rounds.{AreTabled}
+use Rattle.dali_progress.specs.Surveys.{IsSettled}
+use Rattle.dali_progress.proofs.Sweep.Coming.{asked_later, asked_before, unasked_enrolled}
+use Rattle.dali_script.proofs.Members.{same_member}
+use Rattle.dali_progress.proofs.Stands.{search_frames, Sends}
+use Rattle.dali_progress.proofs.Turns.{begins_search}
+use Rattle.dali_progress.proofs.Survey.Queried.{OneShort, IsTrue, TabledBelow, unseen, below_all, below_named}
+use Rattle.dali_progress.proofs.Survey.Stands.{Begun, IsClear, wake_frames, IsOwn, searched_by, frames_after, Hunts, AreTaken, SurveyEnds}
+use Rattle.dali_progress.proofs.Survey.Stands.{SurveyAt, SurveyStands}
+
+-- A TRANSACTION OF A SURVEY BEGINS, or goes on; and what is to come of an order.
+
+-- what every machine has that is not disturbed
+pub record Calm (m : Machine) : Type 0 where
+  pub tries : m.tries ≡ 0
+  pub silent : m.silent ≡ 0
+
+-- a gear that told its number is to be enrolled, and then the next short address is asked
+pub record EnrolsSwept (start : Begun) (m : Machine) (a r : ℕ) (gs : List Gear) (left : ℕ) : Type 0 where
+  pub way : m.course.way ≡ Surveying
+  pub opened : m.opened ≡ false
+  pub asked : m.asked ≡ 0
+  pub small : a < 64
+  pub from_is : m.course.from ≡ a + 1
+  pub settled : start.any ≡ false → IsSettled m.kept
+  pub clear : start.any ≡ false → IsClear m.kept m.heard
+  pub unreserved : start.any ≡ false → (c : ℕ) → Has m.kept.reserved (c, r) → ⊥
+  pub same : SameCore start.gear gs
+  pub tabled : TabledBelow (a + 1) start.gear (m.kept.enrolled ++ (a, r) ∷ []) gs
+  pub frames : 3 * (63 - a) + wake_frames start gs ≤ left
+
+-- what was reserved for it is to be released, and then the next short address is asked
+pub record ReleasesSwept (start : Begun) (m : Machine) (a : ℕ) (gs : List Gear) (left : ℕ) : Type 0 where
+  pub any : start.any ≡ true
+  pub way : m.course.way ≡ Surveying
+  pub opened : m.opened ≡ false
+  pub asked : m.asked ≡ 0
+  pub small : a < 64
+  pub from_is : m.course.from ≡ a + 1
+  pub same : SameCore start.gear gs
+  pub tabled : TabledBelow (a + 1) start.gear m.kept.enrolled gs
+  pub frames : 3 * (63 - a) + wake_frames start gs ≤ left
+
+-- a gear that was given its address is to be enrolled, and then a new search begins
+pub record EnrolsHunted (start : Begun) (m : Machine) (b r : ℕ) (gs : List Gear) (left : ℕ) : Type 0 where
+  pub way : m.course.way ≡ Fresh → ⊥
+  pub opened : m.opened ≡ true
+  pub own : start.any ≡ false → IsOwn m.kept m.heard
+  pub ready : IsOpened (searched_by m.course.way gs)
+  pub unnamed : NoneNamed (searched_by m.course.way gs)
+  pub reserved : Has m.kept.reserved (b, r)
+  pub settled : start.any ≡ false → (x : Assignment) → Has m.kept.reserved x → Has m.kept.enrolled x ⊎ (x.1 ≡ r)
+  pub tabled : AreTabled (unseen start.gear) ((b, r) ∷ m.kept.enrolled) (searched_by m.course.way gs)
+  pub frames : search_frames (count_by is_wanted (searched_by m.course.way gs)) + frames_after m.course.way start gs ≤ left
+
+-- a reservation is to be kept, and then its gear is visited once more
+pub record ReservesHunted (start : Begun) (m : Machine) (a r : ℕ) (gs : List Gear) (left : ℕ) : Type 0 where
+  pub way : m.course.way ≡ Fresh → ⊥
+  pub opened : m.opened ≡ true
+  pub own : start.any ≡ false → IsOwn m.kept m.heard
+  pub settled : start.any ≡ false → IsSettled m.kept
+  pub open_is : is_open m.kept m.heard a ≡ true
+  pub ready : IsOpened (searched_by m.course.way gs)
+  pub unnamed : NoneNamed (searched_by m.course.way gs)
+  pub wanted : wants (searched_by m.course.way gs) r ≡ true
+  pub drawn : r < MASK24
+  pub more : ℕ
+  pub count : count_by is_wanted (searched_by m.course.way gs) ≡ suc more
+  pub tabled : AreTabled (unseen start.gear) m.kept.enrolled (searched_by m.course.way gs)
+  pub frames : 7 + search_frames more + frames_after m.course.way start gs ≤ left
+
+abbrev pub SurveyCommits : Begun → Machine → Record → List Gear → ℕ → Type 0
+SurveyCommits start m (Enrol a r) gs left = EnrolsSwept start m a r gs left ⊎ EnrolsHunted start m a r gs left
+SurveyCommits start m (Reserve a r) gs left = ReservesHunted start m a r gs left
+SurveyCommits start m (Release c r) gs left = (a : ℕ) × ReleasesSwept start m a gs left
+
+-- what is to come of an order
+abbrev pub IsNext : Begun → Machine → Order → List Gear → ℕ → Type 0
+IsNext start m (Put p f) gs left = SurveyStands start m gs left × Sends m.course.purpose m.course.number m.kept (stage_of m.trace) (command_of f)
+IsNext start m (Commit x) gs left = Calm m × SurveyCommits start m x gs left
+IsNext start m (Done e) gs left =
+    SurveyEnds start.any e m.kept m.heard gs × AreTabled (unseen start.gear) m.kept.enrolled gs × (start.any ≡ false → IsSettled m.kept)
+IsNext start m (Halt why) gs left = ⊥
+
+pub calm_ordered : (start : Begun) (t : Machine) (o : Order) (gs : List Gear) (left : ℕ) → SurveyStands start t gs left → Calm (machine_ordered t o)
+calm_ordered start t o gs left st = record { tries = st.tries; silent = st.silent }
+
+pub calm_of : (start : Begun) (t : Machine) (gs : List Gear) (left : ℕ) → SurveyStands start t gs left → Calm t
+calm_of start t gs left st = record { tries = st.tries; silent = st.silent }
+
+-- ---------------------------------------------------------------- a later frame, and a first one
+
+pub later_by : (start : Begun) (t : Machine) (o : Order) (p : Purpose) (s : Stage) (c : Command) (gs : List Gear) (left : ℕ) → SurveyStands start t gs left
+    → o ≡ Put LATER (frame_of c) → IsSpelled c → t.course.purpose ≡ p → stage_of t.trace ≡ s → Sends p t.course.number t.kept s c
+    → IsNext start (machine_ordered t o) o gs left
+later_by start t o p s c gs left st is spelled purpose at sends = subst (λ q. IsNext start (machine_ordered t q) q gs left) (sym is) (
+  record { tries = st.tries; silent = st.silent; trace = st.trace; at = st.at },
+  subst (λ d. Sends t.course.purpose t.course.number t.kept (stage_of t.trace) d) (sym (read_written c spelled)) (rw (purpose, at) sends),
+)
+
+pub turns_by : (start : Begun) (t : Machine) (o : Order) (p : Purpose) (s : Stage) (c : Command) (gs : List Gear) (left : ℕ) → IsGivenBy t o
+    → SurveyStands start t gs left → t.course.purpose ≡ p → stage_of t.trace ≡ s → turn_of p t.course.number s ≡ Some c → IsSpelled c
+    → Sends p t.course.number t.kept s c → IsNext start (machine_ordered t o) o gs left
+turns_by start t o p s c gs left g st purpose at turn spelled sends =
+    later_by start t o p s c gs left st (given.turns t o c g (rw (purpose, at) turn)) spelled purpose at sends
+
+goes_first : (start : Begun) (t : Machine) (o : Order) (gs : List Gear) (left : ℕ) → Calm t → o ≡ beginning (next_course t)
+    → IsSpelled (first_of (next_course t).purpose (next_course t).number)
+    → SurveyAt (next_course t).purpose (next_course t).way stage.Free t.kept t.heard t.opened t.asked (next_course t).search (next_course t).number
+    (next_course t).from start gs left
+    → IsNext start (machine_ordered t o) o gs left
+goes_first start t o gs left calm is spelled at = subst (λ q. IsNext start (machine_ordered t q) q gs left) (sym is) (
+  record {
+    tries = calm.tries;
+    silent = calm.silent;
+    trace = subst (λ s. IsTrace s []) (sym stage_none) trace_none;
+    at = subst (λ s. SurveyAt (next_course t).purpose (next_course t).way s t.kept t.heard t.opened t.asked (next_course t).search (next_course t).number
+        (next_course t).from start gs left) (sym stage_none) at;
+  },
+  subst (λ s. Sends (next_course t).purpose (next_course t).number t.kept s (command_of (frame_of (first_of (next_course t).purpose (next_course t).number))))
+      (sym stage_none)
+      (read_written (first_of (next_course t).purpose (next_course t).number) spelled),
+)
+
+pub first_by : (start : Begun) (t : Machine) (o : Order) (cs : Course) (gs : List Gear) (left : ℕ) → Calm t → o ≡ beginning (next_course t)
+    → next_course t ≡ cs → IsSpelled (first_of cs.purpose cs.number)
+    → SurveyAt cs.purpose cs.way stage.Free t.kept t.heard t.opened t.asked cs.search cs.number cs.from start gs left
+    → IsNext start (machine_ordered t o) o gs left
+first_by start t o cs gs left calm is same spelled at =
+    goes_first start t o gs left calm is (subst (λ (d : Course). IsSpelled (first_of d.purpose d.number)) (sym same) spelled)
+    (subst (λ (d : Course). SurveyAt d.purpose d.way stage.Free t.kept t.heard t.opened t.asked d.search d.number d.from start gs left) (sym same) at)
+
+-- ---------------------------------------------------------------- a transaction that is over although a frame might follow
+
+-- no later frame is put, since a whole machine sends none there
+pub begins_whole : (t : Machine) (o : Order) (s : Stage) → IsGivenBy t o → stage_of t.trace ≡ s → ((r : SearchAddress) → s ≡ stage.Unnamed r → ⊥)
+    → (s ≡ stage.Terminated → ⊥) → finding_of t.trace ≡ None → IsNoEnrolment t.last → (t.tries ≡ 8 → ⊥)
+    → ((f : Forward) → IsWhole (machine_ordered t (Put LATER f)) → ⊥) → IsWhole (machine_ordered t o) → o ≡ beginning (next_course t)
+begins_whole t o s g at named closed found last tries later = go o g where
+  first : (f : Forward) → BeginsWith (course_by t (Put FIRST f)) (Put FIRST f) → Put FIRST f ≡ beginning (next_course t)
+  first f begins = ap (λ h. Put FIRST h) (begins refl)
+
+  go : (o : Order) → IsGivenBy t o → IsWhole (machine_ordered t o) → o ≡ beginning (next_course t)
+  go (Put p f) g whole = by g.ordered.allowed where
+    by : IsAllowed t (Put p f) → Put p f ≡ beginning (next_course t)
+    by (inl may) = ap (λ q. Put q f) may.0 ∙ first f (subst (λ q. BeginsWith (course_by t (Put q f)) (Put q f)) may.0 g.begins)
+    by (inr may) = absurd (later f (subst (λ q. IsWhole (machine_ordered t (Put q f))) may.0 whole))
+  go (Commit x) g whole = absurd (given.unwarranted t x (λ r e. named r (sym at ∙ e)) found last g.ordered.allowed.warranted)
+  go (Done e) g whole = absurd (by g.ordered.caused) where
+    by : IsCaused t t.course (Done e) → ⊥
+    by (inl cause) = tries cause.1
+    by (inr cause) = closed (sym at ∙ cause.1)
+  go (Halt fault.Conflict) g whole = absurd (by g.ordered.caused) where
+    by : IsCaused t t.course (Halt fault.Conflict) → ⊥
+    by cause = let none = cause.2 in cc
+  go (Halt fault.Store) g whole = absurd g.ordered.caused
+
+-- ---------------------------------------------------------------- the next short address, or the wake
+
+asked_within : (k : Kept) (n from c : ℕ) → asked_among k n from ≡ Some c → (from ≤ c) × (c < from + n)
+asked_within k zero from c e = absurd (cc)
+asked_within k (suc n) from c e = go (is_asked k from) e (asked_within k n (from + 1) c) where
+  go : (b : Bool) → (if b then Some from else asked_among k n (from + 1)) ≡ Some c
+      → (asked_among k n (from + 1) ≡ Some c → (from + 1 ≤ c) × (c < from + 1 + n)) → (from ≤ c) × (c < from + suc n)
+  go true e more = let same : from ≡ c = cc in (omega (arith, same), omega (arith, same))
+  go false e more = let there = more e in let low : from + 1 ≤ c = there.0 in let high : c < from + 1 + n = there.1 in (omega (arith, low), omega (arith, high))
+
+pub asks_on : (start : Begun) (t : Machine) (o : Order) (f : ℕ) (gs : List Gear) (left : ℕ) → Calm t → o ≡ beginning (next_course t)
+    → next_course t ≡ goes_on_to t → t.course.way ≡ Surveying → t.opened ≡ false → t.asked ≡ 0 → t.course.from ≡ f → f ≤ 64
+    → (start.any ≡ false → IsSettled t.kept)
+    → (start.any ≡ false → IsClear t.kept t.heard) → OneShort gs → IsTrue t.kept.enrolled gs → SameCore start.gear gs
+    → TabledBelow f start.gear t.kept.enrolled gs
+    → 3 * (64 - f) + wake_frames start gs ≤ left → IsNext start (machine_ordered t o) o gs left
+asks_on start t o f gs left calm is next surveys opened asked from few settled clear one holds same tabled enough =
+    go (next_asked t.kept f) course (asked_later t.kept (64 - f) f) (asked_before t.kept (64 - f) f) (asked_within t.kept (64 - f) f) where
+      course : next_course t ≡ ask_or_wake t.course (next_asked t.kept f)
+      course =
+          next ∙ ap (λ b. going_on t.kept b t.course) opened ∙ ap (λ y. going_on_early t.kept y t.course) surveys
+          ∙ ap (λ n. ask_or_wake t.course (next_asked t.kept n)) from
+
+      go : (p : Option ℕ) → next_course t ≡ ask_or_wake t.course p
+          → (p ≡ None → (c : ℕ) → f ≤ c → c < f + (64 - f) → is_asked t.kept c ≡ false)
+          → ((d : ℕ) → p ≡ Some d → (c : ℕ) → f ≤ c → c < d → is_asked t.kept c ≡ false)
+          → ((d : ℕ) → p ≡ Some d → (f ≤ d) × (d < f + (64 - f))) → IsNext start (machine_ordered t o) o gs left
+      go (Some d) at none before within =
+          let there = within d refl in
+          let low : f ≤ d = there.0 in
+          let high : d < f + (64 - f) = there.1 in
+          let small : d < 64 = omega (arith, high, few) in
+          first_by start t o (asking t.course d) gs left calm is at small (
+            surveys,
+            opened,
+            record {
+              small = small;
+              from_is = refl;
+              settled = settled;
+              clear = clear;
+              same = same;
+              stage_is = inl asked;
+              tabled = below_named f d start.gear t.kept.enrolled gs one holds tabled
+                  (λ c past under. unasked_enrolled t.kept c (before d refl c past under));
+              frames = count (wake_frames start gs) d t.asked low small asked enough;
+            },
+          )
+        where
+          count : (wake d asked : ℕ) → f ≤ d → d < 64 → asked ≡ 0 → 3 * (64 - f) + wake ≤ left → 3 * (63 - d) + (3 - asked) + wake ≤ left
+          count wake d asked low small none enough = omega (arith, low, small, none, enough)
+      go None at none before within =
+          first_by start t o (waking t.course) gs left calm is at tt (
+            surveys,
+            asked,
+            record {
+              stage_is = opened;
+              settled = settled;
+              clear = clear;
+              gear = λ k in_row on. tt;
+              tabled = below_all start.gear t.kept.enrolled gs same
+                  (below_named f 64 start.gear t.kept.enrolled gs one holds tabled
+                  (λ c past under. unasked_enrolled t.kept c (none refl c past (omega (arith, under, few)))));
+              frames = count (wake_frames start gs) enough;
+            },
+          )
+        where
+          count : (wake : ℕ) → 3 * (64 - f) + wake ≤ left → wake ≤ left + 0
+          count wake enough = omega (arith, enough)
+
+-- ---------------------------------------------------------------- a new search
+
+pub searches_by : (start : Begun) (t : Machine) (o : Order) (y : Way) (rest : ℕ) (gs : List Gear) (left : ℕ) → Calm t → o ≡ beginning (next_course t)
+    → next_course t ≡ searching_anew t.course → t.course.way ≡ y → (y ≡ Fresh → ⊥) → t.opened ≡ true → (start.any ≡ false → IsOwn t.kept t.heard)
+    → (start.any ≡ false → IsSettled t.kept) → IsOpened (searched_by y gs) → NoneNamed (searched_by y gs)
+    → AreTabled (unseen start.gear) t.kept.enrolled (searched_by y gs)
+    → search_frames (count_by is_wanted (searched_by y gs)) ≤ rest → rest + frames_after y start gs ≤ left → IsNext start (machine_ordered t o) o gs left
+searches_by start t o y rest gs left calm is next way other opened own settled ready unnamed tabled enough frames =
+    first_by start t o (searching_anew t.course) gs left calm is next tt
+    (subst (λ z. Hunts Probing z stage.Free t.kept t.heard t.opened (searching_anew t.course).search (searching_anew t.course).number start gs left) (sym way)
+    (record {
+      way = other;
+      opened_is = opened;
+      own = own;
+      settled = settled;
+      rest = rest;
+      at = (refl, begins_search t.course (searched_by y gs) rest ready unnamed enough);
+      tabled = tabled;
+      frames = frames;
+    }))
+
+-- ---------------------------------------------------------------- what is reserved stays nobody else's
+
+not_both : (one two : Bool) → one ≡ false → two ≡ false → (one || two) ≡ false
+not_both one two none nothing = rw (none, nothing) refl
+
+false_both : (one two : Bool) → (one || two) ≡ false → (one ≡ false) × (two ≡ false)
+false_both true two e = absurd (cc)
+false_both false two e = (refl, e)
+
+-- with one entry more of the table
+another_more : (xs : List Assignment) (b r c q : ℕ) → is_another q (number_at xs c) ≡ false → (b ≡ c → q ≡ r)
+    → is_another q (number_at (xs ++ (b, r) ∷ []) c) ≡ false
+another_more [] b r c q was own = go (b == c) refl where
+  same : (m n : ℕ) → m ≡ n → not (n == m) ≡ false
+  same m n e = grind (arith, nat_tests, e)
+
+  go : (t : Bool) → (b == c) ≡ t → is_another q (if t then Some r else None) ≡ false
+  go true is = same q r (own (let at : b ≡ c = grind (arith, nat_tests, is) in at))
+  go false is = refl
+another_more (p ∷ xs) b r c q was own = go (p.0 == c) was (λ e. another_more xs b r c q e own) where
+  go : (t : Bool) → is_another q (if t then Some p.1 else number_at xs c) ≡ false
+      → (is_another q (number_at xs c) ≡ false → is_another q (number_at (xs ++ (b, r) ∷ []) c) ≡ false)
+      → is_another q (if t then Some p.1 else number_at (xs ++ (b, r) ∷ []) c) ≡ false
+  go true was later = was
+  go false was later = later was
+
+pub own_enrolled : (k : Kept) (heard : Shorts) (b r : ℕ) → IsOwn k heard → ((q : ℕ) → Has k.reserved (b, q) → q ≡ r) → IsOwn (with_record k (Enrol b r)) heard
+own_enrolled k heard b r own one c q has =
+    let was = false_both (has_short heard c) (is_another q (number_at k.enrolled c)) (own c q has) in
+    not_both (has_short heard c) (is_another q (number_at (k.enrolled ++ (b, r) ∷ []) c)) was.0
+    (another_more k.enrolled b r c q was.1 (λ e. one q (subst (λ n. Has k.reserved (n, q)) (sym e) has)))
+
+-- what is open is nobody's
+open_parts : (one two three : Bool) → (not one && not two && not three) ≡ true → (one ≡ false) × (two ≡ false) × (three ≡ false)
+open_parts true two three e = absurd (cc)
+open_parts false true three e = absurd (cc)
+open_parts false false true e = absurd (cc)
+open_parts false false false e = (refl, refl, refl)
+
+open_own : (k : Kept) (heard : Shorts) (a r : ℕ) → is_open k heard a ≡ true → is_anothers k heard a r ≡ false
+open_own k heard a r is =
+    let parts = open_parts (is_some (number_at k.reserved a)) (is_some (number_at k.enrolled a)) (has_short heard a) is in
+    not_both (has_short heard a) (is_another r (number_at k.enrolled a)) parts.2 (none (number_at k.enrolled a) parts.1) where
+      none : (o : Option ℕ) → is_some o ≡ false → is_another r o ≡ false
+      none None e = refl
+      none (Some n) e = absurd (cc)
+
+pub own_reserved : (k : Kept) (heard : Shorts) (a r : ℕ) → IsOwn k heard → is_open k heard a ≡ true → IsOwn (with_record k (Reserve a r)) heard
+own_reserved k heard a r own is c q has = go (has_cases k.reserved (a, r) (c, q) has) where
+  go : Has k.reserved (c, q) ⊎ (◌≡◌ {A = Assignment} (a, r) (c, q)) → is_anothers k heard c q ≡ false
+  go (inl was) = own c q was
+  go (inr same) =
+      let one : a ≡ c = ap (λ (x : Assignment). x.0) same in
+      let two : r ≡ q = ap (λ (x : Assignment). x.1) same in
+      subst (λ n. is_anothers k heard n q ≡ false) one (subst (λ n. is_anothers k heard a n ≡ false) two (open_own k heard a r is))
+
+pub own_settled : (k : Kept) (heard : Shorts) → IsMap k.enrolled → IsSettled k → IsClear k heard → IsOwn k heard
+own_settled k heard map settled clear c q has =
+    not_both (has_short heard c) (is_another q (number_at k.enrolled c)) (clear c q has)
+    (go (number_at k.enrolled c) (found_number k.enrolled c)) where
+      entry : Has k.enrolled (c, q)
+      entry = settled (c, q) has
+
+      same : (m n : ℕ) → m ≡ n → not (m == n) ≡ false
+      same m n e = grind (arith, nat_tests, e)
+
+      go : (o : Option ℕ) → MatchOption o (HasAddress k.enrolled c → ⊥) (λ n. Has k.enrolled (c, n)) → is_another q o ≡ false
+      go None none = refl
+      go (Some n) there =
+          same n q (ap (λ (x : Assignment). x.1) (same_member (λ (x : Assignment). x.0) k.enrolled (c, n) (c, q) map.address_once there entry refl))
+
+-- ---------------------------------------------------------------- where none is open, all are taken
+
+taken_at : (k : Kept) (heard : Shorts) (a : ℕ) → is_open k heard a ≡ false → HasAddress k.reserved a ⊎ (HasAddress k.enrolled a ⊎ (has_short heard a ≡ true))
+taken_at k heard a is =
+    go (number_at k.reserved a) (found_number k.reserved a) (number_at k.enrolled a) (found_number k.enrolled a) (has_short heard a) refl is where
+      go : (o : Option ℕ) → MatchOption o (HasAddress k.reserved a → ⊥) (λ r. Has k.reserved (a, r))
+          → (p : Option ℕ) → MatchOption p (HasAddress k.enrolled a → ⊥) (λ r. Has k.enrolled (a, r)) → (b : Bool) → has_short heard a ≡ b
+          → (not (is_some o) && not (is_some p) && not b) ≡ false → HasAddress k.reserved a ⊎ (HasAddress k.enrolled a ⊎ (has_short heard a ≡ true))
+      go (Some r) has p said b marked e = inl (has_map (λ (q : Assignment). q.0) k.reserved (a, r) has)
+      go None none (Some r) has b marked e = inr (inl (has_map (λ (q : Assignment). q.0) k.enrolled (a, r) has))
+      go None none None said true marked e = inr (inr marked)
+      go None none None said false marked e = absurd (cc)
+
+none_open : (k : Kept) (heard : Shorts) (n from : ℕ) → open_among k heard n from ≡ None → (a : ℕ) → from ≤ a → a < from + n → is_open k heard a ≡ false
+none_open k heard zero from none a low high = absurd (omega (arith, low, high))
+none_open k heard (suc n) from none a low high = go (is_open k heard from) refl none (none_open k heard n (from + 1)) where
+  go : (b : Bool) → is_open k heard from ≡ b → (if b then Some from else open_among k heard n (from + 1)) ≡ None
+      → (open_among k heard n (from + 1) ≡ None → (d : ℕ) → from + 1 ≤ d → d < from + 1 + n → is_open k heard d ≡ false) → is_open k heard a ≡ false
+  go true is e more = absurd (cc)
+  go false is e more = here (from == a) refl where
+    here : (t : Bool) → (from == a) ≡ t → is_open k heard a ≡ false
+    here true same = subst (λ d. is_open k heard d ≡ false) (let at : from ≡ a = grind (arith, nat_tests, same) in at) is
+    here false other =
+        let apart : from ≡ a → ⊥ = grind (arith, nat_tests, other) in
+        more e a (omega (arith, low, apart)) (omega (arith, high))
+
+pub all_taken : (k : Kept) (heard : Shorts) → least_open k heard ≡ None → AreTaken k heard
+all_taken k heard none a within =
+    taken_at k heard a (none_open k heard (k.block.last + 1 - k.block.first) k.block.first none a within.0
+    (let low : k.block.first ≤ a = within.0 in let high : a ≤ k.block.last = within.1 in omega (arith, low, high)))

@@ -1,0 +1,479 @@
+use Rattle.std.proofs.Common.{◌≡◌, ℕ, ◌-◌, ◌+◌, ◌*◌, ◌<◌, ◌≤◌, inl, inr, Bool, true, false, suc, List, [], ◌∷◌, ◌++◌, refl, sym, ap, subst, ◌∙◌, arith}
+use Rattle.std.proofs.Common.{length}
+use Rattle.std.proofs.Common.{Option, Some, None}
+use Rattle.std.specs.Prelude.{◌==◌, if◌then◌else◌}
+use Rattle.dali_frame.specs.Priority.{LATER}
+use Rattle.dali_frame.specs.declared.frames.Forward.{Forward}
+use Rattle.dali_frame.specs.declared.frames.Answer.{Answer}
+use Rattle.dali_special.specs.Command.{command_of}
+use Rattle.dali_gear.specs.declared.row.Reach.TheVariants.{Everyone}
+use Rattle.dali_gear.specs.Gear.{Gear}
+use Rattle.dali_gear.specs.Row.{row_after, answers_of, heard_of}
+use Rattle.dali_controller.specs.declared.shorts.Shorts.{Shorts}
+use Rattle.dali_script.specs.Records.{Kept}
+use Rattle.dali_search.specs.Least.{Search}
+use Rattle.dali_frame.specs.declared.numbers.SearchAddress.{SearchAddress}
+use Rattle.dali_arbiter.specs.declared.request.Request.{Request}
+use Rattle.dali_arbiter.specs.Arbiter.{next}
+use Rattle.dali_script.specs.declared.finding.Finding.{Finding}
+use Rattle.dali_script.specs.declared.records.Record.{Record}
+use Rattle.dali_script.specs.declared.records.Record.TheVariants.{Reserve, Enrol, Release}
+use Rattle.dali_script.specs.Records.{Assignment, Has, IsKept}
+use Rattle.dali_script.specs.Findings.{assigned, search_of, asked_of, found_by, later, finding_of}
+use Rattle.dali_script.specs.Scripts.{Lawful, IsLawful}
+use Rattle.dali_script.specs.declared.stage.Stage.{Stage}
+use Rattle.dali_script.specs.declared.stage.Stage.TheVariants as stage
+use Rattle.dali_script.specs.Stages.{IsTrace, stage_of, next_stage}
+use Rattle.dali_script.specs.Due.{frame_put, record_ordered}
+use Rattle.dali_script.proofs.Transactions.{stage_more, stage_none}
+use Rattle.dali_script.proofs.Found.{finding_more, trace_more}
+use Rattle.dali_script.specs.declared.orders.Input.{Input}
+use Rattle.dali_script.specs.declared.orders.Input.TheVariants as input
+use Rattle.dali_script.specs.declared.orders.Order.{Order}
+use Rattle.dali_script.specs.declared.orders.Order.TheVariants.{Put, Commit, Done, Halt}
+use Rattle.dali_controller.specs.declared.purpose.Purpose.{Purpose}
+use Rattle.dali_controller.specs.declared.purpose.Purpose.TheVariants.{Opening, Probing, Visiting, Resolving, Closing, Asking, Waking}
+use Rattle.dali_controller.specs.declared.way.Way.{Way}
+use Rattle.dali_controller.specs.Machine.{Machine, machine_heard, machine_committed, machine_surveying, machine_told, silent_after, heard_after, asked_after}
+use Rattle.dali_controller.specs.Machine.{opened_after, woken_after}
+use Rattle.dali_controller.specs.Next.{next_course, begins_at, at_rest, beginning}
+use Rattle.dali_controller.specs.Orders.{IsGiven, Contradicts, machine_ordered, machine_after}
+use Rattle.dali_controller.specs.Whole.{IsWhole}
+use Rattle.dali_controller.proofs.Given as given
+use Rattle.dali_controller.proofs.Given.{IsGivenBy, given_by, IsNoEnrolment}
+use Rattle.dali_events.specs.declared.event.Event.TheVariants as event
+use Rattle.dali_events.specs.World.{World, Controller, controller_at}
+use Rattle.dali_events.specs.Happens.{happens, entry, trace_running}
+use Rattle.dali_events.specs.Allowed.{Allowed}
+use Rattle.dali_events.specs.Laws.{FindingsAgree, HasFound}
+use Rattle.dali_events.proofs.Invariant.Sending.{lawful_of}
+use Rattle.dali_events.proofs.Search.Leaving.{SameCore}
+use Rattle.dali_standing.specs.Seats.{IsFound, informed_by}
+use Rattle.dali_progress.specs.Surveys.{Surveys, IsSettled}
+use Rattle.dali_controller.specs.Shorts.{has_short}
+use Rattle.dali_events.specs.Promise.{KeepsPromiseNow}
+use Rattle.dali_progress.proofs.Lone.{IsLone, Moment, IsDueOf, due_of, Addresses, heard_kept, acted_there, sent_there, acted_last, acted_told, lone_acted}
+use Rattle.dali_progress.proofs.Lone.{lone_next, lone_sent}
+use Rattle.dali_progress.proofs.Lone.{sent_last}
+use Rattle.dali_progress.proofs.Frames.{Seeks}
+use Rattle.dali_progress.proofs.Turns.{never_eight, with_kept}
+use Rattle.dali_progress.proofs.Goes.{not_free, no_tries, addresses_by, put_no_enrolment, IsKnown, taken_of}
+use Rattle.dali_progress.proofs.Survey.Drawn.{AreNumbered, apart_drawn}
+use Rattle.dali_progress.proofs.Survey.Queried.{OneShort, IsTrue, below_none}
+use Rattle.dali_progress.proofs.Survey.Stands.{Begun, wake_frames, SurveyAt, SurveyStands}
+use Rattle.dali_progress.proofs.Survey.Sent.{IsSurveyTaken, IsTold, SurveySent, survey_sent}
+use Rattle.dali_progress.proofs.Survey.Begins.{Calm, SurveyCommits, IsNext, asks_on}
+use Rattle.dali_progress.proofs.Survey.Turns.{IsUncontradicted}
+use Rattle.dali_progress.proofs.Survey.Hunting.{turned}
+use Rattle.dali_progress.proofs.Survey.Kept.{committed, begins_less, enrol_slack, enrol_one, survey_slack}
+
+-- A SURVEY GOES ON, event by event.
+
+-- before the start
+pub record IsUnsurveyed (start : Begun) (m : Machine) (gs : List Gear) (left : ℕ) : Type 0 where
+  pub calm : Calm m
+  pub free : m.trace ≡ []
+  pub settled : start.any ≡ false → IsSettled m.kept
+  pub unmarked : (c : ℕ) → has_short m.heard c ≡ false
+  pub unopened : m.opened ≡ false
+  pub unasked : m.asked ≡ 0
+  pub first : m.course.from ≡ 0
+  pub same : SameCore start.gear gs
+  pub frames : 192 + wake_frames start gs ≤ left
+
+-- a frame was heard: the machine stands so, once it is told
+pub record Hears (start : Begun) (m : Machine) (f : Forward) (h : Answer) (gs : List Gear) (left : ℕ) : Type 0 where
+  pub stands : SurveyStands start (machine_heard m (Some f) h) gs left
+  pub running : stage_of (machine_heard m (Some f) h).trace ≡ stage.Free → ⊥
+
+abbrev pub Holds : Begun → Machine → Option Order → Option Input → List Gear → ℕ → Type 0
+Holds start m None (Some input.Start) gs left = IsUnsurveyed start m gs left
+Holds start m (Some (Put p f)) (Some (input.Heard h)) gs left = Hears start m f h gs left
+Holds start m (Some o) None gs left = IsNext start m o gs left
+Holds start m _ _ gs left = ⊥
+
+pub record Goes (start : Begun) (w : World) (q c : ℕ) (m : Machine) (left : ℕ) : Type 0 where
+  pub lone : IsLone w q c m
+  pub found : IsFound (controller_at w c) m
+  pub holds : Holds start m (controller_at w c).last (controller_at w c).told w.gear left
+
+-- ---------------------------------------------------------------- what it found
+
+-- the finding of its transaction is that of the controller
+found_told : (w : World) (q c : ℕ) (m : Machine) (out : Option Record) (k : Controller) (last : Option Order) (told : Option Input) (i : Input)
+    → Moment w q c m out last told → IsDueOf last told i → Surveys i → k.told ≡ told → IsFound k m
+    → later k.finding (finding_of (machine_told m i).trace) ≡ k.finding
+found_told w q c m out k last told (input.Heard h) at due surveys is found =
+    subst (λ t. later k.finding (finding_of (informed_by m t).trace) ≡ k.finding) (is ∙ due) found
+found_told w q c m out k last told input.Destroyed at due surveys is found =
+    subst (λ t. later k.finding (finding_of (informed_by m t).trace) ≡ k.finding) (is ∙ due) found
+found_told w q c m out k last told input.Lapsed at due surveys is found =
+    subst (λ t. later k.finding (finding_of (informed_by m t).trace) ≡ k.finding) (is ∙ due) found
+found_told w q c m out k last told input.Survey at due surveys is found =
+    subst (λ t. later k.finding (finding_of (informed_by m t).trace) ≡ k.finding) (is ∙ due) found
+found_told w q c m out k last told input.Start at due surveys is found = absurd surveys
+found_told w q c m out k last told input.CommitFailed at due surveys is found = absurd surveys
+found_told w q c m out k (Some (Commit x)) None input.Committed at due surveys is found =
+    ap (λ t. later k.finding (finding_of t)) (stays (record_ordered m.last))
+    ∙ subst (λ t. later k.finding (finding_of (informed_by m t).trace) ≡ k.finding) is found where
+      stays : (x : Option Record) → (machine_committed m x).trace ≡ m.trace
+      stays None = refl
+      stays (Some x) = refl
+found_told w q c m out k (Some (Commit x)) (Some i) input.Committed at due surveys is found = absurd at
+found_told w q c m out k (Some (Put p f)) told input.Committed at due surveys is found = absurd due
+found_told w q c m out k (Some (Done e)) told input.Committed at due surveys is found = absurd due
+found_told w q c m out k (Some (Halt why)) told input.Committed at due surveys is found = absurd due
+found_told w q c m out k None told input.Committed at due surveys is found = absurd due
+
+ordered_found : (found : Option Finding) (t : Machine) (o : Order) → later found (finding_of t.trace) ≡ found
+    → later found (finding_of (machine_ordered t o).trace) ≡ found
+ordered_found found t (Put p f) is = go (p == LATER) where
+  go : (b : Bool) → later found (finding_of (if b then t.trace else [])) ≡ found
+  go true = is
+  go false = refl
+ordered_found found t (Commit x) is = refl
+ordered_found found t (Done e) is = refl
+ordered_found found t (Halt why) is = refl
+
+later_more : (k o p : Option Finding) → later k o ≡ k → later (later k p) (later o p) ≡ later k p
+later_more k o None is = is
+later_more k o (Some x) is = refl
+
+-- and the table does not contradict it
+later_some : (k : Option Finding) (x : Finding) (o : Option Finding) → o ≡ Some x → later k o ≡ k → k ≡ Some x
+later_some k x o e is = sym (subst (λ p. later k p ≡ k) e is)
+
+not_contradicted : (w : World) (c b r : ℕ) → FindingsAgree w → HasFound w c (b, r) → Contradicts (controller_at w c).records.enrolled b r → ⊥
+not_contradicted w c b r agree found (inl other) =
+    let same : (b, r) ≡ (b, other.0) = agree.address c c (b, r) (b, other.0) found (found.0, other.1) refl in other.2 (sym (ap (λ (x : Assignment). x.1) same))
+not_contradicted w c b r agree found (inr other) =
+    let same : (b, r) ≡ (other.0, r) = agree.number c c (b, r) (other.0, r) found (found.0, other.1) refl in other.2 (sym (ap (λ (x : Assignment). x.0) same))
+
+uncontradicted : (w : World) (c : ℕ) (t : Machine) → FindingsAgree w → c < length w.controllers → t.kept ≡ (controller_at w c).records
+    → later (controller_at w c).finding (finding_of t.trace) ≡ (controller_at w c).finding → IsUncontradicted t
+uncontradicted w c t agree there kept found x is contradicts =
+    not_contradicted w c (assigned x).0 (assigned x).1 agree
+    (there, (x, later_some (controller_at w c).finding x (finding_of t.trace) is found, refl))
+    (subst (λ k. Contradicts k.enrolled (assigned x).0 (assigned x).1) kept contradicts)
+
+-- ---------------------------------------------------------------- the controller acts
+
+-- what is to come of its order, and that events before the next frame are one less
+abbrev ActsTo : Begun → Machine → Order → List Gear → ℕ → Option Order → Option Input → Type 0
+ActsTo start n o gs left last told = IsNext start n o gs left × (survey_slack start.any (Some o) None + 1 ≤ survey_slack start.any last told)
+
+order_slack : (any : Bool) (o : Order) → survey_slack any (Some o) None ≤ enrol_slack any
+order_slack any (Put p f) = omega arith
+order_slack any (Commit (Enrol a r)) = omega arith
+order_slack any (Commit x) = enrol_one any
+order_slack any (Done e) = omega arith
+order_slack any (Halt why) = omega arith
+
+commit_slack : (any : Bool) (x : Record) (told : Option Input) → survey_slack any (Some (Commit x)) told ≡ survey_slack any (Some (Commit x)) None
+commit_slack any (Enrol a r) told = refl
+commit_slack any (Reserve a r) told = refl
+commit_slack any (Release a r) told = refl
+
+no_enrolment_yet : IsNoEnrolment None
+no_enrolment_yet b n e = cc
+
+survey_acts : (start : Begun) (m : Machine) (o : Order) (gs : List Gear) (left : ℕ) (told : Option Input) → m.last ≡ None
+    → IsGivenBy (machine_surveying m) o → OneShort gs → IsTrue m.kept.enrolled gs → IsUnsurveyed start m gs left
+    → ActsTo start (machine_ordered (machine_surveying m) o) o gs left None told
+survey_acts start m o gs left told last g one holds v =
+    let at : stage_of m.trace ≡ stage.Free = ap stage_of v.free ∙ stage_none in
+    let begins : o ≡ beginning (next_course (machine_surveying m)) =
+    given.begins_free (machine_surveying m) o g v.free (subst IsNoEnrolment (sym last) no_enrolment_yet) (never_eight m.tries v.calm.tries) in (
+      asks_on start (machine_surveying m) o 0 gs left (record { tries = v.calm.tries; silent = v.calm.silent }) begins
+          (ap (begins_at (machine_surveying m)) at ∙ ap (at_rest (machine_surveying m)) last) refl v.unopened v.unasked v.first (omega arith) v.settled
+          (λ e c q has. v.unmarked c) one holds v.same (below_none start.gear m.kept.enrolled gs) (count (wake_frames start gs) v.frames),
+      begins_less o (machine_surveying m) start.any 1 begins (omega arith),
+    )
+  where
+    count : (wake : ℕ) → 192 + wake ≤ left → 3 * (64 - 0) + wake ≤ left
+    count wake enough = omega (arith, enough)
+
+heard_acts : (start : Begun) (m : Machine) (p : ℕ) (f : Forward) (h : Answer) (o : Order) (gs : List Gear) (left : ℕ)
+    → m.last ≡ Some (Put p f) → IsGivenBy (machine_told m (input.Heard h)) o → IsKept m.kept → AreNumbered gs → OneShort gs
+    → IsTrue (machine_told m (input.Heard h)).kept.enrolled gs
+    → IsUncontradicted (machine_told m (input.Heard h)) → IsWhole (machine_after m (input.Heard h) o) → Hears start m f h gs left
+    → ActsTo start (machine_after m (input.Heard h) o) o gs left (Some (Put p f)) (Some (input.Heard h))
+heard_acts start m p f h o gs left is g kept numbered one holds agreed whole hears = (
+  subst (λ t. IsNext start (machine_ordered t o) o gs left) (sym same)
+      (turned start (machine_heard m (Some f) h) o gs left (subst (λ t. IsGivenBy t o) same g) hears.stands kept numbered one
+      (subst (λ (t : Machine). IsTrue t.kept.enrolled gs) same holds) (subst IsUncontradicted same agreed)
+      (subst (λ t. IsWhole (machine_ordered t o)) same whole) (put_no_enrolment p f m.last is) hears.running),
+  (let one : survey_slack start.any (Some o) None ≤ enrol_slack start.any = order_slack start.any o in omega (arith, one)),
+) where
+  same : machine_told m (input.Heard h) ≡ machine_heard m (Some f) h
+  same = ap (λ l. machine_heard m (frame_put l) h) is
+
+kept_acts : (start : Begun) (m : Machine) (x : Record) (o : Order) (gs : List Gear) (left : ℕ) (told : Option Input) → m.last ≡ Some (Commit x)
+    → IsGivenBy (machine_told m input.Committed) o → IsKept m.kept → OneShort gs
+    → IsTrue (machine_told m input.Committed).kept.enrolled gs → m.trace ≡ [] → Calm m × SurveyCommits start m x gs left
+    → ActsTo start (machine_after m input.Committed o) o gs left (Some (Commit x)) told
+kept_acts start m x o gs left told is g kept one holds free commits =
+    let to = committed start m x o gs left commits.0 commits.1 free is kept.reserved (subst (λ t. IsGivenBy t o) same g) one
+    (subst (λ (t : Machine). IsTrue t.kept.enrolled gs) same holds) in (
+      subst (λ t. IsNext start (machine_ordered t o) o gs left) (sym same) to.0,
+      subst (λ n. survey_slack start.any (Some o) None + 1 ≤ n) (sym (commit_slack start.any x told)) to.1,
+    )
+  where
+    same : machine_told m input.Committed ≡ with_kept m x
+    same = ap (λ l. machine_committed m (record_ordered l)) is
+
+acts : (start : Begun) (w : World) (q c : ℕ) (m : Machine) (out : Option Record) (last : Option Order) (told : Option Input) (i : Input) (o : Order)
+    (left : ℕ) → Moment w q c m out last told → m.last ≡ last → IsDueOf last told i → Surveys i → IsGivenBy (machine_told m i) o → IsKept m.kept
+    → AreNumbered w.gear → OneShort w.gear → IsTrue (machine_told m i).kept.enrolled w.gear
+    → ((b : Answer) → i ≡ input.Heard b → IsUncontradicted (machine_told m i)) → IsWhole (machine_after m i o)
+    → Holds start m last told w.gear left → ActsTo start (machine_after m i o) o w.gear left last told
+acts start w q c m out None (Some input.Start) input.Survey o left at is due surveys g kept numbered one true_table agreed whole holds =
+    survey_acts start m o w.gear left (Some input.Start) is g one true_table holds
+acts start w q c m out (Some (Put p f)) (Some (input.Heard h)) (input.Heard a) o left at is due surveys g kept numbered one true_table agreed whole holds =
+    let same : h ≡ a = cc in
+    subst (λ b. ActsTo start (machine_after m (input.Heard a) o) o w.gear left (Some (Put p f)) (Some (input.Heard b))) (sym same)
+    (heard_acts start m p f a o w.gear left is g kept numbered one true_table (agreed a refl) whole (subst (λ b. Hears start m f b w.gear left) same holds))
+acts start w q c m out (Some (Commit x)) None input.Committed o left at is due surveys g kept numbered one true_table agreed whole holds =
+    kept_acts start m x o w.gear left None is g kept one true_table at.1 holds
+acts start w q c m out last told input.CommitFailed o left at is due surveys g kept numbered one true_table agreed whole holds = absurd surveys
+acts start w q c m out last told input.Start o left at is due surveys g kept numbered one true_table agreed whole holds = absurd surveys
+acts start w q c m out None told input.Committed o left at is due surveys g kept numbered one true_table agreed whole holds = absurd due
+acts start w q c m out (Some (Put p f)) told input.Committed o left at is due surveys g kept numbered one true_table agreed whole holds = absurd due
+acts start w q c m out (Some (Done e)) told input.Committed o left at is due surveys g kept numbered one true_table agreed whole holds = absurd due
+acts start w q c m out (Some (Halt why)) told input.Committed o left at is due surveys g kept numbered one true_table agreed whole holds = absurd due
+acts start w q c m out None None i o left at is due surveys g kept numbered one true_table agreed whole holds = absurd at
+acts start w q c m out None (Some input.Start) i o left at is due surveys g kept numbered one true_table agreed whole holds = absurd (cc)
+acts start w q c m out None (Some j) i o left at is due surveys g kept numbered one true_table agreed whole holds = absurd at
+acts start w q c m out (Some (Put p f)) (Some (input.Heard h)) i o left at is due surveys g kept numbered one true_table agreed whole holds = absurd (cc)
+acts start w q c m out (Some (Put p f)) (Some j) i o left at is due surveys g kept numbered one true_table agreed whole holds = absurd at
+acts start w q c m out (Some l) (Some j) i o left at is due surveys g kept numbered one true_table agreed whole holds = absurd at
+acts start w q c m out (Some l) None i o left at is due surveys g kept numbered one true_table agreed whole holds = absurd (cc)
+
+-- ---------------------------------------------------------------- one event more of the controller
+
+moment_surveys : (w : World) (q c : ℕ) (m : Machine) (out : Option Record) (last : Option Order) (told : Option Input) → Moment w q c m out last told
+    → told ≡ Some input.Start → Moment w q c (machine_surveying m) out last told
+moment_surveys w q c m out None (Some input.Start) at is = at
+moment_surveys w q c m out last None at is = absurd (cc)
+moment_surveys w q c m out None (Some j) at is = absurd at
+moment_surveys w q c m out (Some (Put p f)) (Some (input.Heard h)) at is = absurd (cc)
+moment_surveys w q c m out (Some o) (Some j) at is = absurd at
+
+-- a survey is a start of the machine that surveys
+lone_acts : (w : World) (q c : ℕ) (m : Machine) (i : Input) (o : Order) → IsLone w q c m → Surveys i → Addresses (Some o) → Allowed w (event.Acted c i o)
+    → IsLone (happens w (event.Acted c i o)) q c (machine_after m i o)
+lone_acts w q c m input.Survey o l surveys addresses here =
+    lone_acted w q c (machine_surveying m) input.Start o
+    (record {
+      up = l.up;
+      kept = l.kept;
+      last = l.last;
+      addresses = l.addresses;
+      moment = moment_surveys w q c m (controller_at w c).outstanding (controller_at w c).last (controller_at w c).told l.moment here.due;
+    }) tt addresses (record { up = here.up; due = here.due; order = here.order })
+lone_acts w q c m input.Start o l surveys addresses here = absurd surveys
+lone_acts w q c m input.CommitFailed o l surveys addresses here = absurd surveys
+lone_acts w q c m (input.Heard h) o l surveys addresses here = lone_acted w q c m (input.Heard h) o l tt addresses here
+lone_acts w q c m input.Destroyed o l surveys addresses here = lone_acted w q c m input.Destroyed o l tt addresses here
+lone_acts w q c m input.Lapsed o l surveys addresses here = lone_acted w q c m input.Lapsed o l tt addresses here
+lone_acts w q c m input.Committed o l surveys addresses here = lone_acted w q c m input.Committed o l tt addresses here
+
+abbrev pub slack_now : Bool → World → ℕ → ℕ
+slack_now any w c = survey_slack any (controller_at w c).last (controller_at w c).told
+
+not_failed : (i : Input) → Surveys i → i ≡ input.CommitFailed → ⊥
+not_failed i surveys e = subst Surveys e surveys
+
+holds_next : (start : Begun) (m : Machine) (o : Order) (gs : List Gear) (left : ℕ) → IsNext start m o gs left → Holds start m (Some o) None gs left
+holds_next start m (Put p f) gs left next = next
+holds_next start m (Commit x) gs left next = next
+holds_next start m (Done e) gs left next = next
+holds_next start m (Halt why) gs left next = next
+
+next_holds : (start : Begun) (m : Machine) (o : Order) (gs : List Gear) (left : ℕ) → Holds start m (Some o) None gs left → IsNext start m o gs left
+next_holds start m (Put p f) gs left next = next
+next_holds start m (Commit x) gs left next = next
+next_holds start m (Done e) gs left next = next
+next_holds start m (Halt why) gs left next = next
+
+-- what is known of the world of a run
+pub record IsSurveyed (w : World) (c : ℕ) : Type 0 where
+  pub kept : IsKept (controller_at w c).records
+  pub numbered : AreNumbered w.gear
+  pub one : OneShort w.gear
+  pub holds : IsTrue (controller_at w c).records.enrolled w.gear
+  pub agree : FindingsAgree w
+
+pub goes_acted : (start : Begun) (w : World) (q c : ℕ) (m : Machine) (i : Input) (o : Order) (left : ℕ) → Goes start w q c m left → Surveys i
+    → Allowed w (event.Acted c i o) → IsGiven m i o → IsWhole (machine_after m i o) → IsSurveyed w c → KeepsPromiseNow (happens w (event.Acted c i o))
+    → Goes start (happens w (event.Acted c i o)) q c (machine_after m i o) left
+    × (slack_now start.any (happens w (event.Acted c i o)) c + 1 ≤ slack_now start.any w c)
+goes_acted start w q c m i o left goes surveys here given whole known promise = (
+  record {
+    lone = lone;
+    found = subst (λ k. IsFound k (machine_after m i o)) (sym (acted_there w c i o goes.lone.up))
+        (ordered_found (controller_at w c).finding (machine_told m i) o found);
+    holds = rw (acted_last w c i o goes.lone.up, acted_told w c i o goes.lone.up)
+        (holds_next start (machine_after m i o) o w.gear left out.0);
+  },
+  rw (acted_last w c i o goes.lone.up, acted_told w c i o goes.lone.up) out.1,
+) where
+  by : IsGivenBy (machine_told m i) o
+  by = given_by m i o (not_failed i surveys) given
+
+  lone : IsLone (happens w (event.Acted c i o)) q c (machine_after m i o)
+  lone = lone_acts w q c m i o goes.lone surveys (addresses_by o by.ordered.addressing) here
+
+  -- its table, with what was kept now
+  holds : IsTrue (machine_told m i).kept.enrolled w.gear
+  holds a r has =
+      let there = promise.tables c (a, r) (lone.up.known, subst (λ k. Has k.enrolled (a, r)) lone.kept has) in
+      (there.0, there.1.0, there.1.1, there.2)
+
+  found : later (controller_at w c).finding (finding_of (machine_told m i).trace) ≡ (controller_at w c).finding
+  found =
+      found_told w q c m (controller_at w c).outstanding (controller_at w c) (controller_at w c).last (controller_at w c).told i goes.lone.moment
+      (due_of (controller_at w c) i here.due) surveys refl goes.found
+
+  agreed : (b : Answer) → i ≡ input.Heard b → IsUncontradicted (machine_told m i)
+  agreed b is =
+      uncontradicted w c (machine_told m i) known.agree goes.lone.up.known
+      (ap (λ j. (machine_told m j).kept) is ∙ heard_kept m (frame_put m.last) b ∙ goes.lone.kept) found
+
+  out : ActsTo start (machine_after m i o) o w.gear left (controller_at w c).last (controller_at w c).told
+  out =
+      acts start w q c m (controller_at w c).outstanding (controller_at w c).last (controller_at w c).told i o left goes.lone.moment goes.lone.last
+      (due_of (controller_at w c) i here.due) surveys by (subst IsKept (sym goes.lone.kept) known.kept) known.numbered known.one holds agreed whole goes.holds
+
+-- ---------------------------------------------------------------- its frame is sent
+
+-- no stage on the way is one of a search that led to no gear
+never_silent : (p : Purpose) (y : Way) (s : Stage) (k : Kept) (heard : Shorts) (opened o : Bool) (asked : ℕ) (x : Search) (n : SearchAddress) (from : ℕ)
+    (start : Begun) (gs : List Gear) (left : ℕ)
+    → SurveyAt p y s k heard opened asked x n from start gs left → silent_after s o 0 ≡ 0
+never_silent (Asking a) y (stage.Unanswered r) k heard opened o asked x n from start gs left at = absurd at.2.stage_is
+never_silent (Asking a) y (stage.Inconclusive r other) k heard opened o asked x n from start gs left at = absurd at.2.stage_is
+never_silent Waking y (stage.Unanswered r) k heard opened o asked x n from start gs left at = absurd at.2.stage_is
+never_silent Waking y (stage.Inconclusive r other) k heard opened o asked x n from start gs left at = absurd at.2.stage_is
+never_silent Opening y (stage.Unanswered r) k heard opened o asked x n from start gs left at = absurd at.at.stage_is
+never_silent Opening y (stage.Inconclusive r other) k heard opened o asked x n from start gs left at = absurd at.at.stage_is
+never_silent Probing y (stage.Unanswered r) k heard opened o asked x n from start gs left at = absurd at.at.1.stage_is
+never_silent Probing y (stage.Inconclusive r other) k heard opened o asked x n from start gs left at = absurd at.at.1.stage_is
+never_silent Visiting y (stage.Unanswered r) k heard opened o asked x n from start gs left at = absurd at.at.1.stage_is
+never_silent Visiting y (stage.Inconclusive r other) k heard opened o asked x n from start gs left at = absurd at.at.1.stage_is
+never_silent (Closing e) y (stage.Unanswered r) k heard opened o asked x n from start gs left at = absurd at.stage_is
+never_silent (Closing e) y (stage.Inconclusive r other) k heard opened o asked x n from start gs left at = absurd at.stage_is
+never_silent (Resolving a) y s k heard opened o asked x n from start gs left at = absurd at
+never_silent p y _ k heard opened o asked x n from start gs left at = refl
+
+stands_heard : (start : Begun) (m : Machine) (f : Forward) (h : Answer) (gs : List Gear) (numbers : List ℕ) (left : ℕ) → SurveyStands start m gs left
+    → IsLawful m.trace f
+    → (sent : SurveySent m.course.purpose m.course.way (stage_of m.trace) m.kept m.heard m.opened m.asked m.course.search m.course.number m.course.from start gs
+    numbers left (command_of f) h) → SurveyStands start (machine_heard m (Some f) h) (row_after Everyone (command_of f) 0 gs numbers) sent.0
+stands_heard start m f h gs numbers left st lawful sent = record {
+  tries = no_tries _ m.tries st.tries;
+  silent = rw (more, st.silent) (never_silent m.course.purpose m.course.way (next_stage (stage_of m.trace) (command_of f) h) m.kept _ _ m.opened _
+      m.course.search m.course.number m.course.from start (row_after Everyone (command_of f) 0 gs numbers) sent.0 sent.2);
+  trace = subst (λ s. IsTrace s (m.trace ++ entry f h ∷ [])) (sym more) (trace_more (stage_of m.trace) m.trace f h lawful st.trace);
+  at = subst (λ s. SurveyAt m.course.purpose m.course.way s m.kept (heard_after m.course.purpose s h m.heard)
+      (woken_after s m.course.purpose (opened_after s m.opened)) (asked_after m.course.purpose s h m.asked) m.course.search m.course.number m.course.from start
+      (row_after Everyone (command_of f) 0 gs numbers) sent.0) (sym more) sent.2;
+} where
+  more : stage_of (m.trace ++ entry f h ∷ []) ≡ next_stage (stage_of m.trace) (command_of f) h
+  more = stage_more m.trace (entry f h)
+
+-- its finding, once the frame is sent
+sent_found : (k : Option Finding) (m : Machine) (f : Forward) (h : Answer) → later k (finding_of m.trace) ≡ k
+    → later (later k (found_by (search_of m.trace) (asked_of m.trace) (command_of f) h)) (finding_of (m.trace ++ entry f h ∷ []))
+    ≡ later k (found_by (search_of m.trace) (asked_of m.trace) (command_of f) h)
+sent_found k m f h is =
+    ap (later (later k (found_by (search_of m.trace) (asked_of m.trace) (command_of f) h))) (finding_more m.trace (entry f h))
+    ∙ later_more k (finding_of m.trace) (found_by (search_of m.trace) (asked_of m.trace) (command_of f) h) is
+
+found_sent : (w : World) (q c : ℕ) (m : Machine) (p : ℕ) (f : Forward) (h : Answer) → IsLone w q c m → m.last ≡ Some (Put p f)
+    → (controller_at w c).told ≡ None → (controller_at (happens w (event.Sent c f h)) c).told ≡ Some (input.Heard h) → trace_running w c ≡ m.trace
+    → IsFound (controller_at w c) m → IsFound (controller_at (happens w (event.Sent c f h)) c) m
+found_sent w q c m p f h l last untold told running found =
+    subst (λ t. later (controller_at (happens w (event.Sent c f h)) c).finding (finding_of (informed_by m t).trace)
+    ≡ (controller_at (happens w (event.Sent c f h)) c).finding) (sym told)
+    (subst (λ n. later n (finding_of (machine_told m (input.Heard h)).trace) ≡ n) (sym finding)
+    (subst (λ ts. later now (finding_of ts) ≡ now) (sym frames) (sent_found (controller_at w c).finding m f h was)))
+  where
+    now : Option Finding
+    now = later (controller_at w c).finding (found_by (search_of m.trace) (asked_of m.trace) (command_of f) h)
+
+    finding : (controller_at (happens w (event.Sent c f h)) c).finding ≡ later (controller_at w c).finding
+        (found_by (search_of m.trace) (asked_of m.trace) (command_of f) h)
+    finding =
+        ap (λ (k : Controller). k.finding) (sent_there w c f h l.up)
+        ∙ ap (λ t. later (controller_at w c).finding (found_by (search_of t) (asked_of t) (command_of f) h)) running
+
+    frames : (machine_told m (input.Heard h)).trace ≡ m.trace ++ entry f h ∷ []
+    frames = ap (λ o. (machine_heard m (frame_put o) h).trace) last
+
+    was : later (controller_at w c).finding (finding_of m.trace) ≡ (controller_at w c).finding
+    was = subst (λ t. later (controller_at w c).finding (finding_of (informed_by m t).trace) ≡ (controller_at w c).finding) untold found
+
+pub goes_sent : (start : Begun) (w : World) (q c : ℕ) (m : Machine) (r : Request) (h : Answer) (left : ℕ) → Goes start w q c m left
+    → next w.bus ≡ Some r → Allowed w (event.Sent r.sender r.frame h) → IsKnown w r.sender r.frame h → IsSurveyed w c
+    → h ≡ heard_of (answers_of Everyone (command_of r.frame) 0 w.gear)
+    → (l : ℕ) × (left ≡ suc l) × Goes start (happens w (event.Sent r.sender r.frame h)) q c m l
+goes_sent start w q c m r h left goes is here known surveyed heard =
+    let put = lone_next w q c m r goes.lone is in
+    let at : r.sender ≡ c = put.3 in
+    subst (λ d. Allowed w (event.Sent d r.frame h) → IsKnown w d r.frame h → (l : ℕ) × (left ≡ suc l)
+    × Goes start (happens w (event.Sent d r.frame h)) q c m l) (sym at)
+    (λ here known. go put.0 put.1 put.2 here known) here known
+  where
+    go : (p : ℕ) → m.last ≡ Some (Put p r.frame) → (controller_at w c).told ≡ None → Allowed w (event.Sent c r.frame h) → IsKnown w c r.frame h
+        → (l : ℕ) × (left ≡ suc l) × Goes start (happens w (event.Sent c r.frame h)) q c m l
+    go p last told here known =
+        let lone = lone_sent w q c m p r.frame h goes.lone last told in
+        let holds : IsNext start m (Put p r.frame) w.gear left =
+        next_holds start m (Put p r.frame) w.gear left (rw (sym goes.lone.last ∙ last, told) at goes.holds) in
+        let same : w.trace ≡ m.trace = lone.3 in
+        let taken : IsSurveyTaken (command_of r.frame) w.gear w.left h =
+        record {
+          taken = taken_of w c r.frame h here known heard;
+          one = surveyed.one;
+          numbered = surveyed.numbered;
+          apart = apart_drawn w known.drawn;
+        } in
+        let told_so : IsTold m.kept w.gear =
+        record {
+          kept = subst IsKept (sym goes.lone.kept) surveyed.kept;
+          holds = subst (λ k. IsTrue k.enrolled w.gear) (sym goes.lone.kept) surveyed.holds;
+        } in
+        let sent : SurveySent m.course.purpose m.course.way
+        (stage_of m.trace) m.kept m.heard m.opened m.asked m.course.search m.course.number m.course.from start
+        w.gear w.left left (command_of r.frame) h =
+        survey_sent m.course.purpose m.course.way (stage_of m.trace) m.kept m.heard m.opened m.asked m.course.search m.course.number m.course.from start w.gear
+        w.left left (command_of r.frame) h holds.0.at holds.1 taken told_so (subst (λ t. Seeks (stage_of t) w.gear) same known.seeks) in
+        let lawful : IsLawful m.trace r.frame = (
+          (controller_at w c).records.block,
+          (controller_at w c).records.reserved,
+          subst (λ t. Lawful (controller_at w c).records.block (controller_at w c).records.reserved t r.frame) lone.2 (lawful_of w c r.frame here.may),
+        ) in (
+          sent.0,
+          sent.1,
+          record {
+            lone = lone.0;
+            found = found_sent w q c m p r.frame h goes.lone last told lone.1 lone.2 goes.found;
+            holds = rw (sent_last w c r.frame h goes.lone.up ∙ sym goes.lone.last ∙ last, lone.1)
+                (record {
+                  stands = stands_heard start m r.frame h w.gear w.left left holds.0 lawful sent;
+                  running = not_free m.trace (entry r.frame h);
+                });
+          },
+        )
+
+pub sent_less : (start : Begun) (w : World) (q c : ℕ) (m : Machine) (r : Request) (h : Answer) (left : ℕ) → Goes start w q c m left
+    → next w.bus ≡ Some r → (slack_now start.any (happens w (event.Sent r.sender r.frame h)) c ≡ enrol_slack start.any + 1) × (slack_now start.any w c ≡ 0)
+sent_less start w q c m r h left goes is =
+    let put = lone_next w q c m r goes.lone is in
+    let last : (controller_at w c).last ≡ Some (Put put.0 r.frame) = sym goes.lone.last ∙ put.1 in
+    let lone = lone_sent w q c m put.0 r.frame h goes.lone put.1 put.2 in (
+      subst (λ d. slack_now start.any (happens w (event.Sent d r.frame h)) c ≡ enrol_slack start.any + 1) (sym put.3)
+          (rw (sent_last w c r.frame h goes.lone.up, lone.1, last) refl),
+      rw (last, put.2) refl,
+    )

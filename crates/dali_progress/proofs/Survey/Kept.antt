@@ -1,0 +1,239 @@
+use Rattle.std.proofs.Common.{◌≡◌, ℕ, ◌+◌, ◌-◌, ◌*◌, ◌<◌, ◌≤◌, ◌⊎◌, inl, inr, Bool, true, false, List, [], ◌∷◌, ◌++◌, refl, sym, ap, subst, ◌∙◌, arith}
+use Rattle.std.proofs.Common.{Option, Some, None}
+use Rattle.std.specs.List.{count_by}
+use Rattle.dali_frame.specs.Random.{value_of}
+use Rattle.dali_gear.specs.Gear.{Gear}
+use Rattle.dali_script.specs.declared.records.Record.{Record}
+use Rattle.dali_script.specs.declared.records.Record.TheVariants.{Reserve, Enrol, Release}
+use Rattle.dali_script.specs.Records.{Assignment, Has, HasRandom, IsMap}
+use Rattle.dali_script.specs.declared.stage.Stage.TheVariants as stage
+use Rattle.dali_script.specs.Stages.{stage_of}
+use Rattle.dali_script.proofs.Lists.{has_last, has_before, has_cases}
+use Rattle.dali_script.proofs.Members.{same_member}
+use Rattle.dali_script.proofs.Transactions.{stage_none}
+use Rattle.dali_script.specs.declared.orders.Order.{Order}
+use Rattle.dali_script.specs.declared.orders.Input.{Input}
+use Rattle.dali_script.specs.declared.orders.Order.TheVariants.{Put, Commit, Done, Halt}
+use Rattle.dali_controller.specs.Course.{visiting, sought}
+use Rattle.dali_controller.specs.Machine.{Machine}
+use Rattle.dali_controller.specs.Next.{next_course, begins_at, at_rest, beginning}
+use Rattle.dali_controller.specs.Orders.{machine_ordered, AfterEnrolled}
+use Rattle.dali_controller.proofs.Given as given
+use Rattle.dali_controller.proofs.Given.{IsGivenBy, IsNoEnrolment}
+use Rattle.dali_events.specs.Wanted.{is_wanted, wants}
+use Rattle.dali_progress.proofs.Stands.{search_frames}
+use Rattle.dali_progress.proofs.Frames.{value_sought}
+use Rattle.dali_progress.proofs.Tables.{tabled_over}
+use Rattle.dali_progress.proofs.Turns.{never_eight, no_enrolment, has_random, entry_last, goes_on_anew, with_kept}
+use Rattle.dali_progress.proofs.Survey.Queried.{OneShort, IsTrue, unseen}
+use Rattle.dali_progress.proofs.Survey.Stands.{Begun, wake_frames, searched_by}
+use Rattle.dali_progress.proofs.Survey.Begins.{Calm, EnrolsSwept, ReleasesSwept, EnrolsHunted, ReservesHunted, SurveyCommits, IsNext, first_by, asks_on}
+use Rattle.dali_progress.proofs.Survey.Begins.{searches_by}
+use Rattle.dali_progress.proofs.Survey.Begins.{own_enrolled, own_reserved}
+
+-- A RECORD OF A SURVEY IS KEPT, and the next transaction begins.
+
+-- how many events come before the next frame is sent, at the most
+abbrev pub enrol_slack : Bool → ℕ
+enrol_slack true = 2
+enrol_slack false = 1
+
+abbrev pub survey_slack : Bool → Option Order → Option Input → ℕ
+survey_slack any None told = 1
+survey_slack any (Some (Put p f)) None = 0
+survey_slack any (Some (Put p f)) (Some i) = enrol_slack any + 1
+survey_slack any (Some (Commit (Enrol a r))) told = enrol_slack any
+survey_slack any (Some (Commit x)) told = 1
+survey_slack any (Some (Done e)) told = 0
+survey_slack any (Some (Halt why)) told = 0
+
+pub enrol_one : (any : Bool) → 1 ≤ enrol_slack any
+enrol_one true = omega arith
+enrol_one false = omega arith
+
+enrol_some : (any : Bool) → 0 + 1 ≤ enrol_slack any
+enrol_some true = omega arith
+enrol_some false = omega arith
+
+-- ---------------------------------------------------------------- of the sweep
+
+swept_count : (a wake left : ℕ) → a < 64 → 3 * (63 - a) + wake ≤ left → 3 * (64 - (a + 1)) + wake ≤ left
+swept_count a wake left small enough = omega (arith, small, enough)
+
+-- it is enrolled: what else is reserved for it is released, or the next short address is asked
+swept_next : (start : Begun) (m : Machine) (a r : ℕ) (o : Order) (gs : List Gear) (left : ℕ) → Calm m → EnrolsSwept start m a r gs left → m.trace ≡ []
+    → m.last ≡ Some (Commit (Enrol a r)) → IsGivenBy (with_kept m (Enrol a r)) o → OneShort gs → IsTrue (m.kept.enrolled ++ (a, r) ∷ []) gs
+    → IsNext start (machine_ordered (with_kept m (Enrol a r)) o) o gs left × (survey_slack start.any (Some o) None + 1 ≤ enrol_slack start.any)
+swept_next start m a r o gs left calm v free last g one holds = go o g (g.followed.enrolled a r last) where
+  goes : (q : Order) → IsGivenBy (with_kept m (Enrol a r)) q → ((c : ℕ) → Has m.kept.reserved (c, r) → c ≡ a)
+      → IsNext start (machine_ordered (with_kept m (Enrol a r)) q) q gs left
+  goes q g own =
+      let at : stage_of m.trace ≡ stage.Free = ap stage_of free ∙ stage_none in
+      asks_on start (with_kept m (Enrol a r)) q (a + 1) gs left (record { tries = calm.tries; silent = calm.silent })
+      (given.enrolled (with_kept m (Enrol a r)) q a r g last free own)
+      (ap (begins_at (with_kept m (Enrol a r))) at ∙ ap (at_rest (with_kept m (Enrol a r))) last) v.way v.opened v.asked v.from_is
+      (let small : a < 64 = v.small in omega (arith, small)) (λ e x has. has_before m.kept.enrolled (a, r) x (v.settled e x has)) v.clear one holds v.same
+      v.tabled (swept_count a (wake_frames start gs) left v.small v.frames)
+
+  go : (q : Order) → IsGivenBy (with_kept m (Enrol a r)) q → AfterEnrolled (with_kept m (Enrol a r)) a r q
+      → IsNext start (machine_ordered (with_kept m (Enrol a r)) q) q gs left × (survey_slack start.any (Some q) None + 1 ≤ enrol_slack start.any)
+  go (Put p f) g own = (goes (Put p f) g own, enrol_some start.any)
+  go (Commit x) g (c, has, is) =
+      subst (λ y. IsNext start (machine_ordered (with_kept m (Enrol a r)) (Commit y)) (Commit y) gs left
+      × (survey_slack start.any (Some (Commit y)) None + 1 ≤ enrol_slack start.any)) (sym is) (releases start.any refl)
+    where
+      releases : (b : Bool) → start.any ≡ b
+          → IsNext start (machine_ordered (with_kept m (Enrol a r)) (Commit (Release c r))) (Commit (Release c r)) gs left
+          × (survey_slack start.any (Some (Commit (Release c r))) None + 1 ≤ enrol_slack start.any)
+      releases false none = absurd (v.unreserved none c has)
+      releases true any = (
+        (
+          record { tries = calm.tries; silent = calm.silent },
+          (
+            a,
+            record {
+              any = any;
+              way = v.way;
+              opened = v.opened;
+              asked = v.asked;
+              small = v.small;
+              from_is = v.from_is;
+              same = v.same;
+              tabled = v.tabled;
+              frames = v.frames;
+            },
+          ),
+        ),
+        subst (λ b. 1 + 1 ≤ enrol_slack b) (sym any) (omega arith),
+      )
+  go (Done e) g is = absurd is
+  go (Halt why) g is = absurd is
+
+-- and then the next short address is asked
+released_begins : (m : Machine) (c r : ℕ) (o : Order) → Calm m → m.trace ≡ [] → m.last ≡ Some (Commit (Release c r)) → IsGivenBy (with_kept m (Release c r)) o
+    → o ≡ beginning (next_course (with_kept m (Release c r)))
+released_begins m c r o calm free last g =
+    given.begins_free (with_kept m (Release c r)) o g free (no_enrolment_of m.last last) (never_eight m.tries calm.tries) where
+      no_enrolment_of : (l : Option Order) → l ≡ Some (Commit (Release c r)) → IsNoEnrolment l
+      no_enrolment_of l is b n e = let other : Some (Commit (Release c r)) ≡ Some (Commit (Enrol b n)) = sym is ∙ e in cc
+
+released_next : (start : Begun) (m : Machine) (c r a : ℕ) (o : Order) (gs : List Gear) (left : ℕ) → Calm m → ReleasesSwept start m a gs left → m.trace ≡ []
+    → m.last ≡ Some (Commit (Release c r)) → IsGivenBy (with_kept m (Release c r)) o → OneShort gs → IsTrue m.kept.enrolled gs
+    → IsNext start (machine_ordered (with_kept m (Release c r)) o) o gs left
+released_next start m c r a o gs left calm v free last g one holds =
+    let at : stage_of m.trace ≡ stage.Free = ap stage_of free ∙ stage_none in
+    asks_on start (with_kept m (Release c r)) o (a + 1) gs left (record { tries = calm.tries; silent = calm.silent })
+    (released_begins m c r o calm free last g)
+    (ap (begins_at (with_kept m (Release c r))) at ∙ ap (at_rest (with_kept m (Release c r))) last) v.way v.opened v.asked v.from_is
+    (let small : a < 64 = v.small in omega (arith, small)) (λ e. absurd (never e)) (λ e. absurd (never e)) one holds v.same v.tabled
+    (swept_count a (wake_frames start gs) left v.small v.frames)
+  where
+    never : start.any ≡ false → ⊥
+    never e = let both : true ≡ false = sym v.any ∙ e in cc
+
+-- ---------------------------------------------------------------- of a visit
+
+hunted_begins : (start : Begun) (m : Machine) (b r : ℕ) (o : Order) (gs : List Gear) (left : ℕ) → EnrolsHunted start m b r gs left → m.trace ≡ []
+    → m.last ≡ Some (Commit (Enrol b r)) → IsMap m.kept.reserved → IsGivenBy (with_kept m (Enrol b r)) o
+    → o ≡ beginning (next_course (with_kept m (Enrol b r)))
+hunted_begins start m b r o gs left v free last map g =
+    given.enrolled (with_kept m (Enrol b r)) o b r g last free
+    (λ a has. ap (λ (q : Assignment). q.0) (same_member (λ (q : Assignment). q.1) m.kept.reserved (a, r) (b, r) map.random_once has v.reserved refl))
+
+hunted_next : (start : Begun) (m : Machine) (b r : ℕ) (o : Order) (gs : List Gear) (left : ℕ) → Calm m → EnrolsHunted start m b r gs left → m.trace ≡ []
+    → m.last ≡ Some (Commit (Enrol b r)) → IsMap m.kept.reserved → IsGivenBy (with_kept m (Enrol b r)) o
+    → IsNext start (machine_ordered (with_kept m (Enrol b r)) o) o gs left
+hunted_next start m b r o gs left calm v free last map g =
+    let at : stage_of m.trace ≡ stage.Free = ap stage_of free ∙ stage_none in
+    searches_by start (with_kept m (Enrol b r)) o m.course.way (search_frames (count_by is_wanted (searched_by m.course.way gs))) gs left
+    (record { tries = calm.tries; silent = calm.silent }) (hunted_begins start m b r o gs left v free last map g)
+    (ap (begins_at (with_kept m (Enrol b r))) at ∙ ap (at_rest (with_kept m (Enrol b r))) last ∙ goes_on_anew (with_kept m (Enrol b r)) v.opened) refl v.way
+    v.opened
+    (λ e. own_enrolled m.kept m.heard b r (v.own e) (λ q has. ap (λ (x : Assignment). x.1)
+    (same_member (λ (x : Assignment). x.0) m.kept.reserved (b, q) (b, r) map.address_once has v.reserved refl)))
+    (λ e x has. settled x has (v.settled e x has))
+    v.ready v.unnamed
+    (tabled_over (unseen start.gear) ((b, r) ∷ m.kept.enrolled) (m.kept.enrolled ++ (b, r) ∷ []) (searched_by m.course.way gs)
+    (entry_last m.kept.enrolled (b, r))
+    v.tabled)
+    (omega arith) v.frames
+  where
+    settled : (x : Assignment) → Has m.kept.reserved x → Has m.kept.enrolled x ⊎ (x.1 ≡ r) → Has (m.kept.enrolled ++ (b, r) ∷ []) x
+    settled x has (inl entry) = has_before m.kept.enrolled (b, r) x entry
+    settled x has (inr number) =
+        subst (Has (m.kept.enrolled ++ (b, r) ∷ []))
+        (sym (same_member (λ (q : Assignment). q.1) m.kept.reserved x (b, r) map.random_once has v.reserved number)) (has_last m.kept.enrolled (b, r))
+
+reserved_begins : (m : Machine) (a r : ℕ) (o : Order) → Calm m → m.trace ≡ [] → m.last ≡ Some (Commit (Reserve a r)) → IsGivenBy (with_kept m (Reserve a r)) o
+    → o ≡ beginning (next_course (with_kept m (Reserve a r)))
+reserved_begins m a r o calm free last g =
+    given.begins_free (with_kept m (Reserve a r)) o g free (no_enrolment a r m.last last) (never_eight m.tries calm.tries)
+
+reserved_next : (start : Begun) (m : Machine) (a r : ℕ) (o : Order) (gs : List Gear) (left : ℕ) → Calm m → ReservesHunted start m a r gs left → m.trace ≡ []
+    → m.last ≡ Some (Commit (Reserve a r)) → IsGivenBy (with_kept m (Reserve a r)) o → IsNext start (machine_ordered (with_kept m (Reserve a r)) o) o gs left
+reserved_next start m a r o gs left calm v free last g =
+    let at : stage_of m.trace ≡ stage.Free = ap stage_of free ∙ stage_none in
+    first_by start (with_kept m (Reserve a r)) o (visiting m.course r) gs left (record { tries = calm.tries; silent = calm.silent })
+    (reserved_begins m a r o calm free last g) (ap (begins_at (with_kept m (Reserve a r))) at ∙ ap (at_rest (with_kept m (Reserve a r))) last) tt
+    (record {
+      way = v.way;
+      opened_is = v.opened;
+      own = λ e. own_reserved m.kept m.heard a r (v.own e) v.open_is;
+      settled = λ e x has. settled e x (has_cases m.kept.reserved (a, r) x has);
+      rest = 7 + search_frames v.more;
+      at = (
+        refl,
+        record {
+          stage_is = tt;
+          searched = tt;
+          ready = v.ready;
+          unnamed = v.unnamed;
+          more = v.more;
+          visited = record {
+            wanted = subst (λ n. wants (searched_by m.course.way gs) n ≡ true) (sym (value_sought r)) v.wanted;
+            number = r;
+            number_is = refl;
+            drawn = v.drawn;
+            count = v.count;
+          };
+          frames = inl (
+            subst (HasRandom (m.kept.reserved ++ (a, r) ∷ [])) (sym (value_sought r))
+                (has_random (m.kept.reserved ++ (a, r) ∷ []) a r (has_last m.kept.reserved (a, r))),
+            omega arith,
+          );
+        },
+      );
+      tabled = v.tabled;
+      frames = v.frames;
+    })
+  where
+    settled : start.any ≡ false → (x : Assignment) → Has m.kept.reserved x ⊎ ((a, r) ≡ x) → Has m.kept.enrolled x ⊎ (x.1 ≡ value_of (sought r))
+    settled e x (inl has) = inl (v.settled e x has)
+    settled e x (inr same) = inr (sym (ap (λ (q : Assignment). q.1) same) ∙ sym (value_sought r))
+
+-- ---------------------------------------------------------------- of whichever
+
+-- what is to come of its order, and that events before the next frame are one less
+abbrev KeptTo : Begun → Machine → Record → Order → List Gear → ℕ → Type 0
+KeptTo start m x o gs left =
+    IsNext start (machine_ordered (with_kept m x) o) o gs left × (survey_slack start.any (Some o) None + 1 ≤ survey_slack start.any (Some (Commit x)) None)
+
+pub begins_less : (o : Order) (t : Machine) (any : Bool) (n : ℕ) → o ≡ beginning (next_course t) → 1 ≤ n → survey_slack any (Some o) None + 1 ≤ n
+begins_less o t any n is one = let none : survey_slack any (Some o) None ≡ 0 = rw is refl in omega (arith, none, one)
+
+pub committed : (start : Begun) (m : Machine) (x : Record) (o : Order) (gs : List Gear) (left : ℕ) → Calm m → SurveyCommits start m x gs left → m.trace ≡ []
+    → m.last ≡ Some (Commit x) → IsMap m.kept.reserved → IsGivenBy (with_kept m x) o → OneShort gs → IsTrue (with_kept m x).kept.enrolled gs
+    → KeptTo start m x o gs left
+committed start m (Reserve a r) o gs left calm v free last map g one holds = (
+  reserved_next start m a r o gs left calm v free last g,
+  begins_less o (with_kept m (Reserve a r)) start.any 1 (reserved_begins m a r o calm free last g) (omega arith),
+)
+committed start m (Enrol b r) o gs left calm (inl v) free last map g one holds = swept_next start m b r o gs left calm v free last g one holds
+committed start m (Enrol b r) o gs left calm (inr v) free last map g one holds = (
+  hunted_next start m b r o gs left calm v free last map g,
+  begins_less o (with_kept m (Enrol b r)) start.any (enrol_slack start.any) (hunted_begins start m b r o gs left v free last map g) (enrol_one start.any),
+)
+committed start m (Release c r) o gs left calm v free last map g one holds = (
+  released_next start m c r v.0 o gs left calm v.1 free last g one holds,
+  begins_less o (with_kept m (Release c r)) start.any 1 (released_begins m c r o calm free last g) (omega arith),
+)

@@ -1,0 +1,93 @@
+use Rattle.std.proofs.Common.{◌≡◌, ℕ, ◌+◌, ◌*◌, List, [], ◌∷◌, refl, sym, ap, subst, ◌∙◌, true, false, Option, Some, None}
+use Rattle.std.specs.List.{AllByRecursion, count_by}
+use Rattle.dali_frame.specs.declared.frames.Forward.{Forward}
+use Rattle.dali_frame.specs.declared.frames.Answer.{Answer}
+use Rattle.dali_script.specs.declared.records.Record.{Record}
+use Rattle.dali_script.specs.Records.{Kept}
+use Rattle.dali_script.specs.declared.orders.Input.{Input}
+use Rattle.dali_script.specs.declared.orders.Input.TheVariants as input
+use Rattle.dali_script.specs.declared.orders.Order.{Order}
+use Rattle.dali_script.specs.declared.orders.Order.TheVariants.{Put, Commit, Done, Halt}
+use Rattle.dali_script.specs.declared.orders.End.{End}
+use Rattle.dali_events.specs.declared.event.Event.{Event}
+use Rattle.dali_events.specs.declared.event.Event.TheVariants as event
+use Rattle.dali_events.specs.World.{World, Controller, controller_at}
+use Rattle.dali_events.specs.Happens.{happens, kept_after}
+use Rattle.dali_events.specs.Allowed.{Allowed, IsUp, IsDue, IsCommit}
+use Rattle.dali_events.specs.Wanted.{is_bare}
+use Rattle.dali_world.specs.Site.{SiteState, world, site_logged}
+use Rattle.dali_progress.specs.Rounds.{site_after, HasEnded}
+use Rattle.dali_progress.specs.Surveys.{IsSettledAt, SurveysAlone, IsOfSurvey, SurveyRounds, CommitsNothing, WasTabled, AreSurveyed}
+use Rattle.dali_progress.proofs.Lone.{acted_there, sent_there, lone_next}
+use Rattle.dali_progress.proofs.Bounded.{world_logged}
+use Rattle.dali_progress.proofs.Survey.Bounded.{Runs, began_at, runs_on, starts, tabled}
+use Rattle.dali_progress.proofs.Survey.Stands.{Begun, spare}
+
+-- A SURVEY THAT COMMITS NOTHING keeps the records that it began with.
+
+abbrev IsNone : Option Order → Type 0
+IsNone last = (x : Record) → last ≡ Some (Commit x) → ⊥
+
+none_due : (k : Controller) (i : Input) → IsNone k.last → IsDue k i → kept_after k i ≡ k.records
+none_due k input.Committed none due = go k.last none due where
+  go : (last : Option Order) → IsNone last → IsCommit last → kept_after k input.Committed ≡ k.records
+  go (Some (Commit x)) none commit = absurd (none x refl)
+  go (Some (Put p f)) none commit = absurd commit
+  go (Some (Done e)) none commit = absurd commit
+  go (Some (Halt why)) none commit = absurd commit
+  go None none commit = absurd commit
+none_due k input.Start none due = refl
+none_due k input.Survey none due = refl
+none_due k (input.Heard h) none due = refl
+none_due k input.Destroyed none due = refl
+none_due k input.Lapsed none due = refl
+none_due k input.CommitFailed none due = refl
+
+-- one event more
+abbrev Keeps : World → World → ℕ → Type 0
+Keeps w now c = ((controller_at now c).records ≡ (controller_at w c).records) × IsNone (controller_at now c).last
+
+acted_keeps : (w : World) (c : ℕ) (i : Input) (o : Order) → IsUp w c → IsNone (controller_at w c).last → IsDue (controller_at w c) i
+    → ((x : Record) → o ≡ Commit x → ⊥) → Keeps w (happens w (event.Acted c i o)) c
+acted_keeps w c i o up none due quiet = (
+  ap (λ (k : Controller). k.records) (acted_there w c i o up) ∙ none_due (controller_at w c) i none due,
+  λ x e. quiet x (order o x (sym (ap (λ (k : Controller). k.last) (acted_there w c i o up)) ∙ e)),
+) where
+  order : (o : Order) (x : Record) → Some o ≡ Some (Commit x) → o ≡ Commit x
+  order o x e = cc
+
+sent_keeps : (w : World) (c : ℕ) (f : Forward) (h : Answer) → IsUp w c → IsNone (controller_at w c).last → Keeps w (happens w (event.Sent c f h)) c
+sent_keeps w c f h up none = (
+  ap (λ (k : Controller). k.records) (sent_there w c f h up),
+  λ x e. none x (sym (ap (λ (k : Controller). k.last) (sent_there w c f h up)) ∙ e),
+)
+
+event_keeps : (start : Begun) (s : SiteState) (c left : ℕ) (e : Event) → Runs start s c left → Allowed (world s) e → IsOfSurvey s c e → CommitsNothing e
+    → IsNone (controller_at (world s) c).last → Keeps (world s) (happens (world s) e) c
+event_keeps start s c left (event.Acted d i o) u here of quiet none =
+    subst (λ n. Allowed (world s) (event.Acted n i o) → Keeps (world s) (happens (world s) (event.Acted n i o)) c) (sym of.0)
+    (λ now. acted_keeps (world s) c i o now.up none now.due (λ x is. quiet d i x (ap (λ q. event.Acted d i q) is))) here
+event_keeps start s c left (event.Sent d f h) u here of quiet none =
+    let put = lone_next (world s) s.queue c u.machine of.0 u.goes.lone of.1 in
+    subst (λ n. Keeps (world s) (happens (world s) (event.Sent n f h)) c) (sym (of.2 ∙ put.3)) (sent_keeps (world s) c f h u.goes.lone.up none)
+event_keeps start s c left _ u here of quiet none = absurd of
+
+all_keep : (start : Begun) (s : SiteState) (c left : ℕ) (es : List Event) → Runs start s c left → SurveyRounds s c es → AllByRecursion CommitsNothing es
+    → IsNone (controller_at (world s) c).last → (controller_at (world (site_after s es)) c).records ≡ (controller_at (world s) c).records
+all_keep start s c left [] u rounds quiet none = refl
+all_keep start s c left (e ∷ es) u rounds quiet none =
+    let on = runs_on start s c left e u rounds.0 rounds.1 in
+    let keeps : Keeps (world s) (world (site_logged s e)) c =
+    subst (λ w. Keeps (world s) w c) (sym (world_logged s e)) (event_keeps start s c left e u rounds.0 rounds.1 quiet.0 none) in
+    all_keep start (site_logged s e) c on.rest es on.runs rounds.2 quiet.1 keeps.1 ∙ keeps.0
+
+pub quiet_tabled : (s : SiteState) (c : ℕ) (es : List Event) (e : End) → SurveysAlone s c → SurveyRounds s c es → AllByRecursion CommitsNothing es
+    → HasEnded (site_after s es) c e → WasTabled s (site_after s es) c
+quiet_tabled s c es e a rounds quiet ended =
+    subst (λ (k : Kept). AreSurveyed (world s).gear k.enrolled (world (site_after s es)).gear)
+    (all_keep (began_at true s) s c (111 * count_by is_bare (world s).gear + 209 + spare true) es (starts true s c a unsettled) rounds quiet
+    (λ x is. (let never : None ≡ Some (Commit x) = sym a.last ∙ is in cc)))
+    (tabled s c es e a rounds ended)
+  where
+    unsettled : true ≡ false → IsSettledAt s c
+    unsettled never = absurd (cc)

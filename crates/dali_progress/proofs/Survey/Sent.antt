@@ -1,0 +1,603 @@
+use Rattle.std.proofs.Common.{◌≡◌, ℕ, ◌+◌, ◌-◌, ◌*◌, ◌<◌, ◌≤◌, ◌⊎◌, inl, inr, Bool, true, false, zero, suc, List, [], ◌∷◌, refl, sym, ap, subst, ◌∙◌, arith}
+use Rattle.std.proofs.Common.{length}
+use Rattle.std.proofs.Common.{Some, None}
+use Rattle.std.specs.Prelude.{◌==◌, nat_lt, ◌&&◌, if◌then◌else◌}
+use Rattle.std.proofs.lemmas.Bool.Decides.{nat_tests}
+use Rattle.dali_frame.specs.declared.frames.Answer.{Answer}
+use Rattle.dali_frame.specs.declared.frames.Answer.TheVariants.{Silence, Byte}
+use Rattle.dali_frame.specs.declared.numbers.SearchAddress.{SearchAddress}
+use Rattle.dali_frame.specs.Random.{value_of, number_of, high_of, middle_of, low_of, MASK24}
+use Rattle.dali_special.specs.declared.command.Command.{Command}
+use Rattle.dali_special.specs.declared.command.Command.TheVariants.{Terminate, Initialise, Compare, Withdraw, SearchMiddle, SearchLow}
+use Rattle.dali_special.specs.declared.command.Command.TheVariants.{QueryShort, RandomByte}
+use Rattle.dali_special.specs.declared.command.Part.{Part}
+use Rattle.dali_special.specs.declared.command.Part.TheVariants.{High, Middle, Low}
+use Rattle.dali_special.specs.declared.command.Target.TheVariants.{Unaddressed}
+use Rattle.dali_gear.specs.declared.row.Reach.TheVariants.{Everyone}
+use Rattle.dali_gear.specs.Gear.{Gear, byte_at, draws_a_number}
+use Rattle.dali_gear.specs.Row.{takes, left_after, row_after, drawn_one, drawn_of, answers_of, heard_of}
+use Rattle.dali_gear.proofs.RowLemmas.{needs_none}
+use Rattle.dali_script.proofs.Lists.{has_map}
+use Rattle.std.proofs.lemmas.Nat.Bits.{bit_at_set_other, bit_at_clear_same, bit_at_clear_other}
+use Rattle.std.proofs.Common.{w64}
+use Rattle.dali_controller.specs.Shorts.{has_short, with_short, without_short}
+use Rattle.dali_events.proofs.Search.Wanted.{number_same, same_number}
+use Rattle.dali_progress.specs.Surveys.{IsSettled}
+use Rattle.dali_script.specs.Records.{Assignment, IsKept, Kept, Has}
+use Rattle.dali_script.specs.declared.stage.Stage.{Stage}
+use Rattle.dali_script.specs.declared.stage.Stage.TheVariants as stage
+use Rattle.dali_script.specs.Stages.{next_stage}
+use Rattle.dali_script.proofs.Transactions.{middle_next, low_next}
+use Rattle.dali_script.specs.declared.orders.End.{End}
+use Rattle.dali_script.specs.declared.orders.End.TheVariants.{AllFound, BlockFull, GaveUp}
+use Rattle.dali_search.specs.Least.{Search}
+use Rattle.dali_controller.specs.declared.purpose.Purpose.{Purpose}
+use Rattle.dali_controller.specs.declared.purpose.Purpose.TheVariants.{Opening, Probing, Visiting, Resolving, Closing, Asking, Waking}
+use Rattle.dali_controller.specs.declared.shorts.Shorts.{Shorts}
+use Rattle.dali_controller.specs.declared.way.Way.{Way}
+use Rattle.dali_controller.specs.declared.way.Way.TheVariants.{Fresh, Surveying, Drawing}
+use Rattle.dali_controller.specs.Course.{sought}
+use Rattle.dali_controller.specs.Machine.{opened_after, woken_after, heard_after, asked_after, asked_after_silence, asked_at, marked_at}
+use Rattle.dali_controller.proofs.Courses.{not_woken}
+use Rattle.dali_events.specs.Wanted.{gear_of, AreApart, IsOpened}
+use Rattle.dali_events.proofs.Invariant.Takes.{row_length}
+use Rattle.dali_events.proofs.Invariant.Resolving.{whole_number}
+use Rattle.dali_events.proofs.Search.Wanted.{after_at}
+use Rattle.dali_events.proofs.Search.Leaving as leaving
+use Rattle.dali_events.proofs.Search.Leaving.{SameCore, LeavesShort}
+use Rattle.dali_events.proofs.Search.Opened as opening
+use Rattle.dali_progress.specs.Rounds.{AreTabled}
+use Rattle.dali_progress.proofs.Stands.{to_come, At, Probes, VisitsAt, Sends}
+use Rattle.dali_progress.proofs.Frames.{IsTaken, Seeks, IsSentTo, at_sent, one_less, value_sought}
+use Rattle.dali_progress.proofs.Tables.{IsTabledTo, at_tabled, tabled_left}
+use Rattle.dali_progress.proofs.Survey.Drawn.{those_drawn, IsSearching, IsSoughtBy, AreNumbered, not_randomise, row_drawn, answers_drawn, searching_of}
+use Rattle.dali_progress.proofs.Survey.Drawn.{no_draw}
+use Rattle.dali_progress.proofs.Survey.Drawn.{still_of, lost_same, seek_drawn}
+use Rattle.dali_progress.proofs.Survey.Queried.{Holds, OneGear, OneShort, one_gear, IsTrue, Nobody, HasAnswered, asked_gear, core_then, holds_on, holds_back}
+use Rattle.dali_progress.proofs.Survey.Queried.{unseen, below_on}
+use Rattle.dali_progress.proofs.Survey.Stands.{Begun, spare, IsClear, IsClearBut, IsClearAt, wake_frames, silent_left, asked_left, Tells, AskStage, Sweeps}
+use Rattle.dali_progress.proofs.Survey.Stands.{Wakes}
+use Rattle.dali_progress.proofs.Survey.Stands.{searched_by, frames_after}
+use Rattle.dali_progress.proofs.Survey.Stands.{IsOnWay, opened_at, Hunts, SurveyEnds, SurveyCloses, SurveyAt}
+
+-- A FRAME OF A SURVEY IS SENT, and one frame less is left.
+
+-- what is known of the gear, beside what was heard
+pub record IsSurveyTaken (c : Command) (gs : List Gear) (numbers : List ℕ) (h : Answer) : Type 0 where
+  pub taken : IsTaken c gs numbers h
+  pub one : OneShort gs
+  pub numbered : AreNumbered gs
+  pub apart : IsOpened (those_drawn gs) → AreApart (those_drawn gs)
+
+-- and of the records
+pub record IsTold (k : Kept) (gs : List Gear) : Type 0 where
+  pub kept : IsKept k
+  pub holds : IsTrue k.enrolled gs
+
+-- ---------------------------------------------------------------- marks
+
+with_other : (s : Shorts) (b c : ℕ) → b < 64 → (c ≡ b → ⊥) → has_short (with_short s b) c ≡ has_short s c
+with_other s b c small apart = ap (λ n. n == 1) (bit_at_set_other w64 s.bits b small c apart)
+
+without_same : (s : Shorts) (b c : ℕ) → b < 64 → c ≡ b → has_short (without_short s b) c ≡ false
+without_same s b c small same = subst (λ n. has_short (without_short s b) n ≡ false) (sym same) (ap (λ n. n == 1) (bit_at_clear_same w64 s.bits b small))
+
+without_other : (s : Shorts) (b c : ℕ) → b < 64 → c < 64 → (c ≡ b → ⊥) → has_short (without_short s b) c ≡ has_short s c
+without_other s b c small within apart = ap (λ n. n == 1) (bit_at_clear_other w64 s.bits b small c within apart)
+
+clear_with : (k : Kept) (heard : Shorts) (b a : ℕ) → b ≡ a → a < 64 → IsClearBut k heard a → IsClearBut k (with_short heard b) a
+clear_with k heard b a same small clear c q has apart =
+    with_other heard b c (subst (λ n. n < 64) (sym same) small) (λ e. apart (e ∙ same)) ∙ clear c q has apart
+
+-- ---------------------------------------------------------------- a question
+
+some_is : (x c : Command) → Some x ≡ Some c → x ≡ c
+some_is x c e = cc
+
+-- what was heard of the one gear, or of nobody
+heard_high : (a : ℕ) (part : Part) (gs : List Gear) (h : Answer) → OneGear gs → h ≡ heard_of (answers_of Everyone (RandomByte a part) 0 gs)
+    → ((g : ℕ) × Holds gs g a × (h ≡ Byte (byte_at part (gear_of gs g).random))) ⊎ (Nobody gs a × (h ≡ Silence))
+heard_high a part gs h one heard = go (asked_gear gs a part one) where
+  go : HasAnswered gs a part → ((g : ℕ) × Holds gs g a × (h ≡ Byte (byte_at part (gear_of gs g).random))) ⊎ (Nobody gs a × (h ≡ Silence))
+  go (inl (g, holds, answers)) = inl (g, holds, heard ∙ ap heard_of answers)
+  go (inr (none, answers)) = inr (none, heard ∙ ap heard_of answers)
+
+-- the gear that told, in the row afterwards
+tells_on : (gs hs : List Gear) (a g : ℕ) (P : ℕ → Type 0) → SameCore gs hs → Holds gs g a → P (gear_of gs g).random → Tells hs a P
+tells_on gs hs a g P same holds told = (g, holds_on gs hs g a same holds, subst P (sym (same.each g holds.there).same_random) told)
+
+nobody_on : (gs hs : List Gear) (a : ℕ) → SameCore gs hs → Nobody gs a → Nobody hs a
+nobody_on gs hs a same none g holds = none g (holds_back gs hs g a same holds)
+
+-- the same sweep, one frame later
+sweeps_on : (a : ℕ) (s t : Stage) (k : Kept) (marks after : Shorts) (asked now from : ℕ) (start : Begun) (gs hs : List Gear) (left l : ℕ)
+    → Sweeps a s k marks asked from start gs left → SameCore gs hs → AskStage t a now hs → (start.any ≡ false → IsClearAt t a k after)
+    → 3 * (63 - a) + asked_left t now + wake_frames start gs ≤ l → Sweeps a t k after now from start hs l
+sweeps_on a s t k marks after asked now from start gs hs left l v same stage clear enough = record {
+  small = v.small;
+  from_is = v.from_is;
+  settled = v.settled;
+  clear = clear;
+  same = core_then start.gear gs hs v.same same;
+  stage_is = stage;
+  tabled = below_on a start.gear k.enrolled gs hs same v.tabled;
+  frames = subst (λ n. 3 * (63 - a) + asked_left t now + (111 * n + 17 + spare start.any) ≤ l) (sym (leaving.core_count_bare gs hs same)) enough;
+}
+
+silence_again : (n : ℕ) → n ≤ 2 → (asked_after_silence n ≤ 2) × (silent_left (asked_after_silence n) + 1 ≤ 3 - n)
+silence_again zero few = (omega arith, omega arith)
+silence_again (suc zero) few = (omega arith, omega arith)
+silence_again (suc (suc n)) few =
+    let past : nat_lt (suc (suc n)) 2 ≡ false = grind (arith, nat_tests) in
+    rw past (omega arith, omega (arith, few))
+
+spend : (base need now wake left : ℕ) → base + need + wake ≤ left → now + 1 ≤ need → (l : ℕ) × (left ≡ suc l) × (base + now + wake ≤ l)
+spend base need now wake zero enough less = absurd (omega (arith, enough, less))
+spend base need now wake (suc l) enough less = (l, refl, omega (arith, enough, less))
+
+abbrev SweptTo : ℕ → Stage → Kept → Shorts → ℕ → ℕ → Begun → List Gear → List ℕ → ℕ → Command → Answer → Type 0
+SweptTo a s k marks asked from start gs numbers left c h =
+    (l : ℕ) × (left ≡ suc l)
+    × Sweeps a (next_stage s c h) k (marked_at (next_stage s c h) h marks) (asked_at (next_stage s c h) h asked) from start
+    (row_after Everyone c 0 gs numbers) l
+
+first_asked : (a : ℕ) (k : Kept) (marks : Shorts) (asked from : ℕ) (start : Begun) (gs : List Gear) (numbers : List ℕ) (left : ℕ) (h : Answer)
+    → Sweeps a stage.Free k marks asked from start gs left → OneGear gs → h ≡ heard_of (answers_of Everyone (RandomByte a High) 0 gs)
+    → SweptTo a stage.Free k marks asked from start gs numbers left (RandomByte a High) h
+first_asked a k marks asked from start gs numbers left h v one heard = go (heard_high a High gs h one heard) where
+  same : SameCore gs (row_after Everyone (RandomByte a High) 0 gs numbers)
+  same = leaving.core_after (RandomByte a High) gs numbers tt
+
+  go : ((g : ℕ) × Holds gs g a × (h ≡ Byte (high_of (gear_of gs g).random))) ⊎ (Nobody gs a × (h ≡ Silence))
+      → SweptTo a stage.Free k marks asked from start gs numbers left (RandomByte a High) h
+  go (inl (g, holds, is)) =
+      subst (λ b. SweptTo a stage.Free k marks asked from start gs numbers left (RandomByte a High) b) (sym is) (by v.stage_is) where
+        by : (asked ≡ 0) ⊎ (Nobody gs a × (asked ≤ 2))
+            → SweptTo a stage.Free k marks asked from start gs numbers left (RandomByte a High) (Byte (high_of (gear_of gs g).random))
+        by (inr nobody) = absurd (nobody.0 g holds)
+        by (inl none) =
+            let less = spend (3 * (63 - a)) (3 - asked) 2 (wake_frames start gs) left v.frames (omega (arith, none)) in (
+              less.0,
+              less.1,
+              sweeps_on a stage.Free (stage.HighAsked a (Some (high_of (gear_of gs g).random))) k marks (with_short marks a) asked 0 from start gs _ left less.0
+                  v same (refl, tells_on gs _ a g (λ r. high_of (gear_of gs g).random ≡ high_of r) same holds refl)
+                  (λ e. clear_with k marks a a refl v.small (λ c q has apart. v.clear e c q has)) less.2,
+            )
+  go (inr (none, is)) =
+      subst (λ b. SweptTo a stage.Free k marks asked from start gs numbers left (RandomByte a High) b) (sym is) (by (few v.stage_is)) where
+        few : (asked ≡ 0) ⊎ (Nobody gs a × (asked ≤ 2)) → asked ≤ 2
+        few (inl zero_is) = omega (arith, zero_is)
+        few (inr nobody) = nobody.1
+
+        by : asked ≤ 2 → SweptTo a stage.Free k marks asked from start gs numbers left (RandomByte a High) Silence
+        by small =
+            let again = silence_again asked small in
+            let less = spend (3 * (63 - a)) (3 - asked) (silent_left (asked_after_silence asked)) (wake_frames start gs) left v.frames again.1 in (
+              less.0,
+              less.1,
+              sweeps_on a stage.Free (stage.HighAsked a None) k marks marks asked (asked_after_silence asked) from start gs _ left less.0 v same
+                  (refl, nobody_on gs _ a same none, again.0) v.clear less.2,
+            )
+
+second_asked : (a b u : ℕ) (k : Kept) (marks : Shorts) (asked from : ℕ) (start : Begun) (gs : List Gear) (numbers : List ℕ) (left : ℕ) (h : Answer)
+    → Sweeps a (stage.HighAsked b (Some u)) k marks asked from start gs left → OneGear gs → h ≡ heard_of (answers_of Everyone (RandomByte b Middle) 0 gs)
+    → SweptTo a (stage.HighAsked b (Some u)) k marks asked from start gs numbers left (RandomByte b Middle) h
+second_asked a b u k marks asked from start gs numbers left h v one heard =
+    go (heard_high a Middle gs h one (subst (λ d. h ≡ heard_of (answers_of Everyone (RandomByte d Middle) 0 gs)) v.stage_is.0 heard)) where
+      same : SameCore gs (row_after Everyone (RandomByte b Middle) 0 gs numbers)
+      same = leaving.core_after (RandomByte b Middle) gs numbers tt
+
+      go : ((g : ℕ) × Holds gs g a × (h ≡ Byte (middle_of (gear_of gs g).random))) ⊎ (Nobody gs a × (h ≡ Silence))
+          → SweptTo a (stage.HighAsked b (Some u)) k marks asked from start gs numbers left (RandomByte b Middle) h
+      go (inr (none, is)) = absurd (none v.stage_is.1.0 v.stage_is.1.1)
+      go (inl (g, holds, is)) =
+          let at : g ≡ v.stage_is.1.0 = one g v.stage_is.1.0 a holds v.stage_is.1.1 in
+          let high : u ≡ high_of (gear_of gs g).random = v.stage_is.1.2 ∙ ap (λ i. high_of (gear_of gs i).random) (sym at) in
+          let there : next_stage (stage.HighAsked b (Some u)) (RandomByte b Middle) h ≡ stage.MiddleAsked b (Some (u, middle_of (gear_of gs g).random)) =
+          rw is (middle_next b (Some u) (Byte (middle_of (gear_of gs g).random))) in
+          let less = spend (3 * (63 - a)) 2 1 (wake_frames start gs) left v.frames (omega arith) in (
+            less.0,
+            less.1,
+            rw there (sweeps_on a (stage.HighAsked b (Some u)) (stage.MiddleAsked b (Some (u, middle_of (gear_of gs g).random))) k marks (with_short marks b)
+                asked 0 from start gs _ left less.0 v same
+                (v.stage_is.0, tells_on gs _ a g (λ r. (u ≡ high_of r) × (middle_of (gear_of gs g).random ≡ middle_of r)) same holds (high, refl))
+                (λ e. clear_with k marks b a v.stage_is.0 v.small (v.clear e)) less.2),
+          )
+
+-- a number was told: the mark goes, or it is FFFFFF, and the address is not reserved
+told_clear : (a b n : ℕ) (k : Kept) (marks : Shorts) (gs : List Gear) (g : ℕ) → b ≡ a → a < 64 → IsSettled k → IsTold k gs → OneShort gs → Holds gs g a
+    → n ≡ (gear_of gs g).random → IsClearBut k marks a → IsClear k (if n == MASK24 then with_short marks b else without_short marks b)
+told_clear a b n k marks gs g same small settled told one holds number clear c q has = go (n == MASK24) refl (c == a) refl where
+  within : b < 64
+  within = subst (λ m. m < 64) (sym same) small
+
+  low : c < 64
+  low = told.kept.reserved.short c (has_map (λ (x : Assignment). x.0) k.reserved (c, q) has)
+
+  below : q < MASK24
+  below = told.kept.reserved_drawn q (has_map (λ (x : Assignment). x.1) k.reserved (c, q) has)
+
+  apart : (c == a) ≡ false → c ≡ a → ⊥
+  apart other e = let at : (c == a) ≡ true = number_same c a e in let never : true ≡ false = sym at ∙ other in cc
+
+  go : (t : Bool) → (n == MASK24) ≡ t → (u : Bool) → (c == a) ≡ u → has_short (if t then with_short marks b else without_short marks b) c ≡ false
+  go false drew true at = without_same marks b c within (same_number c a at ∙ sym same)
+  go false drew false other = without_other marks b c within low (λ e. apart other (e ∙ same)) ∙ clear c q has (apart other)
+  go true mask false other = with_other marks b c within (λ e. apart other (e ∙ same)) ∙ clear c q has (apart other)
+  go true mask true at =
+      let entry = told.holds c q (settled (c, q) has) in
+      let is : entry.0 ≡ g = one entry.0 g a entry.1 holds.there (entry.2 ∙ ap (λ m. Some m) (same_number c a at)) holds.short in
+      let random : q ≡ n = sym entry.3 ∙ ap (λ i. (gear_of gs i).random) is ∙ sym number in
+      absurd (let top : n ≡ MASK24 = same_number n MASK24 mask in omega (arith, below, random, top))
+
+third_asked : (a b : ℕ) (x : ℕ × ℕ) (k : Kept) (marks : Shorts) (asked from : ℕ) (start : Begun) (gs : List Gear) (numbers : List ℕ) (left : ℕ) (h : Answer)
+    → Sweeps a (stage.MiddleAsked b (Some x)) k marks asked from start gs left → OneShort gs → IsTold k gs
+    → h ≡ heard_of (answers_of Everyone (RandomByte b Low) 0 gs)
+    → SweptTo a (stage.MiddleAsked b (Some x)) k marks asked from start gs numbers left (RandomByte b Low) h
+third_asked a b x k marks asked from start gs numbers left h v one told heard =
+    go (heard_high a Low gs h (one_gear gs one) (subst (λ d. h ≡ heard_of (answers_of Everyone (RandomByte d Low) 0 gs)) v.stage_is.0 heard)) where
+      same : SameCore gs (row_after Everyone (RandomByte b Low) 0 gs numbers)
+      same = leaving.core_after (RandomByte b Low) gs numbers tt
+
+      tells : (g : ℕ) → Holds gs g a → (i : ℕ) → Holds (row_after Everyone (RandomByte b Low) 0 gs numbers) i a
+          → (gear_of gs g).random ≡ (gear_of (row_after Everyone (RandomByte b Low) 0 gs numbers) i).random
+      tells g holds i has =
+          let back : Holds gs i a = holds_back gs (row_after Everyone (RandomByte b Low) 0 gs numbers) i a same has in
+          let at : g ≡ i = one_gear gs one g i a holds back in
+          ap (λ j. (gear_of gs j).random) at ∙ sym (same.each i back.there).same_random
+
+      go : ((g : ℕ) × Holds gs g a × (h ≡ Byte (low_of (gear_of gs g).random))) ⊎ (Nobody gs a × (h ≡ Silence))
+          → SweptTo a (stage.MiddleAsked b (Some x)) k marks asked from start gs numbers left (RandomByte b Low) h
+      go (inr (none, is)) = absurd (none v.stage_is.1.0 v.stage_is.1.1)
+      go (inl (g, holds, is)) =
+          let at : g ≡ v.stage_is.1.0 = one_gear gs one g v.stage_is.1.0 a holds v.stage_is.1.1 in
+          let high : x.0 ≡ high_of (gear_of gs g).random = v.stage_is.1.2.0 ∙ ap (λ i. high_of (gear_of gs i).random) (sym at) in
+          let middle : x.1 ≡ middle_of (gear_of gs g).random = v.stage_is.1.2.1 ∙ ap (λ i. middle_of (gear_of gs i).random) (sym at) in
+          let number : number_of x.0 x.1 (low_of (gear_of gs g).random) ≡ (gear_of gs g).random =
+          sym (whole_number (gear_of gs g).random x.0 x.1 (low_of (gear_of gs g).random) (sym high) (sym middle) refl) in
+          let there : next_stage (stage.MiddleAsked b (Some x)) (RandomByte b Low) h ≡ stage.Spelled b (Some (gear_of gs g).random) =
+          rw is (low_next b (Some x) (Byte (low_of (gear_of gs g).random)) ∙ ap (λ n. stage.Spelled b (Some n)) number) in
+          let less = spend (3 * (63 - a)) 1 0 (wake_frames start gs) left v.frames (omega arith) in (
+            less.0,
+            less.1,
+            rw there (sweeps_on a (stage.MiddleAsked b (Some x)) (stage.Spelled b (Some (gear_of gs g).random)) k marks
+                (if (gear_of gs g).random == MASK24 then with_short marks b else without_short marks b) asked 0 from start gs _ left less.0 v same
+                (v.stage_is.0, tells g holds, refl)
+                (λ e. told_clear a b (gear_of gs g).random k marks gs g v.stage_is.0 v.small (v.settled e) told one holds refl (v.clear e)) less.2),
+          )
+
+sweeps_sent : (a : ℕ) (s : Stage) (k : Kept) (marks : Shorts) (asked from : ℕ) (n : SearchAddress) (start : Begun) (gs : List Gear) (numbers : List ℕ)
+    (left : ℕ)
+    (c : Command) (h : Answer) → Sweeps a s k marks asked from start gs left → Sends (Asking a) n k s c → OneShort gs → IsTold k gs
+    → h ≡ heard_of (answers_of Everyone c 0 gs) → SweptTo a s k marks asked from start gs numbers left c h
+sweeps_sent a stage.Free k marks asked from n start gs numbers left c h v is one told heard =
+    subst (λ d. h ≡ heard_of (answers_of Everyone d 0 gs) → SweptTo a stage.Free k marks asked from start gs numbers left d h) (sym is)
+    (first_asked a k marks asked from start gs numbers left h v (one_gear gs one)) heard
+sweeps_sent a (stage.HighAsked b (Some u)) k marks asked from n start gs numbers left c h v is one told heard =
+    subst (λ d. h ≡ heard_of (answers_of Everyone d 0 gs) → SweptTo a (stage.HighAsked b (Some u)) k marks asked from start gs numbers left d h)
+    (some_is (RandomByte b Middle) c is)
+    (second_asked a b u k marks asked from start gs numbers left h v (one_gear gs one)) heard
+sweeps_sent a (stage.HighAsked b None) k marks asked from n start gs numbers left c h v is one told heard = absurd (cc)
+sweeps_sent a (stage.MiddleAsked b (Some x)) k marks asked from n start gs numbers left c h v is one told heard =
+    subst (λ d. h ≡ heard_of (answers_of Everyone d 0 gs) → SweptTo a (stage.MiddleAsked b (Some x)) k marks asked from start gs numbers left d h)
+    (some_is (RandomByte b Low) c is)
+    (third_asked a b x k marks asked from start gs numbers left h v one told) heard
+sweeps_sent a (stage.Spelled b (Some m)) k marks asked from n start gs numbers left c h v is one told heard = absurd (cc)
+sweeps_sent a _ k marks asked from n start gs numbers left c h v is one told heard = absurd v.stage_is
+
+-- ---------------------------------------------------------------- the wake
+
+abbrev WokenTo : Stage → Kept → Shorts → Bool → Begun → List Gear → List ℕ → ℕ → Command → Answer → Type 0
+WokenTo s k marks opened start gs numbers left c h =
+    (l : ℕ) × (left ≡ suc l)
+    × Wakes (next_stage s c h) k marks (woken_after (next_stage s c h) Waking (opened_after (next_stage s c h) opened)) start
+    (row_after Everyone c 0 gs numbers) l
+
+wake_less : (start : Begun) (c : Command) (gs : List Gear) (numbers : List ℕ) (left sent : ℕ) → LeavesShort c → wake_frames start gs ≤ left + sent → sent < 3
+    → (l : ℕ) × (left ≡ suc l) × (wake_frames start (row_after Everyone c 0 gs numbers) ≤ l + (sent + 1))
+wake_less start c gs numbers left sent leaves enough small =
+    let less = one_less (wake_frames start gs) left sent enough (omega (arith, small)) in
+    (less.0, less.1, subst (λ n. 111 * n + 17 + spare start.any ≤ less.0 + (sent + 1)) (sym (leaving.count_bare_after c gs numbers leaves)) less.2)
+
+wakes_sent : (s : Stage) (k : Kept) (marks : Shorts) (opened : Bool) (n : SearchAddress) (start : Begun) (gs : List Gear) (numbers : List ℕ) (left : ℕ)
+    (c : Command)
+    (h : Answer)
+    → Wakes s k marks opened start gs left → Sends Waking n k s c → WokenTo s k marks opened start gs numbers left c h
+wakes_sent stage.Free k marks opened n start gs numbers left c h v is =
+    subst (λ d. WokenTo stage.Free k marks opened start gs numbers left d h) (sym is) go where
+      go : WokenTo stage.Free k marks opened start gs numbers left Terminate h
+      go =
+          let less = wake_less start Terminate gs numbers left 0 tt v.frames (omega arith) in (
+            less.0,
+            less.1,
+            record {
+              stage_is = v.stage_is;
+              settled = v.settled;
+              clear = v.clear;
+              gear = opening.opening_terminated gs numbers;
+              tabled = tabled_left (unseen start.gear) k.enrolled gs numbers Terminate tt v.tabled;
+              frames = less.2;
+            },
+          )
+wakes_sent stage.Terminated k marks opened n start gs numbers left c h v is =
+    subst (λ d. WokenTo stage.Terminated k marks opened start gs numbers left d h) (some_is (Initialise Unaddressed) c is) go where
+      go : WokenTo stage.Terminated k marks opened start gs numbers left (Initialise Unaddressed) h
+      go =
+          let less = wake_less start (Initialise Unaddressed) gs numbers left 1 tt v.frames (omega arith) in (
+            less.0,
+            less.1,
+            record {
+              stage_is = v.stage_is;
+              settled = v.settled;
+              clear = v.clear;
+              gear = opening.opening_initialised_once gs numbers v.gear;
+              tabled = tabled_left (unseen start.gear) k.enrolled gs numbers (Initialise Unaddressed) tt v.tabled;
+              frames = less.2;
+            },
+          )
+wakes_sent stage.InitialisedOnce k marks opened n start gs numbers left c h v is =
+    subst (λ d. WokenTo stage.InitialisedOnce k marks opened start gs numbers left d h) (some_is (Initialise Unaddressed) c is) go where
+      go : WokenTo stage.InitialisedOnce k marks opened start gs numbers left (Initialise Unaddressed) h
+      go =
+          let less = wake_less start (Initialise Unaddressed) gs numbers left 2 tt v.frames (omega arith) in (
+            less.0,
+            less.1,
+            record {
+              stage_is = refl;
+              settled = v.settled;
+              clear = v.clear;
+              gear = opening.opening_initialised gs numbers v.gear;
+              tabled = tabled_left (unseen start.gear) k.enrolled gs numbers (Initialise Unaddressed) tt v.tabled;
+              frames = less.2;
+            },
+          )
+wakes_sent stage.Initialised k marks opened n start gs numbers left c h v is = absurd (cc)
+wakes_sent _ k marks opened n start gs numbers left c h v is = absurd v.stage_is
+
+-- ---------------------------------------------------------------- a search, or the opening
+
+probing_sought : (s : Stage) (k : Kept) (x : Search) (n : SearchAddress) (gs hs : List Gear) (left : ℕ) (c : Command) → Probes s x n hs left
+    → Sends Probing n k s c → Seeks s gs → IsSoughtBy gs c
+probing_sought stage.Free k x n gs hs left c p is seek = subst (IsSoughtBy gs) (sym is) tt
+probing_sought (stage.HighSent high) k x n gs hs left c p is seek = subst (IsSoughtBy gs) (some_is (SearchMiddle n.middle) c is) tt
+probing_sought (stage.MiddleSent high middle) k x n gs hs left c p is seek = subst (IsSoughtBy gs) (some_is (SearchLow n.low) c is) tt
+probing_sought (stage.NumberSent r) k x n gs hs left c p is seek =
+    subst (IsSoughtBy gs) (some_is Compare c is)
+    (r, seek r refl, subst (λ m. m < MASK24) (sym (ap value_of (sym p.searched ∙ p.number) ∙ value_sought x.probe)) p.searches.narrowing.probe_top)
+probing_sought (stage.Probed r g) k x n gs hs left c p is seek = absurd (cc)
+probing_sought _ k x n gs hs left c p is seek = absurd p.stage_is
+
+visited_below : (n r : SearchAddress) (number : ℕ) → n ≡ r → n ≡ sought number → number < MASK24 → value_of r < MASK24
+visited_below n r number same is small = subst (λ m. m < MASK24) (sym (ap value_of (sym same ∙ is) ∙ value_sought number)) small
+
+visiting_sought : (s : Stage) (k : Kept) (n : SearchAddress) (gs hs : List Gear) (left : ℕ) (c : Command) → VisitsAt s k n hs left
+    → Sends Visiting n k s c → Seeks s gs → IsSoughtBy gs c
+visiting_sought stage.Free k n gs hs left c v is seek = subst (IsSoughtBy gs) (sym is) tt
+visiting_sought (stage.HighSent high) k n gs hs left c v is seek = subst (IsSoughtBy gs) (some_is (SearchMiddle n.middle) c is) tt
+visiting_sought (stage.MiddleSent high middle) k n gs hs left c v is seek = subst (IsSoughtBy gs) (some_is (SearchLow n.low) c is) tt
+visiting_sought (stage.NumberSent r) k n gs hs left c v is seek =
+    subst (IsSoughtBy gs) (some_is QueryShort c is) (r, seek r refl, visited_below n r v.visited.number v.searched v.visited.number_is v.visited.drawn)
+visiting_sought (stage.Unnamed r) k n gs hs left c v is seek =
+    subst (IsSoughtBy gs) (sym is.3) (r, seek r refl, visited_below n r v.visited.number v.searched v.visited.number_is v.visited.drawn)
+visiting_sought (stage.Programmed r a) k n gs hs left c v is seek =
+    subst (IsSoughtBy gs) (some_is QueryShort c is) (r, seek r refl, visited_below n r v.visited.number (sym v.searched) v.visited.number_is v.visited.drawn)
+visiting_sought (stage.Confirmed r a) k n gs hs left c v is seek = subst (IsSoughtBy gs) (some_is Withdraw c is) tt
+visiting_sought (stage.Withdrawn r a) k n gs hs left c v is seek = absurd (cc)
+visiting_sought _ k n gs hs left c v is seek = absurd v.stage_is
+
+seeks_drawn : (s : Stage) (gs : List Gear) → Seeks s gs → Seeks s (those_drawn gs)
+seeks_drawn s gs seek r at = seek_drawn gs r (seek r at)
+
+-- what the gear that drew took, and answered
+drawn_one_none : (b d : Bool) (k : ℕ) (numbers : List ℕ) (more : List (ℕ × ℕ)) → d ≡ false → drawn_one (b && d) k numbers more ≡ more
+drawn_one_none true d k numbers more none = rw none refl
+drawn_one_none false d k numbers more none = refl
+
+none_drawn : (c : Command) (k : ℕ) (hs : List Gear) (numbers : List ℕ) (x : ℕ × ℕ) → IsSearching c → Has (drawn_of Everyone c k hs numbers) x → ⊥
+none_drawn c k [] numbers x is has = has
+none_drawn c k (g ∷ hs) numbers x is has =
+    none_drawn c (k + 1) hs (left_after (takes Everyone k g && draws_a_number c g) numbers) x is
+    (subst (λ ds. Has ds x) (drawn_one_none (takes Everyone k g) (draws_a_number c g) k numbers
+    (drawn_of Everyone c (k + 1) hs (left_after (takes Everyone k g && draws_a_number c g) numbers)) (no_draw c g is)) has)
+
+taken_drawn : (c : Command) (gs : List Gear) (numbers : List ℕ) (h : Answer) → IsSoughtBy gs c → IsSurveyTaken c gs numbers h
+    → IsTaken c (those_drawn gs) numbers h
+taken_drawn c gs numbers h by t = record {
+  heard = t.taken.heard ∙ sym (ap heard_of (answers_drawn c 0 gs (still_of gs c by)));
+  enough = rw (needs_none Everyone c 0 (those_drawn gs) (not_randomise c (searching_of gs c by))) (omega arith);
+  below = λ x has. absurd (none_drawn c 0 (those_drawn gs) numbers x (searching_of gs c by) has);
+  apart = t.apart;
+}
+
+-- of which transactions this is said
+abbrev pub IsHunt : Purpose → Type 0
+IsHunt Opening = Unit {0}
+IsHunt Probing = Unit {0}
+IsHunt Visiting = Unit {0}
+IsHunt _ = ⊥
+
+-- the frame is one of a search, on the way where it counts
+hunted_by : (p : Purpose) (s : Stage) (k : Kept) (x : Search) (n : SearchAddress) (gs : List Gear) (left : ℕ) (c : Command) → IsHunt p → IsOnWay p Surveying
+    → At p s k (opened_at p s) x n (those_drawn gs) left → Sends p n k s c → Seeks s gs → IsSoughtBy gs c
+hunted_by Opening s k x n gs left c hunt way at is seek = absurd (cc)
+hunted_by Probing s k x n gs left c hunt way at is seek = probing_sought s k x n gs (those_drawn gs) left c at.1 is seek
+hunted_by Visiting s k x n gs left c hunt way at is seek = visiting_sought s k n gs (those_drawn gs) left c at.1 is seek
+hunted_by _ s k x n gs left c hunt way at is seek = absurd hunt
+
+-- whether it is opened then
+opening_unopened : (n : SearchAddress) (k : Kept) (s : Stage) (c : Command) → Sends Opening n k s c → opened_after s false ≡ false
+opening_unopened n k stage.Opened c is = absurd (cc)
+opening_unopened n k _ c is = refl
+
+stays_opened : (s : Stage) → opened_after s true ≡ true
+stays_opened stage.Opened = refl
+stays_opened _ = refl
+
+opened_next : (p : Purpose) (n : SearchAddress) (k : Kept) (s t : Stage) (c : Command) → IsHunt p → Sends p n k s c
+    → opened_after t (opened_at p s) ≡ opened_at p t
+opened_next Opening n k s t c hunt is = ap (opened_after t) (opening_unopened n k s c is)
+opened_next Probing n k s t c hunt is = stays_opened t
+opened_next Visiting n k s t c hunt is = stays_opened t
+opened_next _ n k s t c hunt is = absurd hunt
+
+abbrev HuntedTo : Purpose → Way → Stage → Kept → Shorts → Bool → Search → SearchAddress → Begun → List Gear → List ℕ → ℕ → Command → Answer → Type 0
+HuntedTo p y s k heard opened x n start gs numbers left c h =
+    (l : ℕ) × (left ≡ suc l) × Hunts p y (next_stage s c h) k heard opened x n start (row_after Everyone c 0 gs numbers) l
+
+spend_one : (rest after left l : ℕ) → rest ≡ suc l → rest + after ≤ left → (m : ℕ) × (left ≡ suc m) × (l + after ≤ m)
+spend_one rest after zero l is enough = absurd (omega (arith, is, enough))
+spend_one rest after (suc m) l is enough = (m, refl, omega (arith, is, enough))
+
+hunts_sent : (p : Purpose) (y : Way) (s : Stage) (k : Kept) (heard : Shorts) (opened : Bool) (x : Search) (n : SearchAddress) (start : Begun) (gs : List Gear)
+    (numbers : List ℕ) (left : ℕ) (c : Command) (h : Answer) → IsHunt p → Hunts p y s k heard opened x n start gs left → Sends p n k s c
+    → IsSurveyTaken c gs numbers h → Seeks s gs → HuntedTo p y s k heard opened x n start gs numbers left c h
+hunts_sent p y s k heard opened x n start gs numbers left c h hunt v is t seek = go y v.way v.at v.tabled v.frames where
+  done : (y : Way) → IsOnWay p y → (l : ℕ) → v.rest ≡ suc l → At p (next_stage s c h) k (opened_at p (next_stage s c h)) x n
+      (searched_by y (row_after Everyone c 0 gs numbers)) l
+      → AreTabled (unseen start.gear) (to_come (next_stage s c h) n k.enrolled) (searched_by y (row_after Everyone c 0 gs numbers))
+      → v.rest + frames_after y start (row_after Everyone c 0 gs numbers) ≤ left → HuntedTo p y s k heard opened x n start gs numbers left c h
+  done y way l less at tabled enough =
+      let one = spend_one v.rest (frames_after y start (row_after Everyone c 0 gs numbers)) left l less enough in
+      (one.0, one.1, record { way = way; opened_is = v.opened_is; own = v.own; settled = v.settled; rest = l; at = at; tabled = tabled; frames = one.2 })
+
+  opens : (hs : List Gear) (l : ℕ) → At p (next_stage s c h) k (opened_after (next_stage s c h) (opened_at p s)) x n hs l
+      → At p (next_stage s c h) k (opened_at p (next_stage s c h)) x n hs l
+  opens hs l at = subst (λ o. At p (next_stage s c h) k o x n hs l) (opened_next p n k s (next_stage s c h) c hunt is) at
+
+  go : (y : Way) → IsOnWay p y → At p s k (opened_at p s) x n (searched_by y gs) v.rest
+      → AreTabled (unseen start.gear) (to_come s n k.enrolled) (searched_by y gs)
+      → v.rest + frames_after y start gs ≤ left → HuntedTo p y s k heard opened x n start gs numbers left c h
+  go Fresh way at tabled enough = absurd (never_fresh p hunt way) where
+    never_fresh : (p : Purpose) → IsHunt p → IsOnWay p Fresh → ⊥
+    never_fresh Opening hunt way = cc
+    never_fresh Probing hunt way = way refl
+    never_fresh Visiting hunt way = way refl
+    never_fresh _ hunt way = hunt
+  go Drawing way at tabled enough =
+      let sent : IsSentTo p s k (opened_at p s) x n gs numbers v.rest c h =
+      at_sent p s k (opened_at p s) x n gs numbers v.rest c h at is t.taken seek in
+      done Drawing way sent.0 sent.1 (opens (row_after Everyone c 0 gs numbers) sent.0 sent.2)
+      (at_tabled (unseen start.gear) p s k (opened_at p s) _ x n gs numbers v.rest sent.0 c h at is seek sent.2 tabled)
+      enough
+  go Surveying way at tabled enough =
+      let by : IsSoughtBy gs c = hunted_by p s k x n gs v.rest c hunt way at is seek in
+      let sent : IsSentTo p s k (opened_at p s) x n (those_drawn gs) numbers v.rest c h =
+      at_sent p s k (opened_at p s) x n (those_drawn gs) numbers v.rest c h at is (taken_drawn c gs numbers h by t) (seeks_drawn s gs seek) in
+      let row : row_after Everyone c 0 (those_drawn gs) numbers ≡ those_drawn (row_after Everyone c 0 gs numbers) =
+      row_drawn c 0 gs numbers (searching_of gs c by) (still_of gs c by) in
+      let names : IsTabledTo (unseen start.gear) s n k.enrolled (those_drawn gs) numbers c h =
+      at_tabled (unseen start.gear) p s k (opened_at p s) _ x n (those_drawn gs) numbers v.rest sent.0 c h at is (seeks_drawn s gs seek) sent.2 tabled in
+      done Surveying way sent.0 sent.1 (opens (those_drawn (row_after Everyone c 0 gs numbers)) sent.0
+      (subst (λ hs. At p (next_stage s c h) k (opened_after (next_stage s c h) (opened_at p s)) x n hs sent.0) row sent.2))
+      (subst (λ hs. AreTabled (unseen start.gear) (to_come (next_stage s c h) n k.enrolled) hs) row names)
+      (subst (λ m. v.rest + (111 * m + 9 + spare start.any) ≤ left) (sym (lost_same c gs numbers (searching_of gs c by) (still_of gs c by))) enough)
+
+-- ---------------------------------------------------------------- the close
+
+abbrev SameName : Gear → Gear → Type 0
+SameName g h = (h.powered ≡ g.powered) × (h.short ≡ g.short) × (h.random ≡ g.random)
+
+name_kept : (gs : List Gear) (numbers : List ℕ) (k : ℕ) → k < length gs → SameName (gear_of gs k) (gear_of (row_after Everyone Terminate 0 gs numbers) k)
+name_kept gs numbers = after_at Terminate SameName (λ g off. (refl, refl, refl)) (λ g x on. (refl, refl, refl)) gs numbers
+
+ends_still : (any : Bool) (e : End) (k : Kept) (heard : Shorts) (gs : List Gear) (numbers : List ℕ) → SurveyEnds any e k heard gs
+    → SurveyEnds any e k heard (row_after Everyone Terminate 0 gs numbers)
+ends_still any AllFound k heard gs numbers (inl all) = inl (λ i in_row on.
+    let there : i < length gs = subst (λ m. i < m) (row_length Everyone Terminate 0 gs numbers) in_row in
+    let same = name_kept gs numbers i there in
+    let short = all i there (sym same.0 ∙ on) in
+    (short.0, same.1 ∙ short.1))
+ends_still any AllFound k heard gs numbers (inr both) = inr (
+  both.0,
+  λ i in_row on none.
+      let there : i < length gs = subst (λ m. i < m) (row_length Everyone Terminate 0 gs numbers) in_row in
+      let same = name_kept gs numbers i there in
+      same.2 ∙ both.1 i there (sym same.0 ∙ on) (sym same.1 ∙ none),
+)
+ends_still any BlockFull k heard gs numbers well = well
+ends_still any GaveUp k heard gs numbers well = well
+
+abbrev ClosedTo : End → Stage → Kept → Shorts → Begun → List Gear → List ℕ → ℕ → Command → Answer → Type 0
+ClosedTo e s k heard start gs numbers left c h =
+    (l : ℕ) × (left ≡ suc l) × SurveyCloses e (next_stage s c h) k heard start (row_after Everyone c 0 gs numbers) l
+
+closes_sent : (e : End) (s : Stage) (k : Kept) (heard : Shorts) (n : SearchAddress) (start : Begun) (gs : List Gear) (numbers : List ℕ) (left : ℕ) (c : Command)
+    (h : Answer)
+    → SurveyCloses e s k heard start gs left → Sends (Closing e) n k s c → ClosedTo e s k heard start gs numbers left c h
+closes_sent e stage.Free k heard n start gs numbers left c h v is =
+    subst (λ d. ClosedTo e stage.Free k heard start gs numbers left d h) (sym is) go where
+      go : ClosedTo e stage.Free k heard start gs numbers left Terminate h
+      go =
+          let less = one_less 1 left 0 v.frames (omega arith) in (
+            less.0,
+            less.1,
+            record {
+              stage_is = tt;
+              well = ends_still start.any e k heard gs numbers v.well;
+              settled = v.settled;
+              tabled = tabled_left (unseen start.gear) k.enrolled gs numbers Terminate tt v.tabled;
+              frames = less.2;
+            },
+          )
+closes_sent e stage.Terminated k heard n start gs numbers left c h v is = absurd (cc)
+closes_sent e _ k heard n start gs numbers left c h v is = absurd v.stage_is
+
+-- ---------------------------------------------------------------- of whatever transaction
+
+asked_unopened : (s : Stage) (a asked : ℕ) (gs : List Gear) → AskStage s a asked gs → opened_after s false ≡ false
+asked_unopened stage.Opened a asked gs at = absurd at
+asked_unopened _ a asked gs at = refl
+
+abbrev pub SurveySent : Purpose → Way → Stage → Kept → Shorts → Bool → ℕ → Search → SearchAddress → ℕ → Begun → List Gear → List ℕ → ℕ → Command
+    → Answer → Type 0
+SurveySent p y s k heard opened asked x n from start gs numbers left c h =
+    (l : ℕ) × (left ≡ suc l)
+    × SurveyAt p y (next_stage s c h) k (heard_after p (next_stage s c h) h heard)
+    (woken_after (next_stage s c h) p (opened_after (next_stage s c h) opened)) (asked_after p (next_stage s c h) h asked) x n from start
+    (row_after Everyone c 0 gs numbers) l
+
+-- nothing is woken by it, and what was opened stays so
+opened_on : (p : Purpose) (t : Stage) (opened : Bool) → (p ≡ Waking → ⊥) → opened ≡ true → woken_after t p (opened_after t opened) ≡ true
+opened_on p t opened other is = not_woken t p (opened_after t opened) other ∙ ap (opened_after t) is ∙ stays_opened t
+
+hunts_as : (p : Purpose) (y : Way) (t : Stage) (k : Kept) (heard : Shorts) (opened now : Bool) (x : Search) (n : SearchAddress) (start : Begun) (gs : List Gear)
+    (left : ℕ)
+    → now ≡ true → Hunts p y t k heard opened x n start gs left → Hunts p y t k heard now x n start gs left
+hunts_as p y t k heard opened now x n start gs left is v =
+    record { way = v.way; opened_is = is; own = v.own; settled = v.settled; rest = v.rest; at = v.at; tabled = v.tabled; frames = v.frames }
+
+pub survey_sent : (p : Purpose) (y : Way) (s : Stage) (k : Kept) (heard : Shorts) (opened : Bool) (asked : ℕ) (x : Search) (n : SearchAddress) (from : ℕ)
+    (start : Begun) (gs : List Gear) (numbers : List ℕ) (left : ℕ) (c : Command) (h : Answer) → SurveyAt p y s k heard opened asked x n from start gs left
+    → Sends p n k s c → IsSurveyTaken c gs numbers h → IsTold k gs → Seeks s gs → SurveySent p y s k heard opened asked x n from start gs numbers left c h
+survey_sent (Asking a) y s k heard opened asked x n from start gs numbers left c h at is t told seek =
+    let sent = sweeps_sent a s k heard asked from n start gs numbers left c h at.2 is t.one told t.taken.heard in
+    let unwoken : woken_after (next_stage s c h) (Asking a) (opened_after (next_stage s c h) opened) ≡ false =
+    not_woken (next_stage s c h) (Asking a) (opened_after (next_stage s c h) opened) (λ e. cc)
+    ∙ ap (opened_after (next_stage s c h)) at.1 ∙ asked_unopened (next_stage s c h) a _ (row_after Everyone c 0 gs numbers) sent.2.stage_is in
+    (sent.0, sent.1, (at.0, unwoken, sent.2))
+survey_sent Waking y s k heard opened asked x n from start gs numbers left c h at is t told seek =
+    let sent = wakes_sent s k heard opened n start gs numbers left c h at.2 is in (sent.0, sent.1, (at.0, at.1, sent.2))
+survey_sent Opening y s k heard opened asked x n from start gs numbers left c h at is t told seek =
+    let sent = hunts_sent Opening y s k heard opened x n start gs numbers left c h tt at is t seek in (
+      sent.0,
+      sent.1,
+      hunts_as Opening y (next_stage s c h) k heard opened _ x n start _ sent.0
+          (opened_on Opening (next_stage s c h) opened (λ e. cc) at.opened_is) sent.2,
+    )
+survey_sent Probing y s k heard opened asked x n from start gs numbers left c h at is t told seek =
+    let sent = hunts_sent Probing y s k heard opened x n start gs numbers left c h tt at is t seek in (
+      sent.0,
+      sent.1,
+      hunts_as Probing y (next_stage s c h) k heard opened _ x n start _ sent.0
+          (opened_on Probing (next_stage s c h) opened (λ e. cc) at.opened_is) sent.2,
+    )
+survey_sent Visiting y s k heard opened asked x n from start gs numbers left c h at is t told seek =
+    let sent = hunts_sent Visiting y s k heard opened x n start gs numbers left c h tt at is t seek in (
+      sent.0,
+      sent.1,
+      hunts_as Visiting y (next_stage s c h) k heard opened _ x n start _ sent.0
+          (opened_on Visiting (next_stage s c h) opened (λ e. cc) at.opened_is) sent.2,
+    )
+survey_sent (Closing e) y s k heard opened asked x n from start gs numbers left c h at is t told seek =
+    let sent = closes_sent e s k heard n start gs numbers left c h at is in (sent.0, sent.1, sent.2)
+survey_sent (Resolving a) y s k heard opened asked x n from start gs numbers left c h at is t told seek = absurd at
