@@ -1,6 +1,6 @@
 //! Whether a state is that of a machine between two inputs, with its records.
 
-ghost use Rattle.std.specs.Prelude.{◌≡◌, ◌↔◌, ◌<◌, ◌⊎◌, IsTrue};
+ghost use Rattle.std.specs.Prelude.{◌≡◌, ◌↔◌, ◌<◌, ◌⊎◌, Some, IsTrue};
 ghost use Rattle.dali_special.specs.Command.{command_of};
 ghost use Rattle.dali_script.specs.Records.{Fits, MayAdd, Has, HasRandom};
 ghost use Rattle.dali_script.specs.Stages.{stage_of};
@@ -20,6 +20,7 @@ use dali_special::Command;
 
 impl State {
     ghost use Rattle.dali_controller.specs.Parts.{machine_with};
+    ghost use Rattle.dali_controller.specs.Course.{turn_of};
     ghost use Rattle.dali_controller.specs.Whole.{IsWhole, IsReady, Knows, Sends, IsChosen};
 
     /// Whether the last order is one that a machine gives in this state.
@@ -132,10 +133,18 @@ impl State {
             Stage::Unnamed(number) => {
                 matches!(self.purpose, Purpose::Visiting) && number == self.number
             }
-            _ => {
-                self.purpose.turn(self.number, stage) == Some(command)
-                    && is_met(stage, self.purpose, self.number)
-            }
+            _ => self.turns(stage, command),
+        }
+    }
+
+    /// Whether the transaction sends this command at a stage past the first, but PROGRAM SHORT ADDRESS.
+    fn turns(&self, stage: &Stage, command: Command) -> bool
+        ensures { IsTrue result ↔ ((turn_of self.now.purpose self.now.number stage.now ≡ Some command)
+            × IsMet stage.now self.now.purpose self.now.number) }
+    {
+        match self.purpose.turn(self.number, stage) {
+            Some(turn) => turn == command && is_met(stage, self.purpose, self.number),
+            None => false,
         }
     }
 }
