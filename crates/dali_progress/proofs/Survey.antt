@@ -11,3 +11,4 @@ pub mod Goes
 pub mod Bounded
 pub mod Again
 pub mod Quiet
+pub mod Running

@@ -17,6 +17,7 @@ use Rattle.dali_script.specs.declared.orders.Due.TheVariants as due
 use Rattle.dali_script.specs.Due.{due_after, accepts}
 use Rattle.dali_controller.specs.Machine.{Machine, at_first, machine_told}
 use Rattle.dali_controller.specs.Orders.{IsGiven, machine_after}
+use Rattle.dali_controller.specs.Whole.{IsWhole}
 use Rattle.dali_standing.specs.declared.seat.Place.{Place}
 use Rattle.dali_standing.specs.declared.seat.Place.TheVariants.{Up, Down}
 use Rattle.dali_events.specs.declared.used.Used.{Used}
@@ -159,6 +160,11 @@ ReservesUsed us (Halt f) = ⊥
 
 abbrev pub MayReserveUsed : List Used → Option Machine → Input → Type 0
 MayReserveUsed us m i = (o : Order) × MayAnswer m i o × ReservesUsed us o
+
+-- and its machine, if there is one, is whole afterwards
+abbrev pub LeavesWhole : Option Machine → Input → Order → Type 0
+LeavesWhole None i o = ⊥
+LeavesWhole (Some m) i o = IsWhole (machine_after m i o)
 
 -- the frames of the machine's running transaction
 abbrev pub trace_of : Option Machine → List Entry
