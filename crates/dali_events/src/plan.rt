@@ -245,12 +245,8 @@ impl Model for Plan {
 
     ghost view = { λ p. record { gear = p.gear; blocks = p.blocks.items; draws = p.draws.items; used = p.used.items } };
 
-    ghost invariant = { λ p. IsPlan (record {
-      gear = p.gear;
-      blocks = p.blocks.items;
-      draws = p.draws.items;
-      used = p.used.items;
-    }) × (1 ≤ p.gear) × (p.gear ≤ 128) × (1 ≤ length p.blocks.items) × (length p.blocks.items ≤ 4)
+    ghost invariant = { λ p. IsPlan (record { gear = p.gear; blocks = p.blocks.items; draws = p.draws.items;
+        used = p.used.items }) × (1 ≤ p.gear) × (p.gear ≤ 128) × (1 ≤ length p.blocks.items) × (length p.blocks.items ≤ 4)
         × (length p.draws.items ≤ 1024) };
 }
 
