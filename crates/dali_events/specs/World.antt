@@ -67,9 +67,9 @@ gear_changed gs g change = slice_set gs g (change (slice_index_or gs g fresh))
 abbrev pub controllers_changed : List Controller → ℕ → (Controller → Controller) → List Controller
 controllers_changed cs c change = slice_set cs c (change (slice_index_or cs c nobody))
 
--- THE START: all gear from the factory, but for used ones; all controllers up with empty records and
--- told to start, nothing sent or drawn. `capacity` is how many requests may wait. The numbers of used
--- gear were drawn and their addresses given before.
+-- THE START: all gear from the factory, but for used ones; all controllers up with empty records
+-- and told to start, nothing sent or drawn. `capacity` is how many requests may wait. The numbers
+-- of used gear were drawn and their addresses given before.
 abbrev pub controller_begun : Block → Controller
 controller_begun b = record {
   up = true;

@@ -112,9 +112,11 @@ pub fn every_run_is_safe()
 /// their own keep both, at each moment of every run. All else that is said of a run is said of them too.
 ///
 /// A run has a premise for them: no controller reserves a short address that used gear have. A machine that surveys
-/// reserves no address under which it heard somebody (`dali_progress::laws::nothing_is_given_where_somebody_was_heard`).
-/// What it cannot hear is a gear without power. Where all gear come from the factory each event meets the premise
-/// (`factory`), and the site begins with gear that have nothing and were given nothing (`start`).
+/// reserves no address under which it heard somebody
+/// (`dali_progress::laws::nothing_is_given_where_somebody_was_heard`). What it cannot hear is a gear without power.
+///
+/// Where all gear come from the factory each event meets the premise (`factory`), and the site begins with gear that
+/// have nothing and were given nothing (`start`).
 pub fn used_gear_keep_their_addresses()
     ensures kept { (p : Plan) (capacity : ℕ) (front rest : List Event) (u : Used) → IsRun p capacity (front ++ rest)
         → Has p.used u → HoldsShort (after p capacity front) u.gear u.short

@@ -243,10 +243,19 @@ impl Model for Plan {
 
     ghost Value = { Plan };
 
-    ghost view = { λ p. record { gear = p.gear; blocks = p.blocks.items; draws = p.draws.items; used = p.used.items } };
+    ghost view = { λ p. record {
+      gear = p.gear;
+      blocks = p.blocks.items;
+      draws = p.draws.items;
+      used = p.used.items;
+    } };
 
-    ghost invariant = { λ p. IsPlan (record { gear = p.gear; blocks = p.blocks.items; draws = p.draws.items;
-        used = p.used.items }) × (1 ≤ p.gear) × (p.gear ≤ 128) × (1 ≤ length p.blocks.items) × (length p.blocks.items ≤ 4)
+    ghost invariant = { λ p. IsPlan (record {
+      gear = p.gear;
+      blocks = p.blocks.items;
+      draws = p.draws.items;
+      used = p.used.items;
+    }) × (1 ≤ p.gear) × (p.gear ≤ 128) × (1 ≤ length p.blocks.items) × (length p.blocks.items ≤ 4)
         × (length p.draws.items ≤ 1024) };
 }
 
@@ -280,8 +289,8 @@ impl Plan {
         })
     }
 
-    /// The plan with these used gear, in place of those that it had. The first cause of a refusal is answered; a refusal
-    /// drops the plan.
+    /// The plan with these used gear, in place of those that it had. The first cause of a refusal is answered; a
+    /// refusal drops the plan.
     pub fn with_used(self, alloc: Global, used: &[Used]) -> Result<Plan, PlanError>
         ensures ok { IfOk result (λ plan. (used_refusal_of self used.now ≡ None) × (plan ≡ plan_with self used.now)) }
         ensures refused { IfErr result (IsUsedRefusal self used.now) }

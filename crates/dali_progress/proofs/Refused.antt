@@ -38,7 +38,7 @@ use Rattle.dali_progress.specs.Running.{HasCommissioned, WasRefused}
 use Rattle.dali_progress.proofs.Lone.{Moment}
 use Rattle.dali_progress.proofs.Bounded.{RunsAll, few_events, nothing_waits, heard_free, runs_after, begins_alone}
 use Rattle.dali_progress.proofs.Numbers.{never_spent}
-use Rattle.dali_progress.proofs.Running.{Comes, comes_both, turn, turns_of, all_played, one_more, run_ends}
+use Rattle.dali_progress.proofs.Running.{Comes, comes_both, turn, turns_of, all_played, one_more, run_ends, plan_after}
 
 -- WHAT MAY BE REFUSED in a run of rounds on an installation with one controller.
 
@@ -215,11 +215,8 @@ queue_after : (s : SiteState) (es : List Event) → (site_after s es).queue ≡ 
 queue_after s [] = refl
 queue_after s (e ∷ es) = queue_after (site_logged s e) es
 
-plan_after : (s : SiteState) (es : List Event) → (site_after s es).plan ≡ s.plan
-plan_after s [] = refl
-plan_after s (e ∷ es) = plan_after (site_logged s e) es
-
-well_after : (s t : SiteState) (k f : ℕ) → StartsAlone s 0 → s.plan.used ≡ [] → 0 < s.queue → length s.log + 333 * count_by is_bare (world s).gear + 31 < s.room → Comes s t k f
+well_after : (s t : SiteState) (k f : ℕ) → StartsAlone s 0 → s.plan.used ≡ [] → 0 < s.queue → length s.log + 333 * count_by is_bare (world s).gear + 31 < s.room
+    → Comes s t k f
     → IsWell t
 well_after s t k f alone none waits fits comes = subst IsWell (sym comes.is) (record {
   up = all.runs.goes.lone.up.up;
@@ -296,7 +293,8 @@ pub new_runs : (limit : ℕ) (p : Plan) (b : Block) (sent : ℕ) (text : List �
     → 333 * p.gear + 31 < limit → Ran limit (installation_of p) sent text m
     → HasCommissioned (installation_of p).site m.site 0 ⊎ IsPumpRefused m.site trouble.None refusal.DrawsSpent
 new_runs limit p b sent text m plan none blocks few enough ran =
-    run_with_room limit (installation_of p) sent text m (begins_alone p 64 65536 b plan blocks) none (ap length blocks) (bare_enough p limit enough) (omega arith)
+    run_with_room limit (installation_of p) sent text m (begins_alone p 64 65536 b plan blocks) none (ap length blocks) (bare_enough p limit enough)
+    (omega arith)
     (bare_fits p few) ran
 
 -- A RUN WITH ROOM AND NUMBERS COMMISSIONS
@@ -312,10 +310,12 @@ run_commissions limit n sent text m alone none one enough waits fits numbers ran
       absurd (never_spent n.site 0 out.comes.events alone numbers out.comes.rounds
       (subst (λ s. IsPumpRefused s trouble.None refusal.DrawsSpent) out.comes.is out.spent))
 
-pub new_commissions : (limit : ℕ) (p : Plan) (b : Block) (sent : ℕ) (text : List ℕ) (m : Installation) → IsPlan p → p.used ≡ [] → p.blocks ≡ b ∷ [] → p.gear ≤ 128
+pub new_commissions : (limit : ℕ) (p : Plan) (b : Block) (sent : ℕ) (text : List ℕ) (m : Installation) → IsPlan p → p.used ≡ [] → p.blocks ≡ b ∷ []
+    → p.gear ≤ 128
     → p.gear ≤ length p.draws → 333 * p.gear + 31 < limit
     → Ran limit (installation_of p) sent text m → HasCommissioned (installation_of p).site m.site 0
 new_commissions limit p b sent text m plan none blocks few numbers enough ran =
-    run_commissions limit (installation_of p) sent text m (begins_alone p 64 65536 b plan blocks) none (ap length blocks) (bare_enough p limit enough) (omega arith)
+    run_commissions limit (installation_of p) sent text m (begins_alone p 64 65536 b plan blocks) none (ap length blocks) (bare_enough p limit enough)
+    (omega arith)
     (bare_fits p few)
     (subst (λ x. x ≤ length p.draws) (sym (start_count p)) numbers) ran

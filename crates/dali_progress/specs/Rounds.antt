@@ -39,7 +39,8 @@ pub record StartsAlone (s : SiteState) (c : ℕ) : Type 0 where
 
 -- WHAT A ROUND DOES, where nothing is disturbed and no other controller acts: the controller acts
 -- on what is due for it, but surveys nothing, and reserves no address that used gear have, and a
--- commit that is due succeeds; or the request that is next is sent, every gear with power takes it, and what they answer is heard.
+-- commit that is due succeeds; or the request that is next is sent, every gear with power takes it,
+-- and what they answer is heard.
 abbrev pub Succeeds : Input → Type 0
 Succeeds input.CommitFailed = ⊥
 Succeeds input.Start = Unit {0}

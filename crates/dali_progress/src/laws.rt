@@ -106,7 +106,8 @@ pub fn a_run_ends()
 /// numbers than are left. A new installation has that room.
 pub fn a_run_with_room_ends()
     ensures room { (limit : ℕ) (n : Installation) (sent : ℕ) (text : List ℕ) (m : Installation) → StartsAlone n.site 0
-        → n.site.plan.used ≡ [] → controllers n ≡ 1 → 333 * count_by is_bare (world n.site).gear + 31 < limit → 0 < n.site.queue
+        → n.site.plan.used ≡ [] → controllers n ≡ 1
+        → 333 * count_by is_bare (world n.site).gear + 31 < limit → 0 < n.site.queue
         → length n.site.log + 333 * count_by is_bare (world n.site).gear + 31 < n.site.room → Ran limit n sent text m
         → HasCommissioned n.site m.site 0 ⊎ IsPumpRefused m.site trouble.None refusal.DrawsSpent }
     ensures fresh { (limit : ℕ) (p : Plan) (b : Block) (sent : ℕ) (text : List ℕ) (m : Installation) → IsPlan p
@@ -120,7 +121,8 @@ pub fn a_run_with_room_ends()
 /// controller and with no fewer numbers than gear.
 pub fn a_run_commissions()
     ensures alone { (limit : ℕ) (n : Installation) (sent : ℕ) (text : List ℕ) (m : Installation) → StartsAlone n.site 0
-        → n.site.plan.used ≡ [] → controllers n ≡ 1 → 333 * count_by is_bare (world n.site).gear + 31 < limit → 0 < n.site.queue
+        → n.site.plan.used ≡ [] → controllers n ≡ 1
+        → 333 * count_by is_bare (world n.site).gear + 31 < limit → 0 < n.site.queue
         → length n.site.log + 333 * count_by is_bare (world n.site).gear + 31 < n.site.room
         → length (world n.site).gear ≤ length (world n.site).left → Ran limit n sent text m
         → HasCommissioned n.site m.site 0 }
@@ -274,8 +276,8 @@ pub fn who_tells_its_number_is_enrolled()
 
 /// USED GEAR THAT WERE HEARD ARE LEFT ALONE. Of a site some of whose gear come with short addresses, all different:
 /// where each reservation was ordered by a machine that surveyed, and that heard somebody under each of these
-/// addresses, no order reserves one of them, and the promise holds. So such a machine is never refused its order because
-/// an address is in use.
+/// addresses, no order reserves one of them, and the promise holds. So such a machine is never refused its order
+/// because an address is in use.
 ///
 /// A gear without power is not heard, and one whose address nobody asks is not either: two short histories of
 /// `dali_events` show what then becomes of the promise.

@@ -1,7 +1,7 @@
 //! A run from the bytes of a script to the bytes of its reports.
 
-ghost use Rattle.std.specs.Prelude.{◌≡◌, ℕ, ◌+◌, ◌<◌, ◌≤◌, ◌⊎◌, List, [], ◌∷◌, ◌++◌, length, Some, Ok, Err, IfOk, IfErr};
-ghost use Rattle.std.specs.Prelude.{IfSome, IsErrOf, IsErrAnd};
+ghost use Rattle.std.specs.Prelude.{◌≡◌, ℕ, ◌+◌, ◌<◌, ◌≤◌, ◌⊎◌, List, [], ◌∷◌, ◌++◌, length, Some, Ok, Err};
+ghost use Rattle.std.specs.Prelude.{IfOk, IfErr, IfSome, IsErrOf, IsErrAnd};
 ghost use Rattle.std.specs.Io.KnownBytes.{Consumes};
 ghost use Rattle.dali_replay.specs.Lines.{lines_of, numbered_after};
 ghost use Rattle.dali_replay.specs.Replay.{PlansNot, Plays, PlaysSite, Replays, Tells, played, planned, setting_of};

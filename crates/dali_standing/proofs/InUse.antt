@@ -88,7 +88,8 @@ surveyed_alone t n a r o one two = go (address_for t.kept.reserved (value_of n))
   go None (Some b) is same = same ∙ sym is
   go None None is isnt = absurd (cc)
 
-way_alone : (w : Way) (t : Machine) (c d : Course) (n : SearchAddress) (a r : ℕ) (o : Order) → AfterMaskOn w t c n (Commit (Reserve a r)) → AfterMaskOn w t d n o
+way_alone : (w : Way) (t : Machine) (c d : Course) (n : SearchAddress) (a r : ℕ) (o : Order) → AfterMaskOn w t c n (Commit (Reserve a r))
+    → AfterMaskOn w t d n o
     → o ≡ Commit (Reserve a r)
 way_alone Fresh t c d n a r o one two = mask_alone t c d n a r o one two
 way_alone Surveying t c d n a r o one two = surveyed_alone t n a r o one two

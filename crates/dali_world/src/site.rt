@@ -103,8 +103,8 @@ impl SiteState {
     /// that it orders fits the block that the plan gives to the controller.
     ///
     /// Refusals, in this order: 1 UnknownController, 2 ControllerDown, 3 NotDue, 7 QueueFull (whatever it would order),
-    /// 8 LogFull, 10 AddressInUse: it would order to reserve a short address that used gear have. A machine that surveys
-    /// reserves no address under which it heard somebody.
+    /// 8 LogFull, 10 AddressInUse: it would order to reserve a short address that used gear have. A machine that
+    /// surveys reserves no address under which it heard somebody.
     #[tactic(auto, unfolding(crate::specs::Site::Acts))]
     pub fn act(&mut self, c: u8, input: Input) -> Result<Receipt, Refusal>
         ensures sound { IsSound self.old }

@@ -1,4 +1,5 @@
-use Rattle.std.proofs.Common.{◌≡◌, ℕ, ◌<◌, ◌⊎◌, inl, inr, Bool, true, false, List, [], ◌∷◌, ◌++◌, refl, sym, ap, subst, length, map, append_assoc, get_or, replicate, None}
+use Rattle.std.proofs.Common.{◌≡◌, ℕ, ◌<◌, ◌⊎◌, inl, inr, Bool, true, false, List, [], ◌∷◌, ◌++◌, refl, sym, ap, subst, length, map, append_assoc, get_or}
+use Rattle.std.proofs.Common.{replicate, None}
 use Rattle.std.proofs.lemmas.List.{map-append}
 use Rattle.std.specs.Prelude.{if◌then◌else◌}
 use Rattle.dali_frame.specs.Random.{MASK24}
@@ -90,7 +91,8 @@ pub draws_all : (p : Plan) (w : World) (es : List Event) → Draws (numbers_of p
 draws_all p w [] d = d
 draws_all p w (e ∷ es) d = draws_all p (happens w e) es (draws_step p w e d)
 
-pub draws_after : (p : Plan) (capacity : ℕ) (es : List Event) → Draws (numbers_of p) (after p capacity es).gear (after p capacity es).drawn (after p capacity es).left
+pub draws_after : (p : Plan) (capacity : ℕ) (es : List Event)
+    → Draws (numbers_of p) (after p capacity es).gear (after p capacity es).drawn (after p capacity es).left
 draws_after p capacity es = draws_all p (start p capacity) es (draws_start p capacity)
 
 -- no number of a plan is FFFFFF

@@ -109,7 +109,8 @@ names_stay us w v ch drawn keeps x n =
 found_of : (p : Plan) (w : World) (e : Event) (M : Assignment → Type 0) → Allowed w e → Holds p w → ((x : Assignment) → Names w x → M x)
     → FoundBy M w e
 found_of p w (event.Sent c f h) M here k more =
-    λ x e. more (assigned x) (found_names (IsOwned p.used w.controllers) w c f h here k.known k.gifts (tells_if (owns w.bus.owner c) w.trace w.gear k.tells) x e)
+    λ x e. more (assigned x) (found_names (IsOwned p.used w.controllers) w c f h here k.known k.gifts
+    (tells_if (owns w.bus.owner c) w.trace w.gear k.tells) x e)
 found_of p w _ M here k more = tt
 
 tells_sent : (p : Plan) (w : World) (c : ℕ) (f : Forward) (h : Answer) → Allowed w (event.Sent c f h) → Holds p w

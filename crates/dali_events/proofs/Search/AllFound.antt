@@ -143,12 +143,14 @@ ready_last c gs left is enough opens below =
     (λ x h. below x (subst (λ d. Has (drawn_of Everyone d 0 gs left) x) (sym is) h)))
 
 -- the numbers that a frame draws are below FFFFFF
-below_of : (p : Plan) → IsPlan p → (w : World) (e : Event) (more : List (ℕ × ℕ)) → Draws (numbers_of p) w.gear w.drawn w.left → (happens w e).drawn ≡ w.drawn ++ more
+below_of : (p : Plan) → IsPlan p → (w : World) (e : Event) (more : List (ℕ × ℕ)) → Draws (numbers_of p) w.gear w.drawn w.left
+    → (happens w e).drawn ≡ w.drawn ++ more
     → (x : ℕ × ℕ) → Has more x → x.1 < MASK24
 below_of p plan w e more d is x h =
     (are_drawn p (happens w e) plan (draws_step p w e d)).below x.0 x.1 (subst (λ ds. Has ds x) (sym is) (has_right w.drawn more x h))
 
-ready_opened : (p : Plan) → IsPlan p → (w : World) (c : ℕ) (f : Forward) (h : Answer) → Allowed w (event.Sent c f h) → Draws (numbers_of p) w.gear w.drawn w.left
+ready_opened : (p : Plan) → IsPlan p → (w : World) (c : ℕ) (f : Forward) (h : Answer) → Allowed w (event.Sent c f h)
+    → Draws (numbers_of p) w.gear w.drawn w.left
     → CompletesOpening w c f
     → OpensAll (stage_of w.trace) w.gear → ReadyAll (happens w (event.Sent c f h)).gear
 ready_opened p plan w c f h here draws complete opens =
@@ -178,7 +180,8 @@ ready_taken w c f reach may known calm below ready i in_row =
     (get_or (row_after reach (command_of f) 0 w.gear w.left) i fresh) (follows_of w c f may) calm below (knows_running w c known.knows i there) (ready i there)
     (moves_at reach (command_of f) w.gear w.left i there)
 
-ready_event : (p : Plan) → IsPlan p → (w : World) (e : Event) → Allowed w e → IsCalm e → IsKnown w → Draws (numbers_of p) w.gear w.drawn w.left → ReadyAll w.gear
+ready_event : (p : Plan) → IsPlan p → (w : World) (e : Event) → Allowed w e → IsCalm e → IsKnown w → Draws (numbers_of p) w.gear w.drawn w.left
+    → ReadyAll w.gear
     → ReadyAll (happens w e).gear
 ready_event p plan w (event.Sent c f h) here calm known draws ready =
     ready_taken w c f Everyone here.may known calm (below_of p plan w (event.Sent c f h) (drawn_of Everyone (command_of f) 0 w.gear w.left) draws refl) ready

@@ -135,7 +135,8 @@ sent_on : (start : Begun) (s : SiteState) (c left : ℕ) (r : Request) (h : Answ
     → Allowed (world s) (event.Sent r.sender r.frame h) → next_request s ≡ Some r
     → h ≡ heard_of (answers_of Everyone (command_of r.frame) 0 (world s).gear) → RunsOn start s c left (event.Sent r.sender r.frame h)
 sent_on start s c left r h u here is heard =
-    let run : IsRun s.plan s.queue (site_logged s (event.Sent r.sender r.frame h)).log = run_logged s (event.Sent r.sender r.frame h) u.run here (λ d i a n e has. cc) in
+    let run : IsRun s.plan s.queue (site_logged s (event.Sent r.sender r.frame h)).log =
+    run_logged s (event.Sent r.sender r.frame h) u.run here (λ d i a n e has. cc) in
     let known : IsKnown (world s) r.sender r.frame h = record {
       drawn = drawn_now s u.run;
       then = subst AreDrawn (world_logged s (event.Sent r.sender r.frame h)) (drawn_now (site_logged s (event.Sent r.sender r.frame h)) run);
