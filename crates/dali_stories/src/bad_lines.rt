@@ -26,7 +26,7 @@ fn a_script_needs_its_first_two_lines(rt: HostRuntime) -> Result<(), Fail> {
 /// What stands before a bad line, its reports, and lines that are bad behind it.
 type Bad<'a> = (&'a str, &'a str, &'a [&'a str]);
 
-const BAD: [Bad<'static>; 12] = [
+const BAD: [Bad<'static>; 14] = [
     // The first line says what is set up.
     (
         "",
@@ -61,6 +61,33 @@ const BAD: [Bad<'static>; 12] = [
             "draws 123456  654321",
             "draws 123456 ",
         ],
+    ),
+    // Used gear have a number, a short address and a random address.
+    (
+        "site 2 0-3\ndraws 123456\nused 0 0 0ABCDE\n",
+        "",
+        &[
+            "used",
+            "used ",
+            "used 1",
+            "used 1 1",
+            "used 1 1 12345",
+            "used 1 1 1234567",
+            "used 1 1 12345G",
+            "used 1 64 654321",
+            "used 1 01 654321",
+            "used 01 1 654321",
+            "used 1000001 1 654321",
+            "used 1 1 654321 ",
+            "used 1 1 654321 0",
+            "used  1 1 654321",
+        ],
+    ),
+    // They stand before all that happens.
+    (
+        "site 2 0-3\ndraws 123456\nquiet\n",
+        "ok\n",
+        &["used 0 0 0ABCDE", "used"],
     ),
     // Lines of a bench have their words.
     (

@@ -29,3 +29,5 @@ mod story;
 mod surveys;
 #[cfg(test)]
 mod troubles;
+#[cfg(test)]
+mod used;

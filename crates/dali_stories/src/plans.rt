@@ -112,6 +112,45 @@ fn numbers_of_sites_are_drawn_once(rt: HostRuntime) -> Result<(), Fail> {
     )
 }
 
+/// The causes of used gear, in their order, with plans that are refused for them.
+const USED: [(PlanError, &[&str]); 5] = [
+    (
+        PlanError::UnknownGear,
+        &[
+            "site 2 0-3\ndraws 123456\nused 2 0 0ABCDE",
+            "bench 1\ndraws\nused 1 0 0ABCDE\nshow",
+            "site 2 0-3\ndraws 123456\nused 0 1 FFFFFF\nused 0 1 FFFFFF\nused 1000000 1 123456",
+        ],
+    ),
+    (
+        PlanError::GearTwice,
+        &["site 2 0-3\ndraws 123456\nused 0 1 0ABCDE\nused 0 1 FFFFFF\nshow"],
+    ),
+    (
+        PlanError::ShortTwice,
+        &["site 2 0-3\ndraws 123456\nused 0 1 FFFFFF\nused 1 1 FFFFFF"],
+    ),
+    (
+        PlanError::RandomTooLarge,
+        &["site 2 0-3\ndraws 123456\nused 0 1 ffffff\nused 1 2 ffffff"],
+    ),
+    (
+        PlanError::RandomTwice,
+        &[
+            "site 2 0-3\ndraws 123456\nused 0 1 0ABCDE\nused 1 2 0abcde",
+            "site 2 0-3\ndraws 000001 123456\nused 0 1 123456\nshow",
+        ],
+    ),
+];
+
+#[test]
+fn used_gear_are_refused_in_order(rt: HostRuntime) -> Result<(), Fail> {
+    for (cause, inputs) in USED {
+        are_refused(&rt, cause, inputs)?;
+    }
+    Ok(())
+}
+
 #[test]
 fn a_bad_second_line_comes_before_a_refused_plan(rt: HostRuntime) -> Result<(), Fail> {
     for input in [

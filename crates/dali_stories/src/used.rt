@@ -1,0 +1,132 @@
+//! Used gear: gear that come with a short and a random address.
+
+use super::story::all_play;
+use std::test::Fail;
+
+/// Stories with their names.
+const STORIES: [(&str, &str); 6] = [
+    (
+        // QUERY RANDOM ADDRESS (H), (M) and (L) to 63, 0 and 1.
+        "used gear stand in their places from the start, on a bench too",
+        "bench 3
+         draws 123456
+         used 2 63 FFFFFE
+         # A comment stands between them.
+         used 0 0 00abcd
+         show > gear 0 on disabled 00ABCD FFFFFF 0
+         > gear 1 on disabled FFFFFF FFFFFF -
+         > gear 2 on disabled FFFFFE FFFFFF 63
+         frame 7FC2 > 7FC2 byte FF
+         frame 01C3 > 01C3 byte AB
+         frame 7FC4 > 7FC4 byte FE
+         frame 03C2 > 03C2 silence",
+    ),
+    (
+        // It asks 0, which answers three times, and then 1 to 63.
+        "a survey enrols used gear and gives their address to nobody",
+        "site 2 0-3
+         draws 123456
+         used 0 0 0ABCDE
+         survey 0 > 0: put 3 01C2
+         run 1000 > 0: commit enrol 0 0ABCDE
+         > 0: commit reserve 1 123456
+         > 0: commit enrol 1 123456
+         > 0: done all-found
+         > ran 320
+         show > gear 0 on disabled 0ABCDE FFFFFF 0
+         > gear 1 on disabled 123456 FFFFFE 1
+         > table 0: 0=0ABCDE 1=123456",
+    ),
+    (
+        // The frames up to the reservation are those of a site from the factory.
+        "a start is refused the address of used gear, and a survey goes on",
+        "site 2 0-3
+         draws 123456
+         used 0 0 0ABCDE
+         run 1000 > refused 10 AddressInUse
+         > ran 109
+         go 0 > refused 10 AddressInUse
+         run 5 > refused 10 AddressInUse
+         > ran 0
+         show > gear 0 on disabled 0ABCDE FFFFFF 0
+         > gear 1 on enabled 123456 123456 -
+         > table 0:
+         down 0 > ok
+         up 0 > ok
+         survey 0 > 0: put 3 01C2
+         run 1000 > 0: commit enrol 0 0ABCDE
+         > 0: commit reserve 1 123456
+         > 0: commit enrol 1 123456
+         > 0: done all-found
+         > ran 320
+         show > gear 0 on disabled 0ABCDE FFFFFF 0
+         > gear 1 on disabled 123456 FFFFFE 1
+         > table 0: 0=0ABCDE 1=123456",
+    ),
+    (
+        "an address of used gear that is in no block is in nobody's way",
+        "site 2 0-3
+         draws 123456
+         used 1 9 0ABCDE
+         run 1000 > 0: commit reserve 0 123456
+         > 0: commit enrol 0 123456
+         > 0: done all-found
+         > ran 121
+         show > gear 0 on disabled 123456 FFFFFE 0
+         > gear 1 on disabled 0ABCDE FFFFFF 9
+         > table 0: 0=123456",
+    ),
+    (
+        // Nobody hears it: 192 frames of silence, 3 that wake, a probe under the old numbers, and 109 as by a start.
+        // Then the controller would reserve its address. With power it is heard, once the controller asks anew.
+        "used gear without power are not heard, and their address is refused",
+        "site 2 0-3
+         draws 123456 654321
+         used 0 0 0ABCDE
+         off 0 > ok
+         survey 0 > 0: put 3 01C2
+         run 1000 > refused 10 AddressInUse
+         > ran 308
+         on 0 > ok
+         go 0 > refused 10 AddressInUse
+         down 0 > ok
+         up 0 > ok
+         survey 0 > 0: put 3 01C2
+         run 1000 > 0: commit enrol 0 0ABCDE
+         > 0: commit reserve 1 123456
+         > 0: commit enrol 1 123456
+         > 0: done all-found
+         > ran 320
+         show > gear 0 on disabled 0ABCDE FFFFFF 0
+         > gear 1 on disabled 123456 FFFFFE 1
+         > table 0: 0=0ABCDE 1=123456",
+    ),
+    (
+        // Controller 1 may give other addresses, and goes on.
+        "one controller is refused, and another one is not",
+        "site 3 0-3 4-7
+         draws 111111 222222 333333 444444
+         used 2 0 0ABCDE
+         down 1 > ok
+         run 1000 > refused 10 AddressInUse
+         > ran 109
+         down 0 > ok
+         up 1 > ok
+         run 1000 > 1: commit reserve 4 333333
+         > 1: commit enrol 4 333333
+         > 1: commit reserve 5 444444
+         > 1: commit enrol 5 444444
+         > 1: done all-found
+         > ran 232
+         show > gear 0 on disabled 333333 FFFFFE 4
+         > gear 1 on disabled 444444 FFFFFE 5
+         > gear 2 on disabled 0ABCDE FFFFFF 0
+         > table 0:
+         > table 1: 4=333333 5=444444",
+    ),
+];
+
+#[test]
+fn stories_of_used_gear_are_played(rt: HostRuntime) -> Result<(), Fail> {
+    all_play(&rt, &STORIES)
+}
