@@ -229,3 +229,10 @@ event 444: controller 0 heard silence, done: block-full
 ",
     )
 }
+
+#[test]
+fn a_page_shows_used_gear_from_the_start(rt: HostRuntime) -> Result<(), Fail> {
+    let drawn = page(rt.alloc(), "site 2 0-3\ndraws\nused 1 9 0ABCDE\nquiet\n")?;
+    assert!(rt; drawn.contains("gear 1: on, disabled, random address 0ABCDE, short address 9"));
+    Ok(())
+}
