@@ -33,7 +33,7 @@ const STORIES: [(&str, &str); 6] = [
          > 0: commit enrol 1 123456
          > 0: done all-found
          > ran 320
-         show > gear 0 on disabled 0ABCDE FFFFFE 0
+         show > gear 0 on disabled 0ABCDE FFFFFF 0
          > gear 1 on disabled 123456 FFFFFE 1
          > table 0: 0=0ABCDE 1=123456",
     ),
@@ -59,7 +59,7 @@ const STORIES: [(&str, &str); 6] = [
          > 0: commit enrol 1 123456
          > 0: done all-found
          > ran 320
-         show > gear 0 on disabled 0ABCDE FFFFFE 0
+         show > gear 0 on disabled 0ABCDE FFFFFF 0
          > gear 1 on disabled 123456 FFFFFE 1
          > table 0: 0=0ABCDE 1=123456",
     ),
@@ -73,11 +73,12 @@ const STORIES: [(&str, &str); 6] = [
          > 0: done all-found
          > ran 121
          show > gear 0 on disabled 123456 FFFFFE 0
-         > gear 1 on disabled 0ABCDE FFFFFE 9
+         > gear 1 on disabled 0ABCDE FFFFFF 9
          > table 0: 0=123456",
     ),
     (
-        // Nobody hears it, so the controller would reserve its address; with power it is heard.
+        // Nobody hears it: 192 frames of silence, 3 that wake, a probe under the old numbers, and 109 as by a start.
+        // Then the controller would reserve its address. With power it is heard, once the controller asks anew.
         "used gear without power are not heard, and their address is refused",
         "site 2 0-3
          draws 123456 654321
@@ -85,11 +86,9 @@ const STORIES: [(&str, &str); 6] = [
          off 0 > ok
          survey 0 > 0: put 3 01C2
          run 1000 > refused 10 AddressInUse
-         > ran 306
+         > ran 308
          on 0 > ok
-         lapse > lapse 0
-         run 1000 > refused 10 AddressInUse
-         > ran 4
+         go 0 > refused 10 AddressInUse
          down 0 > ok
          up 0 > ok
          survey 0 > 0: put 3 01C2
@@ -98,7 +97,7 @@ const STORIES: [(&str, &str); 6] = [
          > 0: commit enrol 1 123456
          > 0: done all-found
          > ran 320
-         show > gear 0 on disabled 0ABCDE FFFFFE 0
+         show > gear 0 on disabled 0ABCDE FFFFFF 0
          > gear 1 on disabled 123456 FFFFFE 1
          > table 0: 0=0ABCDE 1=123456",
     ),
@@ -121,7 +120,7 @@ const STORIES: [(&str, &str); 6] = [
          > ran 232
          show > gear 0 on disabled 333333 FFFFFE 4
          > gear 1 on disabled 444444 FFFFFE 5
-         > gear 2 on disabled 0ABCDE FFFFFE 0
+         > gear 2 on disabled 0ABCDE FFFFFF 0
          > table 0:
          > table 1: 4=333333 5=444444",
     ),
