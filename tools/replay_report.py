@@ -15,6 +15,7 @@ NOT_DUE = "3 NotDue"
 SPENT = "6 DrawsSpent"
 FULL = "7 QueueFull"
 LOG = "8 LogFull"
+IN_USE = "10 AddressInUse"
 
 
 def form(right, *refusals):
@@ -31,7 +32,7 @@ BENCH = {
     "quiet": form("ok"),
 }
 SITE = {
-    "go": form(rf"(?P<c>\d): (?:put [13] {FRAME}|{COMMIT}|{ENDS})", UNKNOWN, DOWN, NOT_DUE, FULL, LOG),
+    "go": form(rf"(?P<c>\d): (?:put [13] {FRAME}|{COMMIT}|{ENDS})", UNKNOWN, DOWN, NOT_DUE, FULL, LOG, IN_USE),
     "survey": form(rf"(?P<c>\d): put 3 {FRAME}", UNKNOWN, DOWN, NOT_DUE, FULL, LOG),
     "store": form("ok", UNKNOWN, DOWN, NOT_DUE),
     "fail": form(r"(?P<c>\d): halt store", UNKNOWN, DOWN, NOT_DUE, FULL, LOG),
@@ -50,7 +51,7 @@ SITE = {
     "quiet": form("ok", LOG),
 }
 IN_ROUNDS = re.compile(rf"\d: (?:{COMMIT}|{ENDS})")
-END_OF_ROUNDS = form("", SPENT, FULL, LOG)
+END_OF_ROUNDS = form("", SPENT, FULL, LOG, IN_USE)
 RAN = re.compile(r"ran (\d+)")
 
 
@@ -63,12 +64,13 @@ class Report:
         self.lines = text.split("\n")
         self.lines.pop()
         self.at = 0
-        self.holders = {}
+        self.holders = {place: (random, str(short)) for place, short, random in reading.used}
         self.reserved = set()
         self.released = set()
         self.tables = [[] for _ in reading.blocks]
-        self.allowed = {address for first, last in reading.blocks for address in range(first, last + 1)}
-        self.draws = set(reading.draws)
+        self.used = {short for _, short, _ in reading.used}
+        self.allowed = {address for first, last in reading.blocks for address in range(first, last + 1)} | self.used
+        self.draws = {*reading.draws, *(random for _, _, random in reading.used)}
         self.seen = collections.Counter()
 
     def next(self):
@@ -130,6 +132,7 @@ class Report:
         first, last = self.reading.blocks[controller]
         check(kind == "enrol" or first <= address <= last, f"an address of another block: {report}")
         check(address in self.allowed, f"an address of no block: {report}")
+        check(kind != "reserve" or address not in self.used, f"an address that used gear have: {report}")
         check(random in self.draws, f"a number that was not to be drawn: {report}")
         if kind == "reserve":
             self.reserved.add((controller, address, random))

@@ -1,4 +1,4 @@
-"""Scripts of `dali_sim replay`, as docs/FORMAT.md has them: their limits, how their first two lines are written, and what a
+"""Scripts of `dali_sim replay`, as docs/FORMAT.md has them: their limits, how their first lines are written, and what a
 script says: its plan, its lines, and the fault it ends in."""
 
 import dataclasses
@@ -18,6 +18,8 @@ FRAME = "[0-9A-Fa-f]{4}"
 HEADING = re.compile(f"bench ({NUMBER})|site ({NUMBER})((?: {ADDRESS}-{ADDRESS})*)")
 BLOCK = re.compile(f"({ADDRESS})-({ADDRESS})")
 DRAWS = re.compile(f"draws((?: [0-9A-Fa-f]{{6}}){{0,{MOST_DRAWS}}})")
+SHORT = "(?:[0-9]|[1-5][0-9]|6[0-3])"
+USED = re.compile(f"used ({NUMBER}) ({SHORT}) ([0-9A-Fa-f]{{6}})")
 BOTH = f"(?:off|on|expire) {NUMBER}|quiet|show"
 BENCH_LINE = re.compile(f"frame {FRAME}|{BOTH}")
 SITE_LINE = re.compile(
@@ -28,7 +30,8 @@ SITE_LINE = re.compile(
 
 @dataclasses.dataclass
 class Reading:
-    """What a script says. `lines` are those after the first two, up to the first bad one, without those skipped."""
+    """What a script says. `used` has the number, the short and the random address of each used gear. `lines` are those
+    after the plan's, up to the first bad one, without those skipped."""
 
     status: int
     fault: str
@@ -36,6 +39,7 @@ class Reading:
     gear: int = 0
     blocks: list = dataclasses.field(default_factory=list)
     draws: list = dataclasses.field(default_factory=list)
+    used: list = dataclasses.field(default_factory=list)
     lines: list = dataclasses.field(default_factory=list)
 
 
@@ -55,6 +59,11 @@ def draws_line(numbers):
     return "".join(["draws", *(f" {number:06X}" for number in numbers)])
 
 
+def used_line(gear, short, number):
+    """The line of a gear that comes with a short and a random address."""
+    return f"used {gear} {short} {number:06X}"
+
+
 def bench_of(gear, numbers, lines):
     """The script of a bench of so many gear."""
     return "".join(f"{line}\n" for line in (f"bench {gear}", draws_line(numbers), *lines))
@@ -66,8 +75,9 @@ def site_of(gear, blocks, numbers, lines):
     return "".join(f"{line}\n" for line in (f"site {gear}{named}", draws_line(numbers), *lines))
 
 
-def plan_fault(gear, blocks, draws):
+def plan_fault(gear, blocks, draws, used=()):
     """The first cause for which a plan is refused, or nothing."""
+    places, shorts, randoms = ([one[at] for one in used] for at in range(3))
     taken = set()
     overlap = False
     for first, last in blocks:
@@ -81,6 +91,11 @@ def plan_fault(gear, blocks, draws):
         ("BlockOverlap", overlap),
         ("DrawTooLarge", f"{NO_RANDOM:06X}" in draws),
         ("DrawTwice", len(set(draws)) < len(draws)),
+        ("UnknownGear", any(place >= gear for place in places)),
+        ("GearTwice", len(set(places)) < len(places)),
+        ("ShortTwice", len(set(shorts)) < len(shorts)),
+        ("RandomTooLarge", f"{NO_RANDOM:06X}" in randoms),
+        ("RandomTwice", len(set(randoms)) < len(randoms) or bool(set(randoms) & set(draws))),
     )
     return next((name for name, holds in causes if holds), "")
 
@@ -117,8 +132,19 @@ def reading_of(script):
     reading = plan_of(*found)
     if reading.fault:
         return reading
+    rest = list(told)
+    while rest and rest[0][1].split(" ")[0] == "used":
+        number, line = rest.pop(0)
+        match = USED.fullmatch(line)
+        if not match:
+            return Reading(1, bad(number))
+        reading.used.append((int(match.group(1)), int(match.group(2)), match.group(3).upper()))
+    blocks = reading.blocks if reading.is_site else [(0, 0)]
+    refused = plan_fault(reading.gear, blocks, reading.draws, reading.used)
+    if refused:
+        return Reading(1, f"replay: plan refused: {refused}\n")
     form = SITE_LINE if reading.is_site else BENCH_LINE
-    for number, line in told:
+    for number, line in rest:
         if not form.fullmatch(line):
             reading.status, reading.fault = 1, bad(number)
             break

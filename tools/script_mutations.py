@@ -8,7 +8,7 @@ FRAMES = "A100 A500 A5FF A501 A700 A900 AB00 B100 B1FF B3FF B5FE B701 B7FF B700 
 RANDOMS = "000000 000001 123456 7FFFFF 800000 FFFFFD FFFFFE FFFFFF abcdef".split()
 BLOCKS = "0-0 0-3 3-0 4-7 0-63 62-63 63-63 0-64 60-255 0-256 1-".split()
 LISTS = "- 0 1 0,1 0,0 1,2,3 127 128 0, ,0 0,,1".split()
-NAMES = "bench site draws frame go survey store fail pump lapse arc down up run off on expire quiet show".split()
+NAMES = "bench site draws used frame go survey store fail pump lapse arc down up run off on expire quiet show".split()
 WORDS = [*NUMBERS, *FRAMES, *RANDOMS, *BLOCKS, *LISTS, *NAMES, *site_script.FRAME_TROUBLES, "", "12345", "#"]
 BYTES = b" \n\t\r\0#-,0F:\x7f\x80\xff"
 EVENTS = 65_536
@@ -72,8 +72,14 @@ def drawn_site(draw):
     draws = draw.choice((site_script.usual_draws(gear), 2 * gear * controllers, draw.randrange(gear * controllers + 1)))
     rounds = draw.randrange(min(site_script.usual_rounds(gear, controllers), 1_000))
     spell, survey = draw.random() < 0.2, draw.random() < 0.5
-    made = site_script.Site(gear, blocks(draw, controllers), draw.random(), rounds, draws, chances, spell, survey)
+    used = draw.choice((0, 0, 1, gear // 2, gear))
+    made = site_script.Site(gear, blocks(draw, controllers), draw.random(), rounds, draws, chances, spell, survey, used)
     return site_script.script_of(made)
+
+
+def used_line(draw, gear):
+    """The line of a used gear, which may be refused."""
+    return script_forms.used_line(draw.randrange(gear + 1), draw.randrange(8), draw.randrange(script_forms.NO_RANDOM + 1))
 
 
 def drawn_lines(draw):
@@ -81,15 +87,16 @@ def drawn_lines(draw):
     gear = draw.choice((1, 2, 3, 8))
     numbers = draw.sample(range(script_forms.NO_RANDOM), draw.choice((0, 1, 8, 64)))
     count = draw.randrange(200)
+    used = [used_line(draw, gear) for _ in range(draw.choice((0, 0, 0, 1, 2)))]
     if draw.random() < 0.3:
         body = [bench_line(draw, gear) for _ in range(count)]
-        return script_forms.bench_of(gear, numbers, body)
+        return script_forms.bench_of(gear, numbers, used + body)
     controllers = draw.randrange(1, 5)
     named = blocks(draw, controllers)
     body = [site_line(draw, gear, controllers) for _ in range(count)]
     if draw.random() < 0.005:
         body = ["quiet"] * (EVENTS - draw.randrange(2 * count + 1)) + body
-    return script_forms.site_of(gear, named, numbers, body)
+    return script_forms.site_of(gear, named, numbers, used + body)
 
 
 def change_line(draw, lines):

@@ -38,7 +38,8 @@ TROUBLES = {**FRAME_TROUBLES, **ROUND_TROUBLES, **COMMIT_TROUBLES}
 @dataclasses.dataclass
 class Site:
     """What a script is made of. `chances` has the chance of each trouble in a round, from 0 to 1. Where `survey` is
-    set, each controller begins by a survey, also when it comes up again.
+    set, each controller begins by a survey, also when it comes up again. So many gear as `used` says come with a short
+    address.
     """
 
     gear: int
@@ -49,6 +50,7 @@ class Site:
     chances: dict
     spell: bool = False
     survey: bool = False
+    used: int = 0
 
 
 def usual_rounds(gear, controllers):
@@ -180,8 +182,19 @@ class Rounds:
         return self.lines + self.who_comes_back(self.site.rounds + LONGEST_ABSENCE + 1)
 
 
+def used_lines(site, numbers):
+    """A line for each used gear, in order of their number: with short addresses that are all different, and numbers
+    that are too, and that nobody draws."""
+    number = random.Random(f"used {site.seed}")
+    places = sorted(number.sample(range(site.gear), site.used))
+    shorts = number.sample(range(script_forms.LAST_ADDRESS + 1), site.used)
+    drawn = set(numbers)
+    randoms = [one for one in number.sample(range(script_forms.NO_RANDOM), site.used + len(numbers)) if one not in drawn]
+    return list(map(script_forms.used_line, places, shorts, randoms))
+
+
 def script_of(site):
     """The whole script, with a last run that nothing disturbs."""
     numbers = random.Random(f"draws {site.seed}").sample(range(script_forms.NO_RANDOM), site.draws)
-    lines = [*Rounds(site).all(), f"run {LAST_RUN}", "show"]
+    lines = [*used_lines(site, numbers), *Rounds(site).all(), f"run {LAST_RUN}", "show"]
     return script_forms.site_of(site.gear, site.blocks, numbers, lines)

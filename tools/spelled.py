@@ -113,7 +113,7 @@ PLACES = (
     Place(STATUSES, block("static void try_records(", "\n}"), "Record", "case DALI_{UPPER}:"),
     Place(STATUSES, block("static void collect(", "\n}"), "Order", "case DALI_{UPPER}:"),
     # The scripts of `replay`.
-    Place(FORMAT, section("The first two lines"), "PlanError", "| {code} | {name} |", "NoMemory"),
+    Place(FORMAT, section("The first lines"), "PlanError", "| {code} | {name} |", "NoMemory"),
     Place(FORMAT, line("`ANSWER` is"), "Answer", "`{kebab}"),
     Place(FORMAT, table("| Line | Does | Reports | Refusals"), "Trouble", "| `pump {word}", "None"),
     Place(FORMAT, table("| Line | Does | Reports | Refusals"), "Refusal", "{code} {name}", "NoMemory"),

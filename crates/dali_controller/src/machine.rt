@@ -7,7 +7,7 @@ ghost use Rattle.dali_controller.specs.Machine.{at_first};
 ghost use Rattle.dali_controller.specs.Next.{BeginsWith};
 ghost use Rattle.dali_controller.specs.Parts.{machine_with};
 ghost use Rattle.dali_controller.specs.Whole.{IsWhole};
-ghost use Rattle.dali_controller.specs.Orders.{IsAnswered, IsFollowedAt, machine_after};
+ghost use Rattle.dali_controller.specs.Orders.{IsAnswered, IsFollowedAt, IsGiven, machine_after};
 
 use crate::error::StepError;
 use crate::shorts::Shorts;
@@ -31,9 +31,9 @@ use std::marker::Model;
 ///
 /// How to drive it: make one with `new`, give `step` the input `Start` or `Survey`, do what it orders, give it what
 /// came of that, and so on until the order is `Done` or `Halt`. `step` alone changes it; `due`, `table`, `kept`,
-/// `heard`, `last` and `id` read it, and `into_kept` gives its records back. No end is promised: a bus that loses every
-/// frame is given up after eight tries, but a bus on which gear come and go may keep it busy for good, so the caller
-/// bounds its loop.
+/// `heard`, `last`, `id` and `would_order` read it, and `into_kept` gives its records back. No end is promised: a bus
+/// that loses every frame is given up after eight tries, but a bus on which gear come and go may keep it busy for good,
+/// so the caller bounds its loop.
 ///
 /// | last order | what to do | inputs that are taken then |
 /// |---|---|---|
@@ -126,6 +126,25 @@ impl Machine {
         let added = self.state.kept_by(input);
         keep(&mut self.kept, added);
         self.state.step(&self.kept.view(), input)
+    }
+
+    /// What it would order at an input. Nothing changes.
+    pub fn would_order(&self, input: Input) -> Result<Order, StepError>
+        ensures due { IsOk result ↔ (accepts (due_after self.now.last) input ≡ true) }
+        ensures given { IfOk result (IsGiven self.now input) }
+    {
+        let mut copy = self.copy();
+        copy.step(input)
+    }
+
+    /// The same machine once more.
+    fn copy(&self) -> Machine
+        ensures { result ≡ self.now }
+    {
+        Machine {
+            kept: self.kept.copy(),
+            state: self.state.copy(),
+        }
     }
 
     /// What the machine waits for.

@@ -69,6 +69,28 @@ impl State {
     ghost use Rattle.dali_controller.specs.Moments.{IsNext, Starts};
     ghost use Rattle.dali_controller.specs.Course.{closing_of, taking};
 
+    /// The same state once more.
+    pub(crate) fn copy(&self) -> State
+        ensures { result ≡ self.now }
+    {
+        State {
+            id: self.id,
+            trace: self.trace.copy(),
+            finding: self.finding,
+            last: self.last,
+            tries: self.tries,
+            silent: self.silent,
+            opened: self.opened,
+            purpose: self.purpose,
+            number: self.number,
+            search: self.search.copy(),
+            from: self.from,
+            way: self.way,
+            heard: self.heard,
+            asked: self.asked,
+        }
+    }
+
     /// Whether the running transaction is complete.
     fn is_complete(&self, kept: &Records<'_>) -> bool
         ensures { result ≡ is_complete kept.now (closing_of self.now.purpose) (stage_of self.now.trace) }

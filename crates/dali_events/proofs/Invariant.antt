@@ -1,6 +1,7 @@
 -- What every event keeps: the invariant of every run, its clauses one by one and all together, and the laws that follow from it.
 pub mod Growing
 pub mod Takes
+pub mod Starting
 pub mod Drawn
 pub mod Controllers
 pub mod Reserves
@@ -11,8 +12,8 @@ pub mod Sending
 pub mod Gifts
 pub mod Resolving
 pub mod Naming
+pub mod Arrived
 pub mod Staying
 pub mod Safe
 pub mod Agreeing
-pub mod Arrived
 pub mod Keeping

@@ -1,12 +1,18 @@
-use Rattle.std.proofs.Common.{◌≡◌, ℕ, zero, suc, ◌<◌, ◌≤◌, Bool, true, false, List, [], ◌∷◌, length, get_or, map, Some, None, refl, sym, ap, subst, inl, inr}
+use Rattle.std.proofs.Common.{◌≡◌, ℕ, zero, suc, ◌<◌, ◌≤◌, Bool, true, false, List, [], ◌∷◌, All, length, get_or, map, Some, None, refl, sym, ap, subst, inl}
+use Rattle.std.proofs.Common.{inr}
 use Rattle.std.proofs.Common.{arith}
 use Rattle.std.proofs.lemmas.Bool.Decides.{nat_tests}
-use Rattle.std.specs.Prelude.{◌==◌, ◌||◌, nat_lt, if◌then◌else◌}
+use Rattle.std.proofs.lemmas.List.{length-map}
+use Rattle.std.specs.Prelude.{◌==◌, ◌||◌, nat_lt, nat_le, if◌then◌else◌}
 use Rattle.std.specs.List.{list_any}
 use Rattle.dali_frame.specs.Random.{MASK24}
 use Rattle.dali_script.specs.Records.{Has, IsOnce, InBlock}
+use Rattle.dali_script.proofs.Lists.{few, has_at, has_map}
+use Rattle.dali_script.proofs.Members.{mapped_from, once_append}
 use Rattle.dali_events.specs.declared.plan.PlanError.TheVariants.{GearCount, ControllerCount, BlockOrder, BlockOverlap, DrawTooLarge, DrawTwice}
-use Rattle.dali_events.specs.Plan.{any_pair, is_misordered, overlap, refusal_of, block_of, plan_of, no_block, IsPlan}
+use Rattle.dali_events.specs.declared.plan.PlanError.TheVariants.{UnknownGear, GearTwice, ShortTwice, RandomTooLarge, RandomTwice}
+use Rattle.dali_events.specs.declared.used.Used.{Used}
+use Rattle.dali_events.specs.Plan.{any_pair, is_misordered, overlap, refusal_of, block_of, plan_of, no_block, Plan, AreUsed, IsPlan, used_refusal_of, plan_with}
 
 -- a plan that is not refused fails no test
 pub record IsAccepted (gear : ℕ) (blocks : List (ℕ × ℕ)) (draws : List ℕ) : Type 0 where
@@ -126,6 +132,21 @@ short_block b a ordered within =
     let top : b.1 ≤ 63 = grind (arith, nat_tests) in
     omega (arith, within.1)
 
+-- without used gear
+pub none_used : (p : Plan) → p.used ≡ [] → IsOnce p.draws → AreUsed p
+none_used p none once = record {
+  gear_once = rw none tt;
+  there = λ g h. none_of (λ u. u.gear) g (λ n. n < p.gear) h;
+  short_once = rw none tt;
+  short = λ a h. none_of (λ u. u.short) a (λ n. n < 64) h;
+  random_once = rw none once;
+  random_below = λ r h. none_of (λ u. u.random) r (λ n. n < MASK24) h;
+} where
+  none_of : (f : Used → ℕ) (n : ℕ) (P : ℕ → Type 0) → Has (map f p.used) n → P n
+  none_of f n P h = go (subst (λ (us : List Used). Has (map f us) n) none h) where
+    go : Has (map f []) n → P n
+    go k = elim k [ ]
+
 -- what is accepted is a plan
 pub plan_is : (gear : ℕ) (blocks : List (ℕ × ℕ)) (draws : List ℕ) → refusal_of gear blocks draws ≡ None → IsPlan (plan_of gear blocks draws)
 plan_is gear blocks draws is =
@@ -139,6 +160,7 @@ plan_is gear blocks draws is =
           (subst (λ b. InBlock b a) (block_is blocks c) within);
       draws_once = draws_once draws all.once;
       draws_below = λ r has. draws_below draws r all.small has;
+      used = none_used (plan_of gear blocks draws) refl (draws_once draws all.once);
     }
 
 pub gear_is : (gear : ℕ) → (nat_lt gear 1 || nat_lt 128 gear) ≡ false → (1 ≤ gear) × (gear ≤ 128)
@@ -155,3 +177,82 @@ blocks_are blocks is =
     let some : 1 ≤ length blocks = grind (arith, nat_tests) in
     let few : length blocks ≤ 4 = grind (arith, nat_tests) in
     (subst (λ n. 1 ≤ n) (sym (length_blocks blocks)) some, subst (λ n. n ≤ 4) (sym (length_blocks blocks)) few)
+
+-- a used gear is there
+pub there_at : (p : Plan) → AreUsed p → (n : ℕ) (d : Used) → n < length p.used → (get_or p.used n d).gear < p.gear
+there_at p is n d here = is.there (get_or p.used n d).gear (has_map (λ u. u.gear) p.used (get_or p.used n d) (has_at p.used n d here))
+
+pub there_in : (p : Plan) → AreUsed p → (us : List Used) → us ≡ p.used → (n : ℕ) (u : Used) → n < length us → u ≡ get_or us n u → u.gear < p.gear
+there_in p is us same n u here at =
+    subst (λ (v : Used). v.gear < p.gear) (sym at) (
+    subst (λ (vs : List Used). (get_or vs n u).gear < p.gear) (sym same) (there_at p is n u (subst (λ (vs : List Used). n < length vs) same here)))
+
+-- there are no more used gear than gear
+pub few_used : (p : Plan) → AreUsed p → length p.used ≤ p.gear
+few_used p is = subst (λ n. n ≤ p.gear) (length-map p.used (λ u. u.gear)) (few p.gear (map (λ u. u.gear) p.used) is.gear_once is.there)
+
+-- ---------------------------------------------------------------- with used gear
+
+no_used_cause : (a b c d e f : Bool)
+    → (if a then Some UnknownGear else if b then Some GearTwice else if c then Some ShortTwice else if d then Some RandomTooLarge
+    else if e then Some RandomTwice else if f then Some RandomTwice else None) ≡ None
+    → (a ≡ false) × (b ≡ false) × (c ≡ false) × (d ≡ false) × (e ≡ false) × (f ≡ false)
+no_used_cause true b c d e f is = absurd (cc)
+no_used_cause false true c d e f is = absurd (cc)
+no_used_cause false false true d e f is = absurd (cc)
+no_used_cause false false false true e f is = absurd (cc)
+no_used_cause false false false false true f is = absurd (cc)
+no_used_cause false false false false false true is = absurd (cc)
+no_used_cause false false false false false false is = (refl, refl, refl, refl, refl, refl)
+
+-- numbers of used gear that are in no other's stand once
+not_of : (f : Used → ℕ) (n : ℕ) (us : List Used) → list_any (λ v. n == f v) us ≡ false → Has (map f us) n → ⊥
+not_of f n [] none has = has
+not_of f n (v ∷ us) none (inl same) =
+    let no = or_false_left (n == f v) (list_any (λ w. n == f w) us) none in
+    let yes : (n == f v) ≡ true = grind (arith, nat_tests) in
+    cc
+not_of f n (v ∷ us) none (inr has) = not_of f n us (or_false_right (n == f v) (list_any (λ w. n == f w) us) none) has
+
+once_of : (f : Used → ℕ) (us : List Used) → any_pair (λ u v. f u == f v) us ≡ false → IsOnce (map f us)
+once_of f [] none = tt
+once_of f (u ∷ us) none = (
+  not_of f (f u) us (or_false_left (list_any (λ v. f u == f v) us) (any_pair (λ v w. f v == f w) us) none),
+  once_of f us (or_false_right (list_any (λ v. f u == f v) us) (any_pair (λ v w. f v == f w) us) none),
+)
+
+-- a test that no used gear passes, none of theirs does
+no_one : (test : Used → Bool) (us : List Used) (u : Used) → list_any test us ≡ false → Has us u → test u ≡ false
+no_one test [] u none has = absurd has
+no_one test (v ∷ us) u none (inl same) = subst (λ w. test w ≡ false) same (or_false_left (test v) (list_any test us) none)
+no_one test (v ∷ us) u none (inr has) = no_one test us u (or_false_right (test v) (list_any test us) none) has
+
+all_has : (P : Used → Type 0) (us : List Used) (u : Used) → All P us → Has us u → P u
+all_has P [] u all has = elim has [ ]
+all_has P (v ∷ us) u all (inl same) = subst P same (all zero v (omega arith))
+all_has P (v ∷ us) u all (inr has) = all_has P us u (λ k d here. all (suc k) d (omega arith)) has
+
+pub with_is : (p : Plan) → IsPlan p → (us : List Used) → used_refusal_of p us ≡ None → All (λ u. u.short < 64) us → IsPlan (plan_with p us)
+with_is p plan us is small =
+    let no = no_used_cause (list_any (λ u. nat_le p.gear u.gear) us) (any_pair (λ u v. u.gear == v.gear) us) (any_pair (λ u v. u.short == v.short) us)
+    (list_any (λ u. nat_lt 0xFFFFFE u.random) us) (any_pair (λ u v. u.random == v.random) us)
+    (list_any (λ u. list_any (λ draw. u.random == draw) p.draws) us) is in
+    record {
+      apart = plan.apart;
+      short = plan.short;
+      draws_once = plan.draws_once;
+      draws_below = plan.draws_below;
+      used = record {
+        gear_once = once_of (λ u. u.gear) us no.1;
+        there = λ g h. let k = mapped_from (λ u. u.gear) us g h in
+            subst (λ n. n < p.gear) k.2 (let low = no_one (λ u. nat_le p.gear u.gear) us k.0 no.0 k.1 in grind (arith, nat_tests));
+        short_once = once_of (λ u. u.short) us no.2;
+        short = λ a h. let k = mapped_from (λ u. u.short) us a h in subst (λ n. n < 64) k.2 (all_has (λ u. u.short < 64) us k.0 small k.1);
+        random_once = once_append (map (λ u. u.random) us) p.draws (once_of (λ u. u.random) us no.4) plan.draws_once
+            (λ r h k. let u = mapped_from (λ u. u.random) us r h in
+            not_among r p.draws (subst (λ n. list_any (λ draw. n == draw) p.draws ≡ false) u.2
+            (no_one (λ v. list_any (λ draw. v.random == draw) p.draws) us u.0 no.5 u.1)) k);
+        random_below = λ r h. let k = mapped_from (λ u. u.random) us r h in
+            subst (λ n. n < MASK24) k.2 (let low = no_one (λ u. nat_lt 0xFFFFFE u.random) us k.0 no.3 k.1 in grind (arith, nat_tests));
+      };
+    }

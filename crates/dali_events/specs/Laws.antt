@@ -1,8 +1,9 @@
-use Rattle.std.specs.Prelude.{◌≡◌, ℕ, ◌<◌, length, Some}
+use Rattle.std.specs.Prelude.{◌≡◌, ◌⊎◌, ℕ, ◌<◌, List, length, Some}
 use Rattle.dali_script.specs.declared.finding.Finding.{Finding}
 use Rattle.dali_script.specs.Findings.{assigned}
 use Rattle.dali_script.specs.declared.records.Record.{Record}
 use Rattle.dali_script.specs.Records.{Assignment, Has, IsKept, MayAdd, Fits}
+use Rattle.dali_events.specs.declared.used.Used.{Used}
 use Rattle.dali_events.specs.Plan.{Plan, block_at}
 use Rattle.dali_events.specs.World.{World, gear_at, controller_at}
 use Rattle.dali_events.specs.Promise.{IsEnrolled, NamesGear, Names}
@@ -19,6 +20,16 @@ IsReservedFor w a r =
 -- each address that was given is reserved for the random address of its gear
 abbrev pub GiftsAreReserved : World → Type 0
 GiftsAreReserved w = (g a : ℕ) → Has w.gifts (g, a) → IsReservedFor w a (gear_at w g).random
+
+-- a used gear came with the address and the number
+abbrev pub IsOfUsed : List Used → Assignment → Type 0
+IsOfUsed us x = (u : Used) × Has us u × ((u.short, u.random) ≡ x)
+
+-- each address that was given is reserved so, or a used gear came with it
+abbrev pub GiftsAreOwned : List Used → World → Type 0
+GiftsAreOwned us w =
+    (g a : ℕ) → Has w.gifts (g, a)
+    → IsReservedFor w a (gear_at w g).random ⊎ IsOfUsed us (a, (gear_at w g).random)
 
 -- from a moment on: what a controller has reserved for a gear that was given the address it has
 -- reserved later

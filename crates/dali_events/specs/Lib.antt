@@ -1,3 +1,4 @@
+pub mod Used
 pub mod Plan
 pub mod World
 pub mod Happens
@@ -7,4 +8,3 @@ pub mod Promise
 pub mod Laws
 pub mod Searching
 pub mod Wanted
-pub mod Used

@@ -1,7 +1,14 @@
 use Rattle.std.specs.Prelude.{◌≡◌, ◌⊎◌, ℕ, ◌<◌, List, [], ◌∷◌, length, map}
+use Rattle.std.specs.List.{AllByRecursion}
 use Rattle.dali_frame.specs.Random.{MASK24}
+use Rattle.dali_script.specs.declared.records.Record.TheVariants.{Reserve}
 use Rattle.dali_script.specs.Records.{Has, IsOnce}
+use Rattle.dali_script.specs.declared.orders.Input.{Input}
+use Rattle.dali_script.specs.declared.orders.Order.TheVariants.{Commit}
 use Rattle.dali_events.specs.declared.event.Event.{Event}
+use Rattle.dali_events.specs.declared.event.Event.TheVariants as event
+use Rattle.dali_events.specs.declared.used.Used.{Used}
+use Rattle.dali_events.specs.Used.{used_shorts}
 use Rattle.dali_events.specs.Plan.{Plan, IsPlan}
 use Rattle.dali_events.specs.World.{World, gear_at, start}
 use Rattle.dali_events.specs.Happens.{happens}
@@ -21,10 +28,18 @@ AllAllowed w (e ∷ es) = Allowed w e × AllAllowed (happens w e) es
 abbrev pub after : Plan → ℕ → List Event → World
 after p capacity log = after_all (start p capacity) log
 
--- A RUN: a plan, and a list of events each of which is allowed when it happens.
+-- an event that is no order to keep a reservation of a short address that used gear have
+abbrev pub LeavesUsed : List Used → Event → Type 0
+LeavesUsed us e =
+    (c : ℕ) (i : Input) (a r : ℕ) → e ≡ event.Acted c i (Commit (Reserve a r))
+    → Has (used_shorts us) a → ⊥
+
+-- A RUN: a plan, and a list of events each of which is allowed when it happens. No controller
+-- reserves a short address that used gear have.
 pub record IsRun (p : Plan) (capacity : ℕ) (log : List Event) : Type 0 where
   pub plan : IsPlan p
   pub allowed : AllAllowed (start p capacity) log
+  pub leaves : AllByRecursion (LeavesUsed p.used) log
 
 -- THE DRAWER of a number: the gear that stands with it in the history of draws.
 abbrev pub IsDrawer : World → ℕ → ℕ → Type 0

@@ -10,6 +10,7 @@ use Rattle.dali_script.specs.Records.{Kept, without_records}
 use Rattle.dali_script.specs.declared.orders.Input.{Input}
 use Rattle.dali_script.specs.declared.orders.Input.TheVariants.{Start}
 use Rattle.dali_script.specs.declared.orders.Order.{Order}
+use Rattle.dali_events.specs.Used.{with_used, earlier_draw, earlier_gift}
 use Rattle.dali_events.specs.Plan.{Plan, no_block}
 
 -- A controller, as a site knows it. It has no phase, no probe and no count of the machine.
@@ -66,8 +67,9 @@ gear_changed gs g change = slice_set gs g (change (slice_index_or gs g fresh))
 abbrev pub controllers_changed : List Controller → ℕ → (Controller → Controller) → List Controller
 controllers_changed cs c change = slice_set cs c (change (slice_index_or cs c nobody))
 
--- THE START: all gear from the factory, all controllers up with empty records and told to start,
--- nothing sent or drawn. `capacity` is how many requests may wait.
+-- THE START: all gear from the factory, but for used ones; all controllers up with empty records
+-- and told to start, nothing sent or drawn. `capacity` is how many requests may wait. The numbers
+-- of used gear were drawn and their addresses given before.
 abbrev pub controller_begun : Block → Controller
 controller_begun b = record {
   up = true;
@@ -80,11 +82,11 @@ controller_begun b = record {
 
 abbrev pub start : Plan → ℕ → World
 start p capacity = record {
-  gear = replicate p.gear fresh;
+  gear = with_used (replicate p.gear fresh) p.used;
   bus = idle capacity;
   trace = [];
   controllers = map controller_begun p.blocks;
   left = p.draws;
-  drawn = [];
-  gifts = [];
+  drawn = map earlier_draw p.used;
+  gifts = map earlier_gift p.used;
 }

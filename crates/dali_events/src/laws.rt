@@ -3,7 +3,7 @@
 //! Each law quantifies over every plan and every list of events that is a run, whatever frames were sent, destroyed or
 //! answered, and whenever gear lost power and controllers restarted.
 
-ghost use Rattle.std.specs.Prelude.{ℕ, List, ◌++◌, ◌∷◌, [], ◌≡◌, Some, None};
+ghost use Rattle.std.specs.Prelude.{ℕ, List, ◌++◌, ◌∷◌, [], ◌≡◌, Some, None, replicate};
 ghost use Rattle.dali_frame.specs.declared.frames.Forward.{Forward};
 ghost use Rattle.dali_frame.specs.declared.frames.Answer.{Answer};
 ghost use Rattle.dali_frame.specs.declared.numbers.SearchAddress.{SearchAddress};
@@ -20,17 +20,18 @@ ghost use Rattle.dali_script.specs.Scripts.{IsFirst};
 ghost use Rattle.dali_script.specs.Stages.{stage_of};
 ghost use Rattle.dali_events.specs.declared.event.Event.TheVariants.{Sent};
 ghost use Rattle.dali_gear.specs.declared.row.Reach.TheVariants.{Everyone};
+ghost use Rattle.dali_gear.specs.Gear.{fresh};
 ghost use Rattle.dali_gear.specs.Row.{heard_of, answers_of};
 ghost use Rattle.dali_events.specs.declared.event.Event.{Event};
 ghost use Rattle.dali_events.specs.World.{World, gear_at, start};
 ghost use Rattle.dali_events.specs.Happens.{happens, trace_running, entry};
 ghost use Rattle.dali_events.specs.Allowed.{Allowed, Hears};
 ghost use Rattle.dali_events.specs.Plan.{Plan};
-ghost use Rattle.dali_events.specs.Runs.{after, IsRun, AreDrawn};
-ghost use Rattle.dali_events.specs.Promise.{KeepsPromise, KeepsPromiseFrom, IsSafe, IsSafeFrom, IsSafeHistory};
-ghost use Rattle.dali_events.specs.Promise.{Names, HoldsShort};
-ghost use Rattle.dali_events.specs.Used.{Used, UsedPlan, IsUsedRun, start_used, after_used};
-ghost use Rattle.dali_events.specs.Laws.{GiftsAreReserved, KeepsReserved, TablesAgree, FindingsAgree, KeepsRecords};
+ghost use Rattle.dali_events.specs.declared.used.Used.{Used};
+ghost use Rattle.dali_events.specs.Runs.{after, IsRun, AreDrawn, LeavesUsed};
+ghost use Rattle.dali_events.specs.Promise.{KeepsPromise, IsSafe, IsSafeHistory, Names, HoldsShort};
+ghost use Rattle.dali_events.specs.Laws.{GiftsAreReserved, GiftsAreOwned, KeepsReserved, TablesAgree, FindingsAgree};
+ghost use Rattle.dali_events.specs.Laws.{KeepsRecords};
 ghost use Rattle.dali_events.specs.Searching.{EachPowered, EachActive, frame_in, number_at, sent_event, up_to_compare};
 ghost use Rattle.dali_events.specs.Searching.{SearchesAll, NobodyAnswers, HasShort};
 
@@ -39,12 +40,13 @@ pub fn plain_hearing_is_heard()
     ensures { (answers : List ℕ) → Hears answers (heard_of answers) }
 {}
 
-/// A history grows at the end: one more event moves the world by what it does, and a run goes on with what is allowed.
+/// A history grows at the end: one more event moves the world by what it does, and a run goes on with what is allowed
+/// and reserves no address that used gear have.
 pub fn histories_grow_at_the_end()
     ensures world { (p : Plan) (capacity : ℕ) (log : List Event) (e : Event)
         → after p capacity (log ++ e ∷ []) ≡ happens (after p capacity log) e }
     ensures run { (p : Plan) (capacity : ℕ) (log : List Event) (e : Event) → IsRun p capacity log
-        → Allowed (after p capacity log) e → IsRun p capacity (log ++ e ∷ []) }
+        → Allowed (after p capacity log) e → LeavesUsed p.used e → IsRun p capacity (log ++ e ∷ []) }
 {}
 
 /// NUMBERS ARE DRAWN ONCE. At each moment of every run each gear's random address is `FFFFFF` or was drawn by that
@@ -80,11 +82,13 @@ pub fn frames_find_gear()
 {}
 
 /// GIFTS STAY RESERVED. At each moment of every run, each short address that a gear was given is reserved by some
-/// controller for the gear's random address; and what a controller has reserved for a gear that was given the address,
-/// it has reserved for good.
+/// controller for the gear's random address, unless the gear is used and came with it; and what a controller has
+/// reserved for a gear that was given the address, it has reserved for good.
 pub fn gifts_stay_reserved()
     ensures reserved { (p : Plan) (capacity : ℕ) (front rest : List Event) → IsRun p capacity (front ++ rest)
-        → GiftsAreReserved (after p capacity front) }
+        → p.used ≡ [] → GiftsAreReserved (after p capacity front) }
+    ensures owned { (p : Plan) (capacity : ℕ) (front rest : List Event) → IsRun p capacity (front ++ rest)
+        → GiftsAreOwned p.used (after p capacity front) }
     ensures stay { (p : Plan) (capacity : ℕ) (front later rest : List Event)
         → IsRun p capacity (front ++ (later ++ rest))
         → KeepsReserved (after p capacity front) (after p capacity (front ++ later)) }
@@ -104,25 +108,22 @@ pub fn every_run_is_safe()
         → IsSafeHistory p capacity log }
 {}
 
-/// USED GEAR KEEP THEIR ADDRESSES. Where some gear come with short addresses, all different, and with random addresses
-/// of their own, and no controller reserves one of these short addresses, the same is promised as of gear from the
-/// factory, the used gear keep what they came with, and no two tables disagree. Without used gear such a run is a run
-/// from the factory.
+/// USED GEAR KEEP THEIR ADDRESSES. Gear that come with short addresses, all different, and with random addresses of
+/// their own keep both, at each moment of every run. All else that is said of a run is said of them too.
 ///
-/// A machine that surveys reserves no address under which it heard somebody
+/// A run has a premise for them: no controller reserves a short address that used gear have. A machine that surveys
+/// reserves no address under which it heard somebody
 /// (`dali_progress::laws::nothing_is_given_where_somebody_was_heard`). What it cannot hear is a gear without power.
+///
+/// Where all gear come from the factory each event meets the premise (`factory`), and the site begins with gear that
+/// have nothing and were given nothing (`start`).
 pub fn used_gear_keep_their_addresses()
-    ensures promise { (p : UsedPlan) (capacity : ℕ) (log : List Event) → IsUsedRun p capacity log
-        → KeepsPromiseFrom (start_used p capacity) log }
-    ensures history { (p : UsedPlan) (capacity : ℕ) (log : List Event) → IsUsedRun p capacity log
-        → IsSafeFrom (start_used p capacity) log }
-    ensures kept { (p : UsedPlan) (capacity : ℕ) (log : List Event) (u : Used) → IsUsedRun p capacity log
-        → Has p.used u → HoldsShort (after_used p capacity log) u.gear u.short
-        × ((gear_at (after_used p capacity log) u.gear).random ≡ u.random) }
-    ensures agree { (p : UsedPlan) (capacity : ℕ) (log : List Event) → IsUsedRun p capacity log
-        → TablesAgree (after_used p capacity log) }
-    ensures factory { (p : Plan) (capacity : ℕ)
-        → start_used (record { plan = p; used = [] }) capacity ≡ start p capacity }
+    ensures kept { (p : Plan) (capacity : ℕ) (front rest : List Event) (u : Used) → IsRun p capacity (front ++ rest)
+        → Has p.used u → HoldsShort (after p capacity front) u.gear u.short
+        × ((gear_at (after p capacity front) u.gear).random ≡ u.random) }
+    ensures factory { (p : Plan) (e : Event) → p.used ≡ [] → LeavesUsed p.used e }
+    ensures start { (p : Plan) (capacity : ℕ) → p.used ≡ [] → ((start p capacity).gear ≡ replicate p.gear fresh)
+        × ((start p capacity).drawn ≡ []) × ((start p capacity).gifts ≡ []) }
 {}
 
 /// NO TWO TABLES DISAGREE. At each moment of every run, two kept enrolments with one short address, one number or one

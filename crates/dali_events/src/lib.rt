@@ -7,7 +7,9 @@
 mod event;
 pub mod laws;
 mod plan;
+mod used;
 
 pub use dali_gear::GearSet;
 pub use event::Event;
 pub use plan::{CONTROLLER_LIMIT, DRAW_LIMIT, GEAR_LIMIT, Plan, PlanError};
+pub use used::Used;

@@ -1,8 +1,13 @@
-ghost use Rattle.std.specs.Prelude.{◌≡◌, ◌==◌, ◌≤◌, length, map, nat_lt, false, Some, None, IfOk, IfErr};
+ghost use Rattle.std.specs.Prelude.{◌≡◌, ◌==◌, ◌≤◌, length, map, nat_lt, false, Some, None, IfOk, IfErr, replicate};
 ghost use Rattle.std.specs.List.{list_any};
+ghost use Rattle.dali_gear.specs.Gear.{fresh};
+ghost use Rattle.dali_events.specs.Used.{with_used};
 ghost use Rattle.dali_events.specs.Plan.{Plan, any_pair, is_misordered, overlap, refusal_of, refusal_number, block_of};
+ghost use Rattle.dali_events.specs.Plan.{used_refusal_of};
 
+use crate::used::{Mark, Used, all_short, some_drawn, some_share, some_too_large, some_unknown};
 use dali_frame::{Random24, Short};
+use dali_gear::Row;
 use dali_script::Block;
 use std::alloc::{AllocError, Global};
 use std::marker::Model;
@@ -42,6 +47,21 @@ pub enum PlanError {
     /// 7: a number to be drawn stands twice.
     #[error("DrawTwice")]
     DrawTwice,
+    /// 8: a used gear is none of the site's.
+    #[error("UnknownGear")]
+    UnknownGear,
+    /// 9: a gear stands twice among the used ones.
+    #[error("GearTwice")]
+    GearTwice,
+    /// 10: two used gear have one short address.
+    #[error("ShortTwice")]
+    ShortTwice,
+    /// 11: the random address of a used gear is above `FFFFFE`.
+    #[error("RandomTooLarge")]
+    RandomTooLarge,
+    /// 12: the random address of a used gear is that of another one, or will be drawn.
+    #[error("RandomTwice")]
+    RandomTwice,
 }
 
 impl PlanError {
@@ -57,6 +77,11 @@ impl PlanError {
             PlanError::BlockOverlap => 5,
             PlanError::DrawTooLarge => 6,
             PlanError::DrawTwice => 7,
+            PlanError::UnknownGear => 8,
+            PlanError::GearTwice => 9,
+            PlanError::ShortTwice => 10,
+            PlanError::RandomTooLarge => 11,
+            PlanError::RandomTwice => 12,
         }
     }
 }
@@ -149,6 +174,31 @@ fn refusal(gear: u32, blocks: &[(u8, u8)], draws: &[u32]) -> Option<PlanError>
     None
 }
 
+/// Why used gear are refused to a plan: the first cause that holds.
+fn used_refusal(plan: &Plan, used: &[Used]) -> Option<PlanError>
+    ensures { result ≡ used_refusal_of plan.now used.now }
+{
+    if some_unknown(used, plan.gear()) {
+        return Some(PlanError::UnknownGear);
+    }
+    if some_share(used, Mark::Gear) {
+        return Some(PlanError::GearTwice);
+    }
+    if some_share(used, Mark::Short) {
+        return Some(PlanError::ShortTwice);
+    }
+    if some_too_large(used) {
+        return Some(PlanError::RandomTooLarge);
+    }
+    if some_share(used, Mark::Random) {
+        return Some(PlanError::RandomTwice);
+    }
+    if some_drawn(used, plan.draws()) {
+        return Some(PlanError::RandomTwice);
+    }
+    None
+}
+
 /// The blocks of short addresses, which end by 63.
 fn blocks_of(alloc: Global, blocks: &[(u8, u8)]) -> Result<Vec<Block>, AllocError>
     requires { list_any is_misordered blocks.now ≡ false }
@@ -184,6 +234,7 @@ pub struct Plan {
     gear: u32,
     blocks: Vec<Block>,
     draws: Vec<Random24>,
+    used: Vec<Used>,
 }
 
 impl Model for Plan {
@@ -192,15 +243,25 @@ impl Model for Plan {
 
     ghost Value = { Plan };
 
-    ghost view = { λ p. record { gear = p.gear; blocks = p.blocks.items; draws = p.draws.items } };
+    ghost view = { λ p. record {
+      gear = p.gear;
+      blocks = p.blocks.items;
+      draws = p.draws.items;
+      used = p.used.items;
+    } };
 
-    ghost invariant = { λ p. IsPlan (record { gear = p.gear; blocks = p.blocks.items; draws = p.draws.items })
-        × (1 ≤ p.gear) × (p.gear ≤ 128) × (1 ≤ length p.blocks.items) × (length p.blocks.items ≤ 4)
+    ghost invariant = { λ p. IsPlan (record {
+      gear = p.gear;
+      blocks = p.blocks.items;
+      draws = p.draws.items;
+      used = p.used.items;
+    }) × (1 ≤ p.gear) × (p.gear ≤ 128) × (1 ≤ length p.blocks.items) × (length p.blocks.items ≤ 4)
         × (length p.draws.items ≤ 1024) };
 }
 
 impl Plan {
-    ghost use Rattle.dali_events.specs.Plan.{Plan, IsPlan, plan_of, refusal_of, IsRefusal};
+    ghost use Rattle.dali_events.specs.Plan.{Plan, IsPlan, AreUsed, plan_of, refusal_of, IsRefusal};
+    ghost use Rattle.dali_events.specs.Plan.{plan_with, used_refusal_of, IsUsedRefusal};
 
     /// A plan of so many gear, with the first and the last address of each controller's block, and at most 1,024
     /// numbers to be drawn. The first cause of a refusal is answered.
@@ -224,6 +285,32 @@ impl Plan {
             gear,
             blocks,
             draws,
+            used: Vec::new(alloc),
+        })
+    }
+
+    /// The plan with these used gear, in place of those that it had. The first cause of a refusal is answered; a
+    /// refusal drops the plan.
+    pub fn with_used(self, alloc: Global, used: &[Used]) -> Result<Plan, PlanError>
+        ensures ok { IfOk result (λ plan. (used_refusal_of self used.now ≡ None) × (plan ≡ plan_with self used.now)) }
+        ensures refused { IfErr result (IsUsedRefusal self used.now) }
+    {
+        if let Some(error) = used_refusal(&self, used) {
+            return Err(error);
+        }
+        all_short(used);
+        let used = Vec::from_slice(alloc, used)?;
+        let Plan {
+            gear,
+            blocks,
+            draws,
+            used: _,
+        } = self;
+        Ok(Plan {
+            gear,
+            blocks,
+            draws,
+            used,
         })
     }
 
@@ -252,5 +339,25 @@ impl Plan {
         ensures few { length self.now.draws ≤ 1024 }
     {
         self.draws.as_slice()
+    }
+
+    /// The gear as they are at the start.
+    pub fn row(&self) -> Row
+        ensures { result ≡ with_used (replicate self.now.gear fresh) self.now.used }
+    {
+        let mut row = Row::new(self.gear as usize);
+        for used in self.used() {
+            row.place(used.gear as usize, used.random, used.short);
+        }
+        row
+    }
+
+    /// The used gear: those that come with a short address.
+    pub fn used(&self) -> &[Used]
+        ensures value { result.now ≡ self.now.used }
+        ensures used { AreUsed self.now }
+        ensures few { length self.now.used ≤ self.now.gear }
+    {
+        self.used.as_slice()
     }
 }

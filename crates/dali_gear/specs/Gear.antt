@@ -156,6 +156,17 @@ fresh = record {
   half = None;
 }
 
+-- a gear from the factory that drew a random address and stored a short address under it
+abbrev pub addressed : ℕ → ℕ → Gear
+addressed r a = record {
+  powered = true;
+  state = Disabled;
+  random = r;
+  search = search_mask;
+  short = Some a;
+  half = None;
+}
+
 abbrev pub without_power : Gear → Gear
 without_power g = record g { powered = false }
 

@@ -70,7 +70,7 @@ impl Gear {
     ghost use Rattle.dali_gear.specs.Gear.{after_frame, answer_to, would_draw, fresh, without_power, with_power};
     ghost use Rattle.dali_gear.specs.Gear.{gear_expired, gear_quieted, is_active, is_found, answer, byte_at};
     ghost use Rattle.dali_gear.specs.Gear.{gear_taken, state_after, random_after, search_after, short_after};
-    ghost use Rattle.dali_gear.specs.Gear.{half_after, concerns, is_second, draws_a_number};
+    ghost use Rattle.dali_gear.specs.Gear.{half_after, concerns, is_second, draws_a_number, addressed};
 
     /// A gear from the factory: powered, DISABLED, without short address and with random address `FFFFFF`.
     pub fn new() -> Gear
@@ -82,6 +82,20 @@ impl Gear {
             random: Random24::MASK,
             search: SearchAddress::MASK,
             short: None,
+            half: None,
+        }
+    }
+
+    /// A gear that comes with a random and a short address, and else is as from the factory.
+    pub fn addressed(random: Random24, short: Short) -> Gear
+        ensures { result ≡ addressed random short }
+    {
+        Gear {
+            powered: true,
+            state: InitialisationState::Disabled,
+            random,
+            search: SearchAddress::MASK,
+            short: Some(short),
             half: None,
         }
     }

@@ -82,7 +82,7 @@ impl Model for Row {
 impl Row {
     ghost use Rattle.dali_frame.specs.Random.{MASK24};
     ghost use Rattle.dali_special.specs.declared.command.Command.TheVariants.{Randomise};
-    ghost use Rattle.dali_gear.specs.Gear.{draws_a_number, answer, without_power, with_power};
+    ghost use Rattle.dali_gear.specs.Gear.{draws_a_number, answer, without_power, with_power, addressed};
     ghost use Rattle.dali_gear.specs.Gear.{gear_expired, gear_quieted};
     ghost use Rattle.dali_gear.specs.Row.{row_after, answers_of, heard_of, draws_needed};
     ghost use Rattle.dali_gear.specs.Columns.{IsUnpaired};
@@ -212,6 +212,14 @@ impl Row {
             self.pair(number, first);
         }
         self.put(number, gear);
+    }
+
+    /// A gear, which must be there, is one that comes with a random and a short address.
+    pub fn place(&mut self, number: usize, random: Random24, short: Short)
+        requires { number < length self.old }
+        ensures { self.new ≡ slice_set self.old number (addressed random short) }
+    {
+        self.set(number, Gear::addressed(random, short));
     }
 
     /// A gear, which must be there, loses its power.

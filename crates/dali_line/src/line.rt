@@ -110,7 +110,8 @@ impl<P0: Ledger, P1: Ledger, P2: Ledger, P3: Ledger, D: Ledger> Line<P0, P1, P2,
     /// The port's controller acts on an input, as `SiteState::act` says: on what `next` says, or on the outcome of its
     /// commit where `due` is Store. The receipt's number is the port's share with this step.
     ///
-    /// Refusals, in this order: 1 UnknownController, 2 ControllerDown, 3 NotDue, 7 QueueFull, 8 LogFull.
+    /// Refusals, in this order: 1 UnknownController, 2 ControllerDown, 3 NotDue, 7 QueueFull, 8 LogFull,
+    /// 10 AddressInUse.
     pub fn act<R: Wait>(
         &self,
         rt: &R,

@@ -187,7 +187,8 @@ fn end_refused(refusal: Refusal, input: Input) -> Option<Outcome> {
             | Refusal::StoreDisagrees
             | Refusal::DrawsSpent
             | Refusal::LogFull
-            | Refusal::NoMemory,
+            | Refusal::NoMemory
+            | Refusal::AddressInUse,
             _,
         ) => Some(Outcome::Refused(refusal)),
     }

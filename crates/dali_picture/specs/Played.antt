@@ -42,7 +42,7 @@ BenchRuns w (l ∷ ls) log v more =
 
 -- THE LOG OF A SCRIPT: that of the site that its lines lead to, or of the bench.
 abbrev pub IsLogOf : Bool → Plan → NumberedLines → List Event → Type 0
-IsLogOf true p lines log = (w : BenchState) × BenchRuns (start p.gear p.draws) lines [] w log
+IsLogOf true p lines log = (w : BenchState) × BenchRuns (start p) lines [] w log
 IsLogOf false p lines log =
     (m : Installation) × HavePlayed (installation_of p) lines [] m None None × (log ≡ m.site.log)
 

@@ -56,7 +56,7 @@ impl<'a> Picture<'a> {
         } else {
             128
         };
-        let stays = stays_of(alloc, gear, &played.draws, &played.log)?;
+        let stays = stays_of(alloc, gear, &played.used, &played.draws, &played.log)?;
         Ok(Picture {
             played,
             marks,

@@ -11,7 +11,7 @@ use dali_replay::{
     Bench, BenchLine, Installation, ReplayFault, Script, bench_line_of, plan, push_gear,
     push_table, report_site, site_line_of,
 };
-use dali_world::{Event, Plan};
+use dali_world::{Event, Plan, Used};
 use std::alloc::{AllocError, Global};
 
 /// A line of a script, and what it caused.
@@ -33,6 +33,7 @@ pub struct Played<'a> {
     pub gear: u32,
     pub controllers: u8,
     pub draws: Vec<Random24>,
+    pub used: Vec<Used>,
     pub lines: Vec<PlayedLine<'a>>,
     /// What all lines reported, one after the other. A bench reports `ok` or `refused`.
     pub reports: String,
@@ -198,6 +199,7 @@ impl<'a> Played<'a> {
         ensures { IfOk result (λ played. played.log.items ≡ []) }
     {
         let draws = copy_of(alloc, plan.draws())?;
+        let used = copy_of(alloc, plan.used())?;
         Ok(Played {
             gear: plan.gear(),
             controllers: if is_bench {
@@ -206,6 +208,7 @@ impl<'a> Played<'a> {
                 plan.blocks().len() as u8
             },
             draws,
+            used,
             lines: Vec::new(alloc),
             reports: String::new(alloc),
             log: Vec::new(alloc),

@@ -6,7 +6,7 @@ ghost use Rattle.dali_frame.specs.Random.{MASK24};
 use dali_frame::{Forward, Random24, Short};
 use dali_gear::{Gear, InitialisationState, Reach, Row};
 use dali_special::Command;
-use dali_world::Event;
+use dali_world::{Event, Used};
 use std::alloc::{AllocError, Global};
 
 /// What a gear shows.
@@ -187,16 +187,29 @@ fn is_felt(event: Event) -> bool {
     }
 }
 
-/// What so many gear showed, from the factory on, while this happened, in which they drew of these numbers.
+/// Used gear stand in their places, where these are there.
+fn place(gear: &mut Row, used: &[Used]) {
+    for one in used {
+        let number = one.gear as usize;
+        if number < gear.len() {
+            gear.place(number, one.random, one.short);
+        }
+    }
+}
+
+/// What so many gear showed while this happened, in which they drew of these numbers. All but the used ones come from
+/// the factory.
 pub fn stays_of(
     alloc: Global,
     gear: usize,
+    used: &[Used],
     draws: &[Random24],
     log: &[Event],
 ) -> Result<Vec<Stay>, AllocError>
     requires { gear ≤ 128 }
 {
-    let gear = Row::new(gear);
+    let mut gear = Row::new(gear);
+    place(&mut gear, used);
     let since = at_first(alloc, &gear)?;
     let mut watch = Watch {
         gear,

@@ -20,6 +20,7 @@ use Rattle.dali_events.specs.declared.event.Event.TheVariants as event
 use Rattle.dali_events.specs.Plan.{Plan}
 use Rattle.dali_events.specs.World.{controller_at}
 use Rattle.dali_events.specs.Allowed.{Allowed, IsDue}
+use Rattle.dali_events.proofs.Invariant.Growing.{leaves_none}
 use Rattle.dali_events.proofs.Plans.{plan_is}
 use Rattle.dali_world.specs.Site.{SiteState, world, next_request, site_logged}
 use Rattle.dali_progress.specs.Rounds.{StartsAlone, IsOfRound, site_after, GoesOn, HasEnded}
@@ -45,7 +46,7 @@ abbrev pub second_block : Block
 second_block = record { first = 4; last = 7 }
 
 abbrev pub two_controllers : Plan
-two_controllers = record { gear = 1; blocks = block ∷ second_block ∷ []; draws = 0x123456 ∷ [] }
+two_controllers = record { gear = 1; blocks = block ∷ second_block ∷ []; draws = 0x123456 ∷ []; used = [] }
 
 abbrev pub shared_site : SiteState
 shared_site = record { plan = two_controllers; queue = 8; room = 64; log = [] }
@@ -66,7 +67,7 @@ given_second = first_given (at_first 1 (without_records second_block)) input.Sta
 
 pub starts : StartsAlone shared_site 0
 starts = record {
-  run = record { plan = plan_is 1 ((0, 3) ∷ (4, 7) ∷ []) (0x123456 ∷ []) refl; allowed = tt };
+  run = record { plan = plan_is 1 ((0, 3) ∷ (4, 7) ∷ []) (0x123456 ∷ []) refl; allowed = tt; leaves = tt };
   up = record { known = lit< tt; up = refl };
   told = refl;
   last = refl;
@@ -81,10 +82,10 @@ rounds : RoundsOfBoth shared_site 0 1 taking_the_bus
 unfolding command_of stage_of
 rounds = (
   record { up = record { known = lit< tt; up = refl }; due = refl; order = inl (refl, (block, [], (Open, tt, refl))) },
-  inr (refl, tt, given_second),
+  inr (refl, tt, given_second, leaves_none two_controllers _ refl),
   (
     record { up = record { known = lit< tt; up = refl }; due = refl; order = inl (refl, (block, [], (Open, tt, refl))) },
-    inl (refl, tt, given_first),
+    inl (refl, tt, given_first, leaves_none two_controllers _ refl),
     (
       record { up = record { known = lit< tt; up = refl }; may = inr (refl, (block, [], (Open, tt, refl))); draws = lit≤ tt; heard = tt },
       inr (request_of 1 3 (frame 0xA1 0), refl, refl, refl, refl),

@@ -13,6 +13,7 @@ use Rattle.dali_events.specs.World.{start}
 use Rattle.dali_events.specs.Allowed.{Allowed}
 use Rattle.dali_standing.specs.Standing.{machines_at}
 use Rattle.dali_world.specs.Site.{SiteState, world, machines, site_logged}
+use Rattle.dali_events.proofs.Invariant.Growing.{leaves_none}
 use Rattle.dali_progress.specs.Rounds.{StartsAlone, IsOfRound, Rounds, site_after, HasEnded, IsDone}
 use Rattle.dali_progress.proofs.Session.{block, opening, searching, compare, ending, given_first, given_initialise, given_initialise_again, given_randomise}
 use Rattle.dali_progress.proofs.Session.{given_randomise_again}
@@ -62,7 +63,7 @@ other_plays : AreOfOther (site_after shared_site opening) 1 terminating_once
 unfolding command_of stage_of
 other_plays = (
   record { up = record { known = lit< tt; up = refl }; due = refl; order = inl (refl, (block, [], (Open, tt, refl))) },
-  inl (refl, tt, given_second),
+  inl (refl, tt, given_second, leaves_none two_controllers _ refl),
   (
     record { up = record { known = lit< tt; up = refl }; may = inr (refl, (block, [], (Open, tt, refl))); draws = lit≤ tt; heard = tt },
     inl (request_of 1 3 (frame 0xA1 0), refl, refl, refl, refl),
@@ -85,9 +86,9 @@ unfolding command_of stage_of
 another_terminates = record {
   starts = starts;
   apart = λ same. cc;
-  before = rounds_by shared_site 0 opening opening_plays;
+  before = rounds_by shared_site 0 opening refl opening_plays;
   between = other_plays;
-  afterwards = rounds_by (site_after (site_after shared_site opening) terminating_once) 0 rest_of_session searching_plays;
+  afterwards = rounds_by (site_after (site_after shared_site opening) terminating_once) 0 rest_of_session refl searching_plays;
   ended = refl;
   untrue = λ all. let short = all 0 (lit< tt) refl in no_short short.0 short.1;
 }

@@ -27,7 +27,7 @@ use Rattle.dali_events.specs.Plan.{Plan, IsPlan}
 use Rattle.dali_events.specs.World.{World, controller_at, start}
 use Rattle.dali_events.specs.Happens.{happens}
 use Rattle.dali_events.specs.Allowed.{Allowed, IsUp, IsDue}
-use Rattle.dali_events.specs.Runs.{IsRun, AreDrawn}
+use Rattle.dali_events.specs.Runs.{IsRun, AreDrawn, LeavesUsed}
 use Rattle.dali_events.specs.Wanted.{is_bare}
 use Rattle.dali_events.proofs.Invariant.Drawn.{are_drawn, draws_after}
 use Rattle.dali_events.proofs.Invariant.Growing.{after_more, run_more}
@@ -55,8 +55,9 @@ pub record Runs (before : List Gear) (s : SiteState) (c left : ℕ) : Type 0 whe
 pub world_logged : (s : SiteState) (e : Event) → world (site_logged s e) ≡ happens (world s) e
 world_logged s e = after_more (start s.plan s.queue) s.log e
 
-pub run_logged : (s : SiteState) (e : Event) → IsRun s.plan s.queue s.log → Allowed (world s) e → IsRun s.plan s.queue (site_logged s e).log
-run_logged s e run here = run_more s.plan s.queue s.log e run here
+pub run_logged : (s : SiteState) (e : Event) → IsRun s.plan s.queue s.log → Allowed (world s) e → LeavesUsed s.plan.used e
+    → IsRun s.plan s.queue (site_logged s e).log
+run_logged s e run here leaves = run_more s.plan s.queue s.log e run here leaves
 
 pub machines_logged : (s : SiteState) (e : Event) → machines (site_logged s e) ≡ machines_after (world s) (machines s) e
 machines_logged s e = machines_more (start s.plan s.queue) (machines_at 0 s.plan.blocks) s.log e
@@ -87,8 +88,8 @@ pub record RunsOn (before : List Gear) (s : SiteState) (c left : ℕ) (e : Event
   pub runs : Runs before (site_logged s e) c rest
 
 acted_on : (before : List Gear) (s : SiteState) (c left : ℕ) (i : Input) (o : Order) → Runs before s c left → Allowed (world s) (event.Acted c i o) → Succeeds i
-    → MayAnswer (machine_at s c) i o → RunsOn before s c left (event.Acted c i o)
-acted_on before s c left i o r here good may =
+    → MayAnswer (machine_at s c) i o → LeavesUsed s.plan.used (event.Acted c i o) → RunsOn before s c left (event.Acted c i o)
+acted_on before s c left i o r here good may leaves =
     let given : IsGiven r.machine i o = subst (λ n. MayAnswer n i o) r.there may in
     record {
       rest = left;
@@ -97,7 +98,7 @@ acted_on before s c left i o r here good may =
           (subst (λ w. slack_in w c + 1 ≤ slack_in (world s) c) (sym (world_logged s (event.Acted c i o)))
           (acted_less before (world s) s.queue c r.machine i o left r.goes good here given (kept_now s c r.run r.goes.lone.up)));
       runs = record {
-        run = run_logged s (event.Acted c i o) r.run here;
+        run = run_logged s (event.Acted c i o) r.run here leaves;
         machine = machine_after r.machine i o;
         there = acted_machine s c i o r.machine r.there;
         goes = subst (λ w. Goes before w s.queue c (machine_after r.machine i o) left) (sym (world_logged s (event.Acted c i o)))
@@ -112,7 +113,8 @@ sent_on : (before : List Gear) (s : SiteState) (c left : ℕ) (r : Request) (h :
     → Allowed (world s) (event.Sent r.sender r.frame h) → next_request s ≡ Some r
     → h ≡ heard_of (answers_of Everyone (command_of r.frame) 0 (world s).gear) → RunsOn before s c left (event.Sent r.sender r.frame h)
 sent_on before s c left r h u here is heard =
-    let run : IsRun s.plan s.queue (site_logged s (event.Sent r.sender r.frame h)).log = run_logged s (event.Sent r.sender r.frame h) u.run here in
+    let run : IsRun s.plan s.queue (site_logged s (event.Sent r.sender r.frame h)).log =
+    run_logged s (event.Sent r.sender r.frame h) u.run here (λ d i a n e has. cc) in
     let known : IsKnown (world s) r.sender r.frame h = record {
       drawn = drawn_now s u.run;
       then = subst AreDrawn (world_logged s (event.Sent r.sender r.frame h)) (drawn_now (site_logged s (event.Sent r.sender r.frame h)) run);
@@ -145,8 +147,8 @@ sent_by before s c left d f h u here of =
 pub runs_on : (before : List Gear) (s : SiteState) (c left : ℕ) (e : Event) → Runs before s c left → Allowed (world s) e → IsOfRound s c e
     → RunsOn before s c left e
 runs_on before s c left (event.Acted d i o) u here of =
-    subst (λ n. Allowed (world s) (event.Acted n i o) → RunsOn before s c left (event.Acted n i o)) (sym of.0)
-    (λ now. acted_on before s c left i o u now of.1 of.2) here
+    subst (λ n. Allowed (world s) (event.Acted n i o) → LeavesUsed s.plan.used (event.Acted n i o) → RunsOn before s c left (event.Acted n i o)) (sym of.0)
+    (λ now leaves. acted_on before s c left i o u now of.1 of.2 leaves) here of.3
 runs_on before s c left (event.Sent d f h) u here of = sent_by before s c left d f h u here of
 runs_on before s c left _ u here of = absurd of
 
@@ -222,7 +224,7 @@ few_events s c es a rounds =
 -- A NEW SITE of one controller begins so
 pub begins_alone : (p : Plan) (queue room : ℕ) (b : Block) → IsPlan p → p.blocks ≡ b ∷ [] → StartsAlone (opened_site p queue room) 0
 begins_alone p queue room b plan one = record {
-  run = record { plan = plan; allowed = tt };
+  run = record { plan = plan; allowed = tt; leaves = tt };
   up = record { known = rw one (omega arith); up = rw one refl };
   told = rw one refl;
   last = rw one refl;

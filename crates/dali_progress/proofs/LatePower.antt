@@ -7,6 +7,7 @@ use Rattle.dali_events.specs.World.{start}
 use Rattle.dali_events.specs.Happens.{happens}
 use Rattle.dali_standing.specs.Standing.{machines_at}
 use Rattle.dali_world.specs.Site.{SiteState}
+use Rattle.dali_events.proofs.Invariant.Growing.{leaves_none}
 use Rattle.dali_progress.specs.Rounds.{StartsAlone}
 use Rattle.dali_progress.proofs.Session.{block, compare, ending, given_first, given_initialise, given_initialise_again, given_randomise, given_randomise_again}
 use Rattle.dali_progress.proofs.Session.{given_high, given_middle, given_low, given_compare, given_close, given_done}
@@ -22,7 +23,7 @@ dark_site = record { plan = plan; queue = 8; room = 64; log = event.Power 0 fals
 
 starts : StartsAlone dark_site 0
 starts = record {
-  run = record { plan = is_plan; allowed = (tt, tt) };
+  run = record { plan = is_plan; allowed = (tt, tt); leaves = (leaves_none plan (event.Power 0 false) refl, tt) };
   up = record { known = lit< tt; up = refl };
   told = refl;
   last = refl;
@@ -57,7 +58,7 @@ pub power_comes_late : BreaksEnd dark_site 0 whole_session (event.Power 0 true) 
 unfolding command_of stage_of
 power_comes_late = record {
   starts = starts;
-  before = rounds_by dark_site 0 whole_session session_plays;
+  before = rounds_by dark_site 0 whole_session refl session_plays;
   allowed = tt;
   afterwards = tt;
   ended = refl;

@@ -23,7 +23,7 @@ use Rattle.dali_progress.proofs.Playing.{Plays, rounds_by, plays_by, BreaksEnd}
 
 -- one gear, which draws one number, and one controller
 abbrev pub plan : Plan
-plan = record { gear = 1; blocks = block ∷ []; draws = 0x123456 ∷ [] }
+plan = record { gear = 1; blocks = block ∷ []; draws = 0x123456 ∷ []; used = [] }
 
 pub is_plan : IsPlan plan
 is_plan = plan_is 1 ((0, 3) ∷ []) (0x123456 ∷ []) refl
@@ -33,7 +33,7 @@ site = record { plan = plan; queue = 8; room = 64; log = [] }
 
 pub starts : StartsAlone site 0
 starts = record {
-  run = record { plan = is_plan; allowed = tt };
+  run = record { plan = is_plan; allowed = tt; leaves = tt };
   up = record { known = lit< tt; up = refl };
   told = refl;
   last = refl;
@@ -59,7 +59,7 @@ before_compare = plays_by (start plan 8) (machines_at 0 (block ∷ [])) 0 up_to_
 )
 
 before_compare_rounds : Rounds site 0 up_to_compare
-before_compare_rounds = rounds_by site 0 up_to_compare before_compare
+before_compare_rounds = rounds_by site 0 up_to_compare refl before_compare
 
 no_short : (a : ℕ) → None ≡ Some a → ⊥
 no_short a same = cc
@@ -83,7 +83,7 @@ answer_is_lost = record {
   starts = starts;
   before = before_compare_rounds;
   allowed = allowed_by (world (site_after site up_to_compare)) compare refl;
-  afterwards = rounds_by (site_logged (site_after site up_to_compare) compare) 0 ending lost_ending;
+  afterwards = rounds_by (site_logged (site_after site up_to_compare) compare) 0 ending refl lost_ending;
   ended = refl;
   untrue = λ all. let short = all 0 (lit< tt) refl in no_short short.0 short.1;
 }
@@ -105,7 +105,7 @@ initialisation_expires = record {
   starts = starts;
   before = before_compare_rounds;
   allowed = tt;
-  afterwards = rounds_by (site_logged (site_after site up_to_compare) (event.Expired 0)) 0 (compare ∷ ending) expired_ending;
+  afterwards = rounds_by (site_logged (site_after site up_to_compare) (event.Expired 0)) 0 (compare ∷ ending) refl expired_ending;
   ended = refl;
   untrue = λ all. let short = all 0 (lit< tt) refl in no_short short.0 short.1;
 }

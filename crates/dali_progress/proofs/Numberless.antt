@@ -31,14 +31,14 @@ pub record IsStuck (s : SiteState) (c : ℕ) (es : List Event) : Type 0 where
   pub stuck : (e : Event) → Allowed (world (site_after s es)) e → IsOfRound (site_after s es) c e → ⊥
 
 abbrev pub numberless : Plan
-numberless = record { gear = 1; blocks = block ∷ []; draws = [] }
+numberless = record { gear = 1; blocks = block ∷ []; draws = []; used = [] }
 
 abbrev pub spent_site : SiteState
 spent_site = record { plan = numberless; queue = 8; room = 64; log = [] }
 
 starts : StartsAlone spent_site 0
 starts = record {
-  run = record { plan = plan_is 1 ((0, 3) ∷ []) [] refl; allowed = tt };
+  run = record { plan = plan_is 1 ((0, 3) ∷ []) [] refl; allowed = tt; leaves = tt };
   up = record { known = lit< tt; up = refl };
   told = refl;
   last = refl;
@@ -94,7 +94,7 @@ unended e ended = cc
 pub no_number_is_left : IsStuck spent_site 0 up_to_draw
 no_number_is_left = record {
   starts = starts;
-  rounds = rounds_by spent_site 0 up_to_draw before_draw;
+  rounds = rounds_by spent_site 0 up_to_draw refl before_draw;
   unended = unended;
   stuck = no_round;
 }

@@ -19,7 +19,7 @@ use Rattle.dali_events.specs.declared.event.Event.TheVariants as event
 use Rattle.dali_events.specs.World.{World, start}
 use Rattle.dali_events.specs.Happens.{happens}
 use Rattle.dali_events.specs.Allowed.{Allowed}
-use Rattle.dali_events.proofs.Invariant.Growing.{after_more}
+use Rattle.dali_events.proofs.Invariant.Growing.{after_more, leaves_none}
 use Rattle.dali_events.proofs.Histories.Tested.{is_allowed, allowed_by}
 use Rattle.dali_standing.specs.Seats.{MayAnswer}
 use Rattle.dali_standing.specs.Standing.{machine_in, machines_at, machines_after}
@@ -33,7 +33,7 @@ use Rattle.dali_progress.proofs.Bounded.{ends}
 -- ---------------------------------------------------------------- rounds, with the world at hand
 
 -- Rounds as a site's log has them begin with the whole log at each event. Here the world and the
--- machines go along, so that a concrete history is computed once.
+-- machines go along, so that a concrete history is computed once; and there are no used gear.
 abbrev pub OfRound : World → List (Option Machine) → ℕ → Event → Type 0
 OfRound w ms c (event.Acted d i o) = (d ≡ c) × Succeeds i × MayAnswer (machine_in ms c) i o
 OfRound w ms c (event.Sent d f h) =
@@ -44,17 +44,17 @@ abbrev pub Plays : World → List (Option Machine) → ℕ → List Event → Ty
 Plays w ms c [] = Unit {0}
 Plays w ms c (e ∷ es) = Allowed w e × OfRound w ms c e × Plays (happens w e) (machines_after w ms e) c es
 
-of_round : (s : SiteState) (c : ℕ) (e : Event) → OfRound (world s) (machines s) c e → IsOfRound s c e
-of_round s c (event.Acted d i o) of = of
-of_round s c (event.Sent d f h) of = of
-of_round s c _ of = absurd of
+of_round : (s : SiteState) (c : ℕ) (e : Event) → s.plan.used ≡ [] → OfRound (world s) (machines s) c e → IsOfRound s c e
+of_round s c (event.Acted d i o) none of = (of.0, of.1, of.2, leaves_none s.plan (event.Acted d i o) none)
+of_round s c (event.Sent d f h) none of = of
+of_round s c _ none of = absurd of
 
-pub rounds_by : (s : SiteState) (c : ℕ) (es : List Event) → Plays (world s) (machines s) c es → Rounds s c es
-rounds_by s c [] plays = tt
-rounds_by s c (e ∷ es) plays = (
+pub rounds_by : (s : SiteState) (c : ℕ) (es : List Event) → s.plan.used ≡ [] → Plays (world s) (machines s) c es → Rounds s c es
+rounds_by s c [] none plays = tt
+rounds_by s c (e ∷ es) none plays = (
   plays.0,
-  of_round s c e plays.1,
-  rounds_by (site_logged s e) c es
+  of_round s c e none plays.1,
+  rounds_by (site_logged s e) c es none
       (subst (λ w. Plays w (machines (site_logged s e)) c es) (sym (after_more (start s.plan s.queue) s.log e))
       (subst (λ ms. Plays (happens (world s) e) ms c es) (sym (machines_more (start s.plan s.queue) (machines_at 0 s.plan.blocks) s.log e)) plays.2)),
 )

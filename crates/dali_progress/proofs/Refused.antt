@@ -2,7 +2,7 @@ use Rattle.std.proofs.Common.{◌≡◌, ℕ, ◌+◌, ◌*◌, ◌<◌, ◌≤�
 use Rattle.std.proofs.Common.{length, Option, Some, None}
 use Rattle.std.specs.Prelude.{if◌then◌else◌, is_some}
 use Rattle.std.specs.List.{count_by}
-use Rattle.std.proofs.lemmas.List.{length_push, length-replicate}
+use Rattle.std.proofs.lemmas.List.{length_push}
 use Rattle.std.proofs.lemmas.List.Sums.{count_by-le-length}
 use Rattle.dali_arbiter.specs.Arbiter.{total}
 use Rattle.dali_script.specs.declared.block.Block.{Block}
@@ -16,6 +16,11 @@ use Rattle.dali_script.specs.declared.orders.Due.TheVariants as due
 use Rattle.dali_script.specs.Due.{due_after}
 use Rattle.dali_controller.specs.Machine.{Machine}
 use Rattle.dali_events.specs.declared.event.Event.{Event}
+use Rattle.dali_script.specs.Records.{Has}
+use Rattle.dali_script.specs.declared.records.Record.TheVariants.{Reserve}
+use Rattle.dali_events.specs.declared.used.Used.{Used}
+use Rattle.dali_events.specs.Used.{used_shorts}
+use Rattle.dali_events.proofs.Invariant.Starting.{start_count}
 use Rattle.dali_events.specs.Plan.{Plan, IsPlan}
 use Rattle.dali_events.specs.World.{World, Controller, controller_at}
 use Rattle.dali_events.specs.Allowed.{IsDue, IsCommit}
@@ -23,7 +28,7 @@ use Rattle.dali_events.specs.Wanted.{is_bare}
 use Rattle.dali_standing.specs.declared.refusal.Refusal.{Refusal}
 use Rattle.dali_standing.specs.declared.refusal.Refusal.TheVariants as refusal
 use Rattle.dali_standing.specs.declared.trouble.Trouble.TheVariants as trouble
-use Rattle.dali_standing.specs.Seats.{due_of}
+use Rattle.dali_standing.specs.Seats.{due_of, ReservesUsed}
 use Rattle.dali_world.specs.Site.{SiteState, world, site_logged, opened_site, IsBarred, IsActRefused, IsPumpRefused}
 use Rattle.dali_replay.specs.declared.rounds.Round.TheVariants as round
 use Rattle.dali_replay.specs.Installation.{Installation, installation_of, IsGiven, IsGivenBy, HasNoneBy, IsGoRefused, controller}
@@ -98,6 +103,7 @@ pub record IsWell (s : SiteState) : Type 0 where
   pub moment : Moment (world s) s.queue 0 machine (controller_at (world s) 0).outstanding (controller_at (world s) 0).last (controller_at (world s) 0).told
   pub waits : 0 < s.queue
   pub fits : length s.log < s.room
+  pub factory : s.plan.used ≡ []
 
 due_last : (k : Controller) → k.up ≡ true → due_of k ≡ due_after k.last
 due_last k up = rw up refl
@@ -140,6 +146,12 @@ not_barred s refusal.ControllerDown well one barred =
     cc
 not_barred s _ well one barred = barred
 
+nothing_used : (us : List Used) → us ≡ [] → (o : Order) → ReservesUsed us o → ⊥
+nothing_used us none (Commit (Reserve a r)) has = go (subst (λ (vs : List Used). Has (used_shorts vs) a) none has) where
+  go : Has (used_shorts []) a → ⊥
+  go h = elim h [ ]
+nothing_used us none _ has = has
+
 act_never : (s : SiteState) (i : Input) (e : Refusal) → IsWell s → length s.plan.blocks ≡ 1 → IsDue (controller_at (world s) 0) i → total (world s).bus ≡ 0
     → IsActRefused s 0 i e → ⊥
 act_never s i refusal.NotDue well one has free refused = refused.1 has
@@ -149,6 +161,7 @@ act_never s i refusal.QueueFull well one has free refused = crowded (total (worl
 act_never s i refusal.LogFull well one has free refused = full (length s.log) s.room refused.3 well.fits where
   full : (x r : ℕ) → x ≡ r → x < r → ⊥
   full x r is less = omega (arith, is, less)
+act_never s i refusal.AddressInUse well one has free refused = nothing_used s.plan.used well.factory refused.4.0 refused.4.2
 act_never s i refusal.UnknownController well one has free refused = not_barred s refusal.UnknownController well one refused
 act_never s i refusal.ControllerDown well one has free refused = not_barred s refusal.ControllerDown well one refused
 act_never s i _ well one has free refused = refused
@@ -202,12 +215,18 @@ queue_after : (s : SiteState) (es : List Event) → (site_after s es).queue ≡ 
 queue_after s [] = refl
 queue_after s (e ∷ es) = queue_after (site_logged s e) es
 
-well_after : (s t : SiteState) (k f : ℕ) → StartsAlone s 0 → 0 < s.queue → length s.log + 333 * count_by is_bare (world s).gear + 31 < s.room → Comes s t k f
+plan_after : (s : SiteState) (es : List Event) → (site_after s es).plan ≡ s.plan
+plan_after s [] = refl
+plan_after s (e ∷ es) = plan_after (site_logged s e) es
+
+well_after : (s t : SiteState) (k f : ℕ) → StartsAlone s 0 → s.plan.used ≡ [] → 0 < s.queue → length s.log + 333 * count_by is_bare (world s).gear + 31 < s.room
+    → Comes s t k f
     → IsWell t
-well_after s t k f alone waits fits comes = subst IsWell (sym comes.is) (record {
+well_after s t k f alone none waits fits comes = subst IsWell (sym comes.is) (record {
   up = all.runs.goes.lone.up.up;
   machine = all.runs.machine;
   moment = all.runs.goes.lone.moment;
+  factory = ap (λ (p : Plan). p.used) (plan_after s comes.events) ∙ none;
   waits = subst (λ x. 0 < x) (sym (queue_after s comes.events)) waits;
   fits = less (length (site_after s comes.events).log) (length s.log) (length comes.events) (count_by is_bare (world s).gear)
       (site_after s comes.events).room s.room
@@ -226,18 +245,18 @@ pub record IsSpentOut (s t : SiteState) : Type 0 where
   pub comes : Comes s t rounds sent
   pub spent : IsPumpRefused t trouble.None refusal.DrawsSpent
 
-pub run_to : (limit : ℕ) (n : Installation) (sent : ℕ) (text : List ℕ) (m : Installation) → StartsAlone n.site 0 → controllers n ≡ 1
+pub run_to : (limit : ℕ) (n : Installation) (sent : ℕ) (text : List ℕ) (m : Installation) → StartsAlone n.site 0 → n.site.plan.used ≡ [] → controllers n ≡ 1
     → 333 * count_by is_bare (world n.site).gear + 31 < limit → 0 < n.site.queue
     → length n.site.log + 333 * count_by is_bare (world n.site).gear + 31 < n.site.room → Ran limit n sent text m
     → HasCommissioned n.site m.site 0 ⊎ IsSpentOut n.site m.site
-run_to limit n sent text m alone one enough waits fits ran = go (run_ends limit n sent text m alone one enough ran) where
+run_to limit n sent text m alone none one enough waits fits ran = go (run_ends limit n sent text m alone one enough ran) where
   at : (u v : Installation) (k f g : ℕ) (last : List ℕ) → Comes n.site u.site k f → controllers u ≡ 1 → IsRoundOf u round.Refused last v
       → IsSpentOut n.site v.site
-  at u v k f g last comes only (inl refused) = absurd (turns_never u v last (well_after n.site u.site k f alone waits fits comes) only refused)
+  at u v k f g last comes only (inl refused) = absurd (turns_never u v last (well_after n.site u.site k f alone none waits fits comes) only refused)
   at u v k f g last comes only (inr r) =
       let turns = turns_of u r.between r.acted r.front only r.turns in
       let acted = comes_both n.site u.site r.between.site k (if r.acted then 1 else 0) f 0 comes (turn u r.between r.acted turns.last turns.turn) in
-      let well = well_after n.site r.between.site (k + (if r.acted then 1 else 0)) (f + 0) alone waits fits acted in
+      let well = well_after n.site r.between.site (k + (if r.acted then 1 else 0)) (f + 0) alone none waits fits acted in
       subst (λ (x : Installation). IsSpentOut n.site x.site) (sym r.refused.1)
       (record { rounds = k + (if r.acted then 1 else 0); sent = f + 0; comes = acted; spent = pump_refused r.between.site r.refusal well.fits r.refused.0 })
 
@@ -248,18 +267,19 @@ run_to limit n sent text m alone one enough waits fits ran = go (run_ends limit 
       inr (at r.between m r.rounds sent 0 r.last comes (one_more n r.between r.rounds sent one comes) r.refused)
 
 -- A RUN WITH ROOM ENDS, but where the numbers are spent
-pub run_with_room : (limit : ℕ) (n : Installation) (sent : ℕ) (text : List ℕ) (m : Installation) → StartsAlone n.site 0 → controllers n ≡ 1
+pub run_with_room : (limit : ℕ) (n : Installation) (sent : ℕ) (text : List ℕ) (m : Installation) → StartsAlone n.site 0 → n.site.plan.used ≡ []
+    → controllers n ≡ 1
     → 333 * count_by is_bare (world n.site).gear + 31 < limit → 0 < n.site.queue
     → length n.site.log + 333 * count_by is_bare (world n.site).gear + 31 < n.site.room → Ran limit n sent text m
     → HasCommissioned n.site m.site 0 ⊎ IsPumpRefused m.site trouble.None refusal.DrawsSpent
-run_with_room limit n sent text m alone one enough waits fits ran = go (run_to limit n sent text m alone one enough waits fits ran) where
+run_with_room limit n sent text m alone none one enough waits fits ran = go (run_to limit n sent text m alone none one enough waits fits ran) where
   go : HasCommissioned n.site m.site 0 ⊎ IsSpentOut n.site m.site → HasCommissioned n.site m.site 0 ⊎ IsPumpRefused m.site trouble.None refusal.DrawsSpent
   go (inl ended) = inl ended
   go (inr out) = inr out.spent
 
 -- the gear of a new installation
 bare_few : (p : Plan) → count_by is_bare (world (opened_site p 64 65536)).gear ≤ p.gear
-bare_few p = subst (λ x. count_by is_bare (world (opened_site p 64 65536)).gear ≤ x) (length-replicate p.gear _)
+bare_few p = subst (λ x. count_by is_bare (world (opened_site p 64 65536)).gear ≤ x) (start_count p)
     (count_by-le-length is_bare (world (opened_site p 64 65536)).gear)
 
 bare_enough : (p : Plan) (limit : ℕ) → 333 * p.gear + 31 < limit → 333 * count_by is_bare (world (opened_site p 64 65536)).gear + 31 < limit
@@ -273,29 +293,33 @@ bare_fits p few = fits (count_by is_bare (world (opened_site p 64 65536)).gear) 
   fits g less = omega (arith, less, few)
 
 -- and so does a run of a new installation
-pub new_runs : (limit : ℕ) (p : Plan) (b : Block) (sent : ℕ) (text : List ℕ) (m : Installation) → IsPlan p → p.blocks ≡ b ∷ [] → p.gear ≤ 128
+pub new_runs : (limit : ℕ) (p : Plan) (b : Block) (sent : ℕ) (text : List ℕ) (m : Installation) → IsPlan p → p.used ≡ [] → p.blocks ≡ b ∷ [] → p.gear ≤ 128
     → 333 * p.gear + 31 < limit → Ran limit (installation_of p) sent text m
     → HasCommissioned (installation_of p).site m.site 0 ⊎ IsPumpRefused m.site trouble.None refusal.DrawsSpent
-new_runs limit p b sent text m plan blocks few enough ran =
-    run_with_room limit (installation_of p) sent text m (begins_alone p 64 65536 b plan blocks) (ap length blocks) (bare_enough p limit enough) (omega arith)
+new_runs limit p b sent text m plan none blocks few enough ran =
+    run_with_room limit (installation_of p) sent text m (begins_alone p 64 65536 b plan blocks) none (ap length blocks) (bare_enough p limit enough)
+    (omega arith)
     (bare_fits p few) ran
 
 -- A RUN WITH ROOM AND NUMBERS COMMISSIONS
-pub run_commissions : (limit : ℕ) (n : Installation) (sent : ℕ) (text : List ℕ) (m : Installation) → StartsAlone n.site 0 → controllers n ≡ 1
+pub run_commissions : (limit : ℕ) (n : Installation) (sent : ℕ) (text : List ℕ) (m : Installation) → StartsAlone n.site 0 → n.site.plan.used ≡ []
+    → controllers n ≡ 1
     → 333 * count_by is_bare (world n.site).gear + 31 < limit → 0 < n.site.queue
     → length n.site.log + 333 * count_by is_bare (world n.site).gear + 31 < n.site.room → length (world n.site).gear ≤ length (world n.site).left
     → Ran limit n sent text m → HasCommissioned n.site m.site 0
-run_commissions limit n sent text m alone one enough waits fits numbers ran = go (run_to limit n sent text m alone one enough waits fits ran) where
+run_commissions limit n sent text m alone none one enough waits fits numbers ran = go (run_to limit n sent text m alone none one enough waits fits ran) where
   go : HasCommissioned n.site m.site 0 ⊎ IsSpentOut n.site m.site → HasCommissioned n.site m.site 0
   go (inl ended) = ended
   go (inr out) =
       absurd (never_spent n.site 0 out.comes.events alone numbers out.comes.rounds
       (subst (λ s. IsPumpRefused s trouble.None refusal.DrawsSpent) out.comes.is out.spent))
 
-pub new_commissions : (limit : ℕ) (p : Plan) (b : Block) (sent : ℕ) (text : List ℕ) (m : Installation) → IsPlan p → p.blocks ≡ b ∷ [] → p.gear ≤ 128
+pub new_commissions : (limit : ℕ) (p : Plan) (b : Block) (sent : ℕ) (text : List ℕ) (m : Installation) → IsPlan p → p.used ≡ [] → p.blocks ≡ b ∷ []
+    → p.gear ≤ 128
     → p.gear ≤ length p.draws → 333 * p.gear + 31 < limit
     → Ran limit (installation_of p) sent text m → HasCommissioned (installation_of p).site m.site 0
-new_commissions limit p b sent text m plan blocks few numbers enough ran =
-    run_commissions limit (installation_of p) sent text m (begins_alone p 64 65536 b plan blocks) (ap length blocks) (bare_enough p limit enough) (omega arith)
+new_commissions limit p b sent text m plan none blocks few numbers enough ran =
+    run_commissions limit (installation_of p) sent text m (begins_alone p 64 65536 b plan blocks) none (ap length blocks) (bare_enough p limit enough)
+    (omega arith)
     (bare_fits p few)
-    (subst (λ x. x ≤ length p.draws) (sym (length-replicate p.gear _)) numbers) ran
+    (subst (λ x. x ≤ length p.draws) (sym (start_count p)) numbers) ran

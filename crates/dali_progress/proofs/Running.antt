@@ -149,6 +149,7 @@ went n m o goes = by goes.1 goes.2 goes.3 goes.4 where
             given_well (due_of (controller n 0)) n 0 i given logs.allowed.due
                 (λ failed. stored (controller n 0) logs.allowed.up.up (due_commit (controller n 0) i logs.allowed.due failed)) is,
             acted.ordered,
+            acted.leaves,
           ),
           tt,
         );

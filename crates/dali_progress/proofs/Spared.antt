@@ -2,10 +2,13 @@ use Rattle.std.proofs.Common.{ℕ, ◌<◌, List, [], ◌∷◌}
 use Rattle.std.specs.List.{AllByRecursion}
 use Rattle.dali_script.specs.Records.{Has}
 use Rattle.dali_events.specs.declared.event.Event.{Event}
-use Rattle.dali_events.specs.Runs.{AllAllowed}
-use Rattle.dali_events.specs.Promise.{KeepsPromiseFrom}
-use Rattle.dali_events.specs.Used.{Used, UsedPlan, IsUsedPlan, used_shorts, LeavesUsed, start_used, IsUsedRun}
-use Rattle.dali_events.proofs.Invariant.Arrived.{used_promise}
+use Rattle.dali_events.specs.declared.used.Used.{Used}
+use Rattle.dali_events.specs.Used.{used_shorts}
+use Rattle.dali_events.specs.Plan.{Plan, IsPlan}
+use Rattle.dali_events.specs.World.{start}
+use Rattle.dali_events.specs.Runs.{AllAllowed, IsRun, LeavesUsed}
+use Rattle.dali_events.specs.Promise.{KeepsPromise}
+use Rattle.dali_events.proofs.Invariant.Safe.{keeps_promise}
 use Rattle.dali_progress.specs.Spared.{IsBySurvey, ReservesBySurvey}
 use Rattle.dali_progress.proofs.Accounted.{never_reserved}
 
@@ -20,10 +23,10 @@ leaves_all : (us : List Used) → ((a : ℕ) → Has (used_shorts us) a → a < 
 leaves_all us small [] all = tt
 leaves_all us small (e ∷ es) all = (leaves_one us small e all.0, leaves_all us small es all.1)
 
-pub is_used_run : (p : UsedPlan) (capacity : ℕ) (log : List Event) → IsUsedPlan p → AllAllowed (start_used p capacity) log
-    → AllByRecursion (ReservesBySurvey p.used) log → IsUsedRun p capacity log
-is_used_run p capacity log plan allowed by = record { plan = plan; allowed = allowed; leaves = leaves_all p.used plan.short log by }
+pub is_run : (p : Plan) (capacity : ℕ) (log : List Event) → IsPlan p → AllAllowed (start p capacity) log → AllByRecursion (ReservesBySurvey p.used) log
+    → IsRun p capacity log
+is_run p capacity log plan allowed by = record { plan = plan; allowed = allowed; leaves = leaves_all p.used plan.used.short log by }
 
-pub keeps_used : (p : UsedPlan) (capacity : ℕ) (log : List Event) → IsUsedPlan p → AllAllowed (start_used p capacity) log
-    → AllByRecursion (ReservesBySurvey p.used) log → KeepsPromiseFrom (start_used p capacity) log
-keeps_used p capacity log plan allowed by = used_promise p capacity log (is_used_run p capacity log plan allowed by)
+pub keeps_used : (p : Plan) (capacity : ℕ) (log : List Event) → IsPlan p → AllAllowed (start p capacity) log → AllByRecursion (ReservesBySurvey p.used) log
+    → KeepsPromise p capacity log
+keeps_used p capacity log plan allowed by = keeps_promise p capacity log (is_run p capacity log plan allowed by)

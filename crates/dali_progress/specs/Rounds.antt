@@ -18,7 +18,7 @@ use Rattle.dali_events.specs.declared.event.Event.{Event}
 use Rattle.dali_events.specs.declared.event.Event.TheVariants as event
 use Rattle.dali_events.specs.World.{controller_at}
 use Rattle.dali_events.specs.Allowed.{Allowed, IsUp, IsDue}
-use Rattle.dali_events.specs.Runs.{IsRun}
+use Rattle.dali_events.specs.Runs.{IsRun, LeavesUsed}
 use Rattle.dali_events.specs.Searching.{HasShort}
 use Rattle.dali_events.specs.Wanted.{gear_of, OfPowered}
 use Rattle.dali_standing.specs.Seats.{MayAnswer}
@@ -38,8 +38,9 @@ pub record StartsAlone (s : SiteState) (c : ℕ) : Type 0 where
   pub trace : (world s).trace ≡ []
 
 -- WHAT A ROUND DOES, where nothing is disturbed and no other controller acts: the controller acts
--- on what is due for it, but surveys nothing, and a commit that is due succeeds; or the request
--- that is next is sent, every gear with power takes it, and what they answer is heard.
+-- on what is due for it, but surveys nothing, and reserves no address that used gear have, and a
+-- commit that is due succeeds; or the request that is next is sent, every gear with power takes it,
+-- and what they answer is heard.
 abbrev pub Succeeds : Input → Type 0
 Succeeds input.CommitFailed = ⊥
 Succeeds input.Start = Unit {0}
@@ -50,7 +51,9 @@ Succeeds input.Lapsed = Unit {0}
 Succeeds input.Committed = Unit {0}
 
 abbrev pub IsOfRound : SiteState → ℕ → Event → Type 0
-IsOfRound s c (event.Acted d i o) = (d ≡ c) × Succeeds i × MayAnswer (machine_at s c) i o
+IsOfRound s c (event.Acted d i o) =
+    (d ≡ c) × Succeeds i × MayAnswer (machine_at s c) i o
+    × LeavesUsed s.plan.used (event.Acted d i o)
 IsOfRound s c (event.Sent d f h) =
     (r : Request) × (next_request s ≡ Some r) × (d ≡ r.sender) × (f ≡ r.frame)
     × (h ≡ heard_of (answers_of Everyone (command_of f) 0 (world s).gear))

@@ -6,7 +6,8 @@ use Rattle.dali_script.specs.declared.orders.Order.TheVariants.{Commit}
 use Rattle.dali_controller.specs.Machine.{Machine}
 use Rattle.dali_events.specs.declared.event.Event.{Event}
 use Rattle.dali_events.specs.declared.event.Event.TheVariants as event
-use Rattle.dali_events.specs.Used.{Used, used_shorts}
+use Rattle.dali_events.specs.declared.used.Used.{Used}
+use Rattle.dali_events.specs.Used.{used_shorts}
 use Rattle.dali_progress.specs.Surveyed.{Step, IsCourse, ArePlain, HasSurveyed, WasHeard}
 
 -- THE ORDER OF A SURVEY THAT HEARD THE USED GEAR: the newest step of a course of a machine that

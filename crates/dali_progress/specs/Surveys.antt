@@ -20,7 +20,7 @@ use Rattle.dali_events.specs.declared.event.Event.{Event}
 use Rattle.dali_events.specs.declared.event.Event.TheVariants as event
 use Rattle.dali_events.specs.World.{controller_at}
 use Rattle.dali_events.specs.Allowed.{Allowed, IsUp, IsDue}
-use Rattle.dali_events.specs.Runs.{IsRun}
+use Rattle.dali_events.specs.Runs.{IsRun, LeavesUsed}
 use Rattle.dali_events.specs.Searching.{HasShort}
 use Rattle.dali_events.specs.Wanted.{gear_of, OfPowered}
 use Rattle.dali_standing.specs.Seats.{MayAnswer}
@@ -67,6 +67,7 @@ LeavesWhole (Some m) i o = IsWhole (machine_after m i o)
 abbrev pub IsOfSurvey : SiteState → ℕ → Event → Type 0
 IsOfSurvey s c (event.Acted d i o) =
     (d ≡ c) × Surveys i × MayAnswer (machine_at s c) i o × LeavesWhole (machine_at s c) i o
+    × LeavesUsed s.plan.used (event.Acted d i o)
 IsOfSurvey s c (event.Sent d f h) = IsOfRound s c (event.Sent d f h)
 IsOfSurvey s c (event.Offered d f) = ⊥
 IsOfSurvey s c (event.Destroyed d f set) = ⊥

@@ -29,9 +29,9 @@ ghost use Rattle.dali_script.specs.declared.orders.End.{End};
 ghost use Rattle.dali_script.specs.declared.orders.End.TheVariants.{BlockFull};
 ghost use Rattle.dali_events.specs.declared.event.Event.{Event};
 ghost use Rattle.dali_events.specs.Plan.{Plan, IsPlan};
-ghost use Rattle.dali_events.specs.Runs.{AllAllowed};
-ghost use Rattle.dali_events.specs.Promise.{KeepsPromiseFrom};
-ghost use Rattle.dali_events.specs.Used.{UsedPlan, IsUsedPlan, IsUsedRun, start_used};
+ghost use Rattle.dali_events.specs.World.{start};
+ghost use Rattle.dali_events.specs.Runs.{AllAllowed, IsRun};
+ghost use Rattle.dali_events.specs.Promise.{KeepsPromise};
 ghost use Rattle.dali_events.specs.Wanted.{is_bare};
 ghost use Rattle.dali_standing.specs.declared.refusal.Refusal.TheVariants as refusal;
 ghost use Rattle.dali_standing.specs.declared.trouble.Trouble.TheVariants as trouble;
@@ -100,15 +100,17 @@ pub fn a_run_ends()
 {}
 
 /// WITH ROOM IT ENDS UNLESS THE NUMBERS ARE SPENT. Where a request may wait, and the log has room for so many events
-/// more, the one call that may be refused is that of the bus, where the gear would draw more numbers than are left. A
-/// new installation has that room.
+/// more, and no gear is used, the one call that may be refused is that of the bus, where the gear would draw more
+/// numbers than are left. A new installation has that room.
 pub fn a_run_with_room_ends()
     ensures room { (limit : ℕ) (n : Installation) (sent : ℕ) (text : List ℕ) (m : Installation) → StartsAlone n.site 0
-        → controllers n ≡ 1 → 333 * count_by is_bare (world n.site).gear + 31 < limit → 0 < n.site.queue
+        → n.site.plan.used ≡ [] → controllers n ≡ 1
+        → 333 * count_by is_bare (world n.site).gear + 31 < limit → 0 < n.site.queue
         → length n.site.log + 333 * count_by is_bare (world n.site).gear + 31 < n.site.room → Ran limit n sent text m
         → HasCommissioned n.site m.site 0 ⊎ IsPumpRefused m.site trouble.None refusal.DrawsSpent }
     ensures fresh { (limit : ℕ) (p : Plan) (b : Block) (sent : ℕ) (text : List ℕ) (m : Installation) → IsPlan p
-        → p.blocks ≡ b ∷ [] → p.gear ≤ 128 → 333 * p.gear + 31 < limit → Ran limit (installation_of p) sent text m
+        → p.used ≡ [] → p.blocks ≡ b ∷ [] → p.gear ≤ 128 → 333 * p.gear + 31 < limit
+        → Ran limit (installation_of p) sent text m
         → HasCommissioned (installation_of p).site m.site 0 ⊎ IsPumpRefused m.site trouble.None refusal.DrawsSpent }
 {}
 
@@ -117,12 +119,13 @@ pub fn a_run_with_room_ends()
 /// controller and with no fewer numbers than gear.
 pub fn a_run_commissions()
     ensures alone { (limit : ℕ) (n : Installation) (sent : ℕ) (text : List ℕ) (m : Installation) → StartsAlone n.site 0
-        → controllers n ≡ 1 → 333 * count_by is_bare (world n.site).gear + 31 < limit → 0 < n.site.queue
+        → n.site.plan.used ≡ [] → controllers n ≡ 1
+        → 333 * count_by is_bare (world n.site).gear + 31 < limit → 0 < n.site.queue
         → length n.site.log + 333 * count_by is_bare (world n.site).gear + 31 < n.site.room
         → length (world n.site).gear ≤ length (world n.site).left → Ran limit n sent text m
         → HasCommissioned n.site m.site 0 }
     ensures fresh { (limit : ℕ) (p : Plan) (b : Block) (sent : ℕ) (text : List ℕ) (m : Installation) → IsPlan p
-        → p.blocks ≡ b ∷ [] → p.gear ≤ 128 → p.gear ≤ length p.draws → 333 * p.gear + 31 < limit
+        → p.used ≡ [] → p.blocks ≡ b ∷ [] → p.gear ≤ 128 → p.gear ≤ length p.draws → 333 * p.gear + 31 < limit
         → Ran limit (installation_of p) sent text m → HasCommissioned (installation_of p).site m.site 0 }
 {}
 
@@ -249,15 +252,14 @@ pub fn who_tells_its_number_is_enrolled()
 
 /// USED GEAR THAT WERE HEARD ARE LEFT ALONE. Of a site some of whose gear come with short addresses, all different:
 /// where each reservation was ordered by a machine that surveyed, and that heard somebody under each of these
-/// addresses, the promise holds (`dali_events::laws::used_gear_keep_their_addresses`).
+/// addresses, no order reserves one of them, and the promise holds. So such a machine is never refused its order
+/// because an address is in use.
 ///
 /// A gear without power is not heard, and one whose address nobody asks is not either: two short histories of
 /// `dali_events` show what then becomes of the promise.
 pub fn used_gear_that_were_heard_are_left_alone()
-    ensures run { (p : UsedPlan) (capacity : ℕ) (log : List Event) → IsUsedPlan p
-        → AllAllowed (start_used p capacity) log → AllByRecursion (ReservesBySurvey p.used) log
-        → IsUsedRun p capacity log }
-    ensures promise { (p : UsedPlan) (capacity : ℕ) (log : List Event) → IsUsedPlan p
-        → AllAllowed (start_used p capacity) log → AllByRecursion (ReservesBySurvey p.used) log
-        → KeepsPromiseFrom (start_used p capacity) log }
+    ensures run { (p : Plan) (capacity : ℕ) (log : List Event) → IsPlan p → AllAllowed (start p capacity) log
+        → AllByRecursion (ReservesBySurvey p.used) log → IsRun p capacity log }
+    ensures promise { (p : Plan) (capacity : ℕ) (log : List Event) → IsPlan p → AllAllowed (start p capacity) log
+        → AllByRecursion (ReservesBySurvey p.used) log → KeepsPromise p capacity log }
 {}

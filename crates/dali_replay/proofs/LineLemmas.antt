@@ -3,6 +3,7 @@ use Rattle.std.proofs.lemmas.Bool.Decides.{nat_tests}
 use Rattle.std.specs.Prelude.{◌==◌}
 use Rattle.dali_replay.specs.Lines.{lines_of, parts_of}
 use Rattle.dali_replay.specs.Numbers.{block_of_parts}
+use Rattle.dali_replay.specs.Heading.{used_words_of}
 use Rattle.dali_replay.specs.SiteLine.{site_line_of}
 use Rattle.dali_replay.specs.BenchLine.{bench_line_of}
 use Rattle.std.specs.List.{count_by}
@@ -76,3 +77,17 @@ no_bench_line_above name word text = go (parts_of 32 text) (length-slice_split (
   go : (words : List (List ℕ)) → length words ≡ count_by (λ b. b == 32) text + 1 → None ≡ bench_line_of (name ∷ word ∷ words)
   go [] len = absurd (omega arith)
   go (more ∷ words) len = refl
+
+-- the words of a used gear are three
+pub no_used_below : (words : List (List ℕ)) → length words < 3 → None ≡ used_words_of words
+no_used_below [] few = refl
+no_used_below (a ∷ []) few = refl
+no_used_below (a ∷ b ∷ []) few = refl
+no_used_below (a ∷ b ∷ c ∷ words) few = absurd (omega arith)
+
+pub no_used_above : (words : List (List ℕ)) → 4 ≤ length words → None ≡ used_words_of words
+no_used_above [] many = absurd (omega arith)
+no_used_above (a ∷ []) many = absurd (omega arith)
+no_used_above (a ∷ b ∷ []) many = absurd (omega arith)
+no_used_above (a ∷ b ∷ c ∷ []) many = absurd (omega arith)
+no_used_above (a ∷ b ∷ c ∷ d ∷ words) many = refl

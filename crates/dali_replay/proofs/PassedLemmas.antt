@@ -45,7 +45,7 @@ module _ (a b c : Option (List ℕ)) (kept : Keeps b c) where
 
   setting_kept : (is_bench : Bool) (p : Plan) (lines : NumberedLines) (r : Result (Unit {0}) ReplayFault) → PlaysSetting is_bench p lines a b r
       → PlaysSetting is_bench p lines a c r
-  setting_kept true p lines r h = plays_kept (played (start p.gear p.draws) lines) r h
+  setting_kept true p lines r h = plays_kept (played (start p) lines) r h
   setting_kept false p lines r h = site_kept (installation_of p) lines r h
 
   replays_kept : (s : Result (Setting × NumberedLines) End) (r : Result (Unit {0}) ReplayFault) → Replays s a b r → Replays s a c r

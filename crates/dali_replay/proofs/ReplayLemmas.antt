@@ -5,7 +5,8 @@ use Rattle.std.proofs.lemmas.List.{append-nil}
 use Rattle.std.specs.Io.KnownBytes.{Appends, Keeps}
 use Rattle.dali_events.specs.declared.plan.PlanError.{PlanError}
 use Rattle.dali_events.specs.declared.plan.PlanError.TheVariants as plan_error
-use Rattle.dali_events.specs.Plan.{Plan, refusal_of, IsRefusal}
+use Rattle.dali_events.specs.declared.used.Used.{Used}
+use Rattle.dali_events.specs.Plan.{Plan, refusal_of, IsRefusal, used_refusal_of, IsUsedRefusal}
 use Rattle.dali_replay.specs.declared.replay.ReplayFault.{ReplayFault}
 use Rattle.dali_replay.specs.declared.replay.ReplayFault.TheVariants.{BadLine, BadPlan, Memory, Read, Write}
 use Rattle.dali_replay.specs.declared.bench_line.BenchLine.{BenchLine}
@@ -140,11 +141,31 @@ plan_refused gear blocks draws plan_error.BlockOrder is not = is
 plan_refused gear blocks draws plan_error.BlockOverlap is not = is
 plan_refused gear blocks draws plan_error.DrawTooLarge is not = is
 plan_refused gear blocks draws plan_error.DrawTwice is not = is
+plan_refused gear blocks draws plan_error.UnknownGear is not = is
+plan_refused gear blocks draws plan_error.GearTwice is not = is
+plan_refused gear blocks draws plan_error.ShortTwice is not = is
+plan_refused gear blocks draws plan_error.RandomTooLarge is not = is
+plan_refused gear blocks draws plan_error.RandomTwice is not = is
+
+-- and of used gear
+pub used_refused : (p : Plan) (us : List Used) (e : PlanError) → IsUsedRefusal p us e → (e ≡ plan_error.NoMemory → ⊥) → used_refusal_of p us ≡ Some e
+used_refused p us plan_error.NoMemory is not = absurd (not refl)
+used_refused p us plan_error.GearCount is not = is
+used_refused p us plan_error.ControllerCount is not = is
+used_refused p us plan_error.BlockOrder is not = is
+used_refused p us plan_error.BlockOverlap is not = is
+used_refused p us plan_error.DrawTooLarge is not = is
+used_refused p us plan_error.DrawTwice is not = is
+used_refused p us plan_error.UnknownGear is not = is
+used_refused p us plan_error.GearTwice is not = is
+used_refused p us plan_error.ShortTwice is not = is
+used_refused p us plan_error.RandomTooLarge is not = is
+used_refused p us plan_error.RandomTwice is not = is
 
 -- memory ran out before the first text
 setting_memory : (B : Type 0) (a : Option (List ℕ)) (is_bench : Bool) (p : Plan) (lines : NumberedLines)
     → PlaysSetting {A = B} is_bench p lines a a (Err Memory)
-setting_memory B a true p lines = ([], (played (start p.gear p.draws) lines).text, refl, appends_none a)
+setting_memory B a true p lines = ([], (played (start p) lines).text, refl, appends_none a)
 setting_memory B a false p lines = (installation_of p, lines, have_played_none (installation_of p) lines a)
 
 pub replays_memory : (B : Type 0) (a : Option (List ℕ)) (s : Result (Setting × NumberedLines) End) → Replays {A = B} s a a (Err Memory)
@@ -163,7 +184,7 @@ replays_no_plan B a s Write not = absurd not
 -- what playing says, where the lines set up a bench or a site
 pub replays_bench : (a c : Option (List ℕ)) (s : Result (Setting × NumberedLines) End) (is_bench : Bool) (p : Plan) (lines : NumberedLines) (w : BenchState)
     (r : Result (Unit {0}) ReplayFault)
-    → s ≡ Ok ((is_bench, p), lines) → is_bench ≡ true → w ≡ start p.gear p.draws → Plays (played w lines) a c r → Replays s a c r
+    → s ≡ Ok ((is_bench, p), lines) → is_bench ≡ true → w ≡ start p → Plays (played w lines) a c r → Replays s a c r
 replays_bench a c s is_bench p lines w r is bench begun plays = rw (is, bench, ← begun) plays
 
 pub replays_site : (a c : Option (List ℕ)) (s : Result (Setting × NumberedLines) End) (is_bench : Bool) (p : Plan) (lines : NumberedLines) (n : Installation)

@@ -5,6 +5,8 @@ use Rattle.dali_special.specs.Command.{command_of}
 use Rattle.dali_gear.specs.declared.row.Reach.TheVariants.{Everyone}
 use Rattle.dali_gear.specs.Gear.{Gear, fresh, without_power, with_power, gear_expired, gear_quieted}
 use Rattle.dali_gear.specs.Row.{row_after, draws_needed}
+use Rattle.dali_events.specs.Used.{with_used}
+use Rattle.dali_events.specs.Plan.{Plan}
 use Rattle.dali_replay.specs.declared.bench_line.BenchLine.{BenchLine}
 use Rattle.dali_replay.specs.declared.bench_line.BenchLine.TheVariants.{Frame, Off, On, Expire}
 use Rattle.dali_replay.specs.declared.bench_line.BenchLine.TheVariants.{Quiet, Show}
@@ -15,8 +17,8 @@ pub record BenchState : Type 0 where
   pub left : List ℕ
 
 -- a bench as it is set up
-abbrev pub start : ℕ → List ℕ → BenchState
-start gear draws = record { gear = replicate gear fresh; left = draws }
+abbrev pub start : Plan → BenchState
+start p = record { gear = with_used (replicate p.gear fresh) p.used; left = p.draws }
 
 -- the numbers that a command would make the gear draw, and whether there are as many
 abbrev pub needed : BenchState → Command → ℕ

@@ -1,7 +1,9 @@
 use Rattle.std.specs.Prelude.{ℕ, List, [], ◌∷◌, length, Bool, true, false, Option, Some, None}
 use Rattle.std.specs.Prelude.{bytes_eq, codes, nat_le, if◌then◌else◌, option_map, option_and_then}
+use Rattle.dali_frame.specs.Hex.{random_of}
+use Rattle.dali_events.specs.declared.used.Used.{Used}
 use Rattle.dali_replay.specs.declared.heading.Heading as code
-use Rattle.dali_replay.specs.Numbers.{number_in, randoms_of, blocks_of}
+use Rattle.dali_replay.specs.Numbers.{number_in, number_to, randoms_of, blocks_of}
 
 -- THE FIRST LINE: a bench of so many gear, or a site of so many gear and with a block for each
 -- controller. A bench is planned as a site of one controller, which does nothing.
@@ -48,3 +50,23 @@ drawn_of words = if nat_le (length words) 1024 then randoms_of words else None
 abbrev pub draws_of : List (List ℕ) → Option (List ℕ)
 draws_of [] = None
 draws_of (name ∷ words) = if bytes_eq name (codes "draws") then drawn_of words else None
+
+-- FURTHER LINES: `used G A RRRRRR` for each gear that comes with a short address and a random one
+abbrev pub is_used_line : List (List ℕ) → Bool
+is_used_line [] = false
+is_used_line (name ∷ words) = bytes_eq name (codes "used")
+
+abbrev pub used_by : Option ℕ → Option ℕ → Option ℕ → Option Used
+used_by (Some g) (Some a) (Some r) = Some (record { gear = g; short = a; random = r })
+used_by None short random = None
+used_by (Some g) None random = None
+used_by (Some g) (Some a) None = None
+
+abbrev pub used_words_of : List (List ℕ) → Option Used
+used_words_of (gear ∷ short ∷ random ∷ []) =
+    used_by (number_in gear) (number_to 63 short) (random_of random)
+used_words_of _ = None
+
+abbrev pub used_line_of : List (List ℕ) → Option Used
+used_line_of [] = None
+used_line_of (name ∷ words) = used_words_of words

@@ -1,15 +1,16 @@
 use Rattle.std.specs.Prelude.{◌≡◌, ℕ, ◌+◌, List, [], ◌∷◌, ◌++◌, length, Bool, true, false, Option}
-use Rattle.std.specs.Prelude.{Some, None, Result, Ok, Err}
+use Rattle.std.specs.Prelude.{Some, None, Result, Ok, Err, if◌then◌else◌}
 use Rattle.std.specs.Io.KnownBytes.{Appends, Keeps}
 use Rattle.dali_events.specs.declared.plan.PlanError.{PlanError}
-use Rattle.dali_events.specs.Plan.{Plan, plan_of, refusal_of}
+use Rattle.dali_events.specs.declared.used.Used.{Used}
+use Rattle.dali_events.specs.Plan.{Plan, plan_of, refusal_of, plan_with, used_refusal_of}
 use Rattle.dali_replay.specs.declared.replay.ReplayFault.{ReplayFault}
 use Rattle.dali_replay.specs.declared.replay.ReplayFault.TheVariants.{BadLine, BadPlan, Memory}
 use Rattle.dali_replay.specs.declared.replay.ReplayFault.TheVariants.{Read, Write}
 use Rattle.dali_replay.specs.declared.bench_line.BenchLine.{BenchLine}
 use Rattle.dali_replay.specs.declared.site_line.SiteLine.{SiteLine}
 use Rattle.dali_replay.specs.Lines.{lines_of, numbered_after, words_of}
-use Rattle.dali_replay.specs.Heading.{Heading, heading_of, draws_of}
+use Rattle.dali_replay.specs.Heading.{Heading, heading_of, draws_of, is_used_line, used_line_of}
 use Rattle.dali_replay.specs.BenchLine.{bench_line_of}
 use Rattle.dali_replay.specs.SiteLine.{site_line_of}
 use Rattle.dali_replay.specs.Bench.{BenchState, start, after}
@@ -27,7 +28,7 @@ pub data End : Type 0 where
   AtLine : (n : ℕ) → End
   Refused : (e : PlanError) → End
 
--- ---------------------------------------------------------------- the first two lines
+-- ---------------------------------------------------------------- the first lines
 
 -- the next line, read by one of the readers of words; `last` is the number of the line that is
 -- missing at the end
@@ -44,10 +45,34 @@ next_as reads last (line ∷ lines) = or_at line.0 (reads (words_of line.1)) lin
 abbrev pub Setting : Type 0
 Setting = Bool × Plan
 
+-- the used gear that the next lines name, after those that were named
+abbrev pub naming : ℕ → Option Used → (Used → Result (List Used × NumberedLines) End)
+    → Result (List Used × NumberedLines) End
+naming n None next = Err (AtLine n)
+naming n (Some u) next = next u
+
+abbrev pub used_of : List Used → NumberedLines → Result (List Used × NumberedLines) End
+used_of us [] = Ok (us, [])
+used_of us (line ∷ lines) =
+    if is_used_line (words_of line.1)
+    then naming line.0 (used_line_of (words_of line.1)) (λ u. used_of (us ++ u ∷ []) lines)
+    else Ok (us, line ∷ lines)
+
+abbrev pub with_used_by : Bool → Plan → List Used → NumberedLines → Option PlanError
+    → Result (Setting × NumberedLines) End
+with_used_by is_bench p us lines None = Ok ((is_bench, plan_with p us), lines)
+with_used_by is_bench p us lines (Some e) = Err (Refused e)
+
+abbrev pub then_used : Bool → Plan → Result (List Used × NumberedLines) End
+    → Result (Setting × NumberedLines) End
+then_used is_bench p (Err end) = Err end
+then_used is_bench p (Ok used) =
+    with_used_by is_bench p used.0 used.1 (used_refusal_of p used.0)
+
 abbrev pub set_up : Heading → List ℕ → NumberedLines → Option PlanError
     → Result (Setting × NumberedLines) End
 set_up heading draws lines None =
-    Ok ((heading.is_bench, plan_of heading.gear heading.blocks draws), lines)
+    then_used heading.is_bench (plan_of heading.gear heading.blocks draws) (used_of [] lines)
 set_up heading draws lines (Some e) = Err (Refused e)
 
 abbrev pub then_draws : Heading → Result (List ℕ × NumberedLines) End
@@ -64,7 +89,7 @@ then_heading last (Ok heading) = then_draws heading.0 (next_as draws_of last hea
 abbrev pub planned : ℕ → NumberedLines → Result (Setting × NumberedLines) End
 planned last lines = then_heading last (next_as heading_of last lines)
 
--- of a whole input: what its first two lines set up, with the lines that follow
+-- of a whole input: what its first lines set up, with the lines that follow
 abbrev pub setting_of : List ℕ → Result (Setting × NumberedLines) End
 setting_of input = planned (length (lines_of input) + 1) (numbered_after 0 input)
 
@@ -141,10 +166,10 @@ PlaysSite n lines old new (Err Write) = Unit {0}
 
 abbrev pub PlaysSetting : {A : Type 0} → Bool → Plan → NumberedLines → Option (List ℕ)
     → Option (List ℕ) → Result A ReplayFault → Type 0
-PlaysSetting true p lines old new r = Plays (played (start p.gear p.draws) lines) old new r
+PlaysSetting true p lines old new r = Plays (played (start p) lines) old new r
 PlaysSetting false p lines old new r = PlaysSite (installation_of p) lines old new r
 
--- WHAT A RUN OVER BYTES SAYS, by what the first two lines set up. Where they set up nothing,
+-- WHAT A RUN OVER BYTES SAYS, by what the first lines set up. Where they set up nothing,
 -- nothing is written.
 abbrev pub Replays : {A : Type 0} → Result (Setting × NumberedLines) End → Option (List ℕ)
     → Option (List ℕ) → Result A ReplayFault → Type 0
@@ -161,7 +186,7 @@ Tells s old new (Err Memory) = Replays {A = Unit {0}} s old new (Err Memory)
 Tells s old new (Err Read) = Keeps old new
 Tells s old new (Err Write) = Unit {0}
 
--- what a fault of the first two lines says of them: want of memory says nothing of them
+-- what a fault of the first lines says of them: want of memory says nothing of them
 abbrev pub PlansNot : {A : Type 0} → Result A End → ReplayFault → Type 0
 PlansNot plan (BadLine n) = plan ≡ Err (AtLine n)
 PlansNot plan (BadPlan e) = plan ≡ Err (Refused e)

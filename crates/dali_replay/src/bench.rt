@@ -35,11 +35,11 @@ impl Bench {
     ghost use Rattle.dali_replay.specs.Bench.{start, is_enough, after_command, with_gear, after};
     ghost use Rattle.dali_replay.specs.declared.bench_line.BenchLine.TheVariants.{Quiet};
 
-    /// The gear of a plan, from the factory.
+    /// The gear of a plan, as they are at the start.
     pub fn new(plan: Plan) -> Bench
-        ensures { result ≡ start plan.gear plan.draws }
+        ensures { result ≡ start plan }
     {
-        let gear = Row::new(plan.gear() as usize);
+        let gear = plan.row();
         Bench {
             plan,
             gear,

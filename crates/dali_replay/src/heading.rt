@@ -1,14 +1,15 @@
-//! The first two lines: what is set up, and the numbers that its gear will draw.
+//! The first lines: what is set up, the numbers that its gear will draw, and its used gear.
 
 ghost use Rattle.std.specs.Prelude.{◌≡◌, ◌≤◌, [], ◌∷◌, length, map, IfOk, IfSome, option_map};
 ghost use Rattle.dali_replay.specs.Lines.{words_of, parts_after};
 ghost use Rattle.dali_replay.specs.Numbers.{blocks_of};
 ghost use Rattle.dali_replay.specs.Heading.{bench_of, site_of, heading_of, draws_of, drawn_of, shown};
+ghost use Rattle.dali_replay.specs.Heading.{is_used_line, used_words_of, used_line_of};
 
 use crate::lines::{cut, words};
-use crate::numbers::{block_of, number_in};
+use crate::numbers::{block_of, number_in, short_of};
 use dali_frame::Random24;
-use dali_world::DRAW_LIMIT;
+use dali_world::{DRAW_LIMIT, Used};
 use std::alloc::{AllocError, Global};
 
 /// What the first line sets up: gear, and a block of short addresses for each controller.
@@ -139,4 +140,49 @@ fn drawn_of(alloc: Global, words: Option<&[u8]>) -> Result<Option<Vec<u32>>, All
         rest = more;
     }
     Ok(Some(draws))
+}
+
+/// Whether a line is one of a used gear: `used` and further words, which may be bad ones.
+pub fn is_used_line(line: &[u8]) -> bool
+    ensures { result ≡ is_used_line (words_of line.now) }
+{
+    let (name, _) = cut(line, b' ');
+    name == b"used".as_slice()
+}
+
+/// The used gear of three words: its number, its short address and its random address.
+fn used_of_words(words: &[&[u8]]) -> Option<Used>
+    ensures { result ≡ used_words_of (map (λ word. word.now) words.now) }
+{
+    match words {
+        [] => None,
+        [_] => None,
+        [_, _] => None,
+        [gear, short, random] => used_named(gear, short, random),
+        _ => None,
+    }
+}
+
+/// As `used_of_words`, for three words.
+fn used_named(gear: &[u8], short: &[u8], random: &[u8]) -> Option<Used>
+    ensures { result ≡ used_words_of (gear.now ∷ short.now ∷ random.now ∷ []) }
+{
+    match (number_in(gear), short_of(short), Random24::read_hex(random)) {
+        (Some(gear), Some(short), Some(random)) => Some(Used {
+            gear,
+            short,
+            random,
+        }),
+        _ => None,
+    }
+}
+
+/// The gear in the line `used G A RRRRRR`, of which the first word is known; `None` where it is a bad line.
+pub fn used_of(line: &[u8]) -> Option<Used>
+    ensures { result ≡ used_line_of (words_of line.now) }
+{
+    let (_, Some(rest)) = cut(line, b' ') else {
+        return None;
+    };
+    used_of_words(words(rest)?.as_slice())
 }

@@ -158,8 +158,8 @@ impl Installation {
     /// `go c`: the controller acts on what is due. Where that is its store, the commit is made first, unless it was
     /// made before.
     ///
-    /// Refusals, in this order: 1 UnknownController, 2 ControllerDown, 3 NotDue, 7 QueueFull, 8 LogFull; the last two
-    /// leave the commit made.
+    /// Refusals, in this order: 1 UnknownController, 2 ControllerDown, 3 NotDue, 7 QueueFull, 8 LogFull,
+    /// 10 AddressInUse; QueueFull and LogFull leave the commit made.
     pub fn go(&mut self, c: u32) -> Result<Order, Refusal>
         ensures { Goes self.old c result self.new }
     {

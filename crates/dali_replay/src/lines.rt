@@ -1,6 +1,6 @@
 //! An input's lines and their numbers, and the parts of a line: words between spaces, numbers between other marks.
 
-ghost use Rattle.std.specs.Prelude.{◌≡◌, ◌≢◌, ℕ, ◌+◌, ◌<◌, ◌≤◌, [], ◌∷◌, length, map, slice_index, true};
+ghost use Rattle.std.specs.Prelude.{◌≡◌, ◌≢◌, ℕ, ◌+◌, ◌<◌, ◌≤◌, List, [], ◌∷◌, length, map, slice_index, true};
 ghost use Rattle.std.specs.Prelude.{IfSome, IfNone, MatchOption, option_map};
 ghost use Rattle.dali_replay.specs.Lines.{lines_of, is_skipped, numbered_after, parts_of, parts_after, words_of};
 
@@ -107,6 +107,20 @@ impl<'a> Script<'a> {
         ensures { result ≡ self.now.read }
     {
         self.read
+    }
+
+    /// The next line that is not skipped. It is not taken.
+    pub fn ahead(&self) -> Option<&'a [u8]>
+        requires { self.now.read + length self.now.rest.now ≤ 1048576 }
+        ensures line { MatchOption result (numbered_after self.now.read self.now.rest.now ≡ [])
+            (λ line. (number : ℕ) × (lines : List (ℕ × List ℕ))
+            × (numbered_after self.now.read self.now.rest.now ≡ (number, line.now) ∷ lines)) }
+    {
+        let mut copy = Script {
+            rest: self.rest,
+            read: self.read,
+        };
+        copy.next()
     }
 
     /// The next line that is not skipped.

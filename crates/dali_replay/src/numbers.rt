@@ -4,6 +4,7 @@ ghost use Rattle.std.specs.Prelude.{◌≡◌, [], ◌∷◌, map};
 ghost use Rattle.dali_replay.specs.Numbers.{number_in, number_to, starts_plain, block_of, block_of_parts, set_of};
 
 use crate::lines::{cut, parts};
+use dali_frame::Short;
 use dali_world::GearSet;
 use std::str;
 
@@ -84,6 +85,17 @@ fn gear_number(word: &[u8]) -> Option<u32>
         return None;
     }
     Some(number)
+}
+
+/// A short address.
+pub fn short_of(word: &[u8]) -> Option<Short>
+    ensures { result ≡ number_to 63 word.now }
+{
+    let number = number_in(word)?;
+    if number > 63 {
+        return None;
+    }
+    Short::of(number as u8)
 }
 
 /// A set of gear: `-`, or their numbers with commas. A number that stands twice counts once.

@@ -57,6 +57,18 @@ impl Search {
         }
     }
 
+    /// The same search once more.
+    pub fn copy(&self) -> Search
+        ensures { result ≡ self.now }
+    {
+        Search {
+            answers: self.answers,
+            left: self.left,
+            probe: self.probe,
+            step: self.step,
+        }
+    }
+
     /// The number that is asked next; after an end the last one that was asked.
     pub fn probe(&self) -> Random24
         ensures value { result ≡ self.now.probe }

@@ -7,3 +7,4 @@ mod Placing
 mod Queues
 mod Settling
 mod Done
+pub mod InUse

@@ -1,8 +1,9 @@
-use Rattle.std.specs.Prelude.{ℕ, List, [], ◌++◌, replicate, Option, None, if◌then◌else◌}
+use Rattle.std.specs.Prelude.{ℕ, List, ◌++◌, map, replicate, Option, None, if◌then◌else◌}
 use Rattle.dali_special.specs.declared.command.Command.{Command}
 use Rattle.dali_gear.specs.declared.row.Reach.{Reach}
 use Rattle.dali_gear.specs.Gear.{Gear, fresh}
 use Rattle.dali_gear.specs.Row.{row_after, row_left, takes, stored_short, stored_of}
+use Rattle.dali_events.specs.Used.{with_used, earlier_gift}
 use Rattle.dali_events.specs.Plan.{Plan}
 use Rattle.dali_events.specs.World.{World}
 
@@ -18,7 +19,11 @@ abbrev pub fitted_of : World → FittedGear
 fitted_of w = record { gear = w.gear; left = w.left; gifts = w.gifts }
 
 abbrev pub fitted_at : Plan → FittedGear
-fitted_at p = record { gear = replicate p.gear fresh; left = p.draws; gifts = [] }
+fitted_at p = record {
+  gear = with_used (replicate p.gear fresh) p.used;
+  left = p.draws;
+  gifts = map earlier_gift p.used;
+}
 
 -- the gear that a frame reaches take it
 abbrev pub taken_at : Reach → Command → FittedGear → FittedGear

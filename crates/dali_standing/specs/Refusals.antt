@@ -4,7 +4,7 @@ use Rattle.dali_standing.specs.declared.refusal.Refusal.TheVariants.{UnknownCont
 use Rattle.dali_standing.specs.declared.refusal.Refusal.TheVariants.{ControllerDown, ControllerUp}
 use Rattle.dali_standing.specs.declared.refusal.Refusal.TheVariants.{NotDue, NotArc, StoreDisagrees}
 use Rattle.dali_standing.specs.declared.refusal.Refusal.TheVariants.{DrawsSpent, QueueFull, LogFull}
-use Rattle.dali_standing.specs.declared.refusal.Refusal.TheVariants.{NoMemory}
+use Rattle.dali_standing.specs.declared.refusal.Refusal.TheVariants.{NoMemory, AddressInUse}
 
 -- the refusals' numbers
 abbrev pub refusal_number : Refusal → ℕ
@@ -19,6 +19,7 @@ refusal_number DrawsSpent = 6
 refusal_number QueueFull = 7
 refusal_number LogFull = 8
 refusal_number NoMemory = 9
+refusal_number AddressInUse = 10
 
 -- and their names
 abbrev pub name_of : Refusal → List ℕ
@@ -33,3 +34,4 @@ name_of DrawsSpent = codes "DrawsSpent"
 name_of QueueFull = codes "QueueFull"
 name_of LogFull = codes "LogFull"
 name_of NoMemory = codes "NoMemory"
+name_of AddressInUse = codes "AddressInUse"

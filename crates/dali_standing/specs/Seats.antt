@@ -5,8 +5,8 @@ use Rattle.dali_script.specs.declared.block.Block.{Block}
 use Rattle.dali_script.specs.declared.trace.Entry.{Entry}
 use Rattle.dali_script.specs.declared.finding.Finding.{Finding}
 use Rattle.dali_script.specs.declared.records.Record.{Record}
-use Rattle.dali_script.specs.declared.records.Record.TheVariants.{Enrol}
-use Rattle.dali_script.specs.Records.{Kept, Fits, MayAdd, without_records}
+use Rattle.dali_script.specs.declared.records.Record.TheVariants.{Reserve, Enrol, Release}
+use Rattle.dali_script.specs.Records.{Kept, Fits, MayAdd, Has, without_records}
 use Rattle.dali_script.specs.Findings.{later, finding_of, assigned}
 use Rattle.dali_script.specs.declared.orders.Input.{Input}
 use Rattle.dali_script.specs.declared.orders.Input.TheVariants as input
@@ -19,6 +19,8 @@ use Rattle.dali_controller.specs.Machine.{Machine, at_first, machine_told}
 use Rattle.dali_controller.specs.Orders.{IsGiven, machine_after}
 use Rattle.dali_standing.specs.declared.seat.Place.{Place}
 use Rattle.dali_standing.specs.declared.seat.Place.TheVariants.{Up, Down}
+use Rattle.dali_events.specs.declared.used.Used.{Used}
+use Rattle.dali_events.specs.Used.{used_shorts}
 use Rattle.dali_events.specs.World.{Controller, controller_begun}
 use Rattle.dali_events.specs.Allowed.{HasOutstanding}
 use Rattle.dali_events.specs.Happens.{controller_acted, gone_down, come_up}
@@ -144,6 +146,19 @@ told_at change p = record { controller = change p.controller; machine = p.machin
 abbrev pub MayAnswer : Option Machine → Input → Order → Type 0
 MayAnswer None i o = ⊥
 MayAnswer (Some m) i o = IsGiven m i o
+
+-- an order to reserve a short address that used gear have; and that the machine, if there is one,
+-- gives such an order
+abbrev pub ReservesUsed : List Used → Order → Type 0
+ReservesUsed us (Commit (Reserve a r)) = Has (used_shorts us) a
+ReservesUsed us (Commit (Enrol b r)) = ⊥
+ReservesUsed us (Commit (Release a r)) = ⊥
+ReservesUsed us (Put p f) = ⊥
+ReservesUsed us (Done e) = ⊥
+ReservesUsed us (Halt f) = ⊥
+
+abbrev pub MayReserveUsed : List Used → Option Machine → Input → Type 0
+MayReserveUsed us m i = (o : Order) × MayAnswer m i o × ReservesUsed us o
 
 -- the frames of the machine's running transaction
 abbrev pub trace_of : Option Machine → List Entry

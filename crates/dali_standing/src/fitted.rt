@@ -1,9 +1,10 @@
-ghost use Rattle.std.specs.Prelude.{◌≡◌, ◌↔◌, ◌<◌, ◌≤◌, ◌++◌, length, map, IfOk};
+ghost use Rattle.std.specs.Prelude.{◌≡◌, ◌↔◌, ◌<◌, ◌≤◌, ◌++◌, [], length, map, IfOk};
 ghost use Rattle.std.specs.Prelude.{IfErr, IsTrue};
 ghost use Rattle.std.specs.Vec.{vec_capacity};
 ghost use Rattle.dali_special.specs.Command.{command_of};
 ghost use Rattle.dali_gear.specs.Gear.{gear_expired, gear_quieted};
 ghost use Rattle.dali_gear.specs.Row.{draws_needed, answers_of, heard_of, stored_short, stored_of};
+ghost use Rattle.dali_events.specs.Used.{earlier_gift};
 ghost use Rattle.dali_events.specs.Plan.{Plan};
 ghost use Rattle.dali_events.specs.World.{gear_changed};
 ghost use Rattle.dali_events.specs.Happens.{gear_powered};
@@ -11,7 +12,7 @@ ghost use Rattle.dali_standing.specs.FittedGear.{gift_of};
 ghost use Rattle.dali_standing.specs.declared.refusal.Refusal.TheVariants as refusal;
 
 use crate::refusal::Refusal;
-use dali_events::Plan;
+use dali_events::{Plan, Used};
 use dali_frame::{Answer, Forward, Random24, Short};
 use dali_gear::{Gear, InitialisationState, Reach, Row};
 use dali_special::Command;
@@ -44,14 +45,15 @@ impl Model for FittedGear {
 impl FittedGear {
     ghost use Rattle.dali_standing.specs.FittedGear.{FittedGear, fitted_at, taken_at, changed_at};
 
-    /// The gear of a plan, from the factory. It takes all the memory that it will need.
+    /// The gear of a plan, as they are at the start. It takes all the memory that it will need.
     pub(crate) fn new(alloc: Global, plan: &Plan) -> Result<FittedGear, Refusal>
         ensures ok { IfOk result (λ f. f ≡ fitted_at plan.now) }
         ensures err { IfErr result (λ e. e ≡ refusal.NoMemory) }
     {
-        let gear = Row::new(plan.gear() as usize);
+        let gear = plan.row();
         let draws = Vec::from_slice(alloc, plan.draws())?;
-        let gifts = Vec::with_capacity(alloc, gear.len())?;
+        let mut gifts = Vec::with_capacity(alloc, gear.len())?;
+        note_used(&mut gifts, plan.used());
         Ok(FittedGear {
             gear,
             draws,
@@ -121,6 +123,18 @@ impl FittedGear {
         ensures { result.now ≡ self.now.gifts }
     {
         &self.gifts
+    }
+}
+
+/// Notes the short addresses that used gear come with.
+fn note_used(gifts: &mut Vec<(u32, Short)>, used: &[Used])
+    requires none { gifts.old.items ≡ [] }
+    requires room { length used.now ≤ vec_capacity gifts.old }
+    ensures gifts { gifts.new.items ≡ map earlier_gift used.now }
+    ensures capacity { vec_capacity gifts.new ≡ vec_capacity gifts.old }
+{
+    for one in used {
+        gifts.push_reserved((one.gear, one.short));
     }
 }
 

@@ -8,7 +8,7 @@ use std::fmt;
 /// Why a call of a site is refused. The numbers never change.
 ///
 /// The first cause that holds is answered, in the order of the numbers: a controller or a gear that is not there comes
-/// first, and want of memory last.
+/// first. No call is refused both for want of memory and for an address that is in use.
 #[derive(Clone, Copy, Debug, PartialEq, Eq)]
 pub enum Refusal {
     /// 1: the site has no controller of this number.
@@ -33,6 +33,8 @@ pub enum Refusal {
     LogFull,
     /// 9: there is too little memory.
     NoMemory,
+    /// 10: the controller would reserve a short address that used gear have.
+    AddressInUse,
 }
 
 impl Refusal {
@@ -50,6 +52,7 @@ impl Refusal {
             Refusal::QueueFull => 7,
             Refusal::LogFull => 8,
             Refusal::NoMemory => 9,
+            Refusal::AddressInUse => 10,
         }
     }
 
@@ -69,6 +72,7 @@ impl Refusal {
             Refusal::QueueFull => "QueueFull",
             Refusal::LogFull => "LogFull",
             Refusal::NoMemory => "NoMemory",
+            Refusal::AddressInUse => "AddressInUse",
         }
     }
 }

@@ -80,6 +80,19 @@ impl Seat {
         }
     }
 
+    /// What its machine would order at an input.
+    pub(crate) fn would_order(&self, input: Input) -> Option<Order>
+        requires up { self.now.controller.up ≡ true }
+        requires due { IsDue self.now.controller input }
+        ensures some { IsSome result }
+        ensures answer { IfSome result (MayAnswer self.now.machine input) }
+    {
+        match &self.place {
+            Place::Up(machine) => machine.would_order(input).ok(),
+            Place::Down(_) => None,
+        }
+    }
+
     /// Its machine acts on an input, and orders what is to be done next.
     pub(crate) fn act(&mut self, input: Input) -> Option<Order>
         requires up { self.old.controller.up ≡ true }

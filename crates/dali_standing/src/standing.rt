@@ -1,18 +1,20 @@
-ghost use Rattle.std.specs.Prelude.{◌≡◌, ◌↔◌, ◌++◌, [], ◌<◌, ◌≤◌, length, true, false, Some, None};
+ghost use Rattle.std.specs.Prelude.{◌≡◌, ◌↔◌, ◌==◌, ◌++◌, [], ◌<◌, ◌≤◌, length, true, false, Some, None};
 ghost use Rattle.std.specs.Prelude.{IsSome, IfSome, IfOk, IfErr, IsTrue, Bool, MatchOption, if◌then◌else◌};
 ghost use Rattle.dali_special.specs.Command.{command_of};
 ghost use Rattle.dali_gear.specs.declared.row.Reach.TheVariants.{Everyone, Only};
 ghost use Rattle.dali_gear.specs.Row.{draws_needed, answers_of, heard_of, stored_of};
 ghost use Rattle.dali_arbiter.specs.Arbiter.{next, owns, total, bus_lapsed, collision};
+ghost use Rattle.dali_script.specs.declared.orders.Order.TheVariants.{Commit};
 ghost use Rattle.dali_script.specs.Due.{frame_put, record_ordered};
 ghost use Rattle.dali_script.specs.Table.{table_of};
+ghost use Rattle.std.specs.List.{list_any};
 ghost use Rattle.dali_events.specs.declared.event.Event.TheVariants as event;
 ghost use Rattle.dali_events.specs.World.{start};
 ghost use Rattle.dali_events.specs.Happens.{is_arc, keeps_bus, gives_up, put_after, told_sent};
 ghost use Rattle.dali_events.specs.Happens.{told_destroyed};
 ghost use Rattle.dali_events.specs.Allowed.{IsArc, IsDue};
 ghost use Rattle.dali_standing.specs.Standing.{seats_from};
-ghost use Rattle.dali_standing.specs.Seats.{MayAnswer, Agrees, trace_of, told_at, due_of};
+ghost use Rattle.dali_standing.specs.Seats.{MayAnswer, ReservesUsed, MayReserveUsed, Agrees, trace_of, told_at, due_of};
 ghost use Rattle.dali_standing.specs.Troubles.{heard_under, nobody_at_all};
 ghost use Rattle.dali_standing.specs.Settled.{IsAccepted, IsHearing, IsPlacedOn};
 ghost use Rattle.dali_standing.specs.declared.refusal.Refusal.TheVariants as refusal;
@@ -22,7 +24,7 @@ use crate::refusal::Refusal;
 use crate::seat::Seat;
 use crate::trouble::Trouble;
 use dali_arbiter::{Arbiter, Request};
-use dali_events::Plan;
+use dali_events::{Plan, Used};
 use dali_frame::{Answer, Forward, Priority, Short};
 use dali_gear::{GearSet, Reach, Row};
 use dali_script::{Block, Due, Input, Kept, Order, Record, Table, Trace};
@@ -170,6 +172,19 @@ impl Standing {
         ensures { IsTrue result ↔ IsDue (controller_on self.now c) input }
     {
         self.seats[c as usize].may_act(input)
+    }
+
+    /// Whether a controller would order, at this input, to reserve a short address that one of these used gear has.
+    pub fn would_reserve_used(&self, c: u8, input: Input, used: &[Used]) -> bool
+        requires up { (controller_on self.now c).up ≡ true }
+        requires due { IsDue (controller_on self.now c) input }
+        ensures yes { result ≡ true → MayReserveUsed used.now (machine_in self.now.machines c) input }
+        ensures no { result ≡ false → MayReserveUsed used.now (machine_in self.now.machines c) input → ⊥ }
+    {
+        match self.seats[c as usize].would_order(input) {
+            Some(order) => reserves_used(&order, used),
+            None => false,
+        }
     }
 
     /// A controller acts on an input. What it orders on the bus waits there from now on.
@@ -366,6 +381,36 @@ fn seats(alloc: Global, blocks: &[Block]) -> Result<Vec<Seat>, Refusal>
         seats.push_reserved(Seat::new(c as u8, *block));
     }
     Ok(seats)
+}
+
+/// Whether an order is to reserve a short address that one of these used gear has.
+fn reserves_used(order: &Order, used: &[Used]) -> bool
+    ensures yes { result ≡ true → ReservesUsed used.now order.now }
+    ensures no { result ≡ false → ReservesUsed used.now order.now → ⊥ }
+{
+    match order {
+        Order::Commit(added) => has_used(added, used),
+        Order::Put(..) | Order::Done(_) | Order::Halt(_) => false,
+    }
+}
+
+/// Whether a record reserves a short address that one of these used gear has.
+#[tactic(auto, using(crate::proofs::InUse::in_use, crate::proofs::InUse::not_in_use))]
+fn has_used(added: &Record, used: &[Used]) -> bool
+    ensures yes { result ≡ true → ReservesUsed used.now (Commit added.now) }
+    ensures no { result ≡ false → ReservesUsed used.now (Commit added.now) → ⊥ }
+{
+    match added {
+        Record::Reserve(short, _) => is_in_use(*short, used),
+        Record::Enrol(..) | Record::Release(..) => false,
+    }
+}
+
+/// Whether one of these used gear has a short address.
+fn is_in_use(short: Short, used: &[Used]) -> bool
+    ensures { result ≡ list_any (λ u. u.short == short) used.now }
+{
+    used.iter().any(|one| one.short == short)
 }
 
 /// Whether a controller owns the bus.

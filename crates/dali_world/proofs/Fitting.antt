@@ -13,7 +13,7 @@ use Rattle.dali_events.specs.Plan.{Plan, block_at}
 use Rattle.dali_events.specs.World.{World, Controller, controller_at, nobody, start}
 use Rattle.dali_events.specs.Happens.{happens, controller_acted}
 use Rattle.dali_events.specs.Allowed.{Allowed}
-use Rattle.dali_events.specs.Runs.{IsRun}
+use Rattle.dali_events.specs.Runs.{IsRun, LeavesUsed}
 use Rattle.dali_events.specs.Laws.{KeepsRecords}
 use Rattle.dali_events.proofs.Invariant.Growing.{after_more, run_more}
 use Rattle.dali_events.proofs.Invariant.Controllers.{controllers_count}
@@ -21,10 +21,11 @@ use Rattle.dali_world.specs.Site.{SiteState, Receipt, world, HasActed}
 use Rattle.dali_world.proofs.Logs.{records_now}
 
 -- A RECORD THAT IS ORDERED FITS the block that the plan gives to its controller: it is outstanding once it is ordered, and what is outstanding fits.
-keeps_after : (s : SiteState) (e : Event) → IsRun s.plan s.queue s.log → Allowed (world s) e → KeepsRecords s.plan (happens (world s) e)
-keeps_after s e run allowed =
+keeps_after : (s : SiteState) (e : Event) → IsRun s.plan s.queue s.log → Allowed (world s) e → LeavesUsed s.plan.used e
+    → KeepsRecords s.plan (happens (world s) e)
+keeps_after s e run allowed leaves =
     subst (KeepsRecords s.plan) (after_more (start s.plan s.queue) s.log e)
-    (records_now s.plan s.queue (s.log ++ e ∷ []) (run_more s.plan s.queue s.log e run allowed))
+    (records_now s.plan s.queue (s.log ++ e ∷ []) (run_more s.plan s.queue s.log e run allowed leaves))
 
 ordered_last : (w : World) (c : ℕ) (i : Input) (x : Record) → c < length w.controllers
     → (controller_at (happens w (event.Acted c i (Commit x))) c).outstanding ≡ Some x
@@ -45,4 +46,4 @@ pub fits_acted : (s : SiteState) (c : ℕ) (i : Input) (r : Receipt) (new : Site
     → IfSome (record_ordered (Some r.order)) (Fits (block_at s.plan c))
 fits_acted s c i r new run acted =
     let allowed : Allowed (world s) (event.Acted c i r.order) = acted.logs.0.allowed in
-    fits_order s.plan (world s) c i r.order allowed.up.known (keeps_after s (event.Acted c i r.order) run allowed)
+    fits_order s.plan (world s) c i r.order allowed.up.known (keeps_after s (event.Acted c i r.order) run allowed acted.leaves)

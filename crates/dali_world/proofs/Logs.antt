@@ -2,7 +2,7 @@ use Rattle.std.proofs.Common.{◌≡◌, ℕ, ◌+◌, ◌<◌, ◌≤◌, ◌�
 use Rattle.std.proofs.Common.{length-append, length-set, set, get_or, get_or-set_same, get_or-set_other, nat_eq, Option, Some, None}
 use Rattle.std.specs.Prelude.{◌==◌, if◌then◌else◌, zero, suc}
 use Rattle.std.proofs.lemmas.Bool.Decides.{nat_tests}
-use Rattle.std.proofs.lemmas.List.{length-map, length-replicate, append-nil}
+use Rattle.std.proofs.lemmas.List.{length-map, append-nil}
 use Rattle.dali_script.specs.declared.orders.Input.{Input}
 use Rattle.dali_script.specs.declared.orders.Order.{Order}
 use Rattle.dali_controller.specs.Machine.{Machine}
@@ -12,8 +12,10 @@ use Rattle.dali_events.specs.Plan.{Plan, IsPlan}
 use Rattle.dali_events.specs.World.{World, Controller, controller_at, start}
 use Rattle.dali_events.specs.Happens.{happens}
 use Rattle.dali_events.specs.Allowed.{Allowed, IsUp, IsDue, MaySend}
-use Rattle.dali_events.specs.Runs.{after, after_all, IsRun}
+use Rattle.dali_events.specs.declared.used.Used.{Used}
+use Rattle.dali_events.specs.Runs.{after, after_all, IsRun, LeavesUsed}
 use Rattle.dali_events.specs.Promise.{IsSafe}
+use Rattle.dali_events.proofs.Invariant.Starting.{start_count}
 use Rattle.dali_events.proofs.Invariant.Growing.{after_more, run_more}
 use Rattle.dali_events.proofs.Invariant.Controllers.{controllers_count}
 use Rattle.dali_events.proofs.Invariant.Safe.{safe_history, safe, holds_after}
@@ -31,7 +33,8 @@ use Rattle.dali_gear.specs.declared.row.Reach.TheVariants.{Everyone, Only}
 use Rattle.dali_gear.specs.Row.{draws_needed, stored_of}
 use Rattle.dali_arbiter.specs.declared.request.Request.{Request}
 use Rattle.dali_arbiter.specs.Arbiter.{owns, total, collision}
-use Rattle.dali_standing.specs.Seats.{MayAnswer, IsRunning}
+use Rattle.dali_standing.specs.Seats.{MayAnswer, MayReserveUsed, IsRunning}
+use Rattle.dali_standing.proofs.InUse.{leaves_acted}
 use Rattle.dali_standing.specs.Settled.{IsPlacedBy, IsPlacedOn}
 use Rattle.dali_world.proofs.Agreeing.{no_conflict}
 use Rattle.dali_script.specs.declared.orders.Order.TheVariants.{Halt}
@@ -98,10 +101,10 @@ pub allowed_in : (s : SiteState) (old new : Standing) (shares : List ℕ) (room 
 allowed_in s old new shares room e site moves = (moves (world s) (machines s) site.stands).0
 
 pub goes_on : (s : SiteState) (old new : Standing) (shares shares' : List ℕ) (room room' : ℕ) (log' : List Event) (e : Event) → IsSite s old shares room
-    → Moves old e new → length s.log < s.room
+    → Moves old e new → LeavesUsed s.plan.used e → length s.log < s.room
     → log' ≡ s.log ++ e ∷ [] → room' ≡ room → IsCounted shares e shares'
     → IsSite (record { plan = s.plan; queue = s.queue; room = s.room; log = log' }) new shares' room'
-goes_on s old new shares shares' room room' log' e site moves free log_is room_is counted =
+goes_on s old new shares shares' room room' log' e site moves leaves free log_is room_is counted =
     subst (λ (l : List Event). IsSite (record { plan = s.plan; queue = s.queue; room = s.room; log = l }) new shares' room') (sym log_is)
     (subst (λ n. IsSite (site_logged s e) new shares' n) (sym room_is) (record {
       run = grown_run;
@@ -120,7 +123,7 @@ goes_on s old new shares shares' room room' log' e site moves free log_is room_i
       most = site.most;
     })) where
       grown_run : IsRun s.plan s.queue (s.log ++ e ∷ [])
-      grown_run = run_more s.plan s.queue s.log e site.run (allowed_in s old new shares room e site moves)
+      grown_run = run_more s.plan s.queue s.log e site.run (allowed_in s old new shares room e site moves) leaves
 
       grown : world (site_logged s e) ≡ happens (world s) e
       grown = after_more (start s.plan s.queue) s.log e
@@ -131,12 +134,12 @@ pub opens : (p : Plan) (queue room capacity : ℕ) (standing : Standing) (shares
     → room ≤ 65536
     → standing ≡ stand_of (start p queue) (machines_at 0 p.blocks) → shares ≡ 0 ∷ 0 ∷ 0 ∷ 0 ∷ [] → IsSite (opened_site p queue room) standing shares capacity
 opens p queue room capacity standing shares plan few_gear few_controllers reserved most is none = record {
-  run = record { plan = plan; allowed = tt };
-  safe = safe_history p queue [] (record { plan = plan; allowed = tt });
+  run = record { plan = plan; allowed = tt; leaves = tt };
+  safe = safe_history p queue [] (record { plan = plan; allowed = tt; leaves = tt });
   stands = is;
   counted = λ c there. rw none (zeroes c);
   four = rw none refl;
-  gear_count = length-replicate p.gear _;
+  gear_count = start_count p;
   controller_count = length-map p.blocks _;
   queue = refl;
   few_gear = few_gear;
@@ -154,6 +157,16 @@ opens p queue room capacity standing shares plan few_gear few_controllers reserv
 
 -- ---------------------------------------------------------------- what a call did to a site
 
+self_same : (c : ℕ) → (c == c) ≡ true
+self_same c = grind (arith, nat_tests)
+
+-- an event that is nobody's step reserves nothing
+nobodys_leaves : (us : List Used) (e : Event) → ((c : ℕ) → is_step_of c e ≡ false) → LeavesUsed us e
+nobodys_leaves us e nobodys c i a r is has =
+    let no : (c == c) ≡ false = subst (λ (x : Event). is_step_of c x ≡ false) is (nobodys c) in
+    let yes : (c == c) ≡ true = self_same c in
+    cc
+
 -- `was` is the site as its caller sees it, and s the same by its parts
 pub site_logs : (s was : SiteState) (old new : Standing) (shares : List ℕ) (room : ℕ) (log' : List Event) (e : Event) → s ≡ was → IsSite s old shares room
     → HasRoom was → Moves old e new
@@ -170,16 +183,17 @@ pub site_goes_on : (s was : SiteState) (old new : Standing) (shares : List ℕ) 
     → log' ≡ s.log ++ e ∷ [] → room' ≡ room → ((c : ℕ) → is_step_of c e ≡ false)
     → IsSite (record { plan = s.plan; queue = s.queue; room = s.room; log = log' }) new shares room'
 site_goes_on s was old new shares room room' log' e view site free moves log_is room_is nobodys =
-    goes_on s old new shares shares room room' log' e site moves (subst (λ (w : SiteState). HasRoom w) (sym view) free) log_is room_is
-    (uncounted shares e site.four nobodys)
+    goes_on s old new shares shares room room' log' e site moves (nobodys_leaves s.plan.used e nobodys)
+    (subst (λ (w : SiteState). HasRoom w) (sym view) free) log_is room_is (uncounted shares e site.four nobodys)
 
 -- a step of controller d
 pub step_goes_on : (s was : SiteState) (old new : Standing) (shares shares' : List ℕ) (room room' : ℕ) (log' : List Event) (e : Event) (d : ℕ) → s ≡ was
-    → IsSite s old shares room → HasRoom was → Moves old e new
+    → IsSite s old shares room → HasRoom was → Moves old e new → LeavesUsed was.plan.used e
     → log' ≡ s.log ++ e ∷ [] → room' ≡ room → d < 4 → shares' ≡ set shares d (get_or shares d 0 + 1) → ((c : ℕ) → is_step_of c e ≡ (d == c))
     → IsSite (record { plan = s.plan; queue = s.queue; room = s.room; log = log' }) new shares' room'
-step_goes_on s was old new shares shares' room room' log' e d view site free moves log_is room_is there shares_is step =
-    goes_on s old new shares shares' room room' log' e site moves (subst (λ (w : SiteState). HasRoom w) (sym view) free) log_is room_is
+step_goes_on s was old new shares shares' room room' log' e d view site free moves leaves log_is room_is there shares_is step =
+    goes_on s old new shares shares' room room' log' e site moves (subst (λ (w : SiteState). LeavesUsed w.plan.used e) (sym view) leaves)
+    (subst (λ (w : SiteState). HasRoom w) (sym view) free) log_is room_is
     (counted_step shares shares' e d site.four there shares_is step)
 
 pub step_few : (s was : SiteState) (old : Standing) (shares : List ℕ) (room d : ℕ) → s ≡ was → IsSite s old shares room → HasRoom was → d < 4
@@ -197,9 +211,6 @@ step_number s old shares room d number log' e site there is log_is step =
     is ∙ ap (λ n. n + 1) (site.counted d there) ∙ sym (ap (share_of d) log_is ∙ share_more d s.log e
     ∙ ap (λ (b : Bool). share_of d s.log + (if b then 1 else 0)) step)
 
-self_same : (c : ℕ) → (c == c) ≡ true
-self_same c = grind (arith, nat_tests)
-
 pub not_crowded : (s was : SiteState) (old : Standing) (shares : List ℕ) (room : ℕ) → s ≡ was → IsSite s old shares room → total old.bus < old.bus.capacity
     → IsCrowded was → ⊥
 not_crowded s was old shares room view site free crowded =
@@ -208,17 +219,27 @@ not_crowded s was old shares room view site free crowded =
     let same = site.queue in
     omega arith
 
+-- an order that the machine gives reserves no address of used gear, where it may give none that does
+pub act_leaves : (s was : SiteState) (old : Standing) (shares : List ℕ) (room c : ℕ) (i : Input) (o : Order) → s ≡ was → IsSite s old shares room
+    → MayAnswer (machine_in old.machines c) i o → (MayReserveUsed was.plan.used (machine_at was c) i → ⊥) → LeavesUsed was.plan.used (event.Acted c i o)
+act_leaves s was old shares room c i o view site answer none =
+    let given : MayAnswer (machine_at was c) i o =
+    subst (λ (w : SiteState). MayAnswer (machine_at w c) i o) view (subst (λ (t : Standing). MayAnswer (machine_in t.machines c) i o) site.stands answer) in
+    leaves_acted was.plan.used c i o (λ reserves. none (o, given, reserves))
+
 pub act_site : (s was : SiteState) (old new : Standing) (shares shares' : List ℕ) (room number c : ℕ) (i : Input) (o : Order) (r : Receipt) (log' : List Event)
     → s ≡ was → IsSite s old shares room
     → total old.bus < old.bus.capacity → HasRoom was → Moves old (event.Acted c i o) new → MayAnswer (machine_in old.machines c) i o
+    → LeavesUsed was.plan.used (event.Acted c i o)
     → log' ≡ s.log ++ event.Acted c i o ∷ [] → c < 4
     → number ≡ get_or shares c 0 + 1 → r ≡ record { controller = c; input = i; order = o; number = number }
     → HasActed was c i r (record { plan = s.plan; queue = s.queue; room = s.room; log = log' })
-act_site s was old new shares shares' room number c i o r log' view site quiet free moves answer log_is there number_is r_is =
+act_site s was old new shares shares' room number c i o r log' view site quiet free moves answer leaves log_is there number_is r_is =
     rw r_is (record {
       logs = (site_logs s was old new shares room log' (event.Acted c i o) view site free moves log_is, not_crowded s was old shares room view site quiet);
       ordered = subst (λ (w : SiteState). MayAnswer (machine_at w c) i o) view
           (subst (λ (t : Standing). MayAnswer (machine_in t.machines c) i o) site.stands answer);
+      leaves = leaves;
       controller = refl;
       input = refl;
       number = step_number s old shares room c number log' (event.Acted c i o) site there number_is log_is (self_same c);
@@ -249,7 +270,8 @@ sent_room s was old shares room r t view site may enough sendable =
     let draws : draws_needed Everyone (command_of r.frame) 0 (world s).gear ≤ length (world s).left =
     subst (λ reach. draws_needed reach (command_of r.frame) 0 (world s).gear ≤ length (world s).left) (everyone t sendable) (draws_there s r t enough_s) in
     subst (λ (o : Standing). HasGiftRoom o Everyone r) (sym site.stands)
-    (gifts_fit_after s.plan s.queue s.log (event.Sent r.sender r.frame Silence) site.run (record { up = may_s.0; may = may_s.1; draws = draws; heard = tt }))
+    (gifts_fit_after s.plan s.queue s.log (event.Sent r.sender r.frame Silence) site.run (record { up = may_s.0; may = may_s.1; draws = draws; heard = tt })
+    (nobodys_leaves s.plan.used (event.Sent r.sender r.frame Silence) (λ d. refl)))
 
 pub lost_room : (s was : SiteState) (old : Standing) (shares : List ℕ) (room : ℕ) (r : Request) (set : GearSet) → s ≡ was → IsSite s old shares room
     → IsUp (world was) r.sender × MaySend (world was) r.sender r.frame
@@ -259,7 +281,8 @@ lost_room s was old shares room r set view site may enough =
     let may_s = subst (λ (w : SiteState). IsUp (world w) r.sender × MaySend (world w) r.sender r.frame) (sym view) may in
     subst (λ (o : Standing). HasGiftRoom o (Only set) r) (sym site.stands)
     (gifts_fit_after s.plan s.queue s.log (event.Destroyed r.sender r.frame set) site.run
-    (record { up = may_s.0; may = may_s.1; draws = draws_there s r (trouble.Destroyed set) enough_s }))
+    (record { up = may_s.0; may = may_s.1; draws = draws_there s r (trouble.Destroyed set) enough_s })
+    (nobodys_leaves s.plan.used (event.Destroyed r.sender r.frame set) (λ d. refl)))
 
 -- the request that is next may be sent
 pub request_may : (s was : SiteState) (old : Standing) (shares : List ℕ) (room : ℕ) (r : Request) → s ≡ was → IsSite s old shares room → MayBeSent old r

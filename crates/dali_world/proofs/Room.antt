@@ -11,7 +11,7 @@ use Rattle.dali_events.specs.Plan.{Plan}
 use Rattle.dali_events.specs.World.{World}
 use Rattle.dali_events.specs.Happens.{happens}
 use Rattle.dali_events.specs.Allowed.{Allowed}
-use Rattle.dali_events.specs.Runs.{after, IsRun}
+use Rattle.dali_events.specs.Runs.{after, IsRun, LeavesUsed}
 use Rattle.dali_script.proofs.Members.{mapped_from}
 use Rattle.dali_events.proofs.Invariant.Takes.{row_length}
 use Rattle.dali_events.proofs.Invariant.Safe.{Holds, holds_step, holds_after}
@@ -38,8 +38,8 @@ gifts_within p w holds =
 pub gifts_fit : (p : Plan) (capacity : ℕ) (log : List Event) → IsRun p capacity log → length (after p capacity log).gifts ≤ length (after p capacity log).gear
 gifts_fit p capacity log run = gifts_within p (after p capacity log) (holds_after p capacity log run)
 
-pub gifts_fit_after : (p : Plan) (capacity : ℕ) (log : List Event) (e : Event) → IsRun p capacity log → Allowed (after p capacity log) e
+pub gifts_fit_after : (p : Plan) (capacity : ℕ) (log : List Event) (e : Event) → IsRun p capacity log → Allowed (after p capacity log) e → LeavesUsed p.used e
     → length (happens (after p capacity log) e).gifts ≤ length (after p capacity log).gear
-gifts_fit_after p capacity log e run here =
+gifts_fit_after p capacity log e run here leaves =
     subst (λ n. length (happens (after p capacity log) e).gifts ≤ n) (gear_count (after p capacity log) e)
-    (gifts_within p (happens (after p capacity log) e) (holds_step p run.plan (after p capacity log) e here (holds_after p capacity log run)))
+    (gifts_within p (happens (after p capacity log) e) (holds_step p run.plan (after p capacity log) e here leaves (holds_after p capacity log run)))

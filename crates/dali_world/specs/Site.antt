@@ -19,7 +19,7 @@ use Rattle.dali_events.specs.Plan.{Plan}
 use Rattle.dali_events.specs.World.{World, controller_at, start}
 use Rattle.dali_events.specs.Happens.{happens}
 use Rattle.dali_events.specs.Allowed.{Allowed, IsUp, IsDue, IsDown, IsArc}
-use Rattle.dali_events.specs.Runs.{after, IsRun}
+use Rattle.dali_events.specs.Runs.{after, IsRun, LeavesUsed}
 use Rattle.dali_events.specs.Promise.{IsSafeHistory}
 use Rattle.dali_standing.specs.declared.refusal.Refusal.{Refusal}
 use Rattle.dali_standing.specs.declared.refusal.Refusal.TheVariants as refusal
@@ -28,7 +28,7 @@ use Rattle.dali_standing.specs.declared.trouble.Trouble.TheVariants as trouble
 use Rattle.dali_standing.specs.declared.trouble.Report.{Report}
 use Rattle.dali_standing.specs.declared.trouble.Report.TheVariants as report
 use Rattle.dali_standing.specs.Troubles.{heard_under, reach_under, nobody_at_all}
-use Rattle.dali_standing.specs.Seats.{MayAnswer, Agrees}
+use Rattle.dali_standing.specs.Seats.{MayAnswer, MayReserveUsed, Agrees}
 use Rattle.dali_standing.specs.Standing.{Standing, stand_of, machine_in, machines_at}
 use Rattle.dali_standing.specs.Standing.{machines_after}
 
@@ -134,6 +134,9 @@ IsActRefused s c i refusal.QueueFull =
     IsUp (world s) c × IsDue (controller_at (world s) c) i × IsCrowded s
 IsActRefused s c i refusal.LogFull =
     IsUp (world s) c × IsDue (controller_at (world s) c) i × (IsCrowded s → ⊥) × IsFull s
+IsActRefused s c i refusal.AddressInUse =
+    IsUp (world s) c × IsDue (controller_at (world s) c) i × (IsCrowded s → ⊥) × HasRoom s
+    × MayReserveUsed s.plan.used (machine_at s c) i
 IsActRefused s c i e = IsBarred s c e
 
 abbrev pub IsArcRefused : SiteState → ℕ → Forward → Refusal → Type 0
@@ -198,6 +201,7 @@ pub record HasActed (s : SiteState) (c : ℕ) (i : Input) (r : Receipt)
     (new : SiteState) : Type 0 where
   pub logs : LogsRequest s (event.Acted c i r.order) new
   pub ordered : MayAnswer (machine_at s c) i r.order
+  pub leaves : LeavesUsed s.plan.used (event.Acted c i r.order)
   pub controller : r.controller ≡ c
   pub input : r.input ≡ i
   pub number : r.number ≡ share_of c new.log

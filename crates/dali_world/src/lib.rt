@@ -9,7 +9,7 @@ mod receipt;
 mod site;
 
 pub use dali_events::{
-    CONTROLLER_LIMIT, DRAW_LIMIT, Event, GEAR_LIMIT, GearSet, Plan, PlanError, laws,
+    CONTROLLER_LIMIT, DRAW_LIMIT, Event, GEAR_LIMIT, GearSet, Plan, PlanError, Used, laws,
 };
 pub use dali_standing::{Refusal, Report, Trouble};
 pub use receipt::Receipt;

@@ -4,7 +4,7 @@ ghost use Rattle.std.specs.Prelude.{slice_set};
 ghost use Rattle.std.specs.Vec.{vec_capacity};
 ghost use Rattle.dali_events.specs.declared.event.Event.TheVariants as event;
 ghost use Rattle.dali_events.specs.World.{gear_at, controller_at};
-ghost use Rattle.dali_events.specs.Allowed.{IsUp, MaySend};
+ghost use Rattle.dali_events.specs.Allowed.{IsUp, IsDue, MaySend};
 ghost use Rattle.dali_events.specs.Runs.{IsRun};
 ghost use Rattle.dali_events.specs.Promise.{KeepsPromise, IsSafe, IsSafeHistory};
 ghost use Rattle.dali_events.specs.Laws.{TablesAgree, KeepsRecords};
@@ -63,7 +63,7 @@ impl Model for SiteState {
 }
 
 impl SiteState {
-    ghost use Rattle.dali_standing.specs.Seats.{due_of};
+    ghost use Rattle.dali_standing.specs.Seats.{due_of, MayReserveUsed};
     ghost use Rattle.dali_world.specs.Site.{SiteState, world, opened_site, site_logged, machine_at, share_of, IsSound};
     ghost use Rattle.dali_world.specs.Site.{Acts, IsArcRefused, IsDownRefused, IsUpRefused, IsGearRefused, IsBarred};
     ghost use Rattle.dali_world.specs.Site.{IsFull, IsCrowded, HasRoom, Pumps, IsPumpRefused, next_request, Logs};
@@ -103,7 +103,8 @@ impl SiteState {
     /// that it orders fits the block that the plan gives to the controller.
     ///
     /// Refusals, in this order: 1 UnknownController, 2 ControllerDown, 3 NotDue, 7 QueueFull (whatever it would order),
-    /// 8 LogFull.
+    /// 8 LogFull, 10 AddressInUse: it would order to reserve a short address that used gear have. A machine that
+    /// surveys reserves no address under which it heard somebody.
     #[tactic(auto, unfolding(crate::specs::Site::Acts))]
     pub fn act(&mut self, c: u8, input: Input) -> Result<Receipt, Refusal>
         ensures sound { IsSound self.old }
@@ -130,6 +131,9 @@ impl SiteState {
         }
         if self.is_full() {
             return Err(Refusal::LogFull);
+        }
+        if self.would_reserve_used(c, input) {
+            return Err(Refusal::AddressInUse);
         }
         match self.standing.act(c, input) {
             Some(order) => {
@@ -414,6 +418,20 @@ impl SiteState {
         ensures room { result ≡ false → IsCrowded self.now → ⊥ }
     {
         self.standing.is_crowded()
+    }
+
+    /// Whether controller `c` would order, at this input, to reserve a short address that used gear have.
+    fn would_reserve_used(&self, c: u8, input: Input) -> bool
+        requires up { (controller_at (world self.now) c).up ≡ true }
+        requires due { IsDue (controller_at (world self.now) c) input }
+        ensures yes { result ≡ true → MayReserveUsed self.now.plan.used (machine_at self.now c) input }
+        ensures no { result ≡ false → MayReserveUsed self.now.plan.used (machine_at self.now c) input → ⊥ }
+    {
+        let used = self.plan.used();
+        if used.is_empty() {
+            return false;
+        }
+        self.standing.would_reserve_used(c, input, used)
     }
 
     /// The request that is next is sent.

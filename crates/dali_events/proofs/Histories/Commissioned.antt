@@ -13,13 +13,15 @@ use Rattle.dali_events.specs.Plan.{Plan, IsPlan, block_at}
 use Rattle.dali_events.specs.World.{gear_at, start}
 use Rattle.dali_events.specs.Runs.{after, AllAllowed}
 use Rattle.dali_events.specs.Searching.{SearchesAll, NobodyAnswers, up_to_compare, sent_event}
+use Rattle.dali_events.proofs.Plans.{none_used}
+use Rattle.dali_events.proofs.Invariant.Growing.{leave_none}
 use Rattle.dali_events.proofs.Histories.Openings.{first_block, at_123456, query, visit}
 use Rattle.dali_events.proofs.Histories.Tested.{all_allowed_by}
 
 -- A WHOLE RUN: one gear and one controller. An opening, a number that is reserved, an address that is given, and at last a
 -- COMPARE under FFFFFE that nobody answers. It shows that the laws speak of something.
 abbrev plan : Plan
-plan = record { gear = 1; blocks = first_block ∷ []; draws = 0x123456 ∷ [] }
+plan = record { gear = 1; blocks = first_block ∷ []; draws = 0x123456 ∷ []; used = [] }
 
 abbrev heard : Forward → Answer → Entry
 heard f h = record { frame = f; heard = h }
@@ -62,6 +64,7 @@ is_plan = record {
   short = λ c a h within. small c a h within;
   draws_once = (λ h. h, tt);
   draws_below = λ r h. below r h;
+  used = none_used plan refl (λ h. h, tt);
 } where
   only : (c d : ℕ) → c < 1 → d < 1 → c ≡ d
   only c d h k = omega arith
@@ -88,7 +91,11 @@ allowed = all_allowed_by (start plan 8) (up_to_compare [] 0 terminate opening ra
 searches : SearchesAll plan 8 [] 0 terminate opening randomise middle compare
 unfolding command_of stage_of
 searches = record {
-  run = record { plan = is_plan; allowed = allowed };
+  run = record {
+    plan = is_plan;
+    allowed = allowed;
+    leaves = leave_none plan refl (up_to_compare [] 0 terminate opening randomise (middle ++ sent_event 0 compare ∷ []));
+  };
   terminate = refl;
   calm_opening = (λ e. cc, (λ e. cc, (λ e. cc, tt)));
   complete = record { owner = refl; opening = (refl, tt, (refl, tt, (refl, tt, (refl, tt, refl)))); last = refl };

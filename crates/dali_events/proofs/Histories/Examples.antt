@@ -24,7 +24,7 @@ use Rattle.dali_events.proofs.Histories.Openings.{first_block, second_block, at_
 
 -- a site of two gear and two controllers
 abbrev plan : Plan
-plan = record { gear = 2; blocks = first_block ∷ second_block ∷ []; draws = 0x123456 ∷ 0x0ABCDE ∷ [] }
+plan = record { gear = 2; blocks = first_block ∷ second_block ∷ []; draws = 0x123456 ∷ 0x0ABCDE ∷ []; used = [] }
 
 abbrev site : World
 site = start plan 8

@@ -51,7 +51,7 @@ allowed_too w _ here = here
 -- ---------------------------------------------------------------- the events
 
 abbrev plan : Plan
-plan = record { gear = 2; blocks = first_block ∷ []; draws = 0x123456 ∷ 0x0ABCDE ∷ [] }
+plan = record { gear = 2; blocks = first_block ∷ []; draws = 0x123456 ∷ 0x0ABCDE ∷ []; used = [] }
 
 -- the gear at 123456 is given the address 0 and found with it, and the address is released; then it is given to the gear at
 -- 0ABCDE

@@ -104,7 +104,7 @@ allowed_on s e pass = allowed_by s.world e pass
 -- ---------------------------------------------------------------- the events
 
 abbrev plan : Plan
-plan = record { gear = 1; blocks = first_block ∷ second_block ∷ []; draws = 0x123456 ∷ 0x0ABCDE ∷ [] }
+plan = record { gear = 1; blocks = first_block ∷ second_block ∷ []; draws = 0x123456 ∷ 0x0ABCDE ∷ []; used = [] }
 
 abbrev site : SiteState
 site = record { world = start plan 8; old_owner = None; old_trace = [] }

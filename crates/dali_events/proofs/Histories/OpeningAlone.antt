@@ -97,7 +97,7 @@ allowed_too w _ here = here
 -- ---------------------------------------------------------------- the events
 
 abbrev plan : Plan
-plan = record { gear = 1; blocks = first_block ∷ []; draws = 0x123456 ∷ 0x0ABCDE ∷ [] }
+plan = record { gear = 1; blocks = first_block ∷ []; draws = 0x123456 ∷ 0x0ABCDE ∷ []; used = [] }
 
 -- an opening and a visit, and the gear stores the address 0; then the owner loses the bus
 abbrev giving : List Event

@@ -19,7 +19,7 @@ use Rattle.dali_events.proofs.Histories.Tested.{all_allowed_by}
 -- ---------------------------------------------------------------- a number that is drawn twice
 
 abbrev twice_drawn : Plan
-twice_drawn = record { gear = 2; blocks = first_block ∷ []; draws = 0x123456 ∷ 0x123456 ∷ [] }
+twice_drawn = record { gear = 2; blocks = first_block ∷ []; draws = 0x123456 ∷ 0x123456 ∷ []; used = [] }
 
 -- an opening and a visit: the gear at 123456, of which there are two, store the address 0
 abbrev giving_two : List Event
@@ -41,7 +41,7 @@ twice_drawn_is_unsafe safe = safe.address_once.0 (inl refl)
 -- ---------------------------------------------------------------- an address that lies in two blocks
 
 abbrev overlapping : Plan
-overlapping = record { gear = 2; blocks = first_block ∷ first_block ∷ []; draws = 0x123456 ∷ 0x0ABCDE ∷ [] }
+overlapping = record { gear = 2; blocks = first_block ∷ first_block ∷ []; draws = 0x123456 ∷ 0x0ABCDE ∷ []; used = [] }
 
 -- controller 0 gives address 0 to the gear at 123456 and loses the bus; controller 1 gives it to the gear at 0ABCDE
 abbrev giving_each : List Event
@@ -63,7 +63,7 @@ overlapping_is_unsafe safe = safe.address_once.0 (inl refl)
 
 -- its short address was erased, and it has its random address still: the number that gear 0 will draw
 abbrev not_new : Plan
-not_new = record { gear = 2; blocks = first_block ∷ []; draws = 0x123456 ∷ [] }
+not_new = record { gear = 2; blocks = first_block ∷ []; draws = 0x123456 ∷ []; used = [] }
 
 abbrev with_erased : World
 with_erased = record (start not_new 8) { gear = fresh ∷ record fresh { random = 0x123456 } ∷ [] }

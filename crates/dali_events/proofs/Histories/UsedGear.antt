@@ -9,10 +9,10 @@ use Rattle.dali_script.specs.declared.orders.Order.TheVariants.{Put, Commit, Don
 use Rattle.dali_script.specs.Stages.{stage_of}
 use Rattle.dali_events.specs.declared.event.Event.{Event}
 use Rattle.dali_events.specs.declared.event.Event.TheVariants as event
-use Rattle.dali_events.specs.World.{gear_at}
-use Rattle.dali_events.specs.Runs.{AllAllowed}
+use Rattle.dali_events.specs.Plan.{Plan}
+use Rattle.dali_events.specs.World.{gear_at, start}
+use Rattle.dali_events.specs.Runs.{after, AllAllowed}
 use Rattle.dali_events.specs.Promise.{KeepsPromiseNow}
-use Rattle.dali_events.specs.Used.{UsedPlan, start_used, after_used}
 use Rattle.dali_events.proofs.Histories.Openings.{first_block, at_123456, silent, query, opening, visit, two_gear}
 use Rattle.dali_events.proofs.Histories.Tested.{all_allowed_by}
 
@@ -20,9 +20,11 @@ use Rattle.dali_events.proofs.Histories.Tested.{all_allowed_by}
 -- nobody reserves its address; at the end of each two gear hold one address.
 
 -- gear 0 comes with the address 0; gear 1 comes from the factory
-abbrev one_used : UsedPlan
+abbrev one_used : Plan
 one_used = record {
-  plan = record { gear = 2; blocks = first_block ∷ []; draws = 0x123456 ∷ [] };
+  gear = 2;
+  blocks = first_block ∷ [];
+  draws = 0x123456 ∷ [];
   used = record { gear = 0; short = 0; random = 0x0ABCDE } ∷ [];
 }
 
@@ -45,15 +47,15 @@ sweeping =
 abbrev off_while_asked : List Event
 off_while_asked = sweeping ++ (opening 0 ++ (visit 0 (input.Heard Silence) at_123456 0 ++ (event.Power 0 true ∷ [])))
 
-off_allowed : AllAllowed (start_used one_used 8) off_while_asked
+off_allowed : AllAllowed (start one_used 8) off_while_asked
 unfolding command_of stage_of
-off_allowed = all_allowed_by (start_used one_used 8) off_while_asked refl
+off_allowed = all_allowed_by (start one_used 8) off_while_asked refl
 
-off_both_hold : ((gear_at (after_used one_used 8 off_while_asked) 0).short ≡ Some 0) × ((gear_at (after_used one_used 8 off_while_asked) 1).short ≡ Some 0)
+off_both_hold : ((gear_at (after one_used 8 off_while_asked) 0).short ≡ Some 0) × ((gear_at (after one_used 8 off_while_asked) 1).short ≡ Some 0)
 unfolding command_of stage_of
 off_both_hold = (refl, refl)
 
-off_is_unsafe : KeepsPromiseNow (after_used one_used 8 off_while_asked) → ⊥
+off_is_unsafe : KeepsPromiseNow (after one_used 8 off_while_asked) → ⊥
 unfolding command_of stage_of
 off_is_unsafe kept = two_gear 0 1 refl refl (kept.one_gear 0 1 0 (lit< tt, refl) (lit< tt, refl))
 
@@ -81,14 +83,14 @@ reserved_before =
     query 0 0xFF ∷
     silent 0 0xB7 0x01 ∷ [])
 
-before_allowed : AllAllowed (start_used one_used 8) reserved_before
+before_allowed : AllAllowed (start one_used 8) reserved_before
 unfolding command_of stage_of
-before_allowed = all_allowed_by (start_used one_used 8) reserved_before refl
+before_allowed = all_allowed_by (start one_used 8) reserved_before refl
 
-before_both_hold : ((gear_at (after_used one_used 8 reserved_before) 0).short ≡ Some 0) × ((gear_at (after_used one_used 8 reserved_before) 1).short ≡ Some 0)
+before_both_hold : ((gear_at (after one_used 8 reserved_before) 0).short ≡ Some 0) × ((gear_at (after one_used 8 reserved_before) 1).short ≡ Some 0)
 unfolding command_of stage_of
 before_both_hold = (refl, refl)
 
-before_is_unsafe : KeepsPromiseNow (after_used one_used 8 reserved_before) → ⊥
+before_is_unsafe : KeepsPromiseNow (after one_used 8 reserved_before) → ⊥
 unfolding command_of stage_of
 before_is_unsafe kept = two_gear 0 1 refl refl (kept.one_gear 0 1 0 (lit< tt, refl) (lit< tt, refl))

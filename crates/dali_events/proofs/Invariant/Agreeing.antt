@@ -15,43 +15,64 @@ use Rattle.dali_events.specs.World.{World, gear_at, controller_at, start}
 use Rattle.dali_events.specs.declared.event.Event.TheVariants.{Sent}
 use Rattle.dali_events.specs.Happens.{happens, trace_running, entry}
 use Rattle.dali_events.specs.Allowed.{Allowed}
-use Rattle.dali_events.specs.Runs.{after, after_all, AllAllowed, IsRun, AreDrawn}
-use Rattle.dali_events.specs.Promise.{IsEnrolled, NamesGear, Names, IsSafe}
-use Rattle.dali_events.specs.Laws.{GiftsAreReserved, KeepsReserved, TablesAgree, HasFound, FindingsAgree}
+use Rattle.std.specs.List.{AllByRecursion}
+use Rattle.dali_events.specs.declared.used.Used.{Used}
+use Rattle.dali_events.specs.Used.{gear_of_used}
+use Rattle.dali_events.specs.Runs.{after, after_all, AllAllowed, IsRun, AreDrawn, LeavesUsed}
+use Rattle.dali_events.specs.Promise.{IsEnrolled, NamesGear, Names, IsSafe, HoldsShort}
+use Rattle.dali_events.specs.Laws.{GiftsAreReserved, GiftsAreOwned, KeepsReserved, TablesAgree, HasFound, FindingsAgree}
+use Rattle.dali_script.proofs.Lists.{has_map}
 use Rattle.dali_script.proofs.Members.{same_member}
-use Rattle.dali_events.proofs.Invariant.Growing.{after_both, allowed_front, allowed_rest, last_allowed}
+use Rattle.dali_events.proofs.Invariant.Growing.{after_both, allowed_front, allowed_rest, leaves_front, leaves_rest, last_allowed}
+use Rattle.dali_events.proofs.Invariant.Starting.{start_count, stands}
 use Rattle.dali_events.proofs.Invariant.Controllers.{controllers_count}
 use Rattle.dali_events.proofs.Invariant.Sparing.{IsOwned, reserved_alone}
 use Rattle.dali_events.proofs.Invariant.Drawn.{drawn_in_front}
 use Rattle.dali_events.proofs.Invariant.Naming.{SaysFinding, resolved_names}
 use Rattle.dali_events.proofs.Invariant.Resolving.{tells_if}
-use Rattle.dali_events.proofs.Invariant.Safe.{Holds, keeps_step, stays_step, holds_step, holds_after, safe, run_front}
+use Rattle.dali_events.proofs.Invariant.Safe.{Holds, keeps_step, stays_step, holds_step, holds_after, safe, run_front, keeps_promise}
 
 -- GIFTS STAY RESERVED
-pub gifts_reserved : (p : Plan) (capacity : ℕ) (front rest : List Event) → IsRun p capacity (front ++ rest) → GiftsAreReserved (after p capacity front)
-gifts_reserved p capacity front rest run g a gift =
-    reserved_alone (after p capacity front).controllers (a, (gear_at (after p capacity front) g).random)
-    ((holds_after p capacity front (run_front p capacity front rest run)).gifts.reserved g a gift)
+pub gifts_owned : (p : Plan) (capacity : ℕ) (front rest : List Event) → IsRun p capacity (front ++ rest) → GiftsAreOwned p.used (after p capacity front)
+gifts_owned p capacity front rest run g a gift = (holds_after p capacity front (run_front p capacity front rest run)).gifts.reserved g a gift
 
-reserved_stays : (p : Plan) → IsPlan p → (w : World) (es : List Event) → AllAllowed w es → Holds p w → KeepsReserved w (after_all w es)
-reserved_stays p plan w [] all k = λ c g a there gift h. h
-reserved_stays p plan w (e ∷ es) all k = λ c g a there gift h.
+pub gifts_reserved : (p : Plan) (capacity : ℕ) (front rest : List Event) → IsRun p capacity (front ++ rest) → p.used ≡ []
+    → GiftsAreReserved (after p capacity front)
+gifts_reserved p capacity front rest run none g a gift =
+    reserved_alone p.used (after p capacity front).controllers (a, (gear_at (after p capacity front) g).random) none
+    (gifts_owned p capacity front rest run g a gift)
+
+reserved_stays : (p : Plan) → IsPlan p → (w : World) (es : List Event) → AllAllowed w es → AllByRecursion (LeavesUsed p.used) es → Holds p w
+    → KeepsReserved w (after_all w es)
+reserved_stays p plan w [] all leave k = λ c g a there gift h. h
+reserved_stays p plan w (e ∷ es) all leave k = λ c g a there gift h.
     let v : World = happens w e in
-    let kept = keeps_step p plan w e all.0 k g a gift in
+    let kept = keeps_step p plan w e all.0 leave.0 k g a gift in
     let here : c < length v.controllers = subst (λ n. c < n) (sym (controllers_count w e)) there in
     let before : Has (controller_at w c).records.reserved (a, (gear_at v g).random) =
     subst (λ r. Has (controller_at w c).records.reserved (a, r)) (sym kept.1) h in
-    let next : Has (controller_at v c).records.reserved (a, (gear_at v g).random) = stays_step p plan w e all.0 k g a kept.0 c here before in
+    let next : Has (controller_at v c).records.reserved (a, (gear_at v g).random) = stays_step p plan w e all.0 leave.0 k g a kept.0 c here before in
     subst (λ r. Has (controller_at (after_all v es) c).records.reserved (a, r)) kept.1
-    (reserved_stays p plan v es all.1 (holds_step p plan w e all.0 k) c g a here kept.0 next)
+    (reserved_stays p plan v es all.1 leave.1 (holds_step p plan w e all.0 leave.0 k) c g a here kept.0 next)
 
 pub reservations_stay : (p : Plan) (capacity : ℕ) (front later rest : List Event) → IsRun p capacity (front ++ (later ++ rest))
     → KeepsReserved (after p capacity front) (after p capacity (front ++ later))
 reservations_stay p capacity front later rest run =
     let allowed : AllAllowed (after p capacity front) later =
     allowed_front (after p capacity front) later rest (allowed_rest (start p capacity) front (later ++ rest) run.allowed) in
+    let leaves : AllByRecursion (LeavesUsed p.used) later = leaves_front p.used later rest (leaves_rest p.used front (later ++ rest) run.leaves) in
     subst (λ v. KeepsReserved (after p capacity front) v) (sym (after_both (start p capacity) front later))
-    (reserved_stays p run.plan (after p capacity front) later allowed (holds_after p capacity front (run_front p capacity front (later ++ rest) run)))
+    (reserved_stays p run.plan (after p capacity front) later allowed leaves (holds_after p capacity front (run_front p capacity front (later ++ rest) run)))
+
+-- USED GEAR KEEP what they came with
+pub used_kept : (p : Plan) (capacity : ℕ) (front rest : List Event) (u : Used) → IsRun p capacity (front ++ rest) → Has p.used u
+    → HoldsShort (after p capacity front) u.gear u.short × ((gear_at (after p capacity front) u.gear).random ≡ u.random)
+used_kept p capacity front rest u run has =
+    let at : gear_at (start p capacity) u.gear ≡ gear_of_used u = stands p run.plan.used u has in
+    let there : u.gear < length (start p capacity).gear =
+    subst (λ n. u.gear < n) (sym (start_count p)) (run.plan.used.there u.gear (has_map (λ x. x.gear) p.used u has)) in
+    let stays = (keeps_promise p capacity (front ++ rest) run).ever_after [] front rest refl u.gear u.short (there, ap (λ x. x.short) at) in
+    (stays.0, stays.1 ∙ ap (λ x. x.random) at)
 
 -- TABLES AGREE
 module _ (w : World) (s : IsSafe w) where
@@ -124,7 +145,7 @@ told_by_gear p capacity log c a high middle low f g h run running first second t
     let w : World = after p capacity log in
     let k : Holds p w = holds_after p capacity log (run_front p capacity log (Sent c h (Byte low) ∷ []) run) in
     let here : Allowed w (Sent c h (Byte low)) = last_allowed p capacity log (Sent c h (Byte low)) run in
-    resolved_names (IsOwned [] w.controllers) w c h (Byte low) here k.gifts (tells_if (owns w.bus.owner c) w.trace w.gear k.tells) a
+    resolved_names (IsOwned p.used w.controllers) w c h (Byte low) here k.gifts (tells_if (owns w.bus.owner c) w.trace w.gear k.tells) a
     (number_of high middle low) record {
       high = high;
       middle = middle;

@@ -1,5 +1,6 @@
-use Rattle.std.proofs.Common.{◌≡◌, ℕ, ◌<◌, ◌⊎◌, inl, inr, Bool, true, false, List, [], ◌∷◌, ◌++◌, refl, sym, subst, length, map, append_assoc, get_or, None}
-use Rattle.std.proofs.lemmas.List.{map-append, length-replicate, get_or-replicate}
+use Rattle.std.proofs.Common.{◌≡◌, ℕ, ◌<◌, ◌⊎◌, inl, inr, Bool, true, false, List, [], ◌∷◌, ◌++◌, refl, sym, ap, subst, length, map, append_assoc, get_or}
+use Rattle.std.proofs.Common.{replicate, None}
+use Rattle.std.proofs.lemmas.List.{map-append}
 use Rattle.std.specs.Prelude.{if◌then◌else◌}
 use Rattle.dali_frame.specs.Random.{MASK24}
 use Rattle.dali_special.specs.declared.command.Command.{Command}
@@ -11,13 +12,15 @@ use Rattle.dali_gear.specs.Row.{row_after, row_left, drawn_of}
 use Rattle.dali_script.specs.Records.{Has, IsOnce}
 use Rattle.dali_events.specs.declared.event.Event.{Event}
 use Rattle.dali_events.specs.declared.event.Event.TheVariants as event
-use Rattle.dali_events.specs.Plan.{Plan, IsPlan}
+use Rattle.dali_events.specs.Used.{used_randoms, earlier_draw, with_used}
+use Rattle.dali_events.specs.Plan.{Plan, IsPlan, numbers_of}
 use Rattle.dali_events.specs.World.{World, gear_at, start}
 use Rattle.dali_events.specs.Happens.{happens, gear_powered}
 use Rattle.dali_events.specs.Runs.{after, after_all, IsRun, AreDrawn}
 use Rattle.dali_script.proofs.Lists.{has_map}
-use Rattle.dali_script.proofs.Members.{has_left, has_right, once_front, Each, each_changed, each_map}
+use Rattle.dali_script.proofs.Members.{has_left, has_right, has_either, once_front, Each, each_changed, each_map}
 use Rattle.dali_events.proofs.Invariant.Takes.{Moved, stays, goes, moves_at, row_length, numbers_stay}
+use Rattle.dali_events.proofs.Invariant.Starting.{IsUsedOrFresh, row_at, start_count, used_numbers, drawn_at}
 
 -- gear k has no random address, or drew it
 abbrev pub HasDrawn : List (ℕ × ℕ) → ℕ → Gear → Type 0
@@ -61,10 +64,10 @@ drawn_powered true ds k g d = go (g.powered) where
   go false = d
 
 -- they hold after each event
-pub draws_step : (p : Plan) (w : World) (e : Event) → Draws p.draws w.gear w.drawn w.left
-    → Draws p.draws (happens w e).gear (happens w e).drawn (happens w e).left
-draws_step p w (event.Sent c f h) d = draws_taken p.draws Everyone (command_of f) w.gear w.drawn w.left d
-draws_step p w (event.Destroyed c f set) d = draws_taken p.draws (Only set) (command_of f) w.gear w.drawn w.left d
+pub draws_step : (p : Plan) (w : World) (e : Event) → Draws (numbers_of p) w.gear w.drawn w.left
+    → Draws (numbers_of p) (happens w e).gear (happens w e).drawn (happens w e).left
+draws_step p w (event.Sent c f h) d = draws_taken (numbers_of p) Everyone (command_of f) w.gear w.drawn w.left d
+draws_step p w (event.Destroyed c f set) d = draws_taken (numbers_of p) (Only set) (command_of f) w.gear w.drawn w.left d
 draws_step p w event.Quiet d = record { each = each_map fresh (HasDrawn w.drawn) gear_quieted w.gear (λ k g h. h) d.each; numbers = d.numbers }
 draws_step p w (event.Power g on) d =
     record {
@@ -74,28 +77,37 @@ draws_step p w (event.Power g on) d =
 draws_step p w (event.Expired g) d = record { each = each_changed fresh (HasDrawn w.drawn) gear_expired w.gear g (λ there h. h) d.each; numbers = d.numbers }
 draws_step p w _ d = d
 
-pub draws_start : (p : Plan) (capacity : ℕ) → Draws p.draws (start p capacity).gear [] p.draws
+pub draws_start : (p : Plan) (capacity : ℕ) → Draws (numbers_of p) (start p capacity).gear (start p capacity).drawn p.draws
 draws_start p capacity = record {
-  each = λ i h.
-      let there : i < p.gear = subst (λ n. i < n) (length-replicate p.gear fresh) h in
-      rw (get_or-replicate p.gear i fresh fresh there) (inl refl);
-  numbers = refl;
-}
+  each = λ g h. go g (row_at p g (subst (λ n. g < n) (start_count p) h));
+  numbers = ap (λ xs. xs ++ p.draws) (used_numbers p.used);
+} where
+  go : (g : ℕ) → IsUsedOrFresh p g → HasDrawn (map earlier_draw p.used) g (get_or (with_used (replicate p.gear fresh) p.used) g fresh)
+  go g (inl k) = rw k.3 (inr (drawn_at p k.0 g k.1 k.2))
+  go g (inr k) = rw k (inl refl)
 
-pub draws_all : (p : Plan) (w : World) (es : List Event) → Draws p.draws w.gear w.drawn w.left
-    → Draws p.draws (after_all w es).gear (after_all w es).drawn (after_all w es).left
+pub draws_all : (p : Plan) (w : World) (es : List Event) → Draws (numbers_of p) w.gear w.drawn w.left
+    → Draws (numbers_of p) (after_all w es).gear (after_all w es).drawn (after_all w es).left
 draws_all p w [] d = d
 draws_all p w (e ∷ es) d = draws_all p (happens w e) es (draws_step p w e d)
 
-pub draws_after : (p : Plan) (capacity : ℕ) (es : List Event) → Draws p.draws (after p capacity es).gear (after p capacity es).drawn (after p capacity es).left
+pub draws_after : (p : Plan) (capacity : ℕ) (es : List Event)
+    → Draws (numbers_of p) (after p capacity es).gear (after p capacity es).drawn (after p capacity es).left
 draws_after p capacity es = draws_all p (start p capacity) es (draws_start p capacity)
 
+-- no number of a plan is FFFFFF
+number_below : (p : Plan) → IsPlan p → (r : ℕ) → Has (numbers_of p) r → r < MASK24
+number_below p plan r h = go (has_either (used_randoms p.used) p.draws r h) where
+  go : Has (used_randoms p.used) r ⊎ Has p.draws r → r < MASK24
+  go (inl k) = plan.used.random_below r k
+  go (inr k) = plan.draws_below r k
+
 -- NUMBERS ARE DRAWN ONCE, and none is FFFFFF
-pub are_drawn : (p : Plan) (w : World) → IsPlan p → Draws p.draws w.gear w.drawn w.left → AreDrawn w
+pub are_drawn : (p : Plan) (w : World) → IsPlan p → Draws (numbers_of p) w.gear w.drawn w.left → AreDrawn w
 are_drawn p w plan d = record {
   random = d.each;
-  once = once_front (map (λ draw. draw.1) w.drawn) w.left (subst IsOnce (sym d.numbers) plan.draws_once);
-  below = λ g r h. plan.draws_below r (subst (λ ns. Has ns r) d.numbers
+  once = once_front (map (λ draw. draw.1) w.drawn) w.left (subst IsOnce (sym d.numbers) plan.used.random_once);
+  below = λ g r h. number_below p plan r (subst (λ ns. Has ns r) d.numbers
       (has_left (map (λ draw. draw.1) w.drawn) w.left r (has_map (λ draw. draw.1) w.drawn (g, r) h)));
 }
 

@@ -1,11 +1,15 @@
-use Rattle.std.proofs.Common.{◌≡◌, ℕ, List, [], ◌∷◌, ◌++◌, refl}
+use Rattle.std.proofs.Common.{◌≡◌, ℕ, List, [], ◌∷◌, ◌++◌, refl, subst}
 use Rattle.dali_events.specs.declared.event.Event.{Event}
 use Rattle.dali_gear.specs.Row.{heard_of}
 use Rattle.dali_events.specs.Plan.{Plan}
 use Rattle.dali_events.specs.World.{World, start}
 use Rattle.dali_events.specs.Happens.{happens}
 use Rattle.dali_events.specs.Allowed.{Allowed, Hears}
-use Rattle.dali_events.specs.Runs.{after, after_all, AllAllowed, IsRun}
+use Rattle.std.specs.List.{AllByRecursion}
+use Rattle.dali_script.specs.Records.{Has}
+use Rattle.dali_events.specs.declared.used.Used.{Used}
+use Rattle.dali_events.specs.Used.{used_shorts}
+use Rattle.dali_events.specs.Runs.{after, after_all, AllAllowed, IsRun, LeavesUsed}
 
 -- HISTORIES GROW AT THE END. The world after a list of events and then more is the world after the two together.
 pub after_both : (w : World) (es fs : List Event) → after_all w (es ++ fs) ≡ after_all (after_all w es) fs
@@ -30,9 +34,37 @@ pub allowed_rest : (w : World) (es fs : List Event) → AllAllowed w (es ++ fs) 
 allowed_rest w [] fs all = all
 allowed_rest w (e ∷ es) fs all = allowed_rest (happens w e) es fs all.1
 
-pub run_more : (p : Plan) (capacity : ℕ) (log : List Event) (e : Event) → IsRun p capacity log → Allowed (after p capacity log) e
+-- and one that leaves used gear goes on with those that do
+pub leaves_more : (us : List Used) (es : List Event) (e : Event) → AllByRecursion (LeavesUsed us) es → LeavesUsed us e
+    → AllByRecursion (LeavesUsed us) (es ++ e ∷ [])
+leaves_more us [] e all here = (here, tt)
+leaves_more us (f ∷ es) e all here = (all.0, leaves_more us es e all.1 here)
+
+pub leaves_front : (us : List Used) (es fs : List Event) → AllByRecursion (LeavesUsed us) (es ++ fs) → AllByRecursion (LeavesUsed us) es
+leaves_front us [] fs all = tt
+leaves_front us (e ∷ es) fs all = (all.0, leaves_front us es fs all.1)
+
+pub leaves_rest : (us : List Used) (es fs : List Event) → AllByRecursion (LeavesUsed us) (es ++ fs) → AllByRecursion (LeavesUsed us) fs
+leaves_rest us [] fs all = all
+leaves_rest us (e ∷ es) fs all = leaves_rest us es fs all.1
+
+-- without used gear each event leaves them
+pub leaves_none : (p : Plan) (e : Event) → p.used ≡ [] → LeavesUsed p.used e
+leaves_none p e none c i a r is k = go (subst (λ (us : List Used). Has (used_shorts us) a) none k) where
+  go : Has (used_shorts []) a → ⊥
+  go h = elim h [ ]
+
+pub leave_none : (p : Plan) → p.used ≡ [] → (es : List Event) → AllByRecursion (LeavesUsed p.used) es
+leave_none p none [] = tt
+leave_none p none (e ∷ es) = (leaves_none p e none, leave_none p none es)
+
+pub run_more : (p : Plan) (capacity : ℕ) (log : List Event) (e : Event) → IsRun p capacity log → Allowed (after p capacity log) e → LeavesUsed p.used e
     → IsRun p capacity (log ++ e ∷ [])
-run_more p capacity log e run here = record { plan = run.plan; allowed = allowed_more (start p capacity) log e run.allowed here }
+run_more p capacity log e run here leaves = record {
+  plan = run.plan;
+  allowed = allowed_more (start p capacity) log e run.allowed here;
+  leaves = leaves_more p.used log e run.leaves leaves;
+}
 
 -- the last event of a run was allowed
 pub last_allowed : (p : Plan) (capacity : ℕ) (log : List Event) (e : Event) → IsRun p capacity (log ++ e ∷ []) → Allowed (after p capacity log) e

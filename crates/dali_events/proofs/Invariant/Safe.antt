@@ -1,6 +1,6 @@
 use Rattle.std.proofs.Common.{◌≡◌, ℕ, ◌<◌, Bool, true, false, List, [], ◌∷◌, ◌++◌, refl, sym, ap, subst, ◌∙◌, append_assoc, length, length-set, get_or, Some}
 use Rattle.std.proofs.Common.{None, inl, inr}
-use Rattle.std.proofs.lemmas.List.{length-map, length-replicate, get_or-replicate}
+use Rattle.std.proofs.lemmas.List.{length-map}
 use Rattle.std.specs.Prelude.{if◌then◌else◌}
 use Rattle.dali_frame.specs.declared.frames.Forward.{Forward}
 use Rattle.dali_frame.specs.declared.frames.Answer.{Answer}
@@ -9,7 +9,7 @@ use Rattle.dali_gear.specs.declared.row.Reach.{Reach}
 use Rattle.dali_gear.specs.declared.row.Reach.TheVariants.{Everyone, Only}
 use Rattle.dali_gear.specs.Gear.{Gear, fresh, gear_expired, gear_quieted}
 use Rattle.dali_gear.specs.Row.{row_after, drawn_of, stored_of}
-use Rattle.dali_script.specs.Records.{Assignment, Has, IsOnce}
+use Rattle.dali_script.specs.Records.{Assignment, Has}
 use Rattle.std.specs.List.{AllByRecursion}
 use Rattle.dali_script.specs.Findings.{Asked, asked_after, asked_of, assigned}
 use Rattle.dali_script.specs.Stages.{stage_of}
@@ -17,32 +17,33 @@ use Rattle.dali_script.proofs.Found.{asked_more}
 use Rattle.dali_arbiter.specs.Arbiter.{owns}
 use Rattle.dali_events.specs.declared.event.Event.{Event}
 use Rattle.dali_events.specs.declared.event.Event.TheVariants as event
-use Rattle.dali_events.specs.Plan.{Plan, IsPlan}
+use Rattle.dali_events.specs.Plan.{Plan, IsPlan, numbers_of}
 use Rattle.dali_events.specs.World.{World, gear_at, controller_at, nobody, start, gear_changed}
 use Rattle.dali_events.specs.Happens.{happens, trace_running, entry, goes_on, gear_powered}
 use Rattle.dali_events.specs.Allowed.{Allowed, IsUp, MaySend}
-use Rattle.dali_events.specs.Runs.{after, after_all, AllAllowed, IsRun}
+use Rattle.dali_events.specs.Runs.{after, after_all, AllAllowed, IsRun, LeavesUsed}
 use Rattle.dali_events.specs.Promise.{KeepsPromiseNow, KeepsAddresses, KeepsPromiseFrom, KeepsPromise, Names, IsSafe, KeepsGifts, IsSafeFrom, IsSafeHistory}
-use Rattle.dali_events.specs.Used.{Used, used_shorts, LeavesUsed}
-use Rattle.dali_events.proofs.Invariant.Growing.{after_both, allowed_front, allowed_rest}
+use Rattle.dali_events.specs.declared.used.Used.{Used}
+use Rattle.dali_events.proofs.Invariant.Growing.{after_both, allowed_front, allowed_rest, leaves_front, leaves_rest}
 use Rattle.dali_script.proofs.Members.{Each, each_changed, each_map, same_member}
 use Rattle.dali_events.proofs.Invariant.Drawn.{Draws, draws_step, draws_start, are_drawn}
 use Rattle.dali_events.proofs.Invariant.Controllers.{Of, controllers_count}
 use Rattle.dali_events.proofs.Invariant.Reserves.{AllReserve, reserves_step, reserves_start}
-use Rattle.dali_events.proofs.Invariant.Sparing.{AllSpare, spares_step, spares_start, leaves_none, IsOwned, one_owner}
+use Rattle.dali_events.proofs.Invariant.Sparing.{AllSpare, spares_step, spares_start, IsOwned, one_owner}
 use Rattle.dali_events.proofs.Invariant.Sending.{IsKnown, known_step, known_start, follows_of, knows_running}
 use Rattle.dali_events.proofs.Invariant.Gifts.{Gifts, Change, SameAddresses, no_change, frame_changes, gifts_step, gift_stays, gift_random, draw_stays}
 use Rattle.dali_events.proofs.Invariant.Naming.{Says, FoundBy, says_step, says_start, found_names}
 use Rattle.dali_events.proofs.Invariant.Staying.{StillReserved, Unopposed, still_reserved, given_alone}
+use Rattle.dali_events.proofs.Invariant.Arrived.{gifts_start}
 use Rattle.dali_events.proofs.Invariant.Resolving.{Tells, tells_if, tells_unless, tells_stay, tells_more}
 
--- THE INVARIANT of every run, with used gear or without
-pub record HoldsWith (us : List Used) (p : Plan) (w : World) : Type 0 where
-  pub draws : Draws p.draws w.gear w.drawn w.left
+-- THE INVARIANT of every run
+pub record Holds (p : Plan) (w : World) : Type 0 where
+  pub draws : Draws (numbers_of p) w.gear w.drawn w.left
   pub reserves : AllReserve p w.controllers
-  pub spares : AllSpare us w.controllers
+  pub spares : AllSpare p.used w.controllers
   pub known : IsKnown w
-  pub gifts : Gifts (IsOwned us w.controllers) w.gear w.drawn w.gifts
+  pub gifts : Gifts (IsOwned p.used w.controllers) w.gear w.drawn w.gifts
   pub says : Each nobody (Of (Says (Names w))) w.controllers
   pub tells : Tells (asked_of w.trace) w.gear
 
@@ -51,7 +52,7 @@ abbrev ChangeOf : List Used → World → World → Type 0
 ChangeOf us w v = Change (IsOwned us w.controllers) w.gear w.drawn w.gifts v.gear v.drawn v.gifts
 
 frame_change : (us : List Used) (w : World) (c : ℕ) (f : Forward) (reach : Reach) → IsUp w c → MaySend w c f → IsKnown w
-    → ((p : Plan) × Draws p.draws w.gear w.drawn w.left)
+    → ((plan : List ℕ) × Draws plan w.gear w.drawn w.left)
     → Change (IsOwned us w.controllers) w.gear w.drawn w.gifts (row_after reach (command_of f) 0 w.gear w.left)
     (w.drawn ++ drawn_of reach (command_of f) 0 w.gear w.left) (w.gifts ++ stored_of reach (command_of f) 0 w.gear)
 frame_change us w c f reach up may known draws =
@@ -76,15 +77,15 @@ one_change us w change g same =
 same_gear : (us : List Used) (w : World) → Change (IsOwned us w.controllers) w.gear w.drawn w.gifts w.gear w.drawn w.gifts
 same_gear us w = no_change (IsOwned us w.controllers) w.gear w.gear w.drawn w.gifts refl (λ i h. (refl, refl))
 
-change_of : (us : List Used) (p : Plan) (w : World) (e : Event) → Allowed w e → HoldsWith us p w → ChangeOf us w (happens w e)
-change_of us p w (event.Sent c f h) here k = frame_change us w c f Everyone here.up here.may k.known (p, k.draws)
-change_of us p w (event.Destroyed c f set) here k = frame_change us w c f (Only set) here.up here.may k.known (p, k.draws)
-change_of us p w event.Quiet here k =
-    no_change (IsOwned us w.controllers) w.gear _ w.drawn w.gifts (length-map w.gear gear_quieted)
+change_of : (p : Plan) (w : World) (e : Event) → Allowed w e → Holds p w → ChangeOf p.used w (happens w e)
+change_of p w (event.Sent c f h) here k = frame_change p.used w c f Everyone here.up here.may k.known (numbers_of p, k.draws)
+change_of p w (event.Destroyed c f set) here k = frame_change p.used w c f (Only set) here.up here.may k.known (numbers_of p, k.draws)
+change_of p w event.Quiet here k =
+    no_change (IsOwned p.used w.controllers) w.gear _ w.drawn w.gifts (length-map w.gear gear_quieted)
     (each_map fresh (SameAddresses w.gear) gear_quieted w.gear (λ i x h. h) (λ i h. (refl, refl)))
-change_of us p w (event.Power g on) here k = one_change us w (gear_powered on) g (powered_same on)
-change_of us p w (event.Expired g) here k = one_change us w gear_expired g (λ x. (refl, refl))
-change_of us p w _ here k = same_gear us w
+change_of p w (event.Power g on) here k = one_change p.used w (gear_powered on) g (powered_same on)
+change_of p w (event.Expired g) here k = one_change p.used w gear_expired g (λ x. (refl, refl))
+change_of p w _ here k = same_gear p.used w
 
 -- ONE EVENT
 gifts_more : (R S : Assignment → Type 0) (gs : List Gear) (ds gf : List (ℕ × ℕ))
@@ -105,227 +106,191 @@ names_stay us w v ch drawn keeps x n =
     let kept = keeps n.0 x.0 n.2.given in
     (n.0, subst (λ m. n.0 < m) (sym ch.count) n.1, record { drawer = drawn (n.0, x.1) n.2.drawer; given = kept.0; random = kept.1 ∙ n.2.random })
 
-found_of : (us : List Used) (p : Plan) (w : World) (e : Event) (M : Assignment → Type 0) → Allowed w e → HoldsWith us p w → ((x : Assignment) → Names w x → M x)
+found_of : (p : Plan) (w : World) (e : Event) (M : Assignment → Type 0) → Allowed w e → Holds p w → ((x : Assignment) → Names w x → M x)
     → FoundBy M w e
-found_of us p w (event.Sent c f h) M here k more =
-    λ x e. more (assigned x) (found_names (IsOwned us w.controllers) w c f h here k.known k.gifts (tells_if (owns w.bus.owner c) w.trace w.gear k.tells) x e)
-found_of us p w _ M here k more = tt
+found_of p w (event.Sent c f h) M here k more =
+    λ x e. more (assigned x) (found_names (IsOwned p.used w.controllers) w c f h here k.known k.gifts
+    (tells_if (owns w.bus.owner c) w.trace w.gear k.tells) x e)
+found_of p w _ M here k more = tt
 
-tells_sent : (us : List Used) (p : Plan) (w : World) (c : ℕ) (f : Forward) (h : Answer) → Allowed w (event.Sent c f h) → HoldsWith us p w
+tells_sent : (p : Plan) (w : World) (c : ℕ) (f : Forward) (h : Answer) → Allowed w (event.Sent c f h) → Holds p w
     → Tells (asked_of (happens w (event.Sent c f h)).trace) (happens w (event.Sent c f h)).gear
-tells_sent us p w c f h here k =
+tells_sent p w c f h here k =
     let q : Asked = asked_of (trace_running w c) in
     let before : Tells q w.gear = tells_if (owns w.bus.owner c) w.trace w.gear k.tells in
     let now : Tells (asked_after (command_of f) h q) w.gear =
-    tells_more (IsOwned us w.controllers) w.gear w.drawn w.gifts k.gifts (command_of f) h q here.heard before in
+    tells_more (IsOwned p.used w.controllers) w.gear w.drawn w.gifts k.gifts (command_of f) h q here.heard before in
     let after_it : Tells (asked_after (command_of f) h q) (happens w (event.Sent c f h)).gear =
-    tells_stay (IsOwned us w.controllers) w.gear _ w.drawn w.gifts _ _ (change_of us p w (event.Sent c f h) here k) (asked_after (command_of f) h q) now in
+    tells_stay (IsOwned p.used w.controllers) w.gear _ w.drawn w.gifts _ _ (change_of p w (event.Sent c f h) here k) (asked_after (command_of f) h q) now in
     tells_if (goes_on w c (trace_running w c ++ entry f h ∷ [])) (trace_running w c ++ entry f h ∷ []) (happens w (event.Sent c f h)).gear
     (subst (λ d. Tells d (happens w (event.Sent c f h)).gear) (sym (asked_more (trace_running w c) (entry f h))) after_it)
 
-tells_step : (us : List Used) (p : Plan) (w : World) (e : Event) → Allowed w e → HoldsWith us p w → Tells (asked_of (happens w e).trace) (happens w e).gear
-tells_step us p w (event.Acted c i o) here k = tells_unless _ w.trace w.gear k.tells
-tells_step us p w (event.Offered c f) here k = k.tells
-tells_step us p w (event.Sent c f h) here k = tells_sent us p w c f h here k
-tells_step us p w event.Quiet here k =
-    tells_stay (IsOwned us w.controllers) w.gear _ w.drawn w.gifts _ _ (change_of us p w event.Quiet here k) (asked_of w.trace) k.tells
-tells_step us p w (event.Power g on) here k =
-    tells_stay (IsOwned us w.controllers) w.gear _ w.drawn w.gifts _ _ (change_of us p w (event.Power g on) here k) (asked_of w.trace) k.tells
-tells_step us p w (event.Expired g) here k =
-    tells_stay (IsOwned us w.controllers) w.gear _ w.drawn w.gifts _ _ (change_of us p w (event.Expired g) here k) (asked_of w.trace) k.tells
-tells_step us p w (event.Down c) here k = tells_unless _ w.trace w.gear k.tells
-tells_step us p w (event.Up c kept) here k = k.tells
-tells_step us p w _ here k = tt
+tells_step : (p : Plan) (w : World) (e : Event) → Allowed w e → Holds p w → Tells (asked_of (happens w e).trace) (happens w e).gear
+tells_step p w (event.Acted c i o) here k = tells_unless _ w.trace w.gear k.tells
+tells_step p w (event.Offered c f) here k = k.tells
+tells_step p w (event.Sent c f h) here k = tells_sent p w c f h here k
+tells_step p w event.Quiet here k =
+    tells_stay (IsOwned p.used w.controllers) w.gear _ w.drawn w.gifts _ _ (change_of p w event.Quiet here k) (asked_of w.trace) k.tells
+tells_step p w (event.Power g on) here k =
+    tells_stay (IsOwned p.used w.controllers) w.gear _ w.drawn w.gifts _ _ (change_of p w (event.Power g on) here k) (asked_of w.trace) k.tells
+tells_step p w (event.Expired g) here k =
+    tells_stay (IsOwned p.used w.controllers) w.gear _ w.drawn w.gifts _ _ (change_of p w (event.Expired g) here k) (asked_of w.trace) k.tells
+tells_step p w (event.Down c) here k = tells_unless _ w.trace w.gear k.tells
+tells_step p w (event.Up c kept) here k = k.tells
+tells_step p w _ here k = tt
 
-module _ (us : List Used) (once : IsOnce (used_shorts us)) (p : Plan) (plan : IsPlan p) (w : World) (e : Event) (here : Allowed w e) (leaves : LeavesUsed us e)
-    (k : HoldsWith us p w) where
-  ch : ChangeOf us w (happens w e)
-  ch = change_of us p w e here k
+module _ (p : Plan) (plan : IsPlan p) (w : World) (e : Event) (here : Allowed w e) (leaves : LeavesUsed p.used e)
+    (k : Holds p w) where
+  ch : ChangeOf p.used w (happens w e)
+  ch = change_of p w e here k
 
   keeps : KeepsGifts w (happens w e)
   keeps g a h = (
-    gift_stays (IsOwned us w.controllers) (one_owner us p w.controllers once plan k.reserves k.spares) w.gear _ w.drawn w.gifts _ _
+    gift_stays (IsOwned p.used w.controllers) (one_owner p w.controllers plan k.reserves k.spares) w.gear _ w.drawn w.gifts _ _
         (are_drawn p w plan k.draws).once k.gifts ch g a h,
-    gift_random (IsOwned us w.controllers) (one_owner us p w.controllers once plan k.reserves k.spares) w.gear _ w.drawn w.gifts _ _
+    gift_random (IsOwned p.used w.controllers) (one_owner p w.controllers plan k.reserves k.spares) w.gear _ w.drawn w.gifts _ _
         (are_drawn p w plan k.draws).once k.gifts ch g a h,
   )
 
   names : (x : Assignment) → Names w x → Names (happens w e) x
-  names x n = names_stay us w (happens w e) ch
-      (draw_stays (IsOwned us w.controllers) (one_owner us p w.controllers once plan k.reserves k.spares) w.gear _ w.drawn w.gifts _ _
+  names x n = names_stay p.used w (happens w e) ch
+      (draw_stays (IsOwned p.used w.controllers) (one_owner p w.controllers plan k.reserves k.spares) w.gear _ w.drawn w.gifts _ _
       (are_drawn p w plan k.draws).once k.gifts ch) keeps x n
 
-  gifts : Gifts (IsOwned us w.controllers) (happens w e).gear (happens w e).drawn (happens w e).gifts
-  gifts = gifts_step (IsOwned us w.controllers) (one_owner us p w.controllers once plan k.reserves k.spares) w.gear _ w.drawn w.gifts _ _
+  gifts : Gifts (IsOwned p.used w.controllers) (happens w e).gear (happens w e).drawn (happens w e).gifts
+  gifts = gifts_step (IsOwned p.used w.controllers) (one_owner p w.controllers plan k.reserves k.spares) w.gear _ w.drawn w.gifts _ _
       (are_drawn p w plan k.draws).once k.gifts ch
 
   found : FoundBy (Names (happens w e)) w e
-  found = found_of us p w e (Names (happens w e)) here k names
+  found = found_of p w e (Names (happens w e)) here k names
 
-  pub keeps_step_with : KeepsGifts w (happens w e)
-  keeps_step_with = keeps
+  pub keeps_step : KeepsGifts w (happens w e)
+  keeps_step = keeps
 
   -- what is reserved for a gear that was given the address stays reserved
-  pub stays_step_with : (g a : ℕ) → Has (happens w e).gifts (g, a)
+  pub stays_step : (g a : ℕ) → Has (happens w e).gifts (g, a)
       → Each nobody (Of (StillReserved w.controllers (a, (gear_at (happens w e) g).random))) (happens w e).controllers
-  stays_step_with g a h = still_reserved (Names w) (Names (happens w e)) (a, (gear_at (happens w e) g).random) alone w e here names found k.says where
+  stays_step g a h = still_reserved (Names w) (Names (happens w e)) (a, (gear_at (happens w e) g).random) alone w e here names found k.says where
     alone : Unopposed (Names (happens w e)) (a, (gear_at (happens w e) g).random)
-    alone = given_alone (IsOwned us w.controllers) (happens w e) (are_drawn p (happens w e) plan (draws_step p w e k.draws)) gifts g a h
+    alone = given_alone (IsOwned p.used w.controllers) (happens w e) (are_drawn p (happens w e) plan (draws_step p w e k.draws)) gifts g a h
 
-  reserved_step : (g a : ℕ) → Has (happens w e).gifts (g, a) → IsOwned us w.controllers (a, (gear_at (happens w e) g).random)
-      → IsOwned us (happens w e).controllers (a, (gear_at (happens w e) g).random)
+  reserved_step : (g a : ℕ) → Has (happens w e).gifts (g, a) → IsOwned p.used w.controllers (a, (gear_at (happens w e) g).random)
+      → IsOwned p.used (happens w e).controllers (a, (gear_at (happens w e) g).random)
   reserved_step g a h (inl r) =
       let there : r.0 < length (happens w e).controllers = subst (λ n. r.0 < n) (sym (controllers_count w e)) r.1 in
-      inl (r.0, there, stays_step_with g a h r.0 there r.2)
+      inl (r.0, there, stays_step g a h r.0 there r.2)
   reserved_step g a h (inr r) = inr r
 
-  pub holds_step_with : HoldsWith us p (happens w e)
-  holds_step_with = record {
+  pub holds_step : Holds p (happens w e)
+  holds_step = record {
     draws = draws_step p w e k.draws;
     reserves = reserves_step p w e here k.reserves;
-    spares = spares_step us w e leaves k.spares;
+    spares = spares_step p.used w e leaves k.spares;
     known = known_step w e here k.known;
-    gifts = gifts_more (IsOwned us w.controllers) (IsOwned us (happens w e).controllers) (happens w e).gear (happens w e).drawn
+    gifts = gifts_more (IsOwned p.used w.controllers) (IsOwned p.used (happens w e).controllers) (happens w e).gear (happens w e).drawn
         (happens w e).gifts reserved_step gifts;
     says = says_step (Names w) (Names (happens w e)) w e here names found k.says;
-    tells = tells_step us p w e here k;
+    tells = tells_step p w e here k;
   }
 
 -- EVERY RUN
-pub holds_with : (us : List Used) → IsOnce (used_shorts us) → (p : Plan) → IsPlan p → (w : World) (es : List Event) → AllAllowed w es
-    → AllByRecursion (LeavesUsed us) es → HoldsWith us p w → HoldsWith us p (after_all w es)
-holds_with us once p plan w [] all leave k = k
-holds_with us once p plan w (e ∷ es) all leave k =
-    holds_with us once p plan (happens w e) es all.1 leave.1 (holds_step_with us once p plan w e all.0 leave.0 k)
+pub holds_all : (p : Plan) → IsPlan p → (w : World) (es : List Event) → AllAllowed w es
+    → AllByRecursion (LeavesUsed p.used) es → Holds p w → Holds p (after_all w es)
+holds_all p plan w [] all leave k = k
+holds_all p plan w (e ∷ es) all leave k =
+    holds_all p plan (happens w e) es all.1 leave.1 (holds_step p plan w e all.0 leave.0 k)
 
-keeps_with : (us : List Used) → IsOnce (used_shorts us) → (p : Plan) → IsPlan p → (w : World) (es : List Event) → AllAllowed w es
-    → AllByRecursion (LeavesUsed us) es → HoldsWith us p w → KeepsGifts w (after_all w es)
-keeps_with us once p plan w [] all leave k = λ g a h. (h, refl)
-keeps_with us once p plan w (e ∷ es) all leave k =
-    both (keeps_step_with us once p plan w e all.0 leave.0 k)
-    (keeps_with us once p plan (happens w e) es all.1 leave.1 (holds_step_with us once p plan w e all.0 leave.0 k)) where
+keeps_all : (p : Plan) → IsPlan p → (w : World) (es : List Event) → AllAllowed w es
+    → AllByRecursion (LeavesUsed p.used) es → Holds p w → KeepsGifts w (after_all w es)
+keeps_all p plan w [] all leave k = λ g a h. (h, refl)
+keeps_all p plan w (e ∷ es) all leave k =
+    both (keeps_step p plan w e all.0 leave.0 k)
+    (keeps_all p plan (happens w e) es all.1 leave.1 (holds_step p plan w e all.0 leave.0 k)) where
       both : KeepsGifts w (happens w e) → KeepsGifts (happens w e) (after_all (happens w e) es) → KeepsGifts w (after_all (happens w e) es)
       both first rest g a h = let one = first g a h in let two = rest g a one.0 in (two.0, two.1 ∙ one.1)
 
 -- A WORLD OF A RUN IS SAFE
-pub safe_with : (us : List Used) (p : Plan) (w : World) → HoldsWith us p w → IsSafe w
-safe_with us p w k = record {
+pub safe : (p : Plan) (w : World) → Holds p w → IsSafe w
+safe p w k = record {
   gear_once = k.gifts.gear_once;
   address_once = k.gifts.address_once;
   holds = k.gifts.holds;
   tables = λ c entry h. (k.says c h.0).enrolled entry h.1;
 }
 
--- the front of a list that leaves used gear leaves them, and so does the rest
-leaves_front : (us : List Used) (es fs : List Event) → AllByRecursion (LeavesUsed us) (es ++ fs) → AllByRecursion (LeavesUsed us) es
-leaves_front us [] fs all = tt
-leaves_front us (e ∷ es) fs all = (all.0, leaves_front us es fs all.1)
-
-leaves_rest : (us : List Used) (es fs : List Event) → AllByRecursion (LeavesUsed us) (es ++ fs) → AllByRecursion (LeavesUsed us) fs
-leaves_rest us [] fs all = all
-leaves_rest us (e ∷ es) fs all = leaves_rest us es fs all.1
-
-module _ (us : List Used) (once : IsOnce (used_shorts us)) (p : Plan) (plan : IsPlan p) (w : World) (first : HoldsWith us p w) where
-  front_holds : (es more log : List Event) → es ++ more ≡ log → AllAllowed w log → AllByRecursion (LeavesUsed us) log → HoldsWith us p (after_all w es)
+module _ (p : Plan) (plan : IsPlan p) (w : World) (first : Holds p w) where
+  front_holds : (es more log : List Event) → es ++ more ≡ log → AllAllowed w log → AllByRecursion (LeavesUsed p.used) log → Holds p (after_all w es)
   front_holds es more log e all leave =
-      holds_with us once p plan w es (allowed_front w es more (subst (AllAllowed w) (sym e) all))
-      (leaves_front us es more (subst (AllByRecursion (LeavesUsed us)) (sym e) leave)) first
+      holds_all p plan w es (allowed_front w es more (subst (AllAllowed w) (sym e) all))
+      (leaves_front p.used es more (subst (AllByRecursion (LeavesUsed p.used)) (sym e) leave)) first
 
-  since : (earlier later rest : List Event) → AllAllowed w (earlier ++ (later ++ rest)) → AllByRecursion (LeavesUsed us) (earlier ++ (later ++ rest))
+  since : (earlier later rest : List Event) → AllAllowed w (earlier ++ (later ++ rest)) → AllByRecursion (LeavesUsed p.used) (earlier ++ (later ++ rest))
       → KeepsGifts (after_all w earlier) (after_all w (earlier ++ later))
   since earlier later rest all leave =
       let allowed : AllAllowed (after_all w earlier) later =
       allowed_front (after_all w earlier) later rest (allowed_rest w earlier (later ++ rest) all) in
-      let leaves : AllByRecursion (LeavesUsed us) later = leaves_front us later rest (leaves_rest us earlier (later ++ rest) leave) in
+      let leaves : AllByRecursion (LeavesUsed p.used) later = leaves_front p.used later rest (leaves_rest p.used earlier (later ++ rest) leave) in
       subst (λ v. KeepsGifts (after_all w earlier) v) (sym (after_both w earlier later))
-      (keeps_with us once p plan (after_all w earlier) later allowed leaves
+      (keeps_all p plan (after_all w earlier) later allowed leaves
       (front_holds earlier (later ++ rest) (earlier ++ (later ++ rest)) refl all leave))
 
-  pub safe_from : (log : List Event) → AllAllowed w log → AllByRecursion (LeavesUsed us) log → IsSafeFrom w log
+  pub safe_from : (log : List Event) → AllAllowed w log → AllByRecursion (LeavesUsed p.used) log → IsSafeFrom w log
   safe_from log all leave = record {
-    always = λ earlier more e. safe_with us p (after_all w earlier) (front_holds earlier more log e all leave);
+    always = λ earlier more e. safe p (after_all w earlier) (front_holds earlier more log e all leave);
     ever_after = λ earlier later rest e.
-        since earlier later rest (subst (AllAllowed w) (sym e) all) (subst (AllByRecursion (LeavesUsed us)) (sym e) leave);
+        since earlier later rest (subst (AllAllowed w) (sym e) all) (subst (AllByRecursion (LeavesUsed p.used)) (sym e) leave);
   }
 
 -- THE PROMISE, BY GEAR AND TABLES ALONE
-promise_now : (us : List Used) (p : Plan) (w : World) → HoldsWith us p w → KeepsPromiseNow w
-promise_now us p w k = record {
+promise_now : (p : Plan) (w : World) → Holds p w → KeepsPromiseNow w
+promise_now p w k = record {
   one_gear = λ g h a one two.
       ap (λ gift. gift.0) (same_member (λ gift. gift.1) w.gifts (g, a) (h, a) k.gifts.address_once ((k.gifts.holds g a one.0).0 one.1)
       ((k.gifts.holds h a two.0).0 two.1) refl);
   tables = λ c entry h. let n = (k.says c h.0).enrolled entry h.1 in (n.0, (n.1, (k.gifts.holds n.0 entry.0 n.1).1 n.2.given), n.2.random);
 }
 
-keeps_addresses : (us : List Used) (p : Plan) (w v : World) → HoldsWith us p w → HoldsWith us p v → KeepsGifts w v → KeepsAddresses w v
-keeps_addresses us p w v k m keeps g a h =
+keeps_addresses : (p : Plan) (w v : World) → Holds p w → Holds p v → KeepsGifts w v → KeepsAddresses w v
+keeps_addresses p w v k m keeps g a h =
     let kept = keeps g a ((k.gifts.holds g a h.0).0 h.1) in
     let there : g < length v.gear = m.gifts.there g a kept.0 in
     ((there, (m.gifts.holds g a there).1 kept.0), kept.1)
 
-pub promise_from : (us : List Used) → IsOnce (used_shorts us) → (p : Plan) → IsPlan p → (w : World) → HoldsWith us p w → (log : List Event)
-    → AllAllowed w log → AllByRecursion (LeavesUsed us) log → KeepsPromiseFrom w log
-promise_from us once p plan w first log all leave = record {
-  always = λ earlier more e. promise_now us p (after_all w earlier) (front earlier more e);
-  ever_after = λ earlier later rest e. keeps_addresses us p (after_all w earlier) (after_all w (earlier ++ later)) (front earlier (later ++ rest) e)
-      (front (earlier ++ later) rest (append_assoc earlier later rest ∙ e)) ((safe_from us once p plan w first log all leave).ever_after earlier later rest e);
+pub promise_from : (p : Plan) → IsPlan p → (w : World) → Holds p w → (log : List Event)
+    → AllAllowed w log → AllByRecursion (LeavesUsed p.used) log → KeepsPromiseFrom w log
+promise_from p plan w first log all leave = record {
+  always = λ earlier more e. promise_now p (after_all w earlier) (front earlier more e);
+  ever_after = λ earlier later rest e. keeps_addresses p (after_all w earlier) (after_all w (earlier ++ later)) (front earlier (later ++ rest) e)
+      (front (earlier ++ later) rest (append_assoc earlier later rest ∙ e)) ((safe_from p plan w first log all leave).ever_after earlier later rest e);
 } where
-  front : (es more : List Event) → es ++ more ≡ log → HoldsWith us p (after_all w es)
-  front es more e = front_holds us once p plan w first es more log e all leave
+  front : (es more : List Event) → es ++ more ≡ log → Holds p (after_all w es)
+  front es more e = front_holds p plan w first es more log e all leave
 
--- ---------------------------------------------------------------- gear from the factory
+-- ---------------------------------------------------------------- from the start
 
-abbrev pub Holds : Plan → World → Type 0
-Holds p w = HoldsWith [] p w
-
-leave_none : (es : List Event) → AllByRecursion (LeavesUsed []) es
-leave_none [] = tt
-leave_none (e ∷ es) = (leaves_none e, leave_none es)
-
-pub holds_step : (p : Plan) → IsPlan p → (w : World) (e : Event) → Allowed w e → Holds p w → Holds p (happens w e)
-holds_step p plan w e here k = holds_step_with [] tt p plan w e here (leaves_none e) k
-
-pub keeps_step : (p : Plan) → IsPlan p → (w : World) (e : Event) → Allowed w e → Holds p w → KeepsGifts w (happens w e)
-keeps_step p plan w e here k = keeps_step_with [] tt p plan w e here (leaves_none e) k
-
-pub stays_step : (p : Plan) → IsPlan p → (w : World) (e : Event) → Allowed w e → Holds p w → (g a : ℕ) → Has (happens w e).gifts (g, a)
-    → Each nobody (Of (StillReserved w.controllers (a, (gear_at (happens w e) g).random))) (happens w e).controllers
-stays_step p plan w e here k = stays_step_with [] tt p plan w e here (leaves_none e) k
-
-holds_start : (p : Plan) (capacity : ℕ) → Holds p (start p capacity)
-holds_start p capacity = record {
+pub holds_start : (p : Plan) → IsPlan p → (capacity : ℕ) → Holds p (start p capacity)
+holds_start p plan capacity = record {
   draws = draws_start p capacity;
   reserves = reserves_start p capacity;
-  spares = spares_start [] p capacity;
-  known = known_start p capacity;
-  gifts = record {
-    there = λ g a h. elim h [ ];
-    holds = λ g a h. (λ e. absurd (none g a h e), λ k. elim k [ ]);
-    drawn = λ g a h. elim h [ ];
-    reserved = λ g a h. elim h [ ];
-    gear_once = tt;
-    address_once = tt;
-  };
+  spares = spares_start p.used p capacity;
+  known = known_start p capacity plan.used;
+  gifts = gifts_start p capacity plan.used;
   says = says_start (Names (start p capacity)) p capacity;
   tells = tt;
-} where
-  none : (g a : ℕ) → g < length (start p capacity).gear → (gear_at (start p capacity) g).short ≡ Some a → ⊥
-  none g a h e =
-      let there : g < p.gear = subst (λ n. g < n) (length-replicate p.gear fresh) h in
-      let is : fresh.short ≡ Some a = ap (λ x. x.short) (sym (get_or-replicate p.gear g fresh fresh there)) ∙ e in
-      cc
+}
 
 pub holds_after : (p : Plan) (capacity : ℕ) (log : List Event) → IsRun p capacity log → Holds p (after p capacity log)
-holds_after p capacity log run = holds_with [] tt p run.plan (start p capacity) log run.allowed (leave_none log) (holds_start p capacity)
-
-pub safe : (p : Plan) (w : World) → Holds p w → IsSafe w
-safe p w k = safe_with [] p w k
+holds_after p capacity log run = holds_all p run.plan (start p capacity) log run.allowed run.leaves (holds_start p run.plan capacity)
 
 pub run_front : (p : Plan) (capacity : ℕ) (front rest : List Event) → IsRun p capacity (front ++ rest) → IsRun p capacity front
-run_front p capacity front rest run = record { plan = run.plan; allowed = allowed_front (start p capacity) front rest run.allowed }
+run_front p capacity front rest run = record {
+  plan = run.plan;
+  allowed = allowed_front (start p capacity) front rest run.allowed;
+  leaves = leaves_front p.used front rest run.leaves;
+}
 
 pub safe_history : (p : Plan) (capacity : ℕ) (log : List Event) → IsRun p capacity log → IsSafeHistory p capacity log
-safe_history p capacity log run = safe_from [] tt p run.plan (start p capacity) (holds_start p capacity) log run.allowed (leave_none log)
+safe_history p capacity log run = safe_from p run.plan (start p capacity) (holds_start p run.plan capacity) log run.allowed run.leaves
 
 pub keeps_promise : (p : Plan) (capacity : ℕ) (log : List Event) → IsRun p capacity log → KeepsPromise p capacity log
-keeps_promise p capacity log run = promise_from [] tt p run.plan (start p capacity) (holds_start p capacity) log run.allowed (leave_none log)
+keeps_promise p capacity log run = promise_from p run.plan (start p capacity) (holds_start p run.plan capacity) log run.allowed run.leaves

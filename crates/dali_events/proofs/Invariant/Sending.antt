@@ -1,5 +1,5 @@
-use Rattle.std.proofs.Common.{◌≡◌, ℕ, ◌<◌, inl, inr, Bool, true, false, List, [], ◌∷◌, ◌++◌, refl, sym, subst, arith, length, get_or, Option, Some, None}
-use Rattle.std.proofs.lemmas.List.{length-replicate, get_or-replicate}
+use Rattle.std.proofs.Common.{◌≡◌, ℕ, ◌<◌, inl, inr, Bool, true, false, List, [], ◌∷◌, ◌++◌, refl, sym, subst, arith, length, get_or, replicate, Option, Some}
+use Rattle.std.proofs.Common.{None}
 use Rattle.std.specs.Prelude.{◌&&◌, ◌==◌, if◌then◌else◌}
 use Rattle.std.proofs.lemmas.Bool.Decides.{nat_tests}
 use Rattle.dali_frame.specs.declared.frames.Forward.{Forward}
@@ -16,18 +16,21 @@ use Rattle.dali_script.specs.declared.block.Block.{Block}
 use Rattle.dali_script.specs.declared.trace.Entry.{Entry}
 use Rattle.dali_script.specs.declared.stage.Stage.{Stage}
 use Rattle.dali_script.specs.Records.{Assignment}
+use Rattle.dali_script.proofs.Lists.{has_map}
 use Rattle.dali_script.specs.Scripts.{Lawful}
 use Rattle.dali_script.specs.Stages.{Follows, next_stage, stage_of}
 use Rattle.dali_script.proofs.Transactions.{follows_lawful, stage_more, stage_none, first_for_all}
 use Rattle.dali_events.specs.declared.event.Event.{Event}
 use Rattle.dali_events.specs.declared.event.Event.TheVariants as event
-use Rattle.dali_events.specs.Plan.{Plan}
+use Rattle.dali_events.specs.Used.{with_used}
+use Rattle.dali_events.specs.Plan.{Plan, AreUsed}
 use Rattle.dali_events.specs.World.{World, gear_at, controller_at, start}
 use Rattle.dali_events.specs.Happens.{happens, trace_running, entry, goes_on, gear_powered}
 use Rattle.dali_events.specs.Allowed.{Allowed, MaySend, Hears}
 use Rattle.dali_events.specs.Runs.{after, after_all, AllAllowed}
 use Rattle.dali_script.proofs.Members.{Each, each_changed, each_map}
 use Rattle.dali_events.proofs.Invariant.Takes.{Moved, stays, goes, moves_at, row_length}
+use Rattle.dali_events.proofs.Invariant.Starting.{IsUsedOrFresh, row_at, start_count}
 use Rattle.dali_events.proofs.Invariant.Answers.{answers_have, heard_byte}
 use Rattle.dali_events.proofs.Invariant.Known.{Knows, Agrees, IsShort, knows_step, knows_inactive, knows_quieted, short_taken}
 
@@ -161,14 +164,15 @@ known_step w (event.Expired g) here known = record {
 known_step w (event.Up c kept) here known = record { knows = known.knows; short = known.short }
 known_step w _ here known = record { knows = knows_unless _ w.trace w.gear known.knows; short = known.short }
 
-pub known_start : (p : Plan) (capacity : ℕ) → IsKnown (start p capacity)
-known_start p capacity = record { knows = knows_free _; short = λ i h. at i (subst (λ n. i < n) (length-replicate p.gear fresh) h) } where
-  at : (i : ℕ) → i < p.gear → IsShort (get_or (start p capacity).gear i fresh)
-  at i there = rw (get_or-replicate p.gear i fresh fresh there) (λ a e. absurd (cc))
+pub known_start : (p : Plan) (capacity : ℕ) → AreUsed p → IsKnown (start p capacity)
+known_start p capacity is = record { knows = knows_free _; short = λ g h. at g (row_at p g (subst (λ n. g < n) (start_count p) h)) } where
+  at : (g : ℕ) → IsUsedOrFresh p g → IsShort (get_or (with_used (replicate p.gear fresh) p.used) g fresh)
+  at g (inl k) = rw k.3 (λ a e. subst (λ n. n < 64) (let same : k.0.short ≡ a = cc in same) (is.short k.0.short (has_map (λ u. u.short) p.used k.0 k.1)))
+  at g (inr k) = rw k (λ a e. absurd (cc))
 
 pub known_all : (w : World) (es : List Event) → AllAllowed w es → IsKnown w → IsKnown (after_all w es)
 known_all w [] all known = known
 known_all w (e ∷ es) all known = known_all (happens w e) es all.1 (known_step w e all.0 known)
 
-pub known_after : (p : Plan) (capacity : ℕ) (es : List Event) → AllAllowed (start p capacity) es → IsKnown (after p capacity es)
-known_after p capacity es all = known_all (start p capacity) es all (known_start p capacity)
+pub known_after : (p : Plan) (capacity : ℕ) → AreUsed p → (es : List Event) → AllAllowed (start p capacity) es → IsKnown (after p capacity es)
+known_after p capacity is es all = known_all (start p capacity) es all (known_start p capacity is)

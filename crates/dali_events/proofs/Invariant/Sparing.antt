@@ -13,7 +13,10 @@ use Rattle.dali_events.specs.declared.event.Event.TheVariants as event
 use Rattle.dali_events.specs.Plan.{Plan, IsPlan, no_block}
 use Rattle.dali_events.specs.World.{World, Controller, controller_at, nobody, controller_begun, start}
 use Rattle.dali_events.specs.Happens.{happens, with_outstanding, controller_informed}
-use Rattle.dali_events.specs.Used.{Used, used_shorts, LeavesUsed}
+use Rattle.dali_events.specs.declared.used.Used.{Used}
+use Rattle.dali_events.specs.Used.{used_shorts}
+use Rattle.dali_events.specs.Runs.{LeavesUsed}
+use Rattle.dali_events.specs.Laws.{IsOfUsed}
 use Rattle.dali_events.proofs.Invariant.Controllers.{Property, Stands, Of, AddsOrder, Adds, controllers_step}
 use Rattle.dali_events.proofs.Invariant.Reserves.{AllReserve, IsReserved, one_number}
 
@@ -67,34 +70,29 @@ spares_start us p capacity i h =
     let there : i < length p.blocks = subst (λ n. i < n) (length-map p.blocks controller_begun) h in
     rw (get_or-map controller_begun p.blocks i no_block nobody there) (record { reserved = λ a k. elim k [ ]; new = λ a r e. absurd (cc) })
 
--- without used gear each event leaves them
-pub leaves_none : (e : Event) → LeavesUsed [] e
-leaves_none e c i a r is k = elim k [ ]
-
 -- WHOSE AN ADDRESS IS: some controller has reserved it for the number, or a gear came with both.
-abbrev pub IsOfUsed : List Used → Assignment → Type 0
-IsOfUsed us x = (u : Used) × Has us u × ((u.short, u.random) ≡ x)
-
 abbrev pub IsOwned : List Used → List Controller → Assignment → Type 0
 IsOwned us cs x = IsReserved cs x ⊎ IsOfUsed us x
 
 -- where no gear is used, somebody has reserved it
-pub reserved_alone : (cs : List Controller) (x : Assignment) → IsOwned [] cs x → IsReserved cs x
-reserved_alone cs x (inl h) = h
-reserved_alone cs x (inr h) = elim h.1 [ ]
+pub reserved_alone : (us : List Used) (cs : List Controller) (x : Assignment) → us ≡ [] → IsOwned us cs x → IsReserved cs x
+reserved_alone us cs x none (inl h) = h
+reserved_alone us cs x none (inr h) = go (subst (λ (vs : List Used). Has vs h.0) none h.1) where
+  go : Has [] h.0 → IsReserved cs x
+  go k = elim k [ ]
 
 is_used : (us : List Used) (x : Assignment) → IsOfUsed us x → Has (used_shorts us) x.0
 is_used us x h = subst (λ (y : Assignment). Has (used_shorts us) y.0) h.2 (has_map (λ u. u.short) us h.0 h.1)
 
 -- an address is of one number alone
-pub one_owner : (us : List Used) (p : Plan) (cs : List Controller) → IsOnce (used_shorts us) → IsPlan p → AllReserve p cs → AllSpare us cs
-    → (a r q : ℕ) → IsOwned us cs (a, r) → IsOwned us cs (a, q) → r ≡ q
-one_owner us p cs once plan reserves spares a r q (inl h) (inl k) = one_number p cs plan reserves a r q h k
-one_owner us p cs once plan reserves spares a r q (inl h) (inr k) =
-    absurd ((spares h.0 h.1).reserved a (has_map (λ x. x.0) (get_or cs h.0 nobody).records.reserved (a, r) h.2) (is_used us (a, q) k))
-one_owner us p cs once plan reserves spares a r q (inr h) (inl k) =
-    absurd ((spares k.0 k.1).reserved a (has_map (λ x. x.0) (get_or cs k.0 nobody).records.reserved (a, q) k.2) (is_used us (a, r) h))
-one_owner us p cs once plan reserves spares a r q (inr h) (inr k) =
+pub one_owner : (p : Plan) (cs : List Controller) → IsPlan p → AllReserve p cs → AllSpare p.used cs
+    → (a r q : ℕ) → IsOwned p.used cs (a, r) → IsOwned p.used cs (a, q) → r ≡ q
+one_owner p cs plan reserves spares a r q (inl h) (inl k) = one_number p cs plan reserves a r q h k
+one_owner p cs plan reserves spares a r q (inl h) (inr k) =
+    absurd ((spares h.0 h.1).reserved a (has_map (λ x. x.0) (get_or cs h.0 nobody).records.reserved (a, r) h.2) (is_used p.used (a, q) k))
+one_owner p cs plan reserves spares a r q (inr h) (inl k) =
+    absurd ((spares k.0 k.1).reserved a (has_map (λ x. x.0) (get_or cs k.0 nobody).records.reserved (a, q) k.2) (is_used p.used (a, r) h))
+one_owner p cs plan reserves spares a r q (inr h) (inr k) =
     let short : h.0.short ≡ k.0.short = ap (λ (x : Assignment). x.0) h.2 ∙ sym (ap (λ (x : Assignment). x.0) k.2) in
-    let same : h.0 ≡ k.0 = same_member (λ u. u.short) us h.0 k.0 once h.1 k.1 short in
+    let same : h.0 ≡ k.0 = same_member (λ u. u.short) p.used h.0 k.0 plan.used.short_once h.1 k.1 short in
     sym (ap (λ (x : Assignment). x.1) h.2) ∙ ap (λ u. u.random) same ∙ ap (λ (x : Assignment). x.1) k.2

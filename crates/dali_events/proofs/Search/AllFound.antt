@@ -27,7 +27,7 @@ use Rattle.dali_script.proofs.Transactions.{stage_more, stage_none, terminate_fi
 use Rattle.dali_script.proofs.Found.{searched_lawful}
 use Rattle.dali_events.specs.declared.event.Event.{Event}
 use Rattle.dali_events.specs.declared.event.Event.TheVariants as event
-use Rattle.dali_events.specs.Plan.{Plan, IsPlan}
+use Rattle.dali_events.specs.Plan.{Plan, IsPlan, numbers_of}
 use Rattle.dali_events.specs.World.{World, gear_at, controller_at, start}
 use Rattle.dali_events.specs.Happens.{happens, trace_running, entry, goes_on}
 use Rattle.dali_events.specs.Allowed.{Allowed, MaySend}
@@ -143,12 +143,14 @@ ready_last c gs left is enough opens below =
     (λ x h. below x (subst (λ d. Has (drawn_of Everyone d 0 gs left) x) (sym is) h)))
 
 -- the numbers that a frame draws are below FFFFFF
-below_of : (p : Plan) → IsPlan p → (w : World) (e : Event) (more : List (ℕ × ℕ)) → Draws p.draws w.gear w.drawn w.left → (happens w e).drawn ≡ w.drawn ++ more
+below_of : (p : Plan) → IsPlan p → (w : World) (e : Event) (more : List (ℕ × ℕ)) → Draws (numbers_of p) w.gear w.drawn w.left
+    → (happens w e).drawn ≡ w.drawn ++ more
     → (x : ℕ × ℕ) → Has more x → x.1 < MASK24
 below_of p plan w e more d is x h =
     (are_drawn p (happens w e) plan (draws_step p w e d)).below x.0 x.1 (subst (λ ds. Has ds x) (sym is) (has_right w.drawn more x h))
 
-ready_opened : (p : Plan) → IsPlan p → (w : World) (c : ℕ) (f : Forward) (h : Answer) → Allowed w (event.Sent c f h) → Draws p.draws w.gear w.drawn w.left
+ready_opened : (p : Plan) → IsPlan p → (w : World) (c : ℕ) (f : Forward) (h : Answer) → Allowed w (event.Sent c f h)
+    → Draws (numbers_of p) w.gear w.drawn w.left
     → CompletesOpening w c f
     → OpensAll (stage_of w.trace) w.gear → ReadyAll (happens w (event.Sent c f h)).gear
 ready_opened p plan w c f h here draws complete opens =
@@ -178,7 +180,8 @@ ready_taken w c f reach may known calm below ready i in_row =
     (get_or (row_after reach (command_of f) 0 w.gear w.left) i fresh) (follows_of w c f may) calm below (knows_running w c known.knows i there) (ready i there)
     (moves_at reach (command_of f) w.gear w.left i there)
 
-ready_event : (p : Plan) → IsPlan p → (w : World) (e : Event) → Allowed w e → IsCalm e → IsKnown w → Draws p.draws w.gear w.drawn w.left → ReadyAll w.gear
+ready_event : (p : Plan) → IsPlan p → (w : World) (e : Event) → Allowed w e → IsCalm e → IsKnown w → Draws (numbers_of p) w.gear w.drawn w.left
+    → ReadyAll w.gear
     → ReadyAll (happens w e).gear
 ready_event p plan w (event.Sent c f h) here calm known draws ready =
     ready_taken w c f Everyone here.may known calm (below_of p plan w (event.Sent c f h) (drawn_of Everyone (command_of f) 0 w.gear w.left) draws refl) ready
@@ -190,7 +193,7 @@ ready_event p plan w (event.Power g on) here calm known draws ready = absurd cal
 ready_event p plan w (event.Expired g) here calm known draws ready = absurd calm
 ready_event p plan w _ here calm known draws ready = ready
 
-ready_all : (p : Plan) → IsPlan p → (w : World) (es : List Event) → AllAllowed w es → AreCalm es → IsKnown w → Draws p.draws w.gear w.drawn w.left
+ready_all : (p : Plan) → IsPlan p → (w : World) (es : List Event) → AllAllowed w es → AreCalm es → IsKnown w → Draws (numbers_of p) w.gear w.drawn w.left
     → ReadyAll w.gear → ReadyAll (after_all w es).gear
 ready_all p plan w [] all calm known draws ready = ready
 ready_all p plan w (e ∷ es) all calm known draws ready =
@@ -250,7 +253,7 @@ compare_leaves w c f h is has i in_row =
     (moves_at Everyone (command_of f) w.gear w.left i there)
 
 -- ALL FOUND
-module _ (p : Plan) (plan : IsPlan p) (w : World) (known : IsKnown w) (draws : Draws p.draws w.gear w.drawn w.left) (c : ℕ) (first last compare : Entry)
+module _ (p : Plan) (plan : IsPlan p) (w : World) (known : IsKnown w) (draws : Draws (numbers_of p) w.gear w.drawn w.left) (c : ℕ) (first last compare : Entry)
     (opening middle : List Event)
     (all : AllAllowed w (sent_event c first ∷ (opening ++ sent_event c last ∷ (middle ++ sent_event c compare ∷ [])))) where
   pub found_from : command_of first.frame ≡ Terminate → AreCalm opening → CompletesOpening (after_all (happens w (sent_event c first)) opening) c last.frame
@@ -294,7 +297,7 @@ all_found p capacity front c first opening last middle compare s nobody =
     let there = world_of (start p capacity) front opening middle (sent_event c first) (sent_event c last) in
     let half = after_both (start p capacity) front (sent_event c first ∷ opening) in
     subst (λ v. EachPowered v HasShort) (sym there)
-    (found_from p s.run.plan (after p capacity front) (known_after p capacity front (allowed_front (start p capacity) front _ s.run.allowed))
+    (found_from p s.run.plan (after p capacity front) (known_after p capacity s.run.plan.used front (allowed_front (start p capacity) front _ s.run.allowed))
     (draws_after p capacity front) c first last compare opening middle
     (allowed_rest (start p capacity) front (sent_event c first ∷ (opening ++ sent_event c last ∷ (middle ++ sent_event c compare ∷ []))) s.run.allowed)
     s.terminate s.calm_opening (subst (λ v. CompletesOpening v c last.frame) half s.complete) s.calm_since s.compare_sent

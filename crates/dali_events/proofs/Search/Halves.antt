@@ -152,7 +152,7 @@ pub no_short_at_randomise : (p : Plan) (capacity : ℕ) (log : List Event) (e : 
     → EachActive (after p capacity log) (λ g. g.short ≡ None)
 no_short_at_randomise p capacity log e f run is command =
     unnumbered_in (after p capacity log) e f (last_allowed p capacity log e run)
-    (known_after p capacity log (allowed_front (start p capacity) log (e ∷ []) run.allowed)) is command
+    (known_after p capacity run.plan.used log (allowed_front (start p capacity) log (e ∷ []) run.allowed)) is command
 
 -- THE SEARCH ADDRESS
 seeks_at : (s : Stage) (g : Gear) (r : SearchAddress) → number_at s ≡ Some r → Knows s g → IsActive g → g.search ≡ r
@@ -167,12 +167,14 @@ pub gear_are_searched : (p : Plan) (capacity : ℕ) (log : List Event) (r : Sear
     → number_at (stage_of (after p capacity log).trace) ≡ Some r
     → EachActive (after p capacity log) (λ g. g.search ≡ r)
 gear_are_searched p capacity log r run e g there on active =
-    seeks_at (stage_of (after p capacity log).trace) (gear_at (after p capacity log) g) r e ((known_after p capacity log run.allowed).knows g there on) active
+    seeks_at (stage_of (after p capacity log).trace) (gear_at (after p capacity log) g) r e
+    ((known_after p capacity run.plan.used log run.allowed).knows g there on) active
 
 pub no_short_while_unnamed : (p : Plan) (capacity : ℕ) (log : List Event) (r : SearchAddress) → IsRun p capacity log
     → stage_of (after p capacity log).trace ≡ stage.Unnamed r
     → EachActive (after p capacity log) (λ g. g.random ≡ value_of r → g.short ≡ None)
 no_short_while_unnamed p capacity log r run e g there on active =
-    (at (stage_of (after p capacity log).trace) (gear_at (after p capacity log) g) e ((known_after p capacity log run.allowed).knows g there on) active) where
+    (at (stage_of (after p capacity log).trace) (gear_at (after p capacity log) g) e
+    ((known_after p capacity run.plan.used log run.allowed).knows g there on) active) where
       at : (s : Stage) (g : Gear) → s ≡ stage.Unnamed r → Knows s g → IsActive g → g.random ≡ value_of r → g.short ≡ None
       at s g e k active = (subst (λ x. Knows x g) e k active).1

@@ -76,11 +76,11 @@ machine_again s c m there up =
 
 again_by : (s after : SiteState) (c : ℕ) (e : End) → EndsBy true s after c e → SurveysAlone (restarted after c) c
 again_by s after c e by =
-    let down : IsRun after.plan after.queue (site_logged after (event.Down c)).log = run_logged after (event.Down c) by.run by.up in
+    let down : IsRun after.plan after.queue (site_logged after (event.Down c)).log = run_logged after (event.Down c) by.run by.up (λ d i a n e has. cc) in
     let there : controller_at (world (restarted after c)) c ≡ come_up false (gone_down (controller_at (world after) c)) = again_there after c by.up in
     record {
       run = run_logged (site_logged after (event.Down c)) (event.Up c false) down
-          (subst (λ w. IsDown w c) (sym (world_logged after (event.Down c))) (down_is (world after) c by.up), tt);
+          (subst (λ w. IsDown w c) (sym (world_logged after (event.Down c))) (down_is (world after) c by.up), tt) (λ d i a n e has. cc);
       up = record {
         known = subst (λ (w : World). c < length w.controllers) (sym (world_again after c))
             (subst (λ n. c < n) (sym (length-set (happens (world after) (event.Down c)).controllers c

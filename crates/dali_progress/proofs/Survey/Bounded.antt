@@ -31,7 +31,7 @@ use Rattle.dali_events.specs.World.{World, controller_at}
 use Rattle.dali_events.specs.Happens.{happens}
 use Rattle.dali_events.specs.Allowed.{Allowed, IsUp, IsDue}
 use Rattle.dali_events.specs.Laws.{FindingsAgree}
-use Rattle.dali_events.specs.Runs.{IsRun, AreDrawn}
+use Rattle.dali_events.specs.Runs.{IsRun, AreDrawn, LeavesUsed}
 use Rattle.dali_events.specs.Wanted.{gear_of, is_bare}
 use Rattle.dali_events.proofs.Invariant.Agreeing.{findings_agree_in}
 use Rattle.dali_events.proofs.Invariant.Safe.{keeps_promise}
@@ -106,14 +106,14 @@ pub record RunsOn (start : Begun) (s : SiteState) (c left : ℕ) (e : Event) : T
   pub runs : Runs start (site_logged s e) c rest
 
 acted_on : (start : Begun) (s : SiteState) (c left : ℕ) (i : Input) (o : Order) → Runs start s c left → Allowed (world s) (event.Acted c i o) → Surveys i
-    → MayAnswer (machine_at s c) i o → LeavesWhole (machine_at s c) i o → RunsOn start s c left (event.Acted c i o)
-acted_on start s c left i o r here surveys may whole = record {
+    → MayAnswer (machine_at s c) i o → LeavesWhole (machine_at s c) i o → LeavesUsed s.plan.used (event.Acted c i o) → RunsOn start s c left (event.Acted c i o)
+acted_on start s c left i o r here surveys may whole leaves = record {
   rest = left;
   sum = omega arith;
   less = less_acted (slack_now start.any (world (site_logged s (event.Acted c i o))) c) (events_of start.any left)
       (subst (λ w. slack_now start.any w c + 1 ≤ slack_now start.any (world s) c) (sym (world_logged s (event.Acted c i o))) on.1);
   runs = record {
-    run = run_logged s (event.Acted c i o) r.run here;
+    run = run_logged s (event.Acted c i o) r.run here leaves;
     machine = machine_after r.machine i o;
     there = acted_machine s c i o r.machine r.there;
     goes = subst (λ w. Goes start w s.queue c (machine_after r.machine i o) left) (sym (world_logged s (event.Acted c i o))) on.0;
@@ -125,7 +125,7 @@ acted_on start s c left i o r here surveys may whole = record {
       goes_acted start (world s) s.queue c r.machine i o left r.goes surveys here (subst (λ n. MayAnswer n i o) r.there may)
       (subst (λ n. LeavesWhole n i o) r.there whole) (surveyed_now s c r.run r.goes.lone.up)
       (subst KeepsPromiseNow (world_logged s (event.Acted c i o))
-      (promise_now (site_logged s (event.Acted c i o)) (run_logged s (event.Acted c i o) r.run here)))
+      (promise_now (site_logged s (event.Acted c i o)) (run_logged s (event.Acted c i o) r.run here leaves)))
 
   less_acted : (x y : ℕ) → x + 1 ≤ slack_now start.any (world s) c → y + x + 1 ≤ y + slack_now start.any (world s) c
   less_acted x y less = omega (arith, less)
@@ -134,7 +134,8 @@ sent_on : (start : Begun) (s : SiteState) (c left : ℕ) (r : Request) (h : Answ
     → Allowed (world s) (event.Sent r.sender r.frame h) → next_request s ≡ Some r
     → h ≡ heard_of (answers_of Everyone (command_of r.frame) 0 (world s).gear) → RunsOn start s c left (event.Sent r.sender r.frame h)
 sent_on start s c left r h u here is heard =
-    let run : IsRun s.plan s.queue (site_logged s (event.Sent r.sender r.frame h)).log = run_logged s (event.Sent r.sender r.frame h) u.run here in
+    let run : IsRun s.plan s.queue (site_logged s (event.Sent r.sender r.frame h)).log =
+        run_logged s (event.Sent r.sender r.frame h) u.run here (λ d i a n e has. cc) in
     let known : IsKnown (world s) r.sender r.frame h = record {
       drawn = drawn_now s u.run;
       then = subst AreDrawn (world_logged s (event.Sent r.sender r.frame h)) (drawn_now (site_logged s (event.Sent r.sender r.frame h)) run);
@@ -169,8 +170,8 @@ sent_by start s c left d f h u here of =
 pub runs_on : (start : Begun) (s : SiteState) (c left : ℕ) (e : Event) → Runs start s c left → Allowed (world s) e → IsOfSurvey s c e
     → RunsOn start s c left e
 runs_on start s c left (event.Acted d i o) u here of =
-    subst (λ n. Allowed (world s) (event.Acted n i o) → RunsOn start s c left (event.Acted n i o)) (sym of.0)
-    (λ now. acted_on start s c left i o u now of.1 of.2 of.3) here
+    subst (λ n. Allowed (world s) (event.Acted n i o) → LeavesUsed s.plan.used (event.Acted n i o) → RunsOn start s c left (event.Acted n i o)) (sym of.0)
+    (λ now leaves. acted_on start s c left i o u now of.1 of.2 of.3 leaves) here of.4
 runs_on start s c left (event.Sent d f h) u here of = sent_by start s c left d f h u here of
 runs_on start s c left _ u here of = absurd of
 

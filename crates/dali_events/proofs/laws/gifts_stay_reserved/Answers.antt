@@ -1,5 +1,5 @@
-use Rattle.dali_events.proofs.Invariant.Agreeing.{gifts_reserved, reservations_stay}
+use Rattle.dali_events.proofs.Invariant.Agreeing.{gifts_owned, gifts_reserved, reservations_stay}
 use Rattle.dali_events.proofs.laws.gifts_stay_reserved.Goals as goal
 
 pub returns : goal.returns
-returns c = record { reserved = gifts_reserved; stay = reservations_stay }
+returns c = record { reserved = gifts_reserved; owned = gifts_owned; stay = reservations_stay }

@@ -9,5 +9,5 @@ invariant_of-result c =
     let all = accepted c.args.gear c.args.blocks.now c.args.draws.now is in
     let gear = gear_is c.args.gear all.gear_count in
     let blocks = blocks_are c.args.blocks.now all.controllers in
-    rw (c.in_ok-blocks.ensures, c.in_ok-draws.ensures)
+    rw (c.in_ok-blocks.ensures, c.in_ok-draws.ensures, c.new.ensures.items)
     (plan_is c.args.gear c.args.blocks.now c.args.draws.now is, gear.0, gear.1, blocks.0, blocks.1, c.requires)

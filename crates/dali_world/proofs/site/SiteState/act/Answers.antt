@@ -6,7 +6,7 @@ use Rattle.dali_standing.specs.Seats.{MayAnswer}
 use Rattle.dali_standing.specs.Standing.{controller_on, machine_in}
 use Rattle.dali_world.specs.Site.{Receipt}
 use Rattle.dali_events.specs.declared.event.Event.TheVariants as event
-use Rattle.dali_world.proofs.Logs.{step_few, step_goes_on, act_site, never_conflicts, own_records}
+use Rattle.dali_world.proofs.Logs.{step_few, step_goes_on, act_leaves, act_site, never_conflicts, own_records}
 use Rattle.dali_world.proofs.Fitting.{fits_acted}
 use Rattle.dali_world.proofs.site.SiteState.act.Goals as goal
 
@@ -19,20 +19,25 @@ count-number-requires-clause-few c =
 pub invariant_of-self : goal.invariant_of-self
 invariant_of-self c =
     let moves = rw c.in-Some.is at c.act.ensures.moves in
+    let answer = rw c.in-Some.is at c.act.ensures.answer in
+    let leaves = act_leaves _ _ _ _ _ c.args.c c.args.input c.in-Some.order c.self.view_is c.self.invariant answer
+    (c.if-would_reserve_used.ensures.no refl) in
     let up = c.in_ok-check_up.ensures.ok in
     let four : c.args.c < 4 = let there = up.1 in let few = up.2 in omega arith in
     step_goes_on _ _ _ _ _ _ _ _ _ (event.Acted c.args.c c.args.input c.in-Some.order) c.args.c c.self.view_is c.self.invariant (c.if-is_full.ensures.room refl)
-    moves c.append.ensures.items c.append.ensures.capacity four c.count-number.ensures.shares (λ d. refl)
+    moves leaves c.append.ensures.items c.append.ensures.capacity four c.count-number.ensures.shares (λ d. refl)
 
 pub returns-in-Some-clause-answer : goal.returns-in-Some-clause-answer
 unfolding Rattle.dali_world.specs.Site.Acts
 returns-in-Some-clause-answer c =
     let moves = rw c.in-Some.is at c.act.ensures.moves in
     let answer = rw c.in-Some.is at c.act.ensures.answer in
+    let leaves = act_leaves _ _ _ _ _ c.args.c c.args.input c.in-Some.order c.self.view_is c.self.invariant answer
+    (c.if-would_reserve_used.ensures.no refl) in
     let up = c.in_ok-check_up.ensures.ok in
     let four : c.args.c < 4 = let there = up.1 in let few = up.2 in omega arith in (
       act_site _ _ _ _ _ c.count-number.new.shares _ c.count-number.result c.args.c c.args.input c.in-Some.order c.new.result _ c.self.view_is c.self.invariant
-          (c.if-is_crowded.ensures.room refl) (c.if-is_full.ensures.room refl) moves answer c.append.ensures.items four
+          (c.if-is_crowded.ensures.room refl) (c.if-is_full.ensures.room refl) moves answer leaves c.append.ensures.items four
           c.count-number.ensures.number c.new.ensures,
       tt,
       tt,
@@ -51,11 +56,13 @@ pub returns-in-Some-clause-fits : goal.returns-in-Some-clause-fits
 returns-in-Some-clause-fits c =
     let moves = rw c.in-Some.is at c.act.ensures.moves in
     let answer = rw c.in-Some.is at c.act.ensures.answer in
+    let leaves = act_leaves _ _ _ _ _ c.args.c c.args.input c.in-Some.order c.self.view_is c.self.invariant answer
+    (c.if-would_reserve_used.ensures.no refl) in
     let up = c.in_ok-check_up.ensures.ok in
     let four : c.args.c < 4 = let there = up.1 in let few = up.2 in omega arith in
     fits_acted _ _ _ _ _ (rw (← c.self.view_is) c.self.invariant.run)
     (act_site _ _ _ _ _ c.count-number.new.shares _ c.count-number.result c.args.c c.args.input c.in-Some.order c.new.result _ c.self.view_is c.self.invariant
-    (c.if-is_crowded.ensures.room refl) (c.if-is_full.ensures.room refl) moves answer c.append.ensures.items four
+    (c.if-is_crowded.ensures.room refl) (c.if-is_full.ensures.room refl) moves answer leaves c.append.ensures.items four
     c.count-number.ensures.number c.new.ensures)
 
 pub returns-in-Some-clause-records : goal.returns-in-Some-clause-records
