@@ -12,3 +12,4 @@ pub mod Bounded
 pub mod Again
 pub mod Quiet
 pub mod Running
+pub mod Refused
