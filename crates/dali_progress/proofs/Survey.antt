@@ -13,3 +13,5 @@ pub mod Again
 pub mod Quiet
 pub mod Running
 pub mod Refused
+pub mod Numbers
+pub mod Numbered
