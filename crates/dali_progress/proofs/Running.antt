@@ -24,8 +24,8 @@ use Rattle.dali_standing.specs.declared.trouble.Trouble.TheVariants as trouble
 use Rattle.dali_standing.specs.declared.trouble.Report.{Report}
 use Rattle.dali_standing.specs.declared.trouble.Report.TheVariants as report
 use Rattle.dali_standing.specs.Troubles.{nobody_at_all}
-use Rattle.dali_standing.specs.Seats.{due_of}
-use Rattle.dali_world.specs.Site.{SiteState, HasActed, Pumps, world, site_logged, next_request}
+use Rattle.dali_standing.specs.Seats.{LeavesWhole, due_of}
+use Rattle.dali_world.specs.Site.{SiteState, HasActed, Pumps, machine_at, world, site_logged, next_request}
 use Rattle.dali_replay.specs.declared.rounds.Round.TheVariants as round
 use Rattle.dali_replay.specs.Installation.{Installation, Goes, HasStepped, IsGiven, IsGivenBy, controller}
 use Rattle.dali_replay.specs.Rounds.{has_turn, has_turn_by, IsTurn, Turns, controllers, is_sent, came_of, IsRound, Ran}
@@ -58,21 +58,36 @@ plan_after : (s : SiteState) (es : List Event) → (site_after s es).plan ≡ s.
 plan_after s [] = refl
 plan_after s (e ∷ es) = plan_after (site_logged s e) es
 
+-- the machine is whole after each of its steps
+abbrev pub IsLeft : SiteState → ℕ → Event → Type 0
+IsLeft s c (event.Acted d i o) = LeavesWhole (machine_at s c) i o
+IsLeft s c e = Unit {0}
+
+abbrev pub AreLeft : SiteState → ℕ → List Event → Type 0
+AreLeft s c [] = Unit {0}
+AreLeft s c (e ∷ es) = IsLeft s c e × AreLeft (site_logged s e) c es
+
+left_both : (s : SiteState) (c : ℕ) (es fs : List Event) → AreLeft s c es → AreLeft (site_after s es) c fs → AreLeft s c (es ++ fs)
+left_both s c [] fs one two = two
+left_both s c (e ∷ es) fs one two = (one.0, left_both (site_logged s e) c es fs one.1 two)
+
 -- at least k events of rounds, f of them frames, after which the site is t
 pub record Comes (s t : SiteState) (k f : ℕ) : Type 0 where
   pub events : List Event
   pub rounds : Rounds s 0 events
+  pub left : AreLeft s 0 events
   pub is : t ≡ site_after s events
   pub many : k ≤ length events
   pub sent : frames events ≡ f
 
 comes_none : (s t : SiteState) → t ≡ s → Comes s t 0 0
-comes_none s t is = record { events = []; rounds = tt; is = is; many = omega arith; sent = refl }
+comes_none s t is = record { events = []; rounds = tt; left = tt; is = is; many = omega arith; sent = refl }
 
 pub comes_both : (s t u : SiteState) (k l f g : ℕ) → Comes s t k f → Comes t u l g → Comes s u (k + l) (f + g)
 comes_both s t u k l f g one two = record {
   events = one.events ++ two.events;
   rounds = rounds_both s 0 one.events two.events one.rounds (subst (λ x. Rounds x 0 two.events) one.is two.rounds);
+  left = left_both s 0 one.events two.events one.left (subst (λ x. AreLeft x 0 two.events) one.is two.left);
   is = two.is ∙ ap (λ x. site_after x two.events) one.is ∙ after_both s one.events two.events;
   many = enough (length one.events) (length two.events) (length (one.events ++ two.events)) one.many two.many (length_both one.events two.events);
   sent = frames_both one.events two.events ∙ sum (frames one.events) (frames two.events) one.sent two.sent;
@@ -86,7 +101,14 @@ comes_both s t u k l f g one two = record {
 -- with other numbers
 comes_as : (s t : SiteState) (k l f g : ℕ) → l ≤ k → f ≡ g → Comes s t k f → Comes s t l g
 comes_as s t k l f g less same comes =
-    record { events = comes.events; rounds = comes.rounds; is = comes.is; many = fewer (length comes.events) comes.many; sent = comes.sent ∙ same }
+    record {
+      events = comes.events;
+      rounds = comes.rounds;
+      left = comes.left;
+      is = comes.is;
+      many = fewer (length comes.events) comes.many;
+      sent = comes.sent ∙ same;
+    }
   where
     fewer : (x : ℕ) → k ≤ x → l ≤ x
     fewer x many = omega (arith, less, many)
@@ -153,6 +175,7 @@ went n m o goes = by goes.1 goes.2 goes.3 goes.4 where
           ),
           tt,
         );
+        left = (acted.whole, tt);
         is = logs.logged;
         many = omega arith;
         sent = refl;
@@ -195,6 +218,7 @@ pumped s t report.Idle pump = comes_none s t pump.1
 pumped s t (report.Sent c f h) (r, next, there, (can, sender, frame, heard, logs)) = record {
   events = event.Sent c f h ∷ [];
   rounds = (logs.allowed, (r, next, sender, frame, heard ∙ ap (λ g. heard_of (answers_of Everyone (command_of g) 0 (world s).gear)) (sym frame)), tt);
+  left = (tt, tt);
   is = logs.logged;
   many = omega arith;
   sent = refl;
@@ -252,7 +276,7 @@ run_frames limit n sent text m alone one ran =
     few g x same less = omega (arith, same, less)
 
 -- what is due for a controller gives it a turn
-told_turn : (d : Due) (k : Controller) (i : Input) → k.told ≡ Some i → has_turn_by d k ≡ true
+pub told_turn : (d : Due) (k : Controller) (i : Input) → k.told ≡ Some i → has_turn_by d k ≡ true
 told_turn due.Store k i told = refl
 told_turn due.Start k i told = rw told refl
 told_turn due.Bus k i told = rw told refl
@@ -286,7 +310,7 @@ over_by n between m true (report.Destroyed c f) text is turn pump = absurd (cc)
 over_by n between m false (report.Collided c f d g) text is turn pump = absurd (cc)
 over_by n between m true (report.Collided c f d g) text is turn pump = absurd (cc)
 
-over : (n m : Installation) (text : List ℕ) → controllers n ≡ 1 → IsRound n round.Over text m → IsOver n.site m.site
+pub over : (n m : Installation) (text : List ℕ) → controllers n ≡ 1 → IsRound n round.Over text m → IsOver n.site m.site
 over n m text one is =
     let turns = turns_of n is.between is.acted text one is.turns in
     over_by n is.between m is.acted is.report turns.last is.ended turns.turn is.pump.0

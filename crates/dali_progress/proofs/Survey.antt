@@ -11,3 +11,7 @@ pub mod Goes
 pub mod Bounded
 pub mod Again
 pub mod Quiet
+pub mod Running
+pub mod Refused
+pub mod Numbers
+pub mod Numbered

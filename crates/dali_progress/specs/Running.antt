@@ -6,6 +6,7 @@ use Rattle.dali_replay.specs.Installation.{Installation}
 use Rattle.dali_replay.specs.Rounds.{IsRoundOf}
 use Rattle.dali_replay.specs.Rounds as replay
 use Rattle.dali_progress.specs.Rounds.{HasEnded, IsDone, IsTabled}
+use Rattle.dali_progress.specs.Surveys.{IsSurveyDone, IsSurveyTabled}
 
 -- HOW A RUN OF ROUNDS ENDS, on an installation with one controller.
 
@@ -26,3 +27,10 @@ pub record WasRefused (n : Installation) (frames : ℕ) (text : List ℕ)
   pub played : replay.Rounds n rounds frames front between
   pub refused : IsRoundOf between round.Refused last m
   pub whole : text ≡ front ++ last
+
+-- the same of a controller that surveyed
+pub record SurveyHasEnded (before s : SiteState) (c : ℕ) : Type 0 where
+  pub outcome : End
+  pub ended : HasEnded s c outcome
+  pub done : IsSurveyDone s c outcome
+  pub tabled : IsSurveyTabled before s c

@@ -1,5 +1,4 @@
-use Rattle.std.specs.Prelude.{◌≡◌, ◌⊎◌, ℕ, ◌<◌, true, false, List, [], ◌∷◌, length, Option}
-use Rattle.std.specs.Prelude.{Some, None}
+use Rattle.std.specs.Prelude.{◌≡◌, ◌⊎◌, ℕ, ◌<◌, true, false, List, [], ◌∷◌, length, Some, None}
 use Rattle.dali_frame.specs.Random.{MASK24}
 use Rattle.dali_gear.specs.Gear.{Gear}
 use Rattle.dali_arbiter.specs.Arbiter.{idle, total}
@@ -7,15 +6,12 @@ use Rattle.dali_script.specs.Records.{Assignment, Kept, Has, HasAddress, InBlock
 use Rattle.dali_script.specs.declared.orders.Input.{Input}
 use Rattle.dali_script.specs.declared.orders.Input.TheVariants as input
 use Rattle.dali_script.specs.declared.records.Record.{Record}
-use Rattle.dali_script.specs.declared.orders.Order.{Order}
 use Rattle.dali_script.specs.declared.orders.Order.TheVariants.{Commit}
 use Rattle.dali_script.specs.declared.orders.End.{End}
 use Rattle.dali_script.specs.declared.orders.End.TheVariants.{AllFound, BlockFull, GaveUp}
 use Rattle.dali_controller.specs.Shorts.{has_short}
 use Rattle.dali_controller.specs.Course.{is_anothers}
 use Rattle.dali_controller.specs.Machine.{Machine, at_first}
-use Rattle.dali_controller.specs.Orders.{machine_after}
-use Rattle.dali_controller.specs.Whole.{IsWhole}
 use Rattle.dali_events.specs.declared.event.Event.{Event}
 use Rattle.dali_events.specs.declared.event.Event.TheVariants as event
 use Rattle.dali_events.specs.World.{controller_at}
@@ -23,7 +19,7 @@ use Rattle.dali_events.specs.Allowed.{Allowed, IsUp, IsDue}
 use Rattle.dali_events.specs.Runs.{IsRun, LeavesUsed}
 use Rattle.dali_events.specs.Searching.{HasShort}
 use Rattle.dali_events.specs.Wanted.{gear_of, OfPowered}
-use Rattle.dali_standing.specs.Seats.{MayAnswer}
+use Rattle.dali_standing.specs.Seats.{MayAnswer, LeavesWhole}
 use Rattle.dali_world.specs.Site.{SiteState, world, machine_at, site_logged}
 use Rattle.dali_progress.specs.Rounds.{IsOfRound, HasEnded, HasNext}
 
@@ -49,8 +45,7 @@ abbrev pub IsSettledAt : SiteState → ℕ → Type 0
 IsSettledAt s c = IsSettled (controller_at (world s) c).records
 
 -- WHAT A ROUND OF A SURVEY DOES: the same as a round that begins by Start (`IsOfRound`), but the
--- controller surveys where Start is due. Its machine is whole afterwards, as the contract of its
--- step says of the machine that it leaves.
+-- controller surveys where Start is due; and its machine is whole afterwards.
 abbrev pub Surveys : Input → Type 0
 Surveys input.CommitFailed = ⊥
 Surveys input.Start = ⊥
@@ -59,10 +54,6 @@ Surveys (input.Heard h) = Unit {0}
 Surveys input.Destroyed = Unit {0}
 Surveys input.Lapsed = Unit {0}
 Surveys input.Committed = Unit {0}
-
-abbrev pub LeavesWhole : Option Machine → Input → Order → Type 0
-LeavesWhole None i o = ⊥
-LeavesWhole (Some m) i o = IsWhole (machine_after m i o)
 
 abbrev pub IsOfSurvey : SiteState → ℕ → Event → Type 0
 IsOfSurvey s c (event.Acted d i o) =

@@ -11,7 +11,7 @@
 //! Others speak of such a controller that begins by a survey (`SurveysAlone`, `SurveyRounds`), and of what a survey
 //! promises of a machine on any bus (`IsCourse`).
 
-ghost use Rattle.std.specs.Prelude.{◌≡◌, ◌⊎◌, ℕ, ◌+◌, ◌*◌, ◌<◌, ◌≤◌, true, List, [], ◌∷◌, length, Some};
+ghost use Rattle.std.specs.Prelude.{◌≡◌, ◌⊎◌, ℕ, ◌+◌, ◌*◌, ◌<◌, ◌≤◌, true, List, [], ◌∷◌, length, Some, Ok};
 ghost use Rattle.std.specs.List.{count_by, AllByRecursion};
 ghost use Rattle.dali_frame.specs.declared.frames.Forward.{Forward};
 ghost use Rattle.dali_frame.specs.declared.numbers.SearchAddress.{SearchAddress};
@@ -20,6 +20,7 @@ ghost use Rattle.dali_frame.specs.Priority.{LATER};
 ghost use Rattle.dali_script.specs.declared.block.Block.{Block};
 ghost use Rattle.dali_script.specs.declared.records.Record.TheVariants.{Reserve};
 ghost use Rattle.dali_script.specs.declared.stage.Stage.TheVariants.{Unnamed};
+ghost use Rattle.dali_script.specs.declared.orders.Order.{Order};
 ghost use Rattle.dali_script.specs.declared.orders.Order.TheVariants.{Put, Commit};
 ghost use Rattle.dali_script.specs.Records.{Has};
 ghost use Rattle.dali_controller.specs.Course.{address_for};
@@ -37,6 +38,7 @@ ghost use Rattle.dali_standing.specs.declared.refusal.Refusal.TheVariants as ref
 ghost use Rattle.dali_standing.specs.declared.trouble.Trouble.TheVariants as trouble;
 ghost use Rattle.dali_world.specs.Site.{SiteState, opened_site, world, IsPumpRefused};
 ghost use Rattle.dali_replay.specs.Installation.{Installation, installation_of};
+ghost use Rattle.dali_replay.specs.Installation as replayed;
 ghost use Rattle.dali_replay.specs.Rounds.{controllers, Ran};
 ghost use Rattle.dali_progress.specs.Rounds.{StartsAlone, Rounds, site_after, frames, GoesOn, HasEnded, IsDone};
 ghost use Rattle.dali_progress.specs.Rounds.{IsTabled};
@@ -47,7 +49,7 @@ ghost use Rattle.dali_progress.specs.Surveys.{SurveysAlone, SurveyRounds, Survey
 ghost use Rattle.dali_progress.specs.Surveys.{IsSettledAt, IsAllTaken, restarted, CommitsNothing, WasTabled};
 ghost use Rattle.dali_progress.specs.Swept.{BeginsBySurvey, AreWhole, AreSteady, frames_asked, frames_lost, WasSilent};
 ghost use Rattle.dali_progress.specs.Swept.{WasSpelled, IsNamed, IsClean, IsSwept};
-ghost use Rattle.dali_progress.specs.Running.{HasCommissioned, WasRefused};
+ghost use Rattle.dali_progress.specs.Running.{HasCommissioned, SurveyHasEnded, WasRefused};
 
 /// A new site with one controller is one on which it starts alone.
 pub fn one_controller_starts_alone()
@@ -193,6 +195,74 @@ pub fn ends_of_surveys_are_true()
         → SurveyRounds s c es → HasEnded (site_after s es) c e → IsSettledAt (site_after s es) c }
     ensures quiet { (s : SiteState) (c : ℕ) (es : List Event) (e : End) → SurveysAlone s c → SurveyRounds s c es
         → AllByRecursion CommitsNothing es → HasEnded (site_after s es) c e → WasTabled s (site_after s es) c }
+{}
+
+/// A RUN AFTER A SURVEY BEGAN ENDS. On an installation with one controller that surveys alone, and that began so
+/// (`survey 0` of a script), with n gear that have power and no short address, a run of more than 444 n + 1252 rounds
+/// ends with the end of the controller, which is true; or at a call that was refused. With settled records more than
+/// 333 n + 627 are enough. A run of any length sends no more frames than the survey.
+pub fn a_run_of_a_survey_ends()
+    ensures ends { (limit : ℕ) (n between : Installation) (o : Order) (sent : ℕ) (text : List ℕ) (m : Installation)
+        → SurveysAlone n.site 0 → controllers n ≡ 1 → replayed.Surveys n 0 (Ok o) between
+        → 444 * count_by is_bare (world n.site).gear + 1252 < limit → Ran limit between sent text m
+        → SurveyHasEnded n.site m.site 0 ⊎ WasRefused between sent text m }
+    ensures frames { (limit : ℕ) (n between : Installation) (o : Order) (sent : ℕ) (text : List ℕ) (m : Installation)
+        → SurveysAlone n.site 0 → controllers n ≡ 1 → replayed.Surveys n 0 (Ok o) between
+        → Ran limit between sent text m → sent ≤ 111 * count_by is_bare (world n.site).gear + 313 }
+    ensures settled_ends { (limit : ℕ) (n between : Installation) (o : Order) (sent : ℕ) (text : List ℕ)
+        (m : Installation) → SurveysAlone n.site 0 → IsSettledAt n.site 0 → controllers n ≡ 1
+        → replayed.Surveys n 0 (Ok o) between → 333 * count_by is_bare (world n.site).gear + 627 < limit
+        → Ran limit between sent text m → SurveyHasEnded n.site m.site 0 ⊎ WasRefused between sent text m }
+    ensures settled_frames { (limit : ℕ) (n between : Installation) (o : Order) (sent : ℕ) (text : List ℕ)
+        (m : Installation) → SurveysAlone n.site 0 → IsSettledAt n.site 0 → controllers n ≡ 1
+        → replayed.Surveys n 0 (Ok o) between → Ran limit between sent text m
+        → sent ≤ 111 * count_by is_bare (world n.site).gear + 209 }
+{}
+
+/// WITH ROOM SUCH A RUN ENDS UNLESS THE NUMBERS ARE SPENT, where no gear is used, as a run of a controller that starts.
+pub fn a_run_of_a_survey_with_room_ends()
+    ensures room { (limit : ℕ) (n between : Installation) (o : Order) (sent : ℕ) (text : List ℕ) (m : Installation)
+        → SurveysAlone n.site 0 → n.site.plan.used ≡ [] → controllers n ≡ 1
+        → replayed.Surveys n 0 (Ok o) between
+        → 444 * count_by is_bare (world n.site).gear + 1252 < limit → 0 < n.site.queue
+        → length n.site.log + 444 * count_by is_bare (world n.site).gear + 1253 < n.site.room
+        → Ran limit between sent text m
+        → SurveyHasEnded n.site m.site 0 ⊎ IsPumpRefused m.site trouble.None refusal.DrawsSpent }
+    ensures settled_room { (limit : ℕ) (n between : Installation) (o : Order) (sent : ℕ) (text : List ℕ)
+        (m : Installation) → SurveysAlone n.site 0 → n.site.plan.used ≡ []
+        → IsSettledAt n.site 0 → controllers n ≡ 1 → replayed.Surveys n 0 (Ok o) between
+        → 333 * count_by is_bare (world n.site).gear + 627 < limit
+        → 0 < n.site.queue → length n.site.log + 333 * count_by is_bare (world n.site).gear + 628 < n.site.room
+        → Ran limit between sent text m
+        → SurveyHasEnded n.site m.site 0 ⊎ IsPumpRefused m.site trouble.None refusal.DrawsSpent }
+    ensures fresh { (limit : ℕ) (p : Plan) (b : Block) (between : Installation) (o : Order) (sent : ℕ) (text : List ℕ)
+        (m : Installation) → IsPlan p → p.used ≡ [] → p.blocks ≡ b ∷ [] → p.gear ≤ 128 → 333 * p.gear + 627 < limit
+        → replayed.Surveys (installation_of p) 0 (Ok o) between → Ran limit between sent text m
+        → SurveyHasEnded (installation_of p).site m.site 0 ⊎ IsPumpRefused m.site trouble.None refusal.DrawsSpent }
+{}
+
+/// AND WITH NUMBERS IT SURVEYS. Where there also is a number to be drawn for each gear, no call is refused, and the run
+/// ends with the end of the controller, which is true. So it does on a new installation of a plan with one controller
+/// and no fewer numbers than gear.
+pub fn a_run_surveys()
+    ensures alone { (limit : ℕ) (n between : Installation) (o : Order) (sent : ℕ) (text : List ℕ) (m : Installation)
+        → SurveysAlone n.site 0 → n.site.plan.used ≡ [] → controllers n ≡ 1
+        → replayed.Surveys n 0 (Ok o) between
+        → 444 * count_by is_bare (world n.site).gear + 1252 < limit → 0 < n.site.queue
+        → length n.site.log + 444 * count_by is_bare (world n.site).gear + 1253 < n.site.room
+        → length (world n.site).gear ≤ length (world n.site).left → Ran limit between sent text m
+        → SurveyHasEnded n.site m.site 0 }
+    ensures settled { (limit : ℕ) (n between : Installation) (o : Order) (sent : ℕ) (text : List ℕ) (m : Installation)
+        → SurveysAlone n.site 0 → n.site.plan.used ≡ [] → IsSettledAt n.site 0 → controllers n ≡ 1
+        → replayed.Surveys n 0 (Ok o) between
+        → 333 * count_by is_bare (world n.site).gear + 627 < limit → 0 < n.site.queue
+        → length n.site.log + 333 * count_by is_bare (world n.site).gear + 628 < n.site.room
+        → length (world n.site).gear ≤ length (world n.site).left → Ran limit between sent text m
+        → SurveyHasEnded n.site m.site 0 }
+    ensures fresh { (limit : ℕ) (p : Plan) (b : Block) (between : Installation) (o : Order) (sent : ℕ) (text : List ℕ)
+        (m : Installation) → IsPlan p → p.used ≡ [] → p.blocks ≡ b ∷ [] → p.gear ≤ 128 → p.gear ≤ length p.draws
+        → 333 * p.gear + 627 < limit → replayed.Surveys (installation_of p) 0 (Ok o) between
+        → Ran limit between sent text m → SurveyHasEnded (installation_of p).site m.site 0 }
 {}
 
 /// A SURVEY GIVES NOTHING AWAY WHERE IT HEARD SOMEBODY. Where a machine that began by a survey heard somebody under a

@@ -1,4 +1,4 @@
-use Rattle.std.proofs.Common.{◌≡◌, ℕ, ◌<◌, inl, inr, List, length, set, get_or, Some, Result, Ok, Err, refl, sym, ap, subst, ◌∙◌}
+use Rattle.std.proofs.Common.{◌≡◌, ℕ, ◌<◌, inl, inr, true, List, length, set, get_or, Some, Result, Ok, Err, refl, sym, ap, subst, ◌∙◌}
 use Rattle.std.proofs.lemmas.List.{get_or_read_under, set-get_or}
 use Rattle.std.specs.Prelude.{IfSome, IfOk, IfErr, OnErr}
 use Rattle.dali_script.specs.declared.block.Block.{Block}
@@ -12,6 +12,7 @@ use Rattle.dali_events.specs.Plan.{block_at}
 use Rattle.dali_standing.specs.declared.refusal.Refusal.{Refusal}
 use Rattle.dali_standing.specs.Seats.{due_of}
 use Rattle.dali_world.specs.Site.{SiteState, Receipt, Acts, HasActed, IsActRefused, IsUpRefused}
+use Rattle.dali_replay.specs.Rounds.{has_turn_by, HasTurn}
 use Rattle.dali_replay.specs.Installation.{Store, Installation, no_store, store_at, controller, IsUpAt, IsInstalled, IsGivenBy, IsGiven, HasStepped, Goes}
 
 -- ---------------------------------------------------------------- what `act` says
@@ -45,6 +46,17 @@ pub goes : (n given m : Installation) (c d : ℕ) (i : Input) (result : Result O
 goes n given m c d i result number up is stepped refused same =
     subst (λ (k : ℕ). Goes n k result m) number
     (answers n given m d i result (subst (λ (k : ℕ). IsUpAt n k) (sym number) up) is stepped refused same)
+
+-- who is given something has a turn
+given_turn : (d : Due) (n given : Installation) (c : ℕ) (i : Input) → IsGivenBy d n c i given → has_turn_by d (controller n c) ≡ true
+given_turn due.Store n given c i is = refl
+given_turn due.Start n given c i is = rw (is.0) refl
+given_turn due.Bus n given c i is = rw (is.0) refl
+given_turn due.Nothing n given c i is = rw (is.0) refl
+
+pub gone : (n given m : Installation) (c : ℕ) (i : Input) (o : Order) → c < length n.site.plan.blocks → (controller n c).up ≡ true → IsGiven n c i given
+    → HasStepped given c i o m → HasTurn n c (Ok (Some o)) m
+gone n given m c i o there up is stepped = (given_turn (due_of (controller n c)) n given c i is, ((there, up), i, given, is, stepped))
 
 -- the store of a controller, as it is read
 pub store_read : (n : Installation) (c : ℕ) (x : Store) → x ≡ get_or n.stores c x → c < length n.stores → x ≡ store_at n c

@@ -26,7 +26,7 @@ use Rattle.dali_events.specs.Happens.{happens, entry, gives_up, put_after, is_ar
 use Rattle.dali_events.specs.Allowed.{Allowed, IsUp, Hears, MaySend, IsDue, IsArc, HasOutstanding}
 use Rattle.dali_standing.specs.FittedGear.{FittedGear, taken_at}
 use Rattle.dali_script.specs.Records.{Kept}
-use Rattle.dali_standing.specs.Seats.{Seat, Agrees, IsRunning, IsTied, MayAnswer, acted_at, told_at, down_at, up_at, trace_of}
+use Rattle.dali_standing.specs.Seats.{Seat, Agrees, IsRunning, IsTied, MayAnswer, LeavesWhole, acted_at, told_at, down_at, up_at, trace_of}
 use Rattle.dali_standing.specs.Standing.{Seated, seat_in, empty_seat, seated, running_told, running_at, running_by, Standing, flat, stand_of, controller_on}
 use Rattle.dali_standing.specs.Standing.{machine_in, machines_after, Moves, MayBeSent}
 use Rattle.dali_standing.proofs.Seats.{seat_at, world_of, with_seat, running_in, goes_on_in, has_acted, has_offered, has_sent, has_lost, has_collided}
@@ -195,6 +195,13 @@ act_answers s was c i o at view up read answer =
     let here : (seat_at s c).controller.up ≡ true = subst (λ (k : Controller). k.up ≡ true) (on_place s was c view) up in
     let is : at ≡ seat_at s c = place_read s.seats c at read (up_there s.seats c here) in
     subst (λ m. MayAnswer m i o) (sym (on_machine s was c view)) (subst (λ (p : Seat). MayAnswer p.machine i o) is answer)
+
+pub act_whole : (s : Seated) (was : Standing) (c : ℕ) (i : Input) (o : Order) (at : Seat) → flat s ≡ was → (controller_on was c).up ≡ true
+    → at ≡ get_or s.seats c at → LeavesWhole at.machine i o → LeavesWhole (machine_in was.machines c) i o
+act_whole s was c i o at view up read whole =
+    let here : (seat_at s c).controller.up ≡ true = subst (λ (k : Controller). k.up ≡ true) (on_place s was c view) up in
+    let is : at ≡ seat_at s c = place_read s.seats c at read (up_there s.seats c here) in
+    subst (λ m. LeavesWhole m i o) (sym (on_machine s was c view)) (subst (λ (p : Seat). LeavesWhole p.machine i o) is whole)
 
 -- ---------------------------------------------------------------- requests and frames
 

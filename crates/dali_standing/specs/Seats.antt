@@ -17,6 +17,7 @@ use Rattle.dali_script.specs.declared.orders.Due.TheVariants as due
 use Rattle.dali_script.specs.Due.{due_after, accepts}
 use Rattle.dali_controller.specs.Machine.{Machine, at_first, machine_told}
 use Rattle.dali_controller.specs.Orders.{IsGiven, machine_after}
+use Rattle.dali_controller.specs.Whole.{IsWhole}
 use Rattle.dali_standing.specs.declared.seat.Place.{Place}
 use Rattle.dali_standing.specs.declared.seat.Place.TheVariants.{Up, Down}
 use Rattle.dali_events.specs.declared.used.Used.{Used}
@@ -146,6 +147,11 @@ told_at change p = record { controller = change p.controller; machine = p.machin
 abbrev pub MayAnswer : Option Machine → Input → Order → Type 0
 MayAnswer None i o = ⊥
 MayAnswer (Some m) i o = IsGiven m i o
+
+-- and its machine, if there is one, is whole afterwards
+abbrev pub LeavesWhole : Option Machine → Input → Order → Type 0
+LeavesWhole None i o = ⊥
+LeavesWhole (Some m) i o = IsWhole (machine_after m i o)
 
 -- an order to reserve a short address that used gear have; and that the machine, if there is one,
 -- gives such an order

@@ -9,7 +9,7 @@ ghost use Rattle.dali_script.specs.declared.orders.Input.TheVariants as input;
 ghost use Rattle.dali_events.specs.Happens.{told_sent, told_lapsed, entry, is_arc, outstanding_told, outstanding_after};
 ghost use Rattle.dali_events.specs.Allowed.{IsDue};
 ghost use Rattle.dali_standing.specs.declared.seat.Place.TheVariants.{Up};
-ghost use Rattle.dali_standing.specs.Seats.{due_of, machine_in, acted_in, MayAnswer, Waits};
+ghost use Rattle.dali_standing.specs.Seats.{due_of, machine_in, acted_in, MayAnswer, LeavesWhole, Waits};
 
 use dali_controller::Machine;
 use dali_frame::{Answer, Forward};
@@ -99,6 +99,7 @@ impl Seat {
         requires due { IsDue self.old.controller input }
         ensures acted { IsSome result }
         ensures answer { IfSome result (λ order. MayAnswer self.old.machine input order) }
+        ensures whole { IfSome result (λ order. LeavesWhole self.old.machine input order) }
         ensures state { IfSome result (λ order. self.new ≡ acted_at self.old input order) }
         ensures tied { IsTied self.old.controller self.old.machine }
     {
@@ -255,6 +256,7 @@ fn stepped(place: &mut Place, input: Input) -> Option<Order>
     requires { Waits (machine_in place.old) input }
     ensures acted { IsSome result }
     ensures answer { IfSome result (λ order. MayAnswer (machine_in place.old) input order) }
+    ensures whole { IfSome result (λ order. LeavesWhole (machine_in place.old) input order) }
     ensures state { IfSome result (λ order. place.new ≡ acted_in place.old input order) }
 {
     match place {

@@ -14,7 +14,8 @@ ghost use Rattle.dali_events.specs.Happens.{is_arc, keeps_bus, gives_up, put_aft
 ghost use Rattle.dali_events.specs.Happens.{told_destroyed};
 ghost use Rattle.dali_events.specs.Allowed.{IsArc, IsDue};
 ghost use Rattle.dali_standing.specs.Standing.{seats_from};
-ghost use Rattle.dali_standing.specs.Seats.{MayAnswer, ReservesUsed, MayReserveUsed, Agrees, trace_of, told_at, due_of};
+ghost use Rattle.dali_standing.specs.Seats.{MayAnswer, LeavesWhole, ReservesUsed, MayReserveUsed, Agrees, trace_of};
+ghost use Rattle.dali_standing.specs.Seats.{told_at, due_of};
 ghost use Rattle.dali_standing.specs.Troubles.{heard_under, nobody_at_all};
 ghost use Rattle.dali_standing.specs.Settled.{IsAccepted, IsHearing, IsPlacedOn};
 ghost use Rattle.dali_standing.specs.declared.refusal.Refusal.TheVariants as refusal;
@@ -194,6 +195,7 @@ impl Standing {
         requires room { total self.old.bus < self.old.bus.capacity }
         ensures acted { IsSome result }
         ensures answer { IfSome result (λ order. MayAnswer (machine_in self.old.machines c) input order) }
+        ensures whole { IfSome result (λ order. LeavesWhole (machine_in self.old.machines c) input order) }
         ensures moves { IfSome result (λ order. Moves self.old (event.Acted c input order) self.new) }
         ensures placed { IsPlacedOn self.old c }
     {

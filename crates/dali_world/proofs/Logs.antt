@@ -33,7 +33,7 @@ use Rattle.dali_gear.specs.declared.row.Reach.TheVariants.{Everyone, Only}
 use Rattle.dali_gear.specs.Row.{draws_needed, stored_of}
 use Rattle.dali_arbiter.specs.declared.request.Request.{Request}
 use Rattle.dali_arbiter.specs.Arbiter.{owns, total, collision}
-use Rattle.dali_standing.specs.Seats.{MayAnswer, MayReserveUsed, IsRunning}
+use Rattle.dali_standing.specs.Seats.{MayAnswer, LeavesWhole, MayReserveUsed, IsRunning}
 use Rattle.dali_standing.proofs.InUse.{leaves_acted}
 use Rattle.dali_standing.specs.Settled.{IsPlacedBy, IsPlacedOn}
 use Rattle.dali_world.proofs.Agreeing.{no_conflict}
@@ -230,15 +230,17 @@ act_leaves s was old shares room c i o view site answer none =
 pub act_site : (s was : SiteState) (old new : Standing) (shares shares' : List ℕ) (room number c : ℕ) (i : Input) (o : Order) (r : Receipt) (log' : List Event)
     → s ≡ was → IsSite s old shares room
     → total old.bus < old.bus.capacity → HasRoom was → Moves old (event.Acted c i o) new → MayAnswer (machine_in old.machines c) i o
-    → LeavesUsed was.plan.used (event.Acted c i o)
+    → LeavesWhole (machine_in old.machines c) i o → LeavesUsed was.plan.used (event.Acted c i o)
     → log' ≡ s.log ++ event.Acted c i o ∷ [] → c < 4
     → number ≡ get_or shares c 0 + 1 → r ≡ record { controller = c; input = i; order = o; number = number }
     → HasActed was c i r (record { plan = s.plan; queue = s.queue; room = s.room; log = log' })
-act_site s was old new shares shares' room number c i o r log' view site quiet free moves answer leaves log_is there number_is r_is =
+act_site s was old new shares shares' room number c i o r log' view site quiet free moves answer whole leaves log_is there number_is r_is =
     rw r_is (record {
       logs = (site_logs s was old new shares room log' (event.Acted c i o) view site free moves log_is, not_crowded s was old shares room view site quiet);
       ordered = subst (λ (w : SiteState). MayAnswer (machine_at w c) i o) view
           (subst (λ (t : Standing). MayAnswer (machine_in t.machines c) i o) site.stands answer);
+      whole = subst (λ (w : SiteState). LeavesWhole (machine_at w c) i o) view
+          (subst (λ (t : Standing). LeavesWhole (machine_in t.machines c) i o) site.stands whole);
       leaves = leaves;
       controller = refl;
       input = refl;

@@ -28,7 +28,7 @@ use Rattle.dali_standing.specs.declared.trouble.Trouble.TheVariants as trouble
 use Rattle.dali_standing.specs.declared.trouble.Report.{Report}
 use Rattle.dali_standing.specs.declared.trouble.Report.TheVariants as report
 use Rattle.dali_standing.specs.Troubles.{heard_under, reach_under, nobody_at_all}
-use Rattle.dali_standing.specs.Seats.{MayAnswer, MayReserveUsed, Agrees}
+use Rattle.dali_standing.specs.Seats.{MayAnswer, LeavesWhole, MayReserveUsed, Agrees}
 use Rattle.dali_standing.specs.Standing.{Standing, stand_of, machine_in, machines_at}
 use Rattle.dali_standing.specs.Standing.{machines_after}
 
@@ -201,6 +201,7 @@ pub record HasActed (s : SiteState) (c : ℕ) (i : Input) (r : Receipt)
     (new : SiteState) : Type 0 where
   pub logs : LogsRequest s (event.Acted c i r.order) new
   pub ordered : MayAnswer (machine_at s c) i r.order
+  pub whole : LeavesWhole (machine_at s c) i r.order
   pub leaves : LeavesUsed s.plan.used (event.Acted c i r.order)
   pub controller : r.controller ≡ c
   pub input : r.input ≡ i

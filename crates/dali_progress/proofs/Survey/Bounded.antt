@@ -36,11 +36,11 @@ use Rattle.dali_events.specs.Wanted.{gear_of, is_bare}
 use Rattle.dali_events.proofs.Invariant.Agreeing.{findings_agree_in}
 use Rattle.dali_events.proofs.Invariant.Safe.{keeps_promise}
 use Rattle.dali_events.proofs.Search.Halves.{gear_are_searched}
-use Rattle.dali_standing.specs.Seats.{MayAnswer}
+use Rattle.dali_standing.specs.Seats.{MayAnswer, LeavesWhole}
 use Rattle.dali_standing.specs.Standing.{machine_in}
 use Rattle.dali_world.specs.Site.{SiteState, world, site_logged, machine_at, next_request}
 use Rattle.dali_progress.specs.Rounds.{StartsAlone, IsOfRound, site_after, is_frame, frames, HasEnded, HasNext, AreTabled}
-use Rattle.dali_progress.specs.Surveys.{IsAllTaken, IsBlockTaken, SurveysAlone, IsSettled, IsSettledAt, Surveys, LeavesWhole, IsOfSurvey, SurveyRounds}
+use Rattle.dali_progress.specs.Surveys.{IsAllTaken, IsBlockTaken, SurveysAlone, IsSettled, IsSettledAt, Surveys, IsOfSurvey, SurveyRounds}
 use Rattle.dali_progress.specs.Surveys.{SurveyGoesOn, SurveyEndsWell}
 use Rattle.dali_progress.specs.Surveys.{IsSurveyDone, IsUnseen}
 use Rattle.dali_progress.specs.Surveys.{IsSurveyTabled}
@@ -135,7 +135,7 @@ sent_on : (start : Begun) (s : SiteState) (c left : ℕ) (r : Request) (h : Answ
     → h ≡ heard_of (answers_of Everyone (command_of r.frame) 0 (world s).gear) → RunsOn start s c left (event.Sent r.sender r.frame h)
 sent_on start s c left r h u here is heard =
     let run : IsRun s.plan s.queue (site_logged s (event.Sent r.sender r.frame h)).log =
-        run_logged s (event.Sent r.sender r.frame h) u.run here (λ d i a n e has. cc) in
+    run_logged s (event.Sent r.sender r.frame h) u.run here (λ d i a n e has. cc) in
     let known : IsKnown (world s) r.sender r.frame h = record {
       drawn = drawn_now s u.run;
       then = subst AreDrawn (world_logged s (event.Sent r.sender r.frame h)) (drawn_now (site_logged s (event.Sent r.sender r.frame h)) run);
@@ -248,13 +248,13 @@ starts_so s c a = (
   subst IsSettled (sym a.records) (λ x has. absurd has),
 )
 
-runs_after : (any : Bool) (s : SiteState) (c : ℕ) (es : List Event) → SurveysAlone s c → (any ≡ false → IsSettledAt s c) → SurveyRounds s c es
+pub runs_after : (any : Bool) (s : SiteState) (c : ℕ) (es : List Event) → SurveysAlone s c → (any ≡ false → IsSettledAt s c) → SurveyRounds s c es
     → RunsAll (began_at any s) s c (111 * count_by is_bare (world s).gear + 209 + spare any) es
 runs_after any s c es a settled rounds =
     runs_all (began_at any s) s c (111 * count_by is_bare (world s).gear + 209 + spare any) es (starts any s c a settled) rounds
 
 -- of any records
-unsettled : (s : SiteState) (c : ℕ) → true ≡ false → IsSettledAt s c
+pub unsettled : (s : SiteState) (c : ℕ) → true ≡ false → IsSettledAt s c
 unsettled s c e = absurd (cc)
 
 -- NO MORE FRAMES than these are sent

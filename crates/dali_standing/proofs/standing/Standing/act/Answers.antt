@@ -1,5 +1,5 @@
 use Rattle.std.proofs.Common.{refl}
-use Rattle.dali_standing.proofs.Done.{act_accepts, act_done, act_answers, was_placed}
+use Rattle.dali_standing.proofs.Done.{act_accepts, act_done, act_answers, act_whole, was_placed}
 use Rattle.dali_standing.proofs.standing.Standing.act.Goals as goal
 
 pub request-requires : goal.request-requires
@@ -19,6 +19,11 @@ pub returns-in-Some-clause-answer : goal.returns-in-Some-clause-answer
 returns-in-Some-clause-answer c =
     let answer = rw c.in-Some.is at c.act.ensures.answer in
     act_answers _ _ c.args.c c.args.input c.in-Some.order _ c.self.view_is c.requires.up c.index_mut-seat.ensures.value answer
+
+pub returns-in-Some-clause-whole : goal.returns-in-Some-clause-whole
+returns-in-Some-clause-whole c =
+    let whole = rw c.in-Some.is at c.act.ensures.whole in
+    act_whole _ _ c.args.c c.args.input c.in-Some.order _ c.self.view_is c.requires.up c.index_mut-seat.ensures.value whole
 
 pub returns-in-Some-clause-moves : goal.returns-in-Some-clause-moves
 returns-in-Some-clause-moves c =

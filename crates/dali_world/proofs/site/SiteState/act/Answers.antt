@@ -32,12 +32,13 @@ unfolding Rattle.dali_world.specs.Site.Acts
 returns-in-Some-clause-answer c =
     let moves = rw c.in-Some.is at c.act.ensures.moves in
     let answer = rw c.in-Some.is at c.act.ensures.answer in
+    let whole = rw c.in-Some.is at c.act.ensures.whole in
     let leaves = act_leaves _ _ _ _ _ c.args.c c.args.input c.in-Some.order c.self.view_is c.self.invariant answer
     (c.if-would_reserve_used.ensures.no refl) in
     let up = c.in_ok-check_up.ensures.ok in
     let four : c.args.c < 4 = let there = up.1 in let few = up.2 in omega arith in (
       act_site _ _ _ _ _ c.count-number.new.shares _ c.count-number.result c.args.c c.args.input c.in-Some.order c.new.result _ c.self.view_is c.self.invariant
-          (c.if-is_crowded.ensures.room refl) (c.if-is_full.ensures.room refl) moves answer leaves c.append.ensures.items four
+          (c.if-is_crowded.ensures.room refl) (c.if-is_full.ensures.room refl) moves answer whole leaves c.append.ensures.items four
           c.count-number.ensures.number c.new.ensures,
       tt,
       tt,
@@ -56,13 +57,14 @@ pub returns-in-Some-clause-fits : goal.returns-in-Some-clause-fits
 returns-in-Some-clause-fits c =
     let moves = rw c.in-Some.is at c.act.ensures.moves in
     let answer = rw c.in-Some.is at c.act.ensures.answer in
+    let whole = rw c.in-Some.is at c.act.ensures.whole in
     let leaves = act_leaves _ _ _ _ _ c.args.c c.args.input c.in-Some.order c.self.view_is c.self.invariant answer
     (c.if-would_reserve_used.ensures.no refl) in
     let up = c.in_ok-check_up.ensures.ok in
     let four : c.args.c < 4 = let there = up.1 in let few = up.2 in omega arith in
     fits_acted _ _ _ _ _ (rw (← c.self.view_is) c.self.invariant.run)
     (act_site _ _ _ _ _ c.count-number.new.shares _ c.count-number.result c.args.c c.args.input c.in-Some.order c.new.result _ c.self.view_is c.self.invariant
-    (c.if-is_crowded.ensures.room refl) (c.if-is_full.ensures.room refl) moves answer leaves c.append.ensures.items four
+    (c.if-is_crowded.ensures.room refl) (c.if-is_full.ensures.room refl) moves answer whole leaves c.append.ensures.items four
     c.count-number.ensures.number c.new.ensures)
 
 pub returns-in-Some-clause-records : goal.returns-in-Some-clause-records
