@@ -58,7 +58,7 @@ use Rattle.dali_progress.proofs.Bounded.{Runs, runs_on, world_logged, machines_l
 -- ---------------------------------------------------------------- a row of gear
 
 -- no more numbers than gear
-needs_few : (reach : Reach) (c : Command) (k : ℕ) (gs : List Gear) → draws_needed reach c k gs ≤ length gs
+pub needs_few : (reach : Reach) (c : Command) (k : ℕ) (gs : List Gear) → draws_needed reach c k gs ≤ length gs
 needs_few reach c k [] = omega arith
 needs_few reach c k (g ∷ gs) = go (takes reach k g && draws_a_number c g) (draws_needed reach c (k + 1) gs) (needs_few reach c (k + 1) gs) where
   go : (b : Bool) (n : ℕ) → n ≤ length gs → (if b then 1 else 0) + n ≤ suc (length gs)
@@ -66,7 +66,7 @@ needs_few reach c k (g ∷ gs) = go (takes reach k g && draws_a_number c g) (dra
   go false n less = omega (arith, less)
 
 -- and where none is drawn, all are left
-left_same : (reach : Reach) (c : Command) (k : ℕ) (gs : List Gear) (left : List ℕ) → draws_needed reach c k gs ≡ 0 → row_left reach c k gs left ≡ left
+pub left_same : (reach : Reach) (c : Command) (k : ℕ) (gs : List Gear) (left : List ℕ) → draws_needed reach c k gs ≡ 0 → row_left reach c k gs left ≡ left
 left_same reach c k [] left none = refl
 left_same reach c k (g ∷ gs) left none = go (takes reach k g && draws_a_number c g) none (λ more. left_same reach c (k + 1) gs left more) where
   go : (b : Bool) → (if b then 1 else 0) + draws_needed reach c (k + 1) gs ≡ 0 → (draws_needed reach c (k + 1) gs ≡ 0 → row_left reach c (k + 1) gs left ≡ left)
@@ -96,24 +96,24 @@ none_first k (g ∷ gs) all =
 abbrev pub HasDraws : Bool → List Gear → List ℕ → Type 0
 HasDraws opened gs numbers = opened ≡ false → length gs ≤ length numbers
 
-probing_never : (n : SearchAddress) (k : Kept) (s : Stage) → Sends Probing n k s Randomise → ⊥
+pub probing_never : (n : SearchAddress) (k : Kept) (s : Stage) → Sends Probing n k s Randomise → ⊥
 probing_never n k (stage.Unnamed r) (a, small, has, is) = cc
 probing_never n k _ is = cc
 
-visiting_never : (n : SearchAddress) (k : Kept) (s : Stage) → Sends Visiting n k s Randomise → ⊥
+pub visiting_never : (n : SearchAddress) (k : Kept) (s : Stage) → Sends Visiting n k s Randomise → ⊥
 visiting_never n k (stage.Unnamed r) (a, small, has, is) = cc
 visiting_never n k _ is = cc
 
-closing_never : (e : End) (n : SearchAddress) (k : Kept) (s : Stage) → Sends (Closing e) n k s Randomise → ⊥
+pub closing_never : (e : End) (n : SearchAddress) (k : Kept) (s : Stage) → Sends (Closing e) n k s Randomise → ⊥
 closing_never e n k (stage.Unnamed r) (a, small, has, is) = cc
 closing_never e n k _ is = cc
 
 -- only an opening draws
-none_apart : (p : Purpose) (n : SearchAddress) (k : Kept) (s : Stage) (gs : List Gear) (c : Command) → (Sends p n k s Randomise → ⊥) → Sends p n k s c
+pub none_apart : (p : Purpose) (n : SearchAddress) (k : Kept) (s : Stage) (gs : List Gear) (c : Command) → (Sends p n k s Randomise → ⊥) → Sends p n k s c
     → draws_needed Everyone c 0 gs ≡ 0
 none_apart p n k s gs c never is = needs_none Everyone c 0 gs (λ e. never (subst (λ d. Sends p n k s d) e is))
 
-enough_left : (gs : List Gear) (numbers : List ℕ) (c : Command) → length gs ≤ length numbers → draws_needed Everyone c 0 gs ≤ length numbers
+pub enough_left : (gs : List Gear) (numbers : List ℕ) (c : Command) → length gs ≤ length numbers → draws_needed Everyone c 0 gs ≤ length numbers
 enough_left gs numbers c enough = let few = needs_few Everyone c 0 gs in omega (arith, few, enough)
 
 enough_none : (x y : ℕ) → x ≡ 0 → x ≤ y
@@ -145,7 +145,7 @@ draws_enough (Closing e) s k opened x n gs numbers left c at is has =
     enough_none (draws_needed Everyone c 0 gs) (length numbers) (none_apart (Closing e) n k s gs c (closing_never e n k s) is)
 
 -- where the opening is still not complete, none was drawn
-opening_none : (s : Stage) (k : Kept) (opened : Bool) (n : SearchAddress) (gs : List Gear) (left : ℕ) (c : Command) (h : Answer) → Opens s opened gs left
+pub opening_none : (s : Stage) (k : Kept) (opened : Bool) (n : SearchAddress) (gs : List Gear) (left : ℕ) (c : Command) (h : Answer) → Opens s opened gs left
     → Sends Opening n k s c → opened_after (next_stage s c h) opened ≡ false
     → draws_needed Everyone c 0 gs ≡ 0
 opening_none stage.Free k opened n gs left c h o is closed = needs_none Everyone c 0 gs (λ e. (let other : Terminate ≡ Randomise = sym is ∙ e in cc))
@@ -244,7 +244,7 @@ DrawsBy c w m = HasDraws (informed_by m (controller_at w c).told).opened w.gear 
 abbrev pub DrawsAt : SiteState → ℕ → Type 0
 DrawsAt s c = (m : Machine) → machine_at s c ≡ Some m → DrawsBy c (world s) m
 
-same_some : (x : Option Machine) (m n : Machine) → x ≡ Some m → x ≡ Some n → m ≡ n
+pub same_some : (x : Option Machine) (m n : Machine) → x ≡ Some m → x ≡ Some n → m ≡ n
 same_some x m n one two = cc
 
 draws_logged : (s : SiteState) (c : ℕ) (e : Event) (m : Machine) → machine_at (site_logged s e) c ≡ Some m → DrawsBy c (happens (world s) e) m

@@ -184,14 +184,14 @@ turn_at : (n : Installation) (c : ℕ) (acted : Bool) (front : List ℕ) (betwee
 turn_at n zero acted front between last m known (none, empty, is) turn = subst (λ x. IsTurn x 0 None last m) is turn
 turn_at n (suc c) acted front between last m known turns turn = absurd (omega (arith, known))
 
-turns_never : (n m : Installation) (text : List ℕ) → IsWell n.site → controllers n ≡ 1 → IsTurnRefused n text m → ⊥
+pub turns_never : (n m : Installation) (text : List ℕ) → IsWell n.site → controllers n ≡ 1 → IsTurnRefused n text m → ⊥
 turns_never n m text well one r =
     let refused = turn_at n r.c r.acted r.front r.between r.last m (subst (λ x. r.c < x) one r.known) r.turns r.refused in
     go_never n m refused.1 well one refused.0 refused.2
 
 -- ---------------------------------------------------------------- the bus
 
-pump_refused : (s : SiteState) (e : Refusal) → length s.log < s.room → IsPumpRefused s trouble.None e → IsPumpRefused s trouble.None refusal.DrawsSpent
+pub pump_refused : (s : SiteState) (e : Refusal) → length s.log < s.room → IsPumpRefused s trouble.None e → IsPumpRefused s trouble.None refusal.DrawsSpent
 pump_refused s refusal.DrawsSpent fits refused = refused
 pump_refused s refusal.LogFull fits (r, next, there, is) = absurd (full (length s.log) s.room is fits) where
   full : (x y : ℕ) → x ≡ y → x < y → ⊥
@@ -200,18 +200,18 @@ pump_refused s _ fits refused = absurd refused
 
 -- ---------------------------------------------------------------- a run
 
-log_after : (s : SiteState) (es : List Event) → length (site_after s es).log ≡ length s.log + length es
+pub log_after : (s : SiteState) (es : List Event) → length (site_after s es).log ≡ length s.log + length es
 log_after s [] = omega arith
 log_after s (e ∷ es) = more (length (site_after (site_logged s e) es).log) (length (s.log ++ e ∷ [])) (length s.log) (length es)
     (log_after (site_logged s e) es) (length_push s.log e) where
       more : (x y z n : ℕ) → x ≡ y + n → y ≡ z + 1 → x ≡ z + suc n
       more x y z n one two = omega (arith, one, two)
 
-room_after : (s : SiteState) (es : List Event) → (site_after s es).room ≡ s.room
+pub room_after : (s : SiteState) (es : List Event) → (site_after s es).room ≡ s.room
 room_after s [] = refl
 room_after s (e ∷ es) = room_after (site_logged s e) es
 
-queue_after : (s : SiteState) (es : List Event) → (site_after s es).queue ≡ s.queue
+pub queue_after : (s : SiteState) (es : List Event) → (site_after s es).queue ≡ s.queue
 queue_after s [] = refl
 queue_after s (e ∷ es) = queue_after (site_logged s e) es
 
@@ -274,7 +274,7 @@ run_with_room limit n sent text m alone none one enough waits fits ran = go (run
   go (inr out) = inr out.spent
 
 -- the gear of a new installation
-bare_few : (p : Plan) → count_by is_bare (world (opened_site p 64 65536)).gear ≤ p.gear
+pub bare_few : (p : Plan) → count_by is_bare (world (opened_site p 64 65536)).gear ≤ p.gear
 bare_few p = subst (λ x. count_by is_bare (world (opened_site p 64 65536)).gear ≤ x) (start_count p)
     (count_by-le-length is_bare (world (opened_site p 64 65536)).gear)
 

@@ -12,3 +12,6 @@ pub mod Bounded
 pub mod Again
 pub mod Quiet
 pub mod Running
+pub mod Refused
+pub mod Numbers
+pub mod Numbered

@@ -219,6 +219,52 @@ pub fn a_run_of_a_survey_ends()
         → sent ≤ 111 * count_by is_bare (world n.site).gear + 209 }
 {}
 
+/// WITH ROOM SUCH A RUN ENDS UNLESS THE NUMBERS ARE SPENT, where no gear is used, as a run of a controller that starts.
+pub fn a_run_of_a_survey_with_room_ends()
+    ensures room { (limit : ℕ) (n between : Installation) (o : Order) (sent : ℕ) (text : List ℕ) (m : Installation)
+        → SurveysAlone n.site 0 → n.site.plan.used ≡ [] → controllers n ≡ 1
+        → replayed.Surveys n 0 (Ok o) between
+        → 444 * count_by is_bare (world n.site).gear + 1252 < limit → 0 < n.site.queue
+        → length n.site.log + 444 * count_by is_bare (world n.site).gear + 1253 < n.site.room
+        → Ran limit between sent text m
+        → SurveyHasEnded n.site m.site 0 ⊎ IsPumpRefused m.site trouble.None refusal.DrawsSpent }
+    ensures settled_room { (limit : ℕ) (n between : Installation) (o : Order) (sent : ℕ) (text : List ℕ)
+        (m : Installation) → SurveysAlone n.site 0 → n.site.plan.used ≡ []
+        → IsSettledAt n.site 0 → controllers n ≡ 1 → replayed.Surveys n 0 (Ok o) between
+        → 333 * count_by is_bare (world n.site).gear + 627 < limit
+        → 0 < n.site.queue → length n.site.log + 333 * count_by is_bare (world n.site).gear + 628 < n.site.room
+        → Ran limit between sent text m
+        → SurveyHasEnded n.site m.site 0 ⊎ IsPumpRefused m.site trouble.None refusal.DrawsSpent }
+    ensures fresh { (limit : ℕ) (p : Plan) (b : Block) (between : Installation) (o : Order) (sent : ℕ) (text : List ℕ)
+        (m : Installation) → IsPlan p → p.used ≡ [] → p.blocks ≡ b ∷ [] → p.gear ≤ 128 → 333 * p.gear + 627 < limit
+        → replayed.Surveys (installation_of p) 0 (Ok o) between → Ran limit between sent text m
+        → SurveyHasEnded (installation_of p).site m.site 0 ⊎ IsPumpRefused m.site trouble.None refusal.DrawsSpent }
+{}
+
+/// AND WITH NUMBERS IT SURVEYS. Where there also is a number to be drawn for each gear, no call is refused, and the run
+/// ends with the end of the controller, which is true. So it does on a new installation of a plan with one controller
+/// and no fewer numbers than gear.
+pub fn a_run_surveys()
+    ensures alone { (limit : ℕ) (n between : Installation) (o : Order) (sent : ℕ) (text : List ℕ) (m : Installation)
+        → SurveysAlone n.site 0 → n.site.plan.used ≡ [] → controllers n ≡ 1
+        → replayed.Surveys n 0 (Ok o) between
+        → 444 * count_by is_bare (world n.site).gear + 1252 < limit → 0 < n.site.queue
+        → length n.site.log + 444 * count_by is_bare (world n.site).gear + 1253 < n.site.room
+        → length (world n.site).gear ≤ length (world n.site).left → Ran limit between sent text m
+        → SurveyHasEnded n.site m.site 0 }
+    ensures settled { (limit : ℕ) (n between : Installation) (o : Order) (sent : ℕ) (text : List ℕ) (m : Installation)
+        → SurveysAlone n.site 0 → n.site.plan.used ≡ [] → IsSettledAt n.site 0 → controllers n ≡ 1
+        → replayed.Surveys n 0 (Ok o) between
+        → 333 * count_by is_bare (world n.site).gear + 627 < limit → 0 < n.site.queue
+        → length n.site.log + 333 * count_by is_bare (world n.site).gear + 628 < n.site.room
+        → length (world n.site).gear ≤ length (world n.site).left → Ran limit between sent text m
+        → SurveyHasEnded n.site m.site 0 }
+    ensures fresh { (limit : ℕ) (p : Plan) (b : Block) (between : Installation) (o : Order) (sent : ℕ) (text : List ℕ)
+        (m : Installation) → IsPlan p → p.used ≡ [] → p.blocks ≡ b ∷ [] → p.gear ≤ 128 → p.gear ≤ length p.draws
+        → 333 * p.gear + 627 < limit → replayed.Surveys (installation_of p) 0 (Ok o) between
+        → Ran limit between sent text m → SurveyHasEnded (installation_of p).site m.site 0 }
+{}
+
 /// A SURVEY GIVES NOTHING AWAY WHERE IT HEARD SOMEBODY. Where a machine that began by a survey heard somebody under a
 /// short address, that address is marked, or enrolled, or about to be enrolled, from then on, or the machine has
 /// halted. So it reserves the address for nobody. And what is reserved from before it gives only to the gear that is

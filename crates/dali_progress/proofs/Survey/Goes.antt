@@ -281,7 +281,7 @@ lone_acts w q c m input.Committed o l surveys addresses here = lone_acted w q c 
 abbrev pub slack_now : Bool → World → ℕ → ℕ
 slack_now any w c = survey_slack any (controller_at w c).last (controller_at w c).told
 
-not_failed : (i : Input) → Surveys i → i ≡ input.CommitFailed → ⊥
+pub not_failed : (i : Input) → Surveys i → i ≡ input.CommitFailed → ⊥
 not_failed i surveys e = subst Surveys e surveys
 
 holds_next : (start : Begun) (m : Machine) (o : Order) (gs : List Gear) (left : ℕ) → IsNext start m o gs left → Holds start m (Some o) None gs left
@@ -290,7 +290,7 @@ holds_next start m (Commit x) gs left next = next
 holds_next start m (Done e) gs left next = next
 holds_next start m (Halt why) gs left next = next
 
-next_holds : (start : Begun) (m : Machine) (o : Order) (gs : List Gear) (left : ℕ) → Holds start m (Some o) None gs left → IsNext start m o gs left
+pub next_holds : (start : Begun) (m : Machine) (o : Order) (gs : List Gear) (left : ℕ) → Holds start m (Some o) None gs left → IsNext start m o gs left
 next_holds start m (Put p f) gs left next = next
 next_holds start m (Commit x) gs left next = next
 next_holds start m (Done e) gs left next = next

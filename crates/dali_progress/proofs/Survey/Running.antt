@@ -133,14 +133,14 @@ events_of_run s between t o k f alone logged here of comes =
     none x = omega arith
 
 -- of an installation
-installed : (n between : Installation) (o : Order) (t : SiteState) (k f : ℕ) → SurveysAlone n.site 0 → replayed.Surveys n 0 (Ok o) between
+pub installed : (n between : Installation) (o : Order) (t : SiteState) (k f : ℕ) → SurveysAlone n.site 0 → replayed.Surveys n 0 (Ok o) between
     → Comes between.site t k f → Events n.site t k f
 installed n between o t k f alone stepped comes =
     let acted = stepped.acted in
     let logs = acted.logs.0 in
     events_of_run n.site between.site t stepped.receipt.order k f alone logs.logged logs.allowed (refl, tt, acted.ordered, acted.whole, acted.leaves) comes
 
-one_between : (n between : Installation) (o : Order) → controllers n ≡ 1 → replayed.Surveys n 0 (Ok o) between → controllers between ≡ 1
+pub one_between : (n between : Installation) (o : Order) → controllers n ≡ 1 → replayed.Surveys n 0 (Ok o) between → controllers between ≡ 1
 one_between n between o one stepped = ap (λ (s : SiteState). length s.plan.blocks) stepped.acted.logs.0.logged ∙ one
 
 -- ---------------------------------------------------------------- its end
