@@ -38,7 +38,7 @@ use Rattle.dali_progress.specs.Running.{HasCommissioned, WasRefused}
 use Rattle.dali_progress.proofs.Lone.{Moment}
 use Rattle.dali_progress.proofs.Bounded.{RunsAll, few_events, nothing_waits, heard_free, runs_after, begins_alone}
 use Rattle.dali_progress.proofs.Numbers.{never_spent}
-use Rattle.dali_progress.proofs.Running.{Comes, comes_both, turn, turns_of, all_played, one_more, run_ends, plan_after}
+use Rattle.dali_progress.proofs.Running.{Comes, comes_both, turn, turns_of, all_played, one_more, run_ends}
 
 -- WHAT MAY BE REFUSED in a run of rounds on an installation with one controller.
 
@@ -214,6 +214,10 @@ room_after s (e ∷ es) = room_after (site_logged s e) es
 pub queue_after : (s : SiteState) (es : List Event) → (site_after s es).queue ≡ s.queue
 queue_after s [] = refl
 queue_after s (e ∷ es) = queue_after (site_logged s e) es
+
+pub plan_after : (s : SiteState) (es : List Event) → (site_after s es).plan ≡ s.plan
+plan_after s [] = refl
+plan_after s (e ∷ es) = plan_after (site_logged s e) es
 
 well_after : (s t : SiteState) (k f : ℕ) → StartsAlone s 0 → s.plan.used ≡ [] → 0 < s.queue → length s.log + 333 * count_by is_bare (world s).gear + 31 < s.room
     → Comes s t k f

@@ -54,7 +54,7 @@ length_both : (es fs : List Event) → length (es ++ fs) ≡ length es + length 
 length_both [] fs = omega arith
 length_both (e ∷ es) fs = let both = length_both es fs in omega (arith, both)
 
-pub plan_after : (s : SiteState) (es : List Event) → (site_after s es).plan ≡ s.plan
+plan_after : (s : SiteState) (es : List Event) → (site_after s es).plan ≡ s.plan
 plan_after s [] = refl
 plan_after s (e ∷ es) = plan_after (site_logged s e) es
 

@@ -106,8 +106,7 @@ pub record RunsOn (start : Begun) (s : SiteState) (c left : ℕ) (e : Event) : T
   pub runs : Runs start (site_logged s e) c rest
 
 acted_on : (start : Begun) (s : SiteState) (c left : ℕ) (i : Input) (o : Order) → Runs start s c left → Allowed (world s) (event.Acted c i o) → Surveys i
-    → MayAnswer (machine_at s c) i o → LeavesWhole (machine_at s c) i o → LeavesUsed s.plan.used (event.Acted c i o)
-    → RunsOn start s c left (event.Acted c i o)
+    → MayAnswer (machine_at s c) i o → LeavesWhole (machine_at s c) i o → LeavesUsed s.plan.used (event.Acted c i o) → RunsOn start s c left (event.Acted c i o)
 acted_on start s c left i o r here surveys may whole leaves = record {
   rest = left;
   sum = omega arith;
