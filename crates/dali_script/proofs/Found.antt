@@ -1,5 +1,5 @@
 use Rattle.std.proofs.Common.{◌≡◌, ℕ, Bool, true, false, List, [], ◌∷◌, ◌++◌, refl, sym, ap, subst, ◌∙◌, Option, Some, None}
-use Rattle.std.specs.Prelude.{◌==◌, if◌then◌else◌, option_map}
+use Rattle.std.specs.Prelude.{◌<◌, ◌-◌, ◌==◌, if◌then◌else◌, option_map, unwrap_or}
 use Rattle.dali_frame.specs.declared.frames.Forward.{Forward}
 use Rattle.dali_frame.specs.declared.frames.Answer.{Answer}
 use Rattle.dali_frame.specs.declared.frames.Answer.TheVariants.{Silence, Byte, Damaged}
@@ -16,17 +16,17 @@ use Rattle.dali_special.proofs.Table.{read_spelled}
 use Rattle.dali_script.specs.declared.block.Block.{Block}
 use Rattle.dali_script.specs.declared.trace.Entry.{Entry}
 use Rattle.dali_script.specs.declared.stage.Stage.{Stage}
-use Rattle.dali_script.specs.declared.stage.Stage.TheVariants.{Free, Terminated, InitialisedOnce, Initialised, RandomisedOnce, HighSent, MiddleSent, NumberSent}
-use Rattle.dali_script.specs.declared.stage.Stage.TheVariants.{Found, Unnamed, Inconclusive, Programmed, Confirmed, HighAsked, MiddleAsked, Spelled}
+use Rattle.dali_script.specs.declared.stage.Stage.TheVariants.{Free, Terminated, InitialisedOnce, Initialised, RandomisedOnce, HighSent, MiddleSent, LowSent, Hunted, NumberSent}
+use Rattle.dali_script.specs.declared.stage.Stage.TheVariants.{Found, Unnamed, Inconclusive, Programmed, Confirmed, HighAsked, MiddleAsked, Spelled, Over}
 use Rattle.dali_script.specs.declared.finding.Finding.{Finding}
 use Rattle.dali_script.specs.declared.finding.Finding.TheVariants.{Queried, Resolved}
 use Rattle.dali_script.specs.Records.{Assignment}
-use Rattle.dali_script.specs.Scripts.{Step, steps, IsFront, Lawful, IsLawful}
+use Rattle.dali_script.specs.Scripts.{is_asking, Step, steps, IsFront, Lawful, IsLawful}
 use Rattle.dali_script.specs.Findings.{search_after, at_power_on, search_from, search_of, Asked, nothing, asked_after, asked_from, asked_of, found_by, later}
 use Rattle.dali_script.specs.Findings.{finding_from, finding_of}
-use Rattle.dali_script.proofs.Transactions.{self, equal, middle_next, low_next, middle_same, low_same, Tracks, tracks, follows_lawful, stage_none, stage_more}
+use Rattle.dali_script.proofs.Transactions.{positive, asks_hunting, self, equal, middle_next, low_next, middle_same, low_same, Tracks, tracks, follows_lawful, stage_none, stage_more}
 use Rattle.dali_script.proofs.Senders.{sent_more}
-use Rattle.dali_script.specs.Stages.{named, queried, answered, verified, byte_heard, bytes_heard, number_heard, next_stage, stage_from, stage_of, Follows}
+use Rattle.dali_script.specs.Stages.{hunted, named, queried, answered, verified, byte_heard, bytes_heard, number_heard, next_stage, stage_from, stage_of, Follows}
 use Rattle.dali_script.specs.Stages.{finding_at, IsSearched, IsAsked, IsTrace}
 
 -- What is kept beside the stage of a trace: the search address, what queries of a random address were heard as, and the
@@ -145,6 +145,23 @@ says_low a c bytes h r q found same k =
     (later found (found_by r q (RandomByte n Low) h))) (sym same)
     (subst (λ s. Says s r (asked_after (RandomByte a Low) h q) (later found (found_by r q (RandomByte a Low) h))) (sym (low_next a bytes h)) at)
 
+-- one more frame of a hunt
+says_asking : (b : Block) (xs : List Assignment) (n : SearchAddress) (last : Option Answer) (left : ℕ) (c : Command) (h : Answer) (r : SearchAddress) (q : Asked)
+    (found : Option Finding)
+    → Follows b xs (Hunted n last left) c → Says (Hunted n last left) r q found
+    → Says (next_stage (Hunted n last left) c h) (search_after c r) (asked_after c h q) (later found (found_by r q c h))
+says_asking b xs n last left c h r q found on k = rw (positive left asks.0) (asked c asks.1) where
+  asks : (0 < left) × (is_asking c ≡ true)
+  asks = asks_hunting n last left c on.leads_on
+
+  asked : (c : Command) → is_asking c ≡ true
+      → Says (unwrap_or (hunted n (left - 1) c h) Over) (search_after c r) (asked_after c h q) (later found (found_by r q c h))
+  asked (SearchHigh high) asks = record { searched = ap (λ (m : SearchAddress). record m { high = high }) k.searched; asked = tt; finding = k.finding }
+  asked (SearchMiddle middle) asks = record { searched = ap (λ (m : SearchAddress). record m { middle = middle }) k.searched; asked = tt; finding = k.finding }
+  asked (SearchLow low) asks = record { searched = ap (λ (m : SearchAddress). record m { low = low }) k.searched; asked = tt; finding = k.finding }
+  asked Compare asks = record { searched = k.searched; asked = tt; finding = k.finding }
+  asked _ asks = absurd (cc)
+
 says_more : (b : Block) (xs : List Assignment) (s : Stage) (c : Command) (h : Answer) (r : SearchAddress) (q : Asked) (found : Option Finding)
     → Follows b xs s c → Says s r q found → Says (next_stage s c h) (search_after c r) (asked_after c h q) (later found (found_by r q c h))
 says_more b xs Free Terminate h r q found on k = record { searched = tt; asked = tt; finding = k.finding }
@@ -161,6 +178,13 @@ says_more b xs (MiddleSent high middle) (SearchLow low) h r q found on k = recor
   asked = tt;
   finding = k.finding;
 }
+says_more b xs (HighSent high) (SearchLow low) h r q found on k = record { searched = (k.searched, refl); asked = tt; finding = k.finding }
+says_more b xs (LowSent high low) (SearchMiddle middle) h r q found on k = record {
+  searched = ap (λ n. record { high = n; middle = middle; low = r.low }) k.searched.0 ∙ ap (λ n. record { high = high; middle = middle; low = n }) k.searched.1;
+  asked = tt;
+  finding = k.finding;
+}
+says_more b xs (Hunted n last left) c h r q found on k = says_asking b xs n last left c h r q found on k
 says_more b xs (NumberSent n) Compare h r q found on k = record { searched = k.searched; asked = tt; finding = k.finding }
 says_more b xs (NumberSent n) QueryShort h r q found on k = says_at (queried n h) r n q nothing found h k.searched k.finding (queried_says n q nothing h)
 says_more b xs (Found n c) Withdraw h r q found on k = record { searched = k.searched; asked = tt; finding = k.finding }

@@ -75,14 +75,14 @@ sent_from_at before (x ∷ t) (suc i) d sent inside =
 pub sent_at : (t : List Entry) (i : ℕ) (d : Entry) → IsTransaction t → i < length t → IsLawful (take i t) (get_or t i d).frame
 sent_at t i d sent inside = sent_from_at [] t i d sent inside
 
--- a transaction has at most seven frames
-sent_from_short : (before t : List Entry) → length before ≤ 7 → AreSent before t → length before + length t ≤ 7
+-- a transaction has at most eight frames
+sent_from_short : (before t : List Entry) → length before ≤ 8 → AreSent before t → length before + length t ≤ 8
 sent_from_short before [] short sent = omega arith
 sent_from_short before (e ∷ t) short sent =
-    let less : length before < 7 = room sent.0.0 sent.0.1 before e.frame sent.0.2 in
+    let less : length before < 8 = room sent.0.0 sent.0.1 before e.frame sent.0.2 in
     let more : length (before ++ e ∷ []) ≡ length before + 1 = length-append before (e ∷ []) in
-    let rest : length (before ++ e ∷ []) + length t ≤ 7 = sent_from_short (before ++ e ∷ []) t (omega arith) sent.1 in
+    let rest : length (before ++ e ∷ []) + length t ≤ 8 = sent_from_short (before ++ e ∷ []) t (omega arith) sent.1 in
     omega arith
 
-pub sent_short : (t : List Entry) → IsTransaction t → length t ≤ 7
-sent_short t sent = let short : 0 + length t ≤ 7 = sent_from_short [] t (omega arith) sent in omega arith
+pub sent_short : (t : List Entry) → IsTransaction t → length t ≤ 8
+sent_short t sent = let short : 0 + length t ≤ 8 = sent_from_short [] t (omega arith) sent in omega arith

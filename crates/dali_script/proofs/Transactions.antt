@@ -1,7 +1,8 @@
 use Rattle.std.proofs.Common.{◌≡◌, ◌⊎◌, inl, inr, ℕ, ◌<◌, ◌≤◌, Bool, true, false, List, [], ◌∷◌, ◌++◌, refl, sym, ap, subst, ◌∙◌, arith, length, lit<, lit≤}
 use Rattle.std.proofs.Common.{Option, Some, None}
-use Rattle.std.specs.Prelude.{◌==◌, if◌then◌else◌, unwrap_or, is_some, IfSome}
+use Rattle.std.specs.Prelude.{◌==◌, ◌-◌, if◌then◌else◌, not, map, unwrap_or, is_some, IfSome}
 use Rattle.std.proofs.lemmas.Bool.Decides.{nat_tests}
+use Rattle.std.proofs.lemmas.List.{length-map}
 use Rattle.dali_frame.specs.declared.frames.Forward.{Forward}
 use Rattle.dali_frame.specs.declared.frames.Answer.{Answer}
 use Rattle.dali_frame.specs.declared.frames.Answer.TheVariants.{Silence, Byte, Damaged}
@@ -19,15 +20,15 @@ use Rattle.dali_special.proofs.Table.{code_of_short, short_of_code, short_small,
 use Rattle.dali_script.specs.declared.block.Block.{Block}
 use Rattle.dali_script.specs.declared.trace.Entry.{Entry}
 use Rattle.dali_script.specs.declared.stage.Stage.{Stage}
-use Rattle.dali_script.specs.declared.stage.Stage.TheVariants.{Free, Terminated, InitialisedOnce, Initialised, RandomisedOnce, Opened, HighSent, MiddleSent}
+use Rattle.dali_script.specs.declared.stage.Stage.TheVariants.{Free, Terminated, InitialisedOnce, Initialised, RandomisedOnce, Opened, HighSent, MiddleSent, LowSent, Hunted}
 use Rattle.dali_script.specs.declared.stage.Stage.TheVariants.{NumberSent, Probed, Found, Unnamed, Unanswered, Inconclusive, Programmed, Confirmed, Withdrawn}
 use Rattle.dali_script.specs.declared.stage.Stage.TheVariants.{HighAsked, MiddleAsked, Spelled, Over}
 use Rattle.dali_script.specs.Records.{Assignment, HasAddress}
-use Rattle.dali_script.specs.Scripts.{no_address, some_address, address, IsHeard, Step, sends, queries, search_at, Script, Open, Probe, Look, Give, Resolve}
-use Rattle.dali_script.specs.Scripts.{Close, ArcPower, steps, MayGive, MaySend, IsFront, Lawful, IsFirst, IsComplete, IsFrame, GoesOn}
+use Rattle.dali_script.specs.Scripts.{no_address, some_address, address, IsHeard, Step, sends, queries, search_at, Script, Open, Probe, Hunt, Look, Give, Resolve}
+use Rattle.dali_script.specs.Scripts.{is_asking, AreAsking, ASKING, Close, ArcPower, steps, MayGive, MaySend, IsFront, Lawful, IsFirst, IsComplete, IsFrame, GoesOn}
 use Rattle.dali_script.proofs.Lists.{has_map}
 use Rattle.dali_script.proofs.Giving.{first_of_both, second_of_both, may_give_by, may_give_from, may_give_some_by, may_give_some_from}
-use Rattle.dali_script.specs.Stages.{leads, given, may_give_if, follows, may_follow, named, queried, answered, verified, byte_heard, bytes_heard, number_heard}
+use Rattle.dali_script.specs.Stages.{leads, hunted, IsHunting, given, may_give_if, follows, may_follow, named, queried, answered, verified, byte_heard, bytes_heard, number_heard}
 use Rattle.dali_script.specs.Stages.{next_stage, stage_from, stage_of, Follows}
 
 pub turn : {b : Block} {xs : List Assignment} {s : Stage} {c : Command} → is_some (leads s c Silence) ≡ true → given s c ≡ None → Follows b xs s c
@@ -111,12 +112,52 @@ tracks_middle b xs a high = (
       (tracks_low b xs a (bytes_heard high h)),
 )
 
+-- a hunt goes on with what it asks with, as long as frames may follow
+abbrev HuntGoesOn : ℕ → (Answer → Option Stage) → Type 0
+HuntGoesOn left go = (is_some (go Silence) ≡ true) × ((h : Answer) → (r : SearchAddress) × (last : Option Answer) × (unwrap_or (go h) Over ≡ Hunted r last left))
+
+hunt_asks : (r : SearchAddress) (left : ℕ) (c : Command) → is_asking c ≡ true → HuntGoesOn left (λ h. hunted r left c h)
+hunt_asks r left (SearchHigh high) asks = (refl, λ h. (_, _, refl))
+hunt_asks r left (SearchMiddle middle) asks = (refl, λ h. (_, _, refl))
+hunt_asks r left (SearchLow low) asks = (refl, λ h. (_, _, refl))
+hunt_asks r left Compare asks = (refl, λ h. (_, _, refl))
+hunt_asks r left _ asks = absurd (cc)
+
+pub positive : (left : ℕ) → 0 < left → (left == 0) ≡ false
+positive left some = grind (arith, nat_tests)
+
+hunt_leads : (r : SearchAddress) (last : Option Answer) (left : ℕ) (c : Command) → 0 < left → is_asking c ≡ true
+    → HuntGoesOn (left - 1) (λ h. leads (Hunted r last left) c h)
+hunt_leads r last left c some asks = rw (positive left some) (hunt_asks r (left - 1) c asks)
+
+tracks_hunt : (b : Block) (xs : List Assignment) (r : SearchAddress) (last : Option Answer) (left : ℕ) (cs : List Command) → AreAsking cs → length cs ≤ left
+    → Tracks b xs (Hunted r last left) (map sends cs)
+unfolding Tracks
+tracks_hunt b xs r last left [] ask few = tt
+tracks_hunt b xs r last left (c ∷ cs) ask few =
+    let on = hunt_leads r last left c (omega arith) ask.0 in (
+      turn on.0 refl,
+      λ spelled h w. let there = on.1 h in
+          subst (λ s. Tracks b xs s (map sends cs)) (sym there.2) (tracks_hunt b xs there.0 there.1 (left - 1) cs ask.1 (omega arith)),
+    )
+
 pub tracks : (b : Block) (xs : List Assignment) (s : Script) → MaySend b xs s → Tracks b xs Free (steps s)
 unfolding Tracks
 tracks b xs Open may =
     (turn refl refl, λ a h w. (turn refl refl, λ a h w. (turn refl refl, λ a h w. (turn refl refl, λ a h w. (turn refl refl, λ a h w. tt)))))
 tracks b xs (Probe r) may =
     (turn refl refl, λ a h w. (turn refl refl, λ a h w. (turn refl refl, λ a h w. (turn refl refl, λ a h w. tt))))
+tracks b xs (Hunt r cs) may = (
+  turn refl refl,
+  λ a h w. (
+    turn refl refl,
+    λ a h w. (
+      turn refl refl,
+      λ a h w.
+          tracks_hunt b xs (record { high = r.high; middle = r.middle; low = r.low }) None ASKING cs may.0 may.1,
+    ),
+  ),
+)
 tracks b xs (Look r) may =
     (turn refl refl, λ a h w. (turn refl refl, λ a h w. (turn refl refl, λ a h w. (turn refl refl, λ a h w. tracks_look b xs r h w))))
 tracks b xs (Give r n) may =
@@ -158,6 +199,12 @@ data Rest (b : Block) (xs : List Assignment) : Stage → List Step → Type 0 wh
   at_middle : (high middle low : ℕ) (ss : List Step) → Tail b xs (record { high = high; middle = middle; low = low }) ss
       → Rest b xs (MiddleSent high middle) (sends (SearchLow low) ∷ ss)
   at_number : (r : SearchAddress) (ss : List Step) → Tail b xs r ss → Rest b xs (NumberSent r) ss
+  at_high_low : (r : SearchAddress) (cs : List Command) → AreAsking cs → length cs ≤ ASKING
+      → Rest b xs (HighSent r.high) (sends (SearchLow r.low) ∷ sends (SearchMiddle r.middle) ∷ map sends cs)
+  at_low : (r : SearchAddress) (cs : List Command) → AreAsking cs → length cs ≤ ASKING
+      → Rest b xs (LowSent r.high r.low) (sends (SearchMiddle r.middle) ∷ map sends cs)
+  at_hunted : (r : SearchAddress) (last : Option Answer) (left : ℕ) (cs : List Command) → AreAsking cs → length cs ≤ left
+      → Rest b xs (Hunted r last left) (map sends cs)
   at_found : (r : SearchAddress) (c : ℕ) → Rest b xs (Found r c) (sends Withdraw ∷ [])
   at_unnamed : (r : SearchAddress) (a : ℕ) → MayGive b xs r a → Rest b xs (Unnamed r) (sends (Program (Some a)) ∷ queries (address a) ∷ sends Withdraw ∷ [])
   at_programmed : (r : SearchAddress) (a : ℕ) → MayGive b xs r a → Rest b xs (Programmed r a) (queries (address a) ∷ sends Withdraw ∷ [])
@@ -255,15 +302,48 @@ before_low b xs a c bytes h ss k = go (c == a) k where
   go true k = absurd (nothing_spelled b xs a (number_heard bytes h) ss k)
   go false k = absurd (nothing_over b xs ss k)
 
+before_hunting : (b : Block) (xs : List Assignment) (high middle low left : ℕ) (r : SearchAddress) (last : Option Answer) (h : Answer) (ss : List Step)
+    → r ≡ record { high = high; middle = middle; low = low } → left ≡ ASKING → Rest b xs (Hunted r last left) ss
+    → Before b xs (LowSent high low) (SearchMiddle middle) h ss
+before_hunting b xs high middle low _ _ _ h _ is room (at_hunted r last left cs ask few) =
+    let n : SearchAddress = record { high = high; middle = middle; low = low } in
+    (sends (SearchMiddle middle), refl, tt, at_low n cs ask (subst (λ m. length cs ≤ m) room few))
+
+-- one more frame of a hunt, before what is left of it
+before_asking : (b : Block) (xs : List Assignment) (r n : SearchAddress) (last next : Option Answer) (left : ℕ) (c : Command) (h : Answer) (ss : List Step)
+    → is_asking c ≡ true → 0 < left → Rest b xs (Hunted n next (left - 1)) ss → Before b xs (Hunted r last left) c h ss
+before_asking b xs r n last next left c h ss asks some k = go (left - 1) ss k refl where
+  go : (less : ℕ) (ss : List Step) → Rest b xs (Hunted n next less) ss → less ≡ left - 1 → Before b xs (Hunted r last left) c h ss
+  go _ _ (at_hunted _ _ less cs ask few) is = (sends c, refl, tt, at_hunted r last left (c ∷ cs) (asks, ask) (omega (arith, is)))
+
+before_hunted : (b : Block) (xs : List Assignment) (r : SearchAddress) (last : Option Answer) (left : ℕ) (c : Command) (h : Answer) (ss : List Step)
+    → Rest b xs (next_stage (Hunted r last left) c h) ss → Before b xs (Hunted r last left) c h ss
+before_hunted b xs r last left c h ss k = go (left == 0) refl k where
+  asked : (c : Command) → 0 < left → Rest b xs (unwrap_or (hunted r (left - 1) c h) Over) ss → Before b xs (Hunted r last left) c h ss
+  asked (SearchHigh high) some k = before_asking b xs r _ last _ left (SearchHigh high) h ss refl some k
+  asked (SearchMiddle middle) some k = before_asking b xs r _ last _ left (SearchMiddle middle) h ss refl some k
+  asked (SearchLow low) some k = before_asking b xs r _ last _ left (SearchLow low) h ss refl some k
+  asked Compare some k = before_asking b xs r _ last _ left Compare h ss refl some k
+  asked _ some k = absurd (nothing_over b xs ss k)
+
+  go : (t : Bool) → (left == 0) ≡ t → Rest b xs (unwrap_or (if t then None else hunted r (left - 1) c h) Over) ss → Before b xs (Hunted r last left) c h ss
+  go true none k = absurd (nothing_over b xs ss k)
+  go false some k = asked c (let there : 0 < left = grind (arith, nat_tests) in there) k
+
 before : (b : Block) (xs : List Assignment) (s : Stage) (c : Command) (h : Answer) (ss : List Step) → Rest b xs (next_stage s c h) ss → Before b xs s c h ss
 before b xs Free Terminate h _ at_terminated = (_, refl, tt, at_free Open tt)
 before b xs Free (SearchHigh _) h _ (at_high high middle low ss tail) = (_, refl, tt, whole b xs (record { high = high; middle = middle; low = low }) ss tail)
+before b xs Free (SearchHigh _) h _ (at_high_low r cs ask few) = (_, refl, tt, at_free (Hunt r cs) (ask, few))
 before b xs Free (RandomByte a High) h ss k = before_high_asked b xs a (byte_heard h) h ss k
 before b xs Terminated (Initialise Unaddressed) h _ at_initialised_once = (_, refl, tt, at_terminated)
 before b xs InitialisedOnce (Initialise Unaddressed) h _ at_initialised = (_, refl, tt, at_initialised_once)
 before b xs Initialised Randomise h _ at_randomised_once = (_, refl, tt, at_initialised)
 before b xs RandomisedOnce Randomise h ss k = elim k [ ]
 before b xs (HighSent _) (SearchMiddle _) h _ (at_middle high middle low ss tail) = (_, refl, tt, at_high high middle low ss tail)
+before b xs (HighSent _) (SearchLow _) h _ (at_low r cs ask few) = (_, refl, tt, at_high_low r cs ask few)
+before b xs (LowSent high low) (SearchMiddle middle) h ss k =
+    before_hunting b xs high middle low ASKING (record { high = high; middle = middle; low = low }) None h ss refl refl k
+before b xs (Hunted r last left) c h ss k = before_hunted b xs r last left c h ss k
 before b xs (MiddleSent high middle) (SearchLow low) h ss k =
     before_number b xs high middle low (record { high = high; middle = middle; low = low }) h ss refl k
 before b xs (NumberSent r) Compare h ss k = elim k [ ]
@@ -275,6 +355,21 @@ before b xs (Confirmed r a) Withdraw h ss k = elim k [ ]
 before b xs (HighAsked a high) (RandomByte c Middle) h ss k = before_middle b xs a c high h ss k
 before b xs (MiddleAsked a bytes) (RandomByte c Low) h ss k = before_low b xs a c bytes h ss k
 before b xs _ _ h ss k = elim k [ ]
+
+-- what leads on in a hunt asks, and there is room for it
+pub asks_hunting : (r : SearchAddress) (last : Option Answer) (left : ℕ) (c : Command) → is_some (leads (Hunted r last left) c Silence) ≡ true
+    → (0 < left) × (is_asking c ≡ true)
+asks_hunting r last left c on = go (left == 0) refl on where
+  asked : (c : Command) → is_some (hunted r (left - 1) c Silence) ≡ true → is_asking c ≡ true
+  asked (SearchHigh high) on = refl
+  asked (SearchMiddle middle) on = refl
+  asked (SearchLow low) on = refl
+  asked Compare on = refl
+  asked _ on = absurd (cc)
+
+  go : (t : Bool) → (left == 0) ≡ t → is_some (if t then None else hunted r (left - 1) c Silence) ≡ true → (0 < left) × (is_asking c ≡ true)
+  go true none on = absurd (cc)
+  go false some on = (let there : 0 < left = grind (arith, nat_tests) in there, asked c on)
 
 abbrev Ends : Block → List Assignment → Stage → Command → Type 0
 Ends b xs s c = (step : Step) × (more : List Step) × (c ≡ step.command) × Rest b xs s (step ∷ more)
@@ -288,6 +383,13 @@ ends b xs InitialisedOnce (Initialise Unaddressed) on = (_, _, refl, at_initiali
 ends b xs Initialised Randomise on = (_, _, refl, at_initialised)
 ends b xs RandomisedOnce Randomise on = (_, _, refl, at_randomised_once)
 ends b xs (HighSent high) (SearchMiddle middle) on = (_, _, refl, at_high high middle 0 _ probing)
+ends b xs (HighSent high) (SearchLow low) on =
+    (_, _, refl, at_high_low (record { high = high; middle = 0; low = low }) [] tt (lit≤ tt))
+ends b xs (LowSent high low) (SearchMiddle middle) on =
+    (_, _, refl, at_low (record { high = high; middle = middle; low = low }) [] tt (lit≤ tt))
+ends b xs (Hunted r last left) c on =
+    let asks = asks_hunting r last left c on.leads_on in
+    (_, _, refl, at_hunted r last left (c ∷ []) (asks.1, tt) (let some = asks.0 in omega arith))
 ends b xs (MiddleSent high middle) (SearchLow low) on = (_, _, refl, at_middle high middle low _ probing)
 ends b xs (NumberSent r) Compare on = (_, _, refl, at_number r _ probing)
 ends b xs (NumberSent r) QueryShort on = (_, _, refl, at_number r _ looking)
@@ -336,6 +438,10 @@ follows_from_test b xs s c e = record {
 
 -- where no frame may follow, none is lawful
 pub over : (b : Block) (xs : List Assignment) (s : Stage) (c : Command) → may_follow b xs s ≡ false → Follows b xs s c → ⊥
+over b xs (Hunted r last left) c e on =
+    let asks = asks_hunting r last left c on.leads_on in
+    let some : (left == 0) ≡ false = positive left asks.0 in
+    let none : not (left == 0) ≡ false = e in cc
 over b xs (Unnamed r) (Program (Some a)) e on = let some = may_give_some_by b xs r a on.may in cc
 over b xs (Programmed r a) c e on = let given = may_give_by b xs r a on.may in cc
 over b xs (Confirmed r a) c e on = let given = may_give_by b xs r a on.may in cc
@@ -382,6 +488,19 @@ small_low a c bytes h = go (c == a) where
   go true = tt
   go false = tt
 
+small_hunted : (r : SearchAddress) (last : Option Answer) (left : ℕ) (c : Command) (h : Answer) → Small (next_stage (Hunted r last left) c h)
+small_hunted r last left c h = go (left == 0) where
+  asked : (c : Command) → Small (unwrap_or (hunted r (left - 1) c h) Over)
+  asked (SearchHigh high) = tt
+  asked (SearchMiddle middle) = tt
+  asked (SearchLow low) = tt
+  asked Compare = tt
+  asked _ = tt
+
+  go : (t : Bool) → Small (unwrap_or (if t then None else hunted r (left - 1) c h) Over)
+  go true = tt
+  go false = asked c
+
 small_next : (s : Stage) (c : Command) (h : Answer) → IsSpelled c → Small s → Small (next_stage s c h)
 small_next Free (RandomByte a High) h spelled small = spelled
 small_next Terminated (Initialise Unaddressed) h spelled small = tt
@@ -390,6 +509,9 @@ small_next Initialised Randomise h spelled small = tt
 small_next RandomisedOnce Randomise h spelled small = tt
 small_next (HighSent high) (SearchMiddle middle) h spelled small = tt
 small_next (MiddleSent high middle) (SearchLow low) h spelled small = tt
+small_next (HighSent high) (SearchLow low) h spelled small = tt
+small_next (LowSent high low) (SearchMiddle middle) h spelled small = tt
+small_next (Hunted r last left) c h spelled small = small_hunted r last left c h
 small_next (Found r c) Withdraw h spelled small = tt
 small_next (Unnamed r) (Program (Some a)) h spelled small = tt
 small_next (Confirmed r a) Withdraw h spelled small = tt
@@ -422,6 +544,12 @@ next_last : (b : Block) (xs : List Assignment) (s : Stage) (a : ℕ) → a < 64 
     → given s (RandomByte a Low) ≡ None → Next b xs s
 next_last b xs s a small on none = (RandomByte a Low, small, (omega arith, lit< tt), turn on none)
 
+may_ask : (left : ℕ) → not (left == 0) ≡ true → 0 < left
+may_ask left e = go (left == 0) refl e where
+  go : (t : Bool) → (left == 0) ≡ t → not t ≡ true → 0 < left
+  go true none e = absurd (cc)
+  go false some e = grind (arith, nat_tests)
+
 pub next_at : (b : Block) (xs : List Assignment) → ((a : ℕ) → HasAddress xs a → a < 64) → (s : Stage) → Small s → may_follow b xs s ≡ true → Next b xs s
 next_at b xs small Free here e = (Terminate, tt, (lit< tt, lit< tt), turn refl refl)
 next_at b xs small Terminated here e = (Initialise Unaddressed, tt, (lit< tt, lit< tt), turn refl refl)
@@ -431,6 +559,10 @@ next_at b xs small RandomisedOnce here e = (Randomise, tt, (lit< tt, lit< tt), t
 next_at b xs small Opened here e = absurd (cc)
 next_at b xs small (HighSent high) here e = (SearchMiddle 0, tt, (lit< tt, lit< tt), turn refl refl)
 next_at b xs small (MiddleSent high middle) here e = (SearchLow 0, tt, (lit< tt, lit< tt), turn refl refl)
+next_at b xs small (LowSent high low) here e = (SearchMiddle 0, tt, (lit< tt, lit< tt), turn refl refl)
+next_at b xs small (Hunted r last left) here e =
+    let on = hunt_leads r last left Compare (may_ask left e) refl in
+    (Compare, tt, (lit< tt, lit< tt), turn on.0 refl)
 next_at b xs small (NumberSent r) here e = (Compare, tt, (lit< tt, lit< tt), turn refl refl)
 next_at b xs small (Probed r h) here e = absurd (cc)
 next_at b xs small (Found r c) here e = (Withdraw, tt, (lit< tt, lit< tt), turn refl refl)
@@ -467,65 +599,76 @@ pub stage_none : stage_of [] ≡ Free
 unfolding stage_of
 stage_none = refl
 
--- THERE IS ROOM: no script has more than seven frames
+-- THERE IS ROOM: no script has more than eight frames
 front_short : (t : List Entry) (f : Forward) (ss : List Step) → IsFront t f ss → length t < length ss
 front_short [] f [] front = absurd front
 front_short (e ∷ t) f [] front = absurd front
 front_short [] f (s ∷ ss) front = omega arith
 front_short (e ∷ t) f (s ∷ ss) front = let less : length t < length ss = front_short t f ss front.2 in omega arith
 
-script_short : (s : Script) → length (steps s) ≤ 7
-script_short Open = lit≤ tt
-script_short (Probe r) = lit≤ tt
-script_short (Look r) = lit≤ tt
-script_short (Give r a) = lit≤ tt
-script_short (Resolve a) = lit≤ tt
-script_short Close = lit≤ tt
-script_short (ArcPower f) = lit≤ tt
+script_short : (b : Block) (xs : List Assignment) (s : Script) → MaySend b xs s → length (steps s) ≤ 8
+script_short b xs Open may = lit≤ tt
+script_short b xs (Probe r) may = lit≤ tt
+script_short b xs (Hunt r cs) may = let few : length cs ≤ 5 = may.1 in let same : length (map sends cs) ≡ length cs = length-map cs sends in omega arith
+script_short b xs (Look r) may = lit≤ tt
+script_short b xs (Give r a) may = lit≤ tt
+script_short b xs (Resolve a) may = lit≤ tt
+script_short b xs Close may = lit≤ tt
+script_short b xs (ArcPower f) may = lit≤ tt
 
-pub room : (b : Block) (xs : List Assignment) (t : List Entry) (f : Forward) → Lawful b xs t f → length t < 7
+pub room : (b : Block) (xs : List Assignment) (t : List Entry) (f : Forward) → Lawful b xs t f → length t < 8
 room b xs t f lawful =
     let front : length t < length (steps lawful.0) = front_short t f (steps lawful.0) lawful.2 in
-    let short : length (steps lawful.0) ≤ 7 = script_short lawful.0 in
+    let short : length (steps lawful.0) ≤ 8 = script_short b xs lawful.0 lawful.1 in
     omega arith
+
+-- nothing but what a hunt asks with comes in one
+none_else : (r : SearchAddress) (last : Option Answer) (left : ℕ) (c : Command) → is_some (leads (Hunted r last left) c Silence) ≡ true → is_asking c ≡ false → ⊥
+none_else r last left c on other = let asks = (asks_hunting r last left c on).1 in cc
 
 -- which stage each command comes at
 at_initialise : (b : Block) (xs : List Assignment) (s : Stage) (c : Command) (g : Target) → Follows b xs s c → c ≡ Initialise g
     → (g ≡ Unaddressed) × ((s ≡ Terminated) ⊎ (s ≡ InitialisedOnce))
 at_initialise b xs Terminated (Initialise Unaddressed) g on e = (cc, inl refl)
 at_initialise b xs InitialisedOnce (Initialise Unaddressed) g on e = (cc, inr refl)
+at_initialise b xs (Hunted r last left) c g k e = absurd (none_else r last left c k.leads_on (ap is_asking e))
 at_initialise b xs _ _ g k e = absurd (let none = k.leads_on in cc)
 
 at_randomise : (b : Block) (xs : List Assignment) (s : Stage) (c : Command) → Follows b xs s c → c ≡ Randomise → (s ≡ Initialised) ⊎ (s ≡ RandomisedOnce)
 at_randomise b xs Initialised Randomise on e = inl refl
 at_randomise b xs RandomisedOnce Randomise on e = inr refl
+at_randomise b xs (Hunted r last left) c k e = absurd (none_else r last left c k.leads_on (ap is_asking e))
 at_randomise b xs _ _ k e = absurd (let none = k.leads_on in cc)
 
-at_compare : (b : Block) (xs : List Assignment) (s : Stage) (c : Command) → Follows b xs s c → c ≡ Compare → (r : SearchAddress) × (s ≡ NumberSent r)
-at_compare b xs (NumberSent r) Compare on e = (r, refl)
+at_compare : (b : Block) (xs : List Assignment) (s : Stage) (c : Command) → Follows b xs s c → c ≡ Compare
+    → ((r : SearchAddress) × (s ≡ NumberSent r)) ⊎ IsHunting s
+at_compare b xs (NumberSent r) Compare on e = inl (r, refl)
+at_compare b xs (Hunted r last left) c on e = inr (asks_hunting r last left c on.leads_on).0
 at_compare b xs _ _ k e = absurd (let none = k.leads_on in cc)
 
 at_query : (b : Block) (xs : List Assignment) (s : Stage) (c : Command) → Follows b xs s c → c ≡ QueryShort
     → (r : SearchAddress) × ((s ≡ NumberSent r) ⊎ ((a : ℕ) × (s ≡ Programmed r a) × MayGive b xs r a))
 at_query b xs (NumberSent r) QueryShort on e = (r, inl refl)
 at_query b xs (Programmed r a) QueryShort on e = (r, inr (a, refl, on.may))
+at_query b xs (Hunted r last left) c k e = absurd (none_else r last left c k.leads_on (ap is_asking e))
 at_query b xs _ _ k e = absurd (let none = k.leads_on in cc)
 
 at_program : (b : Block) (xs : List Assignment) (s : Stage) (c : Command) (o : Option ℕ) → Follows b xs s c → c ≡ Program o
     → (a : ℕ) × (r : SearchAddress) × (o ≡ Some a) × (s ≡ Unnamed r) × MayGive b xs r a
 at_program b xs (Unnamed r) (Program (Some a)) o on e = (a, r, cc, refl, on.may)
+at_program b xs (Hunted r last left) c o k e = absurd (none_else r last left c k.leads_on (ap is_asking e))
 at_program b xs _ _ o k e = absurd (let none = k.leads_on in cc)
 
 at_withdraw : (b : Block) (xs : List Assignment) (s : Stage) (c : Command) → Follows b xs s c → c ≡ Withdraw
     → (r : SearchAddress) × (a : ℕ) × ((s ≡ Found r a) ⊎ ((s ≡ Confirmed r a) × MayGive b xs r a))
 at_withdraw b xs (Found r a) Withdraw on e = (r, a, inl refl)
 at_withdraw b xs (Confirmed r a) Withdraw on e = (r, a, inr (refl, on.may))
+at_withdraw b xs (Hunted r last left) c k e = absurd (none_else r last left c k.leads_on (ap is_asking e))
 at_withdraw b xs _ _ k e = absurd (let none = k.leads_on in cc)
 
--- TERMINATE, SEARCHADDRH, QUERY RANDOM ADDRESS (H) and arc power stand first alone
+-- TERMINATE, QUERY RANDOM ADDRESS (H) and arc power stand first alone
 is_first : Command → Bool
 is_first Terminate = true
-is_first (SearchHigh high) = true
 is_first (RandomByte a High) = true
 is_first (Arc f) = true
 is_first _ = false
@@ -549,26 +692,32 @@ front_first [] f ss none front first = refl
 front_first (e ∷ t) f [] none front first = absurd front
 front_first (e ∷ t) f (step ∷ more) none front first = absurd (none_later_first t f more none front.2 first)
 
-script_first : (s : Script) → NoLaterFirst (steps s)
+none_asking : (cs : List Command) → AreAsking cs → NoFirst (map sends cs)
 unfolding is_first
-script_first Open = (refl, (refl, (refl, (refl, tt))))
-script_first (Probe r) = (refl, (refl, (refl, tt)))
-script_first (Look r) = (refl, (refl, (refl, (refl, tt))))
-script_first (Give r a) = (refl, (refl, (refl, (refl, (refl, (refl, tt))))))
-script_first (Resolve a) = (refl, (refl, tt))
-script_first Close = tt
-script_first (ArcPower g) = tt
+none_asking [] ask = tt
+none_asking (SearchHigh high ∷ cs) ask = (refl, none_asking cs ask.1)
+none_asking (SearchMiddle middle ∷ cs) ask = (refl, none_asking cs ask.1)
+none_asking (SearchLow low ∷ cs) ask = (refl, none_asking cs ask.1)
+none_asking (Compare ∷ cs) ask = (refl, none_asking cs ask.1)
+none_asking (_ ∷ cs) ask = absurd (let no = ask.0 in cc)
+
+script_first : (b : Block) (xs : List Assignment) (s : Script) → MaySend b xs s → NoLaterFirst (steps s)
+unfolding is_first
+script_first b xs Open may = (refl, (refl, (refl, (refl, tt))))
+script_first b xs (Probe r) may = (refl, (refl, (refl, tt)))
+script_first b xs (Hunt r cs) may = (refl, (refl, none_asking cs may.0))
+script_first b xs (Look r) may = (refl, (refl, (refl, (refl, tt))))
+script_first b xs (Give r a) may = (refl, (refl, (refl, (refl, (refl, (refl, tt))))))
+script_first b xs (Resolve a) may = (refl, (refl, tt))
+script_first b xs Close may = tt
+script_first b xs (ArcPower g) may = tt
 
 first_alone : (b : Block) (xs : List Assignment) (t : List Entry) (f : Forward) → Lawful b xs t f → is_first (command_of f) ≡ true → t ≡ []
-first_alone b xs t f lawful first = front_first t f (steps lawful.0) (script_first lawful.0) lawful.2 first
+first_alone b xs t f lawful first = front_first t f (steps lawful.0) (script_first b xs lawful.0 lawful.1) lawful.2 first
 
 pub terminate_first : (b : Block) (xs : List Assignment) (t : List Entry) (f : Forward) → Lawful b xs t f → command_of f ≡ Terminate → t ≡ []
 unfolding is_first
 terminate_first b xs t f lawful e = first_alone b xs t f lawful (ap is_first e)
-
-pub search_high_first : (b : Block) (xs : List Assignment) (t : List Entry) (f : Forward) (high : ℕ) → Lawful b xs t f → command_of f ≡ SearchHigh high → t ≡ []
-unfolding is_first
-search_high_first b xs t f high lawful e = first_alone b xs t f lawful (ap is_first e)
 
 pub arc_first : (b : Block) (xs : List Assignment) (t : List Entry) (f g : Forward) → Lawful b xs t f → command_of f ≡ Arc g → t ≡ []
 unfolding is_first
@@ -584,6 +733,20 @@ free_is_empty t e =
     let b : Block = record { first = 0; last = 0 } in
     let read : command_of (frame_of Terminate) ≡ Terminate = read_written Terminate tt in
     terminate_first b [] t (frame_of Terminate) (lawful_follows b [] t (frame_of Terminate) (rw (e, read) (turn refl refl))) read
+
+-- SEARCHADDRH stands first, or in a hunt
+at_search_high : (b : Block) (xs : List Assignment) (s : Stage) (c : Command) (high : ℕ) → Follows b xs s c → c ≡ SearchHigh high
+    → (s ≡ Free) ⊎ IsHunting s
+at_search_high b xs Free (SearchHigh n) high on e = inl refl
+at_search_high b xs (Hunted r last left) c high on e = inr (asks_hunting r last left c on.leads_on).0
+at_search_high b xs _ _ high k e = absurd (let none = k.leads_on in cc)
+
+pub search_high_first : (b : Block) (xs : List Assignment) (t : List Entry) (f : Forward) (high : ℕ) → Lawful b xs t f → command_of f ≡ SearchHigh high
+    → (t ≡ []) ⊎ IsHunting (stage_of t)
+search_high_first b xs t f high lawful e = go (at_search_high b xs (stage_of t) (command_of f) high (follows_lawful b xs t f lawful) e) where
+  go : (stage_of t ≡ Free) ⊎ IsHunting (stage_of t) → (t ≡ []) ⊎ IsHunting (stage_of t)
+  go (inl free) = inl (free_is_empty t free)
+  go (inr hunting) = inr hunting
 
 first_of : (b : Block) (xs : List Assignment) (s : Stage) (c : Command) → Follows b xs s c → s ≡ Free
     → (c ≡ Terminate) ⊎ (((high : ℕ) × (c ≡ SearchHigh high)) ⊎ (((g : Forward) × (c ≡ Arc g)) ⊎ ((a : ℕ) × (c ≡ RandomByte a High))))
@@ -630,7 +793,7 @@ pub randomise_at : (b : Block) (xs : List Assignment) (t : List Entry) (f : Forw
 randomise_at b xs t f lawful e = at_randomise b xs (stage_of t) (command_of f) (follows_lawful b xs t f lawful) e
 
 pub compare_at : (b : Block) (xs : List Assignment) (t : List Entry) (f : Forward) → Lawful b xs t f → command_of f ≡ Compare
-    → (r : SearchAddress) × (stage_of t ≡ NumberSent r)
+    → ((r : SearchAddress) × (stage_of t ≡ NumberSent r)) ⊎ IsHunting (stage_of t)
 compare_at b xs t f lawful e = at_compare b xs (stage_of t) (command_of f) (follows_lawful b xs t f lawful) e
 
 pub query_at : (b : Block) (xs : List Assignment) (t : List Entry) (f : Forward) → Lawful b xs t f → command_of f ≡ QueryShort

@@ -25,7 +25,7 @@ use Rattle.dali_script.specs.Scripts.{Lawful, IsFirst, MayGive, IsComplete, Goes
 use Rattle.dali_script.specs.Findings.{search_after, search_of, asked_after, asked_of}
 use Rattle.dali_script.specs.Findings.{found_by, later, finding_of}
 use Rattle.dali_script.specs.Stages.{Follows, follows, may_follow, next_stage, stage_of, finding_at}
-use Rattle.dali_script.specs.Stages.{IsSearched, IsAsked}
+use Rattle.dali_script.specs.Stages.{IsSearched, IsAsked, IsHunting}
 
 -- What a front of a script says, in the words that a site and a machine use. Each is proved: see
 -- the module `laws`.
@@ -69,7 +69,7 @@ pub record StagesSayWhatWasSentAndFound : Type 0 where
       → Lawful b xs t e.frame → finding_of (t ++ e ∷ []) ≡ finding_at (stage_of (t ++ e ∷ []))
 
 -- A transaction begins with TERMINATE, SEARCHADDRH, QUERY RANDOM ADDRESS (H) or direct arc power,
--- and none of these comes later in one.
+-- and none of these comes later in one, but SEARCHADDRH in a hunt.
 pub record TransactionsBeginOnce : Type 0 where
   pub begins : (b : Block) (xs : List Assignment) (f : Forward) → Lawful b xs [] f ↔ IsFirst f
   pub first : (f : Forward)
@@ -80,7 +80,7 @@ pub record TransactionsBeginOnce : Type 0 where
   pub terminate : (b : Block) (xs : List Assignment) (t : List Entry) (f : Forward)
       → Lawful b xs t f → command_of f ≡ Terminate → t ≡ []
   pub search_high : (b : Block) (xs : List Assignment) (t : List Entry) (f : Forward) (high : ℕ)
-      → Lawful b xs t f → command_of f ≡ SearchHigh high → t ≡ []
+      → Lawful b xs t f → command_of f ≡ SearchHigh high → (t ≡ []) ⊎ IsHunting (stage_of t)
   pub arc : (b : Block) (xs : List Assignment) (t : List Entry) (f g : Forward) → Lawful b xs t f
       → command_of f ≡ Arc g → t ≡ []
   pub random_high : (b : Block) (xs : List Assignment) (t : List Entry) (f : Forward) (a : ℕ)
@@ -101,7 +101,8 @@ pub record OpeningsBeginWithTerminate : Type 0 where
 -- reserved for their number.
 pub record GearAreSearchedAnew : Type 0 where
   pub compare : (b : Block) (xs : List Assignment) (t : List Entry) (f : Forward) → Lawful b xs t f
-      → command_of f ≡ Compare → (r : SearchAddress) × (stage_of t ≡ NumberSent r)
+      → command_of f ≡ Compare
+      → ((r : SearchAddress) × (stage_of t ≡ NumberSent r)) ⊎ IsHunting (stage_of t)
   pub query : (b : Block) (xs : List Assignment) (t : List Entry) (f : Forward) → Lawful b xs t f
       → command_of f ≡ QueryShort
       → (r : SearchAddress)
@@ -114,11 +115,11 @@ pub record GearAreSearchedAnew : Type 0 where
       → (r : SearchAddress) × (a : ℕ)
       × ((stage_of t ≡ Found r a) ⊎ ((stage_of t ≡ Confirmed r a) × MayGive b xs r a))
 
--- No script has more than seven frames; and where the test says so, no frame may follow, else one
+-- No script has more than eight frames; and where the test says so, no frame may follow, else one
 -- may.
 pub record TransactionsEnd : Type 0 where
   pub room : (b : Block) (xs : List Assignment) (t : List Entry) (f : Forward) → Lawful b xs t f
-      → length t < 7
+      → length t < 8
   pub complete : (b : Block) (xs : List Assignment) (t : List Entry)
       → may_follow b xs (stage_of t) ≡ false → IsComplete b xs t
   pub goes_on : (b : Block) (xs : List Assignment) (t : List Entry)

@@ -1,4 +1,5 @@
-use Rattle.std.specs.Prelude.{◌≡◌, ℕ, ◌<◌, List, [], ◌∷◌, ◌++◌, Some}
+use Rattle.std.specs.Prelude.{◌≡◌, ℕ, ◌<◌, ◌≤◌, Bool, true, false, List, [], ◌∷◌, ◌++◌, map, length}
+use Rattle.std.specs.Prelude.{Some}
 use Rattle.dali_frame.specs.declared.frames.Forward.{Forward}
 use Rattle.dali_frame.specs.declared.frames.Answer.{Answer}
 use Rattle.dali_frame.specs.declared.frames.Answer.TheVariants.{Byte}
@@ -48,11 +49,28 @@ abbrev pub search_at : SearchAddress → List Step → List Step
 search_at r more =
     sends (SearchHigh r.high) ∷ sends (SearchMiddle r.middle) ∷ sends (SearchLow r.low) ∷ more
 
+-- what a hunt asks with: a search byte that is sent anew, or COMPARE
+abbrev pub is_asking : Command → Bool
+is_asking (SearchHigh high) = true
+is_asking (SearchMiddle middle) = true
+is_asking (SearchLow low) = true
+is_asking Compare = true
+is_asking _ = false
+
+abbrev pub AreAsking : List Command → Type 0
+AreAsking [] = Unit {0}
+AreAsking (c ∷ cs) = (is_asking c ≡ true) × AreAsking cs
+
+-- how many frames of a hunt may follow its first three: eight in all
+abbrev pub ASKING : ℕ
+ASKING = 5
+
 -- THE SCRIPTS: all that a transaction of commissioning may be (this project's profile of IEC
 -- 62386-102:2014, special commands and queries of the random address).
 pub data Script : Type 0 where
   Open : Script
   Probe : SearchAddress → Script
+  Hunt : SearchAddress → List Command → Script
   Look : SearchAddress → Script
   Give : SearchAddress → ℕ → Script
   Resolve : ℕ → Script
@@ -64,6 +82,10 @@ steps Open =
     sends Terminate ∷ sends (Initialise Unaddressed) ∷ sends (Initialise Unaddressed)
     ∷ sends Randomise ∷ sends Randomise ∷ []
 steps (Probe r) = search_at r (sends Compare ∷ [])
+-- the low byte before the middle one, so that it is no probe from there on
+steps (Hunt r cs) =
+    sends (SearchHigh r.high) ∷ sends (SearchLow r.low) ∷ sends (SearchMiddle r.middle)
+    ∷ map sends cs
 steps (Look r) = search_at r (queries some_address ∷ sends Withdraw ∷ [])
 steps (Give r a) =
     search_at r (queries no_address ∷ sends (Program (Some a)) ∷ queries (address a)
@@ -82,6 +104,7 @@ pub record MayGive (b : Block) (reserved : List Assignment) (r : SearchAddress)
   pub reserved_for : Has reserved (a, value_of r)
 
 abbrev pub MaySend : Block → List Assignment → Script → Type 0
+MaySend b reserved (Hunt r cs) = AreAsking cs × (length cs ≤ ASKING)
 MaySend b reserved (Give r a) = MayGive b reserved r a
 MaySend b reserved _ = Unit {0}
 

@@ -1,5 +1,5 @@
-use Rattle.std.specs.Prelude.{◌≡◌, ℕ, Bool, true, false, ◌&&◌, ◌==◌, nat_lt, nat_le, if◌then◌else◌}
-use Rattle.std.specs.Prelude.{List, [], ◌∷◌, Option, Some, None, option_map, unwrap_or, is_some}
+use Rattle.std.specs.Prelude.{◌≡◌, ℕ, ◌<◌, Bool, true, false, not, ◌&&◌, ◌==◌, nat_lt, nat_le, if◌then◌else◌}
+use Rattle.std.specs.Prelude.{List, [], ◌∷◌, Option, Some, None, option_map, unwrap_or, is_some, ◌-◌}
 use Rattle.std.specs.Prelude.{IfSome}
 use Rattle.std.specs.List.{list_any}
 use Rattle.dali_frame.specs.declared.frames.Answer.{Answer}
@@ -21,7 +21,7 @@ use Rattle.dali_script.specs.declared.trace.Entry.{Entry}
 use Rattle.dali_script.specs.declared.stage.Stage.{Stage}
 use Rattle.dali_script.specs.declared.stage.Stage.TheVariants.{Free, Terminated, InitialisedOnce}
 use Rattle.dali_script.specs.declared.stage.Stage.TheVariants.{Initialised, RandomisedOnce, Opened}
-use Rattle.dali_script.specs.declared.stage.Stage.TheVariants.{HighSent, MiddleSent, NumberSent}
+use Rattle.dali_script.specs.declared.stage.Stage.TheVariants.{HighSent, MiddleSent, NumberSent, LowSent, Hunted}
 use Rattle.dali_script.specs.declared.stage.Stage.TheVariants.{Probed, Found, Unnamed, Unanswered}
 use Rattle.dali_script.specs.declared.stage.Stage.TheVariants.{Inconclusive, Programmed, Confirmed}
 use Rattle.dali_script.specs.declared.stage.Stage.TheVariants.{Withdrawn, HighAsked}
@@ -29,7 +29,7 @@ use Rattle.dali_script.specs.declared.stage.Stage.TheVariants.{MiddleAsked, Spel
 use Rattle.dali_script.specs.declared.finding.Finding.{Finding}
 use Rattle.dali_script.specs.declared.finding.Finding.TheVariants.{Queried, Resolved}
 use Rattle.dali_script.specs.Records.{Assignment}
-use Rattle.dali_script.specs.Scripts.{MayGive, IsTransaction}
+use Rattle.dali_script.specs.Scripts.{MayGive, IsTransaction, ASKING}
 use Rattle.dali_script.specs.Findings.{search_of, Asked, nothing, high_byte, two_bytes}
 use Rattle.dali_script.specs.Findings.{asked_of, finding_of}
 
@@ -54,6 +54,14 @@ answered r a None = Inconclusive r None
 abbrev pub verified : SearchAddress → ℕ → Answer → Stage
 verified r a (Byte v) = answered r a (short_of v)
 verified r a _ = Inconclusive r None
+
+-- after one more frame of a hunt, where so many may follow it
+abbrev pub hunted : SearchAddress → ℕ → Command → Answer → Option Stage
+hunted r left (SearchHigh high) h = Some (Hunted (record r { high = high }) None left)
+hunted r left (SearchMiddle middle) h = Some (Hunted (record r { middle = middle }) None left)
+hunted r left (SearchLow low) h = Some (Hunted (record r { low = low }) None left)
+hunted r left Compare h = Some (Hunted r (Some h) left)
+hunted r left _ h = None
 
 -- after a query of a byte of a random address: all bytes so far, where each was heard
 abbrev pub byte_heard : Answer → Option ℕ
@@ -80,6 +88,10 @@ leads InitialisedOnce (Initialise Unaddressed) h = Some Initialised
 leads Initialised Randomise h = Some RandomisedOnce
 leads RandomisedOnce Randomise h = Some Opened
 leads (HighSent high) (SearchMiddle middle) h = Some (MiddleSent high middle)
+leads (HighSent high) (SearchLow low) h = Some (LowSent high low)
+leads (LowSent high low) (SearchMiddle middle) h =
+    Some (Hunted (record { high = high; middle = middle; low = low }) None ASKING)
+leads (Hunted r last left) c h = if left == 0 then None else hunted r (left - 1) c h
 leads (MiddleSent high middle) (SearchLow low) h =
     Some (NumberSent (record { high = high; middle = middle; low = low }))
 leads (NumberSent r) Compare h = Some (Probed r h)
@@ -105,6 +117,11 @@ stage_from s (e ∷ t) = stage_from (next_stage s (command_of e.frame) e.heard) 
 -- script.
 unfoldable pub stage_of : List Entry → Stage
 stage_of t = stage_from Free t
+
+-- a hunt that goes on: all three bytes of its search address were sent
+abbrev pub IsHunting : Stage → Type 0
+IsHunting (Hunted r last left) = 0 < left
+IsHunting _ = ⊥
 
 -- which address is given to the gear at which search address, by PROGRAM SHORT ADDRESS and by what
 -- comes after it
@@ -152,6 +169,7 @@ may_give_some b reserved n =
 abbrev pub may_follow : Block → List Assignment → Stage → Bool
 may_follow b reserved Opened = false
 may_follow b reserved (Probed r h) = false
+may_follow b reserved (Hunted r last left) = not (left == 0)
 may_follow b reserved (Unnamed r) = may_give_some b reserved (value_of r)
 may_follow b reserved (Unanswered r) = false
 may_follow b reserved (Inconclusive r other) = false
@@ -176,6 +194,8 @@ abbrev pub IsSearched : Stage → SearchAddress → Type 0
 IsSearched (HighSent high) r = r.high ≡ high
 IsSearched (MiddleSent high middle) r = (r.high ≡ high) × (r.middle ≡ middle)
 IsSearched (NumberSent n) r = r ≡ n
+IsSearched (LowSent high low) r = (r.high ≡ high) × (r.low ≡ low)
+IsSearched (Hunted n last left) r = r ≡ n
 IsSearched (Probed n h) r = r ≡ n
 IsSearched (Found n b) r = r ≡ n
 IsSearched (Unnamed n) r = r ≡ n

@@ -27,7 +27,7 @@ pub fn stages_say_what_was_sent_and_found()
 {}
 
 /// A transaction begins with TERMINATE, SEARCHADDRH, QUERY RANDOM ADDRESS (H) or direct arc power, and none of these
-/// comes later in one.
+/// comes later in one, but SEARCHADDRH in a hunt.
 pub fn transactions_begin_once()
     ensures { TransactionsBeginOnce }
 {}
@@ -43,7 +43,7 @@ pub fn gear_are_searched_anew()
     ensures { GearAreSearchedAnew }
 {}
 
-/// No script has more than seven frames; and where the test says so, no frame may follow, else one may.
+/// No script has more than eight frames; and where the test says so, no frame may follow, else one may.
 pub fn transactions_end()
     ensures { TransactionsEnd }
 {}

@@ -1,6 +1,6 @@
 ghost use Rattle.std.specs.Prelude.{◌≡◌};
 ghost use Rattle.dali_script.specs.Commands.{is_initialise, is_query};
-ghost use Rattle.dali_script.specs.Stages.{byte_heard, bytes_heard, number_heard};
+ghost use Rattle.dali_script.specs.Stages.{hunted, byte_heard, bytes_heard, number_heard};
 ghost use Rattle.dali_script.specs.declared.stage.Stage.TheVariants.{Free};
 
 use crate::finding::Finding;
@@ -29,6 +29,11 @@ pub enum Stage {
     MiddleSent(u8, u8),
     /// All of the search address was sent.
     NumberSent(SearchAddress),
+    /// SEARCHADDRH and SEARCHADDRL were sent: the start of a hunt.
+    LowSent(u8, u8),
+    /// A hunt is under way: its search address as it is now; what was heard after COMPARE, where that was sent last; and how
+    /// many frames may follow.
+    Hunted(SearchAddress, Option<Answer>, u8),
     /// COMPARE was sent, and this was heard.
     Probed(SearchAddress, Answer),
     /// QUERY SHORT ADDRESS was heard as this short address.
@@ -61,6 +66,9 @@ impl Stage {
     ghost use Rattle.dali_script.specs.Stages.{leads, next_stage, queried, verified, follows, given, may_follow};
     ghost use Rattle.dali_script.specs.Stages.{finding_at, may_come};
 
+    /// How many frames of a hunt may follow its first three: eight in all.
+    const ASKING: u8 = 5;
+
     /// The stage that the first command of a script leads to.
     fn first(command: Command, heard: Answer) -> Option<Stage>
         ensures { result ≡ leads Free command heard }
@@ -91,8 +99,17 @@ impl Stage {
             Stage::RandomisedOnce if matches!(command, Command::Randomise) => Some(Stage::Opened),
             Stage::HighSent(high) => match command {
                 Command::SearchMiddle(middle) => Some(Stage::MiddleSent(high, middle)),
+                Command::SearchLow(low) => Some(Stage::LowSent(high, low)),
                 _ => None,
             },
+            Stage::LowSent(high, low) => match command {
+                Command::SearchMiddle(middle) => {
+                    let number = SearchAddress { high, middle, low };
+                    Some(Stage::Hunted(number, None, Stage::ASKING))
+                }
+                _ => None,
+            },
+            Stage::Hunted(number, _, left) if left > 0 => hunted(number, left - 1, command, heard),
             Stage::MiddleSent(high, middle) => match command {
                 Command::SearchLow(low) => {
                     Some(Stage::NumberSent(SearchAddress { high, middle, low }))
@@ -193,6 +210,7 @@ impl Stage {
             | Stage::Withdrawn(..)
             | Stage::Spelled(..)
             | Stage::Over => false,
+            Stage::Hunted(_, _, left) => left > 0,
             _ => true,
         }
     }
@@ -259,6 +277,26 @@ fn is_query(command: Command, short: Short, part: Part) -> bool
     match command {
         Command::RandomByte(other, asked) => asked == part && other == short,
         _ => false,
+    }
+}
+
+/// The stage after one more frame of a hunt, where so many may follow it.
+fn hunted(number: SearchAddress, left: u8, command: Command, heard: Answer) -> Option<Stage>
+    ensures { result ≡ hunted number left command heard }
+{
+    let SearchAddress { high, middle, low } = number;
+    match command {
+        Command::SearchHigh(high) => {
+            Some(Stage::Hunted(SearchAddress { high, middle, low }, None, left))
+        }
+        Command::SearchMiddle(middle) => {
+            Some(Stage::Hunted(SearchAddress { high, middle, low }, None, left))
+        }
+        Command::SearchLow(low) => {
+            Some(Stage::Hunted(SearchAddress { high, middle, low }, None, left))
+        }
+        Command::Compare => Some(Stage::Hunted(number, Some(heard), left)),
+        _ => None,
     }
 }
 

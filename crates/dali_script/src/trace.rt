@@ -38,7 +38,7 @@ impl Default for Entry {
     }
 }
 
-/// The frames of a running transaction, each with what was heard. No script has more than seven.
+/// The frames of a running transaction, each with what was heard. No script has more than eight.
 ///
 /// Contracts see the list of entries, oldest first.
 #[derive(Drop)]
@@ -112,7 +112,7 @@ impl Trace {
     pub fn entries(&self) -> &[Entry]
         ensures value { result.now ≡ self.now }
         ensures sent { IsTransaction self.now }
-        ensures short { length self.now ≤ 7 }
+        ensures short { length self.now ≤ 8 }
     {
         &self.entries
     }

@@ -6,7 +6,7 @@ use Rattle.dali_script.proofs.trace.Trace.push.Goals as goal
 pub push-requires : goal.push-requires
 push-requires c =
     let lawful = rw (← c.self.view_is) at c.requires in
-    let short : length c.self.inside.entries.items < 7 = room lawful.0 lawful.1 c.self.inside.entries.items c.args.frame lawful.2 in
+    let short : length c.self.inside.entries.items < 8 = room lawful.0 lawful.1 c.self.inside.entries.items c.args.frame lawful.2 in
     omega arith
 
 pub invariant_of-self : goal.invariant_of-self
