@@ -3,7 +3,7 @@ use Rattle.dali_frame.specs.declared.numbers.SearchAddress.{SearchAddress}
 use Rattle.dali_special.specs.declared.command.Command.{Command}
 use Rattle.dali_script.specs.declared.stage.Stage.{Stage}
 use Rattle.dali_script.specs.declared.stage.Stage.TheVariants.{Free, Terminated, InitialisedOnce, Initialised, RandomisedOnce, Opened, HighSent, MiddleSent}
-use Rattle.dali_script.specs.declared.stage.Stage.TheVariants.{NumberSent}
+use Rattle.dali_script.specs.declared.stage.Stage.TheVariants.{NumberSent, LowSent, Hunted}
 use Rattle.dali_script.specs.declared.stage.Stage.TheVariants.{Probed, Found, Unnamed, Unanswered, Inconclusive, Programmed, Confirmed, Withdrawn, HighAsked}
 use Rattle.dali_script.specs.declared.stage.Stage.TheVariants.{MiddleAsked, Spelled, Over}
 use Rattle.dali_controller.specs.declared.purpose.Purpose.{Purpose}
@@ -23,6 +23,8 @@ chosen n p Opened c b free unnamed is = is
 chosen n p (HighSent high) c b free unnamed is = is
 chosen n p (MiddleSent high middle) c b free unnamed is = is
 chosen n p (NumberSent r) c b free unnamed is = is
+chosen n p (LowSent high low) c b free unnamed is = is
+chosen n p (Hunted r last left) c b free unnamed is = is
 chosen n p (Probed r h) c b free unnamed is = is
 chosen n p (Found r a) c b free unnamed is = is
 chosen n p (Unanswered r) c b free unnamed is = is

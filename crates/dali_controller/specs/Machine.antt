@@ -15,7 +15,7 @@ use Rattle.dali_script.specs.declared.stage.Stage.TheVariants.{HighAsked, Middle
 use Rattle.dali_script.specs.declared.stage.Stage.TheVariants.{Free, Terminated, InitialisedOnce}
 use Rattle.dali_script.specs.declared.stage.Stage.TheVariants.{RandomisedOnce, HighSent, MiddleSent}
 use Rattle.dali_script.specs.declared.stage.Stage.TheVariants.{NumberSent, Probed, Found, Unnamed}
-use Rattle.dali_script.specs.declared.stage.Stage.TheVariants.{Programmed, Confirmed, Over}
+use Rattle.dali_script.specs.declared.stage.Stage.TheVariants.{LowSent, Hunted, Programmed, Confirmed, Over}
 use Rattle.dali_script.specs.Records.{Kept, with_record}
 use Rattle.dali_script.specs.Findings.{later, finding_of}
 use Rattle.dali_script.specs.Stages.{stage_of, may_follow}
@@ -121,6 +121,8 @@ marked_at Opened h heard = heard
 marked_at (HighSent high) h heard = heard
 marked_at (MiddleSent high middle) h heard = heard
 marked_at (NumberSent r) h heard = heard
+marked_at (LowSent high low) h heard = heard
+marked_at (Hunted r last left) h heard = heard
 marked_at (Probed r answer) h heard = heard
 marked_at (Found r b) h heard = heard
 marked_at (Unnamed r) h heard = heard
@@ -153,6 +155,8 @@ asked_at Opened h n = 0
 asked_at (HighSent high) h n = 0
 asked_at (MiddleSent high middle) h n = 0
 asked_at (NumberSent r) h n = 0
+asked_at (LowSent high low) h n = 0
+asked_at (Hunted r last left) h n = 0
 asked_at (Probed r answer) h n = 0
 asked_at (Found r b) h n = 0
 asked_at (Unnamed r) h n = 0

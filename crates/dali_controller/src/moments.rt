@@ -356,6 +356,8 @@ impl State {
             | Stage::HighSent(_)
             | Stage::MiddleSent(..)
             | Stage::NumberSent(_)
+            | Stage::LowSent(..)
+            | Stage::Hunted(..)
             | Stage::Found(..)
             | Stage::Programmed(..)
             | Stage::Confirmed(..)

@@ -172,7 +172,9 @@ fn is_met(stage: &Stage, purpose: Purpose, number: SearchAddress) -> bool
     match *stage {
         Stage::HighSent(high) => number.high == high,
         Stage::MiddleSent(high, middle) => number.high == high && number.middle == middle,
+        Stage::LowSent(high, low) => number.high == high && number.low == low,
         Stage::NumberSent(sent)
+        | Stage::Hunted(sent, ..)
         | Stage::Probed(sent, _)
         | Stage::Found(sent, _)
         | Stage::Unnamed(sent)

@@ -9,7 +9,7 @@ use Rattle.dali_gear.specs.Gear.{Gear, is_active}
 use Rattle.dali_gear.specs.Row.{answers_of}
 use Rattle.dali_script.specs.declared.trace.Entry.{Entry}
 use Rattle.dali_script.specs.declared.stage.Stage.{Stage}
-use Rattle.dali_script.specs.declared.stage.Stage.TheVariants.{NumberSent, Found, Unnamed}
+use Rattle.dali_script.specs.declared.stage.Stage.TheVariants.{NumberSent, Hunted, Found, Unnamed}
 use Rattle.dali_script.specs.declared.stage.Stage.TheVariants.{Programmed, Confirmed}
 use Rattle.dali_script.specs.Scripts.{Open, steps, IsFront}
 use Rattle.dali_script.specs.Findings.{search_of}
@@ -44,9 +44,11 @@ frame_in (event.Expired g) = None
 frame_in (event.Down c) = None
 frame_in (event.Up c kept) = None
 
--- the search address of a transaction, from SEARCHADDRL on until a COMPARE or a WITHDRAW
+-- the search address of a transaction: from the third of its search bytes on, until the COMPARE of
+-- a probe or a WITHDRAW; in a hunt always
 abbrev pub number_at : Stage → Option SearchAddress
 number_at (NumberSent r) = Some r
+number_at (Hunted r last left) = Some r
 number_at (Found r b) = Some r
 number_at (Unnamed r) = Some r
 number_at (Programmed r a) = Some r

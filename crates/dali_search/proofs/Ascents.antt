@@ -124,7 +124,7 @@ from_silent a is some = found (a.found == 0) where
   found false = anew a.is_anew refl
 
 -- and from the fourth on each asks FFFFFE
-from_fourth : (a : Ascent) → a.is_anew ≡ false → 4 ≤ a.steps → from_known a ≡ 0xFFFFFE
+pub from_fourth : (a : Ascent) → a.is_anew ≡ false → 4 ≤ a.steps → from_known a ≡ 0xFFFFFE
 from_fourth a new most = grind (arith, nat_tests)
 
 -- ---------------------------------------------------------------- what an answer leaves

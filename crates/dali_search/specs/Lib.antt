@@ -1,3 +1,4 @@
 pub mod Ascending
 pub mod Least
 pub mod Narrowing
+pub mod Questions

@@ -1,9 +1,8 @@
-use Rattle.std.proofs.Common.{◌≡◌, ℕ, ◌<◌, ◌⊎◌, inl, inr, sym, ap, subst, ◌∙◌, length, map, get_or, replicate, Some, None}
+use Rattle.std.proofs.Common.{◌≡◌, ℕ, ◌<◌, inl, inr, sym, ap, subst, ◌∙◌, map, get_or, replicate, Some, None}
 use Rattle.dali_gear.specs.Gear.{fresh}
 use Rattle.dali_script.specs.Records.{Has}
 use Rattle.dali_script.proofs.Lists.{has_map}
-use Rattle.dali_events.specs.declared.used.Used.{Used}
-use Rattle.dali_events.specs.Used.{gear_of_used, earlier_gift, with_used}
+use Rattle.dali_events.specs.Used.{earlier_gift, with_used}
 use Rattle.dali_events.specs.Plan.{Plan, AreUsed}
 use Rattle.dali_events.specs.World.{start}
 use Rattle.dali_events.proofs.Invariant.Starting.{IsUsedOrFresh, row_at, start_count, gear_of, shorts_of, gift_of_used, drawn_at, given_at, stands_at}

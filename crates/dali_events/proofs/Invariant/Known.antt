@@ -1,5 +1,5 @@
 use Rattle.std.proofs.Common.{◌≡◌, ℕ, ◌<◌, ◌⊎◌, inl, inr, Bool, true, false, List, refl, sym, ap, subst, ◌∙◌, arith, Option, Some, None}
-use Rattle.std.specs.Prelude.{◌&&◌, ◌==◌, if◌then◌else◌, unwrap_or}
+use Rattle.std.specs.Prelude.{◌-◌, ◌&&◌, ◌==◌, if◌then◌else◌, unwrap_or}
 use Rattle.std.proofs.lemmas.Bool.Decides.{nat_tests}
 use Rattle.dali_frame.specs.declared.frames.Answer.{Answer}
 use Rattle.dali_frame.specs.declared.frames.Answer.TheVariants.{Silence, Byte, Damaged}
@@ -10,7 +10,7 @@ use Rattle.dali_special.specs.declared.command.Part.TheVariants.{High, Middle, L
 use Rattle.dali_special.specs.declared.command.Target.TheVariants.{Unaddressed}
 use Rattle.dali_special.specs.declared.command.Command.{Command}
 use Rattle.dali_special.specs.declared.command.Command.TheVariants.{Terminate, Initialise, Randomise, Withdraw, SearchHigh, SearchMiddle, SearchLow, Program}
-use Rattle.dali_special.specs.declared.command.Command.TheVariants.{QueryShort, RandomByte}
+use Rattle.dali_special.specs.declared.command.Command.TheVariants.{QueryShort, Compare, RandomByte}
 use Rattle.dali_special.specs.Command.{MASK, program_data, IsSpelled}
 use Rattle.dali_special.proofs.Table.{short_of_code}
 use Rattle.dali_gear.specs.declared.state.InitialisationState.TheVariants.{Enabled}
@@ -22,7 +22,8 @@ use Rattle.dali_script.specs.declared.stage.Stage.{Stage}
 use Rattle.dali_script.specs.declared.stage.Stage.TheVariants as stage
 use Rattle.dali_script.specs.Records.{Assignment}
 use Rattle.dali_script.specs.Scripts.{MayGive}
-use Rattle.dali_script.specs.Stages.{Follows, next_stage, queried, named, verified, answered, bytes_heard, number_heard, IsSearched}
+use Rattle.dali_script.proofs.Transactions.{asks_hunting}
+use Rattle.dali_script.specs.Stages.{Follows, next_stage, hunted, queried, named, verified, answered, bytes_heard, number_heard, IsSearched}
 
 -- WHAT A STAGE SAYS OF EACH POWERED GEAR that takes part in the initialisation
 abbrev pub IsActive : Gear → Type 0
@@ -42,6 +43,8 @@ Knows stage.RandomisedOnce g = Unnumbered g
 Knows (stage.HighSent high) g = IsActive g → g.search.high ≡ high
 Knows (stage.MiddleSent high middle) g = IsActive g → (g.search.high ≡ high) × (g.search.middle ≡ middle)
 Knows (stage.NumberSent r) g = Seeks r g
+Knows (stage.LowSent high low) g = IsActive g → (g.search.high ≡ high) × (g.search.low ≡ low)
+Knows (stage.Hunted r last left) g = Seeks r g
 Knows (stage.Found r b) g = IsActive g → (g.search ≡ r) × (g.random ≡ value_of r → g.short ≡ Some b)
 Knows (stage.Unnamed r) g = IsActive g → (g.search ≡ r) × (g.random ≡ value_of r → g.short ≡ None)
 Knows (stage.Programmed r a) g = Seeks r g
@@ -141,6 +144,21 @@ knows_low a d bytes h g = go (d == a) where
   go true = tt
   go false = tt
 
+-- one more frame of a hunt
+knows_hunted : (r : SearchAddress) (last : Option Answer) (left : ℕ) (c : Command) (h : Answer) (g : Gear) (x : ℕ) → Seeks r g
+    → Knows (next_stage (stage.Hunted r last left) c h) (gear_taken c x g)
+knows_hunted r last left c h g x k = go (left == 0) where
+  asked : (c : Command) → Knows (unwrap_or (hunted r (left - 1) c h) stage.Over) (gear_taken c x g)
+  asked (SearchHigh high) = λ active. rw active (ap (λ (n : SearchAddress). record n { high = high }) (k active))
+  asked (SearchMiddle middle) = λ active. rw active (ap (λ (n : SearchAddress). record n { middle = middle }) (k active))
+  asked (SearchLow low) = λ active. rw active (ap (λ (n : SearchAddress). record n { low = low }) (k active))
+  asked Compare = k
+  asked _ = tt
+
+  go : (t : Bool) → Knows (unwrap_or (if t then None else hunted r (left - 1) c h) stage.Over) (gear_taken c x g)
+  go true = tt
+  go false = asked c
+
 pub knows_step : (b : Block) (xs : List Assignment) (s : Stage) (c : Command) (h : Answer) (g : Gear) (x : ℕ)
     → Follows b xs s c → IsShort g → Agrees c g h → Knows s g → Knows (next_stage s c h) (gear_taken c x g)
 knows_step b xs stage.Free Terminate h g x on small agrees k = λ active. absurd (cc)
@@ -152,6 +170,11 @@ knows_step b xs (stage.HighSent high) (SearchMiddle middle) h g x on small agree
 knows_step b xs (stage.MiddleSent high middle) (SearchLow low) h g x on small agrees k = λ active.
     rw active (ap (λ n. record { high = n; middle = g.search.middle; low = low }) (k active).0
     ∙ ap (λ n. record { high = high; middle = n; low = low }) (k active).1)
+knows_step b xs (stage.HighSent high) (SearchLow low) h g x on small agrees k = λ active. rw active (k active, refl)
+knows_step b xs (stage.LowSent high low) (SearchMiddle middle) h g x on small agrees k = λ active.
+    rw active (ap (λ n. record { high = n; middle = middle; low = g.search.low }) (k active).0
+    ∙ ap (λ n. record { high = high; middle = middle; low = n }) (k active).1)
+knows_step b xs (stage.Hunted r last left) c h g x on small agrees k = knows_hunted r last left c h g x k
 knows_step b xs (stage.NumberSent r) QueryShort h g x on small agrees k = knows_queried r h g x small agrees k
 knows_step b xs (stage.Unnamed r) (Program (Some a)) h g x on small agrees k = λ active. (k active).0
 knows_step b xs (stage.Programmed r a) QueryShort h g x on small agrees k = knows_verified r a h g x small agrees k
@@ -172,6 +195,8 @@ knows_inactive stage.RandomisedOnce g off = λ active. absurd (cc)
 knows_inactive (stage.HighSent high) g off = λ active. absurd (cc)
 knows_inactive (stage.MiddleSent high middle) g off = λ active. absurd (cc)
 knows_inactive (stage.NumberSent r) g off = λ active. absurd (cc)
+knows_inactive (stage.LowSent high low) g off = λ active. absurd (cc)
+knows_inactive (stage.Hunted r last left) g off = λ active. absurd (cc)
 knows_inactive (stage.Found r a) g off = λ active. absurd (cc)
 knows_inactive (stage.Unnamed r) g off = λ active. absurd (cc)
 knows_inactive (stage.Programmed r a) g off = λ active. absurd (cc)
@@ -187,6 +212,8 @@ knows_quieted stage.RandomisedOnce g k = k
 knows_quieted (stage.HighSent high) g k = k
 knows_quieted (stage.MiddleSent high middle) g k = k
 knows_quieted (stage.NumberSent r) g k = k
+knows_quieted (stage.LowSent high low) g k = k
+knows_quieted (stage.Hunted r last left) g k = k
 knows_quieted (stage.Found r a) g k = k
 knows_quieted (stage.Unnamed r) g k = k
 knows_quieted (stage.Programmed r a) g k = k
@@ -242,6 +269,7 @@ new_from b xs (stage.Unnamed r) (Program (Some d)) g a on k e = go (is_active g.
       record { number = r; random = random; none = (k active).1 random; may = subst (λ n. MayGive b xs r n) (let same : d ≡ a = cc in same) on.may }
   go true false active found e = absurd (cc)
   go false f active found e = absurd (cc)
+new_from b xs (stage.Hunted r last left) (Program short) g a on k e = absurd (let asks = asks_hunting r last left (Program short) on.leads_on in let other = asks.1 in cc)
 new_from b xs _ (Program short) g a on k e = absurd (let none = on.leads_on in cc)
 new_from b xs _ _ g a on k e = absurd (cc)
 
@@ -253,6 +281,7 @@ short_stays b xs (stage.Unnamed r) (Program (Some d)) g a on k e = go (is_active
   go true true active found = absurd (let none : g.short ≡ None = (k active).1 (found_random g r (k active).0 found) in cc)
   go true false active found = e
   go false f active found = e
+short_stays b xs (stage.Hunted r last left) (Program short) g a on k e = absurd (let asks = asks_hunting r last left (Program short) on.leads_on in let other = asks.1 in cc)
 short_stays b xs _ (Program short) g a on k e = absurd (let none = on.leads_on in cc)
 short_stays b xs _ _ g a on k e = e
 
@@ -268,6 +297,7 @@ pub random_stays : (b : Block) (xs : List Assignment) (s : Stage) (c : Command) 
     → random_after c x g ≡ g.random
 random_stays b xs stage.Initialised Randomise g x a on k e = rw (drawing_none g a k e) refl
 random_stays b xs stage.RandomisedOnce Randomise g x a on k e = rw (drawing_none g a k e) refl
+random_stays b xs (stage.Hunted r last left) Randomise g x a on k e = absurd (let asks = asks_hunting r last left Randomise on.leads_on in let other = asks.1 in cc)
 random_stays b xs _ Randomise g x a on k e = absurd (let none = on.leads_on in cc)
 random_stays b xs _ _ g x a on k e = refl
 
@@ -281,4 +311,5 @@ pub search_known : (b : Block) (xs : List Assignment) (s : Stage) (c : Command) 
     → IsSearched s r → Knows s g → IsActive g → g.search ≡ r
 search_known b xs (stage.NumberSent n) QueryShort g r on is searched k active = k active ∙ sym searched
 search_known b xs (stage.Programmed n a) QueryShort g r on is searched k active = k active ∙ sym searched
+search_known b xs (stage.Hunted n last left) QueryShort g r on is searched k active = k active ∙ sym searched
 search_known b xs _ _ g r on is searched k active = absurd (let none = on.leads_on in cc)

@@ -2,7 +2,7 @@ use Rattle.std.proofs.Common.{◌≡◌, ℕ, ◌<◌, ◌⊎◌, inl, inr, List
 use Rattle.std.proofs.lemmas.List.{get_or-map, length-map}
 use Rattle.dali_script.specs.declared.records.Record.{Record}
 use Rattle.dali_script.specs.declared.records.Record.TheVariants.{Reserve}
-use Rattle.dali_script.specs.Records.{Assignment, Kept, Has, IsOnce, HasAddress, with_record}
+use Rattle.dali_script.specs.Records.{Assignment, Kept, Has, HasAddress, with_record}
 use Rattle.dali_script.proofs.Lists.{has_map, reserved_by}
 use Rattle.dali_script.proofs.Members.{Each, same_member, mapped_from}
 use Rattle.dali_script.specs.declared.orders.Input.{Input}

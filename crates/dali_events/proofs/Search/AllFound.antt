@@ -22,7 +22,7 @@ use Rattle.dali_script.specs.declared.stage.Stage.TheVariants as stage
 use Rattle.dali_script.specs.Records.{Assignment, Has}
 use Rattle.dali_script.specs.Scripts.{Open, steps, IsFront}
 use Rattle.dali_script.specs.Findings.{search_of}
-use Rattle.dali_script.specs.Stages.{Follows, next_stage, stage_of, IsSearched}
+use Rattle.dali_script.specs.Stages.{Follows, next_stage, stage_of, IsSearched, IsHunting}
 use Rattle.dali_script.proofs.Transactions.{stage_more, stage_none, terminate_first, compare_at}
 use Rattle.dali_script.proofs.Found.{searched_lawful}
 use Rattle.dali_events.specs.declared.event.Event.{Event}
@@ -213,10 +213,13 @@ ready_answers g r enabled below search highest =
         let below : m ≤ n = omega arith in
         grind (arith, nat_tests)
 
-number_seeks : (s : Stage) (g : Gear) (q : SearchAddress) → (r : SearchAddress) × (s ≡ stage.NumberSent r) → IsSearched s q → Knows s g → IsActive g
+number_seeks : (s : Stage) (g : Gear) (q : SearchAddress) → ((r : SearchAddress) × (s ≡ stage.NumberSent r)) ⊎ IsHunting s → IsSearched s q → Knows s g
+    → IsActive g
     → g.search ≡ q
-number_seeks s g q at search_of knows active =
+number_seeks s g q (inl at) search_of knows active =
     subst (λ x. Knows x g) at.1 knows active ∙ sym (subst (λ x. IsSearched x q) at.1 search_of)
+number_seeks (stage.Hunted r last left) g q (inr some) search_of knows active = knows active ∙ sym search_of
+number_seeks _ g q (inr none) search_of knows active = absurd none
 
 compare_finds : (w : World) (c : ℕ) (f : Forward) (h : Answer) → Allowed w (event.Sent c f h) → IsKnown w → command_of f ≡ Compare
     → value_of (search_of (trace_running w c)) ≡ HIGHEST

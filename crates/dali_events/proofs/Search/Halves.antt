@@ -157,6 +157,7 @@ no_short_at_randomise p capacity log e f run is command =
 -- THE SEARCH ADDRESS
 seeks_at : (s : Stage) (g : Gear) (r : SearchAddress) → number_at s ≡ Some r → Knows s g → IsActive g → g.search ≡ r
 seeks_at (stage.NumberSent n) g r e k active = k active ∙ (let same : n ≡ r = cc in same)
+seeks_at (stage.Hunted n last left) g r e k active = k active ∙ (let same : n ≡ r = cc in same)
 seeks_at (stage.Found n b) g r e k active = (k active).0 ∙ (let same : n ≡ r = cc in same)
 seeks_at (stage.Unnamed n) g r e k active = (k active).0 ∙ (let same : n ≡ r = cc in same)
 seeks_at (stage.Programmed n a) g r e k active = k active ∙ (let same : n ≡ r = cc in same)

@@ -1,6 +1,6 @@
 use Rattle.std.proofs.Common.{◌≡◌, ℕ, ◌+◌, ◌<◌, ◌≤◌, ◌⊎◌, inl, inr, Bool, true, false, zero, suc, List, [], ◌∷◌, refl, sym, subst, arith, length, get_or}
 use Rattle.std.proofs.Common.{Option, Some, None, add-zero, zero-add}
-use Rattle.std.specs.Prelude.{◌&&◌, ◌==◌, if◌then◌else◌, unwrap_or}
+use Rattle.std.specs.Prelude.{◌-◌, ◌&&◌, ◌==◌, if◌then◌else◌, unwrap_or}
 use Rattle.dali_frame.specs.declared.frames.Answer.{Answer}
 use Rattle.dali_frame.specs.declared.frames.Answer.TheVariants.{Silence, Byte, Damaged}
 use Rattle.dali_frame.specs.declared.numbers.SearchAddress.{SearchAddress}
@@ -9,8 +9,8 @@ use Rattle.dali_frame.specs.Random.{value_of, MASK24}
 use Rattle.dali_special.specs.declared.command.Part.TheVariants.{High, Middle, Low}
 use Rattle.dali_special.specs.declared.command.Target.TheVariants.{Unaddressed}
 use Rattle.dali_special.specs.declared.command.Command.{Command}
-use Rattle.dali_special.specs.declared.command.Command.TheVariants.{Terminate, Initialise, Randomise, Withdraw, SearchMiddle, SearchLow, Program, QueryShort}
-use Rattle.dali_special.specs.declared.command.Command.TheVariants.{RandomByte}
+use Rattle.dali_special.specs.declared.command.Command.TheVariants.{Terminate, Initialise, Randomise, Withdraw, SearchHigh, SearchMiddle, SearchLow, Program, QueryShort}
+use Rattle.dali_special.specs.declared.command.Command.TheVariants.{Compare, RandomByte}
 use Rattle.dali_special.specs.Command.{MASK}
 use Rattle.dali_gear.specs.declared.state.InitialisationState.TheVariants.{Enabled, Withdrawn}
 use Rattle.dali_gear.specs.declared.row.Reach.{Reach}
@@ -21,7 +21,9 @@ use Rattle.dali_script.specs.declared.block.Block.{Block}
 use Rattle.dali_script.specs.declared.stage.Stage.{Stage}
 use Rattle.dali_script.specs.declared.stage.Stage.TheVariants as stage
 use Rattle.dali_script.specs.Records.{Assignment, Has}
-use Rattle.dali_script.specs.Stages.{Follows, next_stage, queried, named, verified, answered, bytes_heard, number_heard}
+use Rattle.dali_script.specs.Scripts.{is_asking}
+use Rattle.dali_script.proofs.Transactions.{asks_hunting}
+use Rattle.dali_script.specs.Stages.{Follows, next_stage, hunted, queried, named, verified, answered, bytes_heard, number_heard}
 use Rattle.dali_events.proofs.Invariant.Known.{Knows, IsActive, found_random}
 
 -- WITH NUMBERS ENOUGH, who would draw draws one of them
@@ -127,6 +129,19 @@ remembers_initialise g half = rw half refl
 remembers_randomise : (g : Gear) → g.half ≡ None → half_after Randomise g ≡ Some Randomise
 remembers_randomise g half = rw half refl
 
+opens_hunted : (r : SearchAddress) (last : Option Answer) (left : ℕ) (c : Command) (h : Answer) (g : Gear) → Opens (next_stage (stage.Hunted r last left) c h) g
+opens_hunted r last left c h g = go (left == 0) where
+  asked : (c : Command) → Opens (unwrap_or (hunted r (left - 1) c h) stage.Over) g
+  asked (SearchHigh high) = tt
+  asked (SearchMiddle middle) = tt
+  asked (SearchLow low) = tt
+  asked Compare = tt
+  asked _ = tt
+
+  go : (t : Bool) → Opens (unwrap_or (if t then None else hunted r (left - 1) c h) stage.Over) g
+  go true = tt
+  go false = asked c
+
 pub opens_step : (b : Block) (xs : List Assignment) (s : Stage) (c : Command) (h : Answer) (g : Gear) (x : ℕ)
     → Follows b xs s c → (g.short ≡ None → Opens s g) → short_after c g ≡ None → Opens (next_stage s c h) (gear_taken c x g)
 opens_step b xs stage.Free Terminate h g x on k none = refl
@@ -138,6 +153,9 @@ opens_step b xs (stage.Programmed r a) QueryShort h g x on k none = opens_verifi
 opens_step b xs stage.RandomisedOnce Randomise h g x on k none = tt
 opens_step b xs (stage.HighSent high) (SearchMiddle middle) h g x on k none = tt
 opens_step b xs (stage.MiddleSent high middle) (SearchLow low) h g x on k none = tt
+opens_step b xs (stage.HighSent high) (SearchLow low) h g x on k none = tt
+opens_step b xs (stage.LowSent high low) (SearchMiddle middle) h g x on k none = tt
+opens_step b xs (stage.Hunted r last left) c h g x on k none = opens_hunted r last left c h (gear_taken c x g)
 opens_step b xs stage.Free (RandomByte a High) h g x on k none = tt
 opens_step b xs (stage.HighAsked a high) (RandomByte d Middle) h g x on k none = opens_middle a d high h (gear_taken (RandomByte d Middle) x g)
 opens_step b xs (stage.MiddleAsked a bytes) (RandomByte d Low) h g x on k none = opens_low a d bytes h (gear_taken (RandomByte d Low) x g)
@@ -196,6 +214,13 @@ programmed_ready g a k none = go (is_active g.state && is_found g) none where
   go true e = absurd (cc)
   go false e = k e
 
+ready_asking : (c : Command) (g : Gear) (r : ℕ) → is_asking c ≡ true → Ready g → Ready (gear_taken c r g)
+ready_asking (SearchHigh high) g r asks k = k
+ready_asking (SearchMiddle middle) g r asks k = k
+ready_asking (SearchLow low) g r asks k = k
+ready_asking Compare g r asks k = k
+ready_asking _ g r asks k = absurd (cc)
+
 pub ready_step : (b : Block) (xs : List Assignment) (s : Stage) (c : Command) (g : Gear) (r : ℕ)
     → Follows b xs s c → (c ≡ Terminate → ⊥) → (draws_a_number c g ≡ true → (r ≡ g.random) ⊎ (r < MASK24)) → Knows s g → Ready g → Ready (gear_taken c r g)
 ready_step b xs stage.Terminated (Initialise Unaddressed) g r on calm drew knows k = λ none. (initialised_ready g k none, (k none).1)
@@ -203,6 +228,7 @@ ready_step b xs stage.InitialisedOnce (Initialise Unaddressed) g r on calm drew 
 ready_step b xs (stage.Found n a) Withdraw g r on calm drew knows k = λ none. (withdrawn_ready g n a knows k none, (k none).1)
 ready_step b xs (stage.Unnamed n) (Program (Some a)) g r on calm drew knows k = programmed_ready g a k
 ready_step b xs (stage.Confirmed n a) Withdraw g r on calm drew knows k = λ none. (withdrawn_ready g n a knows k none, (k none).1)
+ready_step b xs (stage.Hunted n last left) c g r on calm drew knows k = ready_asking c g r (asks_hunting n last left c on.leads_on).1 k
 ready_step b xs _ Terminate g r on calm drew knows k = absurd (calm refl)
 ready_step b xs _ (Initialise target) g r on calm drew knows k = absurd (let none = on.leads_on in cc)
 ready_step b xs _ Randomise g r on calm drew knows k = randomised_ready g r drew k

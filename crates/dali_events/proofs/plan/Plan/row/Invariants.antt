@@ -1,4 +1,4 @@
-use Rattle.std.proofs.Common.{◌≡◌, ◌≤◌, drop, length, replicate}
+use Rattle.std.proofs.Common.{◌≡◌, drop, length, replicate}
 use Rattle.dali_gear.specs.Gear.{fresh}
 use Rattle.dali_events.specs.Used.{with_used}
 use Rattle.dali_events.proofs.plan.Plan.row.Given as goal
