@@ -12,7 +12,7 @@ use std::alloc::{AllocError, Global};
 pub enum Held {
     /// Orders to send a frame, and no frame yet.
     Orders,
-    /// The frames of transactions for this, with the orders between them. Only probes are more than one.
+    /// The frames of transactions for this, with the orders between them. Only probes and hunts are more than one.
     Frames(Purpose),
     /// One event that stands alone.
     Alone,
@@ -42,9 +42,13 @@ enum Part {
     Alone,
 }
 
-/// Whether one more transaction joins those of a fold: a probe joins probes.
+/// Whether one more transaction joins those of a fold: a probe joins probes, and a hunt hunts.
 fn joins(held: Purpose, purpose: Purpose) -> bool {
-    matches!(held, Purpose::Probe) && matches!(purpose, Purpose::Probe)
+    match held {
+        Purpose::Probe => matches!(purpose, Purpose::Probe),
+        Purpose::Hunt => matches!(purpose, Purpose::Hunt),
+        _ => false,
+    }
 }
 
 /// A controller's bit.

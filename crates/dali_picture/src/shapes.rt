@@ -89,7 +89,7 @@ pub fn push_mark(
 fn purpose_class(purpose: Purpose) -> &'static str {
     match purpose {
         Purpose::Search => "s",
-        Purpose::Probe => "k",
+        Purpose::Probe | Purpose::Hunt => "k",
         Purpose::Visit => "q",
         Purpose::Program => "p",
         Purpose::Resolve => "q",

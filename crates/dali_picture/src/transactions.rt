@@ -12,6 +12,8 @@ pub enum Purpose {
     Search,
     /// COMPARE under a search address.
     Probe,
+    /// COMPARE under one search address after the other: a hunt, which sends the low byte before the middle one.
+    Hunt,
     /// QUERY SHORT ADDRESS under a search address.
     Visit,
     /// PROGRAM SHORT ADDRESS under a search address.
@@ -61,7 +63,7 @@ pub fn frame_of(event: Event) -> Option<(u8, Forward)> {
     }
 }
 
-/// Whether a frame begins a transaction: no later frame of one is such a frame.
+/// Whether a frame may begin a transaction: no later frame of one is such a frame, but SEARCHADDRH in a hunt.
 pub fn is_first(frame: Forward) -> bool {
     match Command::read(frame) {
         Command::Terminate | Command::SearchHigh(_) | Command::Arc(_) | Command::Other(_) => true,
@@ -83,8 +85,8 @@ fn purpose_after(purpose: Purpose, frame: Forward) -> Purpose {
     match Command::read(frame) {
         Command::Terminate => Purpose::Close,
         Command::Initialise(_) | Command::Randomise => Purpose::Opening,
-        Command::SearchHigh(_) => Purpose::Search,
-        Command::Compare => Purpose::Probe,
+        Command::SearchHigh(_) => searched(purpose, Purpose::Search),
+        Command::Compare => searched(purpose, Purpose::Probe),
         Command::Program(_) => Purpose::Program,
         Command::QueryShort => visited(purpose),
         Command::RandomByte(..) => Purpose::Resolve,
@@ -94,12 +96,28 @@ fn purpose_after(purpose: Purpose, frame: Forward) -> Purpose {
     }
 }
 
+/// What a transaction with a search byte or a COMPARE is for: in a hunt they belong to that.
+fn searched(purpose: Purpose, alone: Purpose) -> Purpose {
+    match purpose {
+        Purpose::Hunt => Purpose::Hunt,
+        Purpose::Search
+        | Purpose::Probe
+        | Purpose::Visit
+        | Purpose::Program
+        | Purpose::Resolve
+        | Purpose::Opening
+        | Purpose::Close
+        | Purpose::Other => alone,
+    }
+}
+
 /// What a transaction with a QUERY SHORT ADDRESS is for: the query after PROGRAM SHORT ADDRESS belongs to that.
 fn visited(purpose: Purpose) -> Purpose {
     match purpose {
         Purpose::Program => Purpose::Program,
         Purpose::Search
         | Purpose::Probe
+        | Purpose::Hunt
         | Purpose::Visit
         | Purpose::Resolve
         | Purpose::Opening
@@ -122,18 +140,35 @@ impl Transaction {
 
     /// With one more frame.
     fn with(self, frame: Forward, at: usize) -> Transaction {
+        let purpose = if self.begins_hunt(frame) {
+            Purpose::Hunt
+        } else {
+            purpose_after(self.purpose, frame)
+        };
         Transaction {
-            purpose: purpose_after(self.purpose, frame),
+            purpose,
             last: at,
             frames: self.frames.saturating_add(1),
             ..self
         }
     }
 
+    /// Whether it is a hunt with this frame: the low byte of the search address is its second frame.
+    fn begins_hunt(&self, frame: Forward) -> bool {
+        let is_low = matches!(Command::read(frame), Command::SearchLow(_));
+        is_low && self.frames == 1 && matches!(self.purpose, Purpose::Search)
+    }
+
+    /// Whether it is a hunt that has room for this search byte. A hunt has at most eight frames.
+    fn hunts_on(&self, frame: Forward) -> bool {
+        let is_high = matches!(Command::read(frame), Command::SearchHigh(_));
+        is_high && self.frames < 8 && matches!(self.purpose, Purpose::Hunt)
+    }
+
     /// Whether a frame of this sender goes on with it. Nothing follows direct arc power.
     fn goes_on(&self, sender: u8, frame: Forward) -> bool {
         let is_over = matches!(self.purpose, Purpose::Other);
-        !is_over && self.sender == sender && !is_first(frame)
+        !is_over && self.sender == sender && (!is_first(frame) || self.hunts_on(frame))
     }
 }
 

@@ -205,6 +205,7 @@ pub fn purpose_name(purpose: Purpose) -> &'static str {
     match purpose {
         Purpose::Search => "search address, cut short",
         Purpose::Probe => "probe by COMPARE",
+        Purpose::Hunt => "hunt by COMPARE",
         Purpose::Visit => "visit by QUERY SHORT ADDRESS",
         Purpose::Program => "PROGRAM SHORT ADDRESS",
         Purpose::Resolve => "QUERY RANDOM ADDRESS",

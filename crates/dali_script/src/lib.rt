@@ -1,7 +1,7 @@
 //! Which transactions a controller may send while it commissions short addresses, and the records that it keeps
 //! meanwhile.
 //!
-//! A transaction is a front of one of seven scripts ([`Trace`]); what a controller has reserved and enrolled is
+//! A transaction is a front of one of eight scripts ([`Trace`]); what a controller has reserved and enrolled is
 //! [`Kept`]. Both lists of it are [`Assignments`], and the enrolments are a [`Table`]. [`Input`] and [`Order`] are what
 //! a machine that runs the scripts is told, and what it orders. Only a card of a table takes memory.
 #![tactic(auto)]

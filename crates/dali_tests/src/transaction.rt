@@ -104,7 +104,7 @@ A100 A5FF A5FF A700 A700 >
 FE80 >";
 
 /// Every position of the scripts that use a search address, where an address is reserved for the number.
-const SEARCHES: &str = "B10A > B3BC
+const SEARCHES: &str = "B10A > B3BC B5DE
 B10A B3BC > B5DE
 B10A B3BC B5DE > A900 BB00
 B10A B3BC B5DE A900 >
@@ -120,6 +120,18 @@ B10A B3BC B5DE BB00=FF B709 BB00 >
 B10A B3BC B5DE BB00=FF B709 BB00=FF >
 B10A B3BC B5DE BB00=FF B709 BB00=?? >
 B10A B3BC B5DE BB00=FF B709 BB00=0B >";
+
+/// Every position of a hunt: the low byte before the middle one, and then five frames, each a search byte or COMPARE.
+const HUNTS: &str = "B10A B5DE > B3BC
+B10A B5DE B3BC > A900 B10A B3BC B5DE
+B10A B5DE B3BC A900 > A900 B10A B3BC B5DE
+B10A B5DE B3BC A900=FF > A900 B10A B3BC B5DE
+B10A B5DE B3BC A900=?? B10B > A900 B10A B3BC B5DE
+B10A B5DE B3BC B10B B31C B56E > A900 B10A B3BC B5DE
+B10A B5DE B3BC A900 B56E A900=FF B36E > A900 B10A B3BC B5DE
+B10A B5DE B3BC A900 B56E A900=FF B36E A900 >
+B10A B5DE B3BC A900 A900 A900 A900 A900=FF >
+B10A B5DE B3BC B10B B31C B56E A900 B10C >";
 
 /// Every position of the queries of a random address, whatever is heard, and whatever is reserved.
 const QUERIES: &str = "09C2 > 09C3
@@ -140,7 +152,7 @@ B10A B3BC B5DE BB00=08 >";
 
 #[test]
 fn transactions_go_on_by_their_tables(rt: HostRuntime) -> Result<(), Fail> {
-    for rows in [OPENINGS, SEARCHES] {
+    for rows in [OPENINGS, SEARCHES, HUNTS] {
         each_follows(&rt, &one_reserved()?, rows)?;
     }
     for rows in [QUERIES, UNRESERVED] {
@@ -190,7 +202,7 @@ fn each_shows<R: Abort>(rt: &R, kept: &Kept, rows: &[(&str, Shown)]) -> Result<(
 }
 
 /// Traces that need no reservation.
-const UNRESERVED_SHOWN: [(&str, Shown); 10] = [
+const UNRESERVED_SHOWN: [(&str, Shown); 11] = [
     ("B10A B3BC B5DE", Shown::Nothing),
     ("B10A B3BC B5DE BB00=09", Shown::Queried(4, 0x0ABCDE)),
     ("B10A B3BC B5DE BB00", Shown::Unanswered),
@@ -198,6 +210,7 @@ const UNRESERVED_SHOWN: [(&str, Shown); 10] = [
     // Silence is told apart from damage, and from what is no address.
     ("B10A B3BC B5DE BB00=??", Shown::Nothing),
     ("B10A B3BC B5DE BB00=81", Shown::Nothing),
+    ("B10A B5DE B3BC A900=FF B56E A900=09", Shown::Nothing),
     ("09C2=0A 09C3=BC", Shown::Nothing),
     ("09C2=0A 09C3=BC 09C4", Shown::Nothing),
     ("09C2=0A 09C3=BC 09C4=DE", Shown::Resolved(4, 0x0ABCDE)),
@@ -303,6 +316,7 @@ fn made_again<R: Abort + AllocGlobal>(rt: &R, kept: &Kept) -> Result<(), Fail> {
         "",
         "A100 A5FF A5FF A700",
         "B10A B3BC B5DE A900=FF",
+        "B10A B5DE B3BC A900 B56E A900=FF B10B",
         "B10A B3BC B5DE BB00=09",
         "B10A B3BC B5DE BB00=FF B709 BB00=09",
         "09C2=0A 09C3=BC",
@@ -313,6 +327,8 @@ fn made_again<R: Abort + AllocGlobal>(rt: &R, kept: &Kept) -> Result<(), Fail> {
         "B10A B3BC B5DE BB00=09 B709",
         "B1FF B3FF B5FF BB00=FF B709",
         "B10A B3BC B5DE A900=FF B10A",
+        "B10A B3BC B5DE B56E",
+        "B10A B5DE B3BC BB00",
     ];
     for frames in traces {
         is_made_again(rt, kept, frames)?;
