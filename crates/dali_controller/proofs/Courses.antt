@@ -9,10 +9,11 @@ use Rattle.dali_frame.specs.Random.{value_of}
 use Rattle.dali_frame.specs.Priority.{LATER}
 use Rattle.dali_special.specs.declared.command.Command.{Command}
 use Rattle.dali_special.specs.Command.{frame_of}
+use Rattle.dali_script.specs.declared.trace.Entry.{Entry}
 use Rattle.dali_script.specs.declared.records.Record.{Record}
 use Rattle.dali_script.specs.declared.records.Record.TheVariants.{Reserve, Enrol}
 use Rattle.dali_script.specs.declared.stage.Stage.{Stage}
-use Rattle.dali_script.specs.declared.stage.Stage.TheVariants.{Free, Initialised, Opened, Probed, Unnamed, Unanswered, Inconclusive, HighAsked, Spelled}
+use Rattle.dali_script.specs.declared.stage.Stage.TheVariants.{Free, Initialised, Opened, Probed, Unnamed, Unanswered, Inconclusive, HighAsked, Spelled, Hunted}
 use Rattle.dali_script.specs.Records.{Assignment, Kept, Has, IsOnce, addresses, randoms, HasAddress, HasRandom}
 use Rattle.dali_script.specs.Stages.{stage_of}
 use Rattle.dali_script.proofs.Lists.{has_map}
@@ -25,15 +26,16 @@ use Rattle.dali_script.specs.declared.orders.Due.TheVariants as due
 use Rattle.dali_script.specs.Due.{due_after, frame_put, record_ordered}
 use Rattle.dali_search.specs.declared.step.Step.{Step}
 use Rattle.dali_search.specs.declared.step.Step.TheVariants.{Again, Found, Nobody}
+use Rattle.dali_search.specs.Ascending.{leads_to}
 use Rattle.dali_search.specs.Least.{Search, step_after, probe_after, next_probe, answered}
 use Rattle.dali_controller.specs.declared.purpose.Purpose.{Purpose}
-use Rattle.dali_controller.specs.declared.purpose.Purpose.TheVariants.{Opening, Probing, Visiting, Resolving, Closing, Asking, Waking}
+use Rattle.dali_controller.specs.declared.purpose.Purpose.TheVariants.{Opening, Probing, Visiting, Resolving, Closing, Asking, Waking, Hunting}
 use Rattle.dali_controller.specs.Parts.{Parts}
 use Rattle.dali_controller.specs.Course.{Course, turn_of, is_yes, after_step, probed, number_at, address_for, unless_enrolled, unfinished_at, unfinished_among}
-use Rattle.dali_controller.specs.Course.{here_or_later, closing, going_on, going_on_early, visit_or_opening, next_unfinished}
+use Rattle.dali_controller.specs.Course.{taking, missed, hunted, searching_on, searching_first, here_or_later, closing, going_on, going_on_early, visit_or_opening, next_unfinished}
 use Rattle.dali_controller.specs.Machine.{Machine, machine_lost, machine_committed, machine_told, woken_after}
-use Rattle.dali_controller.specs.Next.{begins_at, course_by, next_course, beginning, probed_to, probed_in, draw_or_close, draws, draws_by}
-use Rattle.dali_controller.specs.Next.{goes_on_to, unanswered, at_rest, asked_once}
+use Rattle.dali_controller.specs.Next.{begins_at, course_by, course_on, next_course, beginning, probed_to, probed_in, draw_or_close, draws, draws_by}
+use Rattle.dali_controller.specs.Next.{goes_on_to, goes_on_anew, hunted_to, question, unanswered, at_rest, asked_once}
 use Rattle.dali_controller.specs.declared.way.Way.{Way}
 use Rattle.dali_controller.specs.declared.way.Way.TheVariants.{Fresh, Surveying, Drawing}
 use Rattle.dali_script.specs.declared.orders.End.{End}
@@ -49,6 +51,34 @@ use Rattle.dali_controller.specs.Whole.{IsWhole, Pending}
 pub started : (w : Parts) (s : Stage) (o : Order) (new : Parts) (c : Course) → stage_of w.trace ≡ s → c ≡ begins_at (machine_of w) s → Starts c o new
     → parts_course new ≡ course_by (machine_of w) o
 started w s o new c stage is starts = rw starts.order (starts.course ∙ is ∙ ap (λ x. begins_at (machine_of w) x) (sym stage))
+
+-- a transaction that goes on by its turn leaves the course
+course_stays : (t : Machine) (s : Stage) (c : Command) → turn_of t.course.purpose t.course.number s ≡ Some c → course_on t s ≡ t.course
+course_stays t (Hunted r (Some h) left) c e = absurd (go t.course.purpose e) where
+  go : (p : Purpose) → turn_of p t.course.number (Hunted r (Some h) left) ≡ Some c → ⊥
+  go Opening e = cc
+  go Probing e = cc
+  go Hunting e = cc
+  go Visiting e = cc
+  go (Resolving a) e = cc
+  go (Closing x) e = cc
+  go (Asking a) e = cc
+  go Waking e = cc
+course_stays t _ c e = refl
+
+pub put_course : (w : Parts) (s : Stage) (c : Command) (o : Order) (new : Course) → stage_of w.trace ≡ s → turn_of w.purpose w.number s ≡ Some c
+    → o ≡ Put LATER (frame_of c) → new ≡ parts_course w → new ≡ course_by (machine_of w) o
+put_course w s c o new stage turn is same =
+    same ∙ sym (ap (course_by (machine_of w)) is ∙ ap (course_on (machine_of w)) stage ∙ course_stays (machine_of w) s c turn)
+
+-- the same transaction once more, after it was lost
+pub lost_course : (w : Parts) (t : List Entry) (o : Order) (new : Parts) → due_after w.last ≡ due.Bus → t ≡ []
+    → Starts (taking (parts_course w) w.purpose w.number) o new → parts_course new ≡ course_by (machine_lost (machine_of w)) o
+lost_course w t o new bus empty starts =
+    started (record w { trace = []; tries = w.tries + 1 }) Free o new (taking (parts_course w) w.purpose w.number) stage_none (sym (rests w.last bus)) starts where
+      rests : (l : Option Order) → due_after l ≡ due.Bus → at_rest (machine_of (record w { trace = []; tries = w.tries + 1 })) l ≡ parts_course w
+      rests (Some (Put p f)) bus = refl
+      rests _ bus = absurd (cc)
 
 -- ---------------------------------------------------------------- a search that is answered
 
@@ -178,6 +208,7 @@ no_turn p n s c free e = go p (subst (λ x. turn_of p n x ≡ Some c) free e) wh
   go (Closing x) e = cc
   go (Asking a) e = cc
   go Waking e = cc
+  go Hunting e = cc
 
 -- the start, and a transaction that was lost, follow neither queries nor an enrolment
 followed_free : (t : Machine) (o : Order) → stage_of t.trace ≡ Free → t.last ≡ None → IsFollowed t o
@@ -186,6 +217,7 @@ followed_free t o free none = record {
   told = λ b n s e. absurd (let there : Free ≡ Spelled b (Some n) = sym free ∙ s in cc);
   another = λ b n s e. absurd (let there : Free ≡ Spelled b (Some n) = sym free ∙ s in cc);
   unconfirmed = λ r x s. absurd (let there : Free ≡ Inconclusive r x = sym free ∙ s in cc);
+  hunted = λ r h left s. absurd (let there : Free ≡ Hunted r (Some h) left = sym free ∙ s in cc);
   enrolled = λ b n e. absurd (let there : None ≡ Some (Commit (Enrol b n)) = sym none ∙ e in cc);
 }
 
@@ -201,6 +233,7 @@ followed_lost w o bus = record {
   told = λ b n s e. absurd (let there : Free ≡ Spelled b (Some n) = sym stage_none ∙ s in cc);
   another = λ b n s e. absurd (let there : Free ≡ Spelled b (Some n) = sym stage_none ∙ s in cc);
   unconfirmed = λ r x s. absurd (let there : Free ≡ Inconclusive r x = sym stage_none ∙ s in cc);
+  hunted = λ r h left s. absurd (let there : Free ≡ Hunted r (Some h) left = sym stage_none ∙ s in cc);
   enrolled = λ b n e. absurd (let there = subst (λ l. due_after l ≡ due.Bus) e bus in cc);
 }
 
@@ -214,8 +247,9 @@ pub followed_heard : (w mid : Parts) (o : Order) (f : Forward) (h : Answer) → 
     → ((b n : ℕ) → stage_of mid.trace ≡ Spelled b (Some n) → IsSought mid.purpose mid.number n → AfterFinding (machine_of mid) b n o)
     → ((b n : ℕ) → stage_of mid.trace ≡ Spelled b (Some n) → (IsSought mid.purpose mid.number n → ⊥) → o ≡ beginning (next_course (machine_of mid)))
     → ((r : SearchAddress) (x : Option ℕ) → stage_of mid.trace ≡ Inconclusive r x → o ≡ beginning (next_course (machine_of mid)))
+    → ((r : SearchAddress) (g : Answer) (left : ℕ) → stage_of mid.trace ≡ Hunted r (Some g) left → o ≡ question (next_course (machine_of mid)) r left)
     → IsFollowed (machine_told (machine_of w) (input.Heard h)) o
-followed_heard w mid o f h put is sent told another unconfirmed = record {
+followed_heard w mid o f h put is sent told another unconfirmed hunted = record {
   sent = subst (λ (t : Machine). (c : Command) → turn_of t.course.purpose t.course.number (stage_of t.trace) ≡ Some c → o ≡ Put LATER (frame_of c)) is sent;
   told = subst (λ (t : Machine). (b n : ℕ) → stage_of t.trace ≡ Spelled b (Some n) → IsSought t.course.purpose t.course.number n → AfterFinding t b n o)
       is told;
@@ -223,6 +257,8 @@ followed_heard w mid o f h put is sent told another unconfirmed = record {
       → o ≡ beginning (next_course t)) is another;
   unconfirmed = subst (λ (t : Machine). (r : SearchAddress) (x : Option ℕ) → stage_of t.trace ≡ Inconclusive r x → o ≡ beginning (next_course t))
       is unconfirmed;
+  hunted = subst (λ (t : Machine). (r : SearchAddress) (g : Answer) (left : ℕ) → stage_of t.trace ≡ Hunted r (Some g) left → o ≡ question (next_course t) r left)
+      is hunted;
   enrolled = λ b n e. absurd (let there = subst (λ l. frame_put l ≡ Some f) (sym (heard_last (machine_of w) f h put) ∙ e) put in cc);
 }
 
@@ -240,6 +276,8 @@ followed_committed w x o whole ordered enrolled = record {
       ∙ subst (λ r. stage_of (machine_committed (machine_of w) r).trace ≡ Spelled b (Some n)) ordered s in cc);
   unconfirmed = λ r y s. absurd (let there : Free ≡ Inconclusive r y = sym (free_stored w w.last x ordered whole)
       ∙ subst (λ q. stage_of (machine_committed (machine_of w) q).trace ≡ Inconclusive r y) ordered s in cc);
+  hunted = λ r h left s. absurd (let there : Free ≡ Hunted r (Some h) left = sym (free_stored w w.last x ordered whole)
+      ∙ subst (λ q. stage_of (machine_committed (machine_of w) q).trace ≡ Hunted r (Some h) left) ordered s in cc);
   enrolled = λ b n e. enrolled b n (same x b n (sym ordered ∙ ap record_ordered (sym (committed_stays (machine_of w) (record_ordered w.last)) ∙ e)));
 } where
   same : (x : Record) (b n : ℕ) → Some x ≡ Some (Enrol b n) → x ≡ Enrol b n
@@ -273,22 +311,55 @@ keeps_fresh t fresh = go (stage_of t.trace) where
   early Surveying is = absurd (cc)
   early Drawing is = absurd (cc)
 
+  searches : (y : Way) → y ≡ Fresh → (searching_on y t.course).way ≡ Fresh
+  searches Fresh is = fresh
+  searches Surveying is = absurd (cc)
+  searches Drawing is = absurd (cc)
+
+  searches_first : (y : Way) → y ≡ Fresh → (searching_first y t.course).way ≡ Fresh
+  searches_first Fresh is = fresh
+  searches_first Surveying is = absurd (cc)
+  searches_first Drawing is = absurd (cc)
+
   on : (opened : Bool) → (going_on t.kept opened t.course).way ≡ Fresh
-  on true = fresh
+  on true = searches t.course.way fresh
   on false = early t.course.way fresh
+
+  visits_anew : (next : Option (ℕ × ℕ)) → (visit_or_opening (missed t.course) next).way ≡ Fresh
+  visits_anew None = fresh
+  visits_anew (Some next) = fresh
+
+  early_anew : (y : Way) → y ≡ Fresh → (going_on_early t.kept y (missed t.course)).way ≡ Fresh
+  early_anew Fresh is = visits_anew (next_unfinished t.kept t.course.from)
+  early_anew Surveying is = absurd (cc)
+  early_anew Drawing is = absurd (cc)
+
+  searches_anew : (y : Way) → y ≡ Fresh → (searching_on y (missed t.course)).way ≡ Fresh
+  searches_anew Fresh is = fresh
+  searches_anew Surveying is = absurd (cc)
+  searches_anew Drawing is = absurd (cc)
+
+  anew : (opened : Bool) → (going_on t.kept opened (missed t.course)).way ≡ Fresh
+  anew true = searches_anew t.course.way fresh
+  anew false = early_anew t.course.way fresh
 
   over : (b : Bool) (c : Course) (e : End) → b ≡ false → c.way ≡ Fresh → (draw_or_close b c e).way ≡ Fresh
   over true c e is there = absurd (cc)
   over false c e is there = there
+
+  hunts : (s : Step) (c : Course) → c.way ≡ Fresh → (hunted_to t s c).way ≡ Fresh
+  hunts Again c there = there
+  hunts (Found r) c there = there
+  hunts Nobody c there = over (draws t) c AllFound (never_draws t fresh) there
 
   answers : (s : Step) (c : Course) → c.way ≡ Fresh → (probed_to t s c).way ≡ Fresh
   answers Again c there = there
   answers (Found r) c there = there
   answers Nobody c there = over (draws t) c AllFound (never_draws t fresh) there
 
-  silent : (b : Bool) → (if b then closing t.course GaveUp else goes_on_to t).way ≡ Fresh
+  silent : (b : Bool) → (if b then closing t.course GaveUp else goes_on_anew t).way ≡ Fresh
   silent true = fresh
-  silent false = on t.opened
+  silent false = anew t.opened
 
   unheard : (r : SearchAddress) (opened : Bool) (a : Option ℕ) → (unanswered t r opened a).way ≡ Fresh
   unheard r false (Some a) = fresh
@@ -306,8 +377,9 @@ keeps_fresh t fresh = go (stage_of t.trace) where
 
   go : (s : Stage) → (begins_at t s).way ≡ Fresh
   go Free = rest t.last
-  go Opened = fresh
-  go Initialised = fresh
+  go Opened = searches_first t.course.way fresh
+  go Initialised = searches_first t.course.way fresh
+  go (Hunted r (Some h) left) = hunts (leads_to (hunted t.course h).ascent) (hunted t.course h) fresh
   go (HighAsked a high) = asks (t.asked == 0)
   go (Probed r h) = answers (answered t.course.search (is_yes h)).step (record t.course { search = answered t.course.search (is_yes h) }) fresh
   go (Unnamed r) = over (draws t) t.course BlockFull (never_draws t fresh) fresh
@@ -324,6 +396,7 @@ pub not_woken : (s : Stage) (p : Purpose) (o : Bool) → (p ≡ Waking → ⊥) 
 not_woken Initialised Waking o other = absurd (other refl)
 not_woken Initialised Opening o other = refl
 not_woken Initialised Probing o other = refl
+not_woken Initialised Hunting o other = refl
 not_woken Initialised Visiting o other = refl
 not_woken Initialised (Resolving a) o other = refl
 not_woken Initialised (Closing e) o other = refl
@@ -334,6 +407,7 @@ pub closed_unwoken : (s : Stage) (p : Purpose) (o : Bool) → woken_after s p o 
 closed_unwoken Initialised Waking o e = absurd (cc)
 closed_unwoken Initialised Opening o e = e
 closed_unwoken Initialised Probing o e = e
+closed_unwoken Initialised Hunting o e = e
 closed_unwoken Initialised Visiting o e = e
 closed_unwoken Initialised (Resolving a) o e = e
 closed_unwoken Initialised (Closing x) o e = e

@@ -31,9 +31,9 @@ use Rattle.dali_script.specs.declared.orders.Fault.TheVariants as fault
 use Rattle.dali_controller.specs.declared.purpose.Purpose.TheVariants.{Closing}
 use Rattle.dali_controller.specs.declared.way.Way.{Way}
 use Rattle.dali_controller.specs.declared.way.Way.TheVariants.{Fresh, Surveying, Drawing}
-use Rattle.dali_controller.specs.Course.{Course, closing_of, turn_of, going_on, going_on_early, visit_or_opening, next_unfinished, ask_or_wake, next_asked}
+use Rattle.dali_controller.specs.Course.{Course, closing_of, turn_of, searching_on, going_on, going_on_early, visit_or_opening, next_unfinished, ask_or_wake, next_asked}
 use Rattle.dali_controller.specs.Machine.{Machine, machine_told}
-use Rattle.dali_controller.specs.Next.{next_course, begins_at, course_by, beginning, BeginsWith}
+use Rattle.dali_controller.specs.Next.{next_course, begins_at, course_by, course_on, beginning, BeginsWith}
 use Rattle.dali_controller.specs.Orders.{IsAllowed, MayEnrolOn, MayOrderPut, IsWarranted, IsBegun, IsCaused, Contradicts, AfterMask, AfterMaskOn, AfterFinding}
 use Rattle.dali_controller.specs.Orders.{AfterEnrolled}
 use Rattle.dali_controller.specs.Orders.{IsFollowed, IsSought, IsOrdered, IsGiven, running_close}
@@ -280,8 +280,13 @@ goes_on_open t = go t.opened where
   early Surveying = asks (next_asked t.kept t.course.from)
   early Drawing = refl
 
+  searches : (y : Way) → closing_of (searching_on y t.course).purpose ≡ None
+  searches Fresh = refl
+  searches Surveying = refl
+  searches Drawing = refl
+
   go : (opened : Bool) → closing_of (going_on t.kept opened t.course).purpose ≡ None
-  go true = refl
+  go true = searches t.course.way
   go false = early t.course.way
 
 -- no frame is put where a close was heard: it would be none of the close, and begin no other
@@ -294,6 +299,7 @@ no_put t p f e runs stage (inl may) cause =
     cc
 no_put t p f e runs stage (inr may) cause =
     let here : (running_close t ≡ None) ⊎ ((LATER ≡ FIRST) × (f ≡ frame_of Terminate)) =
+    subst (λ s. (closing_of (course_on t s).purpose ≡ None) ⊎ ((LATER ≡ FIRST) × (f ≡ frame_of Terminate))) stage
     (subst (λ q. IsCaused t (course_by t (Put q f)) (Put q f)) may.0 cause).1 in
     go here
   where

@@ -7,7 +7,7 @@ use Rattle.dali_special.specs.declared.command.Command.TheVariants.{Program}
 use Rattle.dali_special.specs.Command.{IsSpelled, command_of}
 use Rattle.std.specs.Prelude.{is_some, IfSome}
 use Rattle.dali_script.specs.declared.stage.Stage.{Stage}
-use Rattle.dali_script.specs.declared.stage.Stage.TheVariants.{Free, Unnamed, HighAsked, MiddleAsked}
+use Rattle.dali_script.specs.declared.stage.Stage.TheVariants.{Free, Unnamed, HighAsked, MiddleAsked, Hunted}
 use Rattle.dali_script.specs.Records.{Assignment, Kept, Has, HasAddress, IsMap, IsOnce, addresses}
 use Rattle.dali_script.specs.Scripts.{MayGive}
 use Rattle.dali_script.specs.Stages.{leads, given, stage_of, Follows}
@@ -15,6 +15,7 @@ use Rattle.dali_script.specs.Scripts.{Lawful}
 use Rattle.dali_script.specs.declared.trace.Entry.{Entry}
 use Rattle.dali_frame.specs.declared.frames.Forward.{Forward}
 use Rattle.dali_search.specs.Least.{Search}
+use Rattle.dali_search.specs.Ascending.{Ascent}
 use Rattle.dali_controller.specs.declared.purpose.Purpose.{Purpose}
 use Rattle.dali_controller.specs.declared.purpose.Purpose.TheVariants.{Resolving, Asking}
 use Rattle.dali_controller.specs.declared.way.Way.{Way}
@@ -31,6 +32,7 @@ sends_chosen k n p Free c e = e.0
 sends_chosen k n p (Unnamed r) c e = (e.0, e.1)
 sends_chosen k n p (HighAsked b high) c e = (e.0, e.1.0)
 sends_chosen k n p (MiddleAsked b bytes) c e = (e.0, e.1.0)
+sends_chosen k n p (Hunted r last left) c e = e
 sends_chosen k n p _ c e = (e.0, e.1)
 
 -- only PROGRAM SHORT ADDRESS follows MASK
@@ -38,28 +40,29 @@ programs : (r : SearchAddress) (c : Command) → is_some (leads (Unnamed r) c Si
 programs r (Program (Some a)) e = (a, refl)
 programs r _ e = absurd (cc)
 
-asked_small : (y : Way) (k : Kept) (n : SearchAddress) (x : Search) (o : Bool) (p : Purpose) (b : ℕ) → Knows y k n x o p
+asked_small : (y : Way) (k : Kept) (n : SearchAddress) (x : Search) (v : Ascent) (o : Bool) (p : Purpose) (b : ℕ) → Knows y k n x v o p
     → (p ≡ Resolving b) ⊎ (p ≡ Asking b) → b < 64
-asked_small y k n x o p b knows (inl is) = let known = subst (Knows y k n x o) is knows in known.2
-asked_small y k n x o p b knows (inr is) = let known = subst (Knows y k n x o) is knows in known.2
+asked_small y k n x v o p b knows (inl is) = let known = subst (Knows y k n x v o) is knows in known.2
+asked_small y k n x v o p b knows (inr is) = let known = subst (Knows y k n x v o) is knows in known.2
 
 given_small : (k : Kept) (a : ℕ) (n : ℕ) → IsMap k.reserved → Has k.reserved (a, n) → a < 64
 given_small k a n map has = map.short a (has_map (λ q. q.0) k.reserved (a, n) has)
 
 -- and what it has chosen, where it may be sent, it sends
-pub chosen_sends : (y : Way) (k : Kept) (n : SearchAddress) (x : Search) (o : Bool) (p : Purpose) (s : Stage) (c : Command) → IsMap k.reserved
-    → Knows y k n x o p
+pub chosen_sends : (y : Way) (k : Kept) (n : SearchAddress) (x : Search) (v : Ascent) (o : Bool) (p : Purpose) (s : Stage) (c : Command) → IsMap k.reserved
+    → Knows y k n x v o p
     → Follows k.block k.reserved s c → IsChosen n p s c
     → Sends k n p s c
-chosen_sends y k n x o p Free c map knows follows e = (e, subst IsSpelled (sym e) (first_spelled y k n x o p knows))
-chosen_sends y k n x o p (Unnamed r) c map knows follows e =
+chosen_sends y k n x v o p Free c map knows follows e = (e, subst IsSpelled (sym e) (first_spelled y k n x v o p knows))
+chosen_sends y k n x v o p (Unnamed r) c map knows follows e =
     let program = programs r c follows.leads_on in
     let may : MayGive k.block k.reserved r program.0 =
     subst (λ d. IfSome (given (Unnamed r) d) (λ g. MayGive k.block k.reserved g.0 g.1)) program.1 follows.may in
     (e.0, e.1, (program.0, given_small k program.0 (value_of r) map may.reserved_for, may, program.1))
-chosen_sends y k n x o p (HighAsked b high) c map knows follows e = (e.0, (e.1, asked_small y k n x o p b knows e.1), follows.may)
-chosen_sends y k n x o p (MiddleAsked b bytes) c map knows follows e = (e.0, (e.1, asked_small y k n x o p b knows e.1), follows.may)
-chosen_sends y k n x o p _ c map knows follows e = (e.0, e.1, follows.may)
+chosen_sends y k n x v o p (HighAsked b high) c map knows follows e = (e.0, (e.1, asked_small y k n x v o p b knows e.1), follows.may)
+chosen_sends y k n x v o p (MiddleAsked b bytes) c map knows follows e = (e.0, (e.1, asked_small y k n x v o p b knows e.1), follows.may)
+chosen_sends y k n x v o p (Hunted r last left) c map knows follows e = e
+chosen_sends y k n x v o p _ c map knows follows e = (e.0, e.1, follows.may)
 
 -- what is reserved at an address
 pub reserved_is : (xs : List Assignment) (a r n : ℕ) → IsOnce (addresses xs) → Has xs (a, r) → (nat_eq r n ≡ true) ↔ Has xs (a, n)
@@ -74,12 +77,12 @@ pub reserved_none : (xs : List Assignment) (a n : ℕ) → (HasAddress xs a → 
 reserved_none xs a n none = (λ e. absurd (cc), λ h. absurd (none (has_map (λ q. q.0) xs (a, n) h)))
 
 -- so whether it sends a frame is told by whether the frame may be sent, and whether it has chosen it
-pub sends_allowed : (y : Way) (k : Kept) (n : SearchAddress) (x : Search) (o : Bool) (p : Purpose) (t : List Entry) (f : Forward) (chosen : Bool)
+pub sends_allowed : (y : Way) (k : Kept) (n : SearchAddress) (x : Search) (v : Ascent) (o : Bool) (p : Purpose) (t : List Entry) (f : Forward) (chosen : Bool)
     → IsMap k.reserved
-    → Knows y k n x o p → Lawful k.block k.reserved t f
+    → Knows y k n x v o p → Lawful k.block k.reserved t f
     → ((chosen ≡ true) ↔ IsChosen n p (stage_of t) (command_of f)) → (chosen ≡ true) ↔ Sends k n p (stage_of t) (command_of f)
-sends_allowed y k n x o p t f chosen map knows lawful test = (
-  λ e. chosen_sends y k n x o p (stage_of t) (command_of f) map knows (follows_lawful k.block k.reserved t f lawful) (test.0 e),
+sends_allowed y k n x v o p t f chosen map knows lawful test = (
+  λ e. chosen_sends y k n x v o p (stage_of t) (command_of f) map knows (follows_lawful k.block k.reserved t f lawful) (test.0 e),
   λ s. test.1 (sends_chosen k n p (stage_of t) (command_of f) s),
 )
 

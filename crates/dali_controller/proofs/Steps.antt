@@ -1,6 +1,7 @@
 use Rattle.std.proofs.Common.{lit<, ◌≡◌, ◌⊎◌, inl, inr, ℕ, ◌+◌, ◌<◌, ◌≤◌, Bool, true, false, List, [], ◌∷◌, ◌++◌, refl, sym, ap}
 use Rattle.std.proofs.Common.{subst, ◌∙◌, arith, Option, Some, None}
-use Rattle.std.specs.Prelude.{◌==◌, if◌then◌else◌}
+use Rattle.std.specs.Prelude.{◌-◌, ◌==◌, not, is_some, unwrap_or, if◌then◌else◌}
+use Rattle.std.proofs.lemmas.Bool.Decides.{nat_tests}
 use Rattle.dali_frame.specs.declared.frames.Forward.{Forward}
 use Rattle.dali_frame.specs.declared.frames.Answer.{Answer}
 use Rattle.dali_frame.specs.declared.frames.Answer.TheVariants.{Silence, Byte, Damaged}
@@ -11,7 +12,7 @@ use Rattle.dali_frame.specs.Priority.{FIRST, LATER}
 use Rattle.dali_special.specs.declared.command.Target.TheVariants.{Unaddressed}
 use Rattle.dali_special.specs.declared.command.Part.TheVariants.{Middle, Low}
 use Rattle.dali_special.specs.declared.command.Command.{Command}
-use Rattle.dali_special.specs.declared.command.Command.TheVariants.{Terminate, Initialise, Randomise, Compare, Withdraw, SearchMiddle, SearchLow, Program}
+use Rattle.dali_special.specs.declared.command.Command.TheVariants.{Terminate, Initialise, Randomise, Compare, Withdraw, SearchHigh, SearchMiddle, SearchLow, Program}
 use Rattle.dali_special.specs.declared.command.Command.TheVariants.{QueryShort, RandomByte, Arc}
 use Rattle.dali_special.specs.Command.{MASK, command_of, frame_of, IsSpelled}
 use Rattle.dali_special.proofs.Table.{read_written}
@@ -22,38 +23,39 @@ use Rattle.dali_script.specs.declared.records.Record.TheVariants.{Reserve}
 use Rattle.dali_script.specs.declared.stage.Stage.{Stage}
 use Rattle.dali_script.specs.declared.stage.Stage.TheVariants.{Free, Terminated, InitialisedOnce, Initialised, RandomisedOnce, Opened, HighSent, MiddleSent}
 use Rattle.dali_script.specs.declared.stage.Stage.TheVariants.{NumberSent, Found, Unnamed, Unanswered, Inconclusive, Programmed, Confirmed, Withdrawn}
-use Rattle.dali_script.specs.declared.stage.Stage.TheVariants.{HighAsked, MiddleAsked, Spelled}
+use Rattle.dali_script.specs.declared.stage.Stage.TheVariants.{HighAsked, MiddleAsked, Spelled, LowSent, Hunted, Over}
 use Rattle.dali_script.specs.Records.{IsKept, with_record, Kept, Has, HasRandom, Fits, MayAdd}
-use Rattle.dali_script.specs.Scripts.{MayGive, Lawful}
+use Rattle.dali_script.specs.Scripts.{MayGive, Lawful, is_asking, ASKING}
 use Rattle.dali_script.specs.Findings.{later, finding_of}
-use Rattle.dali_script.specs.Stages.{byte_heard, bytes_heard, finding_at, stage_of, next_stage, queried, named, verified, answered, Follows}
-use Rattle.dali_script.proofs.Transactions.{self, middle_next, low_next, turn, gives, lawful_follows, stage_none, stage_more}
+use Rattle.dali_script.specs.Stages.{hunted, byte_heard, bytes_heard, finding_at, stage_of, next_stage, queried, named, verified, answered, Follows}
+use Rattle.dali_script.proofs.Transactions.{self, equal, middle_next, low_next, turn, gives, lawful_follows, stage_none, stage_more}
 use Rattle.dali_script.proofs.Found.{finding_after}
 use Rattle.dali_search.specs.declared.step.Step.TheVariants.{Again}
 use Rattle.dali_script.proofs.Lists.{has_map, has_last}
 use Rattle.dali_search.specs.Least.{Search}
+use Rattle.dali_search.specs.Ascending.{Ascent, asked_next, leads_to, one_if}
 use Rattle.dali_script.specs.declared.orders.Order.{Order}
 use Rattle.dali_script.specs.declared.orders.Order.TheVariants.{Put, Commit, Done, Halt}
 use Rattle.dali_script.specs.declared.orders.End.{End}
 use Rattle.dali_script.specs.declared.orders.End.TheVariants.{BlockFull, GaveUp}
 use Rattle.dali_script.specs.declared.orders.Due.TheVariants as due
 use Rattle.dali_controller.specs.declared.purpose.Purpose.{Purpose}
-use Rattle.dali_controller.specs.declared.purpose.Purpose.TheVariants.{Opening, Probing, Visiting, Resolving, Closing, Asking, Waking}
+use Rattle.dali_controller.specs.declared.purpose.Purpose.TheVariants.{Opening, Probing, Visiting, Resolving, Closing, Asking, Waking, Hunting}
 use Rattle.dali_controller.specs.declared.shorts.Shorts.{Shorts}
 use Rattle.dali_controller.specs.declared.way.Way.{Way}
 use Rattle.dali_controller.specs.declared.way.Way.TheVariants.{Fresh, Surveying, Drawing}
 use Rattle.dali_controller.specs.Parts.{Parts}
 use Rattle.dali_script.specs.Due.{due_after, frame_put}
-use Rattle.dali_controller.specs.Course.{Course, first_of, turn_of, closing_of, drawing, address_for, least_open}
+use Rattle.dali_controller.specs.Course.{Course, first_of, turn_of, closing_of, drawing, address_for, least_open, byte_to_send, bytes_to_send}
 use Rattle.dali_controller.specs.Machine.{machine_lost, Machine, opened_after, woken_after, silent_after, tries_after}
 use Rattle.dali_controller.specs.Next.{begins_at, course_by, beginning, next_course, draw_or_close}
 use Rattle.dali_controller.specs.Orders.{IsBegun, AfterMaskBy, AfterMaskOn, IsOrderedTo}
 use Rattle.dali_controller.specs.Orders.{is_left, is_left_by, machine_ordered}
 use Rattle.dali_controller.specs.Orders.{running_close}
 use Rattle.dali_controller.specs.Parts.{parts_course, machine_of}
-use Rattle.dali_controller.specs.Whole.{IsWhole, Sends, Knows, IsEarly, IsWithinSilence, IsReady, IsSending, Pending}
+use Rattle.dali_controller.specs.Whole.{IsWhole, IsSurvey, Sends, Knows, IsEarly, IsWithinSilence, IsReady, IsSending, Pending}
 use Rattle.dali_controller.specs.Moments.{FoundAt, IsBetween, Closes, Arrived, KnowsAt, KnowsWoken, CalmAt, IsHeard, Turns, Begins, IsNext}
-use Rattle.dali_controller.specs.Moments.{Draws, IsUngiven, IsNextTo}
+use Rattle.dali_controller.specs.Moments.{Draws, IsUngiven, IsNextTo, AsksOn}
 
 -- THE COMMANDS OF A TRANSACTION. A command that is sent at a stage may follow there and is read from its frame; it is no
 -- direct arc power; past the first one no close runs; and what is known where it leads to.
@@ -101,6 +103,7 @@ goes_first k n (Resolving a) small =
 goes_first k n (Asking a) small = going (turn refl refl) small (λ g x. cc) (λ later. refl) (λ h. arrives_high k n (Asking a) a (byte_heard h) (inr refl) small)
 goes_first k n Waking small = going (turn refl refl) tt (λ g x. cc) (λ later. refl) (λ h. inr (inl refl))
 goes_first k n (Closing e) small = going (turn refl refl) tt (λ g x. cc) (λ later. absurd (later refl)) (λ h. inr (inr (e, refl)))
+goes_first k n Hunting small = going (turn refl refl) tt (λ g x. cc) (λ later. refl) (λ h. (SearchLow n.low, (refl, refl, tt)))
 goes_first k n _ small = going (turn refl refl) tt (λ g x. cc) (λ later. refl) (λ h. (SearchMiddle n.middle, (refl, refl, tt)))
 
 arrives_queried : (k : Kept) (n r : SearchAddress) (h : Answer) → r ≡ n → Arrived k n Visiting (queried r h)
@@ -129,6 +132,54 @@ whole n high middle one two = rw (← one, ← two) refl
 some_is : (x c : Command) → Some x ≡ Some c → c ≡ x
 some_is x c e = cc
 
+-- in a hunt a search byte or COMPARE follows, until all bytes are those of the number
+hunts_none : (k : Kept) (n r : SearchAddress) (left : ℕ) → bytes_to_send n r < left → Arrived k n Hunting (Hunted r None left)
+hunts_none k n r left room = (byte_to_send n r, (refl, refl, room))
+
+bytes_few : (n : SearchAddress) (high low : ℕ) → n.high ≡ high → n.low ≡ low → bytes_to_send n (record { high = high; middle = n.middle; low = low }) < ASKING
+bytes_few n high low one two = rw (← one, ← two, self n.high, self n.low, self n.middle) (lit< tt)
+
+leads_asking : (r : SearchAddress) (left : ℕ) (c : Command) → is_asking c ≡ true → is_some (hunted r left c Silence) ≡ true
+leads_asking r left (SearchHigh high) ask = refl
+leads_asking r left (SearchMiddle middle) ask = refl
+leads_asking r left (SearchLow low) ask = refl
+leads_asking r left Compare ask = refl
+leads_asking r left _ ask = absurd (cc)
+
+goes_hunted : (k : Kept) (n : SearchAddress) (p : Purpose) (r : SearchAddress) (last : Option Answer) (left : ℕ) (c : Command) → p ≡ Hunting → c ≡ byte_to_send n r
+    → bytes_to_send n r < left → Goes k n p (Hunted r last left) c
+goes_hunted k n p r last left c hunting is room =
+    subst (λ q. Goes k n q (Hunted r last left) c) (sym hunting)
+    (subst (λ d. Goes k n Hunting (Hunted r last left) d) (sym is)
+    (go (r.high == n.high) refl (r.low == n.low) refl (r.middle == n.middle) refl room)) where
+  some : (left == 0) ≡ false
+  some = grind (arith, nat_tests, room)
+
+  asks : (d : Command) → is_asking d ≡ true → ((h : Answer) → Arrived k n Hunting (unwrap_or (hunted r (left - 1) d h) Over)) → IsSpelled d
+      → ((g : Forward) → d ≡ Arc g → ⊥) → Goes k n Hunting (Hunted r last left) d
+  asks d ask arrives spelled addressing = going (turn (rw some (leads_asking r (left - 1) d ask)) refl) spelled addressing (λ later. refl) (λ h. rw some (arrives h))
+
+  -- where a byte is sent, the others stay as they are
+  byte : (m : SearchAddress) → bytes_to_send n m + 1 ≤ bytes_to_send n r → Arrived k n Hunting (Hunted m None (left - 1))
+  byte m fewer = hunts_none k n m (left - 1) (omega (arith, fewer, room))
+
+  go : (b : Bool) → (r.high == n.high) ≡ b → (d : Bool) → (r.low == n.low) ≡ d → (e : Bool) → (r.middle == n.middle) ≡ e
+      → bytes_to_send n r < left
+      → Goes k n Hunting (Hunted r last left) (if b then (if d then (if e then Compare else SearchMiddle n.middle) else SearchLow n.low) else SearchHigh n.high)
+  go false one d two e three room =
+      asks (SearchHigh n.high) refl (λ h. byte (record r { high = n.high }) (rw (one, self n.high) (omega arith))) tt (λ g x. cc)
+  go true one false two e three room =
+      asks (SearchLow n.low) refl (λ h. byte (record r { low = n.low }) (rw (two, self n.low) (omega arith))) tt (λ g x. cc)
+  go true one true two false three room =
+      asks (SearchMiddle n.middle) refl (λ h. byte (record r { middle = n.middle }) (rw (three, self n.middle) (omega arith))) tt (λ g x. cc)
+  go true one true two true three room =
+      asks Compare refl (λ h. (refl, same)) tt (λ g x. cc) where
+    same : r ≡ n
+    same = let high : r.high ≡ n.high = equal r.high n.high one in let low : r.low ≡ n.low = equal r.low n.low two in
+        let middle : r.middle ≡ n.middle = equal r.middle n.middle three in
+        ap (λ x. record { high = x; middle = r.middle; low = r.low }) high ∙ ap (λ x. record { high = n.high; middle = x; low = r.low }) middle
+        ∙ ap (λ x. record { high = n.high; middle = n.middle; low = x }) low
+
 goes : (k : Kept) (n : SearchAddress) (p : Purpose) (s : Stage) (c : Command) → Sends k n p s c → Goes k n p s c
 goes k n Opening Terminated c e = rw (some_is _ c e.0) (going (turn refl refl) tt (λ g x. cc) (λ later. refl) (λ h. (Initialise Unaddressed, (refl, tt, tt))))
 goes k n Opening InitialisedOnce c e = rw (some_is _ c e.0) (going (turn refl refl) tt (λ g x. cc) (λ later. refl) (λ h. inl refl))
@@ -144,6 +195,12 @@ goes k n Probing (MiddleSent high middle) c e =
     rw (some_is _ c e.0) (going (turn refl refl) tt (λ g x. cc) (λ later. refl) (λ h. (Compare, (refl, whole n high middle e.1.0 e.1.1, tt))))
 goes k n Visiting (MiddleSent high middle) c e =
     rw (some_is _ c e.0) (going (turn refl refl) tt (λ g x. cc) (λ later. refl) (λ h. (QueryShort, (refl, whole n high middle e.1.0 e.1.1, tt))))
+goes k n Hunting (HighSent high) c e =
+    rw (some_is _ c e.0) (going (turn refl refl) tt (λ g x. cc) (λ later. refl) (λ h. (SearchMiddle n.middle, (refl, (e.1, refl), tt))))
+goes k n Hunting (LowSent high low) c e =
+    rw (some_is _ c e.0) (going (turn refl refl) tt (λ g x. cc) (λ later. refl)
+    (λ h. hunts_none k n (record { high = high; middle = n.middle; low = low }) ASKING (bytes_few n high low e.1.0 e.1.1)))
+goes k n p (Hunted r last left) c e = goes_hunted k n p r last left c e.0 e.1 e.2
 goes k n Probing (NumberSent r) c e = rw (some_is _ c e.0) (going (turn refl refl) tt (λ g x. cc) (λ later. refl) (λ h. (refl, sym e.1)))
 goes k n Visiting (NumberSent r) c e = rw (some_is _ c e.0) (going (turn refl refl) tt (λ g x. cc) (λ later. refl) (λ h. arrives_queried k n r h (sym e.1)))
 goes k n Visiting (Found r b) c e = rw (some_is _ c e.0) (going (turn refl refl) tt (λ g x. cc) (λ later. refl) (λ h. (refl, sym e.1)))
@@ -173,16 +230,16 @@ not_withdrawn : (k : Kept) (n : SearchAddress) (p : Purpose) (r : SearchAddress)
 not_withdrawn k n p r b c e = let on = (goes k n p (Withdrawn r b) c e).follows.leads_on in cc
 
 -- what is known there
-knows_woken : (y : Way) (k : Kept) (n : SearchAddress) (s : Search) (o : Bool) (p : Purpose) → Knows y k n s o p
-    → KnowsWoken y k n s (woken_after Initialised p o) p
-knows_woken y k n s o Waking e = refl
-knows_woken y k n s o _ e = e
+knows_woken : (y : Way) (k : Kept) (n : SearchAddress) (s : Search) (v : Ascent) (o : Bool) (p : Purpose) → Knows y k n s v o p
+    → KnowsWoken y k n s v (woken_after Initialised p o) p
+knows_woken y k n s v o Waking e = refl
+knows_woken y k n s v o _ e = e
 
-pub knows_at : (y : Way) (k : Kept) (n : SearchAddress) (s : Search) (o : Bool) (p : Purpose) (there : Stage) → Knows y k n s o p
-    → KnowsAt there y k n s (woken_after there p (opened_after there o)) p
-knows_at y k n s o p Opened e = refl
-knows_at y k n s o p Initialised e = knows_woken y k n s o p e
-knows_at y k n s o p _ e = e
+pub knows_at : (y : Way) (k : Kept) (n : SearchAddress) (s : Search) (v : Ascent) (o : Bool) (p : Purpose) (there : Stage) → Knows y k n s v o p
+    → KnowsAt there y k n s v (woken_after there p (opened_after there o)) p
+knows_at y k n s v o p Opened e = refl
+knows_at y k n s v o p Initialised e = knows_woken y k n s v o p e
+knows_at y k n s v o p _ e = e
 
 calm_unanswered : (o : Bool) (i : ℕ) → i < 16 → (r : SearchAddress) → CalmAt (Unanswered r) Visiting o (silent_after (Unanswered r) o i)
 calm_unanswered true i h r = (omega arith, λ e. refl)
@@ -217,16 +274,16 @@ sends_calm k n p (Unanswered r) c o i e calm = absurd (let on = (goes k n p (Una
 sends_calm k n p (Inconclusive r other) c o i e calm = absurd (let on = (goes k n p (Inconclusive r other) c e).follows.leads_on in cc)
 sends_calm k n p _ c o i e calm = calm
 
-sends_woken : (y : Way) (k : Kept) (n : SearchAddress) (p : Purpose) (c : Command) (x : Search) (o : Bool) → Sends k n p Initialised c
-    → KnowsWoken y k n x o p → Knows y k n x o p
-sends_woken y k n Waking c x o e knows = absurd (let none = e.0 in cc)
-sends_woken y k n _ c x o e knows = knows
+sends_woken : (y : Way) (k : Kept) (n : SearchAddress) (p : Purpose) (c : Command) (x : Search) (v : Ascent) (o : Bool) → Sends k n p Initialised c
+    → KnowsWoken y k n x v o p → Knows y k n x v o p
+sends_woken y k n Waking c x v o e knows = absurd (let none = e.0 in cc)
+sends_woken y k n _ c x v o e knows = knows
 
-pub sends_knows : (y : Way) (k : Kept) (n : SearchAddress) (p : Purpose) (s : Stage) (c : Command) (x : Search) (o : Bool) → Sends k n p s c
-    → KnowsAt s y k n x o p → Knows y k n x o p
-sends_knows y k n p Opened c x o e knows = absurd (let on = (goes k n p Opened c e).follows.leads_on in cc)
-sends_knows y k n p Initialised c x o e knows = sends_woken y k n p c x o e knows
-sends_knows y k n p _ c x o e knows = knows
+pub sends_knows : (y : Way) (k : Kept) (n : SearchAddress) (p : Purpose) (s : Stage) (c : Command) (x : Search) (v : Ascent) (o : Bool) → Sends k n p s c
+    → KnowsAt s y k n x v o p → Knows y k n x v o p
+sends_knows y k n p Opened c x v o e knows = absurd (let on = (goes k n p Opened c e).follows.leads_on in cc)
+sends_knows y k n p Initialised c x v o e knows = sends_woken y k n p c x v o e knows
+sends_knows y k n p _ c x v o e knows = knows
 
 pub calm_less : (p : Purpose) (i : ℕ) → closing_of p ≡ None → IsWithinSilence p i → i < 16
 calm_less (Closing end) i e calm = absurd (cc)
@@ -258,7 +315,7 @@ put_whole_at w s c p f h e read = record {
   ready = record {
     tries = h.tries;
     calm = sends_calm w.kept w.number w.purpose s c w.opened w.silent e h.calm;
-    knows = sends_knows w.way w.kept w.number w.purpose s c w.search w.opened e h.knows;
+    knows = sends_knows w.way w.kept w.number w.purpose s c w.search w.ascent w.opened e h.knows;
   };
   sends = subst (λ x. Sends w.kept w.number w.purpose x (command_of f)) (sym h.stage) (subst (λ d. Sends w.kept w.number w.purpose s d) (sym read) e);
 }
@@ -324,10 +381,10 @@ silent_closes : (p : Purpose) (i : ℕ) → IsWithinSilence p i → i ≡ 16 →
 silent_closes (Closing GaveUp) i calm is = refl
 silent_closes _ i calm is = absurd (omega arith)
 
-pub first_spelled : (y : Way) (k : Kept) (n : SearchAddress) (s : Search) (o : Bool) (p : Purpose) → Knows y k n s o p → IsSpelled (first_of p n)
-first_spelled y k n s o (Resolving a) e = e.2
-first_spelled y k n s o (Asking a) e = e.2
-first_spelled y k n s o _ e = tt
+pub first_spelled : (y : Way) (k : Kept) (n : SearchAddress) (s : Search) (v : Ascent) (o : Bool) (p : Purpose) → Knows y k n s v o p → IsSpelled (first_of p n)
+first_spelled y k n s v o (Resolving a) e = e.2
+first_spelled y k n s v o (Asking a) e = e.2
+first_spelled y k n s v o _ e = tt
 
 -- a first frame where nothing can be given to gear that answered MASK
 left_follows : (t : Machine) (r : SearchAddress) (reserved free : Option ℕ) (o : Order) → is_left_by t (value_of r) reserved free ≡ true
@@ -356,7 +413,7 @@ begin_next_at : (w : Parts) (p : Purpose) (n : SearchAddress) → Begins w p n
     (machine_of (record w { trace = []; last = Some (Put FIRST (frame_of (first_of p n))); purpose = p; number = n }))
 begin_next_at w p n b =
     let tries : w.tries < 8 = b.tries in
-    let small : IsSpelled (first_of p n) = first_spelled w.way w.kept n w.search w.opened p b.knows in
+    let small : IsSpelled (first_of p n) = first_spelled w.way w.kept n w.search w.ascent w.opened p b.knows in
     record {
       order = record {
         allowed = inl (refl, first_lawful w.kept p n small);
@@ -382,10 +439,10 @@ begin_next w p n t q f b empty first is =
 free_of : (t : List Entry) → t ≡ [] → stage_of t ≡ Free
 free_of t empty = ap stage_of empty ∙ stage_none
 
-first_sends : (w : Parts) (p : Purpose) (n : SearchAddress) (f : Forward) → Knows w.way w.kept n w.search w.opened p → f ≡ frame_of (first_of p n)
+first_sends : (w : Parts) (p : Purpose) (n : SearchAddress) (f : Forward) → Knows w.way w.kept n w.search w.ascent w.opened p → f ≡ frame_of (first_of p n)
     → (command_of f ≡ first_of p n) × IsSpelled (command_of f)
 first_sends w p n f knows is =
-    let small : IsSpelled (first_of p n) = first_spelled w.way w.kept n w.search w.opened p knows in
+    let small : IsSpelled (first_of p n) = first_spelled w.way w.kept n w.search w.ascent w.opened p knows in
     let read : command_of f ≡ first_of p n = ap command_of is ∙ first_read w.kept p n small in
     (read, subst IsSpelled (sym read) small)
 
@@ -464,10 +521,10 @@ hear_heard w noted f h t s complete o n i shorts asked whole put trace is stage 
           (woken_after (stage_of noted.trace) x.purpose (opened_after (stage_of noted.trace) x.opened))
           (silent_after (stage_of noted.trace) x.opened x.silent)) (sym is)
           (calm_at w.kept w.number w.opened w.purpose w.silent (stage_of noted.trace) arrived ready.calm));
-      knows = rw opened (subst (λ (x : Parts). KnowsAt (stage_of noted.trace) x.way x.kept x.number x.search
+      knows = rw opened (subst (λ (x : Parts). KnowsAt (stage_of noted.trace) x.way x.kept x.number x.search x.ascent
           (woken_after (stage_of noted.trace) x.purpose (opened_after (stage_of noted.trace) x.opened)) x.purpose)
           (sym is)
-          (knows_at w.way w.kept w.number w.search w.opened w.purpose (stage_of noted.trace) ready.knows));
+          (knows_at w.way w.kept w.number w.search w.ascent w.opened w.purpose (stage_of noted.trace) ready.knows));
       finding = found_at (stage_of noted.trace) w.finding noted.finding finding;
       trace_finding = trace_found_at (stage_of noted.trace) (finding_of noted.trace) trace_finding;
     }
@@ -493,6 +550,17 @@ probes w n b opened running is = record {
   tries = b.tries;
   calm = b.silent;
   knows = (opened, running, is);
+  turns = b.going;
+  unnamed = λ r e. absurd (b.unnamed r e);
+  found = b.found;
+}
+
+pub hunts : (w : Parts) (n : SearchAddress) → IsBetween w → w.opened ≡ true → IsSurvey w.way → leads_to w.ascent ≡ Again → value_of n ≡ asked_next w.ascent
+    → Begins w Hunting n
+hunts w n b opened survey running is = record {
+  tries = b.tries;
+  calm = b.silent;
+  knows = (opened, survey, running, is);
   turns = b.going;
   unnamed = λ r e. absurd (b.unnamed r e);
   found = b.found;
@@ -553,7 +621,7 @@ pub resolves : (w : Parts) (r : SearchAddress) (a : ℕ) → IsHeard w (Unanswer
     → Begins w (Resolving a) r
 resolves w r a h early small reserved =
     let stage : stage_of w.trace ≡ Unanswered r = h.stage in
-    let visiting : Knows w.way w.kept w.number w.search w.opened Visiting = subst (Knows w.way w.kept w.number w.search w.opened) h.arrived.0 h.knows in
+    let visiting : Knows w.way w.kept w.number w.search w.ascent w.opened Visiting = subst (Knows w.way w.kept w.number w.search w.ascent w.opened) h.arrived.0 h.knows in
     record {
       tries = h.tries;
       calm = early_calm w.opened w.silent early h.calm;
@@ -578,7 +646,7 @@ closing w e b = record {
 }
 
 -- LOST
-turns_same : (w : Parts) (p : Purpose) → w.purpose ≡ p → Knows w.way w.kept w.number w.search w.opened p → Turns w p
+turns_same : (w : Parts) (p : Purpose) → w.purpose ≡ p → Knows w.way w.kept w.number w.search w.ascent w.opened p → Turns w p
 turns_same w (Closing e) is knows = record { opened = knows; cause = inl (ap closing_of is) }
 turns_same w _ is knows = ap closing_of is
 
@@ -653,6 +721,7 @@ turns_masked w c turn q stage = absurd (none w.purpose (subst (λ s. turn_of w.p
   none (Closing x) e = cc
   none (Asking a) e = cc
   none Waking e = cc
+  none Hunting e = cc
 
 -- a number is reserved once its reservation is kept
 pub reserved_kept : (w new : Parts) (x : Record) (a n m : ℕ) → x ≡ Reserve a n → new ≡ record w { kept = with_record w.kept x } → m ≡ n
@@ -674,3 +743,70 @@ whole_at_first w trace last tries silent opened opening fresh = rw last (record 
   opening = opening;
   fresh = fresh;
 })
+
+byte_spelled : (n r : SearchAddress) → IsSpelled (byte_to_send n r)
+byte_spelled n r = go (r.high == n.high) (r.low == n.low) (r.middle == n.middle) where
+  go : (b d e : Bool) → IsSpelled (if b then (if d then (if e then Compare else SearchMiddle n.middle) else SearchLow n.low) else SearchHigh n.high)
+  go false d e = tt
+  go true false e = tt
+  go true true false = tt
+  go true true true = tt
+
+-- A HUNT ASKS ON, in the transaction that runs.
+pub asks_next : (w : Parts) (number sent : SearchAddress) (f : Forward) → AsksOn w number sent → f ≡ frame_of (byte_to_send number sent)
+    → IsNext (machine_of w) (Put LATER f) (machine_of (record w { number = number; last = Some (Put LATER f) }))
+asks_next w number sent f a is = subst (λ g. IsNext (machine_of w) (Put LATER g) (machine_of (record w { number = number; last = Some (Put LATER g) }))) (sym is) next where
+  s : Stage
+  s = Hunted sent (Some a.next.asked.0) a.left
+
+  c : Command
+  c = byte_to_send number sent
+
+  stage : stage_of w.trace ≡ s
+  stage = a.next.asked.1
+
+  on : Goes w.kept number Hunting s c
+  on = goes_hunted w.kept number Hunting sent (Some a.next.asked.0) a.left c refl refl a.room
+
+  spelled : command_of (frame_of c) ≡ c
+  spelled = read_written c on.spelled
+
+  tries : w.tries < 8
+  tries = a.next.tries
+
+  calm : w.silent < 16
+  calm = a.next.silent
+
+  going_on : closing_of w.purpose ≡ None
+  going_on = ap closing_of a.next.hunting
+
+  next : IsNext (machine_of w) (Put LATER (frame_of c)) (machine_of (record w { number = number; last = Some (Put LATER (frame_of c)) }))
+  next = record {
+    order = record {
+      allowed = inr (
+        refl,
+        not_empty w.trace s stage (λ e. cc),
+        lawful_follows w.kept.block w.kept.reserved w.trace (frame_of c)
+            (subst (λ x. Follows w.kept.block w.kept.reserved x (command_of (frame_of c))) (sym stage)
+            (subst (λ d. Follows w.kept.block w.kept.reserved s d) (sym spelled) on.follows)),
+      );
+      addressing = λ g e. on.addressing g (sym spelled ∙ e);
+      caused = (begun_none (machine_of w) (closing_of w.purpose) going_on going_on, inl going_on);
+      given_up = λ n. absurd (omega arith);
+      silent = λ n. absurd (omega arith);
+      unnamed = λ r e. absurd (let other : s ≡ Unnamed r = sym stage ∙ e in cc);
+      found = λ r b e. absurd (let other : s ≡ Withdrawn r b = sym stage ∙ e in cc);
+    };
+    state = refl;
+  }
+
+pub asks_whole : (w : Parts) (number sent : SearchAddress) (f : Forward) → AsksOn w number sent → f ≡ frame_of (byte_to_send number sent)
+    → IsWhole (machine_of (record w { number = number; last = Some (Put LATER f) }))
+asks_whole w number sent f a is = record {
+  ready = record {
+    tries = a.next.tries;
+    calm = rw a.next.hunting a.next.silent;
+    knows = rw a.next.hunting (a.next.opened, a.next.survey, a.next.running, a.number_is);
+  };
+  sends = rw a.next.asked.1 (a.next.hunting, ap command_of is ∙ read_written (byte_to_send number sent) (byte_spelled number sent), a.room);
+}

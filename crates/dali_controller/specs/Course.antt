@@ -15,31 +15,34 @@ use Rattle.dali_special.specs.declared.command.Part.TheVariants.{High, Middle, L
 use Rattle.dali_script.specs.declared.stage.Stage.{Stage}
 use Rattle.dali_script.specs.declared.stage.Stage.TheVariants.{Terminated, InitialisedOnce}
 use Rattle.dali_script.specs.declared.stage.Stage.TheVariants.{Initialised, RandomisedOnce}
-use Rattle.dali_script.specs.declared.stage.Stage.TheVariants.{HighSent, MiddleSent, NumberSent}
+use Rattle.dali_script.specs.declared.stage.Stage.TheVariants.{HighSent, MiddleSent, NumberSent, LowSent, Hunted}
 use Rattle.dali_script.specs.declared.stage.Stage.TheVariants.{Found as Named, Programmed}
 use Rattle.dali_script.specs.declared.stage.Stage.TheVariants.{Confirmed, HighAsked, MiddleAsked}
 use Rattle.dali_script.specs.Records.{Assignment, Kept}
 use Rattle.dali_search.specs.declared.step.Step.{Step}
 use Rattle.dali_search.specs.declared.step.Step.TheVariants.{Again, Found, Nobody}
 use Rattle.dali_search.specs.Least.{Search, at_first, answered}
+use Rattle.dali_search.specs.Ascending.{Ascent, ascent_at_first, asked_next, ascended}
+use Rattle.dali_search.specs.Ascending.{begun_anew, gone_on, one_if}
 use Rattle.dali_script.specs.declared.orders.End.{End}
 use Rattle.dali_script.specs.declared.orders.End.TheVariants.{AllFound}
 use Rattle.dali_controller.specs.declared.purpose.Purpose.{Purpose}
 use Rattle.dali_controller.specs.declared.purpose.Purpose.TheVariants.{Opening, Probing, Visiting}
 use Rattle.dali_controller.specs.declared.purpose.Purpose.TheVariants.{Resolving, Closing}
-use Rattle.dali_controller.specs.declared.purpose.Purpose.TheVariants.{Asking, Waking}
+use Rattle.dali_controller.specs.declared.purpose.Purpose.TheVariants.{Asking, Waking, Hunting}
 use Rattle.dali_controller.specs.declared.shorts.Shorts.{Shorts}
 use Rattle.dali_controller.specs.declared.way.Way.{Way}
 use Rattle.dali_controller.specs.declared.way.Way.TheVariants.{Fresh, Surveying, Drawing}
 use Rattle.dali_controller.specs.Shorts.{has_short}
 
 -- THE COURSE of a machine: what its running transaction is for, and under which search address; its
--- search; in the visits before the opening, or while short addresses are asked, the first one that
--- was not looked at; and how it began.
+-- search, and in a survey the one that goes up; in the visits before the opening, or while short
+-- addresses are asked, the first one that was not looked at; and how it began.
 pub record Course : Type 0 where
   pub purpose : Purpose
   pub number : SearchAddress
   pub search : Search
+  pub ascent : Ascent
   pub from : ℕ
   pub way : Way
 
@@ -58,6 +61,7 @@ course_at_first = record {
   purpose = Opening;
   number = sought 0xFFFFFF;
   search = at_first;
+  ascent = ascent_at_first;
   from = 0;
   way = Fresh;
 }
@@ -78,6 +82,21 @@ search_turn n (HighSent high) = Some (SearchMiddle n.middle)
 search_turn n (MiddleSent high middle) = Some (SearchLow n.low)
 search_turn n _ = None
 
+-- in a hunt the first search byte that is not yet that of the number, and COMPARE where all are
+abbrev pub byte_to_send : SearchAddress → SearchAddress → Command
+byte_to_send n r =
+    if r.high == n.high
+    then (if r.low == n.low
+        then (if r.middle == n.middle then Compare else SearchMiddle n.middle)
+        else SearchLow n.low)
+    else SearchHigh n.high
+
+-- how many search bytes are not yet those of the number
+abbrev pub bytes_to_send : SearchAddress → SearchAddress → ℕ
+bytes_to_send n r =
+    one_if (not (r.high == n.high)) + one_if (not (r.low == n.low))
+    + one_if (not (r.middle == n.middle))
+
 abbrev pub turn_of : Purpose → SearchAddress → Stage → Option Command
 turn_of Opening n Terminated = Some (Initialise Unaddressed)
 turn_of Opening n InitialisedOnce = Some (Initialise Unaddressed)
@@ -85,6 +104,9 @@ turn_of Opening n Initialised = Some Randomise
 turn_of Opening n RandomisedOnce = Some Randomise
 turn_of Probing n (NumberSent r) = Some Compare
 turn_of Probing n s = search_turn n s
+turn_of Hunting n (HighSent high) = Some (SearchLow n.low)
+turn_of Hunting n (LowSent high low) = Some (SearchMiddle n.middle)
+turn_of Hunting n (Hunted r None left) = Some (byte_to_send n r)
 turn_of Visiting n (NumberSent r) = Some QueryShort
 turn_of Visiting n (Named r b) = Some Withdraw
 turn_of Visiting n (Programmed r a) = Some QueryShort
@@ -112,6 +134,17 @@ probing c = taking c Probing (sought c.search.probe)
 
 abbrev pub searching_anew : Course → Course
 searching_anew c = probing (record c { search = at_first })
+
+-- under the number that the search that goes up asks next
+abbrev pub hunting : Course → Course
+hunting c = taking c Hunting (sought (asked_next c.ascent))
+
+abbrev pub hunting_first : Course → Course
+hunting_first c = hunting (record c { ascent = ascent_at_first })
+
+-- above who was found and withdrawn
+abbrev pub hunting_on : Course → Course
+hunting_on c = hunting (record c { ascent = gone_on c.ascent })
 
 abbrev pub visiting : Course → ℕ → Course
 visiting c r = taking c Visiting (sought r)
@@ -151,6 +184,13 @@ abbrev pub probed : Course → Answer → Course
 probed c h =
     after_step (answered c.search (is_yes h)).step
     (record c { search = answered c.search (is_yes h) })
+
+abbrev pub hunted : Course → Answer → Course
+hunted c h = record c { ascent = ascended c.ascent (is_yes h) }
+
+-- nobody answered under the number that was found
+abbrev pub missed : Course → Course
+missed c = record c { ascent = begun_anew c.ascent }
 
 -- ---------------------------------------------------------------- what is unfinished
 
@@ -229,7 +269,7 @@ is_anothers k heard a r = has_short heard a || is_another r (number_at k.enrolle
 
 -- Before an opening was complete a visit to the next unfinished reservation, or the opening where
 -- there is none; in a survey the next short address is asked, and where there is none gear are
--- woken. Afterwards a new search.
+-- woken. Afterwards a new search, and in a survey the one that goes up goes on.
 abbrev pub visit_or_opening : Course → Option (ℕ × ℕ) → Course
 visit_or_opening c None = opening c
 visit_or_opening c (Some next) = visiting (record c { from = next.0 }) next.1
@@ -243,6 +283,16 @@ going_on_early k Fresh c = visit_or_opening c (next_unfinished k c.from)
 going_on_early k Surveying c = ask_or_wake c (next_asked k c.from)
 going_on_early k Drawing c = opening c
 
+abbrev pub searching_first : Way → Course → Course
+searching_first Fresh c = searching_anew c
+searching_first Surveying c = hunting_first c
+searching_first Drawing c = hunting_first c
+
+abbrev pub searching_on : Way → Course → Course
+searching_on Fresh c = searching_anew c
+searching_on Surveying c = hunting_on c
+searching_on Drawing c = hunting_on c
+
 abbrev pub going_on : Kept → Bool → Course → Course
-going_on k true c = searching_anew c
+going_on k true c = searching_on c.way c
 going_on k false c = going_on_early k c.way c

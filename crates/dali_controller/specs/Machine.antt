@@ -25,7 +25,7 @@ use Rattle.dali_script.specs.declared.orders.Order.{Order}
 use Rattle.dali_script.specs.declared.orders.End.{End}
 use Rattle.dali_script.specs.Due.{frame_put, record_ordered}
 use Rattle.dali_controller.specs.declared.purpose.Purpose.{Purpose}
-use Rattle.dali_controller.specs.declared.purpose.Purpose.TheVariants.{Asking, Waking}
+use Rattle.dali_controller.specs.declared.purpose.Purpose.TheVariants.{Asking, Waking, Hunting}
 use Rattle.dali_controller.specs.declared.shorts.Shorts.{Shorts}
 use Rattle.dali_controller.specs.declared.way.Way.TheVariants.{Surveying}
 use Rattle.dali_controller.specs.Shorts.{with_short, without_short}
@@ -71,8 +71,10 @@ at_first id k = record {
 abbrev pub is_complete : Kept → Option End → Stage → Bool
 is_complete k closing s = is_some closing || not (may_follow k.block k.reserved s)
 
--- and in a survey a transaction may end before, where nothing more is to be heard
+-- and in a survey a transaction may end before, where nothing more is to be heard; a hunt may after
+-- each question
 abbrev pub is_front : Purpose → Bool
+is_front Hunting = true
 is_front (Asking a) = true
 is_front Waking = true
 is_front _ = false

@@ -11,14 +11,17 @@ use Rattle.dali_script.specs.declared.stage.Stage.{Stage}
 use Rattle.dali_script.specs.declared.stage.Stage.TheVariants.{Free, Terminated}
 use Rattle.dali_script.specs.declared.stage.Stage.TheVariants.{Initialised, Opened}
 use Rattle.dali_script.specs.declared.stage.Stage.TheVariants.{HighAsked, MiddleAsked}
-use Rattle.dali_script.specs.declared.stage.Stage.TheVariants.{Probed, Unnamed, Unanswered}
+use Rattle.dali_script.specs.declared.stage.Stage.TheVariants.{Probed, Unnamed, Unanswered, Hunted}
 use Rattle.dali_script.specs.declared.stage.Stage.TheVariants.{Inconclusive}
 use Rattle.dali_script.specs.declared.stage.Stage.TheVariants.{Withdrawn}
 use Rattle.dali_script.specs.declared.stage.Stage.TheVariants.{Spelled}
 use Rattle.dali_script.specs.Records.{Kept, Has, HasRandom, IsFull, IsLeastFree}
 use Rattle.dali_script.specs.Findings.{assigned, finding_of}
 use Rattle.dali_script.specs.Stages.{stage_of}
+use Rattle.dali_frame.specs.declared.frames.Answer.{Answer}
+use Rattle.dali_search.specs.declared.step.Step.TheVariants.{Again}
 use Rattle.dali_search.specs.Least.{Search}
+use Rattle.dali_search.specs.Ascending.{Ascent, asked_next, leads_to}
 use Rattle.dali_script.specs.declared.orders.Input.{Input}
 use Rattle.dali_script.specs.declared.orders.Order.{Order}
 use Rattle.dali_script.specs.declared.orders.Order.TheVariants.{Put, Commit}
@@ -27,11 +30,11 @@ use Rattle.dali_script.specs.declared.orders.End.TheVariants.{BlockFull}
 use Rattle.dali_controller.specs.declared.purpose.Purpose.{Purpose}
 use Rattle.dali_controller.specs.declared.purpose.Purpose.TheVariants.{Opening, Probing, Visiting}
 use Rattle.dali_controller.specs.declared.purpose.Purpose.TheVariants.{Resolving, Closing}
-use Rattle.dali_controller.specs.declared.purpose.Purpose.TheVariants.{Asking, Waking}
+use Rattle.dali_controller.specs.declared.purpose.Purpose.TheVariants.{Asking, Waking, Hunting}
 use Rattle.dali_controller.specs.declared.way.Way.{Way}
 use Rattle.dali_controller.specs.declared.way.Way.TheVariants.{Fresh, Surveying, Drawing}
 use Rattle.dali_controller.specs.Parts.{Parts}
-use Rattle.dali_controller.specs.Course.{Course, closing_of, first_of, least_open}
+use Rattle.dali_controller.specs.Course.{Course, closing_of, first_of, least_open, bytes_to_send}
 use Rattle.dali_controller.specs.Machine.{Machine}
 use Rattle.dali_controller.specs.Parts.{parts_course, machine_of}
 use Rattle.dali_controller.specs.declared.shorts.Shorts.{Shorts}
@@ -39,7 +42,7 @@ use Rattle.dali_controller.specs.Next.{beginning, next_course, goes_on_to, draws
 use Rattle.dali_controller.specs.Orders.{Cause, IsOrderedTo, machine_ordered, IsAnswered}
 use Rattle.dali_controller.specs.Orders.{MayEnrolOn, is_left}
 use Rattle.dali_controller.specs.Orders.{machine_after}
-use Rattle.dali_controller.specs.Whole.{IsReady, IsWithinSilence, Knows, Sends}
+use Rattle.dali_controller.specs.Whole.{IsReady, IsWithinSilence, IsSurvey, Knows, Sends}
 
 -- What holds of a machine's parts between its moments. Its public contract cites none of this.
 
@@ -55,6 +58,7 @@ Arrived k n p (HighAsked b None) =
 Arrived k n p (MiddleAsked b None) =
     ((p ≡ Resolving b) × (b < 64)) ⊎ (p ≡ Asking b)
 Arrived k n p (Probed r h) = (p ≡ Probing) × (r ≡ n)
+Arrived k n p (Hunted r (Some h) left) = (p ≡ Hunting) × (r ≡ n)
 Arrived k n p (Unnamed r) = (p ≡ Visiting) × (r ≡ n)
 Arrived k n p (Unanswered r) = (p ≡ Visiting) × (r ≡ n)
 Arrived k n p (Inconclusive r other) = (p ≡ Visiting) × (r ≡ n)
@@ -63,14 +67,14 @@ Arrived k n p (Spelled b number) = (p ≡ Resolving b) ⊎ (p ≡ Asking b)
 Arrived k n p s = (c : Command) × Sends k n p s c
 
 -- at the end of an opening it is complete, and once gear were woken they are searched
-abbrev pub KnowsWoken : Way → Kept → SearchAddress → Search → Bool → Purpose → Type 0
-KnowsWoken y k n s opened Waking = opened ≡ true
-KnowsWoken y k n s opened p = Knows y k n s opened p
+abbrev pub KnowsWoken : Way → Kept → SearchAddress → Search → Ascent → Bool → Purpose → Type 0
+KnowsWoken y k n s a opened Waking = opened ≡ true
+KnowsWoken y k n s a opened p = Knows y k n s a opened p
 
-abbrev pub KnowsAt : Stage → Way → Kept → SearchAddress → Search → Bool → Purpose → Type 0
-KnowsAt Opened y k n s opened p = opened ≡ true
-KnowsAt Initialised y k n s opened p = KnowsWoken y k n s opened p
-KnowsAt _ y k n s opened p = Knows y k n s opened p
+abbrev pub KnowsAt : Stage → Way → Kept → SearchAddress → Search → Ascent → Bool → Purpose → Type 0
+KnowsAt Opened y k n s a opened p = opened ≡ true
+KnowsAt Initialised y k n s a opened p = KnowsWoken y k n s a opened p
+KnowsAt _ y k n s a opened p = Knows y k n s a opened p
 
 -- a search that led to no gear may just have reached it
 abbrev pub CalmAt : Stage → Purpose → Bool → ℕ → Type 0
@@ -90,7 +94,7 @@ pub record IsHeard (w : Parts) (s : Stage) : Type 0 where
   pub tries : w.tries < 8
   pub arrived : Arrived w.kept w.number w.purpose s
   pub calm : CalmAt s w.purpose w.opened w.silent
-  pub knows : KnowsAt s w.way w.kept w.number w.search w.opened w.purpose
+  pub knows : KnowsAt s w.way w.kept w.number w.search w.ascent w.opened w.purpose
   pub finding : FoundAt s w.finding
   pub trace_finding : FoundAt s (finding_of w.trace)
 
@@ -132,7 +136,7 @@ IsNextTo Drawing w p n =
 pub record Begins (w : Parts) (p : Purpose) (n : SearchAddress) : Type 0 where
   pub tries : w.tries < 8
   pub calm : IsWithinSilence p w.silent
-  pub knows : Knows w.way w.kept n w.search w.opened p
+  pub knows : Knows w.way w.kept n w.search w.ascent w.opened p
   pub turns : Turns w p
   pub unnamed : (r : SearchAddress) → stage_of w.trace ≡ Unnamed r
       → IsUngiven w.way w r × IsNextTo w.way w p n
@@ -202,3 +206,20 @@ IsFirstFree Fresh k heard o =
     MatchOption o (IsFull k.block k.reserved) (IsLeastFree k.block k.reserved)
 IsFirstFree Surveying k heard o = o ≡ least_open k heard
 IsFirstFree Drawing k heard o = o ≡ least_open k heard
+
+-- what holds where the search that goes up asks its next question, after one was answered
+pub record AsksNext (w : Parts) (sent : SearchAddress) (left : ℕ) : Type 0 where
+  pub tries : w.tries < 8
+  pub silent : w.silent < 16
+  pub opened : w.opened ≡ true
+  pub hunting : w.purpose ≡ Hunting
+  pub survey : IsSurvey w.way
+  pub running : leads_to w.ascent ≡ Again
+  pub asked : (h : Answer) × (stage_of w.trace ≡ Hunted sent (Some h) left)
+
+-- the same where it does so in the transaction that runs
+pub record AsksOn (w : Parts) (number sent : SearchAddress) : Type 0 where
+  pub left : ℕ
+  pub next : AsksNext w sent left
+  pub number_is : value_of number ≡ asked_next w.ascent
+  pub room : bytes_to_send number sent < left

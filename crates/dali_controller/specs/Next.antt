@@ -1,14 +1,14 @@
-use Rattle.std.specs.Prelude.{◌≡◌, ℕ, ◌==◌, Bool, true, false, ◌&&◌, Option, Some, None}
+use Rattle.std.specs.Prelude.{◌≡◌, ℕ, ◌==◌, nat_lt, Bool, true, false, ◌&&◌, Option, Some, None}
 use Rattle.std.specs.Prelude.{is_some}
 use Rattle.std.specs.Prelude.{if◌then◌else◌}
 use Rattle.dali_frame.specs.declared.frames.Answer.{Answer}
 use Rattle.dali_frame.specs.declared.numbers.SearchAddress.{SearchAddress}
 use Rattle.dali_frame.specs.Random.{value_of}
-use Rattle.dali_frame.specs.Priority.{FIRST}
+use Rattle.dali_frame.specs.Priority.{FIRST, LATER}
 use Rattle.dali_special.specs.Command.{frame_of}
 use Rattle.dali_script.specs.declared.records.Record.TheVariants.{Reserve}
 use Rattle.dali_script.specs.declared.stage.Stage.{Stage}
-use Rattle.dali_script.specs.declared.stage.Stage.TheVariants.{Free, Opened, Probed, Unnamed}
+use Rattle.dali_script.specs.declared.stage.Stage.TheVariants.{Free, Opened, Probed, Unnamed, Hunted}
 use Rattle.dali_script.specs.declared.stage.Stage.TheVariants.{Unanswered, Inconclusive}
 use Rattle.dali_script.specs.declared.stage.Stage.TheVariants.{Initialised, HighAsked}
 use Rattle.dali_script.specs.Stages.{stage_of}
@@ -19,9 +19,13 @@ use Rattle.dali_script.specs.declared.orders.End.TheVariants.{AllFound, BlockFul
 use Rattle.dali_search.specs.declared.step.Step.{Step}
 use Rattle.dali_search.specs.declared.step.Step.TheVariants.{Again, Found, Nobody}
 use Rattle.dali_search.specs.Least.{answered}
+use Rattle.dali_search.specs.Ascending.{leads_to}
+use Rattle.dali_controller.specs.declared.purpose.Purpose.{Purpose}
+use Rattle.dali_controller.specs.declared.purpose.Purpose.TheVariants.{Hunting}
 use Rattle.dali_controller.specs.declared.way.Way.{Way}
 use Rattle.dali_controller.specs.declared.way.Way.TheVariants.{Fresh, Surveying, Drawing}
-use Rattle.dali_controller.specs.Course.{Course, first_of, searching_anew, visiting, resolving}
+use Rattle.dali_controller.specs.Course.{Course, first_of, searching_first, visiting, resolving}
+use Rattle.dali_controller.specs.Course.{hunting, hunted, missed, byte_to_send, bytes_to_send}
 use Rattle.dali_controller.specs.Course.{closing, drawing, address_for, going_on, is_yes}
 use Rattle.dali_controller.specs.Course.{after_step, least_open, is_anothers}
 use Rattle.dali_controller.specs.Machine.{Machine}
@@ -32,9 +36,13 @@ use Rattle.dali_controller.specs.Machine.{Machine}
 abbrev pub goes_on_to : Machine → Course
 goes_on_to t = going_on t.kept t.opened t.course
 
--- a search that led to no gear: at the sixteenth in a row the close
+-- a search that led to no gear: at the sixteenth in a row the close; the search that goes up begins
+-- anew
+abbrev pub goes_on_anew : Machine → Course
+goes_on_anew t = going_on t.kept t.opened (missed t.course)
+
 abbrev pub silenced : Machine → Course
-silenced t = if t.silent == 16 then closing t.course GaveUp else goes_on_to t
+silenced t = if t.silent == 16 then closing t.course GaveUp else goes_on_anew t
 
 -- gear that did not answer: in the visits before the opening the address that is reserved for its
 -- number is asked
@@ -80,6 +88,16 @@ probed_in t h =
     probed_to t (answered t.course.search (is_yes h)).step
     (record t.course { search = answered t.course.search (is_yes h) })
 
+-- the same in a hunt
+abbrev pub hunted_to : Machine → Step → Course → Course
+hunted_to t Nobody c = draw_or_close (draws t) c AllFound
+hunted_to t Again c = hunting c
+hunted_to t (Found r) c = visiting c r
+
+abbrev pub hunted_in : Machine → Answer → Course
+hunted_in t h =
+    hunted_to t (leads_to (hunted t.course h).ascent) (hunted t.course h)
+
 -- a short address that was silent is asked again
 abbrev pub asked_once : Machine → Bool → Course
 asked_once t true = goes_on_to t
@@ -97,10 +115,11 @@ at_rest t (Some (Halt w)) = goes_on_to t
 
 abbrev pub begins_at : Machine → Stage → Course
 begins_at t Free = at_rest t t.last
-begins_at t Opened = searching_anew t.course
-begins_at t Initialised = searching_anew t.course
+begins_at t Opened = searching_first t.course.way t.course
+begins_at t Initialised = searching_first t.course.way t.course
 begins_at t (HighAsked a high) = asked_once t (t.asked == 0)
 begins_at t (Probed r h) = probed_in t h
+begins_at t (Hunted r (Some h) left) = hunted_in t h
 begins_at t (Unnamed r) = draw_or_close (draws t) t.course BlockFull
 begins_at t (Unanswered r) =
     unanswered t r t.opened (address_for t.kept.reserved (value_of r))
@@ -114,9 +133,25 @@ next_course t = begins_at t (stage_of t.trace)
 abbrev pub beginning : Course → Order
 beginning c = Put FIRST (frame_of (first_of c.purpose c.number))
 
--- an order leaves the course, but a first frame
+-- A hunt goes on with the next question where it has room: for the bytes that change, and COMPARE.
+abbrev pub is_hunting : Purpose → Bool
+is_hunting Hunting = true
+is_hunting p = false
+
+abbrev pub has_room : Course → SearchAddress → ℕ → Bool
+has_room c r left = is_hunting c.purpose && nat_lt (bytes_to_send c.number r) left
+
+abbrev pub question : Course → SearchAddress → ℕ → Order
+question c r left =
+    if has_room c r left then Put LATER (frame_of (byte_to_send c.number r)) else beginning c
+
+-- an order leaves the course, but a first frame, and the next question of a hunt
+abbrev pub course_on : Machine → Stage → Course
+course_on t (Hunted r (Some h) left) = hunted_in t h
+course_on t s = t.course
+
 abbrev pub course_by : Machine → Order → Course
-course_by t (Put p f) = if p == FIRST then next_course t else t.course
+course_by t (Put p f) = if p == FIRST then next_course t else course_on t (stage_of t.trace)
 course_by t (Commit x) = t.course
 course_by t (Done e) = t.course
 course_by t (Halt w) = t.course

@@ -1,6 +1,7 @@
 use Rattle.std.specs.Prelude.{◌≡◌, ℕ, ◌<◌, ◌⊎◌, Bool, true, false, not, ◌==◌}
 use Rattle.std.specs.Prelude.{if◌then◌else◌, List, [], Option, Some, None, is_some}
 use Rattle.dali_frame.specs.declared.frames.Forward.{Forward}
+use Rattle.dali_frame.specs.declared.frames.Answer.{Answer}
 use Rattle.dali_frame.specs.declared.frames.Answer.TheVariants.{Silence}
 use Rattle.dali_frame.specs.declared.numbers.SearchAddress.{SearchAddress}
 use Rattle.dali_frame.specs.Random.{value_of, MASK24}
@@ -12,7 +13,8 @@ use Rattle.dali_script.specs.declared.finding.Finding.{Finding}
 use Rattle.dali_script.specs.declared.records.Record.{Record}
 use Rattle.dali_script.specs.declared.records.Record.TheVariants.{Reserve, Enrol, Release}
 use Rattle.dali_script.specs.declared.trace.Entry.{Entry}
-use Rattle.dali_script.specs.declared.stage.Stage.TheVariants.{Terminated, Probed, Unnamed}
+use Rattle.dali_script.specs.declared.stage.Stage.{Stage}
+use Rattle.dali_script.specs.declared.stage.Stage.TheVariants.{Terminated, Probed, Unnamed, Hunted}
 use Rattle.dali_script.specs.declared.stage.Stage.TheVariants.{Inconclusive, Withdrawn, Spelled}
 use Rattle.dali_script.specs.Records.{Assignment, Has, HasRandom, Fits, MayAdd, IsLeastFree}
 use Rattle.dali_script.specs.Records.{IsFull}
@@ -32,8 +34,8 @@ use Rattle.dali_controller.specs.declared.purpose.Purpose.TheVariants.{Closing, 
 use Rattle.dali_controller.specs.declared.way.Way.{Way}
 use Rattle.dali_controller.specs.declared.way.Way.TheVariants.{Fresh, Surveying, Drawing}
 use Rattle.dali_controller.specs.Course.{Course, closing_of, turn_of, address_for, least_open}
-use Rattle.dali_controller.specs.Next.{course_by, next_course, beginning, BeginsWith, draws}
-use Rattle.dali_controller.specs.Next.{is_withheld}
+use Rattle.dali_controller.specs.Next.{course_by, next_course, beginning, question, BeginsWith}
+use Rattle.dali_controller.specs.Next.{draws, is_withheld}
 
 -- WHAT AN ORDER DOES, to a machine that was told an input.
 
@@ -120,11 +122,16 @@ IsLeft t Drawing r = (is_left t r ≡ true) × (draws t ≡ false)
 
 -- THE CAUSES OF AN END.
 
--- a close is begun with all-found only where the last probe, of FFFFFE, was heard as silence
+-- a close is begun with all-found only where the last COMPARE, under FFFFFE, was heard as silence:
+-- that of a probe, or of a hunt
+abbrev pub AsksFor : SearchAddress → Stage → Type 0
+AsksFor r s =
+    (s ≡ Probed r Silence) ⊎ ((left : ℕ) × (s ≡ Hunted r (Some Silence) left))
+
 abbrev pub Cause : Machine → End → Type 0
 Cause t AllFound =
     (t.opened ≡ true)
-    × ((r : SearchAddress) × (stage_of t.trace ≡ Probed r Silence) × (value_of r ≡ 0xFFFFFE))
+    × ((r : SearchAddress) × AsksFor r (stage_of t.trace) × (value_of r ≡ 0xFFFFFE))
 Cause t BlockFull =
     (r : SearchAddress) × (stage_of t.trace ≡ Unnamed r) × IsLeft t t.course.way (value_of r)
 Cause t GaveUp = t.silent ≡ 16
@@ -228,6 +235,8 @@ pub record IsFollowed (t : Machine) (o : Order) : Type 0 where
   pub unconfirmed : (r : SearchAddress) (other : Option ℕ) → stage_of t.trace ≡ Inconclusive r other
       → o ≡ beginning (next_course t)
   pub enrolled : (b n : ℕ) → t.last ≡ Some (Commit (Enrol b n)) → AfterEnrolled t b n o
+  pub hunted : (r : SearchAddress) (h : Answer) (left : ℕ) → stage_of t.trace ≡ Hunted r (Some h) left
+      → o ≡ question (next_course t) r left
 
 -- THE ORDERS of a machine that was told an input, and that takes a course from then on.
 pub record IsOrderedTo (t : Machine) (c : Course) (o : Order) : Type 0 where

@@ -5,6 +5,7 @@ use Rattle.dali_script.specs.declared.finding.Finding.{Finding}
 use Rattle.dali_script.specs.declared.orders.Order.{Order}
 use Rattle.dali_script.specs.Records.{Kept}
 use Rattle.dali_search.specs.Least.{Search}
+use Rattle.dali_search.specs.Ascending.{Ascent}
 use Rattle.dali_controller.specs.declared.purpose.Purpose.{Purpose}
 use Rattle.dali_controller.specs.declared.shorts.Shorts.{Shorts}
 use Rattle.dali_controller.specs.declared.state.State.{State}
@@ -25,6 +26,7 @@ pub record Parts : Type 0 where
   pub purpose : Purpose
   pub number : SearchAddress
   pub search : Search
+  pub ascent : Ascent
   pub from : ℕ
   pub way : Way
   pub heard : Shorts
@@ -43,6 +45,7 @@ with_kept s k = record {
   purpose = s.purpose;
   number = s.number;
   search = s.search;
+  ascent = s.ascent;
   from = s.from;
   way = s.way;
   heard = s.heard;
@@ -55,6 +58,7 @@ course_of s = record {
   purpose = s.purpose;
   number = s.number;
   search = s.search;
+  ascent = s.ascent;
   from = s.from;
   way = s.way;
 }
@@ -64,6 +68,7 @@ parts_course p = record {
   purpose = p.purpose;
   number = p.number;
   search = p.search;
+  ascent = p.ascent;
   from = p.from;
   way = p.way;
 }

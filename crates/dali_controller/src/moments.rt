@@ -1,6 +1,7 @@
 ghost use Rattle.std.specs.Prelude.{◌≡◌, ◌⊎◌, ◌↔◌, ℕ, ◌<◌, true, false, Option, Some, None, IsTrue};
 ghost use Rattle.dali_frame.specs.Random.{value_of, MASK24};
 ghost use Rattle.dali_frame.specs.declared.numbers.SearchAddress.{SearchAddress};
+ghost use Rattle.dali_frame.specs.declared.frames.Answer.{Answer};
 ghost use Rattle.dali_frame.specs.declared.frames.Answer.TheVariants.{Silence};
 ghost use Rattle.dali_frame.specs.Priority.{LATER};
 ghost use Rattle.dali_special.specs.declared.command.Command.{Command};
@@ -18,14 +19,14 @@ ghost use Rattle.dali_script.specs.declared.orders.Due.TheVariants as due;
 ghost use Rattle.dali_controller.specs.Course.{is_yes};
 ghost use Rattle.dali_controller.specs.Machine.{machine_lost};
 
-use crate::purpose::Purpose;
+use crate::purpose::{Purpose, bytes_to_send};
 use crate::state::State;
 use crate::surveying::{is_anothers, least_open, next_asked};
 use crate::unfinished::next_unfinished;
 use crate::way::Way;
 use dali_frame::{Answer, Forward, Random24, SearchAddress, Short};
 use dali_script::{End, Fault, Order, Record, Records, Stage, Trace};
-use dali_search::{Search, Step};
+use dali_search::{Ascent, Search, Step};
 use dali_special::Command;
 
 /// The tries of one transaction.
@@ -48,17 +49,20 @@ impl State {
     ghost use Rattle.dali_controller.specs.Parts.{with_kept, machine_with, course_of};
     ghost use Rattle.dali_controller.specs.Whole.{IsWhole};
     ghost use Rattle.dali_controller.specs.Moments.{IsHeard, IsBetween, Closes, Settles, IsNext};
-    ghost use Rattle.dali_controller.specs.Moments.{Enrolled, IsStep, Starts, Draws, IsFirstFree, IsUngiven};
+    ghost use Rattle.dali_controller.specs.Moments.{Enrolled, IsStep, Starts, Draws, IsFirstFree, IsUngiven, AsksNext};
     ghost use Rattle.dali_controller.specs.Course.{opening, probing, searching_anew, visiting, resolving, closing};
+    ghost use Rattle.dali_controller.specs.Course.{hunting, searching_first, searching_on};
+    ghost use Rattle.dali_controller.specs.Whole.{IsSurvey};
+    ghost use Rattle.dali_search.specs.Ascending.{leads_to};
     ghost use Rattle.dali_controller.specs.Course.{going_on, turn_of, visit_or_opening, next_unfinished, taking};
     ghost use Rattle.dali_controller.specs.Course.{ask_or_wake, next_asked, waking, drawing};
     ghost use Rattle.dali_controller.specs.Next.{course_by, next_course, beginning, silenced, BeginsWith};
-    ghost use Rattle.dali_controller.specs.Next.{draws, draw_or_close, is_withheld};
+    ghost use Rattle.dali_controller.specs.Next.{draws, draw_or_close, is_withheld, question};
     ghost use Rattle.dali_controller.specs.Machine.{machine_told};
     ghost use Rattle.dali_controller.specs.Orders.{AfterFinding, AfterEnrolled, IsFollowed, IsSought};
     ghost use Rattle.dali_script.specs.declared.records.Record.TheVariants.{Reserve, Enrol};
     ghost use Rattle.dali_script.specs.declared.orders.Order.TheVariants.{Commit};
-    ghost use Rattle.dali_script.specs.declared.stage.Stage.TheVariants.{Inconclusive, Spelled};
+    ghost use Rattle.dali_script.specs.declared.stage.Stage.TheVariants.{Inconclusive, Spelled, Hunted};
     ghost use Rattle.dali_script.specs.Stages.{stage_of};
 
     /// The start: visits to what is unfinished, and then an opening.
@@ -101,7 +105,7 @@ impl State {
         ensures whole { IsWhole (machine_with self.new kept.now) }
     {
         if self.opened {
-            return self.search_anew(kept);
+            return self.search_on(kept);
         }
         match self.way {
             Way::Fresh => self.visit_or_open(kept),
@@ -214,6 +218,58 @@ impl State {
         }
     }
 
+    /// Where gear are searched: a new search, or in a survey the one that goes up, above who was found last.
+    fn search_on(&mut self, kept: &Records<'_>) -> Order
+        requires between { IsBetween (with_kept self.old kept.now) }
+        requires opened { self.old.opened ≡ true }
+
+        ensures starts { Starts (searching_on self.old.way (course_of self.old)) result (with_kept self.new kept.now) }
+        ensures next { IsNext (machine_with self.old kept.now) result (machine_with self.new kept.now) }
+        ensures whole { IsWhole (machine_with self.new kept.now) }
+    {
+        match self.way {
+            Way::Fresh => self.search_anew(kept),
+            Way::Surveying | Way::Drawing => {
+                self.ascent.go_on();
+                self.hunt(kept)
+            }
+        }
+    }
+
+    /// Gear are searched from now on.
+    fn search_first(&mut self, kept: &Records<'_>) -> Order
+        requires between { IsBetween (with_kept self.old kept.now) }
+        requires opened { self.old.opened ≡ true }
+
+        ensures starts { Starts (searching_first self.old.way (course_of self.old)) result (with_kept self.new kept.now) }
+        ensures next { IsNext (machine_with self.old kept.now) result (machine_with self.new kept.now) }
+        ensures whole { IsWhole (machine_with self.new kept.now) }
+    {
+        match self.way {
+            Way::Fresh => self.search_anew(kept),
+            Way::Surveying | Way::Drawing => {
+                self.ascent = Ascent::new();
+                self.hunt(kept)
+            }
+        }
+    }
+
+    /// The transaction that asks under the number of the search that goes up.
+    #[tactic(auto, using(crate::proofs::Steps::hunts))]
+    fn hunt(&mut self, kept: &Records<'_>) -> Order
+        requires between { IsBetween (with_kept self.old kept.now) }
+        requires opened { self.old.opened ≡ true }
+        requires survey { IsSurvey self.old.way }
+        requires running { leads_to self.old.ascent ≡ search.Again }
+
+        ensures starts { Starts (hunting (course_of self.old)) result (with_kept self.new kept.now) }
+        ensures next { IsNext (machine_with self.old kept.now) result (machine_with self.new kept.now) }
+        ensures whole { IsWhole (machine_with self.new kept.now) }
+    {
+        let number = SearchAddress::of(self.ascent.probe());
+        self.begin(kept, Purpose::Hunting, number)
+    }
+
     fn search_anew(&mut self, kept: &Records<'_>) -> Order
         requires between { IsBetween (with_kept self.old kept.now) }
         requires opened { self.old.opened ≡ true }
@@ -310,6 +366,8 @@ impl State {
             → result ≡ beginning (next_course (machine_with self.old kept.now)) }
         ensures unconfirmed { (r : SearchAddress) (other : Option ℕ) → stage_of self.old.trace ≡ Inconclusive r other
             → result ≡ beginning (next_course (machine_with self.old kept.now)) }
+        ensures hunted { (r : SearchAddress) (h : Answer) (left : ℕ) → stage_of self.old.trace ≡ Hunted r (Some h) left
+            → result ≡ question (next_course (machine_with self.old kept.now)) r left }
         ensures begins { BeginsWith (course_of self.new) result }
         ensures course { course_of self.new ≡ course_by (machine_with self.old kept.now) result }
         ensures next { IsNext (machine_with self.old kept.now) result (machine_with self.new kept.now) }
@@ -333,6 +391,8 @@ impl State {
             → result ≡ beginning (next_course (machine_with self.old kept.now)) }
         ensures unconfirmed { (r : SearchAddress) (other : Option ℕ) → stage_of self.old.trace ≡ Inconclusive r other
             → result ≡ beginning (next_course (machine_with self.old kept.now)) }
+        ensures hunted { (r : SearchAddress) (h : Answer) (left : ℕ) → stage_of self.old.trace ≡ Hunted r (Some h) left
+            → result ≡ question (next_course (machine_with self.old kept.now)) r left }
         ensures begins { BeginsWith (course_of self.new) result }
         ensures course { course_of self.new ≡ course_by (machine_with self.old kept.now) result }
         ensures next { IsNext (machine_with self.old kept.now) result (machine_with self.new kept.now) }
@@ -343,6 +403,7 @@ impl State {
             Stage::Initialised => self.woken(kept),
             Stage::Opened => self.all_drawn(kept),
             Stage::Probed(_, heard) => self.probed(kept, heard),
+            Stage::Hunted(sent, heard, left) => self.hunted(kept, sent, heard, left),
             Stage::Unnamed(number) => self.unnamed(kept, number),
             Stage::Unanswered(number) => self.unanswered(kept, number),
             Stage::Inconclusive(..) => self.silenced(kept),
@@ -357,7 +418,6 @@ impl State {
             | Stage::MiddleSent(..)
             | Stage::NumberSent(_)
             | Stage::LowSent(..)
-            | Stage::Hunted(..)
             | Stage::Found(..)
             | Stage::Programmed(..)
             | Stage::Confirmed(..)
@@ -379,6 +439,7 @@ impl State {
             Purpose::Closing(end) => self.done(kept, end),
             Purpose::Opening
             | Purpose::Probing
+            | Purpose::Hunting
             | Purpose::Visiting
             | Purpose::Resolving(_)
             | Purpose::Asking(_)
@@ -396,7 +457,7 @@ impl State {
         ensures next { IsNext (machine_with self.old kept.now) result (machine_with self.new kept.now) }
         ensures whole { IsWhole (machine_with self.new kept.now) }
     {
-        self.search_anew(kept)
+        self.search_first(kept)
     }
 
     /// A short address was asked for the first byte of a random address, and no byte was heard. Where it was silent, it
@@ -427,7 +488,7 @@ impl State {
         ensures next { IsNext (machine_with self.old kept.now) result (machine_with self.new kept.now) }
         ensures whole { IsWhole (machine_with self.new kept.now) }
     {
-        self.search_anew(kept)
+        self.search_first(kept)
     }
 
     /// COMPARE was sent, and this was heard.
@@ -443,6 +504,57 @@ impl State {
             Step::Again => self.probe(kept),
             Step::Found(found) => self.visit(kept, found),
             Step::Nobody => self.nobody(kept),
+        }
+    }
+
+    /// COMPARE was sent in a hunt, and this was heard; so many frames may follow.
+    fn hunted(&mut self, kept: &Records<'_>, sent: SearchAddress, last: Option<Answer>, left: u8) -> Order
+        requires heard { IsHeard (with_kept self.old kept.now) (stage.Hunted sent last left) }
+        requires over { turn_of self.old.purpose self.old.number (stage.Hunted sent last left) ≡ None }
+
+        ensures asked { result ≡ question (next_course (machine_with self.old kept.now)) sent left }
+        ensures begins { BeginsWith (course_of self.new) result }
+        ensures course { course_of self.new ≡ course_by (machine_with self.old kept.now) result }
+        ensures next { IsNext (machine_with self.old kept.now) result (machine_with self.new kept.now) }
+        ensures whole { IsWhole (machine_with self.new kept.now) }
+    {
+        match last {
+            Some(heard) => self.answered(kept, sent, heard, left),
+            None => unreachable!(),
+        }
+    }
+
+    /// A question of a hunt was answered so.
+    fn answered(&mut self, kept: &Records<'_>, sent: SearchAddress, heard: Answer, left: u8) -> Order
+        requires { IsHeard (with_kept self.old kept.now) (stage.Hunted sent (Some heard) left) }
+
+        ensures asked { result ≡ question (next_course (machine_with self.old kept.now)) sent left }
+        ensures begins { BeginsWith (course_of self.new) result }
+        ensures course { course_of self.new ≡ course_by (machine_with self.old kept.now) result }
+        ensures next { IsNext (machine_with self.old kept.now) result (machine_with self.new kept.now) }
+        ensures whole { IsWhole (machine_with self.new kept.now) }
+    {
+        match self.ascent.answer(is_yes(heard)) {
+            Step::Again => self.ask_next(kept, sent, left),
+            Step::Found(found) => self.visit(kept, found),
+            Step::Nobody => self.nobody(kept),
+        }
+    }
+
+    /// The next question of a hunt: in the transaction that runs, where that has room for it.
+    fn ask_next(&mut self, kept: &Records<'_>, sent: SearchAddress, left: u8) -> Order
+        requires { AsksNext (with_kept self.old kept.now) sent left }
+
+        ensures asked { result ≡ question (hunting (course_of self.old)) sent left }
+        ensures course { course_of self.new ≡ hunting (course_of self.old) }
+        ensures next { IsNext (machine_with self.old kept.now) result (machine_with self.new kept.now) }
+        ensures whole { IsWhole (machine_with self.new kept.now) }
+    {
+        let number = SearchAddress::of(self.ascent.probe());
+        if bytes_to_send(number, sent) < left {
+            self.ask_on(kept, number, sent)
+        } else {
+            self.hunt(kept)
         }
     }
 
@@ -599,6 +711,7 @@ impl State {
             Purpose::Asking(_) => random < Random24::MASK,
             Purpose::Opening
             | Purpose::Probing
+            | Purpose::Hunting
             | Purpose::Visiting
             | Purpose::Resolving(_)
             | Purpose::Closing(_)
@@ -633,10 +746,10 @@ impl State {
         ensures whole { IsWhole (machine_with self.new kept.now) }
     {
         if self.silent == SILENT {
-            self.close(kept, End::GaveUp)
-        } else {
-            self.go_on(kept)
+            return self.close(kept, End::GaveUp);
         }
+        self.ascent.begin_anew();
+        self.go_on(kept)
     }
 
     /// The gear with this short address and this random address was found.

@@ -1,5 +1,5 @@
-ghost use Rattle.std.specs.Prelude.{◌≡◌};
-ghost use Rattle.dali_controller.specs.Course.{search_turn};
+ghost use Rattle.std.specs.Prelude.{◌≡◌, ◌≤◌};
+ghost use Rattle.dali_controller.specs.Course.{search_turn, byte_to_send, bytes_to_send};
 
 use dali_frame::{SearchAddress, Short};
 use dali_script::{End, Stage};
@@ -12,6 +12,8 @@ pub enum Purpose {
     Opening,
     /// To ask whether some gear is at most the search's number.
     Probing,
+    /// To ask so, one number of the search that goes up after the other, in a survey.
+    Hunting,
     /// To find the gear at a number, and to program it where it has no short address.
     Visiting,
     /// To ask the gear with a short address for its random address, where the gear with the random address that it is
@@ -37,6 +39,7 @@ impl Purpose {
             Purpose::Closing(end) => Some(end),
             Purpose::Opening
             | Purpose::Probing
+            | Purpose::Hunting
             | Purpose::Visiting
             | Purpose::Resolving(_)
             | Purpose::Asking(_)
@@ -50,7 +53,9 @@ impl Purpose {
     {
         match *self {
             Purpose::Opening | Purpose::Closing(_) | Purpose::Waking => Command::Terminate,
-            Purpose::Probing | Purpose::Visiting => Command::SearchHigh(number.high),
+            Purpose::Probing | Purpose::Hunting | Purpose::Visiting => {
+                Command::SearchHigh(number.high)
+            }
             Purpose::Resolving(short) | Purpose::Asking(short) => {
                 Command::RandomByte(short, Part::High)
             }
@@ -72,6 +77,12 @@ impl Purpose {
             Purpose::Probing => match *stage {
                 Stage::NumberSent(_) => Some(Command::Compare),
                 _ => search_turn(number, stage),
+            },
+            Purpose::Hunting => match *stage {
+                Stage::HighSent(_) => Some(Command::SearchLow(number.low)),
+                Stage::LowSent(..) => Some(Command::SearchMiddle(number.middle)),
+                Stage::Hunted(sent, None, _) => Some(byte_to_send(number, sent)),
+                _ => None,
             },
             Purpose::Visiting => match *stage {
                 Stage::NumberSent(_) | Stage::Programmed(..) => Some(Command::QueryShort),
@@ -108,4 +119,29 @@ fn search_turn(number: SearchAddress, stage: &Stage) -> Option<Command>
         Stage::MiddleSent(..) => Some(Command::SearchLow(number.low)),
         _ => None,
     }
+}
+
+/// In a hunt the first search byte that is not yet that of the number, and COMPARE where all are.
+pub(crate) fn byte_to_send(number: SearchAddress, sent: SearchAddress) -> Command
+    ensures { result ≡ byte_to_send number sent }
+{
+    if sent.high != number.high {
+        Command::SearchHigh(number.high)
+    } else if sent.low != number.low {
+        Command::SearchLow(number.low)
+    } else if sent.middle != number.middle {
+        Command::SearchMiddle(number.middle)
+    } else {
+        Command::Compare
+    }
+}
+
+/// How many search bytes are not yet those of the number.
+pub(crate) fn bytes_to_send(number: SearchAddress, sent: SearchAddress) -> u8
+    ensures value { result ≡ bytes_to_send number sent }
+    ensures most { result ≤ 3 }
+{
+    u8::from(sent.high != number.high)
+        + u8::from(sent.low != number.low)
+        + u8::from(sent.middle != number.middle)
 }

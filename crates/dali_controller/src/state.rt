@@ -15,12 +15,12 @@ ghost use Rattle.dali_controller.specs.Machine.{opened_after, woken_after, heard
 ghost use Rattle.dali_controller.specs.Machine.{marked_at, asked_at};
 ghost use Rattle.dali_controller.specs.Orders.{machine_ordered, AfterMaskOn};
 
-use crate::purpose::Purpose;
+use crate::purpose::{Purpose, byte_to_send};
 use crate::shorts::Shorts;
 use crate::way::Way;
 use dali_frame::{Answer, Forward, Priority, Random24, SearchAddress};
 use dali_script::{End, Fault, Finding, Order, Record, Records, Stage, Trace};
-use dali_search::Search;
+use dali_search::{Ascent, Search};
 use dali_special::Command;
 
 /// How often a short address is asked that is silent.
@@ -52,6 +52,8 @@ pub struct State {
     pub number: SearchAddress,
     /// The search for the least random address.
     pub search: Search,
+    /// In a survey the search that goes up from the random address that was found last.
+    pub ascent: Ascent,
     /// In the visits before the opening, and while a survey asks, the first short address that was not looked at.
     pub from: u8,
     /// How it began, and how far a survey has come.
@@ -66,8 +68,8 @@ impl State {
     ghost use Rattle.dali_controller.specs.Parts.{with_kept, machine_with, course_of};
     ghost use Rattle.dali_controller.specs.Moments.{IsHeard, Begins};
     ghost use Rattle.dali_controller.specs.Whole.{IsWhole, Sends, IsReady};
-    ghost use Rattle.dali_controller.specs.Moments.{IsNext, Starts};
-    ghost use Rattle.dali_controller.specs.Course.{closing_of, taking};
+    ghost use Rattle.dali_controller.specs.Moments.{IsNext, Starts, AsksOn};
+    ghost use Rattle.dali_controller.specs.Course.{closing_of, taking, byte_to_send};
 
     /// The same state once more.
     pub(crate) fn copy(&self) -> State
@@ -84,6 +86,7 @@ impl State {
             purpose: self.purpose,
             number: self.number,
             search: self.search.copy(),
+            ascent: self.ascent.copy(),
             from: self.from,
             way: self.way,
             heard: self.heard,
@@ -124,11 +127,14 @@ impl State {
         }
     }
 
-    /// Whether the running transaction is one of a survey, and sends no more.
+    /// Whether the running transaction is one of a survey, and may end here.
     fn is_ended(&self) -> bool
         ensures { result ≡ is_ended self.now.purpose self.now.number (stage_of self.now.trace) }
     {
-        let is_front = matches!(self.purpose, Purpose::Asking(_) | Purpose::Waking);
+        let is_front = matches!(
+            self.purpose,
+            Purpose::Asking(_) | Purpose::Waking | Purpose::Hunting
+        );
         is_front
             && self
                 .purpose
@@ -156,6 +162,7 @@ impl State {
             Purpose::Asking(_) => marked_at(&self.trace.stage(), heard, self.heard),
             Purpose::Opening
             | Purpose::Probing
+            | Purpose::Hunting
             | Purpose::Visiting
             | Purpose::Resolving(_)
             | Purpose::Closing(_)
@@ -171,6 +178,7 @@ impl State {
             Purpose::Asking(_) => asked_at(&self.trace.stage(), heard, self.asked),
             Purpose::Opening
             | Purpose::Probing
+            | Purpose::Hunting
             | Purpose::Visiting
             | Purpose::Resolving(_)
             | Purpose::Closing(_)
@@ -222,6 +230,22 @@ impl State {
     {
         let priority = Priority::LATER;
         let frame = command.write();
+        self.last = Some(Order::Put(priority, frame));
+        Order::Put(priority, frame)
+    }
+
+    /// Asks the next question of a hunt in the transaction that runs, under whose search address the last one was asked.
+    pub(crate) fn ask_on(&mut self, kept: &Records<'_>, number: SearchAddress, sent: SearchAddress) -> Order
+        requires { AsksOn (with_kept self.old kept.now) number sent }
+
+        ensures order { result ≡ order.Put LATER (frame_of (byte_to_send number sent)) }
+        ensures course { course_of self.new ≡ taking (course_of self.old) purpose.Hunting number }
+        ensures next { IsNext (machine_with self.old kept.now) result (machine_with self.new kept.now) }
+        ensures whole { IsWhole (machine_with self.new kept.now) }
+    {
+        let priority = Priority::LATER;
+        let frame = byte_to_send(number, sent).write();
+        self.number = number;
         self.last = Some(Order::Put(priority, frame));
         Order::Put(priority, frame)
     }

@@ -10,7 +10,7 @@ use crate::state::State;
 use crate::way::Way;
 use dali_frame::SearchAddress;
 use dali_script::{Due, Input, Order, Record, Records, Trace};
-use dali_search::Search;
+use dali_search::{Ascent, Search};
 
 impl State {
     ghost use Rattle.dali_controller.specs.Machine.{at_first};
@@ -34,6 +34,7 @@ impl State {
             purpose: Purpose::Opening,
             number: SearchAddress::MASK,
             search: Search::new(),
+            ascent: Ascent::new(),
             from: 0,
             way: Way::Fresh,
             heard: Shorts::NONE,

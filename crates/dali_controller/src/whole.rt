@@ -5,12 +5,12 @@ ghost use Rattle.dali_special.specs.Command.{command_of};
 ghost use Rattle.dali_script.specs.Records.{Fits, MayAdd, Has, HasRandom};
 ghost use Rattle.dali_script.specs.Stages.{stage_of};
 ghost use Rattle.dali_script.specs.declared.stage.Stage.TheVariants as stage;
-ghost use Rattle.dali_controller.specs.declared.purpose.Purpose.TheVariants.{Opening, Resolving, Asking};
+ghost use Rattle.dali_controller.specs.declared.purpose.Purpose.TheVariants.{Opening, Resolving, Asking, Hunting};
 ghost use Rattle.dali_controller.specs.declared.way.Way.TheVariants.{Fresh};
 ghost use Rattle.dali_controller.specs.Whole.{IsWithinSilence, IsMet};
 
 use crate::moments::{SILENT, TRIES};
-use crate::purpose::Purpose;
+use crate::purpose::{Purpose, byte_to_send, bytes_to_send};
 use crate::state::State;
 use crate::way::Way;
 use dali_frame::{Forward, Random24, SearchAddress, Short};
@@ -20,7 +20,7 @@ use dali_special::Command;
 
 impl State {
     ghost use Rattle.dali_controller.specs.Parts.{machine_with};
-    ghost use Rattle.dali_controller.specs.Course.{turn_of};
+    ghost use Rattle.dali_controller.specs.Course.{turn_of, byte_to_send, bytes_to_send};
     ghost use Rattle.dali_controller.specs.Whole.{IsWhole, IsReady, Knows, Sends, IsChosen};
 
     /// Whether the last order is one that a machine gives in this state.
@@ -70,13 +70,19 @@ impl State {
     /// Whether what is known while its transaction runs is so.
     fn knows(&self, kept: &Records<'_>) -> bool
         ensures { IsTrue result
-            ↔ Knows self.now.way kept.now self.now.number self.now.search self.now.opened self.now.purpose }
+            ↔ Knows self.now.way kept.now self.now.number self.now.search self.now.ascent self.now.opened self.now.purpose }
     {
         let number = self.number.value();
         match self.purpose {
             Purpose::Opening => !self.opened || !matches!(self.way, Way::Fresh),
             Purpose::Probing => {
                 self.opened && self.search.step() == Step::Again && number == self.search.probe()
+            }
+            Purpose::Hunting => {
+                self.opened
+                    && !matches!(self.way, Way::Fresh)
+                    && self.ascent.step() == Step::Again
+                    && number == self.ascent.probe()
             }
             Purpose::Visiting => {
                 number < Random24::MASK && (self.opened || self.is_visited(kept, number))
@@ -133,8 +139,18 @@ impl State {
             Stage::Unnamed(number) => {
                 matches!(self.purpose, Purpose::Visiting) && number == self.number
             }
+            Stage::Hunted(sent, _, left) => self.asks(sent, left, command),
             _ => self.turns(stage, command),
         }
+    }
+
+    /// Whether a hunt sends this command after those that have sent a search address, where so many frames may follow.
+    fn asks(&self, sent: SearchAddress, left: u8, command: Command) -> bool
+        ensures { IsTrue result ↔ ((self.now.purpose ≡ Hunting) × (command ≡ byte_to_send self.now.number sent)
+            × (bytes_to_send self.now.number sent < left)) }
+    {
+        let is_hunting = matches!(self.purpose, Purpose::Hunting);
+        is_hunting && command == byte_to_send(self.number, sent) && bytes_to_send(self.number, sent) < left
     }
 
     /// Whether the transaction sends this command at a stage past the first, but PROGRAM SHORT ADDRESS.
@@ -158,6 +174,7 @@ fn is_within_silence(purpose: Purpose, silent: u8) -> bool
         Purpose::Closing(_)
         | Purpose::Opening
         | Purpose::Probing
+        | Purpose::Hunting
         | Purpose::Visiting
         | Purpose::Resolving(_)
         | Purpose::Asking(_)
@@ -196,6 +213,7 @@ fn asks(purpose: Purpose, asked: Short) -> bool
         Purpose::Resolving(short) | Purpose::Asking(short) => short == asked,
         Purpose::Opening
         | Purpose::Probing
+        | Purpose::Hunting
         | Purpose::Visiting
         | Purpose::Closing(_)
         | Purpose::Waking => false,

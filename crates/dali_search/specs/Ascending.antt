@@ -138,6 +138,15 @@ begun_anew a = record {
   top = a.top;
 }
 
+-- after an end: above who was found, and anew where nobody was left
+abbrev pub gone_on_from : Step → Ascent → Ascent
+gone_on_from Again a = a
+gone_on_from (Found r) a = above a r
+gone_on_from Nobody a = begun_anew a
+
+abbrev pub gone_on : Ascent → Ascent
+gone_on a = gone_on_from (leads_to a) a
+
 -- ---------------------------------------------------------------- what it says of a set
 
 -- WHAT IS KNOWN OF A SET: no member is below `low`, and some member is at most `high`, unless

@@ -4,7 +4,7 @@ ghost use Rattle.dali_search.specs.Least.{IsBelow, Gives, Says, NumberOf};
 ghost use Rattle.dali_search.specs.Ascending.{with_ones, apart, end_of_block, scale, from_known, asked_next};
 ghost use Rattle.dali_search.specs.Ascending.{leads_to, told_yes, told_no, steps_after, silent_after, ascended};
 ghost use Rattle.dali_search.specs.Ascending.{IsAscent, Knows, answers_left};
-ghost use Rattle.dali_search.specs.Ascending.{ascent_at_first, above, begun_anew};
+ghost use Rattle.dali_search.specs.Ascending.{ascent_at_first, above, begun_anew, gone_on};
 
 use crate::step::Step;
 use dali_frame::Random24;
@@ -118,6 +118,21 @@ impl Ascent {
             silent: 0,
             found: 0,
             top: 0,
+        }
+    }
+
+    /// The same ascent once more.
+    pub fn copy(&self) -> Ascent
+        ensures { result ≡ self.now }
+    {
+        Ascent {
+            low: self.low,
+            high: self.high,
+            steps: self.steps,
+            is_anew: self.is_anew,
+            silent: self.silent,
+            found: self.found,
+            top: self.top,
         }
     }
 
@@ -302,5 +317,18 @@ impl Ascent {
         self.steps = 0;
         self.is_anew = 0 < self.found;
         self.silent = 0;
+    }
+
+    /// Goes on after an end: above the member that was found, and anew where nobody was left. While it goes on nothing
+    /// changes.
+    pub fn go_on(&mut self)
+        ensures changed { self.new ≡ gone_on self.old }
+        ensures again { leads_to self.new ≡ Again }
+    {
+        match self.step() {
+            Step::Again => {}
+            Step::Found(_) => self.go_above(),
+            Step::Nobody => self.begin_anew(),
+        }
     }
 }

@@ -6,4 +6,4 @@ pub returns-clause-followed : goal.returns-clause-followed
 returns-clause-followed c =
     followed_heard (with_kept c.args.self.now c.args.kept.now) (with_kept c.hear-stage.new.self c.args.kept.now)
     c.after.result c.args.frame c.args.heard c.requires.put c.hear-stage.ensures.told c.after.ensures.sent c.after.ensures.told c.after.ensures.another
-    c.after.ensures.unconfirmed
+    c.after.ensures.unconfirmed c.after.ensures.hunted

@@ -1,7 +1,7 @@
 use Rattle.std.proofs.Common.{◌≡◌, ◌+◌, arith}
 use Rattle.std.proofs.lemmas.Bool.Decides.{nat_tests}
 use Rattle.dali_controller.proofs.Steps.{lost_begins, lost_ended, lost_next}
-use Rattle.dali_controller.proofs.Courses.{followed_lost}
+use Rattle.dali_controller.proofs.Courses.{followed_lost, lost_course}
 use Rattle.dali_controller.specs.Parts.{with_kept}
 use Rattle.dali_controller.proofs.state.State.lost.Goals as goal
 
@@ -24,3 +24,8 @@ returns-then-self-eq-TRIES-clause-followed c = followed_lost (with_kept c.args.s
 
 pub returns-clause-followed : goal.returns-clause-followed
 returns-clause-followed c = followed_lost (with_kept c.args.self.now c.args.kept.now) c.begin.result c.requires.put
+
+pub returns-clause-course : goal.returns-clause-course
+returns-clause-course c =
+    lost_course (with_kept c.args.self.now c.args.kept.now) c.new-self.result _ (with_kept c.begin.new.self c.args.kept.now) c.requires.put c.new-self.ensures
+    c.begin.ensures.starts
