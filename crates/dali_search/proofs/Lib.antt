@@ -1,6 +1,6 @@
 pub mod Agreement
-mod Ascents
-mod Blocks
+pub mod Ascents
+pub mod Blocks
 pub mod Bytes
 mod Heard
 mod Narrowing
