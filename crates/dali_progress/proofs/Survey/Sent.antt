@@ -435,7 +435,7 @@ opened_next Hunting n k s t c hunt is = stays_opened t
 opened_next Visiting n k s t c hunt is = stays_opened t
 opened_next _ n k s t c hunt is = absurd hunt
 
-abbrev HuntedTo : Purpose → Way → Stage → Kept → Shorts → Bool → Search → SearchAddress → Begun → List Gear → List ℕ → ℕ → Command → Answer → Type 0
+abbrev HuntedTo : Purpose → Way → Stage → Kept → Shorts → Bool → Ascent → SearchAddress → Begun → List Gear → List ℕ → ℕ → Command → Answer → Type 0
 HuntedTo p y s k heard opened x n start gs numbers left c h =
     (l : ℕ) × (left ≡ suc l) × Hunts true p y (next_stage s c h) k heard opened x n start (row_after Everyone c 0 gs numbers) l
 
@@ -635,7 +635,7 @@ asked_unopened : (s : Stage) (a asked : ℕ) (gs : List Gear) → AskStage s a a
 asked_unopened stage.Opened a asked gs at = absurd at
 asked_unopened _ a asked gs at = refl
 
-abbrev pub SurveySent : Purpose → Way → Stage → Kept → Shorts → Bool → ℕ → Search → SearchAddress → ℕ → Begun → List Gear → List ℕ → ℕ → Command
+abbrev pub SurveySent : Purpose → Way → Stage → Kept → Shorts → Bool → ℕ → Ascent → SearchAddress → ℕ → Begun → List Gear → List ℕ → ℕ → Command
     → Answer → Type 0
 SurveySent p y s k heard opened asked x n from start gs numbers left c h =
     (l : ℕ) × (left ≡ suc l)
