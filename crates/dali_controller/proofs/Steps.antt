@@ -152,33 +152,33 @@ goes_hunted k n p r last left c hunting is room =
     subst (λ q. Goes k n q (Hunted r last left) c) (sym hunting)
     (subst (λ d. Goes k n Hunting (Hunted r last left) d) (sym is)
     (go (r.high == n.high) refl (r.low == n.low) refl (r.middle == n.middle) refl room)) where
-  some : (left == 0) ≡ false
-  some = grind (arith, nat_tests, room)
+      some : (left == 0) ≡ false
+      some = grind (arith, nat_tests, room)
 
-  asks : (d : Command) → is_asking d ≡ true → ((h : Answer) → Arrived k n Hunting (unwrap_or (hunted r (left - 1) d h) Over)) → IsSpelled d
-      → ((g : Forward) → d ≡ Arc g → ⊥) → Goes k n Hunting (Hunted r last left) d
-  asks d ask arrives spelled addressing = going (turn (rw some (leads_asking r (left - 1) d ask)) refl) spelled addressing (λ later. refl) (λ h. rw some (arrives h))
+      asks : (d : Command) → is_asking d ≡ true → ((h : Answer) → Arrived k n Hunting (unwrap_or (hunted r (left - 1) d h) Over)) → IsSpelled d
+          → ((g : Forward) → d ≡ Arc g → ⊥) → Goes k n Hunting (Hunted r last left) d
+      asks d ask arrives spelled addressing = going (turn (rw some (leads_asking r (left - 1) d ask)) refl) spelled addressing (λ later. refl) (λ h. rw some (arrives h))
 
-  -- where a byte is sent, the others stay as they are
-  byte : (m : SearchAddress) → bytes_to_send n m + 1 ≤ bytes_to_send n r → Arrived k n Hunting (Hunted m None (left - 1))
-  byte m fewer = hunts_none k n m (left - 1) (omega (arith, fewer, room))
+      -- where a byte is sent, the others stay as they are
+      byte : (m : SearchAddress) → bytes_to_send n m + 1 ≤ bytes_to_send n r → Arrived k n Hunting (Hunted m None (left - 1))
+      byte m fewer = hunts_none k n m (left - 1) (omega (arith, fewer, room))
 
-  go : (b : Bool) → (r.high == n.high) ≡ b → (d : Bool) → (r.low == n.low) ≡ d → (e : Bool) → (r.middle == n.middle) ≡ e
-      → bytes_to_send n r < left
-      → Goes k n Hunting (Hunted r last left) (if b then (if d then (if e then Compare else SearchMiddle n.middle) else SearchLow n.low) else SearchHigh n.high)
-  go false one d two e three room =
-      asks (SearchHigh n.high) refl (λ h. byte (record r { high = n.high }) (rw (one, self n.high) (omega arith))) tt (λ g x. cc)
-  go true one false two e three room =
-      asks (SearchLow n.low) refl (λ h. byte (record r { low = n.low }) (rw (two, self n.low) (omega arith))) tt (λ g x. cc)
-  go true one true two false three room =
-      asks (SearchMiddle n.middle) refl (λ h. byte (record r { middle = n.middle }) (rw (three, self n.middle) (omega arith))) tt (λ g x. cc)
-  go true one true two true three room =
-      asks Compare refl (λ h. (refl, same)) tt (λ g x. cc) where
-    same : r ≡ n
-    same = let high : r.high ≡ n.high = equal r.high n.high one in let low : r.low ≡ n.low = equal r.low n.low two in
-        let middle : r.middle ≡ n.middle = equal r.middle n.middle three in
-        ap (λ x. record { high = x; middle = r.middle; low = r.low }) high ∙ ap (λ x. record { high = n.high; middle = x; low = r.low }) middle
-        ∙ ap (λ x. record { high = n.high; middle = n.middle; low = x }) low
+      go : (b : Bool) → (r.high == n.high) ≡ b → (d : Bool) → (r.low == n.low) ≡ d → (e : Bool) → (r.middle == n.middle) ≡ e
+          → bytes_to_send n r < left
+          → Goes k n Hunting (Hunted r last left) (if b then (if d then (if e then Compare else SearchMiddle n.middle) else SearchLow n.low) else SearchHigh n.high)
+      go false one d two e three room =
+          asks (SearchHigh n.high) refl (λ h. byte (record r { high = n.high }) (rw (one, self n.high) (omega arith))) tt (λ g x. cc)
+      go true one false two e three room =
+          asks (SearchLow n.low) refl (λ h. byte (record r { low = n.low }) (rw (two, self n.low) (omega arith))) tt (λ g x. cc)
+      go true one true two false three room =
+          asks (SearchMiddle n.middle) refl (λ h. byte (record r { middle = n.middle }) (rw (three, self n.middle) (omega arith))) tt (λ g x. cc)
+      go true one true two true three room =
+          asks Compare refl (λ h. (refl, same)) tt (λ g x. cc) where
+            same : r ≡ n
+            same = let high : r.high ≡ n.high = equal r.high n.high one in let low : r.low ≡ n.low = equal r.low n.low two in
+                let middle : r.middle ≡ n.middle = equal r.middle n.middle three in
+                ap (λ x. record { high = x; middle = r.middle; low = r.low }) high ∙ ap (λ x. record { high = n.high; middle = x; low = r.low }) middle
+                ∙ ap (λ x. record { high = n.high; middle = n.middle; low = x }) low
 
 goes : (k : Kept) (n : SearchAddress) (p : Purpose) (s : Stage) (c : Command) → Sends k n p s c → Goes k n p s c
 goes k n Opening Terminated c e = rw (some_is _ c e.0) (going (turn refl refl) tt (λ g x. cc) (λ later. refl) (λ h. (Initialise Unaddressed, (refl, tt, tt))))

@@ -87,8 +87,8 @@ abbrev pub byte_to_send : SearchAddress → SearchAddress → Command
 byte_to_send n r =
     if r.high == n.high
     then (if r.low == n.low
-        then (if r.middle == n.middle then Compare else SearchMiddle n.middle)
-        else SearchLow n.low)
+    then (if r.middle == n.middle then Compare else SearchMiddle n.middle)
+    else SearchLow n.low)
     else SearchHigh n.high
 
 -- how many search bytes are not yet those of the number

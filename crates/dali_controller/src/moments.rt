@@ -508,7 +508,13 @@ impl State {
     }
 
     /// COMPARE was sent in a hunt, and this was heard; so many frames may follow.
-    fn hunted(&mut self, kept: &Records<'_>, sent: SearchAddress, last: Option<Answer>, left: u8) -> Order
+    fn hunted(
+        &mut self,
+        kept: &Records<'_>,
+        sent: SearchAddress,
+        last: Option<Answer>,
+        left: u8,
+    ) -> Order
         requires heard { IsHeard (with_kept self.old kept.now) (stage.Hunted sent last left) }
         requires over { turn_of self.old.purpose self.old.number (stage.Hunted sent last left) ≡ None }
 
@@ -525,7 +531,13 @@ impl State {
     }
 
     /// A question of a hunt was answered so.
-    fn answered(&mut self, kept: &Records<'_>, sent: SearchAddress, heard: Answer, left: u8) -> Order
+    fn answered(
+        &mut self,
+        kept: &Records<'_>,
+        sent: SearchAddress,
+        heard: Answer,
+        left: u8,
+    ) -> Order
         requires { IsHeard (with_kept self.old kept.now) (stage.Hunted sent (Some heard) left) }
 
         ensures asked { result ≡ question (next_course (machine_with self.old kept.now)) sent left }

@@ -150,7 +150,9 @@ impl State {
             × (bytes_to_send self.now.number sent < left)) }
     {
         let is_hunting = matches!(self.purpose, Purpose::Hunting);
-        is_hunting && command == byte_to_send(self.number, sent) && bytes_to_send(self.number, sent) < left
+        is_hunting
+            && command == byte_to_send(self.number, sent)
+            && bytes_to_send(self.number, sent) < left
     }
 
     /// Whether the transaction sends this command at a stage past the first, but PROGRAM SHORT ADDRESS.

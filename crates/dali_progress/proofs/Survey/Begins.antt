@@ -196,15 +196,15 @@ pub later_by : (start : Begun) (t : Machine) (o : Order) (p : Purpose) (s : Stag
     → IsNext start (machine_ordered t o) o gs left
 later_by start t o p s c gs left st is spelled purpose at unasked sends = subst (λ q. IsNext start (machine_ordered t q) q gs left) (sym is)
     (subst (λ m. IsNext start m (Put LATER (frame_of c)) gs left) (sym (later_leaves t (frame_of c) s at unasked)) (
-  record {
-    tries = st.tries;
-    silent = st.silent;
-    trace = st.trace;
-    at = untold t.course.purpose t.course.way (stage_of t.trace) t.kept t.heard t.opened t.asked t.course.ascent t.course.number t.course.from start gs left
-        (subst IsUnasked (sym at) unasked) st.at;
-  },
-  subst (λ d. Sends t.course.purpose t.course.number t.kept (stage_of t.trace) d) (sym (read_written c spelled)) (rw (purpose, at) sends),
-))
+      record {
+        tries = st.tries;
+        silent = st.silent;
+        trace = st.trace;
+        at = untold t.course.purpose t.course.way (stage_of t.trace) t.kept t.heard t.opened t.asked t.course.ascent t.course.number t.course.from start gs left
+            (subst IsUnasked (sym at) unasked) st.at;
+      },
+      subst (λ d. Sends t.course.purpose t.course.number t.kept (stage_of t.trace) d) (sym (read_written c spelled)) (rw (purpose, at) sends),
+    ))
 
 pub turns_by : (start : Begun) (t : Machine) (o : Order) (p : Purpose) (s : Stage) (c : Command) (gs : List Gear) (left : ℕ) → IsGivenBy t o
     → SurveyStands true start t gs left → t.course.purpose ≡ p → stage_of t.trace ≡ s → turn_of p t.course.number s ≡ Some c → IsSpelled c

@@ -1,4 +1,4 @@
-use Rattle.std.proofs.Common.{◌≡◌, ℕ, ◌+◌, ◌-◌, ◌*◌, ◌<◌, ◌≤◌, ◌⊎◌, inl, inr, Bool, true, false, suc, List, [], ◌∷◌, refl, sym, ap, subst, ◌∙◌, arith, length}
+use Rattle.std.proofs.Common.{◌≡◌, ℕ, ◌+◌, ◌-◌, ◌*◌, ◌<◌, ◌≤◌, ◌⊎◌, inl, inr, Bool, true, false, suc, List, [], ◌∷◌, refl, sym, ap, subst, ◌∙◌, arith}
 use Rattle.std.proofs.Common.{Option, Some, None}
 use Rattle.std.specs.Prelude.{◌==◌, ◌&&◌, nat_lt, if◌then◌else◌, is_some, MatchOption}
 use Rattle.std.specs.List.{count_by}
@@ -204,21 +204,21 @@ goes_on : (start : Begun) (t : Machine) (o : Order) (h : Answer) (r : SearchAddr
     start gs left → IsNext start (machine_ordered t o) o gs left
 goes_on start t o h r room gs left st is next sends v = subst (λ q. IsNext start (machine_ordered t q) q gs left) (sym sends)
     (subst (λ m. IsNext start m (Put LATER (frame_of c)) gs left) (sym later) (
-  record {
-    tries = st.tries;
-    silent = st.silent;
-    trace = st.trace;
-    at = subst (λ s. Hunts false Hunting t.course.way s t.kept t.heard t.opened (hunted t.course h).ascent (hunting (hunted t.course h)).number start gs left)
-        (sym is) v;
-  },
-  subst (λ d. Sends Hunting (hunting (hunted t.course h)).number t.kept (stage_of t.trace) d) (sym (read_written c (byte_spelled _ r)))
-      (subst (λ s. Sends Hunting (hunting (hunted t.course h)).number t.kept s c) (sym is) (refl, refl)),
-)) where
-  c : Command
-  c = byte_to_send (hunting (hunted t.course h)).number r
+      record {
+        tries = st.tries;
+        silent = st.silent;
+        trace = st.trace;
+        at = subst (λ s. Hunts false Hunting t.course.way s t.kept t.heard t.opened (hunted t.course h).ascent (hunting (hunted t.course h)).number start gs left)
+            (sym is) v;
+      },
+      subst (λ d. Sends Hunting (hunting (hunted t.course h)).number t.kept (stage_of t.trace) d) (sym (read_written c (byte_spelled _ r)))
+          (subst (λ s. Sends Hunting (hunting (hunted t.course h)).number t.kept s c) (sym is) (refl, refl)),
+    )) where
+      c : Command
+      c = byte_to_send (hunting (hunted t.course h)).number r
 
-  later : machine_ordered t (Put LATER (frame_of c)) ≡ record t { last = Some (Put LATER (frame_of c)); course = hunting (hunted t.course h) }
-  later = ap (λ d. record t { last = Some (Put LATER (frame_of c)); course = d }) (ap (course_on t) is ∙ sym (ap (begins_at t) is) ∙ next)
+      later : machine_ordered t (Put LATER (frame_of c)) ≡ record t { last = Some (Put LATER (frame_of c)); course = hunting (hunted t.course h) }
+      later = ap (λ d. record t { last = Some (Put LATER (frame_of c)); course = d }) (ap (course_on t) is ∙ sym (ap (begins_at t) is) ∙ next)
 
 -- which question is put, by whether there is room
 abbrev asked_by : (t : Machine) (h : Answer) (r : SearchAddress) (room : ℕ) → Bool → Order

@@ -34,7 +34,7 @@ use Rattle.dali_controller.specs.declared.purpose.Purpose.TheVariants.{Opening, 
 use Rattle.dali_controller.specs.declared.way.Way.{Way}
 use Rattle.dali_controller.specs.declared.way.Way.TheVariants.{Fresh, Surveying, Drawing}
 use Rattle.dali_controller.specs.Course.{Course, going_on, going_on_early, visit_or_opening, ask_or_wake, next_unfinished, next_asked, closing}
-use Rattle.dali_controller.specs.Next.{next_course, begins_at, at_rest, draws, draws_by, draw_or_close, goes_on_to, silenced, unanswered, probed_to}
+use Rattle.dali_controller.specs.Next.{next_course, begins_at, at_rest, draws, draws_by, draw_or_close, silenced, unanswered, probed_to}
 use Rattle.dali_controller.specs.Course.{searching_first, searching_on, hunted, missed, byte_to_send}
 use Rattle.dali_controller.specs.Next.{asked_once, hunted_to, course_on, goes_on_anew}
 use Rattle.dali_progress.proofs.Sweep.Others.{way_on, way_first}

@@ -1,28 +1,27 @@
-use Rattle.std.proofs.Common.{◌≡◌, ℕ, ◌+◌, ◌-◌, ◌*◌, ◌/◌, ◌%◌, ◌<◌, ◌≤◌, ◌⊎◌, inl, inr, Bool, true, false, zero, suc, List, refl, sym, ap, subst, ◌∙◌, arith, nat_lt}
+use Rattle.std.proofs.Common.{◌≡◌, ℕ, ◌+◌, ◌-◌, ◌*◌, ◌<◌, ◌≤◌, ◌⊎◌, inl, inr, Bool, true, false, zero, suc, List, refl, sym, ap, subst, ◌∙◌, arith, nat_lt}
 use Rattle.std.proofs.Common.{Option, Some, None, length}
-use Rattle.std.specs.Prelude.{◌==◌, not, unwrap_or, if◌then◌else◌}
+use Rattle.std.specs.Prelude.{◌==◌, if◌then◌else◌}
 use Rattle.std.specs.List.{count_by}
 use Rattle.std.proofs.lemmas.Bool.Decides.{nat_tests}
 use Rattle.dali_frame.specs.declared.frames.Answer.{Answer}
 use Rattle.dali_frame.specs.declared.numbers.SearchAddress.{SearchAddress}
-use Rattle.dali_frame.specs.Random.{value_of, high_of, middle_of, low_of, MASK24}
+use Rattle.dali_frame.specs.Random.{value_of, MASK24}
 use Rattle.dali_special.specs.declared.command.Command.{Command}
 use Rattle.dali_special.specs.declared.command.Command.TheVariants.{Compare, SearchHigh, SearchMiddle, SearchLow}
 use Rattle.dali_gear.specs.declared.row.Reach.TheVariants.{Everyone}
-use Rattle.dali_gear.specs.Gear.{Gear, fresh}
+use Rattle.dali_gear.specs.Gear.{Gear}
 use Rattle.dali_gear.specs.Row.{row_after}
 use Rattle.dali_script.specs.Records.{Assignment, Kept}
 use Rattle.dali_script.specs.declared.stage.Stage.{Stage}
 use Rattle.dali_script.specs.declared.stage.Stage.TheVariants as stage
 use Rattle.dali_script.specs.Stages.{next_stage}
 use Rattle.dali_script.proofs.Transactions.{self, equal}
-use Rattle.dali_search.specs.declared.step.Step.{Step}
 use Rattle.dali_search.specs.declared.step.Step.TheVariants.{Again, Found, Nobody}
-use Rattle.dali_search.specs.Least.{HasAtMost, Gives, Says, IsBelow}
-use Rattle.dali_search.specs.Ascending.{Ascent, IsAscent, Knows, is_bounded, asked_next, leads_to, told_yes, told_no, ascended, ascent_at_first, above, one_if}
-use Rattle.dali_search.specs.Questions.{bytes_apart, Asking, has_room, frames_to_ask, room_left, asking_next, thirds_to_somebody, thirds_to_nobody, IsTrueWay}
+use Rattle.dali_search.specs.Least.{Gives, Says}
+use Rattle.dali_search.specs.Ascending.{Ascent, IsAscent, Knows, is_bounded, asked_next, leads_to, ascended, ascent_at_first, above}
+use Rattle.dali_search.specs.Questions.{bytes_apart, Asking, has_room, frames_to_ask, room_left, asking_next, IsTrueWay}
 use Rattle.dali_search.specs.Questions.{no_question}
-use Rattle.dali_search.proofs.Ascents.{asked_drawn, says_found, yes_is, no_is}
+use Rattle.dali_search.proofs.Ascents.{asked_drawn, says_found}
 use Rattle.dali_search.proofs.Questions.{somebody_costs, nobody_costs, first_true, above_true}
 use Rattle.dali_controller.specs.declared.purpose.Purpose.TheVariants.{Hunting}
 use Rattle.dali_controller.specs.Course.{sought, is_yes, byte_to_send, bytes_to_send}
@@ -160,37 +159,40 @@ hunted_sent : (r : SearchAddress) (last : Option Answer) (room : ℕ) (x : Ascen
     → (c : Command) → c ≡ byte_to_send n r → IsTaken c gs numbers h → Seeks (stage.Hunted r last room) gs → RisenTo (stage.Hunted r last room) x n gs numbers left c h
 hunted_sent r last room x n gs numbers left h v is enough c sends taken seek =
     go (subst (λ d. IsByteSent n r last room d h) (sym sends) (byte_sent n r last room h (omega (arith, is)))) where
-  less : (sent : ℕ) → bytes_to_send n r + 1 ≡ suc sent
-      → (l : ℕ) × (left ≡ suc l)
-      × (v.budget + after_rise (count_by is_wanted gs) + sent ≤ l + frames_to_ask v.before (asked_next x))
-  less sent same =
-      rise_less v.budget (after_rise (count_by is_wanted gs)) sent left (frames_to_ask v.before (asked_next x)) (after_some (count_by is_wanted gs)) v.afford
-      (subst (λ p. v.budget + after_rise (count_by is_wanted gs) + p ≤ left + frames_to_ask v.before (asked_next x)) same enough)
+      less : (sent : ℕ) → bytes_to_send n r + 1 ≡ suc sent
+          → (l : ℕ) × (left ≡ suc l)
+          × (v.budget + after_rise (count_by is_wanted gs) + sent ≤ l + frames_to_ask v.before (asked_next x))
+      less sent same =
+          rise_less v.budget (after_rise (count_by is_wanted gs)) sent left (frames_to_ask v.before (asked_next x)) (after_some (count_by is_wanted gs)) v.afford
+          (subst (λ p. v.budget + after_rise (count_by is_wanted gs) + p ≤ left + frames_to_ask v.before (asked_next x)) same enough)
 
-  go : IsByteSent n r last room c h → RisenTo (stage.Hunted r last room) x n gs numbers left c h
-  go (inl b) =
-      let one = less (bytes_to_send n b.number + 1) (let fewer : bytes_to_send n r ≡ bytes_to_send n b.number + 1 = b.fewer in omega (arith, fewer)) in (
-        one.0,
-        one.1,
-        subst (λ t. Rises true t x n (row_after Everyone c 0 gs numbers) one.0) (sym b.next)
-            (rises_on (stage.Hunted r last room) (stage.Hunted b.number None (room - 1)) x n gs _ left one.0 v (b.core gs numbers)
-            (let fewer : bytes_to_send n r ≡ bytes_to_send n b.number + 1 = b.fewer in omega (arith, is, fewer)) one.2),
-      )
-  go (inr b) =
-      let none : bytes_to_send n r ≡ 0 = subst (λ q. bytes_to_send n q ≡ 0) (sym b.1) (rw (self n.high, self n.low, self n.middle) refl) in
-      let one = less 0 (omega (arith, none)) in
-      let same : SameCore gs (row_after Everyone Compare 0 gs numbers) = leaving.core_after Compare gs numbers tt in
-      let asked : value_of r ≡ asked_next x = ap value_of (b.1 ∙ v.number) ∙ value_sought (asked_next x) in
-      let says : Gives (wants gs) (asked_next x) (is_yes h) =
-      subst (λ q. Gives (wants gs) q (is_yes h)) asked (probe_says gs r h (seek r refl) (subst (λ d. IsTaken d gs numbers h) b.0 taken).heard) in
-      subst (λ d. RisenTo (stage.Hunted r last room) x n gs numbers left d h) (sym b.0) (
-        one.0,
-        one.1,
-        subst (λ t. Rises true t x n (row_after Everyone Compare 0 gs numbers) one.0) (sym b.2)
-            (rises_on (stage.Hunted r last room) (stage.Hunted r (Some h) (room - 1)) x n gs _ left one.0 v same
-            (b.1, omega (arith, is, none), gives_same (wants gs) (wants (row_after Everyone Compare 0 gs numbers)) (asked_next x) (is_yes h)
-            (λ m. leaving.core_wants gs (row_after Everyone Compare 0 gs numbers) m same) says) one.2),
-      )
+      go : IsByteSent n r last room c h → RisenTo (stage.Hunted r last room) x n gs numbers left c h
+      go (inl b) =
+          let one = less (bytes_to_send n b.number + 1) (let fewer : bytes_to_send n r ≡ bytes_to_send n b.number + 1 = b.fewer in omega (arith, fewer)) in (
+            one.0,
+            one.1,
+            subst (λ t. Rises true t x n (row_after Everyone c 0 gs numbers) one.0) (sym b.next)
+                (rises_on (stage.Hunted r last room) (stage.Hunted b.number None (room - 1)) x n gs _ left one.0 v (b.core gs numbers)
+                (let fewer : bytes_to_send n r ≡ bytes_to_send n b.number + 1 = b.fewer in omega (arith, is, fewer)) one.2),
+          )
+      go (inr b) =
+          let none : bytes_to_send n r ≡ 0 = subst (λ q. bytes_to_send n q ≡ 0) (sym b.1) (rw (self n.high, self n.low, self n.middle) refl) in
+          let one = less 0 (omega (arith, none)) in
+          let same : SameCore gs (row_after Everyone Compare 0 gs numbers) = leaving.core_after Compare gs numbers tt in
+          let asked : value_of r ≡ asked_next x = ap value_of (b.1 ∙ v.number) ∙ value_sought (asked_next x) in
+          let says : Gives (wants gs) (asked_next x) (is_yes h) =
+          subst (λ q. Gives (wants gs) q (is_yes h)) asked (probe_says gs r h (seek r refl) (subst (λ d. IsTaken d gs numbers h) b.0 taken).heard) in
+          subst (λ d. RisenTo (stage.Hunted r last room) x n gs numbers left d h) (sym b.0) (
+            one.0,
+            one.1,
+            subst (λ t. Rises true t x n (row_after Everyone Compare 0 gs numbers) one.0) (sym b.2)
+                (rises_on (stage.Hunted r last room) (stage.Hunted r (Some h) (room - 1)) x n gs _ left one.0 v same (
+                  b.1,
+                  omega (arith, is, none),
+                  gives_same (wants gs) (wants (row_after Everyone Compare 0 gs numbers)) (asked_next x) (is_yes h)
+                      (λ m. leaving.core_wants gs (row_after Everyone Compare 0 gs numbers) m same) says,
+                ) one.2),
+          )
 
 some_is : (x c : Command) → Some x ≡ Some c → x ≡ c
 some_is x c e = cc
@@ -288,9 +290,9 @@ silent_some gs x more is knows ready count = go (x.silent == 0) refl where
   go false e =
       let low : x.low ≡ 0xFFFFFF = is.silence (grind (arith, nat_tests)) in
       let none : count_by is_wanted gs ≡ 0 = wanted.count_none gs (λ m has.
-          let from : x.low ≤ m = knows.above m has in
-          let under : m < 0xFFFFFF = wanted.wanted_below gs m ready has in
-          omega (arith, low, from, under)) in
+      let from : x.low ≤ m = knows.above m has in
+      let under : m < 0xFFFFFF = wanted.wanted_below gs m ready has in
+      omega (arith, low, from, under)) in
       absurd (omega (arith, none, count))
 
 never_last : (gs : List Gear) (asked more : ℕ) (b : Bool) → IsOpened gs → count_by is_wanted gs ≡ suc more → Gives (wants gs) asked b → b ≡ false → asked ≡ 0xFFFFFE
@@ -298,8 +300,8 @@ never_last : (gs : List Gear) (asked more : ℕ) (b : Bool) → IsOpened gs → 
 never_last gs asked more true ready count gives said last = absurd (cc)
 never_last gs asked more false ready count gives said last =
     let none : count_by is_wanted gs ≡ 0 = wanted.count_none gs (λ m has.
-        let under : m < 0xFFFFFF = wanted.wanted_below gs m ready has in
-        gives (m, has, omega (arith, under, last))) in
+    let under : m < 0xFFFFFF = wanted.wanted_below gs m ready has in
+    gives (m, has, omega (arith, under, last))) in
     omega (arith, none, count)
 
 spent : (costs thirds before budget after left : ℕ) → 3 * costs + thirds ≤ before → before ≤ 3 * budget → budget + after + 0 ≤ left + costs

@@ -496,10 +496,10 @@ least_sent (stage.Programmed r a) k x n gs numbers left c h v is seek at =
 least_sent (stage.Confirmed r a) k x n gs numbers left c h v is seek at =
     subst (λ d. IsLeastAt (next_stage (stage.Confirmed r a) d h) n (row_after Everyone d 0 gs numbers)) (some_is Withdraw c is)
     (λ m has.
-        let was = withdrawing.withdrawn_wants gs numbers r m (seek r refl) has in
-        let from : value_of n ≤ m = at.least m was.0 in
-        let other : m ≡ value_of n → ⊥ = λ e. was.1 (e ∙ ap value_of (sym v.searched)) in
-        omega (arith, from, other))
+    let was = withdrawing.withdrawn_wants gs numbers r m (seek r refl) has in
+    let from : value_of n ≤ m = at.least m was.0 in
+    let other : m ≡ value_of n → ⊥ = λ e. was.1 (e ∙ ap value_of (sym v.searched)) in
+    omega (arith, from, other))
 least_sent (stage.Withdrawn r a) k x n gs numbers left c h v is seek at = absurd (cc)
 least_sent _ k x n gs numbers left c h v is seek at = absurd v.stage_is
 
