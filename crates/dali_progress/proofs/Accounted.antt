@@ -25,7 +25,7 @@ use Rattle.dali_script.specs.declared.orders.Fault.{Fault}
 use Rattle.dali_script.specs.declared.orders.Fault.TheVariants as fault
 use Rattle.dali_script.specs.Due.{due_after, accepts, frame_put, record_ordered}
 use Rattle.dali_controller.specs.declared.purpose.Purpose.{Purpose}
-use Rattle.dali_controller.specs.declared.purpose.Purpose.TheVariants.{Opening, Probing, Visiting, Resolving, Closing, Asking, Waking}
+use Rattle.dali_controller.specs.declared.purpose.Purpose.TheVariants.{Opening, Probing, Visiting, Resolving, Closing, Asking, Waking, Hunting}
 use Rattle.dali_controller.specs.declared.shorts.Shorts.{Shorts}
 use Rattle.dali_controller.specs.Shorts.{has_short, with_short, without_short}
 use Rattle.dali_controller.specs.Machine.{Machine, machine_told, machine_heard, machine_committed, heard_after, marked_at}
@@ -214,6 +214,7 @@ heard_of_survey Visiting h s a e = absurd (cc)
 heard_of_survey (Resolving c) h s a e = absurd (cc)
 heard_of_survey (Closing x) h s a e = absurd (cc)
 heard_of_survey Waking h s a e = absurd (cc)
+heard_of_survey Hunting h s a e = absurd (cc)
 
 pub accounted_by : (m : Machine) (i : Input) (o : Order) (a : ℕ) → a < 64 → IsPlain (stage_of (machine_told m i).trace) → accepts (due_after m.last) i ≡ true
     → IsGiven m i o → heard_by i m.course.purpose (stage_of (machine_told m i).trace) ≡ Some a → IsAccounted (machine_after m i o) a

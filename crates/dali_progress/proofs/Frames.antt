@@ -25,7 +25,7 @@ use Rattle.dali_script.specs.declared.orders.End.{End}
 use Rattle.dali_script.specs.declared.orders.End.TheVariants.{AllFound}
 use Rattle.dali_search.specs.Least.{Search, Agrees, Gives, HasAtMost}
 use Rattle.dali_controller.specs.declared.purpose.Purpose.{Purpose}
-use Rattle.dali_controller.specs.declared.purpose.Purpose.TheVariants.{Opening, Probing, Visiting, Resolving, Closing, Asking, Waking}
+use Rattle.dali_controller.specs.declared.purpose.Purpose.TheVariants.{Opening, Probing, Visiting, Resolving, Closing, Asking, Waking, Hunting}
 use Rattle.dali_controller.specs.Course.{sought, is_yes}
 use Rattle.dali_controller.specs.Machine.{opened_after}
 use Rattle.dali_events.specs.Searching.{number_at}
@@ -122,7 +122,7 @@ value_sought r = grind arith
 whole : (n : SearchAddress) (high middle : ℕ) → n.high ≡ high → n.middle ≡ middle → n ≡ record { high = high; middle = middle; low = n.low }
 whole n high middle one two = rw (← one, ← two) refl
 
-gives_same : (has had : ℕ → Bool) (n : ℕ) (b : Bool) → ((m : ℕ) → had m ≡ has m) → Gives has n b → Gives had n b
+pub gives_same : (has had : ℕ → Bool) (n : ℕ) (b : Bool) → ((m : ℕ) → had m ≡ has m) → Gives has n b → Gives had n b
 gives_same has had n true same some = (some.0, same some.0 ∙ some.1, some.2)
 gives_same has had n false same none = λ some. none (some.0, sym (same some.0) ∙ some.1, some.2)
 
@@ -131,7 +131,7 @@ agrees_same has had [] same agrees = tt
 agrees_same has had (a ∷ later) same agrees = (gives_same has had a.0 a.1 same agrees.0, agrees_same has had later same agrees.1)
 
 -- what COMPARE was heard as says whether a number that is wanted is at most the one that was asked
-probe_says : (gs : List Gear) (r : SearchAddress) (h : Answer) → Seek gs r → h ≡ heard_of (answers_of Everyone Compare 0 gs)
+pub probe_says : (gs : List Gear) (r : SearchAddress) (h : Answer) → Seek gs r → h ≡ heard_of (answers_of Everyone Compare 0 gs)
     → Gives (wants gs) (value_of r) (is_yes h)
 probe_says gs r h seek heard = go h refl where
   yes_at : (h ≡ Silence → ⊥) → HasAtMost (wants gs) (value_of r)
@@ -494,4 +494,5 @@ at_sent Visiting s k opened x n gs numbers left c h at is taken seek =
 at_sent (Resolving a) s k opened x n gs numbers left c h at is taken seek = absurd at
 at_sent (Asking a) s k opened x n gs numbers left c h at is taken seek = absurd at
 at_sent Waking s k opened x n gs numbers left c h at is taken seek = absurd at
+at_sent Hunting s k opened x n gs numbers left c h at is taken seek = absurd at
 at_sent (Closing e) s k opened x n gs numbers left c h at is taken seek = closing_sent e s k opened x n gs numbers left c h at is

@@ -29,7 +29,7 @@ use Rattle.dali_script.specs.declared.orders.Order.{Order}
 use Rattle.dali_script.specs.declared.orders.Order.TheVariants.{Put, Commit, Done, Halt}
 use Rattle.dali_search.specs.Least.{Search}
 use Rattle.dali_controller.specs.declared.purpose.Purpose.{Purpose}
-use Rattle.dali_controller.specs.declared.purpose.Purpose.TheVariants.{Opening, Probing, Visiting, Resolving, Closing, Asking, Waking}
+use Rattle.dali_controller.specs.declared.purpose.Purpose.TheVariants.{Opening, Probing, Visiting, Resolving, Closing, Asking, Waking, Hunting}
 use Rattle.dali_controller.proofs.Courses.{not_woken}
 use Rattle.dali_controller.specs.Machine.{Machine, machine_heard, machine_committed, machine_told, tries_after, silent_after, opened_after}
 use Rattle.dali_controller.specs.Orders.{IsGiven, IsAddressing, machine_ordered, machine_after}
@@ -253,7 +253,9 @@ never_silent (Resolving a) (stage.Unanswered r) k opened o x n gs left at = absu
 never_silent (Asking a) (stage.Unanswered r) k opened o x n gs left at = absurd at
 never_silent (Asking a) (stage.Inconclusive r other) k opened o x n gs left at = absurd at
 never_silent Waking (stage.Unanswered r) k opened o x n gs left at = absurd at
+never_silent Hunting (stage.Unanswered r) k opened o x n gs left at = absurd at
 never_silent Waking (stage.Inconclusive r other) k opened o x n gs left at = absurd at
+never_silent Hunting (stage.Inconclusive r other) k opened o x n gs left at = absurd at
 never_silent (Resolving a) (stage.Inconclusive r other) k opened o x n gs left at = absurd at
 never_silent (Closing e) (stage.Unanswered r) k opened o x n gs left at = absurd at.stage_is
 never_silent (Closing e) (stage.Inconclusive r other) k opened o x n gs left at = absurd at.stage_is

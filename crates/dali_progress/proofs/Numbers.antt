@@ -28,7 +28,7 @@ use Rattle.dali_script.specs.declared.orders.Order.TheVariants.{Put, Commit, Don
 use Rattle.dali_script.specs.declared.orders.End.{End}
 use Rattle.dali_search.specs.Least.{Search}
 use Rattle.dali_controller.specs.declared.purpose.Purpose.{Purpose}
-use Rattle.dali_controller.specs.declared.purpose.Purpose.TheVariants.{Opening, Probing, Visiting, Resolving, Closing, Asking, Waking}
+use Rattle.dali_controller.specs.declared.purpose.Purpose.TheVariants.{Opening, Probing, Visiting, Resolving, Closing, Asking, Waking, Hunting}
 use Rattle.dali_controller.proofs.Courses.{closed_unwoken}
 use Rattle.dali_controller.specs.Machine.{Machine, machine_heard, machine_committed, machine_told, opened_after}
 use Rattle.dali_controller.specs.Orders.{machine_after}
@@ -141,6 +141,7 @@ draws_enough Visiting s k opened x n gs numbers left c at is has =
 draws_enough (Resolving a) s k opened x n gs numbers left c at is has = absurd at
 draws_enough (Asking a) s k opened x n gs numbers left c at is has = absurd at
 draws_enough Waking s k opened x n gs numbers left c at is has = absurd at
+draws_enough Hunting s k opened x n gs numbers left c at is has = absurd at
 draws_enough (Closing e) s k opened x n gs numbers left c at is has =
     enough_none (draws_needed Everyone c 0 gs) (length numbers) (none_apart (Closing e) n k s gs c (closing_never e n k s) is)
 
@@ -174,6 +175,7 @@ none_drawn Visiting s k opened x n gs left c h at is closed = none_apart Visitin
 none_drawn (Resolving a) s k opened x n gs left c h at is closed = absurd at
 none_drawn (Asking a) s k opened x n gs left c h at is closed = absurd at
 none_drawn Waking s k opened x n gs left c h at is closed = absurd at
+none_drawn Hunting s k opened x n gs left c h at is closed = absurd at
 none_drawn (Closing e) s k opened x n gs left c h at is closed = none_apart (Closing e) n k s gs c (closing_never e n k s) is
 
 was_closed : (s : Stage) (opened : Bool) → opened_after s opened ≡ false → opened ≡ false

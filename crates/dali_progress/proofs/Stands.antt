@@ -14,9 +14,9 @@ use Rattle.dali_search.specs.declared.step.Step.TheVariants.{Again}
 use Rattle.dali_search.specs.Least.{Search, Agrees, Gives}
 use Rattle.dali_search.specs.Narrowing.{IsNarrowing}
 use Rattle.dali_controller.specs.declared.purpose.Purpose.{Purpose}
-use Rattle.dali_controller.specs.declared.purpose.Purpose.TheVariants.{Opening, Probing, Visiting, Resolving, Closing, Asking, Waking}
+use Rattle.dali_controller.specs.declared.purpose.Purpose.TheVariants.{Opening, Probing, Visiting, Resolving, Closing, Asking, Waking, Hunting}
 use Rattle.dali_controller.specs.declared.way.Way.TheVariants.{Fresh}
-use Rattle.dali_controller.specs.Course.{first_of, turn_of, sought, is_yes}
+use Rattle.dali_controller.specs.Course.{first_of, turn_of, sought, is_yes, byte_to_send}
 use Rattle.dali_controller.specs.Machine.{Machine}
 use Rattle.dali_events.specs.Wanted.{is_wanted, wants, is_bare, OfPowered, IsOpened, NoneNamed, NoneNamedBut}
 use Rattle.dali_events.proofs.Search.Opened.{AreOpening}
@@ -180,6 +180,7 @@ At (Resolving a) s k opened x n gs left = ⊥
 At (Closing e) s k opened x n gs left = Closes e s k gs left
 At (Asking a) s k opened x n gs left = ⊥
 At Waking s k opened x n gs left = ⊥
+At Hunting s k opened x n gs left = ⊥
 
 -- what is enrolled is reserved
 abbrev pub IsWithin : Kept → Type 0
@@ -206,4 +207,5 @@ pub record Stands (before : List Gear) (m : Machine) (gs : List Gear) (left : �
 abbrev pub Sends : Purpose → SearchAddress → Kept → Stage → Command → Type 0
 Sends p n k stage.Free c = c ≡ first_of p n
 Sends p n k (stage.Unnamed r) c = (a : ℕ) × (a < 64) × Has k.reserved (a, value_of r) × (c ≡ Program (Some a))
+Sends p n k (stage.Hunted r last left) c = (p ≡ Hunting) × (c ≡ byte_to_send n r)
 Sends p n k s c = turn_of p n s ≡ Some c

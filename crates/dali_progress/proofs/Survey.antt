@@ -2,6 +2,7 @@
 pub mod Drawn
 pub mod Queried
 pub mod Stands
+pub mod Rising
 pub mod Sent
 pub mod Begins
 pub mod Turns

@@ -33,7 +33,7 @@ use Rattle.dali_search.specs.Narrowing.{IsNarrowing}
 use Rattle.dali_search.proofs.Agreement.{agrees_more}
 use Rattle.dali_search.proofs.Answered as searching
 use Rattle.dali_controller.specs.declared.purpose.Purpose.{Purpose}
-use Rattle.dali_controller.specs.declared.purpose.Purpose.TheVariants.{Opening, Probing, Visiting, Resolving, Closing, Asking, Waking}
+use Rattle.dali_controller.specs.declared.purpose.Purpose.TheVariants.{Opening, Probing, Visiting, Resolving, Closing, Asking, Waking, Hunting}
 use Rattle.dali_controller.specs.Course.{Course, first_of, turn_of, sought, is_yes, closing_of, searching_anew, visiting, probed, after_step}
 use Rattle.dali_controller.specs.Course.{closing as closing_by}
 use Rattle.dali_controller.specs.Course.{opening as opening_of}
@@ -501,6 +501,7 @@ turned before t o gs left g st kept last running = go t.course.purpose refl st.a
   go (Resolving a) purpose at = absurd at
   go (Asking a) purpose at = absurd at
   go Waking purpose at = absurd at
+  go Hunting purpose at = absurd at
   go (Closing e) purpose at = closing_turns before t o e (stage_of t.trace) gs left g st purpose refl running at
 
 -- ---------------------------------------------------------------- the start

@@ -148,6 +148,14 @@ three_most n m =
     let low : one_if (not (n % 0x100 == m % 0x100)) ≤ 1 = one_most _ in
     omega (arith, high, middle, low)
 
+pub same_bytes : (n : ℕ) → bytes_apart n n ≡ 0
+unfolding bytes_apart
+same_bytes n =
+    let high : one_if (not (n / 0x10000 == n / 0x10000)) ≡ 0 = none_apart _ _ refl in
+    let middle : one_if (not (n / 0x100 % 0x100 == n / 0x100 % 0x100)) ≡ 0 = none_apart _ _ refl in
+    let low : one_if (not (n % 0x100 == n % 0x100)) ≡ 0 = none_apart _ _ refl in
+    omega (arith, high, middle, low)
+
 -- by which bytes are the same
 same_high : (n m : ℕ) → n / 0x10000 ≡ m / 0x10000 → bytes_apart n m ≤ 2
 unfolding bytes_apart

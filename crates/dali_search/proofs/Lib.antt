@@ -1,9 +1,9 @@
 pub mod Agreement
-mod Ascents
-mod Blocks
-mod Bytes
+pub mod Ascents
+pub mod Blocks
+pub mod Bytes
 mod Heard
 mod Narrowing
-mod Questions
+pub mod Questions
 mod Led
 pub mod Answered

@@ -79,6 +79,25 @@ thirds_left a q =
     + (if is_bounded a then thirds_of_bits (apart a.low a.high) + thirds_of_last q.number
     else thirds_of_steps a)
 
+-- ---------------------------------------------------------------- with true answers
+
+-- THE SAME WHERE ALL ANSWERS ARE TRUE. Where some member is left, FFFFFE is answered yes; so it is the
+-- last step up, and the first one where nobody was found yet.
+abbrev pub steps_to_somebody : Ascent → ℕ
+steps_to_somebody a = if a.found == 0 then 1 else 5 - a.steps
+
+abbrev pub thirds_to_somebody : Ascent → Asking → ℕ
+thirds_to_somebody a q =
+    thirds_of_room q.room
+    + (if is_bounded a then thirds_of_bits (apart a.low a.high) + thirds_of_last q.number
+    else 16 * steps_to_somebody a + 207 - (if a.steps == 0 then 8 else 0))
+
+-- Where nobody is left, all answers are no. Where nobody was found yet FFFFFE alone is asked, twice.
+abbrev pub thirds_to_nobody : Ascent → Asking → ℕ
+thirds_to_nobody a q =
+    if a.found == 0 then (if a.silent == 0 then 15 else (if a.silent == 1 then 3 else 0))
+    else thirds_of_room q.room + (16 * steps_left a - (if a.steps == 0 then 8 else 0))
+
 -- ---------------------------------------------------------------- between two questions
 
 -- k lowest bits of a number are ones; two numbers agree above their lowest i bits
@@ -100,6 +119,12 @@ pub record IsUnderWay (a : Ascent) (q : Asking) : Type 0 where
   pub ahead : a.is_anew ≡ false
   pub first : a.steps ≡ 0 → is_bounded a ≡ false → q.room ≡ 0
   pub halved : is_bounded a ≡ true → IsHalved a.low a.high q.number
+
+-- where nobody was found yet: nothing was asked, or FFFFFE once
+pub record IsTrueWay (a : Ascent) (q : Asking) : Type 0 where
+  pub way : IsUnderWay a q
+  pub fresh : a.found ≡ 0 → a.silent ≡ 0 → is_bounded a ≡ false → q.room ≡ 0
+  pub again : a.found ≡ 0 → a.silent ≡ 1 → (q.number ≡ 0xFFFFFE) × (q.room ≡ 4)
 
 -- an ascent that has asked nothing since it began, or since it found a member
 pub record HasBegun (a : Ascent) : Type 0 where

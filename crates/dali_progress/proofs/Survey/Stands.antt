@@ -9,22 +9,27 @@ use Rattle.dali_script.specs.declared.stage.Stage.TheVariants as stage
 use Rattle.dali_script.specs.Stages.{IsTrace, stage_of}
 use Rattle.dali_script.specs.declared.orders.End.{End}
 use Rattle.dali_script.specs.declared.orders.End.TheVariants.{AllFound, BlockFull, GaveUp}
-use Rattle.dali_search.specs.Least.{Search}
+use Rattle.dali_frame.specs.declared.frames.Answer.{Answer}
+use Rattle.dali_search.specs.declared.step.Step.TheVariants.{Again, Found as Reached}
+use Rattle.dali_search.specs.Least.{Gives}
+use Rattle.dali_search.specs.Ascending.{Ascent, IsAscent, Knows, asked_next, leads_to}
+use Rattle.dali_search.specs.Questions.{Asking, has_room, frames_to_ask, room_left, thirds_to_somebody, thirds_to_nobody, IsTrueWay}
 use Rattle.dali_controller.specs.declared.purpose.Purpose.{Purpose}
-use Rattle.dali_controller.specs.declared.purpose.Purpose.TheVariants.{Opening, Probing, Visiting, Resolving, Closing, Asking, Waking}
+use Rattle.dali_controller.specs.declared.purpose.Purpose.TheVariants.{Opening, Probing, Visiting, Resolving, Closing, Waking, Hunting}
+use Rattle.dali_controller.specs.declared.purpose.Purpose.TheVariants.{Asking as Sweeping}
 use Rattle.dali_controller.specs.declared.shorts.Shorts.{Shorts}
 use Rattle.dali_controller.specs.declared.way.Way.{Way}
 use Rattle.dali_controller.specs.declared.way.Way.TheVariants.{Fresh, Surveying, Drawing}
 use Rattle.dali_controller.specs.Shorts.{has_short}
-use Rattle.dali_controller.specs.Course.{is_anothers}
+use Rattle.dali_controller.specs.Course.{is_anothers, is_yes, sought, bytes_to_send}
 use Rattle.dali_controller.specs.Machine.{Machine, opened_after}
 use Rattle.dali_events.specs.Searching.{HasShort}
-use Rattle.dali_events.specs.Wanted.{gear_of, is_bare, OfPowered}
+use Rattle.dali_events.specs.Wanted.{gear_of, is_bare, is_wanted, wants, OfPowered, IsOpened, NoneNamed}
 use Rattle.dali_events.proofs.Search.Leaving.{SameCore}
 use Rattle.dali_events.proofs.Search.Opened.{AreOpening}
 use Rattle.dali_progress.specs.Rounds.{AreTabled}
 use Rattle.dali_progress.specs.Surveys.{NoneButUndrawn, IsSettled}
-use Rattle.dali_progress.proofs.Stands.{to_come, At, CloseStage, sent_at}
+use Rattle.dali_progress.proofs.Stands.{to_come, search_frames, Opens, VisitsAt, CloseStage, sent_at}
 use Rattle.dali_progress.proofs.Survey.Drawn.{those_drawn, is_lost}
 use Rattle.dali_progress.proofs.Survey.Queried.{Holds, Nobody, TabledBelow, unseen}
 
@@ -44,7 +49,7 @@ spare false = 0
 
 -- so many frames take the wake, the two searches, the opening and the close, for so many gear without short address
 abbrev pub wake_frames : Begun → List Gear → ℕ
-wake_frames start gs = 111 * count_by is_bare gs + 17 + spare start.any
+wake_frames start gs = 111 * count_by is_bare gs + 19 + spare start.any
 
 -- and so many the short address that is asked: three where it is silent, and three where it tells its random address
 abbrev pub silent_left : ℕ → ℕ
@@ -124,7 +129,7 @@ searched_by Drawing gs = gs
 -- and the frames that come after it
 abbrev pub frames_after : Way → Begun → List Gear → ℕ
 frames_after Fresh start gs = 0
-frames_after Surveying start gs = 111 * count_by is_lost gs + 9 + spare start.any
+frames_after Surveying start gs = 111 * count_by is_lost gs + 10 + spare start.any
 frames_after Drawing start gs = 0
 
 -- and is enrolled, but for the number that is visited
@@ -141,16 +146,86 @@ abbrev pub opened_at : Purpose → Stage → Bool
 opened_at Opening s = opened_after s false
 opened_at p s = true
 
-pub record Hunts (p : Purpose) (y : Way) (s : Stage) (k : Kept) (heard : Shorts) (opened : Bool) (x : Search) (n : SearchAddress)
+-- ---------------------------------------------------------------- the search that goes up
+
+-- `told` is whether the machine was told what was heard, and has not acted on it.
+
+-- so many frames of the question are still to be sent
+abbrev pub pending : Bool → Stage → SearchAddress → ℕ
+pending told stage.Free n = 4
+pending told (stage.HighSent high) n = 3
+pending told (stage.LowSent high low) n = 2
+pending told (stage.Hunted r None left) n = bytes_to_send n r + 1
+pending true (stage.Hunted r (Some h) left) n = 0
+pending false (stage.Hunted r (Some h) left) n = bytes_to_send n r + 1
+pending told _ n = 0
+
+-- and so many follow the search for so many gear: the visit and what comes after it, or the close
+abbrev pub after_rise : ℕ → ℕ
+after_rise zero = 1
+after_rise (suc more) = 38 + search_frames more
+
+-- what the questions still take, in thirds of a frame
+abbrev pub thirds_for : ℕ → Ascent → Asking → ℕ
+thirds_for zero x q = thirds_to_nobody x q
+thirds_for (suc more) x q = thirds_to_somebody x q
+
+-- the question that is sent, after those of the transaction before it
+abbrev pub RiseStage : Bool → Stage → Ascent → SearchAddress → Asking → List Gear → Type 0
+RiseStage told stage.Free x n q gs = has_room q (asked_next x) ≡ false
+RiseStage told (stage.HighSent high) x n q gs = (n.high ≡ high) × (has_room q (asked_next x) ≡ false)
+RiseStage told (stage.LowSent high low) x n q gs = (n.high ≡ high) × (n.low ≡ low) × (has_room q (asked_next x) ≡ false)
+RiseStage told (stage.Hunted r None left) x n q gs = left ≡ bytes_to_send n r + 1 + room_left q (asked_next x)
+RiseStage true (stage.Hunted r (Some h) left) x n q gs = (r ≡ n) × (left ≡ room_left q (asked_next x)) × Gives (wants gs) (asked_next x) (is_yes h)
+RiseStage false (stage.Hunted r (Some h) left) x n q gs = left ≡ bytes_to_send n r + 1 + room_left q (asked_next x)
+RiseStage told _ x n q gs = ⊥
+
+pub record Rises (told : Bool) (s : Stage) (x : Ascent) (n : SearchAddress) (gs : List Gear) (left : ℕ) : Type 0 where
+  pub before : Asking
+  pub way : IsTrueWay x before
+  pub running : leads_to x ≡ Again
+  pub knows : Knows (wants gs) x
+  pub number : n ≡ sought (asked_next x)
+  pub ready : IsOpened gs
+  pub unnamed : NoneNamed gs
+  pub stage_is : RiseStage told s x n before gs
+  pub budget : ℕ
+  pub enough : thirds_for (count_by is_wanted gs) x before ≤ 3 * budget
+  pub afford : frames_to_ask before (asked_next x) ≤ budget
+  pub frames : budget + after_rise (count_by is_wanted gs) + pending told s n ≤ left + frames_to_ask before (asked_next x)
+
+-- who is visited is the least that the search has found, and once withdrawn below all that are left
+abbrev pub IsLeastAt : Stage → SearchAddress → List Gear → Type 0
+IsLeastAt (stage.Withdrawn r a) n gs = (m : ℕ) → wants gs m ≡ true → value_of n < m
+IsLeastAt s n gs = (m : ℕ) → wants gs m ≡ true → value_of n ≤ m
+
+pub record IsReached (s : Stage) (x : Ascent) (n : SearchAddress) (gs : List Gear) : Type 0 where
+  pub is : IsAscent x
+  pub reached : leads_to x ≡ Reached (value_of n)
+  pub least : IsLeastAt s n gs
+
+abbrev pub HuntAt : Bool → Purpose → Stage → Kept → Bool → Ascent → SearchAddress → List Gear → ℕ → Type 0
+HuntAt told Opening s k opened x n gs left = Opens s opened gs left
+HuntAt told Hunting s k opened x n gs left = (opened ≡ true) × Rises told s x n gs left
+HuntAt told Visiting s k opened x n gs left = (opened ≡ true) × VisitsAt s k n gs left × IsReached s x n gs
+HuntAt told _ s k opened x n gs left = ⊥
+
+-- what a visit keeps for the search that finds nobody at last, and an opening for the second silence
+abbrev pub surplus : Purpose → ℕ
+surplus Opening = 1
+surplus Visiting = 27
+surplus p = 0
+
+pub record Hunts (told : Bool) (p : Purpose) (y : Way) (s : Stage) (k : Kept) (heard : Shorts) (opened : Bool) (x : Ascent) (n : SearchAddress)
     (start : Begun) (gs : List Gear) (left : ℕ) : Type 0 where
   pub way : IsOnWay p y
   pub opened_is : opened ≡ true
   pub own : start.any ≡ false → IsOwn k heard
   pub settled : start.any ≡ false → IsSettledBut p n k
   pub rest : ℕ
-  pub at : At p s k (opened_at p s) x n (searched_by y gs) rest
+  pub at : HuntAt told p s k (opened_at p s) x n (searched_by y gs) rest
   pub tabled : AreTabled (unseen start.gear) (to_come s n k.enrolled) (searched_by y gs)
-  pub frames : rest + frames_after y start gs ≤ left
+  pub frames : rest + surplus p + frames_after y start gs ≤ left
 
 -- ---------------------------------------------------------------- the close
 
@@ -176,19 +251,20 @@ pub record SurveyCloses (e : End) (s : Stage) (k : Kept) (heard : Shorts) (start
 
 -- ---------------------------------------------------------------- of whatever transaction
 
-abbrev pub SurveyAt : Purpose → Way → Stage → Kept → Shorts → Bool → ℕ → Search → SearchAddress → ℕ → Begun → List Gear → ℕ → Type 0
-SurveyAt (Asking a) y s k heard opened asked x n from start gs left =
+abbrev pub SurveyAt : Bool → Purpose → Way → Stage → Kept → Shorts → Bool → ℕ → Ascent → SearchAddress → ℕ → Begun → List Gear → ℕ → Type 0
+SurveyAt told (Sweeping a) y s k heard opened asked x n from start gs left =
     (y ≡ Surveying) × (opened ≡ false) × Sweeps a s k heard asked from start gs left
-SurveyAt Waking y s k heard opened asked x n from start gs left = (y ≡ Surveying) × (asked ≡ 0) × Wakes s k heard opened start gs left
-SurveyAt Opening y s k heard opened asked x n from start gs left = Hunts Opening y s k heard opened x n start gs left
-SurveyAt Probing y s k heard opened asked x n from start gs left = Hunts Probing y s k heard opened x n start gs left
-SurveyAt Visiting y s k heard opened asked x n from start gs left = Hunts Visiting y s k heard opened x n start gs left
-SurveyAt (Closing e) y s k heard opened asked x n from start gs left = SurveyCloses e s k heard start gs left
-SurveyAt (Resolving a) y s k heard opened asked x n from start gs left = ⊥
+SurveyAt told Waking y s k heard opened asked x n from start gs left = (y ≡ Surveying) × (asked ≡ 0) × Wakes s k heard opened start gs left
+SurveyAt told Opening y s k heard opened asked x n from start gs left = Hunts told Opening y s k heard opened x n start gs left
+SurveyAt told Hunting y s k heard opened asked x n from start gs left = Hunts told Hunting y s k heard opened x n start gs left
+SurveyAt told Visiting y s k heard opened asked x n from start gs left = Hunts told Visiting y s k heard opened x n start gs left
+SurveyAt told (Closing e) y s k heard opened asked x n from start gs left = SurveyCloses e s k heard start gs left
+SurveyAt told Probing y s k heard opened asked x n from start gs left = ⊥
+SurveyAt told (Resolving a) y s k heard opened asked x n from start gs left = ⊥
 
-pub record SurveyStands (start : Begun) (m : Machine) (gs : List Gear) (left : ℕ) : Type 0 where
+pub record SurveyStands (told : Bool) (start : Begun) (m : Machine) (gs : List Gear) (left : ℕ) : Type 0 where
   pub tries : m.tries ≡ 0
   pub silent : m.silent ≡ 0
   pub trace : IsTrace (stage_of m.trace) m.trace
-  pub at : SurveyAt m.course.purpose m.course.way (stage_of m.trace) m.kept m.heard m.opened m.asked m.course.search m.course.number m.course.from
+  pub at : SurveyAt told m.course.purpose m.course.way (stage_of m.trace) m.kept m.heard m.opened m.asked m.course.ascent m.course.number m.course.from
       start gs left

@@ -22,7 +22,7 @@ use Rattle.dali_script.specs.declared.orders.Order.TheVariants.{Put, Commit, Don
 use Rattle.dali_script.specs.declared.orders.End.{End}
 use Rattle.dali_script.specs.declared.orders.Fault.{Fault}
 use Rattle.dali_controller.specs.declared.purpose.Purpose.{Purpose}
-use Rattle.dali_controller.specs.declared.purpose.Purpose.TheVariants.{Opening, Probing, Visiting, Resolving, Closing, Asking, Waking}
+use Rattle.dali_controller.specs.declared.purpose.Purpose.TheVariants.{Opening, Probing, Visiting, Resolving, Closing, Asking, Waking, Hunting}
 use Rattle.dali_controller.specs.declared.way.Way.TheVariants.{Surveying, Drawing}
 use Rattle.dali_controller.specs.Course.{Course}
 use Rattle.dali_controller.specs.Machine.{Machine, machine_heard, asked_at, asked_after_silence}
@@ -64,6 +64,7 @@ moved_left u t n d is free moves = go moves.way where
         waiting (Resolving a) = omega arith
         waiting (Closing e) = omega arith
         waiting Waking = omega arith
+        waiting Hunting = omega arith
 
         most : (last : Option Order) → of_last u n last ≤ u + 2
         most None = omega arith

@@ -21,7 +21,7 @@ use Rattle.dali_script.specs.declared.orders.End.TheVariants.{AllFound, BlockFul
 use Rattle.dali_search.specs.declared.step.Step.TheVariants.{Again, Found, Nobody}
 use Rattle.dali_search.specs.Least.{answered}
 use Rattle.dali_controller.specs.declared.purpose.Purpose.{Purpose}
-use Rattle.dali_controller.specs.declared.purpose.Purpose.TheVariants.{Opening, Probing, Visiting, Resolving, Closing, Asking, Waking}
+use Rattle.dali_controller.specs.declared.purpose.Purpose.TheVariants.{Opening, Probing, Visiting, Resolving, Closing, Asking, Waking, Hunting}
 use Rattle.dali_controller.specs.declared.way.Way.{Way}
 use Rattle.dali_controller.specs.declared.way.Way.TheVariants.{Fresh, Surveying, Drawing}
 use Rattle.dali_controller.specs.Course.{Course, address_for, next_asked, is_yes, closing, going_on, going_on_early}
@@ -54,6 +54,7 @@ asking_or Visiting = inr ((λ u k s. refl), (λ h. refl), refl, refl)
 asking_or (Resolving a) = inr ((λ u k s. refl), (λ h. refl), refl, refl)
 asking_or (Closing e) = inr ((λ u k s. refl), (λ h. refl), refl, refl)
 asking_or Waking = inr ((λ u k s. refl), (λ h. refl), refl, refl)
+asking_or Hunting = inr ((λ u k s. refl), (λ h. refl), refl, refl)
 
 at_stage_most : (u k : ℕ) (s : Stage) → at_stage u k s ≤ u + 2
 at_stage_most u k stage.Free = waits_most u k
