@@ -194,6 +194,17 @@ struct dali_finding {
     struct dali_pair pair;
 };
 
+/* Of a machine: how far the search is that a survey goes up with, from one random address to the next. */
+struct dali_ascent {
+    struct dali_random low;
+    struct dali_random high;
+    struct dali_random top;
+    uint8_t steps;
+    uint8_t is_anew;
+    uint8_t silent;
+    uint8_t found;
+};
+
 /* A machine between two calls. Make one with dali_machine_new; its fields are the library's alone, and only so many
  * bytes to you. */
 struct dali_machine {
@@ -208,6 +219,7 @@ struct dali_machine {
     struct dali_random number;
     struct dali_random least;
     struct dali_random probe;
+    struct dali_ascent ascent;
     struct dali_finding finding;
     struct dali_order last;
     uint8_t way;

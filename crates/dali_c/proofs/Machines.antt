@@ -1,9 +1,13 @@
-use Rattle.std.proofs.Common.{◌≡◌, Option, Some, refl, sym, ap, ◌∙◌, length}
+use Rattle.std.proofs.Common.{◌≡◌, Bool, Option, Some, refl, sym, ap, ◌∙◌, length}
 use Rattle.dali_search.specs.Least.{Search, lowest, highest, step_between}
 use Rattle.dali_search.specs.Narrowing.{answers_of}
+use Rattle.dali_search.specs.Ascending.{Ascent, ascent_of}
 use Rattle.dali_controller.specs.declared.state.State.{State}
 use Rattle.dali_controller.specs.Machine.{Machine}
 use Rattle.dali_controller.specs.Parts.{machine_with}
+use Rattle.dali_c.specs.Ascents.{IsPlainAscent}
+use Rattle.dali_c.specs.Pairs.{random_of}
+use Rattle.dali_c.specs.declared.ascents.PlainAscent.{PlainAscent}
 use Rattle.dali_c.specs.Machines.{IsPlainSearch, Spells, IsHeld, Holds, IsRead}
 use Rattle.dali_c.specs.Records.{kept_of}
 use Rattle.dali_c.specs.declared.state.PlainState.{PlainState}
@@ -29,6 +33,21 @@ search_once p a b one other =
     let step : a.step ≡ b.step = one.search.narrows.step_is ∙ ap (λ n. step_between (lowest n) (highest n)) answers ∙ sym other.search.narrows.step_is in
     same_search a b answers (one.probe ∙ sym other.probe) step
 
+-- an ascent by its parts
+ascent_with : (p : PlainAscent) (a : Ascent) (anew : Bool) → IsPlainAscent p a → a.is_anew ≡ anew
+    → a ≡ ascent_of (random_of p.low) (random_of p.high) p.steps anew p.silent p.found (random_of p.top)
+ascent_with p a anew is same =
+    ap (λ n. record a { low = n }) is.low
+    ∙ ap (λ n. record a { low = random_of p.low; high = n }) is.high
+    ∙ ap (λ n. record a { low = random_of p.low; high = random_of p.high; steps = n }) is.steps
+    ∙ ap (λ n. record a { low = random_of p.low; high = random_of p.high; steps = p.steps; is_anew = n }) same
+    ∙ ap (λ n. record a { low = random_of p.low; high = random_of p.high; steps = p.steps; is_anew = anew; silent = n }) is.silent
+    ∙ ap (λ n. ascent_of (random_of p.low) (random_of p.high) p.steps anew p.silent n a.top) is.found
+    ∙ ap (λ n. ascent_of (random_of p.low) (random_of p.high) p.steps anew p.silent p.found n) is.top
+
+ascent_once : (p : PlainAscent) (a b : Ascent) → IsPlainAscent p a → IsPlainAscent p b → a ≡ b
+ascent_once p a b one other = ascent_with p a b.is_anew one (some_once one.anew other.anew) ∙ sym (ascent_with p b b.is_anew other refl)
+
 pub spells_once : (p : PlainState) (a b : State) → Spells p a → Spells p b → a ≡ b
 spells_once p a b one other =
     ap (λ n. record a { id = n }) (one.id ∙ sym other.id)
@@ -39,10 +58,14 @@ spells_once p a b one other =
     ∙ ap (λ n. record a { id = b.id; trace = b.trace; finding = b.finding; last = b.last; tries = b.tries; silent = n }) (one.silent ∙ sym other.silent)
     ∙ ap (λ n. record a { id = b.id; trace = b.trace; finding = b.finding; last = b.last; tries = b.tries; silent = b.silent; opened = n })
     (some_once one.opened other.opened)
-    ∙ ap (λ n. record b { purpose = n; number = a.number; search = a.search; from = a.from; way = a.way; heard = a.heard; asked = a.asked })
+    ∙ ap (λ n. record b { purpose = n; number = a.number; search = a.search; ascent = a.ascent; from = a.from; way = a.way; heard = a.heard; asked = a.asked })
     (some_once one.purpose other.purpose)
-    ∙ ap (λ n. record b { number = n; search = a.search; from = a.from; way = a.way; heard = a.heard; asked = a.asked }) (one.number ∙ sym other.number)
-    ∙ ap (λ n. record b { search = n; from = a.from; way = a.way; heard = a.heard; asked = a.asked }) (search_once p a.search b.search one.search other.search)
+    ∙ ap (λ n. record b { number = n; search = a.search; ascent = a.ascent; from = a.from; way = a.way; heard = a.heard; asked = a.asked })
+    (one.number ∙ sym other.number)
+    ∙ ap (λ n. record b { search = n; ascent = a.ascent; from = a.from; way = a.way; heard = a.heard; asked = a.asked })
+    (search_once p a.search b.search one.search other.search)
+    ∙ ap (λ n. record b { ascent = n; from = a.from; way = a.way; heard = a.heard; asked = a.asked })
+    (ascent_once p.ascent a.ascent b.ascent one.ascent other.ascent)
     ∙ ap (λ n. record b { from = n; way = a.way; heard = a.heard; asked = a.asked }) (one.visits ∙ sym other.visits)
     ∙ ap (λ n. record b { way = n; heard = a.heard; asked = a.asked }) (some_once one.way other.way)
     ∙ ap (λ n. record b { heard = n; asked = a.asked }) (one.heard ∙ sym other.heard)

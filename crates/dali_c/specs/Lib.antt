@@ -3,6 +3,7 @@ pub mod Pairs
 pub mod Orders
 pub mod Purposes
 pub mod Surveys
+pub mod Ascents
 pub mod Entries
 pub mod Records
 pub mod Machines

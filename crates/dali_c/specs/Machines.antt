@@ -5,6 +5,7 @@ use Rattle.dali_controller.specs.declared.state.State.{State}
 use Rattle.dali_controller.specs.Machine.{Machine}
 use Rattle.dali_controller.specs.Parts.{machine_with}
 use Rattle.dali_controller.specs.Whole.{IsWhole}
+use Rattle.dali_c.specs.Ascents.{IsPlainAscent}
 use Rattle.dali_c.specs.Codes.{bool_of}
 use Rattle.dali_c.specs.Pairs.{random_of, search_of}
 use Rattle.dali_c.specs.Orders.{order_of, finding_of}
@@ -32,6 +33,7 @@ pub record Spells (p : PlainState) (s : State) : Type 0 where
   pub purpose : purpose_of p.purpose p.detail ≡ Some s.purpose
   pub number : s.number ≡ search_of p.number
   pub search : IsPlainSearch p s.search
+  pub ascent : IsPlainAscent p.ascent s.ascent
   pub finding : finding_of p.finding ≡ Some s.finding
   pub last : order_of p.last ≡ Some s.last
   pub way : way_of p.way ≡ Some s.way

@@ -5,6 +5,7 @@
 //! Bytes that are none of a machine's are refused.
 #![tactic(auto)]
 
+mod ascents;
 mod calls;
 mod codes;
 mod entries;

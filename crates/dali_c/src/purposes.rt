@@ -19,6 +19,7 @@ pub(crate) fn purpose_of(code: u8, detail: u8) -> Option<Purpose>
         4 => Some(Purpose::Closing(End::of_code(detail)?)),
         5 => Some(Purpose::Asking(Short::of(detail)?)),
         6 => Some(Purpose::Waking),
+        7 => Some(Purpose::Hunting),
         _ => None,
     }
 }
@@ -35,5 +36,6 @@ pub(crate) fn purpose_code(purpose: Purpose) -> (u8, u8)
         Purpose::Closing(end) => (4, end.code()),
         Purpose::Asking(short) => (5, short.number()),
         Purpose::Waking => (6, 0),
+        Purpose::Hunting => (7, 0),
     }
 }

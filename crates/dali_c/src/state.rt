@@ -5,6 +5,7 @@ ghost use Rattle.dali_search.specs.Least.{Search};
 ghost use Rattle.dali_controller.specs.declared.state.State.{State};
 ghost use Rattle.dali_c.specs.Machines.{IsPlainSearch, Spells};
 
+use crate::ascents::PlainAscent;
 use crate::codes::bool_of;
 use crate::entries::{FRAMES, PlainEntry, read_trace, write_entries};
 use crate::orders::{PlainFinding, PlainOrder};
@@ -30,6 +31,7 @@ pub struct PlainState {
     pub number: PlainRandom,
     pub least: PlainRandom,
     pub probe: PlainRandom,
+    pub ascent: PlainAscent,
     pub finding: PlainFinding,
     pub last: PlainOrder,
     pub way: u8,
@@ -57,6 +59,7 @@ impl PlainState {
             number: PlainRandom::of_search(state.number),
             least: PlainRandom::of(state.search.least()),
             probe: PlainRandom::of(state.search.probe()),
+            ascent: PlainAscent::of(&state.ascent),
             finding: PlainFinding::of(state.finding),
             last: PlainOrder::of(state.last),
             way: way_code(state.way),
@@ -78,6 +81,7 @@ impl PlainState {
         let finding = self.finding.read()?;
         let last = self.last.read()?;
         let search = self.search()?;
+        let ascent = self.ascent.read()?;
         let trace = read_trace(&self.entries, self.entry_count)?;
         Some(State {
             id: self.id,
@@ -90,6 +94,7 @@ impl PlainState {
             purpose,
             number: self.number.search(),
             search,
+            ascent,
             from: self.from,
             way,
             heard: shorts_of(self.heard),

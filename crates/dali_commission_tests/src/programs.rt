@@ -110,11 +110,11 @@ fn words_that_ask_for_nothing_are_refused(rt: HostRuntime) {
 
 #[test]
 fn an_empty_bus_is_done_after_three_runs(rt: HostRuntime) {
-    let silent = answers(&rt, "", 627);
-    let said = "0 gear were enrolled, 0 are in the table; 627 frames\n";
-    ends(&rt, RUN, &Shelf::of(&[]), &silent, (0, 627, said));
-    let said = "0 gear were enrolled, 0 are in the table; 209 frames\n";
-    ends(&rt, ONCE, &Shelf::of(&[]), &silent, (0, 209, said));
+    let silent = answers(&rt, "", 633);
+    let said = "0 gear were enrolled, 0 are in the table; 633 frames\n";
+    ends(&rt, RUN, &Shelf::of(&[]), &silent, (0, 633, said));
+    let said = "0 gear were enrolled, 0 are in the table; 211 frames\n";
+    ends(&rt, ONCE, &Shelf::of(&[]), &silent, (0, 211, said));
 }
 
 #[test]
@@ -130,20 +130,20 @@ fn an_empty_bus_with_new_gear_alone_is_done_after_three_runs(rt: HostRuntime) {
 /// A gear that has short address 0 is asked in the first run, and named by the table in the second one.
 #[test]
 fn a_survey_enrols_who_tells_its_random_address(rt: HostRuntime) {
-    let told = answers(&rt, "byte 12\nbyte 34\nbyte 56\n", 412);
+    let told = answers(&rt, "byte 12\nbyte 34\nbyte 56\n", 416);
     let shelf = Shelf::of(&[]);
-    let said = "1 gear were enrolled, 1 are in the table; 415 frames\n";
-    ends(&rt, ONCE, &shelf, &told, (0, 415, said));
+    let said = "1 gear were enrolled, 1 are in the table; 419 frames\n";
+    ends(&rt, ONCE, &shelf, &told, (0, 419, said));
     assert!(rt; shelf.enrolled() == Some(1));
 }
 
 #[test]
 fn a_survey_leaves_alone_who_does_not_tell_its_random_address(rt: HostRuntime) {
     for (first, silent, lines) in [
-        ("damaged\n", 206, 207),
-        ("byte 12\ndamaged\n", 206, 208),
-        ("byte 12\nbyte 34\n", 207, 209),
-        ("byte FF\nbyte FF\nbyte FF\n", 206, 209),
+        ("damaged\n", 208, 209),
+        ("byte 12\ndamaged\n", 208, 210),
+        ("byte 12\nbyte 34\n", 209, 211),
+        ("byte FF\nbyte FF\nbyte FF\n", 208, 211),
     ] {
         let shelf = Shelf::of(&[]);
         let heard = answers(&rt, first, silent);

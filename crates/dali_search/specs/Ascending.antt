@@ -21,6 +21,18 @@ pub record Ascent : Type 0 where
   pub found : ℕ
   pub top : ℕ
 
+-- the one with these parts
+abbrev pub ascent_of : ℕ → ℕ → ℕ → Bool → ℕ → ℕ → ℕ → Ascent
+ascent_of low high steps is_anew silent found top = record {
+  low = low;
+  high = high;
+  steps = steps;
+  is_anew = is_anew;
+  silent = silent;
+  found = found;
+  top = top;
+}
+
 -- ---------------------------------------------------------------- blocks
 
 -- a number with its lowest k bits set to one: the last of its block

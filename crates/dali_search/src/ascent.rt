@@ -1,10 +1,10 @@
-ghost use Rattle.std.specs.Prelude.{◌≡◌, ℕ, ◌<◌, ◌≤◌, ◌^◌, Bool, true, false};
+ghost use Rattle.std.specs.Prelude.{◌≡◌, ℕ, ◌<◌, ◌≤◌, ◌^◌, Bool, true, false, MatchOption};
 ghost use Rattle.dali_search.specs.declared.step.Step.TheVariants.{Again, Found, Nobody};
 ghost use Rattle.dali_search.specs.Least.{IsBelow, Gives, Says, NumberOf};
 ghost use Rattle.dali_search.specs.Ascending.{with_ones, apart, end_of_block, scale, from_known, asked_next};
 ghost use Rattle.dali_search.specs.Ascending.{leads_to, told_yes, told_no, steps_after, silent_after, ascended};
 ghost use Rattle.dali_search.specs.Ascending.{IsAscent, Knows, answers_left};
-ghost use Rattle.dali_search.specs.Ascending.{ascent_at_first, above, begun_anew, gone_on};
+ghost use Rattle.dali_search.specs.Ascending.{ascent_at_first, ascent_of, above, begun_anew, gone_on};
 
 use crate::step::Step;
 use dali_frame::Random24;
@@ -134,6 +134,88 @@ impl Ascent {
             found: self.found,
             top: self.top,
         }
+    }
+
+    /// The ascent with these parts, as its readers give them. So an ascent is laid down as its parts, and made again.
+    /// None where no ascent has these.
+    pub fn of(
+        low: Random24,
+        high: Random24,
+        steps: u8,
+        is_anew: bool,
+        silent: u8,
+        found: u8,
+        top: Random24,
+    ) -> Option<Ascent>
+        ensures { MatchOption result
+            (IsAscent (ascent_of low high steps is_anew silent found top) → ⊥)
+            (λ a. IsAscent a × (a ≡ ascent_of low high steps is_anew silent found top)) }
+    {
+        if silent > SILENCES || steps > STEPS + silent || top >= Random24::MASK {
+            return None;
+        }
+        if 0 < silent && (is_anew || low < Random24::MASK) {
+            return None;
+        }
+        Some(Ascent {
+            low: low.value(),
+            high: high.value(),
+            steps,
+            is_anew,
+            silent,
+            found,
+            top: top.value(),
+        })
+    }
+
+    /// No member is below this number.
+    pub fn low(&self) -> Random24
+        ensures value { result ≡ self.now.low }
+        ensures ascent { IsAscent self.now }
+    {
+        Random24::of(self.low).unwrap()
+    }
+
+    /// Some member is at most this number; `FFFFFF` where that is not known.
+    pub fn high(&self) -> Random24
+        ensures { result ≡ self.now.high }
+    {
+        Random24::of(self.high).unwrap()
+    }
+
+    /// How many steps up were answered no.
+    pub fn steps(&self) -> u8
+        ensures { result ≡ self.now.steps }
+    {
+        self.steps
+    }
+
+    /// Whether it begins anew, below members that were found.
+    pub fn is_anew(&self) -> bool
+        ensures { result ≡ self.now.is_anew }
+    {
+        self.is_anew
+    }
+
+    /// How often nobody answered under `FFFFFE`.
+    pub fn silent(&self) -> u8
+        ensures { result ≡ self.now.silent }
+    {
+        self.silent
+    }
+
+    /// How many members were found, 255 for more.
+    pub fn found(&self) -> u8
+        ensures { result ≡ self.now.found }
+    {
+        self.found
+    }
+
+    /// The greatest member that was found; 0 where none was.
+    pub fn top(&self) -> Random24
+        ensures { result ≡ self.now.top }
+    {
+        Random24::of(self.top).unwrap()
     }
 
     /// The bits of the numbers of a block of about the mean distance of the members that were found.

@@ -4,7 +4,7 @@ use super::story::all_play;
 use std::test::Fail;
 
 /// Stories with their names.
-const STORIES: [(&str, &str); 10] = [
+const STORIES: [(&str, &str); 12] = [
     (
         // The second survey asks three gear for their numbers, and finds nobody without address.
         "a survey gives addresses as a start does, and a second one commits nothing",
@@ -18,7 +18,7 @@ const STORIES: [(&str, &str); 10] = [
          > 0: commit reserve 2 654321
          > 0: commit enrol 2 654321
          > 0: done all-found
-         > ran 542
+         > ran 453
          show > gear 0 on disabled 123456 FFFFFE 1
          > gear 1 on disabled 0ABCDE FFFFFE 0
          > gear 2 on disabled 654321 FFFFFE 2
@@ -27,7 +27,7 @@ const STORIES: [(&str, &str); 10] = [
          up 0 > ok
          survey 0 > 0: put 3 01C2
          run 2000 > 0: done all-found
-         > ran 209
+         > ran 211
          survey 0 > refused 3 NotDue",
     ),
     (
@@ -42,13 +42,13 @@ const STORIES: [(&str, &str); 10] = [
          > 0: commit reserve 1 654321
          > 0: commit enrol 1 654321
          > 0: done all-found
-         > ran 431
+         > ran 376
          up 1 > ok
          survey 1 > 1: put 3 01C2
          run 2000 > 1: commit enrol 0 123456
          > 1: commit enrol 1 654321
          > 1: done all-found
-         > ran 209
+         > ran 211
          show > gear 0 on disabled 123456 FFFFFE 0
          > gear 1 on disabled 654321 FFFFFE 1
          > table 0: 0=123456 1=654321
@@ -74,12 +74,12 @@ const STORIES: [(&str, &str); 10] = [
          > 1: commit reserve 2 300002
          > 0: done block-full
          > 1: done all-found
-         > ran 1066
+         > ran 865
          down 0 > ok
          up 0 > ok
          survey 0 > 0: put 3 01C2
          run 10000 > 0: done block-full
-         > ran 300
+         > ran 269
          down 1 > ok
          up 1 > ok
          survey 1 > 1: put 3 05C2
@@ -87,7 +87,7 @@ const STORIES: [(&str, &str); 10] = [
          > 1: commit reserve 3 400002
          > 1: commit enrol 3 400002
          > 1: done all-found
-         > ran 412
+         > ran 352
          show > gear 0 on disabled 100002 300002 0
          > gear 1 on disabled 200002 300002 1
          > gear 2 on disabled 300002 FFFFFE 2
@@ -105,7 +105,7 @@ const STORIES: [(&str, &str); 10] = [
          run 2000 > 0: commit reserve 1 123456
          > 0: commit enrol 1 123456
          > 0: done all-found
-         > ran 317",
+         > ran 296",
     ),
     (
         // A second address would be needed: no survey gives one that the block does not have.
@@ -116,7 +116,7 @@ const STORIES: [(&str, &str); 10] = [
          run 1000 > 0: commit reserve 7 100000
          > 0: commit enrol 7 100000
          > 0: done block-full
-         > ran 420
+         > ran 352
          show > gear 0 on disabled 100000 200000 7
          > gear 1 on disabled 200000 200000 -
          > table 0: 7=100000
@@ -124,7 +124,7 @@ const STORIES: [(&str, &str); 10] = [
          up 0 > ok
          survey 0 > 0: put 3 01C2
          run 1000 > 0: done block-full
-         > ran 300
+         > ran 269
          show > gear 0 on disabled 100000 200000 7
          > gear 1 on disabled 200000 200000 -
          > table 0: 7=100000",
@@ -144,7 +144,7 @@ const STORIES: [(&str, &str); 10] = [
          > 1: commit reserve 1 200002
          > 0: done block-full
          > 1: done all-found
-         > ran 846
+         > ran 725
          show > gear 0 on disabled 100002 200002 0
          > gear 1 on disabled 200002 200002 -
          > gear 2 on disabled 300002 200002 -
@@ -157,7 +157,7 @@ const STORIES: [(&str, &str); 10] = [
          > 1: commit reserve 2 300002
          > 1: commit enrol 2 300002
          > 1: done all-found
-         > ran 424
+         > ran 363
          show > gear 0 on disabled 100002 200002 0
          > gear 1 on disabled 200002 FFFFFE 1
          > gear 2 on disabled 300002 FFFFFE 2
@@ -169,13 +169,13 @@ const STORIES: [(&str, &str); 10] = [
         "site 1 0-3
          draws 123456
          survey 0 > 0: put 3 01C2
-         run 313 > 0: commit reserve 0 123456
-         > ran 312
+         run 283 > 0: commit reserve 0 123456
+         > ran 282
          expire 0 > ok
          go 0 > 0: put 1 B701
          pump > 0: sent B701 silence
          run 1000 > 0: done all-found
-         > ran 6
+         > ran 7
          show > gear 0 on disabled 123456 123456 -
          > table 0:
          down 0 > ok
@@ -183,7 +183,7 @@ const STORIES: [(&str, &str); 10] = [
          survey 0 > 0: put 3 01C2
          run 1000 > 0: commit enrol 0 123456
          > 0: done all-found
-         > ran 316
+         > ran 295
          show > gear 0 on disabled 123456 FFFFFE 0
          > table 0: 0=123456",
     ),
@@ -192,12 +192,12 @@ const STORIES: [(&str, &str); 10] = [
         "site 1 0-3
          draws 123456
          survey 0 > 0: put 3 01C2
-         run 203 > ran 203
+         run 204 > ran 204
          quiet > ok
          go 0 > 0: put 1 A700
          pump > 0: sent A700 silence
          run 1000 > 0: done all-found
-         > ran 5
+         > ran 6
          show > gear 0 on disabled FFFFFF FFFFFE -
          > table 0:
          down 0 > ok
@@ -206,17 +206,19 @@ const STORIES: [(&str, &str); 10] = [
          run 1000 > 0: commit reserve 0 123456
          > 0: commit enrol 0 123456
          > 0: done all-found
-         > ran 320
+         > ran 299
          show > gear 0 on disabled 123456 FFFFFE 0
          > table 0: 0=123456",
     ),
     (
-        // The question under FFFFFE is heard as silence, as where nobody is left.
-        "the next survey finds the gear that one lost answer left",
+        // The question under FFFFFE is heard as silence twice, as where nobody is left.
+        "the next survey finds the gear that two lost answers left",
         "site 2 0-3
          draws 123456 654321
          survey 0 > 0: put 3 01C2
-         run 207 > ran 207
+         run 208 > ran 208
+         go 0 > 0: put 1 A900
+         pump lost > 0: sent A900 silence
          go 0 > 0: put 1 A900
          pump lost > 0: sent A900 silence
          run 1000 > 0: done all-found
@@ -232,10 +234,46 @@ const STORIES: [(&str, &str); 10] = [
          > 0: commit reserve 1 654321
          > 0: commit enrol 1 654321
          > 0: done all-found
-         > ran 431
+         > ran 376
          show > gear 0 on disabled 123456 FFFFFE 0
          > gear 1 on disabled 654321 FFFFFE 1
          > table 0: 0=123456 1=654321",
+    ),
+    (
+        // COMPARE alone is sent once more. Somebody answers, who can be at FFFFFE alone: a visit there hears nothing, and
+        // the search begins anew.
+        "one lost answer under FFFFFE leaves nobody",
+        "site 2 0-3
+         draws 123456 654321
+         survey 0 > 0: put 3 01C2
+         run 208 > ran 208
+         go 0 > 0: put 1 A900
+         pump lost > 0: sent A900 silence
+         go 0 > 0: put 1 A900
+         pump > 0: sent A900 damaged
+         run 1000 > 0: commit reserve 0 123456
+         > 0: commit enrol 0 123456
+         > 0: commit reserve 1 654321
+         > 0: commit enrol 1 654321
+         > 0: done all-found
+         > ran 175",
+    ),
+    (
+        // The visit to the second gear hears nothing. The search begins anew, at the number of the first one, and goes
+        // up from there: it finds the gear.
+        "gear whose visit heard nothing are found anew",
+        "site 2 0-3
+         draws 123456 654321
+         survey 0 > 0: put 3 01C2
+         run 358 > 0: commit reserve 0 123456
+         > 0: commit enrol 0 123456
+         > ran 356
+         go 0 > 0: put 1 BB00
+         pump lost > 0: sent BB00 silence
+         run 1000 > 0: commit reserve 1 654321
+         > 0: commit enrol 1 654321
+         > 0: done all-found
+         > ran 97",
     ),
     (
         // So an address that a gear without power has stands in no table of a controller that surveyed meanwhile.
@@ -249,13 +287,13 @@ const STORIES: [(&str, &str); 10] = [
          > 0: commit reserve 1 654321
          > 0: commit enrol 1 654321
          > 0: done all-found
-         > ran 431
+         > ran 376
          up 1 > ok
          off 0 > ok
          survey 1 > 1: put 3 01C2
          run 1000 > 1: commit enrol 1 654321
          > 1: done all-found
-         > ran 209
+         > ran 211
          show > gear 0 off disabled 123456 FFFFFE 0
          > gear 1 on disabled 654321 FFFFFE 1
          > table 0: 0=123456 1=654321
@@ -266,7 +304,7 @@ const STORIES: [(&str, &str); 10] = [
          survey 1 > 1: put 3 01C2
          run 1000 > 1: commit enrol 0 123456
          > 1: done all-found
-         > ran 206
+         > ran 208
          show > gear 0 on disabled 123456 FFFFFF 0
          > gear 1 on disabled 654321 FFFFFE 1
          > table 0: 0=123456 1=654321

@@ -32,7 +32,7 @@ const STORIES: [(&str, &str); 6] = [
          > 0: commit reserve 1 123456
          > 0: commit enrol 1 123456
          > 0: done all-found
-         > ran 320
+         > ran 299
          show > gear 0 on disabled 0ABCDE FFFFFF 0
          > gear 1 on disabled 123456 FFFFFE 1
          > table 0: 0=0ABCDE 1=123456",
@@ -58,7 +58,7 @@ const STORIES: [(&str, &str); 6] = [
          > 0: commit reserve 1 123456
          > 0: commit enrol 1 123456
          > 0: done all-found
-         > ran 320
+         > ran 299
          show > gear 0 on disabled 0ABCDE FFFFFF 0
          > gear 1 on disabled 123456 FFFFFE 1
          > table 0: 0=0ABCDE 1=123456",
@@ -77,8 +77,9 @@ const STORIES: [(&str, &str); 6] = [
          > table 0: 0=123456",
     ),
     (
-        // Nobody hears it: 192 frames of silence, 3 that wake, a probe under the old numbers, and 109 as by a start.
-        // Then the controller would reserve its address. With power it is heard, once the controller asks anew.
+        // Nobody hears it: 192 frames of silence, 3 that wake, and 5 with two questions under the old numbers; then 5
+        // that open, 69 that search, and a visit of 4. Then the controller would reserve its address. With power it is
+        // heard, once the controller asks anew.
         "used gear without power are not heard, and their address is refused",
         "site 2 0-3
          draws 123456 654321
@@ -86,7 +87,7 @@ const STORIES: [(&str, &str); 6] = [
          off 0 > ok
          survey 0 > 0: put 3 01C2
          run 1000 > refused 10 AddressInUse
-         > ran 308
+         > ran 278
          on 0 > ok
          go 0 > refused 10 AddressInUse
          down 0 > ok
@@ -96,7 +97,7 @@ const STORIES: [(&str, &str); 6] = [
          > 0: commit reserve 1 123456
          > 0: commit enrol 1 123456
          > 0: done all-found
-         > ran 320
+         > ran 299
          show > gear 0 on disabled 0ABCDE FFFFFF 0
          > gear 1 on disabled 123456 FFFFFE 1
          > table 0: 0=0ABCDE 1=123456",

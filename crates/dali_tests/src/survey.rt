@@ -1,7 +1,7 @@
 //! A machine that begins by a survey: what it asks, whom it enrols, what it gives and what it leaves alone.
 
 use super::machine::{
-    DAMAGED, FOUND, Moment, OPENED, PROBE, SILENCE, YES, goes_on, machine_of, ordered, searches,
+    DAMAGED, FOUND, Moment, OPENED, SILENCE, YES, goes_on, machine_of, ordered, searches,
 };
 use super::values::InNumbers::{Enrol, Release, Reserve};
 use super::values::Ordered::{Commit, Done, Halt, NotDue, Put};
@@ -22,8 +22,18 @@ const WAKE: [Moment; 3] = [
     (SILENCE, Put(1, 0xA5FF)),
 ];
 
-/// How many frames a search of 25 probes has.
-const PROBES: u32 = 100;
+/// A hunt that finds nobody: COMPARE under FFFFFE, and once more, with no search byte again.
+const NOBODY: [Moment; 5] = [
+    (SILENCE, Put(3, 0xB1FF)),
+    (SILENCE, Put(1, 0xB5FE)),
+    (SILENCE, Put(1, 0xB3FF)),
+    (SILENCE, Put(1, 0xA900)),
+    (SILENCE, Put(1, 0xA900)),
+];
+
+/// How many frames the questions have that find 000000. A first transaction asks FFFFFE and 7FFFFF; seven of eight
+/// frames ask three numbers each, as 3FFFFF, 1FFFFF and 0FFFFF; the last one asks 000001 and 000000.
+const HUNTED: u32 = 69;
 
 fn heard_after(heard: &[Heard], frame: u16) -> Input {
     for (sent, answer) in heard {
@@ -123,7 +133,7 @@ const TOLD: [Heard; 3] = [
 /// With no other address in the block no gear draws a number.
 const NOTHING_TO_GIVE: [&[Moment]; 3] = [
     &WAKE,
-    &PROBE,
+    &NOBODY,
     &[(SILENCE, Put(3, 0xA100)), (SILENCE, Done(End::AllFound))],
 ];
 
@@ -145,10 +155,10 @@ const SURVEYS: [Surveyed<'static>; 5] = [
         192,
         &[
             &WAKE,
-            &PROBE,
+            &NOBODY,
             &[(SILENCE, Put(3, 0xA100))],
             &OPENED,
-            &PROBE,
+            &NOBODY,
             &[
                 (SILENCE, Put(3, 0xA100)),
                 (SILENCE, Done(End::AllFound)),
@@ -286,7 +296,7 @@ fn gives<R: Abort>(rt: &R, reserved: &Reserved<'_>) -> Result<(), Fail> {
     let records = [Reserve(0, 0x000000)];
     let story: Surveyed<'_> = ("reserved", block, &records, heard, &[], orders, &[&WAKE]);
     let mut machine = played(rt, &story)?;
-    searches(rt, &mut machine, SILENCE, PROBES);
+    searches(rt, &mut machine, SILENCE, HUNTED);
     goes_on(rt, "found", &mut machine, &[&FOUND]);
     goes_on(rt, "found", &mut machine, parts);
     Ok(())
@@ -312,6 +322,176 @@ const RESERVED: [Reserved<'static>; 3] = [
 fn an_address_of_somebody_else_is_not_given_by_a_reservation(rt: HostRuntime) -> Result<(), Fail> {
     for reserved in RESERVED {
         gives(&rt, &reserved)?;
+    }
+    Ok(())
+}
+
+/// A hunt over gear that were woken: what the machine is told first, how many frames it sends then, while each COMPARE
+/// is answered YES; and what it is told then and orders. Another part may follow.
+type Hunt<'a> = (&'a str, &'a [(Input, u32, &'a [Moment])]);
+
+fn hunts<R: Abort>(rt: &R, hunt: &Hunt<'_>) -> Result<(), Fail> {
+    let (name, parts) = *hunt;
+    let story: Surveyed<'_> = (name, (0, 3), &[], &[], &[], 192, &[&WAKE]);
+    let mut machine = played(rt, &story)?;
+    for (told, frames, moments) in parts {
+        searches(rt, &mut machine, *told, *frames);
+        goes_on(rt, name, &mut machine, &[*moments]);
+    }
+    Ok(())
+}
+
+/// FFFFFE and 7FFFFF are in one transaction, which then has room for one frame more, and the next question needs two.
+/// A damaged answer is a yes.
+const ASKS_ON: [Moment; 16] = [
+    (YES, Put(1, 0xB17F)),
+    (SILENCE, Put(1, 0xB5FF)),
+    (SILENCE, Put(1, 0xA900)),
+    (YES, Put(3, 0xB13F)),
+    (SILENCE, Put(1, 0xB5FF)),
+    (SILENCE, Put(1, 0xB3FF)),
+    (SILENCE, Put(1, 0xA900)),
+    // Nobody is up to 3FFFFF, somebody is up to 5FFFFF, and nobody up to 4FFFFF.
+    (SILENCE, Put(1, 0xB15F)),
+    (SILENCE, Put(1, 0xA900)),
+    (DAMAGED, Put(1, 0xB14F)),
+    (SILENCE, Put(1, 0xA900)),
+    // The transaction is full.
+    (SILENCE, Put(3, 0xB157)),
+    (SILENCE, Put(1, 0xB5FF)),
+    (SILENCE, Put(1, 0xB3FF)),
+    (SILENCE, Put(1, 0xA900)),
+    (Input::Survey, NotDue),
+];
+
+/// Nobody is up to 00FFFF: two bytes change, the high one is sent before the middle one.
+const HIGH_AND_MIDDLE: [Moment; 3] = [
+    (SILENCE, Put(1, 0xB101)),
+    (SILENCE, Put(1, 0xB37F)),
+    (SILENCE, Put(1, 0xA900)),
+];
+
+/// Somebody is up to 0101FF, and nobody up to 0100FF: the low byte is sent before the middle one.
+const LOW_AND_MIDDLE: [Moment; 7] = [
+    (SILENCE, Put(1, 0xB57F)),
+    (SILENCE, Put(1, 0xB301)),
+    (SILENCE, Put(1, 0xA900)),
+    (YES, Put(3, 0xB101)),
+    (SILENCE, Put(1, 0xB53F)),
+    (SILENCE, Put(1, 0xB301)),
+    (SILENCE, Put(1, 0xA900)),
+];
+
+/// A frame is lost: the question that it was for begins again, in a new transaction, and so does the next one that is
+/// lost. What was answered stays.
+const ASKED_ANEW: [Moment; 11] = [
+    (YES, Put(1, 0xB17F)),
+    (Input::Lapsed, Put(3, 0xB17F)),
+    (SILENCE, Put(1, 0xB5FF)),
+    (Input::Destroyed, Put(3, 0xB17F)),
+    (SILENCE, Put(1, 0xB5FF)),
+    (SILENCE, Put(1, 0xB3FF)),
+    (SILENCE, Put(1, 0xA900)),
+    (Input::Destroyed, Put(3, 0xB17F)),
+    (SILENCE, Put(1, 0xB5FF)),
+    (SILENCE, Put(1, 0xB3FF)),
+    (SILENCE, Put(1, 0xA900)),
+];
+
+/// After it there is room for four frames.
+const ASKED_ON: [Moment; 3] = [
+    (YES, Put(1, 0xB13F)),
+    (SILENCE, Put(1, 0xA900)),
+    (YES, Put(1, 0xB11F)),
+];
+
+/// The gear at 000000 has short address 0. The search goes on above it, with a step up to 000001, finds somebody there,
+/// and the visit hears nothing.
+const PASSED_OVER: [Moment; 14] = [
+    (YES, Put(3, 0xB100)),
+    (SILENCE, Put(1, 0xB300)),
+    (SILENCE, Put(1, 0xB500)),
+    (SILENCE, Put(1, 0xBB00)),
+    (Input::Heard(Answer::Byte(0x01)), Put(1, 0xAB00)),
+    (SILENCE, Commit(Enrol(0, 0x000000))),
+    (Input::Committed, Put(3, 0xB100)),
+    (SILENCE, Put(1, 0xB501)),
+    (SILENCE, Put(1, 0xB300)),
+    (SILENCE, Put(1, 0xA900)),
+    (YES, Put(3, 0xB100)),
+    (SILENCE, Put(1, 0xB300)),
+    (SILENCE, Put(1, 0xB501)),
+    (SILENCE, Put(1, 0xBB00)),
+];
+
+/// So it begins anew: it asks first whether somebody is up to 000000, the greatest number that was found; then one, two,
+/// four and eight numbers further; and then twice under FFFFFE. An address is left, so gear draw new numbers.
+const BEGUN_ANEW: [Moment; 20] = [
+    (SILENCE, Put(3, 0xB100)),
+    (SILENCE, Put(1, 0xB500)),
+    (SILENCE, Put(1, 0xB300)),
+    (SILENCE, Put(1, 0xA900)),
+    (SILENCE, Put(1, 0xB501)),
+    (SILENCE, Put(1, 0xA900)),
+    (SILENCE, Put(1, 0xB503)),
+    (SILENCE, Put(1, 0xA900)),
+    (SILENCE, Put(3, 0xB100)),
+    (SILENCE, Put(1, 0xB507)),
+    (SILENCE, Put(1, 0xB300)),
+    (SILENCE, Put(1, 0xA900)),
+    (SILENCE, Put(1, 0xB50F)),
+    (SILENCE, Put(1, 0xA900)),
+    (SILENCE, Put(3, 0xB1FF)),
+    (SILENCE, Put(1, 0xB5FE)),
+    (SILENCE, Put(1, 0xB3FF)),
+    (SILENCE, Put(1, 0xA900)),
+    (SILENCE, Put(1, 0xA900)),
+    (SILENCE, Put(3, 0xA100)),
+];
+
+/// Before anybody was found it begins anew as it began.
+const FIRST_VISIT: [Moment; 4] = [
+    (SILENCE, Put(3, 0xB1FF)),
+    (SILENCE, Put(1, 0xB5FE)),
+    (SILENCE, Put(1, 0xB3FF)),
+    (SILENCE, Put(1, 0xA900)),
+];
+
+/// A no under FFFFFE, and then a yes: who answered can be at FFFFFE alone.
+const NO_AND_YES: [Moment; 6] = [
+    (SILENCE, Put(1, 0xA900)),
+    (YES, Put(3, 0xB1FF)),
+    (SILENCE, Put(1, 0xB3FF)),
+    (SILENCE, Put(1, 0xB5FE)),
+    (SILENCE, Put(1, 0xBB00)),
+    (Input::Survey, NotDue),
+];
+
+const HUNTS: [Hunt<'static>; 6] = [
+    ("asks on", &[(SILENCE, 4, &ASKS_ON)]),
+    (
+        "two bytes change",
+        &[(SILENCE, 27, &HIGH_AND_MIDDLE), (YES, 20, &LOW_AND_MIDDLE)],
+    ),
+    (
+        "a question is lost",
+        &[(SILENCE, 4, &ASKED_ANEW), (YES, 0, &ASKED_ON)],
+    ),
+    (
+        "passed over",
+        &[(SILENCE, HUNTED, &PASSED_OVER), (SILENCE, 0, &BEGUN_ANEW)],
+    ),
+    (
+        "a first visit that heard nothing",
+        &[(SILENCE, HUNTED, &FOUND), (SILENCE, 0, &FIRST_VISIT)],
+    ),
+    ("a no and a yes", &[(SILENCE, 4, &NO_AND_YES)]),
+];
+
+#[test]
+fn hunts_ask_one_question_after_the_other(rt: HostRuntime) -> Result<(), Fail> {
+    for hunt in HUNTS {
+        hunts(&rt, &hunt)?;
     }
     Ok(())
 }
