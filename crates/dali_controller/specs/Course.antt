@@ -15,7 +15,8 @@ use Rattle.dali_special.specs.declared.command.Part.TheVariants.{High, Middle, L
 use Rattle.dali_script.specs.declared.stage.Stage.{Stage}
 use Rattle.dali_script.specs.declared.stage.Stage.TheVariants.{Terminated, InitialisedOnce}
 use Rattle.dali_script.specs.declared.stage.Stage.TheVariants.{Initialised, RandomisedOnce}
-use Rattle.dali_script.specs.declared.stage.Stage.TheVariants.{HighSent, MiddleSent, NumberSent, LowSent, Hunted}
+use Rattle.dali_script.specs.declared.stage.Stage.TheVariants.{HighSent, MiddleSent}
+use Rattle.dali_script.specs.declared.stage.Stage.TheVariants.{NumberSent, LowSent, Hunted}
 use Rattle.dali_script.specs.declared.stage.Stage.TheVariants.{Found as Named, Programmed}
 use Rattle.dali_script.specs.declared.stage.Stage.TheVariants.{Confirmed, HighAsked, MiddleAsked}
 use Rattle.dali_script.specs.Records.{Assignment, Kept}

@@ -234,7 +234,8 @@ impl State {
         Order::Put(priority, frame)
     }
 
-    /// Asks the next question of a hunt in the transaction that runs, under whose search address the last one was asked.
+    /// Asks the next question of a hunt in the transaction that runs, under whose search address the last one was
+    /// asked.
     pub(crate) fn ask_on(
         &mut self,
         kept: &Records<'_>,

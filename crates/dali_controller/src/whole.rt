@@ -70,7 +70,8 @@ impl State {
     /// Whether what is known while its transaction runs is so.
     fn knows(&self, kept: &Records<'_>) -> bool
         ensures { IsTrue result
-            ↔ Knows self.now.way kept.now self.now.number self.now.search self.now.ascent self.now.opened self.now.purpose }
+            ↔ Knows self.now.way kept.now self.now.number self.now.search self.now.ascent self.now.opened
+            self.now.purpose }
     {
         let number = self.number.value();
         match self.purpose {

@@ -191,7 +191,8 @@ turns_later : (before : List Gear) (t : Machine) (o : Order) (p : Purpose) (s : 
     → Stands before t gs left → t.course.purpose ≡ p → stage_of t.trace ≡ s
     → turn_of p t.course.number s ≡ Some c → IsSpelled c → Sends p t.course.number t.kept s c → IsNext before (machine_ordered t o) o gs left
 turns_later before t o p s c gs left g st purpose is turn spelled sends =
-    goes_later before t o s c gs left st is (turn_unasked p t.course.number s c turn) (given.turns t o c g (rw (purpose, is) turn)) spelled (rw (purpose, is) sends)
+    goes_later before t o s c gs left st is (turn_unasked p t.course.number s c turn) (given.turns t o c g (rw (purpose, is) turn)) spelled
+    (rw (purpose, is) sends)
 
 opening_turns : (before : List Gear) (t : Machine) (o : Order) (s : Stage) (gs : List Gear) (left : ℕ) → IsGivenBy t o → Stands before t gs left
     → IsNoEnrolment t.last → t.course.purpose ≡ Opening → stage_of t.trace ≡ s → (s ≡ stage.Free → ⊥)
@@ -210,7 +211,8 @@ opening_turns before t o stage.Opened gs left g st last purpose is running opens
     let enough : 5 + search_frames (count_by is_bare gs) ≤ left + 5 = opens.frames in
     searches_anew before t o gs left (calm_of before t gs left st) (tabled_at before t gs left stage.Opened st is)
     (given.begins_after t o stage.Opened g is tt (found_none before t gs left stage.Opened st is refl) last (never_eight t.tries st.tries))
-    (ap (begins_at t) is ∙ ap (λ y. searching_first y t.course) st.fresh) opens.stage_is (opening.opened_is gs opens.gear) (opening.opened_none_named gs opens.gear) (omega (arith, count, enough))
+    (ap (begins_at t) is ∙ ap (λ y. searching_first y t.course) st.fresh) opens.stage_is (opening.opened_is gs opens.gear)
+    (opening.opened_none_named gs opens.gear) (omega (arith, count, enough))
 opening_turns before t o _ gs left g st last purpose is running opens = absurd opens.stage_is
 
 -- ---------------------------------------------------------------- a probe that was answered

@@ -142,7 +142,8 @@ IsNext start m (Done e) gs left =
     SurveyEnds start.any e m.kept m.heard gs × AreTabled (unseen start.gear) m.kept.enrolled gs × (start.any ≡ false → IsSettled m.kept)
 IsNext start m (Halt why) gs left = ⊥
 
-pub calm_ordered : {told : Bool} (start : Begun) (t : Machine) (o : Order) (gs : List Gear) (left : ℕ) → SurveyStands told start t gs left → Calm (machine_ordered t o)
+pub calm_ordered : {told : Bool} (start : Begun) (t : Machine) (o : Order) (gs : List Gear) (left : ℕ) → SurveyStands told start t gs left
+    → Calm (machine_ordered t o)
 calm_ordered start t o gs left st = record { tries = st.tries; silent = st.silent }
 
 pub calm_of : {told : Bool} (start : Begun) (t : Machine) (gs : List Gear) (left : ℕ) → SurveyStands told start t gs left → Calm t

@@ -348,7 +348,8 @@ goes_acted start w q c m i o left goes surveys here given whole known promise = 
 -- ---------------------------------------------------------------- its frame is sent
 
 -- no stage on the way is one of a search that led to no gear
-never_silent : (told : Bool) (p : Purpose) (y : Way) (s : Stage) (k : Kept) (heard : Shorts) (opened o : Bool) (asked : ℕ) (x : Ascent) (n : SearchAddress) (from : ℕ)
+never_silent : (told : Bool) (p : Purpose) (y : Way) (s : Stage) (k : Kept) (heard : Shorts) (opened o : Bool) (asked : ℕ) (x : Ascent) (n : SearchAddress)
+    (from : ℕ)
     (start : Begun) (gs : List Gear) (left : ℕ)
     → SurveyAt told p y s k heard opened asked x n from start gs left → silent_after s o 0 ≡ 0
 never_silent told (Asking a) y (stage.Unanswered r) k heard opened o asked x n from start gs left at = absurd at.2.stage_is

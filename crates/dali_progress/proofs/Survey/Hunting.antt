@@ -61,7 +61,8 @@ use Rattle.dali_progress.proofs.Survey.Drawn.{count_nothing}
 use Rattle.dali_progress.proofs.Survey.Queried.{OneShort, IsTrue, unseen}
 use Rattle.dali_progress.proofs.Survey.Stands.{Begun, spare, IsOwn, searched_by, frames_after, Rises, Hunts, SurveyCloses, SurveyAt, SurveyStands}
 use Rattle.dali_progress.proofs.Survey.Rising.{bytes_same, Answered, answered_rise, rises_new, rises_in, IsReachedAt, rise_found, rise_nobody}
-use Rattle.dali_progress.proofs.Survey.Begins.{Calm, IsNext, Above, calm_of, calm_ordered, later_by, turns_by, first_by, hunts_by, hunts_first, hunts_on, all_taken}
+use Rattle.dali_progress.proofs.Survey.Begins.{Calm, IsNext, Above, calm_of, calm_ordered, later_by, turns_by, first_by, hunts_by, hunts_first, hunts_on}
+use Rattle.dali_progress.proofs.Survey.Begins.{all_taken}
 use Rattle.dali_progress.proofs.Survey.Turns.{IsUncontradicted, found_at, sweep_turns, wake_turns}
 
 -- A CONTROLLER THAT SURVEYS ACTS, while it searches, and at its close.
@@ -208,7 +209,8 @@ goes_on start t o h r room gs left st is next sends v = subst (λ q. IsNext star
         tries = st.tries;
         silent = st.silent;
         trace = st.trace;
-        at = subst (λ s. Hunts false Hunting t.course.way s t.kept t.heard t.opened (hunted t.course h).ascent (hunting (hunted t.course h)).number start gs left)
+        at = subst (λ s. Hunts false Hunting t.course.way s t.kept t.heard t.opened (hunted t.course h).ascent
+            (hunting (hunted t.course h)).number start gs left)
             (sym is) v;
       },
       subst (λ d. Sends Hunting (hunting (hunted t.course h)).number t.kept (stage_of t.trace) d) (sym (read_written c (byte_spelled _ r)))
@@ -234,7 +236,8 @@ hunting_turns start t o (stage.HighSent high) gs left g st purpose is running v 
 hunting_turns start t o (stage.LowSent high low) gs left g st purpose is running v =
     turns_by start t o Hunting (stage.LowSent high low) _ gs left g st purpose is refl tt refl
 hunting_turns start t o (stage.Hunted r None room) gs left g st purpose is running v =
-    turns_by start t o Hunting (stage.Hunted r None room) (byte_to_send t.course.number r) gs left g st purpose is refl (byte_spelled t.course.number r) (refl, refl)
+    turns_by start t o Hunting (stage.Hunted r None room) (byte_to_send t.course.number r) gs left g st purpose is refl (byte_spelled t.course.number r)
+    (refl, refl)
 hunting_turns start t o (stage.Hunted r (Some h) room) gs left g st purpose is running v = go (leads_to (ascended t.course.ascent (is_yes h))) refl where
   p : Rises true (stage.Hunted r (Some h) room) t.course.ascent t.course.number (searched_by t.course.way gs) v.rest
   p = v.at.1

@@ -22,7 +22,7 @@ use Rattle.dali_search.specs.Ascending.{Ascent, IsAscent, Knows, is_bounded, ask
 use Rattle.dali_search.specs.Questions.{bytes_apart, Asking, has_room, frames_to_ask, room_left, asking_next, IsTrueWay}
 use Rattle.dali_search.specs.Questions.{no_question}
 use Rattle.dali_search.proofs.Ascents.{asked_drawn, says_found}
-use Rattle.dali_search.proofs.Questions.{somebody_costs, nobody_costs, first_true, above_true}
+use Rattle.dali_search.proofs.TrueAnswers.{somebody_costs, nobody_costs, first_true, above_true}
 use Rattle.dali_controller.specs.declared.purpose.Purpose.TheVariants.{Hunting}
 use Rattle.dali_controller.specs.Course.{sought, is_yes, byte_to_send, bytes_to_send}
 use Rattle.dali_events.specs.Searching.{HasShort}
@@ -156,14 +156,16 @@ hunted_sent : (r : SearchAddress) (last : Option Answer) (room : ℕ) (x : Ascen
     (v : Rises false (stage.Hunted r last room) x n gs left)
     → room ≡ bytes_to_send n r + 1 + room_left v.before (asked_next x)
     → v.budget + after_rise (count_by is_wanted gs) + (bytes_to_send n r + 1) ≤ left + frames_to_ask v.before (asked_next x)
-    → (c : Command) → c ≡ byte_to_send n r → IsTaken c gs numbers h → Seeks (stage.Hunted r last room) gs → RisenTo (stage.Hunted r last room) x n gs numbers left c h
+    → (c : Command) → c ≡ byte_to_send n r → IsTaken c gs numbers h → Seeks (stage.Hunted r last room) gs
+    → RisenTo (stage.Hunted r last room) x n gs numbers left c h
 hunted_sent r last room x n gs numbers left h v is enough c sends taken seek =
     go (subst (λ d. IsByteSent n r last room d h) (sym sends) (byte_sent n r last room h (omega (arith, is)))) where
       less : (sent : ℕ) → bytes_to_send n r + 1 ≡ suc sent
           → (l : ℕ) × (left ≡ suc l)
           × (v.budget + after_rise (count_by is_wanted gs) + sent ≤ l + frames_to_ask v.before (asked_next x))
       less sent same =
-          rise_less v.budget (after_rise (count_by is_wanted gs)) sent left (frames_to_ask v.before (asked_next x)) (after_some (count_by is_wanted gs)) v.afford
+          rise_less v.budget (after_rise (count_by is_wanted gs)) sent left (frames_to_ask v.before (asked_next x))
+          (after_some (count_by is_wanted gs)) v.afford
           (subst (λ p. v.budget + after_rise (count_by is_wanted gs) + p ≤ left + frames_to_ask v.before (asked_next x)) same enough)
 
       go : IsByteSent n r last room c h → RisenTo (stage.Hunted r last room) x n gs numbers left c h
@@ -206,7 +208,8 @@ none_left n high low one two = rw (← one, ← two, self n.high, self n.low, se
 pub rises_sent : (s : Stage) (k : Kept) (x : Ascent) (n : SearchAddress) (gs : List Gear) (numbers : List ℕ) (left : ℕ) (c : Command) (h : Answer)
     → Rises false s x n gs left → Sends Hunting n k s c → IsTaken c gs numbers h → Seeks s gs → RisenTo s x n gs numbers left c h
 rises_sent stage.Free k x n gs numbers left c h v is taken seek =
-    let less = rise_less v.budget (after_rise (count_by is_wanted gs)) 3 left (frames_to_ask v.before (asked_next x)) (after_some (count_by is_wanted gs)) v.afford
+    let less =
+    rise_less v.budget (after_rise (count_by is_wanted gs)) 3 left (frames_to_ask v.before (asked_next x)) (after_some (count_by is_wanted gs)) v.afford
     v.frames in
     subst (λ d. RisenTo stage.Free x n gs numbers left d h) (sym is) (
       less.0,
@@ -214,7 +217,8 @@ rises_sent stage.Free k x n gs numbers left c h v is taken seek =
       rises_on stage.Free (stage.HighSent n.high) x n gs _ left less.0 v (leaving.core_after (SearchHigh n.high) gs numbers tt) (refl, v.stage_is) less.2,
     )
 rises_sent (stage.HighSent high) k x n gs numbers left c h v is taken seek =
-    let less = rise_less v.budget (after_rise (count_by is_wanted gs)) 2 left (frames_to_ask v.before (asked_next x)) (after_some (count_by is_wanted gs)) v.afford
+    let less =
+    rise_less v.budget (after_rise (count_by is_wanted gs)) 2 left (frames_to_ask v.before (asked_next x)) (after_some (count_by is_wanted gs)) v.afford
     v.frames in
     subst (λ d. RisenTo (stage.HighSent high) x n gs numbers left d h) (some_is (SearchLow n.low) c is) (
       less.0,
@@ -223,7 +227,8 @@ rises_sent (stage.HighSent high) k x n gs numbers left c h v is taken seek =
           (v.stage_is.0, refl, v.stage_is.1) less.2,
     )
 rises_sent (stage.LowSent high low) k x n gs numbers left c h v is taken seek =
-    let less = rise_less v.budget (after_rise (count_by is_wanted gs)) 1 left (frames_to_ask v.before (asked_next x)) (after_some (count_by is_wanted gs)) v.afford
+    let less =
+    rise_less v.budget (after_rise (count_by is_wanted gs)) 1 left (frames_to_ask v.before (asked_next x)) (after_some (count_by is_wanted gs)) v.afford
     v.frames in
     subst (λ d. RisenTo (stage.LowSent high low) x n gs numbers left d h) (some_is (SearchMiddle n.middle) c is) (
       less.0,
@@ -295,7 +300,8 @@ silent_some gs x more is knows ready count = go (x.silent == 0) refl where
       omega (arith, low, from, under)) in
       absurd (omega (arith, none, count))
 
-never_last : (gs : List Gear) (asked more : ℕ) (b : Bool) → IsOpened gs → count_by is_wanted gs ≡ suc more → Gives (wants gs) asked b → b ≡ false → asked ≡ 0xFFFFFE
+never_last : (gs : List Gear) (asked more : ℕ) (b : Bool) → IsOpened gs → count_by is_wanted gs ≡ suc more → Gives (wants gs) asked b → b ≡ false
+    → asked ≡ 0xFFFFFE
     → ⊥
 never_last gs asked more true ready count gives said last = absurd (cc)
 never_last gs asked more false ready count gives said last =
@@ -441,7 +447,8 @@ rise_nobody x q gs left v is = (
   have : (k : ℕ) → k < length gs → (gear_of gs k).powered ≡ true → (o : Option ℕ) → (gear_of gs k).short ≡ o → HasShort (gear_of gs k)
   have k in_row on (Some a) e = (a, e)
   have k in_row on None e =
-      absurd (nobody (gear_of gs k).random (wanted.wants_by gs (gear_of gs k).random k in_row (wanted.is_wanted_by (gear_of gs k) on (v.ready.bare k in_row on e)) refl))
+      absurd (nobody (gear_of gs k).random (wanted.wants_by gs (gear_of gs k).random k in_row
+      (wanted.is_wanted_by (gear_of gs k) on (v.ready.bare k in_row on e)) refl))
 
 -- ---------------------------------------------------------------- where it begins
 
@@ -476,7 +483,8 @@ rises_first gs left ready unnamed frames = go (count_by is_wanted gs) refl frame
   go zero is frames = begins 5 (rw (is, (first_true no_question refl).2) (omega arith)) (omega arith) (rw is (omega (arith, frames)))
   go (suc more) is frames = begins 73 (rw (is, (first_true no_question refl).1) (omega arith)) (omega arith) (rw is (omega (arith, frames)))
 
-pub rises_above : (x : Ascent) (r : ℕ) (gs : List Gear) (left : ℕ) → IsAscent x → r < MASK24 → ((m : ℕ) → wants gs m ≡ true → r < m) → IsOpened gs → NoneNamed gs
+pub rises_above : (x : Ascent) (r : ℕ) (gs : List Gear) (left : ℕ) → IsAscent x → r < MASK24 → ((m : ℕ) → wants gs m ≡ true → r < m) → IsOpened gs
+    → NoneNamed gs
     → search_frames (count_by is_wanted gs) + 27 ≤ left → Rises false stage.Free (above x r) (sought (asked_next (above x r))) gs left
 rises_above x r gs left is small past ready unnamed frames = go (count_by is_wanted gs) refl frames where
   knows : Knows (wants gs) (above x r)
@@ -502,7 +510,8 @@ rises_above x r gs left is small past ready unnamed frames = go (count_by is_wan
   go : (count : ℕ) → count_by is_wanted gs ≡ count → search_frames count + 27 ≤ left
       → Rises false stage.Free (above x r) (sought (asked_next (above x r))) gs left
   go zero counts frames = begins 31 (rw (counts, (above_true x r no_question is small refl).2) (omega arith)) (omega arith) (rw counts (omega (arith, frames)))
-  go (suc more) counts frames = begins 95 (rw (counts, (above_true x r no_question is small refl).1) (omega arith)) (omega arith) (rw counts (omega (arith, frames)))
+  go (suc more) counts frames =
+      begins 95 (rw (counts, (above_true x r no_question is small refl).1) (omega arith)) (omega arith) (rw counts (omega (arith, frames)))
 
 -- ---------------------------------------------------------------- the table
 
@@ -529,7 +538,8 @@ rising_leaves (stage.LowSent high low) k x n gs left c v is = subst LeavesNames 
 rising_leaves (stage.Hunted r last room) k x n gs left c v is = subst LeavesNames (sym is.1) (byte_leaves n r)
 rising_leaves _ k x n gs left c v is = absurd v.stage_is
 
-pub rising_tabled : (before : List Gear) (s : Stage) (k : Kept) (x : Ascent) (n : SearchAddress) (gs : List Gear) (numbers : List ℕ) (left rest : ℕ) (c : Command)
+pub rising_tabled : (before : List Gear) (s : Stage) (k : Kept) (x : Ascent) (n : SearchAddress) (gs : List Gear) (numbers : List ℕ) (left rest : ℕ)
+    (c : Command)
     (h : Answer) → Rises false s x n gs left → Sends Hunting n k s c → Rises true (next_stage s c h) x n (row_after Everyone c 0 gs numbers) rest
     → AreTabled before (to_come s n k.enrolled) gs → AreTabled before (to_come (next_stage s c h) n k.enrolled) (row_after Everyone c 0 gs numbers)
 rising_tabled before s k x n gs numbers left rest c h v is next tabled =

@@ -470,7 +470,8 @@ least_by : (t : Stage) (n : SearchAddress) (hs : List Gear) → ((m : ℕ) → w
 least_by (stage.Withdrawn q a) n hs least never = absurd (never q a refl)
 least_by _ n hs least never = least
 
-least_core : (gs hs : List Gear) (n : SearchAddress) → SameCore gs hs → ((m : ℕ) → wants gs m ≡ true → value_of n ≤ m) → (m : ℕ) → wants hs m ≡ true → value_of n ≤ m
+least_core : (gs hs : List Gear) (n : SearchAddress) → SameCore gs hs → ((m : ℕ) → wants gs m ≡ true → value_of n ≤ m) → (m : ℕ) → wants hs m ≡ true
+    → value_of n ≤ m
 least_core gs hs n same least m has = least m (sym (leaving.core_wants gs hs m same) ∙ has)
 
 least_sent : (s : Stage) (k : Kept) (x : Ascent) (n : SearchAddress) (gs : List Gear) (numbers : List ℕ) (left : ℕ) (c : Command) (h : Answer)
@@ -577,7 +578,8 @@ hunts_sent p y s k heard opened x n start gs numbers left c h hunt v is t seek =
       done Surveying way sent.0 sent.1 (opens (those_drawn (row_after Everyone c 0 gs numbers)) sent.0
       (subst (λ hs. HuntAt true p (next_stage s c h) k (opened_after (next_stage s c h) (opened_at p s)) x n hs sent.0) row sent.2))
       (subst (λ hs. AreTabled (unseen start.gear) (to_come (next_stage s c h) n k.enrolled) hs) row names)
-      (subst (λ m. v.rest + surplus p + (111 * m + 10 + spare start.any) ≤ left) (sym (lost_same c gs numbers (searching_of gs c by) (still_of gs c by))) enough)
+      (subst (λ m. v.rest + surplus p + (111 * m + 10 + spare start.any) ≤ left) (sym (lost_same c gs numbers (searching_of gs c by) (still_of gs c by)))
+      enough)
 
 -- ---------------------------------------------------------------- the close
 

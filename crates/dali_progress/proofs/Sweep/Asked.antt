@@ -30,7 +30,8 @@ use Rattle.dali_controller.specs.Next.{next_course, begins_at, goes_on_to, asked
 use Rattle.dali_controller.specs.Orders.{IsAllowed, machine_ordered}
 use Rattle.dali_controller.specs.Whole.{IsWhole, IsSending, Pending, Sends}
 use Rattle.dali_progress.proofs.Later.{IsUnasked, course_stays}
-use Rattle.dali_progress.proofs.Sweep.Left.{waits, at_stage, of_purpose, of_last, beyond, left, beyond_less, waits_most, waits_least, goes_moves, Moves, IsQuiet}
+use Rattle.dali_progress.proofs.Sweep.Left.{waits, at_stage, of_purpose, of_last, beyond, left, beyond_less, waits_most, waits_least, goes_moves, Moves}
+use Rattle.dali_progress.proofs.Sweep.Left.{IsQuiet}
 
 -- A SWEEP IS BOUNDED: what each order leaves once a frame of it was heard.
 
@@ -226,7 +227,8 @@ over_left u t a r s one surveys purpose at unasked over more =
       later : (f : Forward) → (t.trace ≡ [] → ⊥) → IsWhole (machine_ordered t (Put LATER f))
           → 1 + left u (machine_ordered t (Put LATER f)) ≤ beyond u t.course.from + r
       later f running whole =
-          let here : of_last u (machine_ordered t (Put LATER f)) (Some (Put LATER f)) ≡ at_stage u t.asked s = rw (course_stays t s at unasked, purpose, at) refl in
+          let here : of_last u (machine_ordered t (Put LATER f)) (Some (Put LATER f)) ≡ at_stage u t.asked s =
+          rw (course_stays t s at unasked, purpose, at) refl in
           let fewer : at_stage u t.asked s + 1 ≤ r = more (command_of f) (later_asks t f a s purpose at unasked whole) in
           rw (same_left u t (machine_ordered t (Put LATER f)) (course_stays t s at unasked) surveys, here) (omega (arith, fewer))
 

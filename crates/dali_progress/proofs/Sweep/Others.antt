@@ -34,7 +34,8 @@ use Rattle.dali_controller.specs.Next.{next_course, begins_at, goes_on_to, at_re
 use Rattle.dali_controller.specs.Next.{unanswered, course_on, hunted_in, hunted_to, goes_on_anew}
 use Rattle.dali_controller.specs.Orders.{IsAllowed, machine_ordered}
 use Rattle.dali_progress.specs.Swept.{was_sent, was_lost}
-use Rattle.dali_progress.proofs.Sweep.Left.{at_stage, of_purpose, of_last, beyond, left_on, left, waits_most, quiet, goes_moves, StaysOrMoves, begins_moves, IsQuiet, hunted_quiet}
+use Rattle.dali_progress.proofs.Sweep.Left.{at_stage, of_purpose, of_last, beyond, left_on, left, waits_most, quiet, goes_moves, StaysOrMoves, begins_moves}
+use Rattle.dali_progress.proofs.Sweep.Left.{IsQuiet, hunted_quiet}
 use Rattle.dali_progress.proofs.Sweep.Left.{Moves}
 use Rattle.dali_progress.proofs.Sweep.Asked.{quiet_left, by_order, moved_left, same_left}
 
@@ -86,7 +87,8 @@ any_left u t surveys =
       same : (n : Machine) → n.course ≡ t.course → of_last u n n.last ≤ u + 2 → left u n ≤ beyond u t.course.from + (u + 2)
       same n is most = rw (same_left u t n is surveys) (omega (arith, most))
 
-      later : (f : Forward) → StaysOrQuiet t.course (course_on t (stage_of t.trace)) → left u (machine_ordered t (Put LATER f)) ≤ beyond u t.course.from + (u + 2)
+      later : (f : Forward) → StaysOrQuiet t.course (course_on t (stage_of t.trace))
+          → left u (machine_ordered t (Put LATER f)) ≤ beyond u t.course.from + (u + 2)
       later f (inl is) = same (machine_ordered t (Put LATER f)) is (of_purpose_most u t.asked (course_on t (stage_of t.trace)).purpose (stage_of t.trace))
       later f (inr quiet) =
           let fewer : left u (machine_ordered t (Put LATER f)) ≤ beyond u t.course.from =
