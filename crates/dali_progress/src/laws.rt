@@ -147,8 +147,8 @@ pub fn who_starts_alone_surveys_alone()
 /// it: with n gear that have power and no short address, its survey sends at most 106 n + 219 frames, where each
 /// address that it has reserved is enrolled so (`settled_frames`). Three go to each of the 64 short addresses at the
 /// most: three questions where nobody answers, and the three queries of a random address where a gear does. Three wake
-/// gear, and then come a last probe of four, an opening of five, another last probe, and the close; for each of the n
-/// at most 25 probes of four frames, and 11 frames of visits.
+/// gear. Then come two searches that go up, under the old numbers and, after an opening of five, under new ones: for
+/// each of the n at most 95 frames of questions and 11 of visits, and 19 more for both, with the close.
 ///
 /// With any records it sends at most 72 more (`frames`): a gear may be found whose reservation is another's, and then
 /// all draw new numbers. The gear may have short addresses from before, whoever gave them, and numbers that they drew
