@@ -32,7 +32,8 @@ use Rattle.dali_controller.specs.declared.purpose.Purpose.{Purpose}
 use Rattle.dali_controller.specs.declared.purpose.Purpose.TheVariants.{Opening, Probing, Visiting, Resolving, Closing, Asking, Waking, Hunting}
 use Rattle.dali_controller.specs.Parts.{Parts}
 use Rattle.dali_controller.specs.Course.{Course, turn_of, is_yes, after_step, probed, number_at, address_for, unless_enrolled, unfinished_at, unfinished_among}
-use Rattle.dali_controller.specs.Course.{taking, missed, hunted, searching_on, searching_first, here_or_later, closing, going_on, going_on_early, visit_or_opening, next_unfinished}
+use Rattle.dali_controller.specs.Course.{taking, missed, hunted, searching_on, searching_first, here_or_later, closing, going_on, going_on_early}
+use Rattle.dali_controller.specs.Course.{visit_or_opening, next_unfinished}
 use Rattle.dali_controller.specs.Machine.{Machine, machine_lost, machine_committed, machine_told, woken_after}
 use Rattle.dali_controller.specs.Next.{begins_at, course_by, course_on, next_course, beginning, probed_to, probed_in, draw_or_close, draws, draws_by}
 use Rattle.dali_controller.specs.Next.{goes_on_to, goes_on_anew, hunted_to, question, unanswered, at_rest, asked_once}
@@ -75,7 +76,8 @@ put_course w s c o new stage turn is same =
 pub lost_course : (w : Parts) (t : List Entry) (o : Order) (new : Parts) → due_after w.last ≡ due.Bus → t ≡ []
     → Starts (taking (parts_course w) w.purpose w.number) o new → parts_course new ≡ course_by (machine_lost (machine_of w)) o
 lost_course w t o new bus empty starts =
-    started (record w { trace = []; tries = w.tries + 1 }) Free o new (taking (parts_course w) w.purpose w.number) stage_none (sym (rests w.last bus)) starts where
+    started (record w { trace = []; tries = w.tries + 1 }) Free o new (taking (parts_course w) w.purpose w.number) stage_none
+    (sym (rests w.last bus)) starts where
       rests : (l : Option Order) → due_after l ≡ due.Bus → at_rest (machine_of (record w { trace = []; tries = w.tries + 1 })) l ≡ parts_course w
       rests (Some (Put p f)) bus = refl
       rests _ bus = absurd (cc)
@@ -257,7 +259,8 @@ followed_heard w mid o f h put is sent told another unconfirmed hunted = record 
       → o ≡ beginning (next_course t)) is another;
   unconfirmed = subst (λ (t : Machine). (r : SearchAddress) (x : Option ℕ) → stage_of t.trace ≡ Inconclusive r x → o ≡ beginning (next_course t))
       is unconfirmed;
-  hunted = subst (λ (t : Machine). (r : SearchAddress) (g : Answer) (left : ℕ) → stage_of t.trace ≡ Hunted r (Some g) left → o ≡ question (next_course t) r left)
+  hunted = subst (λ (t : Machine). (r : SearchAddress) (g : Answer) (left : ℕ) → stage_of t.trace ≡ Hunted r (Some g) left
+      → o ≡ question (next_course t) r left)
       is hunted;
   enrolled = λ b n e. absurd (let there = subst (λ l. frame_put l ≡ Some f) (sym (heard_last (machine_of w) f h put) ∙ e) put in cc);
 }

@@ -31,7 +31,8 @@ use Rattle.dali_script.specs.declared.orders.Fault.TheVariants as fault
 use Rattle.dali_controller.specs.declared.purpose.Purpose.TheVariants.{Closing}
 use Rattle.dali_controller.specs.declared.way.Way.{Way}
 use Rattle.dali_controller.specs.declared.way.Way.TheVariants.{Fresh, Surveying, Drawing}
-use Rattle.dali_controller.specs.Course.{Course, closing_of, turn_of, searching_on, going_on, going_on_early, visit_or_opening, next_unfinished, ask_or_wake, next_asked}
+use Rattle.dali_controller.specs.Course.{Course, closing_of, turn_of, searching_on, going_on, going_on_early, visit_or_opening, next_unfinished, ask_or_wake}
+use Rattle.dali_controller.specs.Course.{next_asked}
 use Rattle.dali_controller.specs.Machine.{Machine, machine_told}
 use Rattle.dali_controller.specs.Next.{next_course, begins_at, course_by, course_on, beginning, BeginsWith}
 use Rattle.dali_controller.specs.Orders.{IsAllowed, MayEnrolOn, MayOrderPut, IsWarranted, IsBegun, IsCaused, Contradicts, AfterMask, AfterMaskOn, AfterFinding}

@@ -90,7 +90,8 @@ gives_masked w r a m h kept has is given q stage =
 -- gear that answered MASK and for whose number nothing is reserved is found by a search
 pub free_searching : (w : Parts) (r : SearchAddress) → IsHeard w (Unnamed r) → (HasRandom w.kept.reserved (value_of r) → ⊥) → w.opened ≡ true
 free_searching w r h free =
-    let visiting : Knows w.way w.kept w.number w.search w.ascent w.opened Visiting = subst (Knows w.way w.kept w.number w.search w.ascent w.opened) h.arrived.0 h.knows in
+    let visiting : Knows w.way w.kept w.number w.search w.ascent w.opened Visiting =
+    subst (Knows w.way w.kept w.number w.search w.ascent w.opened) h.arrived.0 h.knows in
     go w.opened (λ e. subst (λ q. HasRandom w.kept.reserved (value_of q)) (sym h.arrived.1) (visiting.1 e)) where
       go : (o : Bool) → (o ≡ false → HasRandom w.kept.reserved (value_of r)) → o ≡ true
       go true early = refl
@@ -135,7 +136,8 @@ pub record IsReservable (w : Parts) (a m : ℕ) : Type 0 where
 pub reservable : (w : Parts) (r : SearchAddress) (a m : ℕ) → IsHeard w (Unnamed r) → (HasRandom w.kept.reserved (value_of r) → ⊥)
     → IsFirstFree w.way w.kept w.heard (Some a) → m ≡ value_of r → IsReservable w a m
 reservable w r a m h free is same =
-    let visiting : Knows w.way w.kept w.number w.search w.ascent w.opened Visiting = subst (Knows w.way w.kept w.number w.search w.ascent w.opened) h.arrived.0 h.knows in
+    let visiting : Knows w.way w.kept w.number w.search w.ascent w.opened Visiting =
+    subst (Knows w.way w.kept w.number w.search w.ascent w.opened) h.arrived.0 h.knows in
     let x = free_within w.way w.kept w.heard a is in
     let drawn : value_of r < MASK24 = subst (λ q. value_of q < MASK24) (sym h.arrived.1) visiting.0 in
     record {

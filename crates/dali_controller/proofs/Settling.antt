@@ -47,7 +47,8 @@ may_resolved Drawing reserved b n has = refl
 pub settles_withdrawn : (w : Parts) (r : SearchAddress) (b n : ℕ) → IsHeard w (Withdrawn r b) → n ≡ value_of r → Settles w b n
 settles_withdrawn w r b n h is =
     let stage : stage_of w.trace ≡ Withdrawn r b = h.stage in
-    let visiting : Knows w.way w.kept w.number w.search w.ascent w.opened Visiting = subst (Knows w.way w.kept w.number w.search w.ascent w.opened) h.arrived.0 h.knows in
+    let visiting : Knows w.way w.kept w.number w.search w.ascent w.opened Visiting =
+    subst (Knows w.way w.kept w.number w.search w.ascent w.opened) h.arrived.0 h.knows in
     subst (Settles w b) (sym is) (record {
       ready = record { tries = h.tries; calm = h.calm; knows = h.knows };
       going = ap closing_of h.arrived.0;
@@ -72,7 +73,8 @@ record IsTold (w : Parts) (b n : ℕ) : Type 0 where
 told_by : (w : Parts) (b n : ℕ) → IsReady (machine_of w) → (w.purpose ≡ Resolving b) ⊎ (w.purpose ≡ Asking b) → IsSought w.purpose w.number n
     → IsTold w b n
 told_by w b n ready (inl is) sought =
-    let resolving : Knows w.way w.kept w.number w.search w.ascent w.opened (Resolving b) = subst (Knows w.way w.kept w.number w.search w.ascent w.opened) is ready.knows in
+    let resolving : Knows w.way w.kept w.number w.search w.ascent w.opened (Resolving b) =
+    subst (Knows w.way w.kept w.number w.search w.ascent w.opened) is ready.knows in
     let same : n ≡ value_of w.number = subst (λ p. IsSought p w.number n) is sought in
     record {
       going = ap closing_of is;
@@ -80,7 +82,8 @@ told_by w b n ready (inl is) sought =
       may = may_resolved w.way w.kept.reserved b n (subst (λ x. Has w.kept.reserved (b, x)) (sym same) resolving.3);
     }
 told_by w b n ready (inr is) sought =
-    let asking : Knows w.way w.kept w.number w.search w.ascent w.opened (Asking b) = subst (Knows w.way w.kept w.number w.search w.ascent w.opened) is ready.knows in
+    let asking : Knows w.way w.kept w.number w.search w.ascent w.opened (Asking b) =
+    subst (Knows w.way w.kept w.number w.search w.ascent w.opened) is ready.knows in
     record {
       going = ap closing_of is;
       drawn = subst (λ p. IsSought p w.number n) is sought;

@@ -1,6 +1,6 @@
 use Rattle.std.proofs.Common.{lit<, ◌≡◌, ◌⊎◌, inl, inr, ℕ, ◌+◌, ◌<◌, ◌≤◌, Bool, true, false, List, [], ◌∷◌, ◌++◌, refl, sym, ap}
 use Rattle.std.proofs.Common.{subst, ◌∙◌, arith, Option, Some, None}
-use Rattle.std.specs.Prelude.{◌-◌, ◌==◌, not, is_some, unwrap_or, if◌then◌else◌}
+use Rattle.std.specs.Prelude.{◌-◌, ◌==◌, is_some, unwrap_or, if◌then◌else◌}
 use Rattle.std.proofs.lemmas.Bool.Decides.{nat_tests}
 use Rattle.dali_frame.specs.declared.frames.Forward.{Forward}
 use Rattle.dali_frame.specs.declared.frames.Answer.{Answer}
@@ -12,7 +12,8 @@ use Rattle.dali_frame.specs.Priority.{FIRST, LATER}
 use Rattle.dali_special.specs.declared.command.Target.TheVariants.{Unaddressed}
 use Rattle.dali_special.specs.declared.command.Part.TheVariants.{Middle, Low}
 use Rattle.dali_special.specs.declared.command.Command.{Command}
-use Rattle.dali_special.specs.declared.command.Command.TheVariants.{Terminate, Initialise, Randomise, Compare, Withdraw, SearchHigh, SearchMiddle, SearchLow, Program}
+use Rattle.dali_special.specs.declared.command.Command.TheVariants.{Terminate, Initialise, Randomise, Compare, Withdraw, SearchHigh, SearchMiddle, SearchLow}
+use Rattle.dali_special.specs.declared.command.Command.TheVariants.{Program}
 use Rattle.dali_special.specs.declared.command.Command.TheVariants.{QueryShort, RandomByte, Arc}
 use Rattle.dali_special.specs.Command.{MASK, command_of, frame_of, IsSpelled}
 use Rattle.dali_special.proofs.Table.{read_written}
@@ -33,7 +34,7 @@ use Rattle.dali_script.proofs.Found.{finding_after}
 use Rattle.dali_search.specs.declared.step.Step.TheVariants.{Again}
 use Rattle.dali_script.proofs.Lists.{has_map, has_last}
 use Rattle.dali_search.specs.Least.{Search}
-use Rattle.dali_search.specs.Ascending.{Ascent, asked_next, leads_to, one_if}
+use Rattle.dali_search.specs.Ascending.{Ascent, asked_next, leads_to}
 use Rattle.dali_script.specs.declared.orders.Order.{Order}
 use Rattle.dali_script.specs.declared.orders.Order.TheVariants.{Put, Commit, Done, Halt}
 use Rattle.dali_script.specs.declared.orders.End.{End}
@@ -55,11 +56,11 @@ use Rattle.dali_controller.specs.Orders.{running_close}
 use Rattle.dali_controller.specs.Parts.{parts_course, machine_of}
 use Rattle.dali_controller.specs.Whole.{IsWhole, IsSurvey, Sends, Knows, IsEarly, IsWithinSilence, IsReady, IsSending, Pending}
 use Rattle.dali_controller.specs.Moments.{FoundAt, IsBetween, Closes, Arrived, KnowsAt, KnowsWoken, CalmAt, IsHeard, Turns, Begins, IsNext}
-use Rattle.dali_controller.specs.Moments.{Draws, IsUngiven, IsNextTo, AsksOn}
+use Rattle.dali_controller.specs.Moments.{Draws, IsUngiven, IsNextTo}
 
 -- THE COMMANDS OF A TRANSACTION. A command that is sent at a stage may follow there and is read from its frame; it is no
 -- direct arc power; past the first one no close runs; and what is known where it leads to.
-record Goes (k : Kept) (n : SearchAddress) (p : Purpose) (s : Stage) (c : Command) : Type 0 where
+pub record Goes (k : Kept) (n : SearchAddress) (p : Purpose) (s : Stage) (c : Command) : Type 0 where
   pub follows : Follows k.block k.reserved s c
   pub spelled : IsSpelled c
   pub addressing : (g : Forward) → c ≡ Arc g → ⊥
@@ -146,39 +147,42 @@ leads_asking r left (SearchLow low) ask = refl
 leads_asking r left Compare ask = refl
 leads_asking r left _ ask = absurd (cc)
 
-goes_hunted : (k : Kept) (n : SearchAddress) (p : Purpose) (r : SearchAddress) (last : Option Answer) (left : ℕ) (c : Command) → p ≡ Hunting → c ≡ byte_to_send n r
+pub goes_hunted : (k : Kept) (n : SearchAddress) (p : Purpose) (r : SearchAddress) (last : Option Answer) (left : ℕ) (c : Command) → p ≡ Hunting
+    → c ≡ byte_to_send n r
     → bytes_to_send n r < left → Goes k n p (Hunted r last left) c
 goes_hunted k n p r last left c hunting is room =
     subst (λ q. Goes k n q (Hunted r last left) c) (sym hunting)
     (subst (λ d. Goes k n Hunting (Hunted r last left) d) (sym is)
     (go (r.high == n.high) refl (r.low == n.low) refl (r.middle == n.middle) refl room)) where
-  some : (left == 0) ≡ false
-  some = grind (arith, nat_tests, room)
+      some : (left == 0) ≡ false
+      some = grind (arith, nat_tests, room)
 
-  asks : (d : Command) → is_asking d ≡ true → ((h : Answer) → Arrived k n Hunting (unwrap_or (hunted r (left - 1) d h) Over)) → IsSpelled d
-      → ((g : Forward) → d ≡ Arc g → ⊥) → Goes k n Hunting (Hunted r last left) d
-  asks d ask arrives spelled addressing = going (turn (rw some (leads_asking r (left - 1) d ask)) refl) spelled addressing (λ later. refl) (λ h. rw some (arrives h))
+      asks : (d : Command) → is_asking d ≡ true → ((h : Answer) → Arrived k n Hunting (unwrap_or (hunted r (left - 1) d h) Over)) → IsSpelled d
+          → ((g : Forward) → d ≡ Arc g → ⊥) → Goes k n Hunting (Hunted r last left) d
+      asks d ask arrives spelled addressing =
+          going (turn (rw some (leads_asking r (left - 1) d ask)) refl) spelled addressing (λ later. refl) (λ h. rw some (arrives h))
 
-  -- where a byte is sent, the others stay as they are
-  byte : (m : SearchAddress) → bytes_to_send n m + 1 ≤ bytes_to_send n r → Arrived k n Hunting (Hunted m None (left - 1))
-  byte m fewer = hunts_none k n m (left - 1) (omega (arith, fewer, room))
+      -- where a byte is sent, the others stay as they are
+      byte : (m : SearchAddress) → bytes_to_send n m + 1 ≤ bytes_to_send n r → Arrived k n Hunting (Hunted m None (left - 1))
+      byte m fewer = hunts_none k n m (left - 1) (omega (arith, fewer, room))
 
-  go : (b : Bool) → (r.high == n.high) ≡ b → (d : Bool) → (r.low == n.low) ≡ d → (e : Bool) → (r.middle == n.middle) ≡ e
-      → bytes_to_send n r < left
-      → Goes k n Hunting (Hunted r last left) (if b then (if d then (if e then Compare else SearchMiddle n.middle) else SearchLow n.low) else SearchHigh n.high)
-  go false one d two e three room =
-      asks (SearchHigh n.high) refl (λ h. byte (record r { high = n.high }) (rw (one, self n.high) (omega arith))) tt (λ g x. cc)
-  go true one false two e three room =
-      asks (SearchLow n.low) refl (λ h. byte (record r { low = n.low }) (rw (two, self n.low) (omega arith))) tt (λ g x. cc)
-  go true one true two false three room =
-      asks (SearchMiddle n.middle) refl (λ h. byte (record r { middle = n.middle }) (rw (three, self n.middle) (omega arith))) tt (λ g x. cc)
-  go true one true two true three room =
-      asks Compare refl (λ h. (refl, same)) tt (λ g x. cc) where
-    same : r ≡ n
-    same = let high : r.high ≡ n.high = equal r.high n.high one in let low : r.low ≡ n.low = equal r.low n.low two in
-        let middle : r.middle ≡ n.middle = equal r.middle n.middle three in
-        ap (λ x. record { high = x; middle = r.middle; low = r.low }) high ∙ ap (λ x. record { high = n.high; middle = x; low = r.low }) middle
-        ∙ ap (λ x. record { high = n.high; middle = n.middle; low = x }) low
+      go : (b : Bool) → (r.high == n.high) ≡ b → (d : Bool) → (r.low == n.low) ≡ d → (e : Bool) → (r.middle == n.middle) ≡ e
+          → bytes_to_send n r < left
+          → Goes k n Hunting (Hunted r last left) (if b then (if d then (if e then Compare else SearchMiddle n.middle) else SearchLow n.low)
+          else SearchHigh n.high)
+      go false one d two e three room =
+          asks (SearchHigh n.high) refl (λ h. byte (record r { high = n.high }) (rw (one, self n.high) (omega arith))) tt (λ g x. cc)
+      go true one false two e three room =
+          asks (SearchLow n.low) refl (λ h. byte (record r { low = n.low }) (rw (two, self n.low) (omega arith))) tt (λ g x. cc)
+      go true one true two false three room =
+          asks (SearchMiddle n.middle) refl (λ h. byte (record r { middle = n.middle }) (rw (three, self n.middle) (omega arith))) tt (λ g x. cc)
+      go true one true two true three room =
+          asks Compare refl (λ h. (refl, same)) tt (λ g x. cc) where
+            same : r ≡ n
+            same = let high : r.high ≡ n.high = equal r.high n.high one in let low : r.low ≡ n.low = equal r.low n.low two in
+                let middle : r.middle ≡ n.middle = equal r.middle n.middle three in
+                ap (λ x. record { high = x; middle = r.middle; low = r.low }) high ∙ ap (λ x. record { high = n.high; middle = x; low = r.low }) middle
+                ∙ ap (λ x. record { high = n.high; middle = n.middle; low = x }) low
 
 goes : (k : Kept) (n : SearchAddress) (p : Purpose) (s : Stage) (c : Command) → Sends k n p s c → Goes k n p s c
 goes k n Opening Terminated c e = rw (some_is _ c e.0) (going (turn refl refl) tt (λ g x. cc) (λ later. refl) (λ h. (Initialise Unaddressed, (refl, tt, tt))))
@@ -324,10 +328,10 @@ pub put_whole : (w : Parts) (s : Stage) (c : Command) (p : ℕ) (f : Forward) �
     → (IsSpelled c → command_of f ≡ c) → IsWhole (machine_of (record w { last = Some (Put p f) }))
 put_whole w s c p f h e read = put_whole_at w s c p f h e (read (goes w.kept w.number w.purpose s c e).spelled)
 
-begun_none : (t : Machine) (o : Option End) → o ≡ None → running_close t ≡ None → IsBegun t o
+pub begun_none : (t : Machine) (o : Option End) → o ≡ None → running_close t ≡ None → IsBegun t o
 begun_none t o is none = subst (IsBegun t) (sym is) none
 
-not_empty : (t : List Entry) (s : Stage) → stage_of t ≡ s → (s ≡ Free → ⊥) → t ≡ [] → ⊥
+pub not_empty : (t : List Entry) (s : Stage) → stage_of t ≡ s → (s ≡ Free → ⊥) → t ≡ [] → ⊥
 not_empty t s is later empty = later (sym is ∙ ap stage_of empty ∙ stage_none)
 
 abbrev pub IsMasked : Parts → Order → Type 0
@@ -621,7 +625,8 @@ pub resolves : (w : Parts) (r : SearchAddress) (a : ℕ) → IsHeard w (Unanswer
     → Begins w (Resolving a) r
 resolves w r a h early small reserved =
     let stage : stage_of w.trace ≡ Unanswered r = h.stage in
-    let visiting : Knows w.way w.kept w.number w.search w.ascent w.opened Visiting = subst (Knows w.way w.kept w.number w.search w.ascent w.opened) h.arrived.0 h.knows in
+    let visiting : Knows w.way w.kept w.number w.search w.ascent w.opened Visiting =
+    subst (Knows w.way w.kept w.number w.search w.ascent w.opened) h.arrived.0 h.knows in
     record {
       tries = h.tries;
       calm = early_calm w.opened w.silent early h.calm;
@@ -743,70 +748,3 @@ whole_at_first w trace last tries silent opened opening fresh = rw last (record 
   opening = opening;
   fresh = fresh;
 })
-
-byte_spelled : (n r : SearchAddress) → IsSpelled (byte_to_send n r)
-byte_spelled n r = go (r.high == n.high) (r.low == n.low) (r.middle == n.middle) where
-  go : (b d e : Bool) → IsSpelled (if b then (if d then (if e then Compare else SearchMiddle n.middle) else SearchLow n.low) else SearchHigh n.high)
-  go false d e = tt
-  go true false e = tt
-  go true true false = tt
-  go true true true = tt
-
--- A HUNT ASKS ON, in the transaction that runs.
-pub asks_next : (w : Parts) (number sent : SearchAddress) (f : Forward) → AsksOn w number sent → f ≡ frame_of (byte_to_send number sent)
-    → IsNext (machine_of w) (Put LATER f) (machine_of (record w { number = number; last = Some (Put LATER f) }))
-asks_next w number sent f a is = subst (λ g. IsNext (machine_of w) (Put LATER g) (machine_of (record w { number = number; last = Some (Put LATER g) }))) (sym is) next where
-  s : Stage
-  s = Hunted sent (Some a.next.asked.0) a.left
-
-  c : Command
-  c = byte_to_send number sent
-
-  stage : stage_of w.trace ≡ s
-  stage = a.next.asked.1
-
-  on : Goes w.kept number Hunting s c
-  on = goes_hunted w.kept number Hunting sent (Some a.next.asked.0) a.left c refl refl a.room
-
-  spelled : command_of (frame_of c) ≡ c
-  spelled = read_written c on.spelled
-
-  tries : w.tries < 8
-  tries = a.next.tries
-
-  calm : w.silent < 16
-  calm = a.next.silent
-
-  going_on : closing_of w.purpose ≡ None
-  going_on = ap closing_of a.next.hunting
-
-  next : IsNext (machine_of w) (Put LATER (frame_of c)) (machine_of (record w { number = number; last = Some (Put LATER (frame_of c)) }))
-  next = record {
-    order = record {
-      allowed = inr (
-        refl,
-        not_empty w.trace s stage (λ e. cc),
-        lawful_follows w.kept.block w.kept.reserved w.trace (frame_of c)
-            (subst (λ x. Follows w.kept.block w.kept.reserved x (command_of (frame_of c))) (sym stage)
-            (subst (λ d. Follows w.kept.block w.kept.reserved s d) (sym spelled) on.follows)),
-      );
-      addressing = λ g e. on.addressing g (sym spelled ∙ e);
-      caused = (begun_none (machine_of w) (closing_of w.purpose) going_on going_on, inl going_on);
-      given_up = λ n. absurd (omega arith);
-      silent = λ n. absurd (omega arith);
-      unnamed = λ r e. absurd (let other : s ≡ Unnamed r = sym stage ∙ e in cc);
-      found = λ r b e. absurd (let other : s ≡ Withdrawn r b = sym stage ∙ e in cc);
-    };
-    state = refl;
-  }
-
-pub asks_whole : (w : Parts) (number sent : SearchAddress) (f : Forward) → AsksOn w number sent → f ≡ frame_of (byte_to_send number sent)
-    → IsWhole (machine_of (record w { number = number; last = Some (Put LATER f) }))
-asks_whole w number sent f a is = record {
-  ready = record {
-    tries = a.next.tries;
-    calm = rw a.next.hunting a.next.silent;
-    knows = rw a.next.hunting (a.next.opened, a.next.survey, a.next.running, a.number_is);
-  };
-  sends = rw a.next.asked.1 (a.next.hunting, ap command_of is ∙ read_written (byte_to_send number sent) (byte_spelled number sent), a.room);
-}

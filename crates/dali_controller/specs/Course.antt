@@ -15,7 +15,8 @@ use Rattle.dali_special.specs.declared.command.Part.TheVariants.{High, Middle, L
 use Rattle.dali_script.specs.declared.stage.Stage.{Stage}
 use Rattle.dali_script.specs.declared.stage.Stage.TheVariants.{Terminated, InitialisedOnce}
 use Rattle.dali_script.specs.declared.stage.Stage.TheVariants.{Initialised, RandomisedOnce}
-use Rattle.dali_script.specs.declared.stage.Stage.TheVariants.{HighSent, MiddleSent, NumberSent, LowSent, Hunted}
+use Rattle.dali_script.specs.declared.stage.Stage.TheVariants.{HighSent, MiddleSent}
+use Rattle.dali_script.specs.declared.stage.Stage.TheVariants.{NumberSent, LowSent, Hunted}
 use Rattle.dali_script.specs.declared.stage.Stage.TheVariants.{Found as Named, Programmed}
 use Rattle.dali_script.specs.declared.stage.Stage.TheVariants.{Confirmed, HighAsked, MiddleAsked}
 use Rattle.dali_script.specs.Records.{Assignment, Kept}
@@ -87,8 +88,8 @@ abbrev pub byte_to_send : SearchAddress → SearchAddress → Command
 byte_to_send n r =
     if r.high == n.high
     then (if r.low == n.low
-        then (if r.middle == n.middle then Compare else SearchMiddle n.middle)
-        else SearchLow n.low)
+    then (if r.middle == n.middle then Compare else SearchMiddle n.middle)
+    else SearchLow n.low)
     else SearchHigh n.high
 
 -- how many search bytes are not yet those of the number

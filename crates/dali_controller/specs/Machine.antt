@@ -15,7 +15,8 @@ use Rattle.dali_script.specs.declared.stage.Stage.TheVariants.{HighAsked, Middle
 use Rattle.dali_script.specs.declared.stage.Stage.TheVariants.{Free, Terminated, InitialisedOnce}
 use Rattle.dali_script.specs.declared.stage.Stage.TheVariants.{RandomisedOnce, HighSent, MiddleSent}
 use Rattle.dali_script.specs.declared.stage.Stage.TheVariants.{NumberSent, Probed, Found, Unnamed}
-use Rattle.dali_script.specs.declared.stage.Stage.TheVariants.{LowSent, Hunted, Programmed, Confirmed, Over}
+use Rattle.dali_script.specs.declared.stage.Stage.TheVariants.{LowSent, Hunted, Programmed}
+use Rattle.dali_script.specs.declared.stage.Stage.TheVariants.{Confirmed, Over}
 use Rattle.dali_script.specs.Records.{Kept, with_record}
 use Rattle.dali_script.specs.Findings.{later, finding_of}
 use Rattle.dali_script.specs.Stages.{stage_of, may_follow}

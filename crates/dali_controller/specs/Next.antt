@@ -8,7 +8,8 @@ use Rattle.dali_frame.specs.Priority.{FIRST, LATER}
 use Rattle.dali_special.specs.Command.{frame_of}
 use Rattle.dali_script.specs.declared.records.Record.TheVariants.{Reserve}
 use Rattle.dali_script.specs.declared.stage.Stage.{Stage}
-use Rattle.dali_script.specs.declared.stage.Stage.TheVariants.{Free, Opened, Probed, Unnamed, Hunted}
+use Rattle.dali_script.specs.declared.stage.Stage.TheVariants.{Free, Opened, Probed, Unnamed}
+use Rattle.dali_script.specs.declared.stage.Stage.TheVariants.{Hunted}
 use Rattle.dali_script.specs.declared.stage.Stage.TheVariants.{Unanswered, Inconclusive}
 use Rattle.dali_script.specs.declared.stage.Stage.TheVariants.{Initialised, HighAsked}
 use Rattle.dali_script.specs.Stages.{stage_of}

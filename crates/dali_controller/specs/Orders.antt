@@ -235,8 +235,8 @@ pub record IsFollowed (t : Machine) (o : Order) : Type 0 where
   pub unconfirmed : (r : SearchAddress) (other : Option ℕ) → stage_of t.trace ≡ Inconclusive r other
       → o ≡ beginning (next_course t)
   pub enrolled : (b n : ℕ) → t.last ≡ Some (Commit (Enrol b n)) → AfterEnrolled t b n o
-  pub hunted : (r : SearchAddress) (h : Answer) (left : ℕ) → stage_of t.trace ≡ Hunted r (Some h) left
-      → o ≡ question (next_course t) r left
+  pub hunted : (r : SearchAddress) (h : Answer) (left : ℕ)
+      → stage_of t.trace ≡ Hunted r (Some h) left → o ≡ question (next_course t) r left
 
 -- THE ORDERS of a machine that was told an input, and that takes a course from then on.
 pub record IsOrderedTo (t : Machine) (c : Course) (o : Order) : Type 0 where

@@ -104,7 +104,8 @@ IsChosen n p s c = (turn_of p n s ≡ Some c) × IsMet s p n
 pub record IsReady (m : Machine) : Type 0 where
   pub tries : m.tries < 8
   pub calm : IsWithinSilence m.course.purpose m.silent
-  pub knows : Knows m.course.way m.kept m.course.number m.course.search m.course.ascent m.opened m.course.purpose
+  pub knows : Knows m.course.way m.kept m.course.number m.course.search m.course.ascent m.opened
+      m.course.purpose
 
 pub record IsUnstarted (m : Machine) : Type 0 where
   pub ready : IsReady m

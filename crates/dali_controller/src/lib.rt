@@ -5,6 +5,7 @@
 #![tactic(auto)]
 
 mod error;
+mod hunts;
 mod machine;
 mod moments;
 mod purpose;

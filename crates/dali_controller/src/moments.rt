@@ -19,7 +19,7 @@ ghost use Rattle.dali_script.specs.declared.orders.Due.TheVariants as due;
 ghost use Rattle.dali_controller.specs.Course.{is_yes};
 ghost use Rattle.dali_controller.specs.Machine.{machine_lost};
 
-use crate::purpose::{Purpose, bytes_to_send};
+use crate::purpose::Purpose;
 use crate::state::State;
 use crate::surveying::{is_anothers, least_open, next_asked};
 use crate::unfinished::next_unfinished;
@@ -36,7 +36,7 @@ pub(crate) const TRIES: u8 = 8;
 pub(crate) const SILENT: u8 = 16;
 
 /// Whether an answer to COMPARE is a yes: a damaged one is, as of several gear that answer together.
-fn is_yes(heard: Answer) -> bool
+pub(crate) fn is_yes(heard: Answer) -> bool
     ensures { result ≡ is_yes heard }
 {
     match heard {
@@ -49,11 +49,9 @@ impl State {
     ghost use Rattle.dali_controller.specs.Parts.{with_kept, machine_with, course_of};
     ghost use Rattle.dali_controller.specs.Whole.{IsWhole};
     ghost use Rattle.dali_controller.specs.Moments.{IsHeard, IsBetween, Closes, Settles, IsNext};
-    ghost use Rattle.dali_controller.specs.Moments.{Enrolled, IsStep, Starts, Draws, IsFirstFree, IsUngiven, AsksNext};
+    ghost use Rattle.dali_controller.specs.Moments.{Enrolled, IsStep, Starts, Draws, IsFirstFree, IsUngiven};
     ghost use Rattle.dali_controller.specs.Course.{opening, probing, searching_anew, visiting, resolving, closing};
-    ghost use Rattle.dali_controller.specs.Course.{hunting, searching_first, searching_on};
-    ghost use Rattle.dali_controller.specs.Whole.{IsSurvey};
-    ghost use Rattle.dali_search.specs.Ascending.{leads_to};
+    ghost use Rattle.dali_controller.specs.Course.{searching_first, searching_on};
     ghost use Rattle.dali_controller.specs.Course.{going_on, turn_of, visit_or_opening, next_unfinished, taking};
     ghost use Rattle.dali_controller.specs.Course.{ask_or_wake, next_asked, waking, drawing};
     ghost use Rattle.dali_controller.specs.Next.{course_by, next_course, beginning, silenced, BeginsWith};
@@ -241,7 +239,8 @@ impl State {
         requires between { IsBetween (with_kept self.old kept.now) }
         requires opened { self.old.opened ≡ true }
 
-        ensures starts { Starts (searching_first self.old.way (course_of self.old)) result (with_kept self.new kept.now) }
+        ensures starts { Starts (searching_first self.old.way (course_of self.old))
+            result (with_kept self.new kept.now) }
         ensures next { IsNext (machine_with self.old kept.now) result (machine_with self.new kept.now) }
         ensures whole { IsWhole (machine_with self.new kept.now) }
     {
@@ -252,22 +251,6 @@ impl State {
                 self.hunt(kept)
             }
         }
-    }
-
-    /// The transaction that asks under the number of the search that goes up.
-    #[tactic(auto, using(crate::proofs::Steps::hunts))]
-    fn hunt(&mut self, kept: &Records<'_>) -> Order
-        requires between { IsBetween (with_kept self.old kept.now) }
-        requires opened { self.old.opened ≡ true }
-        requires survey { IsSurvey self.old.way }
-        requires running { leads_to self.old.ascent ≡ search.Again }
-
-        ensures starts { Starts (hunting (course_of self.old)) result (with_kept self.new kept.now) }
-        ensures next { IsNext (machine_with self.old kept.now) result (machine_with self.new kept.now) }
-        ensures whole { IsWhole (machine_with self.new kept.now) }
-    {
-        let number = SearchAddress::of(self.ascent.probe());
-        self.begin(kept, Purpose::Hunting, number)
     }
 
     fn search_anew(&mut self, kept: &Records<'_>) -> Order
@@ -313,7 +296,7 @@ impl State {
 
     /// The transaction that asks the gear at a number for its short address.
     #[tactic(auto, using(crate::proofs::Steps::visits))]
-    fn visit(&mut self, kept: &Records<'_>, number: Random24) -> Order
+    pub(crate) fn visit(&mut self, kept: &Records<'_>, number: Random24) -> Order
         requires between { IsBetween (with_kept self.old kept.now) }
         requires drawn { number < MASK24 }
         requires reserved { self.old.opened ≡ false → HasRandom kept.now.reserved number }
@@ -507,59 +490,8 @@ impl State {
         }
     }
 
-    /// COMPARE was sent in a hunt, and this was heard; so many frames may follow.
-    fn hunted(&mut self, kept: &Records<'_>, sent: SearchAddress, last: Option<Answer>, left: u8) -> Order
-        requires heard { IsHeard (with_kept self.old kept.now) (stage.Hunted sent last left) }
-        requires over { turn_of self.old.purpose self.old.number (stage.Hunted sent last left) ≡ None }
-
-        ensures asked { result ≡ question (next_course (machine_with self.old kept.now)) sent left }
-        ensures begins { BeginsWith (course_of self.new) result }
-        ensures course { course_of self.new ≡ course_by (machine_with self.old kept.now) result }
-        ensures next { IsNext (machine_with self.old kept.now) result (machine_with self.new kept.now) }
-        ensures whole { IsWhole (machine_with self.new kept.now) }
-    {
-        match last {
-            Some(heard) => self.answered(kept, sent, heard, left),
-            None => unreachable!(),
-        }
-    }
-
-    /// A question of a hunt was answered so.
-    fn answered(&mut self, kept: &Records<'_>, sent: SearchAddress, heard: Answer, left: u8) -> Order
-        requires { IsHeard (with_kept self.old kept.now) (stage.Hunted sent (Some heard) left) }
-
-        ensures asked { result ≡ question (next_course (machine_with self.old kept.now)) sent left }
-        ensures begins { BeginsWith (course_of self.new) result }
-        ensures course { course_of self.new ≡ course_by (machine_with self.old kept.now) result }
-        ensures next { IsNext (machine_with self.old kept.now) result (machine_with self.new kept.now) }
-        ensures whole { IsWhole (machine_with self.new kept.now) }
-    {
-        match self.ascent.answer(is_yes(heard)) {
-            Step::Again => self.ask_next(kept, sent, left),
-            Step::Found(found) => self.visit(kept, found),
-            Step::Nobody => self.nobody(kept),
-        }
-    }
-
-    /// The next question of a hunt: in the transaction that runs, where that has room for it.
-    fn ask_next(&mut self, kept: &Records<'_>, sent: SearchAddress, left: u8) -> Order
-        requires { AsksNext (with_kept self.old kept.now) sent left }
-
-        ensures asked { result ≡ question (hunting (course_of self.old)) sent left }
-        ensures course { course_of self.new ≡ hunting (course_of self.old) }
-        ensures next { IsNext (machine_with self.old kept.now) result (machine_with self.new kept.now) }
-        ensures whole { IsWhole (machine_with self.new kept.now) }
-    {
-        let number = SearchAddress::of(self.ascent.probe());
-        if bytes_to_send(number, sent) < left {
-            self.ask_on(kept, number, sent)
-        } else {
-            self.hunt(kept)
-        }
-    }
-
     /// Nobody answers the search any more.
-    fn nobody(&mut self, kept: &Records<'_>) -> Order
+    pub(crate) fn nobody(&mut self, kept: &Records<'_>) -> Order
         requires { Closes (with_kept self.old kept.now) AllFound }
 
         ensures starts { Starts (draw_or_close (draws (machine_with self.old kept.now)) (course_of self.old) AllFound)

@@ -234,8 +234,14 @@ impl State {
         Order::Put(priority, frame)
     }
 
-    /// Asks the next question of a hunt in the transaction that runs, under whose search address the last one was asked.
-    pub(crate) fn ask_on(&mut self, kept: &Records<'_>, number: SearchAddress, sent: SearchAddress) -> Order
+    /// Asks the next question of a hunt in the transaction that runs, under whose search address the last one was
+    /// asked.
+    pub(crate) fn ask_on(
+        &mut self,
+        kept: &Records<'_>,
+        number: SearchAddress,
+        sent: SearchAddress,
+    ) -> Order
         requires { AsksOn (with_kept self.old kept.now) number sent }
 
         ensures order { result ≡ order.Put LATER (frame_of (byte_to_send number sent)) }

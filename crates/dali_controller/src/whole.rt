@@ -70,7 +70,8 @@ impl State {
     /// Whether what is known while its transaction runs is so.
     fn knows(&self, kept: &Records<'_>) -> bool
         ensures { IsTrue result
-            ↔ Knows self.now.way kept.now self.now.number self.now.search self.now.ascent self.now.opened self.now.purpose }
+            ↔ Knows self.now.way kept.now self.now.number self.now.search self.now.ascent self.now.opened
+            self.now.purpose }
     {
         let number = self.number.value();
         match self.purpose {
@@ -150,7 +151,9 @@ impl State {
             × (bytes_to_send self.now.number sent < left)) }
     {
         let is_hunting = matches!(self.purpose, Purpose::Hunting);
-        is_hunting && command == byte_to_send(self.number, sent) && bytes_to_send(self.number, sent) < left
+        is_hunting
+            && command == byte_to_send(self.number, sent)
+            && bytes_to_send(self.number, sent) < left
     }
 
     /// Whether the transaction sends this command at a stage past the first, but PROGRAM SHORT ADDRESS.

@@ -39,6 +39,7 @@ use Rattle.dali_controller.proofs.Courses.{found_number}
 use Rattle.dali_controller.specs.Orders.{IsGiven, IsSought, IsAnswered, IsOrdered, AfterFinding, AfterReserved, AfterMaskBy, AfterMaskOn, AfterMaskSurveyed}
 use Rattle.dali_controller.specs.Orders.{machine_after}
 use Rattle.dali_controller.specs.Orders.{machine_ordered}
+use Rattle.dali_progress.proofs.Later.{later_leaves}
 use Rattle.dali_progress.specs.Surveyed.{Step, IsTaken, IsCourse, stage_told, heard_at, heard_by, WasHeard, IsPlain, ArePlain, IsAccounted}
 
 -- WHO WAS HEARD IN A SURVEY IS ACCOUNTED FOR.
@@ -393,7 +394,9 @@ pub never_given : (s : Step) (earlier : List Step) (n : Machine) (a : ℕ) (q : 
 never_given s earlier n a q f small course plain is other opened told reserved heard =
     let t : Machine = machine_told s.before s.told in
     let after : n ≡ machine_ordered t (Put LATER f) = course.1.after ∙ ap (machine_ordered t) is in
-    let own = gives_own t q a LATER f (λ e. other (ap (λ (x : Machine). x.course.way) after ∙ e)) (sym (ap (λ (x : Machine). x.opened) after) ∙ opened) told
+    let own =
+    gives_own t q a LATER f (λ e. other (ap (λ (x : Machine). x.course.way) (after ∙ later_leaves t f (stage.Unnamed q) told tt) ∙ e))
+    (sym (ap (λ (x : Machine). x.opened) after) ∙ opened) told
     (sym (ap (λ (x : Machine). address_for x.kept.reserved (value_of q)) after) ∙ reserved)
     (given_ordered s.before s.told LATER f (subst (IsAnswered s.before s.told) is course.1.given.answered)) refl
     (subst (λ (x : Machine). IsAccounted x a) after (accounted (s ∷ earlier) n a small course plain heard)) in

@@ -5,7 +5,7 @@ use Rattle.dali_special.specs.declared.command.Command.{Command}
 use Rattle.dali_special.specs.declared.command.Command.TheVariants.{Arc}
 use Rattle.dali_special.specs.Command.{command_of, frame_of}
 use Rattle.dali_script.specs.declared.stage.Stage.{Stage}
-use Rattle.dali_script.specs.declared.stage.Stage.TheVariants.{Unnamed, Inconclusive, Withdrawn, Spelled, Terminated}
+use Rattle.dali_script.specs.declared.stage.Stage.TheVariants.{Unnamed, Inconclusive, Withdrawn, Spelled, Terminated, Hunted}
 use Rattle.dali_script.specs.declared.records.Record.TheVariants.{Enrol}
 use Rattle.dali_script.specs.Scripts.{Lawful}
 use Rattle.dali_script.specs.Stages.{stage_of}
@@ -18,6 +18,7 @@ use Rattle.dali_controller.specs.Machine.{Machine, machine_told}
 use Rattle.dali_controller.specs.Course.{turn_of, first_of}
 use Rattle.dali_controller.specs.Next.{next_course, course_by, BeginsWith}
 use Rattle.dali_controller.specs.Orders.{IsAllowed, IsAddressing, IsBegun, IsCaused, IsOrdered, IsFollowed, IsGiven, machine_after, running_close}
+use Rattle.dali_progress.proofs.Later.{IsUnasked, course_stays}
 
 -- ORDERS OF A MACHINE, by what a short history has at hand: the other way round from what is read
 -- from an order that was given.
@@ -28,6 +29,7 @@ IsPlain (Unnamed r) = ⊥
 IsPlain (Withdrawn r b) = ⊥
 IsPlain (Spelled b n) = ⊥
 IsPlain (Inconclusive r other) = ⊥
+IsPlain (Hunted r (Some h) left) = ⊥
 IsPlain _ = Unit {0}
 
 abbrev pub IsNoCommit : Option Order → Type 0
@@ -41,6 +43,10 @@ pub record IsAt (t : Machine) (s : Stage) : Type 0 where
   pub tries : t.tries ≡ 0
   pub silent : t.silent ≡ 0
   pub last : IsNoCommit t.last
+
+plain_unasked : (s : Stage) → IsPlain s → IsUnasked s
+plain_unasked (Hunted r (Some h) left) plain = plain
+plain_unasked _ plain = tt
 
 not_plain : (s r : Stage) → IsPlain s → s ≡ r → (IsPlain r → ⊥) → ⊥
 not_plain s r plain same bad = bad (subst IsPlain same plain)
@@ -67,6 +73,7 @@ followed t s o at turns = record {
   another = λ b n e other. absurd (not_plain s (Spelled b (Some n)) at.plain (sym at.stage ∙ e) (λ x. x));
   unconfirmed = λ r x e. absurd (not_plain s (Inconclusive r x) at.plain (sym at.stage ∙ e) (λ y. y));
   enrolled = λ b n e. absurd (no_enrolment t.last b n at.last e);
+  hunted = λ r h left e. absurd (not_plain s (Hunted r (Some h) left) at.plain (sym at.stage ∙ e) (λ x. x));
 }
 
 -- all inputs but one are answered so
@@ -95,7 +102,8 @@ pub later_given : (m : Machine) (i : Input) (s : Stage) (x : Command) → (i ≡
 later_given m i s x other at unclosed turn some lawful addressing =
     given m i (Put LATER (frame_of x)) other
     (ordered (machine_told m i) s (Put LATER (frame_of x)) at (inr (refl, some, lawful)) addressing
-    (subst (λ e. IsBegun (machine_told m i) e) (sym unclosed) unclosed, inl unclosed))
+    (subst (λ d. IsCaused (machine_told m i) d (Put LATER (frame_of x))) (sym (course_stays (machine_told m i) s at.stage (plain_unasked s at.plain)))
+    (subst (λ e. IsBegun (machine_told m i) e) (sym unclosed) unclosed, inl unclosed)))
     (λ e. absurd (omega (arith, e)))
     (followed (machine_told m i) s (Put LATER (frame_of x)) at (λ c e. ap (λ y. Put LATER (frame_of y)) (some_same x c (sym turn ∙ e))))
 

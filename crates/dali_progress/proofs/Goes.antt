@@ -21,7 +21,8 @@ use Rattle.dali_script.specs.declared.stage.Stage.TheVariants as stage
 use Rattle.dali_script.specs.Stages.{IsTrace, stage_of, next_stage}
 use Rattle.dali_script.specs.Due.{frame_put, record_ordered}
 use Rattle.dali_script.proofs.Members.{has_right}
-use Rattle.dali_script.proofs.Transactions.{stage_more, free_is_empty}
+use Rattle.dali_script.proofs.Transactions.{stage_more}
+use Rattle.dali_script.proofs.Firsts.{free_is_empty}
 use Rattle.dali_script.proofs.Found.{trace_more}
 use Rattle.dali_script.specs.declared.orders.Input.{Input}
 use Rattle.dali_script.specs.declared.orders.Input.TheVariants as input

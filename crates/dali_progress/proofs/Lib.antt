@@ -1,3 +1,4 @@
+mod Later
 mod Lone
 mod Stands
 mod Frames

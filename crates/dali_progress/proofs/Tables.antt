@@ -37,7 +37,7 @@ abbrev KeepsName : Gear → Gear → Type 0
 KeepsName g h = (a : ℕ) → h.short ≡ Some a → (g.short ≡ Some a) × (h.random ≡ g.random)
 
 -- frames that neither draw nor give an address
-abbrev LeavesNames : Command → Type 0
+abbrev pub LeavesNames : Command → Type 0
 LeavesNames Randomise = ⊥
 LeavesNames (Program short) = ⊥
 LeavesNames _ = Unit {0}

@@ -37,7 +37,7 @@ use Rattle.dali_controller.specs.declared.purpose.Purpose.TheVariants.{Opening, 
 use Rattle.dali_controller.specs.Course.{Course, first_of, turn_of, sought, is_yes, closing_of, searching_anew, visiting, probed, after_step}
 use Rattle.dali_controller.specs.Course.{closing as closing_by}
 use Rattle.dali_controller.specs.Course.{opening as opening_of}
-use Rattle.dali_controller.specs.Course.{unfinished_at, unfinished_among, visit_or_opening}
+use Rattle.dali_controller.specs.Course.{unfinished_at, unfinished_among, visit_or_opening, going_on, searching_first, searching_on}
 use Rattle.dali_controller.specs.Machine.{Machine}
 use Rattle.dali_controller.specs.Next.{next_course, begins_at, at_rest, beginning, goes_on_to, draw_or_close}
 use Rattle.dali_controller.specs.declared.way.Way.TheVariants.{Fresh}
@@ -53,6 +53,7 @@ use Rattle.dali_progress.specs.Rounds.{EndsWell, AreTabled}
 use Rattle.dali_progress.proofs.Stands.{to_come, search_frames, probe_frames, Opens, Probes, VisitFrames, Visits, Leaves, VisitsAt, Closes, At}
 use Rattle.dali_progress.proofs.Stands.{IsWithin, Stands, Sends}
 use Rattle.dali_progress.proofs.Frames.{value_sought}
+use Rattle.dali_progress.proofs.Later.{IsUnasked, later_leaves, turn_unasked}
 use Rattle.dali_progress.proofs.Tables.{tabled_over}
 
 -- A CONTROLLER ACTS on what it was told, and what it orders goes on with the commissioning.
@@ -105,13 +106,14 @@ never_eight n none e = omega (arith, none, e)
 
 -- ---------------------------------------------------------------- a later frame, and a first one
 
-goes_later : (before : List Gear) (t : Machine) (o : Order) (c : Command) (gs : List Gear) (left : ℕ) → Stands before t gs left → o ≡ Put LATER (frame_of c)
-    → IsSpelled c
+goes_later : (before : List Gear) (t : Machine) (o : Order) (s : Stage) (c : Command) (gs : List Gear) (left : ℕ) → Stands before t gs left
+    → stage_of t.trace ≡ s → IsUnasked s → o ≡ Put LATER (frame_of c) → IsSpelled c
     → Sends t.course.purpose t.course.number t.kept (stage_of t.trace) c → IsNext before (machine_ordered t o) o gs left
-goes_later before t o c gs left st is spelled sends = subst (λ q. IsNext before (machine_ordered t q) q gs left) (sym is) (
-  record { tries = st.tries; fresh = st.fresh; silent = st.silent; trace = st.trace; within = st.within; tabled = st.tabled; at = st.at },
-  subst (λ d. Sends t.course.purpose t.course.number t.kept (stage_of t.trace) d) (sym (read_written c spelled)) sends,
-)
+goes_later before t o s c gs left st at unasked is spelled sends = subst (λ q. IsNext before (machine_ordered t q) q gs left) (sym is)
+    (subst (λ m. IsNext before m (Put LATER (frame_of c)) gs left) (sym (later_leaves t (frame_of c) s at unasked)) (
+      record { tries = st.tries; fresh = st.fresh; silent = st.silent; trace = st.trace; within = st.within; tabled = st.tabled; at = st.at },
+      subst (λ d. Sends t.course.purpose t.course.number t.kept (stage_of t.trace) d) (sym (read_written c spelled)) sends,
+    ))
 
 goes_first : (before : List Gear) (t : Machine) (o : Order) (gs : List Gear) (left : ℕ) → IsUndisturbed t → AreTabled before t.kept.enrolled gs
     → o ≡ beginning (next_course t)
@@ -179,8 +181,8 @@ searches_anew before t o gs left calm tabled is same opened ready unnamed enough
     goes_by before t o (searching_anew t.course) gs left calm tabled is same tt (opened, begins_search t.course gs left ready unnamed enough)
 
 -- after an opening before which an opening was complete
-pub goes_on_anew : (t : Machine) → t.opened ≡ true → goes_on_to t ≡ searching_anew t.course
-goes_on_anew t opened = rw opened refl
+pub goes_on_anew : (t : Machine) → t.opened ≡ true → t.course.way ≡ Fresh → goes_on_to t ≡ searching_anew t.course
+goes_on_anew t opened fresh = ap (λ b. going_on t.kept b t.course) opened ∙ ap (λ y. searching_on y t.course) fresh
 
 -- ---------------------------------------------------------------- the opening
 
@@ -189,7 +191,8 @@ turns_later : (before : List Gear) (t : Machine) (o : Order) (p : Purpose) (s : 
     → Stands before t gs left → t.course.purpose ≡ p → stage_of t.trace ≡ s
     → turn_of p t.course.number s ≡ Some c → IsSpelled c → Sends p t.course.number t.kept s c → IsNext before (machine_ordered t o) o gs left
 turns_later before t o p s c gs left g st purpose is turn spelled sends =
-    goes_later before t o c gs left st (given.turns t o c g (rw (purpose, is) turn)) spelled (rw (purpose, is) sends)
+    goes_later before t o s c gs left st is (turn_unasked p t.course.number s c turn) (given.turns t o c g (rw (purpose, is) turn)) spelled
+    (rw (purpose, is) sends)
 
 opening_turns : (before : List Gear) (t : Machine) (o : Order) (s : Stage) (gs : List Gear) (left : ℕ) → IsGivenBy t o → Stands before t gs left
     → IsNoEnrolment t.last → t.course.purpose ≡ Opening → stage_of t.trace ≡ s → (s ≡ stage.Free → ⊥)
@@ -208,7 +211,8 @@ opening_turns before t o stage.Opened gs left g st last purpose is running opens
     let enough : 5 + search_frames (count_by is_bare gs) ≤ left + 5 = opens.frames in
     searches_anew before t o gs left (calm_of before t gs left st) (tabled_at before t gs left stage.Opened st is)
     (given.begins_after t o stage.Opened g is tt (found_none before t gs left stage.Opened st is refl) last (never_eight t.tries st.tries))
-    (ap (begins_at t) is) opens.stage_is (opening.opened_is gs opens.gear) (opening.opened_none_named gs opens.gear) (omega (arith, count, enough))
+    (ap (begins_at t) is ∙ ap (λ y. searching_first y t.course) st.fresh) opens.stage_is (opening.opened_is gs opens.gear)
+    (opening.opened_none_named gs opens.gear) (omega (arith, count, enough))
 opening_turns before t o _ gs left g st last purpose is running opens = absurd opens.stage_is
 
 -- ---------------------------------------------------------------- a probe that was answered
@@ -399,7 +403,7 @@ unnamed_turns before t o r gs left g st kept purpose is opened v = go (given.unn
   go : given.IsUnnamedBy t r o → IsNext before (machine_ordered t o) o gs left
   go (inl e) =
       let small : e.0 < 64 = kept.reserved.short e.0 (has_address t.kept.reserved e.0 (value_of r) e.1) in
-      goes_later before t o (Program (Some e.0)) gs left st e.2 small (rw is (e.0, small, e.1, refl))
+      goes_later before t o (stage.Unnamed r) (Program (Some e.0)) gs left st is tt e.2 small (rw is (e.0, small, e.1, refl))
   go (inr (inl e)) = subst (λ q. IsNext before (machine_ordered t q) q gs left) (sym e.1.2) (
     record { tries = st.tries; fresh = st.fresh; silent = st.silent; within = st.within },
     record {
@@ -448,7 +452,7 @@ withdrawn_turns before t o r a gs left g st kept purpose is opened v = go o g (g
   go (Put p f) g has =
       searches_anew before t (Put p f) gs left (calm_of before t gs left st)
       (tabled_over before ((a, value_of r) ∷ t.kept.enrolled) t.kept.enrolled gs (λ x h. twice x h has) tabled)
-      (given.withdrawn_known t (Put p f) r a g is kept.enrolled has) (ap (begins_at t) is ∙ goes_on_anew t opened) opened v.ready v.unnamed v.frames
+      (given.withdrawn_known t (Put p f) r a g is kept.enrolled has) (ap (begins_at t) is ∙ goes_on_anew t opened st.fresh) opened v.ready v.unnamed v.frames
   go (Commit x) g has = subst (λ y. IsNext before (machine_ordered t (Commit y)) (Commit y) gs left) (sym has) (
     record { tries = st.tries; fresh = st.fresh; silent = st.silent; within = st.within },
     record { opened = opened; ready = v.ready; unnamed = v.unnamed; reserved = reserved; tabled = tabled; frames = v.frames },
@@ -608,7 +612,7 @@ enrolled_next before m b r o gs left calm v free last map g =
     (record { tries = calm.tries; fresh = calm.fresh; silent = calm.silent; within = within_enrolled m.kept b r calm.within v.reserved })
     (tabled_over before ((b, r) ∷ m.kept.enrolled) (m.kept.enrolled ++ (b, r) ∷ []) gs (entry_last m.kept.enrolled (b, r)) v.tabled)
     (enrolled_begins before m b r o gs left v free last map g)
-    (ap (begins_at (with_kept m (Enrol b r))) stage ∙ ap (at_rest (with_kept m (Enrol b r))) last ∙ goes_on_anew (with_kept m (Enrol b r)) v.opened)
+    (ap (begins_at (with_kept m (Enrol b r))) stage ∙ ap (at_rest (with_kept m (Enrol b r))) last ∙ goes_on_anew (with_kept m (Enrol b r)) v.opened calm.fresh)
     v.opened v.ready v.unnamed v.frames
 
 pub committed : (before : List Gear) (m : Machine) (x : Record) (o : Order) (gs : List Gear) (left : ℕ) → IsUndisturbed m → CommitsTo before m x gs left

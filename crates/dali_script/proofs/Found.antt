@@ -16,7 +16,8 @@ use Rattle.dali_special.proofs.Table.{read_spelled}
 use Rattle.dali_script.specs.declared.block.Block.{Block}
 use Rattle.dali_script.specs.declared.trace.Entry.{Entry}
 use Rattle.dali_script.specs.declared.stage.Stage.{Stage}
-use Rattle.dali_script.specs.declared.stage.Stage.TheVariants.{Free, Terminated, InitialisedOnce, Initialised, RandomisedOnce, HighSent, MiddleSent, LowSent, Hunted, NumberSent}
+use Rattle.dali_script.specs.declared.stage.Stage.TheVariants.{Free, Terminated, InitialisedOnce, Initialised, RandomisedOnce, HighSent, MiddleSent, LowSent}
+use Rattle.dali_script.specs.declared.stage.Stage.TheVariants.{Hunted, NumberSent}
 use Rattle.dali_script.specs.declared.stage.Stage.TheVariants.{Found, Unnamed, Inconclusive, Programmed, Confirmed, HighAsked, MiddleAsked, Spelled, Over}
 use Rattle.dali_script.specs.declared.finding.Finding.{Finding}
 use Rattle.dali_script.specs.declared.finding.Finding.TheVariants.{Queried, Resolved}
@@ -24,9 +25,11 @@ use Rattle.dali_script.specs.Records.{Assignment}
 use Rattle.dali_script.specs.Scripts.{is_asking, Step, steps, IsFront, Lawful, IsLawful}
 use Rattle.dali_script.specs.Findings.{search_after, at_power_on, search_from, search_of, Asked, nothing, asked_after, asked_from, asked_of, found_by, later}
 use Rattle.dali_script.specs.Findings.{finding_from, finding_of}
-use Rattle.dali_script.proofs.Transactions.{positive, asks_hunting, self, equal, middle_next, low_next, middle_same, low_same, Tracks, tracks, follows_lawful, stage_none, stage_more}
+use Rattle.dali_script.proofs.Transactions.{positive, asks_hunting, self, equal, middle_next, low_next, middle_same, low_same, Tracks, tracks, follows_lawful}
+use Rattle.dali_script.proofs.Transactions.{stage_none, stage_more}
 use Rattle.dali_script.proofs.Senders.{sent_more}
-use Rattle.dali_script.specs.Stages.{hunted, named, queried, answered, verified, byte_heard, bytes_heard, number_heard, next_stage, stage_from, stage_of, Follows}
+use Rattle.dali_script.specs.Stages.{hunted, named, queried, answered, verified, byte_heard, bytes_heard, number_heard, next_stage, stage_from, stage_of}
+use Rattle.dali_script.specs.Stages.{Follows}
 use Rattle.dali_script.specs.Stages.{finding_at, IsSearched, IsAsked, IsTrace}
 
 -- What is kept beside the stage of a trace: the search address, what queries of a random address were heard as, and the
@@ -146,7 +149,8 @@ says_low a c bytes h r q found same k =
     (subst (λ s. Says s r (asked_after (RandomByte a Low) h q) (later found (found_by r q (RandomByte a Low) h))) (sym (low_next a bytes h)) at)
 
 -- one more frame of a hunt
-says_asking : (b : Block) (xs : List Assignment) (n : SearchAddress) (last : Option Answer) (left : ℕ) (c : Command) (h : Answer) (r : SearchAddress) (q : Asked)
+says_asking : (b : Block) (xs : List Assignment) (n : SearchAddress) (last : Option Answer) (left : ℕ) (c : Command) (h : Answer) (r : SearchAddress)
+    (q : Asked)
     (found : Option Finding)
     → Follows b xs (Hunted n last left) c → Says (Hunted n last left) r q found
     → Says (next_stage (Hunted n last left) c h) (search_after c r) (asked_after c h q) (later found (found_by r q c h))

@@ -2,6 +2,7 @@ pub mod Lists
 pub mod Members
 pub mod Giving
 pub mod Transactions
+pub mod Firsts
 pub mod Senders
 pub mod Found
 pub mod Codes

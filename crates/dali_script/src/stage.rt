@@ -31,8 +31,8 @@ pub enum Stage {
     NumberSent(SearchAddress),
     /// SEARCHADDRH and SEARCHADDRL were sent: the start of a hunt.
     LowSent(u8, u8),
-    /// A hunt is under way: its search address as it is now; what was heard after COMPARE, where that was sent last; and how
-    /// many frames may follow.
+    /// A hunt is under way: its search address as it is now; what was heard after COMPARE, where that was sent last;
+    /// and how many frames may follow.
     Hunted(SearchAddress, Option<Answer>, u8),
     /// COMPARE was sent, and this was heard.
     Probed(SearchAddress, Answer),

@@ -120,7 +120,8 @@ no_leaves (suc most) low high less small ones = go (low == high) refl ones (λ b
       bits (suc w) some ones left =
           let odd = half_ones (suc w) high (subst (λ k. IsOnes k high) (let is : suc w + 1 ≡ suc (suc w) = omega arith in is) ones) in
           let same : suc w - 1 ≡ w = omega arith in
-          let under : apart_below most (with_ones w (low / 2) + 1) (high / 2) ≡ w = subst (λ k. apart_below most (with_ones k (low / 2) + 1) (high / 2) ≡ k) same (left odd.1) in
+          let under : apart_below most (with_ones w (low / 2) + 1) (high / 2) ≡ w =
+          subst (λ k. apart_below most (with_ones k (low / 2) + 1) (high / 2) ≡ k) same (left odd.1) in
           let last : suc w + 1 - 1 ≡ suc w = omega arith in
           let half : (2 * with_ones w (low / 2) + 1 + 1) / 2 ≡ with_ones w (low / 2) + 1 = omega arith in
           subst (λ k. apart_below (suc most) (with_ones k low + 1) high ≡ k) (sym last)

@@ -5,5 +5,6 @@ pub mod Bytes
 mod Heard
 mod Narrowing
 pub mod Questions
+pub mod TrueAnswers
 mod Led
 pub mod Answered

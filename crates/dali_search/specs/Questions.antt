@@ -1,13 +1,13 @@
-use Rattle.std.specs.Prelude.{◌≡◌, ◌⊎◌, ℕ, ◌+◌, ◌-◌, ◌*◌, ◌/◌, ◌%◌, ◌^◌, ◌<◌, ◌≤◌, ◌==◌, Bool, true, false}
-use Rattle.std.specs.Prelude.{not, nat_lt, if◌then◌else◌, List, [], ◌∷◌}
+use Rattle.std.specs.Prelude.{◌≡◌, ◌⊎◌, ℕ, ◌+◌, ◌-◌, ◌*◌, ◌/◌, ◌%◌, ◌^◌, ◌<◌, ◌≤◌, ◌==◌, Bool}
+use Rattle.std.specs.Prelude.{true, false, not, nat_lt, if◌then◌else◌, List, [], ◌∷◌}
 use Rattle.dali_search.specs.declared.step.Step.{Step}
 use Rattle.dali_search.specs.declared.step.Step.TheVariants.{Again, Found, Nobody}
-use Rattle.dali_search.specs.Ascending.{Ascent, IsAscent, is_bounded, with_ones, apart, asked_next, ascended}
-use Rattle.dali_search.specs.Ascending.{leads_to, one_if}
+use Rattle.dali_search.specs.Ascending.{Ascent, IsAscent, is_bounded, with_ones, apart, asked_next}
+use Rattle.dali_search.specs.Ascending.{ascended, leads_to, one_if}
 
--- WHAT THE QUESTIONS OF AN ASCENT COST, in frames. A transaction has room for eight frames. It begins
--- with all three bytes of the number that is asked, and COMPARE. As long as there is room, each
--- further question takes the bytes that changed, and COMPARE; else a new transaction begins.
+-- WHAT THE QUESTIONS OF AN ASCENT COST, in frames. A transaction has room for eight frames. It
+-- begins with all three bytes of the number that is asked, and COMPARE. As long as there is room,
+-- each further question takes the bytes that changed, and COMPARE; else a new transaction begins.
 
 -- how many bytes of two numbers of 24 bits differ
 unfoldable pub bytes_apart : ℕ → ℕ → ℕ
@@ -81,8 +81,8 @@ thirds_left a q =
 
 -- ---------------------------------------------------------------- with true answers
 
--- THE SAME WHERE ALL ANSWERS ARE TRUE. Where some member is left, FFFFFE is answered yes; so it is the
--- last step up, and the first one where nobody was found yet.
+-- THE SAME WHERE ALL ANSWERS ARE TRUE. Where some member is left, FFFFFE is answered yes; so it is
+-- the last step up, and the first one where nobody was found yet.
 abbrev pub steps_to_somebody : Ascent → ℕ
 steps_to_somebody a = if a.found == 0 then 1 else 5 - a.steps
 
@@ -92,7 +92,8 @@ thirds_to_somebody a q =
     + (if is_bounded a then thirds_of_bits (apart a.low a.high) + thirds_of_last q.number
     else 16 * steps_to_somebody a + 207 - (if a.steps == 0 then 8 else 0))
 
--- Where nobody is left, all answers are no. Where nobody was found yet FFFFFE alone is asked, twice.
+-- Where nobody is left, all answers are no. Where nobody was found yet FFFFFE alone is asked,
+-- twice.
 abbrev pub thirds_to_nobody : Ascent → Asking → ℕ
 thirds_to_nobody a q =
     if a.found == 0 then (if a.silent == 0 then 15 else (if a.silent == 1 then 3 else 0))
@@ -107,11 +108,13 @@ IsOnes k n = with_ones k n ≡ n
 abbrev pub AgreeAbove : ℕ → ℕ → ℕ → Type 0
 AgreeAbove i n m = n / 2 ^ i ≡ m / 2 ^ i
 
--- Where somebody has answered, the number that was asked last is the upper bound, or just below the lower one.
+-- Where somebody has answered, the number that was asked last is the upper bound, or just below the
+-- lower one.
 pub record IsHalved (low high number : ℕ) : Type 0 where
   pub ends : IsOnes (apart low high) high ⊎ (high ≡ 0xFFFFFE)
   pub last : (number ≡ high)
-      ⊎ ((number + 1 ≡ low) × (low < high → AgreeAbove (apart low high + 1) number low × IsOnes (apart low high) number))
+      ⊎ ((number + 1 ≡ low)
+      × (low < high → AgreeAbove (apart low high + 1) number low × IsOnes (apart low high) number))
 
 pub record IsUnderWay (a : Ascent) (q : Asking) : Type 0 where
   pub is : IsAscent a

@@ -8,7 +8,8 @@ ghost use Rattle.dali_search.specs.declared.step.Step.TheVariants.{Again, Nobody
 ghost use Rattle.dali_search.specs.Least.{Search, at_first, answered, IsBelow, Agrees, Gives, Says, NumberOf};
 ghost use Rattle.dali_search.specs.Narrowing.{IsNarrowing};
 ghost use Rattle.dali_search.specs.Ascending.{Ascent, IsAscent, ascent_at_first, above, leads_to, asked_next, ascended};
-ghost use Rattle.dali_search.specs.Questions.{Asking, HasBegun, IsUnderWay, frames_asked, frames_to_ask, asking_next, thirds_left};
+ghost use Rattle.dali_search.specs.Questions.{Asking, HasBegun, IsUnderWay, frames_asked, frames_to_ask, asking_next};
+ghost use Rattle.dali_search.specs.Questions.{thirds_left};
 
 /// A set agrees with answers and one more just where it agrees with the answers and gives the one more.
 pub fn answers_agree_one_by_one()
@@ -34,15 +35,17 @@ pub fn searches_narrow_to_an_end()
         → (said ≡ false) × (s.probe ≡ 0xFFFFFE) }
 {}
 
-/// What the questions of an ascent cost in frames, in transactions that have room for eight, begin with all three bytes of
-/// the search address, and then send only those that changed: from its start, or from the member that it found last, at
-/// most 99 until it ends, whatever it is answered. Each question takes no more than what it leaves fewer.
+/// What the questions of an ascent cost in frames, in transactions that have room for eight, begin with all three bytes
+/// of the search address, and then send only those that changed: from its start, or from the member that it found last,
+/// at most 99 until it ends, whatever it is answered. Each question takes no more than what it leaves fewer.
 pub fn ascents_cost_few_frames()
     ensures first { HasBegun ascent_at_first }
     ensures next { (a : Ascent) (r : ℕ) → IsAscent a → r < 0xFFFFFF → HasBegun (above a r) }
     ensures begins { (a : Ascent) (q : Asking) → HasBegun a → q.room ≡ 0 → IsUnderWay a q × (thirds_left a q ≡ 299) }
     ensures each { (a : Ascent) (q : Asking) (answer : Bool) → IsUnderWay a q → leads_to a ≡ Again
-        → (3 * frames_to_ask q (asked_next a) + thirds_left (ascended a answer) (asking_next q (asked_next a)) ≤ thirds_left a q)
+        → (3 * frames_to_ask q (asked_next a) + thirds_left (ascended a answer) (asking_next q (asked_next a))
+        ≤ thirds_left a q)
         × IsUnderWay (ascended a answer) (asking_next q (asked_next a)) }
-    ensures all { (a : Ascent) (q : Asking) (answers : List Bool) → HasBegun a → q.room ≡ 0 → frames_asked a q answers ≤ 99 }
+    ensures all { (a : Ascent) (q : Asking) (answers : List Bool) → HasBegun a → q.room ≡ 0
+        → frames_asked a q answers ≤ 99 }
 {}

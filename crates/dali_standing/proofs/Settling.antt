@@ -20,7 +20,8 @@ use Rattle.dali_script.specs.declared.records.Record.{Record}
 use Rattle.dali_script.specs.Records.{Kept}
 use Rattle.dali_script.specs.Scripts.{Lawful, IsFirst}
 use Rattle.dali_script.specs.Stages.{stage_of, may_follow}
-use Rattle.dali_script.proofs.Transactions.{first_by, stage_more, stage_none}
+use Rattle.dali_script.proofs.Transactions.{stage_more, stage_none}
+use Rattle.dali_script.proofs.Firsts.{first_by}
 use Rattle.dali_script.specs.declared.orders.Input.{Input}
 use Rattle.dali_script.specs.declared.orders.Input.TheVariants as input
 use Rattle.dali_script.specs.declared.orders.Order.{Order}

@@ -240,8 +240,8 @@ const STORIES: [(&str, &str); 12] = [
          > table 0: 0=123456 1=654321",
     ),
     (
-        // COMPARE alone is sent once more. Somebody answers, who can be at FFFFFE alone: a visit there hears nothing, and
-        // the search begins anew.
+        // COMPARE alone is sent once more. Somebody answers, who can be at FFFFFE alone: a visit there hears nothing,
+        // and the search begins anew.
         "one lost answer under FFFFFE leaves nobody",
         "site 2 0-3
          draws 123456 654321

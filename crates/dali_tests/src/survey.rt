@@ -424,8 +424,8 @@ const PASSED_OVER: [Moment; 14] = [
     (SILENCE, Put(1, 0xBB00)),
 ];
 
-/// So it begins anew: it asks first whether somebody is up to 000000, the greatest number that was found; then one, two,
-/// four and eight numbers further; and then twice under FFFFFE. An address is left, so gear draw new numbers.
+/// So it begins anew: it asks first whether somebody is up to 000000, the greatest number that was found; then one,
+/// two, four and eight numbers further; and then twice under FFFFFE. An address is left, so gear draw new numbers.
 const BEGUN_ANEW: [Moment; 20] = [
     (SILENCE, Put(3, 0xB100)),
     (SILENCE, Put(1, 0xB500)),

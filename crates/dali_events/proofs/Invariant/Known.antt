@@ -269,7 +269,8 @@ new_from b xs (stage.Unnamed r) (Program (Some d)) g a on k e = go (is_active g.
       record { number = r; random = random; none = (k active).1 random; may = subst (λ n. MayGive b xs r n) (let same : d ≡ a = cc in same) on.may }
   go true false active found e = absurd (cc)
   go false f active found e = absurd (cc)
-new_from b xs (stage.Hunted r last left) (Program short) g a on k e = absurd (let asks = asks_hunting r last left (Program short) on.leads_on in let other = asks.1 in cc)
+new_from b xs (stage.Hunted r last left) (Program short) g a on k e =
+    absurd (let asks = asks_hunting r last left (Program short) on.leads_on in let other = asks.1 in cc)
 new_from b xs _ (Program short) g a on k e = absurd (let none = on.leads_on in cc)
 new_from b xs _ _ g a on k e = absurd (cc)
 
@@ -281,7 +282,8 @@ short_stays b xs (stage.Unnamed r) (Program (Some d)) g a on k e = go (is_active
   go true true active found = absurd (let none : g.short ≡ None = (k active).1 (found_random g r (k active).0 found) in cc)
   go true false active found = e
   go false f active found = e
-short_stays b xs (stage.Hunted r last left) (Program short) g a on k e = absurd (let asks = asks_hunting r last left (Program short) on.leads_on in let other = asks.1 in cc)
+short_stays b xs (stage.Hunted r last left) (Program short) g a on k e =
+    absurd (let asks = asks_hunting r last left (Program short) on.leads_on in let other = asks.1 in cc)
 short_stays b xs _ (Program short) g a on k e = absurd (let none = on.leads_on in cc)
 short_stays b xs _ _ g a on k e = e
 
@@ -297,7 +299,8 @@ pub random_stays : (b : Block) (xs : List Assignment) (s : Stage) (c : Command) 
     → random_after c x g ≡ g.random
 random_stays b xs stage.Initialised Randomise g x a on k e = rw (drawing_none g a k e) refl
 random_stays b xs stage.RandomisedOnce Randomise g x a on k e = rw (drawing_none g a k e) refl
-random_stays b xs (stage.Hunted r last left) Randomise g x a on k e = absurd (let asks = asks_hunting r last left Randomise on.leads_on in let other = asks.1 in cc)
+random_stays b xs (stage.Hunted r last left) Randomise g x a on k e =
+    absurd (let asks = asks_hunting r last left Randomise on.leads_on in let other = asks.1 in cc)
 random_stays b xs _ Randomise g x a on k e = absurd (let none = on.leads_on in cc)
 random_stays b xs _ _ g x a on k e = refl
 

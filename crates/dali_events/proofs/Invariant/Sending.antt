@@ -19,7 +19,8 @@ use Rattle.dali_script.specs.Records.{Assignment}
 use Rattle.dali_script.proofs.Lists.{has_map}
 use Rattle.dali_script.specs.Scripts.{Lawful}
 use Rattle.dali_script.specs.Stages.{Follows, next_stage, stage_of}
-use Rattle.dali_script.proofs.Transactions.{follows_lawful, stage_more, stage_none, first_for_all}
+use Rattle.dali_script.proofs.Transactions.{follows_lawful, stage_more, stage_none}
+use Rattle.dali_script.proofs.Firsts.{first_for_all}
 use Rattle.dali_events.specs.declared.event.Event.{Event}
 use Rattle.dali_events.specs.declared.event.Event.TheVariants as event
 use Rattle.dali_events.specs.Used.{with_used}

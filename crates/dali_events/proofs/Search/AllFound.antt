@@ -23,7 +23,8 @@ use Rattle.dali_script.specs.Records.{Assignment, Has}
 use Rattle.dali_script.specs.Scripts.{Open, steps, IsFront}
 use Rattle.dali_script.specs.Findings.{search_of}
 use Rattle.dali_script.specs.Stages.{Follows, next_stage, stage_of, IsSearched, IsHunting}
-use Rattle.dali_script.proofs.Transactions.{stage_more, stage_none, terminate_first, compare_at}
+use Rattle.dali_script.proofs.Transactions.{stage_more, stage_none, compare_at}
+use Rattle.dali_script.proofs.Firsts.{terminate_first}
 use Rattle.dali_script.proofs.Found.{searched_lawful}
 use Rattle.dali_events.specs.declared.event.Event.{Event}
 use Rattle.dali_events.specs.declared.event.Event.TheVariants as event

@@ -18,7 +18,8 @@ use Rattle.dali_script.specs.declared.stage.Stage.TheVariants as stage
 use Rattle.dali_script.specs.Records.{Assignment}
 use Rattle.dali_script.specs.Scripts.{IsFirst}
 use Rattle.dali_script.specs.Stages.{Follows, stage_of}
-use Rattle.dali_script.proofs.Transactions.{stage_none, first_for_all, follows_lawful, randomise_at}
+use Rattle.dali_script.proofs.Transactions.{stage_none, follows_lawful, randomise_at}
+use Rattle.dali_script.proofs.Firsts.{first_for_all}
 use Rattle.dali_events.specs.declared.event.Event.{Event}
 use Rattle.dali_events.specs.declared.event.Event.TheVariants as event
 use Rattle.dali_events.specs.Plan.{Plan}

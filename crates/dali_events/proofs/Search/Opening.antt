@@ -9,7 +9,8 @@ use Rattle.dali_frame.specs.Random.{value_of, MASK24}
 use Rattle.dali_special.specs.declared.command.Part.TheVariants.{High, Middle, Low}
 use Rattle.dali_special.specs.declared.command.Target.TheVariants.{Unaddressed}
 use Rattle.dali_special.specs.declared.command.Command.{Command}
-use Rattle.dali_special.specs.declared.command.Command.TheVariants.{Terminate, Initialise, Randomise, Withdraw, SearchHigh, SearchMiddle, SearchLow, Program, QueryShort}
+use Rattle.dali_special.specs.declared.command.Command.TheVariants.{Terminate, Initialise, Randomise, Withdraw, SearchHigh, SearchMiddle, SearchLow, Program}
+use Rattle.dali_special.specs.declared.command.Command.TheVariants.{QueryShort}
 use Rattle.dali_special.specs.declared.command.Command.TheVariants.{Compare, RandomByte}
 use Rattle.dali_special.specs.Command.{MASK}
 use Rattle.dali_gear.specs.declared.state.InitialisationState.TheVariants.{Enabled, Withdrawn}

@@ -22,17 +22,20 @@ use Rattle.dali_script.specs.Stages.{IsTrace, stage_of}
 use Rattle.dali_script.proofs.Lists.{has_map, has_cases}
 use Rattle.dali_script.proofs.Transactions.{stage_none}
 use Rattle.dali_script.proofs.Found.{trace_none}
+use Rattle.dali_search.specs.declared.step.Step.TheVariants.{Found}
+use Rattle.dali_search.specs.Ascending.{Ascent, IsAscent, asked_next, leads_to, ascent_at_first, above, gone_on_from}
 use Rattle.dali_script.specs.declared.orders.Order.{Order}
 use Rattle.dali_script.specs.declared.orders.Order.TheVariants.{Put, Commit, Done, Halt}
 use Rattle.dali_script.specs.declared.orders.Fault.TheVariants as fault
 use Rattle.dali_controller.specs.declared.purpose.Purpose.{Purpose}
-use Rattle.dali_controller.specs.declared.purpose.Purpose.TheVariants.{Probing}
+use Rattle.dali_controller.specs.declared.purpose.Purpose.TheVariants.{Opening, Probing, Hunting, Visiting, Resolving, Closing, Asking, Waking}
 use Rattle.dali_controller.specs.declared.shorts.Shorts.{Shorts}
 use Rattle.dali_controller.specs.declared.way.Way.{Way}
-use Rattle.dali_controller.specs.declared.way.Way.TheVariants.{Fresh, Surveying}
+use Rattle.dali_controller.specs.declared.way.Way.TheVariants.{Fresh, Surveying, Drawing}
 use Rattle.dali_controller.specs.Shorts.{has_short}
 use Rattle.dali_controller.specs.Course.{Course, first_of, turn_of, number_at, is_open, open_among, least_open, is_another, is_anothers}
-use Rattle.dali_controller.specs.Course.{is_asked, asked_among, next_asked, ask_or_wake, asking, waking, going_on, going_on_early, searching_anew}
+use Rattle.dali_controller.specs.Course.{is_asked, asked_among, next_asked, ask_or_wake, asking, waking, going_on, going_on_early, sought}
+use Rattle.dali_controller.specs.Course.{hunting, hunting_first, hunting_on, searching_first, searching_on}
 use Rattle.dali_controller.specs.Machine.{Machine}
 use Rattle.dali_controller.specs.Next.{next_course, course_by, beginning, goes_on_to, BeginsWith}
 use Rattle.dali_controller.specs.Orders.{machine_ordered, IsAllowed, IsCaused}
@@ -47,9 +50,11 @@ use Rattle.dali_progress.specs.Surveys.{IsSettled}
 use Rattle.dali_progress.proofs.Sweep.Coming.{asked_later, asked_before, unasked_enrolled}
 use Rattle.dali_script.proofs.Members.{same_member}
 use Rattle.dali_progress.proofs.Stands.{search_frames, Sends}
-use Rattle.dali_progress.proofs.Turns.{begins_search}
+use Rattle.dali_progress.proofs.Later.{IsUnasked, later_leaves, turn_unasked}
 use Rattle.dali_progress.proofs.Survey.Queried.{OneShort, IsTrue, TabledBelow, unseen, below_all, below_named}
-use Rattle.dali_progress.proofs.Survey.Stands.{Begun, IsClear, wake_frames, IsOwn, searched_by, frames_after, Hunts, AreTaken, SurveyEnds}
+use Rattle.dali_progress.proofs.Survey.Stands.{Begun, IsClear, wake_frames, IsOwn, searched_by, frames_after, Rises, HuntAt, Hunts, AreTaken, SurveyEnds}
+use Rattle.dali_progress.proofs.Survey.Stands.{opened_at}
+use Rattle.dali_progress.proofs.Survey.Rising.{rises_so, rises_first, rises_above}
 use Rattle.dali_progress.proofs.Survey.Stands.{SurveyAt, SurveyStands}
 
 -- A TRANSACTION OF A SURVEY BEGINS, or goes on; and what is to come of an order.
@@ -85,17 +90,25 @@ pub record ReleasesSwept (start : Begun) (m : Machine) (a : ℕ) (gs : List Gear
   pub tabled : TabledBelow (a + 1) start.gear m.kept.enrolled gs
   pub frames : 3 * (63 - a) + wake_frames start gs ≤ left
 
--- a gear that was given its address is to be enrolled, and then a new search begins
+-- an ascent goes on above who was found, where who is left is above it
+pub record Above (x : Ascent) (r : ℕ) (gs : List Gear) : Type 0 where
+  pub is : IsAscent x
+  pub reached : leads_to x ≡ Found r
+  pub drawn : r < MASK24
+  pub past : (k : ℕ) → wants gs k ≡ true → r < k
+
+-- a gear that was given its address is to be enrolled, and then the search goes on above it
 pub record EnrolsHunted (start : Begun) (m : Machine) (b r : ℕ) (gs : List Gear) (left : ℕ) : Type 0 where
   pub way : m.course.way ≡ Fresh → ⊥
   pub opened : m.opened ≡ true
   pub own : start.any ≡ false → IsOwn m.kept m.heard
   pub ready : IsOpened (searched_by m.course.way gs)
   pub unnamed : NoneNamed (searched_by m.course.way gs)
+  pub above : Above m.course.ascent r (searched_by m.course.way gs)
   pub reserved : Has m.kept.reserved (b, r)
   pub settled : start.any ≡ false → (x : Assignment) → Has m.kept.reserved x → Has m.kept.enrolled x ⊎ (x.1 ≡ r)
   pub tabled : AreTabled (unseen start.gear) ((b, r) ∷ m.kept.enrolled) (searched_by m.course.way gs)
-  pub frames : search_frames (count_by is_wanted (searched_by m.course.way gs)) + frames_after m.course.way start gs ≤ left
+  pub frames : search_frames (count_by is_wanted (searched_by m.course.way gs)) + 27 + frames_after m.course.way start gs ≤ left
 
 -- a reservation is to be kept, and then its gear is visited once more
 pub record ReservesHunted (start : Begun) (m : Machine) (a r : ℕ) (gs : List Gear) (left : ℕ) : Type 0 where
@@ -106,12 +119,15 @@ pub record ReservesHunted (start : Begun) (m : Machine) (a r : ℕ) (gs : List G
   pub open_is : is_open m.kept m.heard a ≡ true
   pub ready : IsOpened (searched_by m.course.way gs)
   pub unnamed : NoneNamed (searched_by m.course.way gs)
+  pub is : IsAscent m.course.ascent
+  pub reached : leads_to m.course.ascent ≡ Found r
+  pub least : (k : ℕ) → wants (searched_by m.course.way gs) k ≡ true → r ≤ k
   pub wanted : wants (searched_by m.course.way gs) r ≡ true
   pub drawn : r < MASK24
   pub more : ℕ
   pub count : count_by is_wanted (searched_by m.course.way gs) ≡ suc more
   pub tabled : AreTabled (unseen start.gear) m.kept.enrolled (searched_by m.course.way gs)
-  pub frames : 7 + search_frames more + frames_after m.course.way start gs ≤ left
+  pub frames : 7 + search_frames more + 27 + frames_after m.course.way start gs ≤ left
 
 abbrev pub SurveyCommits : Begun → Machine → Record → List Gear → ℕ → Type 0
 SurveyCommits start m (Enrol a r) gs left = EnrolsSwept start m a r gs left ⊎ EnrolsHunted start m a r gs left
@@ -120,37 +136,86 @@ SurveyCommits start m (Release c r) gs left = (a : ℕ) × ReleasesSwept start m
 
 -- what is to come of an order
 abbrev pub IsNext : Begun → Machine → Order → List Gear → ℕ → Type 0
-IsNext start m (Put p f) gs left = SurveyStands start m gs left × Sends m.course.purpose m.course.number m.kept (stage_of m.trace) (command_of f)
+IsNext start m (Put p f) gs left = SurveyStands false start m gs left × Sends m.course.purpose m.course.number m.kept (stage_of m.trace) (command_of f)
 IsNext start m (Commit x) gs left = Calm m × SurveyCommits start m x gs left
 IsNext start m (Done e) gs left =
     SurveyEnds start.any e m.kept m.heard gs × AreTabled (unseen start.gear) m.kept.enrolled gs × (start.any ≡ false → IsSettled m.kept)
 IsNext start m (Halt why) gs left = ⊥
 
-pub calm_ordered : (start : Begun) (t : Machine) (o : Order) (gs : List Gear) (left : ℕ) → SurveyStands start t gs left → Calm (machine_ordered t o)
+pub calm_ordered : {told : Bool} (start : Begun) (t : Machine) (o : Order) (gs : List Gear) (left : ℕ) → SurveyStands told start t gs left
+    → Calm (machine_ordered t o)
 calm_ordered start t o gs left st = record { tries = st.tries; silent = st.silent }
 
-pub calm_of : (start : Begun) (t : Machine) (gs : List Gear) (left : ℕ) → SurveyStands start t gs left → Calm t
+pub calm_of : {told : Bool} (start : Begun) (t : Machine) (gs : List Gear) (left : ℕ) → SurveyStands told start t gs left → Calm t
 calm_of start t gs left st = record { tries = st.tries; silent = st.silent }
 
 -- ---------------------------------------------------------------- a later frame, and a first one
 
-pub later_by : (start : Begun) (t : Machine) (o : Order) (p : Purpose) (s : Stage) (c : Command) (gs : List Gear) (left : ℕ) → SurveyStands start t gs left
-    → o ≡ Put LATER (frame_of c) → IsSpelled c → t.course.purpose ≡ p → stage_of t.trace ≡ s → Sends p t.course.number t.kept s c
+-- where no answer in a hunt stands last, the machine that has acted stands as it did when it was told
+rises_untold : (s : Stage) (x : Ascent) (n : SearchAddress) (gs : List Gear) (left : ℕ) → IsUnasked s → Rises true s x n gs left → Rises false s x n gs left
+rises_untold stage.Free x n gs left unasked v = rises_so stage.Free x n gs left v v.stage_is v.frames
+rises_untold (stage.HighSent high) x n gs left unasked v = rises_so (stage.HighSent high) x n gs left v v.stage_is v.frames
+rises_untold (stage.LowSent high low) x n gs left unasked v = rises_so (stage.LowSent high low) x n gs left v v.stage_is v.frames
+rises_untold (stage.Hunted r None room) x n gs left unasked v = rises_so (stage.Hunted r None room) x n gs left v v.stage_is v.frames
+rises_untold (stage.Hunted r (Some h) room) x n gs left unasked v = absurd unasked
+rises_untold _ x n gs left unasked v = absurd v.stage_is
+
+hunt_untold : (p : Purpose) (s : Stage) (k : Kept) (opened : Bool) (x : Ascent) (n : SearchAddress) (gs : List Gear) (left : ℕ) → IsUnasked s
+    → HuntAt true p s k opened x n gs left → HuntAt false p s k opened x n gs left
+hunt_untold Opening s k opened x n gs left unasked at = at
+hunt_untold Hunting s k opened x n gs left unasked at = (at.0, rises_untold s x n gs left unasked at.1)
+hunt_untold Visiting s k opened x n gs left unasked at = at
+hunt_untold _ s k opened x n gs left unasked at = absurd at
+
+hunts_untold : (p : Purpose) (y : Way) (s : Stage) (k : Kept) (heard : Shorts) (opened : Bool) (x : Ascent) (n : SearchAddress) (start : Begun)
+    (gs : List Gear) (left : ℕ) → IsUnasked s → Hunts true p y s k heard opened x n start gs left → Hunts false p y s k heard opened x n start gs left
+hunts_untold p y s k heard opened x n start gs left unasked v = record {
+  way = v.way;
+  opened_is = v.opened_is;
+  own = v.own;
+  settled = v.settled;
+  rest = v.rest;
+  at = hunt_untold p s k (opened_at p s) x n (searched_by y gs) v.rest unasked v.at;
+  tabled = v.tabled;
+  frames = v.frames;
+}
+
+untold : (p : Purpose) (y : Way) (s : Stage) (k : Kept) (heard : Shorts) (opened : Bool) (asked : ℕ) (x : Ascent) (n : SearchAddress) (from : ℕ) (start : Begun)
+    (gs : List Gear) (left : ℕ) → IsUnasked s → SurveyAt true p y s k heard opened asked x n from start gs left
+    → SurveyAt false p y s k heard opened asked x n from start gs left
+untold Opening y s k heard opened asked x n from start gs left unasked at = hunts_untold Opening y s k heard opened x n start gs left unasked at
+untold Hunting y s k heard opened asked x n from start gs left unasked at = hunts_untold Hunting y s k heard opened x n start gs left unasked at
+untold Visiting y s k heard opened asked x n from start gs left unasked at = hunts_untold Visiting y s k heard opened x n start gs left unasked at
+untold (Asking a) y s k heard opened asked x n from start gs left unasked at = at
+untold Waking y s k heard opened asked x n from start gs left unasked at = at
+untold (Closing e) y s k heard opened asked x n from start gs left unasked at = at
+untold Probing y s k heard opened asked x n from start gs left unasked at = at
+untold (Resolving a) y s k heard opened asked x n from start gs left unasked at = at
+
+pub later_by : (start : Begun) (t : Machine) (o : Order) (p : Purpose) (s : Stage) (c : Command) (gs : List Gear) (left : ℕ) → SurveyStands true start t gs left
+    → o ≡ Put LATER (frame_of c) → IsSpelled c → t.course.purpose ≡ p → stage_of t.trace ≡ s → IsUnasked s → Sends p t.course.number t.kept s c
     → IsNext start (machine_ordered t o) o gs left
-later_by start t o p s c gs left st is spelled purpose at sends = subst (λ q. IsNext start (machine_ordered t q) q gs left) (sym is) (
-  record { tries = st.tries; silent = st.silent; trace = st.trace; at = st.at },
-  subst (λ d. Sends t.course.purpose t.course.number t.kept (stage_of t.trace) d) (sym (read_written c spelled)) (rw (purpose, at) sends),
-)
+later_by start t o p s c gs left st is spelled purpose at unasked sends = subst (λ q. IsNext start (machine_ordered t q) q gs left) (sym is)
+    (subst (λ m. IsNext start m (Put LATER (frame_of c)) gs left) (sym (later_leaves t (frame_of c) s at unasked)) (
+      record {
+        tries = st.tries;
+        silent = st.silent;
+        trace = st.trace;
+        at = untold t.course.purpose t.course.way (stage_of t.trace) t.kept t.heard t.opened t.asked t.course.ascent t.course.number t.course.from start gs left
+            (subst IsUnasked (sym at) unasked) st.at;
+      },
+      subst (λ d. Sends t.course.purpose t.course.number t.kept (stage_of t.trace) d) (sym (read_written c spelled)) (rw (purpose, at) sends),
+    ))
 
 pub turns_by : (start : Begun) (t : Machine) (o : Order) (p : Purpose) (s : Stage) (c : Command) (gs : List Gear) (left : ℕ) → IsGivenBy t o
-    → SurveyStands start t gs left → t.course.purpose ≡ p → stage_of t.trace ≡ s → turn_of p t.course.number s ≡ Some c → IsSpelled c
+    → SurveyStands true start t gs left → t.course.purpose ≡ p → stage_of t.trace ≡ s → turn_of p t.course.number s ≡ Some c → IsSpelled c
     → Sends p t.course.number t.kept s c → IsNext start (machine_ordered t o) o gs left
 turns_by start t o p s c gs left g st purpose at turn spelled sends =
-    later_by start t o p s c gs left st (given.turns t o c g (rw (purpose, at) turn)) spelled purpose at sends
+    later_by start t o p s c gs left st (given.turns t o c g (rw (purpose, at) turn)) spelled purpose at (turn_unasked p t.course.number s c turn) sends
 
 goes_first : (start : Begun) (t : Machine) (o : Order) (gs : List Gear) (left : ℕ) → Calm t → o ≡ beginning (next_course t)
     → IsSpelled (first_of (next_course t).purpose (next_course t).number)
-    → SurveyAt (next_course t).purpose (next_course t).way stage.Free t.kept t.heard t.opened t.asked (next_course t).search (next_course t).number
+    → SurveyAt false (next_course t).purpose (next_course t).way stage.Free t.kept t.heard t.opened t.asked (next_course t).ascent (next_course t).number
     (next_course t).from start gs left
     → IsNext start (machine_ordered t o) o gs left
 goes_first start t o gs left calm is spelled at = subst (λ q. IsNext start (machine_ordered t q) q gs left) (sym is) (
@@ -158,7 +223,7 @@ goes_first start t o gs left calm is spelled at = subst (λ q. IsNext start (mac
     tries = calm.tries;
     silent = calm.silent;
     trace = subst (λ s. IsTrace s []) (sym stage_none) trace_none;
-    at = subst (λ s. SurveyAt (next_course t).purpose (next_course t).way s t.kept t.heard t.opened t.asked (next_course t).search (next_course t).number
+    at = subst (λ s. SurveyAt false (next_course t).purpose (next_course t).way s t.kept t.heard t.opened t.asked (next_course t).ascent (next_course t).number
         (next_course t).from start gs left) (sym stage_none) at;
   },
   subst (λ s. Sends (next_course t).purpose (next_course t).number t.kept s (command_of (frame_of (first_of (next_course t).purpose (next_course t).number))))
@@ -168,11 +233,11 @@ goes_first start t o gs left calm is spelled at = subst (λ q. IsNext start (mac
 
 pub first_by : (start : Begun) (t : Machine) (o : Order) (cs : Course) (gs : List Gear) (left : ℕ) → Calm t → o ≡ beginning (next_course t)
     → next_course t ≡ cs → IsSpelled (first_of cs.purpose cs.number)
-    → SurveyAt cs.purpose cs.way stage.Free t.kept t.heard t.opened t.asked cs.search cs.number cs.from start gs left
+    → SurveyAt false cs.purpose cs.way stage.Free t.kept t.heard t.opened t.asked cs.ascent cs.number cs.from start gs left
     → IsNext start (machine_ordered t o) o gs left
 first_by start t o cs gs left calm is same spelled at =
     goes_first start t o gs left calm is (subst (λ (d : Course). IsSpelled (first_of d.purpose d.number)) (sym same) spelled)
-    (subst (λ (d : Course). SurveyAt d.purpose d.way stage.Free t.kept t.heard t.opened t.asked d.search d.number d.from start gs left) (sym same) at)
+    (subst (λ (d : Course). SurveyAt false d.purpose d.way stage.Free t.kept t.heard t.opened t.asked d.ascent d.number d.from start gs left) (sym same) at)
 
 -- ---------------------------------------------------------------- a transaction that is over although a frame might follow
 
@@ -268,26 +333,62 @@ asks_on start t o f gs left calm is next surveys opened asked from few settled c
           count : (wake : ℕ) → 3 * (64 - f) + wake ≤ left → wake ≤ left + 0
           count wake enough = omega (arith, enough)
 
--- ---------------------------------------------------------------- a new search
+-- ---------------------------------------------------------------- the search that goes up
 
-pub searches_by : (start : Begun) (t : Machine) (o : Order) (y : Way) (rest : ℕ) (gs : List Gear) (left : ℕ) → Calm t → o ≡ beginning (next_course t)
-    → next_course t ≡ searching_anew t.course → t.course.way ≡ y → (y ≡ Fresh → ⊥) → t.opened ≡ true → (start.any ≡ false → IsOwn t.kept t.heard)
-    → (start.any ≡ false → IsSettled t.kept) → IsOpened (searched_by y gs) → NoneNamed (searched_by y gs)
-    → AreTabled (unseen start.gear) t.kept.enrolled (searched_by y gs)
-    → search_frames (count_by is_wanted (searched_by y gs)) ≤ rest → rest + frames_after y start gs ≤ left → IsNext start (machine_ordered t o) o gs left
-searches_by start t o y rest gs left calm is next way other opened own settled ready unnamed tabled enough frames =
-    first_by start t o (searching_anew t.course) gs left calm is next tt
-    (subst (λ z. Hunts Probing z stage.Free t.kept t.heard t.opened (searching_anew t.course).search (searching_anew t.course).number start gs left) (sym way)
+no_surplus : (rest after left : ℕ) → rest + after ≤ left → rest + 0 + after ≤ left
+no_surplus rest after left enough = omega (arith, enough)
+
+pub hunts_by : (start : Begun) (t : Machine) (o : Order) (cs : Course) (y : Way) (rest : ℕ) (gs : List Gear) (left : ℕ) → Calm t → o ≡ beginning (next_course t)
+    → next_course t ≡ hunting cs → cs.way ≡ y → (y ≡ Fresh → ⊥) → t.opened ≡ true → (start.any ≡ false → IsOwn t.kept t.heard)
+    → (start.any ≡ false → IsSettled t.kept) → Rises false stage.Free cs.ascent (sought (asked_next cs.ascent)) (searched_by y gs) rest
+    → AreTabled (unseen start.gear) t.kept.enrolled (searched_by y gs) → rest + frames_after y start gs ≤ left → IsNext start (machine_ordered t o) o gs left
+hunts_by start t o cs y rest gs left calm is next way other opened own settled rises tabled frames =
+    first_by start t o (hunting cs) gs left calm is next tt
+    (subst (λ z. Hunts false Hunting z stage.Free t.kept t.heard t.opened cs.ascent (sought (asked_next cs.ascent)) start gs left) (sym way)
     (record {
       way = other;
       opened_is = opened;
       own = own;
       settled = settled;
       rest = rest;
-      at = (refl, begins_search t.course (searched_by y gs) rest ready unnamed enough);
+      at = (refl, rises);
       tabled = tabled;
-      frames = frames;
+      frames = no_surplus rest (frames_after y start gs) left frames;
     }))
+
+-- behind an opening or a wake it begins
+first_way : (y : Way) (c : Course) → (y ≡ Fresh → ⊥) → searching_first y c ≡ hunting_first c
+first_way Fresh c other = absurd (other refl)
+first_way Surveying c other = refl
+first_way Drawing c other = refl
+
+pub hunts_first : (start : Begun) (t : Machine) (o : Order) (y : Way) (rest : ℕ) (gs : List Gear) (left : ℕ) → Calm t → o ≡ beginning (next_course t)
+    → next_course t ≡ searching_first t.course.way t.course → t.course.way ≡ y → (y ≡ Fresh → ⊥) → t.opened ≡ true
+    → (start.any ≡ false → IsOwn t.kept t.heard) → (start.any ≡ false → IsSettled t.kept) → IsOpened (searched_by y gs) → NoneNamed (searched_by y gs)
+    → AreTabled (unseen start.gear) t.kept.enrolled (searched_by y gs)
+    → search_frames (count_by is_wanted (searched_by y gs)) + 1 ≤ rest → rest + frames_after y start gs ≤ left → IsNext start (machine_ordered t o) o gs left
+hunts_first start t o y rest gs left calm is next way other opened own settled ready unnamed tabled enough frames =
+    hunts_by start t o (record t.course { ascent = ascent_at_first }) y rest gs left calm is
+    (next ∙ ap (λ z. searching_first z t.course) way ∙ first_way y t.course other) way other opened own settled
+    (rises_first (searched_by y gs) rest ready unnamed enough) tabled frames
+
+-- and it goes on above who was found
+on_way : (y : Way) (c : Course) → (y ≡ Fresh → ⊥) → searching_on y c ≡ hunting_on c
+on_way Fresh c other = absurd (other refl)
+on_way Surveying c other = refl
+on_way Drawing c other = refl
+
+pub hunts_on : (start : Begun) (t : Machine) (o : Order) (r rest : ℕ) (gs : List Gear) (left : ℕ) → Calm t → o ≡ beginning (next_course t)
+    → next_course t ≡ goes_on_to t → (t.course.way ≡ Fresh → ⊥) → t.opened ≡ true → (start.any ≡ false → IsOwn t.kept t.heard)
+    → (start.any ≡ false → IsSettled t.kept) → Above t.course.ascent r (searched_by t.course.way gs) → IsOpened (searched_by t.course.way gs)
+    → NoneNamed (searched_by t.course.way gs) → AreTabled (unseen start.gear) t.kept.enrolled (searched_by t.course.way gs)
+    → search_frames (count_by is_wanted (searched_by t.course.way gs)) + 27 ≤ rest → rest + frames_after t.course.way start gs ≤ left
+    → IsNext start (machine_ordered t o) o gs left
+hunts_on start t o r rest gs left calm is next other opened own settled up ready unnamed tabled enough frames =
+    hunts_by start t o (record t.course { ascent = above t.course.ascent r }) t.course.way rest gs left calm is
+    (next ∙ ap (λ b. going_on t.kept b t.course) opened ∙ on_way t.course.way t.course other
+    ∙ ap (λ x. hunting (record t.course { ascent = gone_on_from x t.course.ascent })) up.reached) refl other opened own settled
+    (rises_above t.course.ascent r (searched_by t.course.way gs) rest up.is up.drawn up.past ready unnamed enough) tabled frames
 
 -- ---------------------------------------------------------------- what is reserved stays nobody else's
 

@@ -11,7 +11,7 @@ use Rattle.dali_gear.specs.Gear.{Gear}
 use Rattle.dali_gear.specs.Row.{row_after, answers_of, heard_of}
 use Rattle.dali_controller.specs.declared.shorts.Shorts.{Shorts}
 use Rattle.dali_script.specs.Records.{Kept}
-use Rattle.dali_search.specs.Least.{Search}
+use Rattle.dali_search.specs.Ascending.{Ascent}
 use Rattle.dali_frame.specs.declared.numbers.SearchAddress.{SearchAddress}
 use Rattle.dali_arbiter.specs.declared.request.Request.{Request}
 use Rattle.dali_arbiter.specs.Arbiter.{next}
@@ -32,7 +32,7 @@ use Rattle.dali_script.specs.declared.orders.Input.TheVariants as input
 use Rattle.dali_script.specs.declared.orders.Order.{Order}
 use Rattle.dali_script.specs.declared.orders.Order.TheVariants.{Put, Commit, Done, Halt}
 use Rattle.dali_controller.specs.declared.purpose.Purpose.{Purpose}
-use Rattle.dali_controller.specs.declared.purpose.Purpose.TheVariants.{Opening, Probing, Visiting, Resolving, Closing, Asking, Waking}
+use Rattle.dali_controller.specs.declared.purpose.Purpose.TheVariants.{Opening, Probing, Hunting, Visiting, Resolving, Closing, Asking, Waking}
 use Rattle.dali_controller.specs.declared.way.Way.{Way}
 use Rattle.dali_controller.specs.Machine.{Machine, machine_heard, machine_committed, machine_surveying, machine_told, silent_after, heard_after, asked_after}
 use Rattle.dali_controller.specs.Machine.{opened_after, woken_after}
@@ -83,7 +83,7 @@ pub record IsUnsurveyed (start : Begun) (m : Machine) (gs : List Gear) (left : �
 
 -- a frame was heard: the machine stands so, once it is told
 pub record Hears (start : Begun) (m : Machine) (f : Forward) (h : Answer) (gs : List Gear) (left : ℕ) : Type 0 where
-  pub stands : SurveyStands start (machine_heard m (Some f) h) gs left
+  pub stands : SurveyStands true start (machine_heard m (Some f) h) gs left
   pub running : stage_of (machine_heard m (Some f) h).trace ≡ stage.Free → ⊥
 
 abbrev pub Holds : Begun → Machine → Option Order → Option Input → List Gear → ℕ → Type 0
@@ -348,35 +348,37 @@ goes_acted start w q c m i o left goes surveys here given whole known promise = 
 -- ---------------------------------------------------------------- its frame is sent
 
 -- no stage on the way is one of a search that led to no gear
-never_silent : (p : Purpose) (y : Way) (s : Stage) (k : Kept) (heard : Shorts) (opened o : Bool) (asked : ℕ) (x : Search) (n : SearchAddress) (from : ℕ)
+never_silent : (told : Bool) (p : Purpose) (y : Way) (s : Stage) (k : Kept) (heard : Shorts) (opened o : Bool) (asked : ℕ) (x : Ascent) (n : SearchAddress)
+    (from : ℕ)
     (start : Begun) (gs : List Gear) (left : ℕ)
-    → SurveyAt p y s k heard opened asked x n from start gs left → silent_after s o 0 ≡ 0
-never_silent (Asking a) y (stage.Unanswered r) k heard opened o asked x n from start gs left at = absurd at.2.stage_is
-never_silent (Asking a) y (stage.Inconclusive r other) k heard opened o asked x n from start gs left at = absurd at.2.stage_is
-never_silent Waking y (stage.Unanswered r) k heard opened o asked x n from start gs left at = absurd at.2.stage_is
-never_silent Waking y (stage.Inconclusive r other) k heard opened o asked x n from start gs left at = absurd at.2.stage_is
-never_silent Opening y (stage.Unanswered r) k heard opened o asked x n from start gs left at = absurd at.at.stage_is
-never_silent Opening y (stage.Inconclusive r other) k heard opened o asked x n from start gs left at = absurd at.at.stage_is
-never_silent Probing y (stage.Unanswered r) k heard opened o asked x n from start gs left at = absurd at.at.1.stage_is
-never_silent Probing y (stage.Inconclusive r other) k heard opened o asked x n from start gs left at = absurd at.at.1.stage_is
-never_silent Visiting y (stage.Unanswered r) k heard opened o asked x n from start gs left at = absurd at.at.1.stage_is
-never_silent Visiting y (stage.Inconclusive r other) k heard opened o asked x n from start gs left at = absurd at.at.1.stage_is
-never_silent (Closing e) y (stage.Unanswered r) k heard opened o asked x n from start gs left at = absurd at.stage_is
-never_silent (Closing e) y (stage.Inconclusive r other) k heard opened o asked x n from start gs left at = absurd at.stage_is
-never_silent (Resolving a) y s k heard opened o asked x n from start gs left at = absurd at
-never_silent p y _ k heard opened o asked x n from start gs left at = refl
+    → SurveyAt told p y s k heard opened asked x n from start gs left → silent_after s o 0 ≡ 0
+never_silent told (Asking a) y (stage.Unanswered r) k heard opened o asked x n from start gs left at = absurd at.2.stage_is
+never_silent told (Asking a) y (stage.Inconclusive r other) k heard opened o asked x n from start gs left at = absurd at.2.stage_is
+never_silent told Waking y (stage.Unanswered r) k heard opened o asked x n from start gs left at = absurd at.2.stage_is
+never_silent told Waking y (stage.Inconclusive r other) k heard opened o asked x n from start gs left at = absurd at.2.stage_is
+never_silent told Opening y (stage.Unanswered r) k heard opened o asked x n from start gs left at = absurd at.at.stage_is
+never_silent told Opening y (stage.Inconclusive r other) k heard opened o asked x n from start gs left at = absurd at.at.stage_is
+never_silent told Hunting y (stage.Unanswered r) k heard opened o asked x n from start gs left at = absurd at.at.1.stage_is
+never_silent told Hunting y (stage.Inconclusive r other) k heard opened o asked x n from start gs left at = absurd at.at.1.stage_is
+never_silent told Probing y s k heard opened o asked x n from start gs left at = absurd at
+never_silent told Visiting y (stage.Unanswered r) k heard opened o asked x n from start gs left at = absurd at.at.1.stage_is
+never_silent told Visiting y (stage.Inconclusive r other) k heard opened o asked x n from start gs left at = absurd at.at.1.stage_is
+never_silent told (Closing e) y (stage.Unanswered r) k heard opened o asked x n from start gs left at = absurd at.stage_is
+never_silent told (Closing e) y (stage.Inconclusive r other) k heard opened o asked x n from start gs left at = absurd at.stage_is
+never_silent told (Resolving a) y s k heard opened o asked x n from start gs left at = absurd at
+never_silent told p y _ k heard opened o asked x n from start gs left at = refl
 
-stands_heard : (start : Begun) (m : Machine) (f : Forward) (h : Answer) (gs : List Gear) (numbers : List ℕ) (left : ℕ) → SurveyStands start m gs left
+stands_heard : (start : Begun) (m : Machine) (f : Forward) (h : Answer) (gs : List Gear) (numbers : List ℕ) (left : ℕ) → SurveyStands false start m gs left
     → IsLawful m.trace f
-    → (sent : SurveySent m.course.purpose m.course.way (stage_of m.trace) m.kept m.heard m.opened m.asked m.course.search m.course.number m.course.from start gs
-    numbers left (command_of f) h) → SurveyStands start (machine_heard m (Some f) h) (row_after Everyone (command_of f) 0 gs numbers) sent.0
+    → (sent : SurveySent m.course.purpose m.course.way (stage_of m.trace) m.kept m.heard m.opened m.asked m.course.ascent m.course.number m.course.from start gs
+    numbers left (command_of f) h) → SurveyStands true start (machine_heard m (Some f) h) (row_after Everyone (command_of f) 0 gs numbers) sent.0
 stands_heard start m f h gs numbers left st lawful sent = record {
   tries = no_tries _ m.tries st.tries;
-  silent = rw (more, st.silent) (never_silent m.course.purpose m.course.way (next_stage (stage_of m.trace) (command_of f) h) m.kept _ _ m.opened _
-      m.course.search m.course.number m.course.from start (row_after Everyone (command_of f) 0 gs numbers) sent.0 sent.2);
+  silent = rw (more, st.silent) (never_silent true m.course.purpose m.course.way (next_stage (stage_of m.trace) (command_of f) h) m.kept _ _ m.opened _
+      m.course.ascent m.course.number m.course.from start (row_after Everyone (command_of f) 0 gs numbers) sent.0 sent.2);
   trace = subst (λ s. IsTrace s (m.trace ++ entry f h ∷ [])) (sym more) (trace_more (stage_of m.trace) m.trace f h lawful st.trace);
-  at = subst (λ s. SurveyAt m.course.purpose m.course.way s m.kept (heard_after m.course.purpose s h m.heard)
-      (woken_after s m.course.purpose (opened_after s m.opened)) (asked_after m.course.purpose s h m.asked) m.course.search m.course.number m.course.from start
+  at = subst (λ s. SurveyAt true m.course.purpose m.course.way s m.kept (heard_after m.course.purpose s h m.heard)
+      (woken_after s m.course.purpose (opened_after s m.opened)) (asked_after m.course.purpose s h m.asked) m.course.ascent m.course.number m.course.from start
       (row_after Everyone (command_of f) 0 gs numbers) sent.0) (sym more) sent.2;
 } where
   more : stage_of (m.trace ++ entry f h ∷ []) ≡ next_stage (stage_of m.trace) (command_of f) h
@@ -445,9 +447,9 @@ goes_sent start w q c m r h left goes is here known surveyed heard =
           holds = subst (λ k. IsTrue k.enrolled w.gear) (sym goes.lone.kept) surveyed.holds;
         } in
         let sent : SurveySent m.course.purpose m.course.way
-        (stage_of m.trace) m.kept m.heard m.opened m.asked m.course.search m.course.number m.course.from start
+        (stage_of m.trace) m.kept m.heard m.opened m.asked m.course.ascent m.course.number m.course.from start
         w.gear w.left left (command_of r.frame) h =
-        survey_sent m.course.purpose m.course.way (stage_of m.trace) m.kept m.heard m.opened m.asked m.course.search m.course.number m.course.from start w.gear
+        survey_sent m.course.purpose m.course.way (stage_of m.trace) m.kept m.heard m.opened m.asked m.course.ascent m.course.number m.course.from start w.gear
         w.left left (command_of r.frame) h holds.0.at holds.1 taken told_so (subst (λ t. Seeks (stage_of t) w.gear) same known.seeks) in
         let lawful : IsLawful m.trace r.frame = (
           (controller_at w c).records.block,

@@ -1,11 +1,15 @@
-use Rattle.std.proofs.Common.{◌≡◌, ℕ, ◌+◌, ◌-◌, ◌*◌, ◌<◌, ◌≤◌, ◌⊎◌, inl, inr, Bool, true, false, suc, List, [], ◌∷◌, refl, sym, ap, subst, ◌∙◌, arith, length}
+use Rattle.std.proofs.Common.{◌≡◌, ℕ, ◌+◌, ◌-◌, ◌*◌, ◌<◌, ◌≤◌, ◌⊎◌, inl, inr, Bool, true, false, suc, List, [], ◌∷◌, refl, sym, ap, subst, ◌∙◌, arith}
 use Rattle.std.proofs.Common.{Option, Some, None}
-use Rattle.std.specs.Prelude.{◌==◌, if◌then◌else◌, is_some, MatchOption}
+use Rattle.std.specs.Prelude.{◌==◌, ◌&&◌, nat_lt, if◌then◌else◌, is_some, MatchOption}
 use Rattle.std.specs.List.{count_by}
 use Rattle.dali_frame.specs.declared.frames.Answer.{Answer}
 use Rattle.dali_frame.specs.declared.numbers.SearchAddress.{SearchAddress}
 use Rattle.dali_frame.specs.Random.{value_of, MASK24}
-use Rattle.dali_special.specs.declared.command.Command.TheVariants.{Program, Initialise, Randomise}
+use Rattle.dali_frame.specs.Priority.{LATER}
+use Rattle.dali_special.specs.declared.command.Command.{Command}
+use Rattle.dali_special.specs.declared.command.Command.TheVariants.{Program, Initialise, Randomise, Compare, SearchHigh, SearchMiddle, SearchLow}
+use Rattle.dali_special.specs.Command.{frame_of, IsSpelled}
+use Rattle.dali_special.proofs.Table.{read_written}
 use Rattle.dali_special.specs.declared.command.Target.TheVariants.{Unaddressed}
 use Rattle.dali_gear.specs.Gear.{Gear}
 use Rattle.dali_script.specs.declared.records.Record.TheVariants.{Reserve, Enrol}
@@ -20,18 +24,20 @@ use Rattle.dali_script.specs.declared.orders.End.{End}
 use Rattle.dali_script.specs.declared.orders.End.TheVariants.{AllFound, BlockFull}
 use Rattle.dali_search.specs.declared.step.Step.{Step}
 use Rattle.dali_search.specs.declared.step.Step.TheVariants.{Again, Found, Nobody}
-use Rattle.dali_search.specs.Least.{Agrees, answered}
-use Rattle.dali_search.specs.Narrowing.{IsNarrowing}
-use Rattle.dali_search.proofs.Agreement.{agrees_more}
-use Rattle.dali_search.proofs.Answered as searching
+use Rattle.dali_search.specs.Ascending.{Ascent, asked_next, ascended, leads_to}
+use Rattle.dali_search.specs.Questions as questions
+use Rattle.dali_search.specs.Questions.{Asking, asking_next, room_left}
 use Rattle.dali_controller.specs.declared.purpose.Purpose.{Purpose}
-use Rattle.dali_controller.specs.declared.purpose.Purpose.TheVariants.{Opening, Probing, Visiting, Resolving, Closing, Asking, Waking}
+use Rattle.dali_controller.specs.declared.purpose.Purpose.TheVariants.{Opening, Probing, Hunting, Visiting, Resolving, Closing, Waking}
+use Rattle.dali_controller.specs.declared.purpose.Purpose.TheVariants.{Asking as Sweeping}
 use Rattle.dali_controller.specs.declared.way.Way.{Way}
 use Rattle.dali_controller.specs.declared.way.Way.TheVariants.{Fresh, Surveying, Drawing}
-use Rattle.dali_controller.specs.Course.{is_yes, closing_of, after_step, address_for, least_open, is_open, is_anothers, drawing}
+use Rattle.dali_controller.specs.Course.{Course, is_yes, closing_of, address_for, least_open, is_open, is_anothers, drawing}
+use Rattle.dali_controller.specs.Course.{sought, byte_to_send, bytes_to_send, hunting, hunted, visiting}
 use Rattle.dali_controller.specs.Course.{closing as closing_by}
 use Rattle.dali_controller.specs.Machine.{Machine}
-use Rattle.dali_controller.specs.Next.{next_course, begins_at, beginning, course_by, draw_or_close, draws, draws_by, has_open, probed_to, is_withheld}
+use Rattle.dali_controller.specs.Next.{next_course, begins_at, beginning, course_by, draw_or_close, draws, draws_by, has_open, is_withheld}
+use Rattle.dali_controller.specs.Next.{hunted_to, is_hunting, question, course_on}
 use Rattle.dali_controller.specs.Next.{is_withheld_by}
 use Rattle.dali_controller.specs.Orders.{machine_ordered, AfterFinding, AfterMaskBy, AfterReserved}
 use Rattle.dali_controller.specs.Whole.{IsWhole}
@@ -45,24 +51,27 @@ use Rattle.dali_progress.specs.Rounds.{AreTabled}
 use Rattle.dali_progress.specs.Surveys.{NoneButUndrawn, IsSettled}
 use Rattle.dali_script.proofs.Lists.{has_map}
 use Rattle.dali_script.proofs.Members.{same_member}
-use Rattle.dali_progress.proofs.Stands.{to_come, search_frames, Opens, Probes, VisitFrames, Visits, Leaves, At}
+use Rattle.dali_progress.proofs.Stands.{to_come, search_frames, Opens, VisitFrames, Visits, Leaves, Sends}
+use Rattle.dali_progress.proofs.Frames.{value_sought}
 use Rattle.dali_progress.proofs.Tables.{tabled_over}
-use Rattle.dali_progress.proofs.Turns.{never_eight, all_have, close_frames, probed_at, has_address, drawn_of, goes_on_anew}
+use Rattle.dali_progress.proofs.Turns.{never_eight, has_address, drawn_of}
 use Rattle.dali_progress.proofs.Accounted.{surveyed_mask, open_is}
 use Rattle.dali_progress.proofs.Survey.Drawn.{those_drawn, is_undrawn, is_lost, AreNumbered, bare_split, drawn_tabled, kept_at, drawn_length, undrawn_random}
 use Rattle.dali_progress.proofs.Survey.Drawn.{count_nothing}
 use Rattle.dali_progress.proofs.Survey.Queried.{OneShort, IsTrue, unseen}
-use Rattle.dali_progress.proofs.Survey.Stands.{Begun, spare, IsOwn, searched_by, frames_after, Hunts, SurveyCloses, SurveyAt, SurveyStands}
-use Rattle.dali_progress.proofs.Survey.Begins.{Calm, IsNext, calm_of, calm_ordered, later_by, turns_by, first_by, searches_by, all_taken}
+use Rattle.dali_progress.proofs.Survey.Stands.{Begun, spare, IsOwn, searched_by, frames_after, Rises, Hunts, SurveyCloses, SurveyAt, SurveyStands}
+use Rattle.dali_progress.proofs.Survey.Rising.{bytes_same, Answered, answered_rise, rises_new, rises_in, IsReachedAt, rise_found, rise_nobody}
+use Rattle.dali_progress.proofs.Survey.Begins.{Calm, IsNext, Above, calm_of, calm_ordered, later_by, turns_by, first_by, hunts_by, hunts_first, hunts_on}
+use Rattle.dali_progress.proofs.Survey.Begins.{all_taken}
 use Rattle.dali_progress.proofs.Survey.Turns.{IsUncontradicted, found_at, sweep_turns, wake_turns}
 
 -- A CONTROLLER THAT SURVEYS ACTS, while it searches, and at its close.
 
 -- ---------------------------------------------------------------- the opening
 
-opening_turns : (start : Begun) (t : Machine) (o : Order) (s : Stage) (gs : List Gear) (left : ℕ) → IsGivenBy t o → SurveyStands start t gs left
+opening_turns : (start : Begun) (t : Machine) (o : Order) (s : Stage) (gs : List Gear) (left : ℕ) → IsGivenBy t o → SurveyStands true start t gs left
     → IsNoEnrolment t.last → t.course.purpose ≡ Opening → stage_of t.trace ≡ s → (s ≡ stage.Free → ⊥)
-    → Hunts Opening t.course.way s t.kept t.heard t.opened t.course.search t.course.number start gs left → IsNext start (machine_ordered t o) o gs left
+    → Hunts true Opening t.course.way s t.kept t.heard t.opened t.course.ascent t.course.number start gs left → IsNext start (machine_ordered t o) o gs left
 opening_turns start t o stage.Free gs left g st last purpose is running v = absurd (running refl)
 opening_turns start t o stage.Terminated gs left g st last purpose is running v =
     turns_by start t o Opening stage.Terminated (Initialise Unaddressed) gs left g st purpose is refl tt refl
@@ -74,15 +83,15 @@ opening_turns start t o stage.RandomisedOnce gs left g st last purpose is runnin
     turns_by start t o Opening stage.RandomisedOnce Randomise gs left g st purpose is refl tt refl
 opening_turns start t o stage.Opened gs left g st last purpose is running v =
     go (searched_by t.course.way gs) (ap (λ y. searched_by y gs) v.way) v.at v.tabled where
-      enough : (bare rest after : ℕ) → 5 + search_frames bare ≤ rest + 5 → rest + after ≤ left → search_frames bare + 0 ≤ left
+      enough : (bare rest after : ℕ) → 5 + search_frames bare ≤ rest + 5 → rest + 1 + after ≤ left → search_frames bare + 1 + 0 ≤ left
       enough bare rest after one two = omega (arith, one, two)
 
-      go : (hs : List Gear) → hs ≡ gs → At Opening stage.Opened t.kept true t.course.search t.course.number hs v.rest
+      go : (hs : List Gear) → hs ≡ gs → Opens stage.Opened true hs v.rest
           → AreTabled (unseen start.gear) (to_come stage.Opened t.course.number t.kept.enrolled) hs → IsNext start (machine_ordered t o) o gs left
       go hs same at tabled =
           let here : Opens stage.Opened true gs v.rest = subst (λ ks. Opens stage.Opened true ks v.rest) same at in
           let count : count_by is_wanted gs ≡ count_by is_bare gs = opening.opened_count gs here.gear in
-          searches_by start t o Drawing (search_frames (count_by is_bare gs)) gs left (calm_of start t gs left st)
+          hunts_first start t o Drawing (search_frames (count_by is_bare gs) + 1) gs left (calm_of start t gs left st)
           (given.begins_after t o stage.Opened g is tt (found_at start t gs left stage.Opened st is) last (never_eight t.tries st.tries))
           (ap (begins_at t) is) v.way (λ e. cc) v.opened_is v.own v.settled (opening.opened_is gs here.gear) (opening.opened_none_named gs here.gear)
           (subst (λ ks. AreTabled (unseen start.gear) t.kept.enrolled ks) same tabled)
@@ -108,31 +117,37 @@ none_bare hs all = count_nothing is_bare hs (λ k h bare.
     let short = all k h is.0 in
     (let never : None ≡ Some short.0 = sym is.1 ∙ short.1 in cc))
 
-probed_next : (t : Machine) (h : Answer) (r : SearchAddress) → stage_of t.trace ≡ stage.Probed r h
-    → next_course t ≡ probed_to t (answered t.course.search (is_yes h)).step (record t.course { search = answered t.course.search (is_yes h) })
-probed_next t h r is = ap (begins_at t) is
+hunted_next : (t : Machine) (h : Answer) (r : SearchAddress) (room : ℕ) (s : Step) → stage_of t.trace ≡ stage.Hunted r (Some h) room
+    → leads_to (ascended t.course.ascent (is_yes h)) ≡ s → next_course t ≡ hunted_to t s (hunted t.course h)
+hunted_next t h r room s is leads = ap (begins_at t) is ∙ ap (λ x. hunted_to t x (hunted t.course h)) leads
+
+-- another transaction begins with its first frame
+begins_by : (t : Machine) (o : Order) (cs : Course) (r : SearchAddress) (room : ℕ) → o ≡ question (next_course t) r room → next_course t ≡ cs
+    → is_hunting cs.purpose ≡ false → o ≡ beginning (next_course t)
+begins_by t o cs r room asks same other = asks ∙ go (subst (λ (c : Course). is_hunting c.purpose ≡ false) (sym same) other) where
+  go : is_hunting (next_course t).purpose ≡ false → question (next_course t) r room ≡ beginning (next_course t)
+  go none =
+      ap (λ b. if b && nat_lt (bytes_to_send (next_course t).number r) room
+      then Put LATER (frame_of (byte_to_send (next_course t).number r)) else beginning (next_course t)) none
 
 -- the search is over: gear draw new numbers, or the close comes
-search_over : (start : Begun) (t : Machine) (o : Order) (y : Way) (h : Answer) (r : SearchAddress) (rest : ℕ) (gs : List Gear) (left : ℕ) → Calm t
-    → o ≡ beginning (next_course t) → stage_of t.trace ≡ stage.Probed r h → t.course.way ≡ y → (y ≡ Fresh → ⊥) → t.opened ≡ true
-    → (start.any ≡ false → IsOwn t.kept t.heard)
-    → (start.any ≡ false → IsSettled t.kept)
-    → (answered t.course.search (is_yes h)).step ≡ Nobody → OfPowered (searched_by y gs) HasShort
-    → AreTabled (unseen start.gear) t.kept.enrolled (searched_by y gs) → 1 ≤ rest + 0 → rest + frames_after y start gs ≤ left
+search_over : (start : Begun) (t : Machine) (o : Order) (y : Way) (h : Answer) (r : SearchAddress) (room rest : ℕ) (gs : List Gear) (left : ℕ) → Calm t
+    → o ≡ question (next_course t) r room → next_course t ≡ draw_or_close (draws t) (hunted t.course h) AllFound → t.course.way ≡ y → (y ≡ Fresh → ⊥)
+    → t.opened ≡ true → (start.any ≡ false → IsOwn t.kept t.heard) → (start.any ≡ false → IsSettled t.kept) → OfPowered (searched_by y gs) HasShort
+    → AreTabled (unseen start.gear) t.kept.enrolled (searched_by y gs) → 1 ≤ rest → rest + frames_after y start gs ≤ left
     → IsNext start (machine_ordered t o) o gs left
-search_over start t o Fresh h r rest gs left calm begins is way other opened own settled nobody all tabled some enough = absurd (other refl)
-search_over start t o Drawing h r rest gs left calm begins is way other opened own settled nobody all tabled some enough =
-    first_by start t o (closing_by (record t.course { search = answered t.course.search (is_yes h) }) AllFound) gs left calm begins
-    (probed_next t h r is ∙ ap (λ s. probed_to t s (record t.course { search = answered t.course.search (is_yes h) })) nobody
-    ∙ ap (λ b. draw_or_close b (record t.course { search = answered t.course.search (is_yes h) }) AllFound) (ap (draws_by t) way)) tt
-    (record { stage_is = tt; well = inl all; settled = settled; tabled = tabled; frames = count rest some enough }) where
-      count : (rest : ℕ) → 1 ≤ rest + 0 → rest + 0 ≤ left → 1 ≤ left + 0
+search_over start t o Fresh h r room rest gs left calm asks next way other opened own settled all tabled some enough = absurd (other refl)
+search_over start t o Drawing h r room rest gs left calm asks next way other opened own settled all tabled some enough =
+    first_by start t o (closing_by (hunted t.course h) AllFound) gs left calm (begins_by t o (closing_by (hunted t.course h) AllFound) r room asks closes refl)
+    closes tt (record { stage_is = tt; well = inl all; settled = settled; tabled = tabled; frames = count rest some enough }) where
+      closes : next_course t ≡ closing_by (hunted t.course h) AllFound
+      closes = next ∙ ap (λ b. draw_or_close b (hunted t.course h) AllFound) (ap (draws_by t) way)
+
+      count : (rest : ℕ) → 1 ≤ rest → rest + 0 ≤ left → 1 ≤ left + 0
       count rest some enough = omega (arith, some, enough)
-search_over start t o Surveying h r rest gs left calm begins is way other opened own settled nobody all tabled some enough = go (has_open t) refl where
-  next : next_course t ≡ draw_or_close (has_open t) (record t.course { search = answered t.course.search (is_yes h) }) AllFound
-  next =
-      probed_next t h r is ∙ ap (λ s. probed_to t s (record t.course { search = answered t.course.search (is_yes h) })) nobody
-      ∙ ap (λ b. draw_or_close b (record t.course { search = answered t.course.search (is_yes h) }) AllFound) (ap (draws_by t) way)
+search_over start t o Surveying h r room rest gs left calm asks next way other opened own settled all tabled some enough = go (has_open t) refl where
+  by : (b : Bool) → has_open t ≡ b → next_course t ≡ draw_or_close b (hunted t.course h) AllFound
+  by b is = next ∙ ap (λ d. draw_or_close d (hunted t.course h) AllFound) (ap (draws_by t) way ∙ is)
 
   whole_table : AreTabled (unseen start.gear) t.kept.enrolled gs
   whole_table = drawn_tabled (unseen start.gear) t.kept.enrolled gs tabled
@@ -142,8 +157,8 @@ search_over start t o Surveying h r rest gs left calm begins is way other opened
 
   go : (b : Bool) → has_open t ≡ b → IsNext start (machine_ordered t o) o gs left
   go true open_is =
-      first_by start t o (drawing (record t.course { search = answered t.course.search (is_yes h) })) gs left calm begins
-      (next ∙ ap (λ b. draw_or_close b (record t.course { search = answered t.course.search (is_yes h) }) AllFound) open_is) tt
+      first_by start t o (drawing (hunted t.course h)) gs left calm (begins_by t o (drawing (hunted t.course h)) r room asks (by true open_is) refl)
+      (by true open_is) tt
       (record {
         way = refl;
         opened_is = opened;
@@ -154,80 +169,175 @@ search_over start t o Surveying h r rest gs left calm begins is way other opened
         tabled = whole_table;
         frames = count rest (count_by is_bare gs) (count_by is_lost gs) (spare start.any) split some enough;
       }) where
-        count : (rest bare lost more : ℕ) → bare ≡ lost → 1 ≤ rest + 0 → rest + (111 * lost + 9 + more) ≤ left → 10 + 111 * bare + 0 ≤ left
+        count : (rest bare lost more : ℕ) → bare ≡ lost → 1 ≤ rest → rest + (111 * lost + 10 + more) ≤ left → 10 + 111 * bare + 1 + 0 ≤ left
         count rest bare lost more split some enough = omega (arith, split, some, enough)
   go false none =
-      first_by start t o (closing_by (record t.course { search = answered t.course.search (is_yes h) }) AllFound) gs left calm begins
-      (next ∙ ap (λ b. draw_or_close b (record t.course { search = answered t.course.search (is_yes h) }) AllFound) none) tt
+      first_by start t o (closing_by (hunted t.course h) AllFound) gs left calm
+      (begins_by t o (closing_by (hunted t.course h) AllFound) r room asks (by false none) refl) (by false none) tt
       (record {
         stage_is = tt;
         well = inr (all_taken t.kept t.heard (nothing (least_open t.kept t.heard) none), none_but gs all);
         settled = settled;
         tabled = whole_table;
-        frames = count rest (111 * count_by is_lost gs + 9 + spare start.any) some enough;
+        frames = count rest (111 * count_by is_lost gs + 10 + spare start.any) some enough;
       }) where
         nothing : (p : Option ℕ) → is_some p ≡ false → p ≡ None
         nothing None e = refl
         nothing (Some a) e = absurd (cc)
 
-        count : (rest after : ℕ) → 1 ≤ rest + 0 → rest + after ≤ left → 1 ≤ left + 0
+        count : (rest after : ℕ) → 1 ≤ rest → rest + after ≤ left → 1 ≤ left + 0
         count rest after some enough = omega (arith, some, enough)
 
-probing_turns : (start : Begun) (t : Machine) (o : Order) (s : Stage) (gs : List Gear) (left : ℕ) → IsGivenBy t o → SurveyStands start t gs left
-    → IsNoEnrolment t.last → t.course.purpose ≡ Probing → stage_of t.trace ≡ s → (s ≡ stage.Free → ⊥)
-    → Hunts Probing t.course.way s t.kept t.heard t.opened t.course.search t.course.number start gs left → IsNext start (machine_ordered t o) o gs left
-probing_turns start t o stage.Free gs left g st last purpose is running v = absurd (running refl)
-probing_turns start t o (stage.HighSent high) gs left g st last purpose is running v =
-    turns_by start t o Probing (stage.HighSent high) _ gs left g st purpose is refl tt refl
-probing_turns start t o (stage.MiddleSent high middle) gs left g st last purpose is running v =
-    turns_by start t o Probing (stage.MiddleSent high middle) _ gs left g st purpose is refl tt refl
-probing_turns start t o (stage.NumberSent r) gs left g st last purpose is running v =
-    turns_by start t o Probing (stage.NumberSent r) _ gs left g st purpose is refl tt refl
-probing_turns start t o (stage.Probed r h) gs left g st last purpose is running v = go (answered t.course.search (is_yes h)).step refl where
-  hs : List Gear
-  hs = searched_by t.course.way gs
+-- COMPARE was answered
+byte_spelled : (n r : SearchAddress) → IsSpelled (byte_to_send n r)
+byte_spelled n r = go (r.high == n.high) (r.low == n.low) (r.middle == n.middle) where
+  go : (b d e : Bool) → IsSpelled (if b then (if d then (if e then Compare else SearchMiddle n.middle) else SearchLow n.low) else SearchHigh n.high)
+  go false d e = tt
+  go true false e = tt
+  go true true false = tt
+  go true true true = tt
 
-  p : Probes (stage.Probed r h) t.course.search t.course.number (searched_by t.course.way gs) v.rest
+-- the next question, in the same transaction
+goes_on : (start : Begun) (t : Machine) (o : Order) (h : Answer) (r : SearchAddress) (room : ℕ) (gs : List Gear) (left : ℕ) → SurveyStands true start t gs left
+    → stage_of t.trace ≡ stage.Hunted r (Some h) room → next_course t ≡ hunting (hunted t.course h)
+    → o ≡ Put LATER (frame_of (byte_to_send (hunting (hunted t.course h)).number r))
+    → Hunts false Hunting t.course.way (stage.Hunted r (Some h) room) t.kept t.heard t.opened (hunted t.course h).ascent (hunting (hunted t.course h)).number
+    start gs left → IsNext start (machine_ordered t o) o gs left
+goes_on start t o h r room gs left st is next sends v = subst (λ q. IsNext start (machine_ordered t q) q gs left) (sym sends)
+    (subst (λ m. IsNext start m (Put LATER (frame_of c)) gs left) (sym later) (
+      record {
+        tries = st.tries;
+        silent = st.silent;
+        trace = st.trace;
+        at = subst (λ s. Hunts false Hunting t.course.way s t.kept t.heard t.opened (hunted t.course h).ascent
+            (hunting (hunted t.course h)).number start gs left)
+            (sym is) v;
+      },
+      subst (λ d. Sends Hunting (hunting (hunted t.course h)).number t.kept (stage_of t.trace) d) (sym (read_written c (byte_spelled _ r)))
+          (subst (λ s. Sends Hunting (hunting (hunted t.course h)).number t.kept s c) (sym is) (refl, refl)),
+    )) where
+      c : Command
+      c = byte_to_send (hunting (hunted t.course h)).number r
+
+      later : machine_ordered t (Put LATER (frame_of c)) ≡ record t { last = Some (Put LATER (frame_of c)); course = hunting (hunted t.course h) }
+      later = ap (λ d. record t { last = Some (Put LATER (frame_of c)); course = d }) (ap (course_on t) is ∙ sym (ap (begins_at t) is) ∙ next)
+
+-- which question is put, by whether there is room
+abbrev asked_by : (t : Machine) (h : Answer) (r : SearchAddress) (room : ℕ) → Bool → Order
+asked_by t h r room b =
+    if b then Put LATER (frame_of (byte_to_send (hunting (hunted t.course h)).number r)) else beginning (hunting (hunted t.course h))
+
+hunting_turns : (start : Begun) (t : Machine) (o : Order) (s : Stage) (gs : List Gear) (left : ℕ) → IsGivenBy t o → SurveyStands true start t gs left
+    → t.course.purpose ≡ Hunting → stage_of t.trace ≡ s → (s ≡ stage.Free → ⊥)
+    → Hunts true Hunting t.course.way s t.kept t.heard t.opened t.course.ascent t.course.number start gs left → IsNext start (machine_ordered t o) o gs left
+hunting_turns start t o stage.Free gs left g st purpose is running v = absurd (running refl)
+hunting_turns start t o (stage.HighSent high) gs left g st purpose is running v =
+    turns_by start t o Hunting (stage.HighSent high) _ gs left g st purpose is refl tt refl
+hunting_turns start t o (stage.LowSent high low) gs left g st purpose is running v =
+    turns_by start t o Hunting (stage.LowSent high low) _ gs left g st purpose is refl tt refl
+hunting_turns start t o (stage.Hunted r None room) gs left g st purpose is running v =
+    turns_by start t o Hunting (stage.Hunted r None room) (byte_to_send t.course.number r) gs left g st purpose is refl (byte_spelled t.course.number r)
+    (refl, refl)
+hunting_turns start t o (stage.Hunted r (Some h) room) gs left g st purpose is running v = go (leads_to (ascended t.course.ascent (is_yes h))) refl where
+  p : Rises true (stage.Hunted r (Some h) room) t.course.ascent t.course.number (searched_by t.course.way gs) v.rest
   p = v.at.1
 
-  begins : o ≡ beginning (next_course t)
-  begins = given.begins_after t o (stage.Probed r h) g is tt (found_at start t gs left (stage.Probed r h) st is) last (never_eight t.tries st.tries)
+  now : Ascent
+  now = ascended t.course.ascent (is_yes h)
 
-  narrowing : IsNarrowing (answered t.course.search (is_yes h))
-  narrowing = searching.goes_on t.course.search (is_yes h) p.searches.narrowing p.searches.running
+  asking : Asking
+  asking = asking_next p.before (asked_next t.course.ascent)
 
-  agrees : Agrees (wants (searched_by t.course.way gs)) (answered t.course.search (is_yes h)).answers
-  agrees = agrees_more (wants (searched_by t.course.way gs)) t.course.search.answers t.course.search.probe (is_yes h) p.searches.agrees p.stage_is
+  answered : Answered (ascended t.course.ascent (is_yes h)) (asking_next p.before (asked_next t.course.ascent)) (searched_by t.course.way gs) v.rest
+  answered = answered_rise r h room t.course.ascent t.course.number (searched_by t.course.way gs) v.rest p
 
-  next : (s : Step) → (answered t.course.search (is_yes h)).step ≡ s
-      → next_course t ≡ probed_to t s (record t.course { search = answered t.course.search (is_yes h) })
-  next s e = probed_next t h r is ∙ ap (λ q. probed_to t q (record t.course { search = answered t.course.search (is_yes h) })) e
+  asks : o ≡ question (next_course t) r room
+  asks = g.followed.hunted r h room is
 
-  go : (s : Step) → (answered t.course.search (is_yes h)).step ≡ s → IsNext start (machine_ordered t o) o gs left
-  go Again e =
-      let there = probed_at Again t.kept t.course (is_yes h) (searched_by t.course.way gs) v.rest e p.ready p.unnamed narrowing agrees p.frames in
-      first_by start t o (after_step Again (record t.course { search = answered t.course.search (is_yes h) })) gs left (calm_of start t gs left st) begins
-      (next Again e) there.0
-      (record { way = v.way; opened_is = v.opened_is; own = v.own; settled = v.settled; rest = v.rest; at = there.1; tabled = v.tabled; frames = v.frames })
-  go (Found q) e =
-      let there = probed_at (Found q) t.kept t.course (is_yes h) (searched_by t.course.way gs) v.rest e p.ready p.unnamed narrowing agrees p.frames in
-      first_by start t o (after_step (Found q) (record t.course { search = answered t.course.search (is_yes h) })) gs left (calm_of start t gs left st) begins
-      (next (Found q) e) there.0
+  stood : r ≡ sought (asked_next t.course.ascent)
+  stood = p.stage_is.0 ∙ p.number
+
+  next : (s : Step) → leads_to (ascended t.course.ascent (is_yes h)) ≡ s → next_course t ≡ hunted_to t s (hunted t.course h)
+  next s e = hunted_next t h r room s is e
+
+  fits : nat_lt (bytes_to_send (sought (asked_next (ascended t.course.ascent (is_yes h)))) r) room
+      ≡ questions.has_room (asking_next p.before (asked_next t.course.ascent)) (asked_next (ascended t.course.ascent (is_yes h)))
+  fits =
+      ap (λ d. nat_lt (bytes_to_send (sought (asked_next (ascended t.course.ascent (is_yes h)))) r) d) p.stage_is.1
+      ∙ ap (λ d. nat_lt d (room_left p.before (asked_next t.course.ascent)))
+      (ap (bytes_to_send (sought (asked_next (ascended t.course.ascent (is_yes h))))) stood
+      ∙ bytes_same (asked_next (ascended t.course.ascent (is_yes h))) (asked_next t.course.ascent))
+
+  again : (b : Bool) → questions.has_room (asking_next p.before (asked_next t.course.ascent)) (asked_next (ascended t.course.ascent (is_yes h))) ≡ b
+      → leads_to (ascended t.course.ascent (is_yes h)) ≡ Again → IsNext start (machine_ordered t o) o gs left
+  again true some e =
+      goes_on start t o h r room gs left st is (next Again e) (asks ∙ ap (λ c. question c r room) (next Again e) ∙ ap (asked_by t h r room) (fits ∙ some))
+      (record {
+        way = v.way;
+        opened_is = v.opened_is;
+        own = v.own;
+        settled = v.settled;
+        rest = v.rest;
+        at = (refl, rises_in now asking (searched_by t.course.way gs) v.rest r h room answered e stood p.stage_is.1 some);
+        tabled = v.tabled;
+        frames = v.frames;
+      })
+  again false none e =
+      hunts_by start t o (hunted t.course h) t.course.way v.rest gs left (calm_of start t gs left st)
+      (asks ∙ ap (λ c. question c r room) (next Again e) ∙ ap (asked_by t h r room) (fits ∙ none) ∙ sym (ap beginning (next Again e))) (next Again e) refl v.way
+      v.opened_is v.own v.settled (rises_new now asking (searched_by t.course.way gs) v.rest answered e none) v.tabled
+      (count v.rest (frames_after t.course.way start gs) v.frames) where
+        count : (rest after : ℕ) → rest + 0 + after ≤ left → rest + after ≤ left
+        count rest after enough = omega (arith, enough)
+
+  go : (s : Step) → leads_to (ascended t.course.ascent (is_yes h)) ≡ s → IsNext start (machine_ordered t o) o gs left
+  go Again e = again (questions.has_room asking (asked_next now)) refl e
+  go (Found m) e =
+      let there : IsReachedAt now m (searched_by t.course.way gs) v.rest = rise_found now asking (searched_by t.course.way gs) v.rest m answered e in
+      first_by start t o (visiting (hunted t.course h) m) gs left (calm_of start t gs left st)
+      (begins_by t o (visiting (hunted t.course h) m) r room asks (next (Found m) e) refl) (next (Found m) e) tt
       (record {
         way = v.way;
         opened_is = v.opened_is;
         own = v.own;
         settled = λ e x has. inl (v.settled e x has);
-        rest = v.rest;
-        at = there.1;
+        rest = 11 + search_frames there.more;
+        at = (
+          refl,
+          record {
+            stage_is = tt;
+            searched = tt;
+            ready = answered.ready;
+            unnamed = answered.unnamed;
+            more = there.more;
+            visited = record {
+              wanted = subst (λ k. wants (searched_by t.course.way gs) k ≡ true) (sym (value_sought m)) there.wanted_is;
+              number = m;
+              number_is = refl;
+              drawn = there.drawn;
+              count = there.count;
+            };
+            frames = inr (omega arith);
+          },
+          record {
+            is = answered.way.way.is;
+            reached = e ∙ ap Found (sym (value_sought m));
+            least = λ k has. subst (λ j. j ≤ k) (sym (value_sought m)) (there.least k has);
+          },
+        );
         tabled = v.tabled;
-        frames = v.frames;
+        frames = count v.rest (search_frames there.more) (frames_after t.course.way start gs) there.frames v.frames;
       })
+    where
+      count : (rest more after : ℕ) → 38 + more ≤ rest → rest + 0 + after ≤ left → 11 + more + 27 + after ≤ left
+      count rest more after need enough = omega (arith, need, enough)
   go Nobody e =
-      search_over start t o t.course.way h r v.rest gs left (calm_of start t gs left st) begins is refl v.way v.opened_is v.own v.settled e
-      (all_have (searched_by t.course.way gs) (answered t.course.search (is_yes h)) p.ready narrowing agrees e) v.tabled
-      (close_frames (length t.course.search.answers) (count_by is_wanted (searched_by t.course.way gs)) v.rest p.frames) v.frames
-probing_turns start t o _ gs left g st last purpose is running v = absurd v.at.1.stage_is
+      let none = rise_nobody now asking (searched_by t.course.way gs) v.rest answered e in
+      search_over start t o t.course.way h r room v.rest gs left (calm_of start t gs left st) asks (next Nobody e) refl v.way v.opened_is v.own v.settled
+      none.0 v.tabled none.1 (count v.rest (frames_after t.course.way start gs) v.frames) where
+        count : (rest after : ℕ) → rest + 0 + after ≤ left → rest + after ≤ left
+        count rest after enough = omega (arith, enough)
+hunting_turns start t o _ gs left g st purpose is running v = absurd v.at.1.stage_is
 
 -- ---------------------------------------------------------------- a visit
 
@@ -255,9 +365,9 @@ undrawn_by t Drawing other none = refl
 
 -- what is reserved for its number is another's: gear draw new numbers, or the close comes
 withheld_turns : (start : Begun) (t : Machine) (o : Order) (r : SearchAddress) (a : ℕ) (gs : List Gear) (left : ℕ) → IsGivenBy t o
-    → SurveyStands start t gs left
+    → SurveyStands true start t gs left
     → stage_of t.trace ≡ stage.Unnamed r
-    → Hunts Visiting t.course.way (stage.Unnamed r) t.kept t.heard t.opened t.course.search t.course.number start gs left
+    → Hunts true Visiting t.course.way (stage.Unnamed r) t.kept t.heard t.opened t.course.ascent t.course.number start gs left
     → Has t.kept.reserved (a, value_of r) → is_anothers t.kept t.heard a (value_of r) ≡ true → o ≡ beginning (next_course t)
     → IsNext start (machine_ordered t o) o gs left
 withheld_turns start t o r a gs left g st is v has other begins =
@@ -284,19 +394,19 @@ withheld_turns start t o r a gs left g st is v has other begins =
           (ap (begins_at t) is ∙ ap (λ b. draw_or_close b t.course BlockFull) none) tt
           (record { stage_is = tt; well = inr (any, (a, value_of r, has, other)); settled = λ e. absurd (never e); tabled = tabled; frames = some })
 
-      some_left : (after : ℕ) → v.rest + after ≤ left → 1 ≤ left + 0
+      some_left : (after : ℕ) → v.rest + 27 + after ≤ left → 1 ≤ left + 0
       some_left after frames = let need : 3 + search_frames w.more ≤ v.rest = enough w.frames in omega (arith, need, frames)
 
       go : (y : Way) → t.course.way ≡ y → (y ≡ Fresh → ⊥) → IsOpened (searched_by y gs) → NoneNamed (searched_by y gs)
           → count_by is_wanted (searched_by y gs) ≡ suc w.more → AreTabled (unseen start.gear) t.kept.enrolled (searched_by y gs)
-          → v.rest + frames_after y start gs ≤ left → IsNext start (machine_ordered t o) o gs left
+          → v.rest + 27 + frames_after y start gs ≤ left → IsNext start (machine_ordered t o) o gs left
       go Fresh way fresh ready unnamed count tabled frames = absurd (fresh refl)
       go Drawing way fresh ready unnamed count tabled frames = closes (ap (draws_by t) way) tabled (some_left 0 frames)
       go Surveying way fresh ready unnamed count tabled frames = by (has_open t) refl where
         by : (b : Bool) → has_open t ≡ b → IsNext start (machine_ordered t o) o gs left
         by false none =
             closes (ap (draws_by t) way ∙ none) (drawn_tabled (unseen start.gear) t.kept.enrolled gs tabled)
-            (some_left (111 * count_by is_lost gs + 9 + spare start.any) frames)
+            (some_left (111 * count_by is_lost gs + 10 + spare start.any) frames)
         by true open_there =
             first_by start t o (drawing t.course) gs left (calm_of start t gs left st) begins
             (ap (begins_at t) is ∙ ap (λ b. draw_or_close b t.course BlockFull) (ap (draws_by t) way ∙ open_there)) tt
@@ -310,15 +420,15 @@ withheld_turns start t o r a gs left g st is v has other begins =
               tabled = drawn_tabled (unseen start.gear) t.kept.enrolled gs tabled;
               frames = sum v.rest (count_by is_bare gs) (count_by is_bare (those_drawn gs)) (count_by is_lost gs) (count_by is_wanted (those_drawn gs)) w.more
                   (bare_split gs) (wanted.wanted_count (those_drawn gs) ready unnamed) count (enough w.frames)
-                  (subst (λ b. v.rest + (111 * count_by is_lost gs + 9 + spare b) ≤ left) any frames);
+                  (subst (λ b. v.rest + 27 + (111 * count_by is_lost gs + 10 + spare b) ≤ left) any frames);
             }) where
               sum : (rest bare drew lost sought more : ℕ) → bare ≡ drew + lost → sought ≡ drew → sought ≡ suc more → 3 + (111 * more + 5) ≤ rest
-                  → rest + (111 * lost + 9 + 104) ≤ left → 10 + 111 * bare + 0 ≤ left
+                  → rest + 27 + (111 * lost + 10 + 104) ≤ left → 10 + 111 * bare + 1 + 0 ≤ left
               sum rest bare drew lost sought more split same count need frames = omega (arith, split, same, count, need, frames)
 
-unnamed_turns : (start : Begun) (t : Machine) (o : Order) (r : SearchAddress) (gs : List Gear) (left : ℕ) → IsGivenBy t o → SurveyStands start t gs left
+unnamed_turns : (start : Begun) (t : Machine) (o : Order) (r : SearchAddress) (gs : List Gear) (left : ℕ) → IsGivenBy t o → SurveyStands true start t gs left
     → IsKept t.kept → t.course.purpose ≡ Visiting → stage_of t.trace ≡ stage.Unnamed r
-    → Hunts Visiting t.course.way (stage.Unnamed r) t.kept t.heard t.opened t.course.search t.course.number start gs left
+    → Hunts true Visiting t.course.way (stage.Unnamed r) t.kept t.heard t.opened t.course.ascent t.course.number start gs left
     → IsNext start (machine_ordered t o) o gs left
 unnamed_turns start t o r gs left g st kept purpose is v =
     go (address_for t.kept.reserved (value_of r)) (found_address t.kept.reserved (value_of r)) (least_open t.kept t.heard) refl
@@ -357,6 +467,9 @@ unnamed_turns start t o r gs left g st kept purpose is v =
           open_is = free;
           ready = w.ready;
           unnamed = w.unnamed;
+          is = v.at.2.is;
+          reached = v.at.2.reached ∙ ap Found (sym same);
+          least = λ k has. subst (λ m. m ≤ k) (sym same) (v.at.2.least k has);
           wanted = subst (λ m. wants (searched_by t.course.way gs) m ≡ true) (sym same) w.visited.wanted;
           drawn = subst (λ m. m < MASK24) (sym same) (drawn_of t.course.number w.visited.number w.visited.number_is w.visited.drawn);
           more = w.more;
@@ -365,7 +478,7 @@ unnamed_turns start t o r gs left g st kept purpose is v =
           frames = count (search_frames w.more) v.rest (frames_after t.course.way start gs) (frames none w.frames) v.frames;
         },
       ) where
-        count : (search rest after : ℕ) → 7 + search ≤ rest → rest + after ≤ left → 7 + search + after ≤ left
+        count : (search rest after : ℕ) → 7 + search ≤ rest → rest + 27 + after ≤ left → 7 + search + 27 + after ≤ left
         count search rest after one two = omega (arith, one, two)
 
       go : (given_to : Option ℕ) → MatchOption given_to (HasRandom t.kept.reserved (value_of r) → ⊥) (λ a. Has t.kept.reserved (a, value_of r))
@@ -376,7 +489,7 @@ unnamed_turns start t o r gs left g st kept purpose is v =
 
         by : (b : Bool) → is_withheld t a (value_of r) ≡ b → IsNext start (machine_ordered t o) o gs left
         by false free =
-            later_by start t o Visiting (stage.Unnamed r) (Program (Some a)) gs left st (subst (λ b. AfterReserved t a b o) free mask) small purpose is
+            later_by start t o Visiting (stage.Unnamed r) (Program (Some a)) gs left st (subst (λ b. AfterReserved t a b o) free mask) small purpose is tt
             (a, small, has, refl)
         by true withheld =
             withheld_turns start t o r a gs left g st is v has (withheld_anothers t t.course.way a (value_of r) withheld)
@@ -396,7 +509,7 @@ unnamed_turns start t o r gs left g st kept purpose is v =
             frames = count v.rest (frames_after t.course.way start gs) (some w.frames) v.frames;
           })
         where
-          count : (rest after : ℕ) → 1 ≤ rest → rest + after ≤ left → 1 ≤ left + 0
+          count : (rest after : ℕ) → 1 ≤ rest → rest + 27 + after ≤ left → 1 ≤ left + 0
           count rest after one two = omega (arith, one, two)
 
           names : (y : Way) → (y ≡ Fresh → ⊥) → AreTabled (unseen start.gear) t.kept.enrolled (searched_by y gs)
@@ -406,8 +519,8 @@ unnamed_turns start t o r gs left g st kept purpose is v =
           names Surveying other tabled = drawn_tabled (unseen start.gear) t.kept.enrolled gs tabled
 
 withdrawn_turns : (start : Begun) (t : Machine) (o : Order) (r : SearchAddress) (a : ℕ) (gs : List Gear) (left : ℕ) → IsGivenBy t o
-    → SurveyStands start t gs left → IsKept t.kept → t.course.purpose ≡ Visiting → stage_of t.trace ≡ stage.Withdrawn r a
-    → Hunts Visiting t.course.way (stage.Withdrawn r a) t.kept t.heard t.opened t.course.search t.course.number start gs left → IsUncontradicted t
+    → SurveyStands true start t gs left → IsKept t.kept → t.course.purpose ≡ Visiting → stage_of t.trace ≡ stage.Withdrawn r a
+    → Hunts true Visiting t.course.way (stage.Withdrawn r a) t.kept t.heard t.opened t.course.ascent t.course.number start gs left → IsUncontradicted t
     → IsNext start (machine_ordered t o) o gs left
 withdrawn_turns start t o r a gs left g st kept purpose is v agreed = go o g (g.ordered.found r a is) where
   w : Leaves r a t.kept t.course.number (searched_by t.course.way gs) v.rest
@@ -422,6 +535,15 @@ withdrawn_turns start t o r a gs left g st kept purpose is v agreed = go o g (g.
 
   same : value_of t.course.number ≡ value_of r
   same = ap value_of (sym w.searched)
+
+  -- and who is left is above it
+  up : Above t.course.ascent (value_of r) (searched_by t.course.way gs)
+  up = record {
+    is = v.at.2.is;
+    reached = v.at.2.reached ∙ ap Found same;
+    drawn = subst (λ m. m < MASK24) same (drawn_of t.course.number w.number w.number_is w.drawn);
+    past = λ k has. subst (λ m. m < k) same (v.at.2.least k has);
+  }
 
   -- the one that is reserved for the number is that entry
   settled : Has t.kept.enrolled (a, value_of r) → start.any ≡ false → IsSettled t.kept
@@ -438,12 +560,10 @@ withdrawn_turns start t o r a gs left g st kept purpose is v agreed = go o g (g.
 
   go : (q : Order) → IsGivenBy t q → AfterFinding t a (value_of r) q → IsNext start (machine_ordered t q) q gs left
   go (Put p f) g has =
-      searches_by start t (Put p f) t.course.way v.rest gs left (calm_of start t gs left st)
-      (given.withdrawn_known t (Put p f) r a g is kept.enrolled has) (ap (begins_at t) is ∙ goes_on_anew t v.opened_is) refl v.way v.opened_is v.own
-      (settled has)
-      w.ready w.unnamed
+      hunts_on start t (Put p f) (value_of r) (v.rest + 27) gs left (calm_of start t gs left st)
+      (given.withdrawn_known t (Put p f) r a g is kept.enrolled has) (ap (begins_at t) is) v.way v.opened_is v.own (settled has) up w.ready w.unnamed
       (tabled_over (unseen start.gear) ((a, value_of r) ∷ t.kept.enrolled) t.kept.enrolled (searched_by t.course.way gs) (λ x h. twice x h has) tabled)
-      w.frames v.frames
+      (let enough : search_frames (count_by is_wanted (searched_by t.course.way gs)) ≤ v.rest = w.frames in omega (arith, enough)) v.frames
   go (Commit x) g has = subst (λ y. IsNext start (machine_ordered t (Commit y)) (Commit y) gs left) (sym has) (
     calm_ordered start t (Commit (Enrol a (value_of r))) gs left st,
     inr (record {
@@ -452,6 +572,7 @@ withdrawn_turns start t o r a gs left g st kept purpose is v agreed = go o g (g.
       own = v.own;
       ready = w.ready;
       unnamed = w.unnamed;
+      above = up;
       reserved = reserved;
       settled = λ e x is. by x (v.settled e x is);
       tabled = tabled;
@@ -462,14 +583,14 @@ withdrawn_turns start t o r a gs left g st kept purpose is v agreed = go o g (g.
     by x (inl enrolled) = inl enrolled
     by x (inr number) = inr (number ∙ same)
 
-    count : (search rest after : ℕ) → search ≤ rest → rest + after ≤ left → search + after ≤ left
+    count : (search rest after : ℕ) → search ≤ rest → rest + 27 + after ≤ left → search + 27 + after ≤ left
     count search rest after one two = omega (arith, one, two)
   go (Done e) g has = absurd has
   go (Halt why) g has = absurd (agreed (Queried a (value_of r)) (found_at start t gs left (stage.Withdrawn r a) st is) has)
 
-visiting_turns : (start : Begun) (t : Machine) (o : Order) (s : Stage) (gs : List Gear) (left : ℕ) → IsGivenBy t o → SurveyStands start t gs left
+visiting_turns : (start : Begun) (t : Machine) (o : Order) (s : Stage) (gs : List Gear) (left : ℕ) → IsGivenBy t o → SurveyStands true start t gs left
     → IsKept t.kept → t.course.purpose ≡ Visiting → stage_of t.trace ≡ s → (s ≡ stage.Free → ⊥)
-    → Hunts Visiting t.course.way s t.kept t.heard t.opened t.course.search t.course.number start gs left → IsUncontradicted t
+    → Hunts true Visiting t.course.way s t.kept t.heard t.opened t.course.ascent t.course.number start gs left → IsUncontradicted t
     → IsNext start (machine_ordered t o) o gs left
 visiting_turns start t o stage.Free gs left g st kept purpose is running v agreed = absurd (running refl)
 visiting_turns start t o (stage.HighSent high) gs left g st kept purpose is running v agreed =
@@ -489,7 +610,7 @@ visiting_turns start t o _ gs left g st kept purpose is running v agreed = absur
 
 -- ---------------------------------------------------------------- the close
 
-closing_turns : (start : Begun) (t : Machine) (o : Order) (e : End) (s : Stage) (gs : List Gear) (left : ℕ) → IsGivenBy t o → SurveyStands start t gs left
+closing_turns : (start : Begun) (t : Machine) (o : Order) (e : End) (s : Stage) (gs : List Gear) (left : ℕ) → IsGivenBy t o → SurveyStands true start t gs left
     → t.course.purpose ≡ Closing e → stage_of t.trace ≡ s → (s ≡ stage.Free → ⊥)
     → SurveyCloses e s t.kept t.heard start gs left → IsNext start (machine_ordered t o) o gs left
 closing_turns start t o e stage.Free gs left g st purpose is running v = absurd (running refl)
@@ -502,18 +623,19 @@ closing_turns start t o e _ gs left g st purpose is running v = absurd v.stage_i
 -- ---------------------------------------------------------------- of whatever transaction
 
 -- after a frame that was heard
-pub turned : (start : Begun) (t : Machine) (o : Order) (gs : List Gear) (left : ℕ) → IsGivenBy t o → SurveyStands start t gs left → IsKept t.kept
+pub turned : (start : Begun) (t : Machine) (o : Order) (gs : List Gear) (left : ℕ) → IsGivenBy t o → SurveyStands true start t gs left → IsKept t.kept
     → AreNumbered gs → OneShort gs → IsTrue t.kept.enrolled gs → IsUncontradicted t → IsWhole (machine_ordered t o) → IsNoEnrolment t.last
     → (stage_of t.trace ≡ stage.Free → ⊥)
     → IsNext start (machine_ordered t o) o gs left
 turned start t o gs left g st kept numbered one holds agreed whole last running = go t.course.purpose refl st.at where
-  go : (p : Purpose) → t.course.purpose ≡ p → SurveyAt p t.course.way (stage_of t.trace) t.kept t.heard t.opened t.asked t.course.search t.course.number
+  go : (p : Purpose) → t.course.purpose ≡ p → SurveyAt true p t.course.way (stage_of t.trace) t.kept t.heard t.opened t.asked t.course.ascent t.course.number
       t.course.from start gs left → IsNext start (machine_ordered t o) o gs left
-  go (Asking a) purpose at =
+  go (Sweeping a) purpose at =
       sweep_turns start t o a (stage_of t.trace) gs left g st last purpose refl running at.0 at.1 at.2 kept numbered one holds agreed whole
   go Waking purpose at = wake_turns start t o (stage_of t.trace) gs left g st last purpose refl running at.0 at.2 kept numbered whole
   go Opening purpose at = opening_turns start t o (stage_of t.trace) gs left g st last purpose refl running at
-  go Probing purpose at = probing_turns start t o (stage_of t.trace) gs left g st last purpose refl running at
+  go Hunting purpose at = hunting_turns start t o (stage_of t.trace) gs left g st purpose refl running at
+  go Probing purpose at = absurd at
   go Visiting purpose at = visiting_turns start t o (stage_of t.trace) gs left g st kept purpose refl running at agreed
   go (Resolving a) purpose at = absurd at
   go (Closing e) purpose at = closing_turns start t o e (stage_of t.trace) gs left g st purpose refl running at

@@ -14,6 +14,7 @@ use Rattle.dali_script.proofs.Transactions.{stage_none}
 use Rattle.dali_script.specs.declared.orders.Order.{Order}
 use Rattle.dali_script.specs.declared.orders.Input.{Input}
 use Rattle.dali_script.specs.declared.orders.Order.TheVariants.{Put, Commit, Done, Halt}
+use Rattle.dali_search.specs.declared.step.Step.TheVariants.{Found}
 use Rattle.dali_controller.specs.Course.{visiting, sought}
 use Rattle.dali_controller.specs.Machine.{Machine}
 use Rattle.dali_controller.specs.Next.{next_course, begins_at, at_rest, beginning}
@@ -24,11 +25,11 @@ use Rattle.dali_events.specs.Wanted.{is_wanted, wants}
 use Rattle.dali_progress.proofs.Stands.{search_frames}
 use Rattle.dali_progress.proofs.Frames.{value_sought}
 use Rattle.dali_progress.proofs.Tables.{tabled_over}
-use Rattle.dali_progress.proofs.Turns.{never_eight, no_enrolment, has_random, entry_last, goes_on_anew, with_kept}
+use Rattle.dali_progress.proofs.Turns.{never_eight, no_enrolment, has_random, entry_last, with_kept}
 use Rattle.dali_progress.proofs.Survey.Queried.{OneShort, IsTrue, unseen}
 use Rattle.dali_progress.proofs.Survey.Stands.{Begun, wake_frames, searched_by}
 use Rattle.dali_progress.proofs.Survey.Begins.{Calm, EnrolsSwept, ReleasesSwept, EnrolsHunted, ReservesHunted, SurveyCommits, IsNext, first_by, asks_on}
-use Rattle.dali_progress.proofs.Survey.Begins.{searches_by}
+use Rattle.dali_progress.proofs.Survey.Begins.{hunts_on}
 use Rattle.dali_progress.proofs.Survey.Begins.{own_enrolled, own_reserved}
 
 -- A RECORD OF A SURVEY IS KEPT, and the next transaction begins.
@@ -145,14 +146,13 @@ hunted_next : (start : Begun) (m : Machine) (b r : ℕ) (o : Order) (gs : List G
     → IsNext start (machine_ordered (with_kept m (Enrol b r)) o) o gs left
 hunted_next start m b r o gs left calm v free last map g =
     let at : stage_of m.trace ≡ stage.Free = ap stage_of free ∙ stage_none in
-    searches_by start (with_kept m (Enrol b r)) o m.course.way (search_frames (count_by is_wanted (searched_by m.course.way gs))) gs left
+    hunts_on start (with_kept m (Enrol b r)) o r (search_frames (count_by is_wanted (searched_by m.course.way gs)) + 27) gs left
     (record { tries = calm.tries; silent = calm.silent }) (hunted_begins start m b r o gs left v free last map g)
-    (ap (begins_at (with_kept m (Enrol b r))) at ∙ ap (at_rest (with_kept m (Enrol b r))) last ∙ goes_on_anew (with_kept m (Enrol b r)) v.opened) refl v.way
-    v.opened
+    (ap (begins_at (with_kept m (Enrol b r))) at ∙ ap (at_rest (with_kept m (Enrol b r))) last) v.way v.opened
     (λ e. own_enrolled m.kept m.heard b r (v.own e) (λ q has. ap (λ (x : Assignment). x.1)
     (same_member (λ (x : Assignment). x.0) m.kept.reserved (b, q) (b, r) map.address_once has v.reserved refl)))
     (λ e x has. settled x has (v.settled e x has))
-    v.ready v.unnamed
+    v.above v.ready v.unnamed
     (tabled_over (unseen start.gear) ((b, r) ∷ m.kept.enrolled) (m.kept.enrolled ++ (b, r) ∷ []) (searched_by m.course.way gs)
     (entry_last m.kept.enrolled (b, r))
     v.tabled)
@@ -201,6 +201,11 @@ reserved_next start m a r o gs left calm v free last g =
                 (has_random (m.kept.reserved ++ (a, r) ∷ []) a r (has_last m.kept.reserved (a, r))),
             omega arith,
           );
+        },
+        record {
+          is = v.is;
+          reached = v.reached ∙ ap Found (sym (value_sought r));
+          least = λ k has. subst (λ j. j ≤ k) (sym (value_sought r)) (v.least k has);
         },
       );
       tabled = v.tabled;

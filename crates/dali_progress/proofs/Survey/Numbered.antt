@@ -119,7 +119,7 @@ spent_never start s c left u has (r, is, spent) =
     let before : HasNumbers u.machine (world s).gear (world s).left =
     subst (λ t. HasNumbers (informed_by u.machine t) (world s).gear (world s).left) put.2 (has u.machine u.there) in
     never (draws_needed Everyone (command_of r.frame) 0 (world s).gear) (length (world s).left)
-    (draws_enough start m.course.purpose m.course.way (stage_of m.trace) m.kept m.heard m.opened m.asked m.course.search m.course.number m.course.from
+    (draws_enough start m.course.purpose m.course.way (stage_of m.trace) m.kept m.heard m.opened m.asked m.course.ascent m.course.number m.course.from
     (world s).gear (world s).left left (command_of r.frame) next.0.at next.1
     (λ undrawn. before (undrawn_last u.machine (Some (Put put.0 r.frame)) put.1 undrawn))) spent
   where
@@ -131,5 +131,5 @@ pub never_spent : (s : SiteState) (c : ℕ) (es : List Event) → SurveysAlone s
 never_spent s c es alone enough rounds =
     let all = runs_after true s c es alone (unsettled s c) rounds in
     spent_never (began_at true s) (site_after s es) c all.rest all.runs
-    (draws_all (began_at true s) s c (111 * count_by is_bare (world s).gear + 209 + spare true) es (starts true s c alone (unsettled s c)) rounds
+    (draws_all (began_at true s) s c (111 * count_by is_bare (world s).gear + 211 + spare true) es (starts true s c alone (unsettled s c)) rounds
     (λ m there undrawn. enough))

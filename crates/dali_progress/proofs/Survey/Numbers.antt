@@ -6,7 +6,7 @@ use Rattle.dali_frame.specs.declared.frames.Forward.{Forward}
 use Rattle.dali_frame.specs.declared.frames.Answer.{Answer}
 use Rattle.dali_frame.specs.declared.numbers.SearchAddress.{SearchAddress}
 use Rattle.dali_special.specs.declared.command.Command.{Command}
-use Rattle.dali_special.specs.declared.command.Command.TheVariants.{Randomise}
+use Rattle.dali_special.specs.declared.command.Command.TheVariants.{Randomise, Compare, SearchHigh, SearchMiddle, SearchLow}
 use Rattle.dali_special.specs.Command.{command_of}
 use Rattle.dali_gear.specs.declared.row.Reach.TheVariants.{Everyone}
 use Rattle.dali_gear.specs.Gear.{Gear}
@@ -25,17 +25,19 @@ use Rattle.dali_script.specs.declared.orders.Order.{Order}
 use Rattle.dali_script.specs.declared.orders.Order.TheVariants.{Put, Commit, Done, Halt}
 use Rattle.dali_script.specs.declared.orders.End.{End}
 use Rattle.dali_script.specs.declared.orders.End.TheVariants.{AllFound, BlockFull, GaveUp}
-use Rattle.dali_search.specs.Least.{Search}
+use Rattle.dali_search.specs.Ascending.{Ascent, leads_to}
 use Rattle.dali_search.specs.declared.step.Step.{Step}
 use Rattle.dali_search.specs.declared.step.Step.TheVariants.{Again, Found, Nobody}
 use Rattle.dali_controller.specs.declared.shorts.Shorts.{Shorts}
 use Rattle.dali_controller.specs.declared.purpose.Purpose.{Purpose}
-use Rattle.dali_controller.specs.declared.purpose.Purpose.TheVariants.{Opening, Probing, Visiting, Resolving, Closing, Asking, Waking}
+use Rattle.dali_controller.specs.declared.purpose.Purpose.TheVariants.{Opening, Probing, Hunting, Visiting, Resolving, Closing, Asking, Waking}
 use Rattle.dali_controller.specs.declared.way.Way.{Way}
 use Rattle.dali_controller.specs.declared.way.Way.TheVariants.{Fresh, Surveying, Drawing}
 use Rattle.dali_controller.specs.Course.{Course, going_on, going_on_early, visit_or_opening, ask_or_wake, next_unfinished, next_asked, closing}
-use Rattle.dali_controller.specs.Next.{next_course, begins_at, at_rest, draws, draws_by, draw_or_close, goes_on_to, silenced, unanswered, probed_to}
-use Rattle.dali_controller.specs.Next.{asked_once}
+use Rattle.dali_controller.specs.Next.{next_course, begins_at, at_rest, draws, draws_by, draw_or_close, silenced, unanswered, probed_to}
+use Rattle.dali_controller.specs.Course.{searching_first, searching_on, hunted, missed, byte_to_send}
+use Rattle.dali_controller.specs.Next.{asked_once, hunted_to, course_on, goes_on_anew}
+use Rattle.dali_progress.proofs.Sweep.Others.{way_on, way_first}
 use Rattle.dali_controller.specs.Machine.{Machine, machine_heard, machine_told, machine_committed, opened_after}
 use Rattle.dali_controller.specs.Orders.{machine_after, machine_ordered, IsAllowed}
 use Rattle.dali_events.specs.World.{World}
@@ -59,6 +61,7 @@ use Rattle.dali_progress.proofs.Survey.Goes.{Holds}
 abbrev pub Undrawn : Purpose → Way → Stage → Type 0
 Undrawn Opening y s = opened_after s false ≡ false
 Undrawn Probing y s = y ≡ Surveying
+Undrawn Hunting y s = y ≡ Surveying
 Undrawn Visiting y s = y ≡ Surveying
 Undrawn (Resolving a) y s = y ≡ Surveying
 Undrawn (Asking a) y s = y ≡ Surveying
@@ -77,6 +80,20 @@ waking_never : (n : SearchAddress) (k : Kept) (s : Stage) → Sends Waking n k s
 waking_never n k (stage.Unnamed r) (a, small, has, is) = cc
 waking_never n k _ is = cc
 
+byte_never : (n r : SearchAddress) → Randomise ≡ byte_to_send n r → ⊥
+byte_never n r = go (r.high == n.high) (r.low == n.low) (r.middle == n.middle) where
+  go : (b d e : Bool)
+      → Randomise ≡ (if b then (if d then (if e then Compare else SearchMiddle n.middle) else SearchLow n.low) else SearchHigh n.high) → ⊥
+  go false d e is = cc
+  go true false e is = cc
+  go true true false is = cc
+  go true true true is = cc
+
+hunting_never : (n : SearchAddress) (k : Kept) (s : Stage) → Sends Hunting n k s Randomise → ⊥
+hunting_never n k (stage.Unnamed r) (a, small, has, is) = cc
+hunting_never n k (stage.Hunted r last room) is = byte_never n r is.1
+hunting_never n k _ is = cc
+
 -- a complete opening sends no more
 opened_sends : (s : Stage) (n : SearchAddress) (k : Kept) (c : Command) → opened_after s false ≡ true → Sends Opening n k s c → ⊥
 opened_sends stage.Opened n k c e is = cc
@@ -92,13 +109,15 @@ opening_first s n k c is = go (opened_after s false) refl where
 few_by : (gs : List Gear) (numbers : List ℕ) (c : Command) → draws_needed Everyone c 0 gs ≡ 0 → draws_needed Everyone c 0 gs ≤ length numbers
 few_by gs numbers c none = omega (arith, none)
 
-pub draws_enough : (start : Begun) (p : Purpose) (y : Way) (s : Stage) (k : Kept) (heard : Shorts) (opened : Bool) (asked : ℕ) (x : Search) (n : SearchAddress)
-    (from : ℕ) (gs : List Gear) (numbers : List ℕ) (left : ℕ) (c : Command) → SurveyAt p y s k heard opened asked x n from start gs left → Sends p n k s c
+pub draws_enough : (start : Begun) (p : Purpose) (y : Way) (s : Stage) (k : Kept) (heard : Shorts) (opened : Bool) (asked : ℕ) (x : Ascent) (n : SearchAddress)
+    (from : ℕ) (gs : List Gear) (numbers : List ℕ) (left : ℕ) (c : Command) → SurveyAt false p y s k heard opened asked x n from start gs left → Sends p n k s c
     → (Undrawn p y s → length gs ≤ length numbers) → draws_needed Everyone c 0 gs ≤ length numbers
 draws_enough start Opening y s k heard opened asked x n from gs numbers left c at is enough =
     enough_left gs numbers c (enough (opening_first s n k c is))
 draws_enough start Probing y s k heard opened asked x n from gs numbers left c at is enough =
     few_by gs numbers c (none_apart Probing n k s gs c (probing_never n k s) is)
+draws_enough start Hunting y s k heard opened asked x n from gs numbers left c at is enough =
+    few_by gs numbers c (none_apart Hunting n k s gs c (hunting_never n k s) is)
 draws_enough start Visiting y s k heard opened asked x n from gs numbers left c at is enough =
     few_by gs numbers c (none_apart Visiting n k s gs c (visiting_never n k s) is)
 draws_enough start (Resolving a) y s k heard opened asked x n from gs numbers left c at is enough = absurd at
@@ -110,20 +129,21 @@ draws_enough start (Closing e) y s k heard opened asked x n from gs numbers left
     few_by gs numbers c (none_apart (Closing e) n k s gs c (closing_never e n k s) is)
 
 -- where they have not drawn after it, none was drawn by it
-opening_none_by : (start : Begun) (y : Way) (s : Stage) (k : Kept) (heard : Shorts) (opened : Bool) (x : Search) (n : SearchAddress) (gs : List Gear) (left : ℕ)
-    (c : Command) (h : Answer) → Hunts Opening y s k heard opened x n start gs left → Sends Opening n k s c
+opening_none_by : (start : Begun) (y : Way) (s : Stage) (k : Kept) (heard : Shorts) (opened : Bool) (x : Ascent) (n : SearchAddress) (gs : List Gear) (left : ℕ)
+    (c : Command) (h : Answer) → Hunts false Opening y s k heard opened x n start gs left → Sends Opening n k s c
     → opened_after (next_stage s c h) false ≡ false → draws_needed Everyone c 0 gs ≡ 0
 opening_none_by start y s k heard opened x n gs left c h v is closed =
     let first : opened_after s false ≡ false = opening_first s n k c is in
     let at : Opens s (opened_after s false) gs v.rest = subst (λ z. Opens s (opened_after s false) (searched_by z gs) v.rest) v.way v.at in
     opening_none s k (opened_after s false) n gs v.rest c h at is (subst (λ b. opened_after (next_stage s c h) b ≡ false) (sym first) closed)
 
-pub none_drawn : (start : Begun) (p : Purpose) (y : Way) (s : Stage) (k : Kept) (heard : Shorts) (opened : Bool) (asked : ℕ) (x : Search) (n : SearchAddress)
-    (from : ℕ) (gs : List Gear) (left : ℕ) (c : Command) (h : Answer) → SurveyAt p y s k heard opened asked x n from start gs left → Sends p n k s c
+pub none_drawn : (start : Begun) (p : Purpose) (y : Way) (s : Stage) (k : Kept) (heard : Shorts) (opened : Bool) (asked : ℕ) (x : Ascent) (n : SearchAddress)
+    (from : ℕ) (gs : List Gear) (left : ℕ) (c : Command) (h : Answer) → SurveyAt false p y s k heard opened asked x n from start gs left → Sends p n k s c
     → Undrawn p y (next_stage s c h) → (draws_needed Everyone c 0 gs ≡ 0) × Undrawn p y s
 none_drawn start Opening y s k heard opened asked x n from gs left c h at is closed =
     (opening_none_by start y s k heard opened x n gs left c h at is closed, opening_first s n k c is)
 none_drawn start Probing y s k heard opened asked x n from gs left c h at is closed = (none_apart Probing n k s gs c (probing_never n k s) is, closed)
+none_drawn start Hunting y s k heard opened asked x n from gs left c h at is closed = (none_apart Hunting n k s gs c (hunting_never n k s) is, closed)
 none_drawn start Visiting y s k heard opened asked x n from gs left c h at is closed = (none_apart Visiting n k s gs c (visiting_never n k s) is, closed)
 none_drawn start (Resolving a) y s k heard opened asked x n from gs left c h at is closed = absurd at
 none_drawn start (Asking a) y s k heard opened asked x n from gs left c h at is closed = (none_apart (Asking a) n k s gs c (asking_never a n k s) is, closed)
@@ -134,8 +154,18 @@ none_drawn start (Closing e) y s k heard opened asked x n from gs left c h at is
 -- ---------------------------------------------------------------- the transaction that begins
 
 -- where a search was opened no opening begins, but that in which gear draw
+on_opens : (y : Way) (c : Course) → (searching_on y c).purpose ≡ Opening → ⊥
+on_opens Fresh c is = cc
+on_opens Surveying c is = cc
+on_opens Drawing c is = cc
+
+first_opens : (y : Way) (c : Course) → (searching_first y c).purpose ≡ Opening → ⊥
+first_opens Fresh c is = cc
+first_opens Surveying c is = cc
+first_opens Drawing c is = cc
+
 going_on_open : (k : Kept) (opened : Bool) (c : Course) → opened ≡ true → (going_on k opened c).purpose ≡ Opening → ⊥
-going_on_open k true c wide is = cc
+going_on_open k true c wide is = on_opens c.way c is
 going_on_open k false c wide is = absurd (cc)
 
 early_way : (k : Kept) (y : Way) (c : Course) → (going_on_early k y c).way ≡ c.way
@@ -150,7 +180,7 @@ early_way k Surveying c = go (next_asked k c.from) where
 early_way k Drawing c = refl
 
 going_on_way : (k : Kept) (opened : Bool) (c : Course) → (going_on k opened c).way ≡ c.way
-going_on_way k true c = refl
+going_on_way k true c = way_on c.way c
 going_on_way k false c = early_way k c.way c
 
 draws_so : (t : Machine) (y : Way) → draws_by t y ≡ true → y ≡ Surveying
@@ -185,9 +215,9 @@ rest_opens t (Some (Halt w)) wide is = absurd (going_on_open t.kept t.opened t.c
 
 silenced_opens : (t : Machine) → t.opened ≡ true → (silenced t).purpose ≡ Opening → ⊥
 silenced_opens t wide is = go (t.silent == 16) is where
-  go : (b : Bool) → (if b then closing t.course GaveUp else goes_on_to t).purpose ≡ Opening → ⊥
+  go : (b : Bool) → (if b then closing t.course GaveUp else goes_on_anew t).purpose ≡ Opening → ⊥
   go true is = cc
-  go false is = going_on_open t.kept t.opened t.course wide is
+  go false is = going_on_open t.kept t.opened (missed t.course) wide is
 
 unanswered_opens : (t : Machine) (r : SearchAddress) (b : Bool) (o : Option ℕ) → t.opened ≡ true → (unanswered t r b o).purpose ≡ Opening → ⊥
 unanswered_opens t r false (Some a) wide is = cc
@@ -199,16 +229,22 @@ probed_opens t Nobody c is = drawn_from t (draws t) c AllFound refl is
 probed_opens t Again c is = absurd (cc)
 probed_opens t (Found r) c is = absurd (cc)
 
+hunted_opens : (t : Machine) (x : Step) (c : Course) → (hunted_to t x c).purpose ≡ Opening → t.course.way ≡ Surveying
+hunted_opens t Nobody c is = drawn_from t (draws t) c AllFound refl is
+hunted_opens t Again c is = absurd (cc)
+hunted_opens t (Found r) c is = absurd (cc)
+
 asked_opens : (t : Machine) (b : Bool) → t.opened ≡ true → (asked_once t b).purpose ≡ Opening → t.course.purpose ≡ Opening
 asked_opens t true wide is = absurd (going_on_open t.kept t.opened t.course wide is)
 asked_opens t false wide is = is
 
 opens_from : (t : Machine) (s : Stage) → t.opened ≡ true → (begins_at t s).purpose ≡ Opening → OpensFrom t s
 opens_from t stage.Free wide is = let rest = rest_opens t t.last wide is in inr (rest.0, refl, λ e. rest.1)
-opens_from t stage.Opened wide is = absurd (cc)
-opens_from t stage.Initialised wide is = absurd (cc)
+opens_from t stage.Opened wide is = absurd (first_opens t.course.way t.course is)
+opens_from t stage.Initialised wide is = absurd (first_opens t.course.way t.course is)
 opens_from t (stage.HighAsked a high) wide is = inr (asked_opens t (t.asked == 0) wide is, refl, λ e. absurd (cc))
 opens_from t (stage.Probed r h) wide is = inl (probed_opens t _ _ is)
+opens_from t (stage.Hunted r (Some h) left) wide is = inl (hunted_opens t _ _ is)
 opens_from t (stage.Unnamed r) wide is = inl (drawn_from t (draws t) t.course BlockFull refl is)
 opens_from t (stage.Unanswered r) wide is = absurd (unanswered_opens t r t.opened _ wide is)
 opens_from t (stage.Inconclusive r other) wide is = absurd (silenced_opens t wide is)
@@ -217,9 +253,9 @@ opens_from t _ wide is = absurd (going_on_open t.kept t.opened t.course wide is)
 -- only the start of a survey takes to this way
 silenced_way : (t : Machine) → (silenced t).way ≡ t.course.way
 silenced_way t = go (t.silent == 16) where
-  go : (b : Bool) → (if b then closing t.course GaveUp else goes_on_to t).way ≡ t.course.way
+  go : (b : Bool) → (if b then closing t.course GaveUp else goes_on_anew t).way ≡ t.course.way
   go true = refl
-  go false = going_on_way t.kept t.opened t.course
+  go false = going_on_way t.kept t.opened (missed t.course)
 
 rest_way : (t : Machine) (l : Option Order) → (at_rest t l).way ≡ t.course.way
 rest_way t None = going_on_way t.kept t.opened t.course
@@ -244,12 +280,18 @@ probed_way t Nobody c is = drawn_way (draws t) c AllFound is
 probed_way t Again c is = is
 probed_way t (Found r) c is = is
 
+hunted_surveys : (t : Machine) (x : Step) (c : Course) → (hunted_to t x c).way ≡ Surveying → c.way ≡ Surveying
+hunted_surveys t Nobody c is = drawn_way (draws t) c AllFound is
+hunted_surveys t Again c is = is
+hunted_surveys t (Found r) c is = is
+
 ways_from : (t : Machine) (s : Stage) → (begins_at t s).way ≡ Surveying → t.course.way ≡ Surveying
 ways_from t stage.Free is = sym (rest_way t t.last) ∙ is
-ways_from t stage.Opened is = is
-ways_from t stage.Initialised is = is
+ways_from t stage.Opened is = sym (way_first t.course.way t.course) ∙ is
+ways_from t stage.Initialised is = sym (way_first t.course.way t.course) ∙ is
 ways_from t (stage.HighAsked a high) is = sym (asked_way t (t.asked == 0)) ∙ is
 ways_from t (stage.Probed r h) is = probed_way t _ _ is
+ways_from t (stage.Hunted r (Some h) left) is = hunted_surveys t _ (hunted t.course h) is
 ways_from t (stage.Unnamed r) is = drawn_way (draws t) t.course BlockFull is
 ways_from t (stage.Unanswered r) is = sym (unanswered_way t r t.opened _) ∙ is
 ways_from t (stage.Inconclusive r other) is = sym (silenced_way t) ∙ is
@@ -270,6 +312,7 @@ UndrawnAt m = UndrawnBy m.last m.course.purpose m.course.way (stage_of m.trace)
 undrawn_free : (p : Purpose) (y : Way) → Undrawn p y stage.Free → (p ≡ Opening) ⊎ (y ≡ Surveying)
 undrawn_free Opening y is = inl refl
 undrawn_free Probing y is = inr is
+undrawn_free Hunting y is = inr is
 undrawn_free Visiting y is = inr is
 undrawn_free (Resolving a) y is = inr is
 undrawn_free (Asking a) y is = inr is
@@ -277,12 +320,13 @@ undrawn_free Waking y is = inr is
 undrawn_free (Closing e) y is = inr is
 
 -- on that way they have not
-surveying_undrawn : (start : Begun) (p : Purpose) (y : Way) (s : Stage) (k : Kept) (heard : Shorts) (opened : Bool) (asked : ℕ) (x : Search) (n : SearchAddress)
-    (from : ℕ) (gs : List Gear) (left : ℕ) → SurveyAt p y s k heard opened asked x n from start gs left → y ≡ Surveying → Undrawn p y s
+surveying_undrawn : (start : Begun) (p : Purpose) (y : Way) (s : Stage) (k : Kept) (heard : Shorts) (opened : Bool) (asked : ℕ) (x : Ascent) (n : SearchAddress)
+    (from : ℕ) (gs : List Gear) (left : ℕ) → SurveyAt true p y s k heard opened asked x n from start gs left → y ≡ Surveying → Undrawn p y s
 surveying_undrawn start Opening y s k heard opened asked x n from gs left v is =
     let both : Surveying ≡ Drawing = sym is ∙ v.way in
     absurd (cc)
 surveying_undrawn start Probing y s k heard opened asked x n from gs left v is = is
+surveying_undrawn start Hunting y s k heard opened asked x n from gs left v is = is
 surveying_undrawn start Visiting y s k heard opened asked x n from gs left v is = is
 surveying_undrawn start (Resolving a) y s k heard opened asked x n from gs left v is = is
 surveying_undrawn start (Asking a) y s k heard opened asked x n from gs left v is = is
@@ -290,10 +334,11 @@ surveying_undrawn start Waking y s k heard opened asked x n from gs left v is = 
 surveying_undrawn start (Closing e) y s k heard opened asked x n from gs left v is = is
 
 -- an opening stands open
-opening_open : (start : Begun) (p : Purpose) (y : Way) (s : Stage) (k : Kept) (heard : Shorts) (opened : Bool) (asked : ℕ) (x : Search) (n : SearchAddress)
-    (from : ℕ) (gs : List Gear) (left : ℕ) → SurveyAt p y s k heard opened asked x n from start gs left → p ≡ Opening → opened ≡ true
+opening_open : (start : Begun) (p : Purpose) (y : Way) (s : Stage) (k : Kept) (heard : Shorts) (opened : Bool) (asked : ℕ) (x : Ascent) (n : SearchAddress)
+    (from : ℕ) (gs : List Gear) (left : ℕ) → SurveyAt false p y s k heard opened asked x n from start gs left → p ≡ Opening → opened ≡ true
 opening_open start Opening y s k heard opened asked x n from gs left v is = v.opened_is
 opening_open start Probing y s k heard opened asked x n from gs left v is = absurd (cc)
+opening_open start Hunting y s k heard opened asked x n from gs left v is = absurd (cc)
 opening_open start Visiting y s k heard opened asked x n from gs left v is = absurd (cc)
 opening_open start (Resolving a) y s k heard opened asked x n from gs left v is = absurd v
 opening_open start (Asking a) y s k heard opened asked x n from gs left v is = absurd (cc)
@@ -309,11 +354,28 @@ begins_undrawn start t f gs left next undrawn =
     go : ((next_course t).purpose ≡ Opening) ⊎ ((next_course t).way ≡ Surveying) → OpensFrom t (stage_of t.trace)
     go (inl opens) =
         opens_from t (stage_of t.trace)
-        (opening_open start (next_course t).purpose (next_course t).way stage.Free t.kept t.heard t.opened t.asked (next_course t).search
+        (opening_open start (next_course t).purpose (next_course t).way stage.Free t.kept t.heard t.opened t.asked (next_course t).ascent
         (next_course t).number (next_course t).from gs left next.0.at opens) opens
     go (inr way) = inl (ways_from t (stage_of t.trace) way)
 
-put_undrawn : (start : Begun) (t : Machine) (o : Order) (gs hs : List Gear) (left l : ℕ) → SurveyStands start t gs left → IsAllowed t o
+-- a later frame leaves the course, or it is the next question of a hunt
+later_undrawn : (t : Machine) (s : Stage) → (t.course.way ≡ Surveying → Undrawn t.course.purpose t.course.way s)
+    → Undrawn (course_on t s).purpose (course_on t s).way s → Undrawn t.course.purpose t.course.way s
+later_undrawn t (stage.Hunted r (Some h) room) surveys undrawn = surveys (go (leads_to (hunted t.course h).ascent) undrawn) where
+  drawn : (b : Bool) → draws t ≡ b
+      → Undrawn (draw_or_close b (hunted t.course h) AllFound).purpose (draw_or_close b (hunted t.course h) AllFound).way (stage.Hunted r (Some h) room)
+      → t.course.way ≡ Surveying
+  drawn true is undrawn = draws_so t t.course.way is
+  drawn false is undrawn = undrawn
+
+  go : (x : Step) → Undrawn (hunted_to t x (hunted t.course h)).purpose (hunted_to t x (hunted t.course h)).way (stage.Hunted r (Some h) room)
+      → t.course.way ≡ Surveying
+  go Again undrawn = undrawn
+  go (Found q) undrawn = undrawn
+  go Nobody undrawn = drawn (draws t) refl undrawn
+later_undrawn t _ surveys undrawn = undrawn
+
+put_undrawn : (start : Begun) (t : Machine) (o : Order) (gs hs : List Gear) (left l : ℕ) → SurveyStands true start t gs left → IsAllowed t o
     → IsNext start (machine_ordered t o) o hs l → UndrawnAt (machine_ordered t o) → Undrawn t.course.purpose t.course.way (stage_of t.trace)
 put_undrawn start t (Put p f) gs hs left l st (inl (first, lawful)) next undrawn =
     go (begins_undrawn start t f hs l (subst (λ r. IsNext start (machine_ordered t (Put r f)) (Put r f) hs l) first next)
@@ -321,12 +383,15 @@ put_undrawn start t (Put p f) gs hs left l st (inl (first, lawful)) next undrawn
   where
     go : OpensFrom t (stage_of t.trace) → Undrawn t.course.purpose t.course.way (stage_of t.trace)
     go (inl way) =
-        surveying_undrawn start t.course.purpose t.course.way (stage_of t.trace) t.kept t.heard t.opened t.asked t.course.search t.course.number
+        surveying_undrawn start t.course.purpose t.course.way (stage_of t.trace) t.kept t.heard t.opened t.asked t.course.ascent t.course.number
         t.course.from gs left st.at way
     go (inr (is, early, put)) = subst (λ p. Undrawn p t.course.way (stage_of t.trace)) (sym is) early
-put_undrawn start t (Put p f) gs hs left l st (inr (later, runs, lawful)) next undrawn = subst (λ r. UndrawnAt (machine_ordered t (Put r f))) later undrawn
+put_undrawn start t (Put p f) gs hs left l st (inr (later, runs, lawful)) next undrawn =
+    later_undrawn t (stage_of t.trace)
+    (surveying_undrawn start t.course.purpose t.course.way (stage_of t.trace) t.kept t.heard t.opened t.asked t.course.ascent t.course.number
+    t.course.from gs left st.at) (subst (λ r. UndrawnAt (machine_ordered t (Put r f))) later undrawn)
 put_undrawn start t (Commit x) gs hs left l st allowed next undrawn =
-    surveying_undrawn start t.course.purpose t.course.way (stage_of t.trace) t.kept t.heard t.opened t.asked t.course.search t.course.number
+    surveying_undrawn start t.course.purpose t.course.way (stage_of t.trace) t.kept t.heard t.opened t.asked t.course.ascent t.course.number
     t.course.from gs left st.at undrawn
 put_undrawn start t (Done e) gs hs left l st allowed next undrawn = absurd undrawn
 put_undrawn start t (Halt w) gs hs left l st allowed next undrawn = absurd undrawn
@@ -370,8 +435,8 @@ acts_has start w q c m out None (Some input.Start) input.Survey o gs hs numbers 
 acts_has start w q c m out (Some (Put p f)) (Some (input.Heard h)) (input.Heard a) o gs hs numbers left l at is due surveys allowed holds next has =
     let same : h ≡ a = cc in
     let told : machine_told m (input.Heard a) ≡ machine_heard m (Some f) a = ap (λ x. machine_heard m (frame_put x) a) is in
-    let stands : SurveyStands start (machine_told m (input.Heard a)) gs left =
-    subst (λ t. SurveyStands start t gs left) (sym told) (subst (λ b. SurveyStands start (machine_heard m (Some f) b) gs left) same holds.stands) in
+    let stands : SurveyStands true start (machine_told m (input.Heard a)) gs left =
+    subst (λ t. SurveyStands true start t gs left) (sym told) (subst (λ b. SurveyStands true start (machine_heard m (Some f) b) gs left) same holds.stands) in
     λ undrawn. subst (λ b. HasNumbers (machine_told m (input.Heard b)) gs numbers) same has
     (undrawn_last (machine_told m (input.Heard a)) (Some (Put p f)) (ap (λ (t : Machine). t.last) told ∙ is)
     (put_undrawn start (machine_told m (input.Heard a)) o gs hs left l stands allowed next undrawn))
@@ -408,7 +473,7 @@ heard_has start m p f h gs numbers left last next has =
         let now : Undrawn m.course.purpose m.course.way (next_stage (stage_of m.trace) (command_of f) h) =
         subst (λ s. Undrawn m.course.purpose m.course.way s) (stage_more m.trace (entry f h))
         (subst (λ l. UndrawnBy l m.course.purpose m.course.way (stage_of (m.trace ++ entry f h ∷ []))) last undrawn) in
-        let none = none_drawn start m.course.purpose m.course.way (stage_of m.trace) m.kept m.heard m.opened m.asked m.course.search m.course.number
+        let none = none_drawn start m.course.purpose m.course.way (stage_of m.trace) m.kept m.heard m.opened m.asked m.course.ascent m.course.number
         m.course.from gs left (command_of f) h next.0.at next.1 now in
         rw (row_length Everyone (command_of f) 0 gs numbers, left_same Everyone (command_of f) 0 gs numbers none.0)
         (has (undrawn_last m (Some (Put p f)) last none.1))

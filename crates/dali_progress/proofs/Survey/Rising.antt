@@ -1,40 +1,39 @@
-use Rattle.std.proofs.Common.{◌≡◌, ℕ, ◌+◌, ◌-◌, ◌*◌, ◌/◌, ◌%◌, ◌<◌, ◌≤◌, ◌⊎◌, inl, inr, Bool, true, false, zero, suc, List, refl, sym, ap, subst, ◌∙◌, arith, nat_lt}
+use Rattle.std.proofs.Common.{◌≡◌, ℕ, ◌+◌, ◌-◌, ◌*◌, ◌<◌, ◌≤◌, ◌⊎◌, inl, inr, Bool, true, false, zero, suc, List, refl, sym, ap, subst, ◌∙◌, arith, nat_lt}
 use Rattle.std.proofs.Common.{Option, Some, None, length}
-use Rattle.std.specs.Prelude.{◌==◌, not, unwrap_or, if◌then◌else◌}
+use Rattle.std.specs.Prelude.{◌==◌, if◌then◌else◌}
 use Rattle.std.specs.List.{count_by}
 use Rattle.std.proofs.lemmas.Bool.Decides.{nat_tests}
 use Rattle.dali_frame.specs.declared.frames.Answer.{Answer}
 use Rattle.dali_frame.specs.declared.numbers.SearchAddress.{SearchAddress}
-use Rattle.dali_frame.specs.Random.{value_of, high_of, middle_of, low_of, MASK24}
+use Rattle.dali_frame.specs.Random.{value_of, MASK24}
 use Rattle.dali_special.specs.declared.command.Command.{Command}
 use Rattle.dali_special.specs.declared.command.Command.TheVariants.{Compare, SearchHigh, SearchMiddle, SearchLow}
 use Rattle.dali_gear.specs.declared.row.Reach.TheVariants.{Everyone}
-use Rattle.dali_gear.specs.Gear.{Gear, fresh}
+use Rattle.dali_gear.specs.Gear.{Gear}
 use Rattle.dali_gear.specs.Row.{row_after}
 use Rattle.dali_script.specs.Records.{Assignment, Kept}
 use Rattle.dali_script.specs.declared.stage.Stage.{Stage}
 use Rattle.dali_script.specs.declared.stage.Stage.TheVariants as stage
 use Rattle.dali_script.specs.Stages.{next_stage}
 use Rattle.dali_script.proofs.Transactions.{self, equal}
-use Rattle.dali_search.specs.declared.step.Step.{Step}
 use Rattle.dali_search.specs.declared.step.Step.TheVariants.{Again, Found, Nobody}
-use Rattle.dali_search.specs.Least.{HasAtMost, Gives, Says, IsBelow}
-use Rattle.dali_search.specs.Ascending.{Ascent, IsAscent, Knows, is_bounded, asked_next, leads_to, told_yes, told_no, ascended, ascent_at_first, above, one_if}
-use Rattle.dali_search.specs.Questions.{bytes_apart, Asking, has_room, frames_to_ask, room_left, asking_next, thirds_to_somebody, thirds_to_nobody, IsTrueWay}
+use Rattle.dali_search.specs.Least.{Gives, Says}
+use Rattle.dali_search.specs.Ascending.{Ascent, IsAscent, Knows, is_bounded, asked_next, leads_to, ascended, ascent_at_first, above}
+use Rattle.dali_search.specs.Questions.{bytes_apart, Asking, has_room, frames_to_ask, room_left, asking_next, IsTrueWay}
 use Rattle.dali_search.specs.Questions.{no_question}
-use Rattle.dali_search.proofs.Ascents.{asked_drawn, says_found, yes_is, no_is}
-use Rattle.dali_search.proofs.Questions.{somebody_costs, nobody_costs, first_true, above_true}
+use Rattle.dali_search.proofs.Ascents.{asked_drawn, says_found}
+use Rattle.dali_search.proofs.TrueAnswers.{somebody_costs, nobody_costs, first_true, above_true}
 use Rattle.dali_controller.specs.declared.purpose.Purpose.TheVariants.{Hunting}
 use Rattle.dali_controller.specs.Course.{sought, is_yes, byte_to_send, bytes_to_send}
 use Rattle.dali_events.specs.Searching.{HasShort}
 use Rattle.dali_events.specs.Wanted.{gear_of, is_wanted, wants, OfPowered, IsOpened, NoneNamed}
 use Rattle.dali_events.proofs.Search.Leaving as leaving
-use Rattle.dali_events.proofs.Search.Leaving.{SameCore, LeavesShort}
+use Rattle.dali_events.proofs.Search.Leaving.{SameCore}
 use Rattle.dali_events.proofs.Search.Wanted as wanted
 use Rattle.dali_progress.specs.Rounds.{AreTabled}
 use Rattle.dali_progress.proofs.Stands.{search_frames, to_come, Sends}
 use Rattle.dali_progress.proofs.Frames.{IsTaken, Seeks, probe_says, value_sought, gives_same}
-use Rattle.dali_progress.proofs.Tables.{tabled_left}
+use Rattle.dali_progress.proofs.Tables.{LeavesNames, tabled_left}
 use Rattle.dali_progress.proofs.Survey.Drawn.{IsSoughtBy}
 use Rattle.dali_progress.proofs.Survey.Stands.{pending, after_rise, thirds_for, RiseStage, Rises}
 
@@ -135,44 +134,67 @@ rises_on s t x n gs hs left l v same at frames = record {
   frames = rw (leaving.core_count_wanted gs hs same) frames;
 }
 
+-- of a machine that has acted, what it had at hand when it was told
+pub rises_so : (s : Stage) (x : Ascent) (n : SearchAddress) (gs : List Gear) (left : ℕ) (v : Rises true s x n gs left) → RiseStage false s x n v.before gs
+    → v.budget + after_rise (count_by is_wanted gs) + pending false s n ≤ left + frames_to_ask v.before (asked_next x) → Rises false s x n gs left
+rises_so s x n gs left v at frames = record {
+  before = v.before;
+  way = v.way;
+  running = v.running;
+  knows = v.knows;
+  number = v.number;
+  ready = v.ready;
+  unnamed = v.unnamed;
+  stage_is = at;
+  budget = v.budget;
+  enough = v.enough;
+  afford = v.afford;
+  frames = frames;
+}
+
 hunted_sent : (r : SearchAddress) (last : Option Answer) (room : ℕ) (x : Ascent) (n : SearchAddress) (gs : List Gear) (numbers : List ℕ) (left : ℕ) (h : Answer)
     (v : Rises false (stage.Hunted r last room) x n gs left)
     → room ≡ bytes_to_send n r + 1 + room_left v.before (asked_next x)
     → v.budget + after_rise (count_by is_wanted gs) + (bytes_to_send n r + 1) ≤ left + frames_to_ask v.before (asked_next x)
-    → (c : Command) → c ≡ byte_to_send n r → IsTaken c gs numbers h → Seeks (stage.Hunted r last room) gs → RisenTo (stage.Hunted r last room) x n gs numbers left c h
+    → (c : Command) → c ≡ byte_to_send n r → IsTaken c gs numbers h → Seeks (stage.Hunted r last room) gs
+    → RisenTo (stage.Hunted r last room) x n gs numbers left c h
 hunted_sent r last room x n gs numbers left h v is enough c sends taken seek =
     go (subst (λ d. IsByteSent n r last room d h) (sym sends) (byte_sent n r last room h (omega (arith, is)))) where
-  less : (sent : ℕ) → bytes_to_send n r + 1 ≡ suc sent
-      → (l : ℕ) × (left ≡ suc l)
-      × (v.budget + after_rise (count_by is_wanted gs) + sent ≤ l + frames_to_ask v.before (asked_next x))
-  less sent same =
-      rise_less v.budget (after_rise (count_by is_wanted gs)) sent left (frames_to_ask v.before (asked_next x)) (after_some (count_by is_wanted gs)) v.afford
-      (subst (λ p. v.budget + after_rise (count_by is_wanted gs) + p ≤ left + frames_to_ask v.before (asked_next x)) same enough)
+      less : (sent : ℕ) → bytes_to_send n r + 1 ≡ suc sent
+          → (l : ℕ) × (left ≡ suc l)
+          × (v.budget + after_rise (count_by is_wanted gs) + sent ≤ l + frames_to_ask v.before (asked_next x))
+      less sent same =
+          rise_less v.budget (after_rise (count_by is_wanted gs)) sent left (frames_to_ask v.before (asked_next x))
+          (after_some (count_by is_wanted gs)) v.afford
+          (subst (λ p. v.budget + after_rise (count_by is_wanted gs) + p ≤ left + frames_to_ask v.before (asked_next x)) same enough)
 
-  go : IsByteSent n r last room c h → RisenTo (stage.Hunted r last room) x n gs numbers left c h
-  go (inl b) =
-      let one = less (bytes_to_send n b.number + 1) (let fewer : bytes_to_send n r ≡ bytes_to_send n b.number + 1 = b.fewer in omega (arith, fewer)) in (
-        one.0,
-        one.1,
-        subst (λ t. Rises true t x n (row_after Everyone c 0 gs numbers) one.0) (sym b.next)
-            (rises_on (stage.Hunted r last room) (stage.Hunted b.number None (room - 1)) x n gs _ left one.0 v (b.core gs numbers)
-            (let fewer : bytes_to_send n r ≡ bytes_to_send n b.number + 1 = b.fewer in omega (arith, is, fewer)) one.2),
-      )
-  go (inr b) =
-      let none : bytes_to_send n r ≡ 0 = subst (λ q. bytes_to_send n q ≡ 0) (sym b.1) (rw (self n.high, self n.low, self n.middle) refl) in
-      let one = less 0 (omega (arith, none)) in
-      let same : SameCore gs (row_after Everyone Compare 0 gs numbers) = leaving.core_after Compare gs numbers tt in
-      let asked : value_of r ≡ asked_next x = ap value_of (b.1 ∙ v.number) ∙ value_sought (asked_next x) in
-      let says : Gives (wants gs) (asked_next x) (is_yes h) =
-      subst (λ q. Gives (wants gs) q (is_yes h)) asked (probe_says gs r h (seek r refl) (subst (λ d. IsTaken d gs numbers h) b.0 taken).heard) in
-      subst (λ d. RisenTo (stage.Hunted r last room) x n gs numbers left d h) (sym b.0) (
-        one.0,
-        one.1,
-        subst (λ t. Rises true t x n (row_after Everyone Compare 0 gs numbers) one.0) (sym b.2)
-            (rises_on (stage.Hunted r last room) (stage.Hunted r (Some h) (room - 1)) x n gs _ left one.0 v same
-            (b.1, omega (arith, is, none), gives_same (wants gs) (wants (row_after Everyone Compare 0 gs numbers)) (asked_next x) (is_yes h)
-            (λ m. leaving.core_wants gs (row_after Everyone Compare 0 gs numbers) m same) says) one.2),
-      )
+      go : IsByteSent n r last room c h → RisenTo (stage.Hunted r last room) x n gs numbers left c h
+      go (inl b) =
+          let one = less (bytes_to_send n b.number + 1) (let fewer : bytes_to_send n r ≡ bytes_to_send n b.number + 1 = b.fewer in omega (arith, fewer)) in (
+            one.0,
+            one.1,
+            subst (λ t. Rises true t x n (row_after Everyone c 0 gs numbers) one.0) (sym b.next)
+                (rises_on (stage.Hunted r last room) (stage.Hunted b.number None (room - 1)) x n gs _ left one.0 v (b.core gs numbers)
+                (let fewer : bytes_to_send n r ≡ bytes_to_send n b.number + 1 = b.fewer in omega (arith, is, fewer)) one.2),
+          )
+      go (inr b) =
+          let none : bytes_to_send n r ≡ 0 = subst (λ q. bytes_to_send n q ≡ 0) (sym b.1) (rw (self n.high, self n.low, self n.middle) refl) in
+          let one = less 0 (omega (arith, none)) in
+          let same : SameCore gs (row_after Everyone Compare 0 gs numbers) = leaving.core_after Compare gs numbers tt in
+          let asked : value_of r ≡ asked_next x = ap value_of (b.1 ∙ v.number) ∙ value_sought (asked_next x) in
+          let says : Gives (wants gs) (asked_next x) (is_yes h) =
+          subst (λ q. Gives (wants gs) q (is_yes h)) asked (probe_says gs r h (seek r refl) (subst (λ d. IsTaken d gs numbers h) b.0 taken).heard) in
+          subst (λ d. RisenTo (stage.Hunted r last room) x n gs numbers left d h) (sym b.0) (
+            one.0,
+            one.1,
+            subst (λ t. Rises true t x n (row_after Everyone Compare 0 gs numbers) one.0) (sym b.2)
+                (rises_on (stage.Hunted r last room) (stage.Hunted r (Some h) (room - 1)) x n gs _ left one.0 v same (
+                  b.1,
+                  omega (arith, is, none),
+                  gives_same (wants gs) (wants (row_after Everyone Compare 0 gs numbers)) (asked_next x) (is_yes h)
+                      (λ m. leaving.core_wants gs (row_after Everyone Compare 0 gs numbers) m same) says,
+                ) one.2),
+          )
 
 some_is : (x c : Command) → Some x ≡ Some c → x ≡ c
 some_is x c e = cc
@@ -186,23 +208,28 @@ none_left n high low one two = rw (← one, ← two, self n.high, self n.low, se
 pub rises_sent : (s : Stage) (k : Kept) (x : Ascent) (n : SearchAddress) (gs : List Gear) (numbers : List ℕ) (left : ℕ) (c : Command) (h : Answer)
     → Rises false s x n gs left → Sends Hunting n k s c → IsTaken c gs numbers h → Seeks s gs → RisenTo s x n gs numbers left c h
 rises_sent stage.Free k x n gs numbers left c h v is taken seek =
+    let less =
+    rise_less v.budget (after_rise (count_by is_wanted gs)) 3 left (frames_to_ask v.before (asked_next x)) (after_some (count_by is_wanted gs)) v.afford
+    v.frames in
     subst (λ d. RisenTo stage.Free x n gs numbers left d h) (sym is) (
       less.0,
       less.1,
       rises_on stage.Free (stage.HighSent n.high) x n gs _ left less.0 v (leaving.core_after (SearchHigh n.high) gs numbers tt) (refl, v.stage_is) less.2,
-    ) where
-      less = rise_less v.budget (after_rise (count_by is_wanted gs)) 3 left (frames_to_ask v.before (asked_next x)) (after_some (count_by is_wanted gs)) v.afford
-          v.frames
+    )
 rises_sent (stage.HighSent high) k x n gs numbers left c h v is taken seek =
+    let less =
+    rise_less v.budget (after_rise (count_by is_wanted gs)) 2 left (frames_to_ask v.before (asked_next x)) (after_some (count_by is_wanted gs)) v.afford
+    v.frames in
     subst (λ d. RisenTo (stage.HighSent high) x n gs numbers left d h) (some_is (SearchLow n.low) c is) (
       less.0,
       less.1,
       rises_on (stage.HighSent high) (stage.LowSent high n.low) x n gs _ left less.0 v (leaving.core_after (SearchLow n.low) gs numbers tt)
           (v.stage_is.0, refl, v.stage_is.1) less.2,
-    ) where
-      less = rise_less v.budget (after_rise (count_by is_wanted gs)) 2 left (frames_to_ask v.before (asked_next x)) (after_some (count_by is_wanted gs)) v.afford
-          v.frames
+    )
 rises_sent (stage.LowSent high low) k x n gs numbers left c h v is taken seek =
+    let less =
+    rise_less v.budget (after_rise (count_by is_wanted gs)) 1 left (frames_to_ask v.before (asked_next x)) (after_some (count_by is_wanted gs)) v.afford
+    v.frames in
     subst (λ d. RisenTo (stage.LowSent high low) x n gs numbers left d h) (some_is (SearchMiddle n.middle) c is) (
       less.0,
       less.1,
@@ -210,9 +237,7 @@ rises_sent (stage.LowSent high low) k x n gs numbers left c h v is taken seek =
           (leaving.core_after (SearchMiddle n.middle) gs numbers tt)
           (let none = none_left n high low v.stage_is.0 v.stage_is.1 in let room = (new_room v.before (asked_next x) v.stage_is.2).0 in rw (none, room) refl)
           (rw (none_left n high low v.stage_is.0 v.stage_is.1) less.2),
-    ) where
-      less = rise_less v.budget (after_rise (count_by is_wanted gs)) 1 left (frames_to_ask v.before (asked_next x)) (after_some (count_by is_wanted gs)) v.afford
-          v.frames
+    )
 rises_sent (stage.Hunted r None room) k x n gs numbers left c h v is taken seek =
     hunted_sent r None room x n gs numbers left h v v.stage_is v.frames c is.1 taken seek
 rises_sent (stage.Hunted r (Some g) room) k x n gs numbers left c h v is taken seek =
@@ -270,18 +295,19 @@ silent_some gs x more is knows ready count = go (x.silent == 0) refl where
   go false e =
       let low : x.low ≡ 0xFFFFFF = is.silence (grind (arith, nat_tests)) in
       let none : count_by is_wanted gs ≡ 0 = wanted.count_none gs (λ m has.
-          let from : x.low ≤ m = knows.above m has in
-          let under : m < 0xFFFFFF = wanted.wanted_below gs m ready has in
-          omega (arith, low, from, under)) in
+      let from : x.low ≤ m = knows.above m has in
+      let under : m < 0xFFFFFF = wanted.wanted_below gs m ready has in
+      omega (arith, low, from, under)) in
       absurd (omega (arith, none, count))
 
-never_last : (gs : List Gear) (asked more : ℕ) (b : Bool) → IsOpened gs → count_by is_wanted gs ≡ suc more → Gives (wants gs) asked b → b ≡ false → asked ≡ 0xFFFFFE
+never_last : (gs : List Gear) (asked more : ℕ) (b : Bool) → IsOpened gs → count_by is_wanted gs ≡ suc more → Gives (wants gs) asked b → b ≡ false
+    → asked ≡ 0xFFFFFE
     → ⊥
-never_last gs asked more true ready count gives no last = cc
-never_last gs asked more false ready count gives no last =
+never_last gs asked more true ready count gives said last = absurd (cc)
+never_last gs asked more false ready count gives said last =
     let none : count_by is_wanted gs ≡ 0 = wanted.count_none gs (λ m has.
-        let under : m < 0xFFFFFF = wanted.wanted_below gs m ready has in
-        gives (m, has, omega (arith, under, last))) in
+    let under : m < 0xFFFFFF = wanted.wanted_below gs m ready has in
+    gives (m, has, omega (arith, under, last))) in
     omega (arith, none, count)
 
 spent : (costs thirds before budget after left : ℕ) → 3 * costs + thirds ≤ before → before ≤ 3 * budget → budget + after + 0 ≤ left + costs
@@ -421,7 +447,8 @@ rise_nobody x q gs left v is = (
   have : (k : ℕ) → k < length gs → (gear_of gs k).powered ≡ true → (o : Option ℕ) → (gear_of gs k).short ≡ o → HasShort (gear_of gs k)
   have k in_row on (Some a) e = (a, e)
   have k in_row on None e =
-      absurd (nobody (gear_of gs k).random (wanted.wants_by gs (gear_of gs k).random k in_row (wanted.is_wanted_by (gear_of gs k) on (v.ready.bare k in_row on e)) refl))
+      absurd (nobody (gear_of gs k).random (wanted.wants_by gs (gear_of gs k).random k in_row
+      (wanted.is_wanted_by (gear_of gs k) on (v.ready.bare k in_row on e)) refl))
 
 -- ---------------------------------------------------------------- where it begins
 
@@ -431,8 +458,6 @@ nothing_before m = grind (arith, nat_tests)
 pub rises_first : (gs : List Gear) (left : ℕ) → IsOpened gs → NoneNamed gs → search_frames (count_by is_wanted gs) + 1 ≤ left
     → Rises false stage.Free ascent_at_first (sought (asked_next ascent_at_first)) gs left
 rises_first gs left ready unnamed frames = go (count_by is_wanted gs) refl frames where
-  first = first_true no_question refl
-
   knows : Knows (wants gs) ascent_at_first
   knows = record { above = λ m has. omega arith; below = λ small. absurd (omega (arith, small)) }
 
@@ -440,7 +465,7 @@ rises_first gs left ready unnamed frames = go (count_by is_wanted gs) refl frame
       → budget + after_rise (count_by is_wanted gs) ≤ left → Rises false stage.Free ascent_at_first (sought (asked_next ascent_at_first)) gs left
   begins budget enough some frames = record {
     before = no_question;
-    way = first.0;
+    way = (first_true no_question refl).0;
     running = refl;
     knows = knows;
     number = refl;
@@ -455,22 +480,21 @@ rises_first gs left ready unnamed frames = go (count_by is_wanted gs) refl frame
 
   go : (count : ℕ) → count_by is_wanted gs ≡ count → search_frames count + 1 ≤ left
       → Rises false stage.Free ascent_at_first (sought (asked_next ascent_at_first)) gs left
-  go zero is frames = begins 5 (rw (is, first.2) (omega arith)) (omega arith) (rw is (omega (arith, frames)))
-  go (suc more) is frames = begins 73 (rw (is, first.1) (omega arith)) (omega arith) (rw is (omega (arith, frames)))
+  go zero is frames = begins 5 (rw (is, (first_true no_question refl).2) (omega arith)) (omega arith) (rw is (omega (arith, frames)))
+  go (suc more) is frames = begins 73 (rw (is, (first_true no_question refl).1) (omega arith)) (omega arith) (rw is (omega (arith, frames)))
 
-pub rises_above : (x : Ascent) (r : ℕ) (gs : List Gear) (left : ℕ) → IsAscent x → r < MASK24 → ((m : ℕ) → wants gs m ≡ true → r < m) → IsOpened gs → NoneNamed gs
+pub rises_above : (x : Ascent) (r : ℕ) (gs : List Gear) (left : ℕ) → IsAscent x → r < MASK24 → ((m : ℕ) → wants gs m ≡ true → r < m) → IsOpened gs
+    → NoneNamed gs
     → search_frames (count_by is_wanted gs) + 27 ≤ left → Rises false stage.Free (above x r) (sought (asked_next (above x r))) gs left
 rises_above x r gs left is small past ready unnamed frames = go (count_by is_wanted gs) refl frames where
-  first = above_true x r no_question is small refl
-
   knows : Knows (wants gs) (above x r)
-  knows = record { above = λ m has. past m has; below = λ low. absurd (omega (arith, low)) }
+  knows = record { above = λ m has. let over : r < m = past m has in omega (arith, over); below = λ low. absurd (omega (arith, low)) }
 
   begins : (budget : ℕ) → thirds_for (count_by is_wanted gs) (above x r) no_question ≤ 3 * budget → 4 ≤ budget
       → budget + after_rise (count_by is_wanted gs) ≤ left → Rises false stage.Free (above x r) (sought (asked_next (above x r))) gs left
   begins budget enough some frames = record {
     before = no_question;
-    way = first.0;
+    way = (above_true x r no_question is small refl).0;
     running = refl;
     knows = knows;
     number = refl;
@@ -485,8 +509,9 @@ rises_above x r gs left is small past ready unnamed frames = go (count_by is_wan
 
   go : (count : ℕ) → count_by is_wanted gs ≡ count → search_frames count + 27 ≤ left
       → Rises false stage.Free (above x r) (sought (asked_next (above x r))) gs left
-  go zero is frames = begins 31 (rw (is, first.2) (omega arith)) (omega arith) (rw is (omega (arith, frames)))
-  go (suc more) is frames = begins 95 (rw (is, first.1) (omega arith)) (omega arith) (rw is (omega (arith, frames)))
+  go zero counts frames = begins 31 (rw (counts, (above_true x r no_question is small refl).2) (omega arith)) (omega arith) (rw counts (omega (arith, frames)))
+  go (suc more) counts frames =
+      begins 95 (rw (counts, (above_true x r no_question is small refl).1) (omega arith)) (omega arith) (rw counts (omega (arith, frames)))
 
 -- ---------------------------------------------------------------- the table
 
@@ -497,23 +522,24 @@ rising_to_come told (stage.Confirmed r a) x n gs left xs v = absurd v.stage_is
 rising_to_come told (stage.Withdrawn r a) x n gs left xs v = absurd v.stage_is
 rising_to_come told _ x n gs left xs v = refl
 
-byte_leaves : (n r : SearchAddress) → LeavesShort (byte_to_send n r)
+byte_leaves : (n r : SearchAddress) → LeavesNames (byte_to_send n r)
 byte_leaves n r = go (r.high == n.high) (r.low == n.low) (r.middle == n.middle) where
-  go : (b d e : Bool) → LeavesShort (if b then (if d then (if e then Compare else SearchMiddle n.middle) else SearchLow n.low) else SearchHigh n.high)
+  go : (b d e : Bool) → LeavesNames (if b then (if d then (if e then Compare else SearchMiddle n.middle) else SearchLow n.low) else SearchHigh n.high)
   go false d e = tt
   go true false e = tt
   go true true false = tt
   go true true true = tt
 
 rising_leaves : (s : Stage) (k : Kept) (x : Ascent) (n : SearchAddress) (gs : List Gear) (left : ℕ) (c : Command) → Rises false s x n gs left
-    → Sends Hunting n k s c → LeavesShort c
-rising_leaves stage.Free k x n gs left c v is = subst LeavesShort (sym is) tt
-rising_leaves (stage.HighSent high) k x n gs left c v is = subst LeavesShort (some_is (SearchLow n.low) c is) tt
-rising_leaves (stage.LowSent high low) k x n gs left c v is = subst LeavesShort (some_is (SearchMiddle n.middle) c is) tt
-rising_leaves (stage.Hunted r last room) k x n gs left c v is = subst LeavesShort (sym is.1) (byte_leaves n r)
+    → Sends Hunting n k s c → LeavesNames c
+rising_leaves stage.Free k x n gs left c v is = subst LeavesNames (sym is) tt
+rising_leaves (stage.HighSent high) k x n gs left c v is = subst LeavesNames (some_is (SearchLow n.low) c is) tt
+rising_leaves (stage.LowSent high low) k x n gs left c v is = subst LeavesNames (some_is (SearchMiddle n.middle) c is) tt
+rising_leaves (stage.Hunted r last room) k x n gs left c v is = subst LeavesNames (sym is.1) (byte_leaves n r)
 rising_leaves _ k x n gs left c v is = absurd v.stage_is
 
-pub rising_tabled : (before : List Gear) (s : Stage) (k : Kept) (x : Ascent) (n : SearchAddress) (gs : List Gear) (numbers : List ℕ) (left rest : ℕ) (c : Command)
+pub rising_tabled : (before : List Gear) (s : Stage) (k : Kept) (x : Ascent) (n : SearchAddress) (gs : List Gear) (numbers : List ℕ) (left rest : ℕ)
+    (c : Command)
     (h : Answer) → Rises false s x n gs left → Sends Hunting n k s c → Rises true (next_stage s c h) x n (row_after Everyone c 0 gs numbers) rest
     → AreTabled before (to_come s n k.enrolled) gs → AreTabled before (to_come (next_stage s c h) n k.enrolled) (row_after Everyone c 0 gs numbers)
 rising_tabled before s k x n gs numbers left rest c h v is next tabled =

@@ -435,7 +435,7 @@ opened_next Hunting n k s t c hunt is = stays_opened t
 opened_next Visiting n k s t c hunt is = stays_opened t
 opened_next _ n k s t c hunt is = absurd hunt
 
-abbrev HuntedTo : Purpose → Way → Stage → Kept → Shorts → Bool → Search → SearchAddress → Begun → List Gear → List ℕ → ℕ → Command → Answer → Type 0
+abbrev HuntedTo : Purpose → Way → Stage → Kept → Shorts → Bool → Ascent → SearchAddress → Begun → List Gear → List ℕ → ℕ → Command → Answer → Type 0
 HuntedTo p y s k heard opened x n start gs numbers left c h =
     (l : ℕ) × (left ≡ suc l) × Hunts true p y (next_stage s c h) k heard opened x n start (row_after Everyone c 0 gs numbers) l
 
@@ -470,7 +470,8 @@ least_by : (t : Stage) (n : SearchAddress) (hs : List Gear) → ((m : ℕ) → w
 least_by (stage.Withdrawn q a) n hs least never = absurd (never q a refl)
 least_by _ n hs least never = least
 
-least_core : (gs hs : List Gear) (n : SearchAddress) → SameCore gs hs → ((m : ℕ) → wants gs m ≡ true → value_of n ≤ m) → (m : ℕ) → wants hs m ≡ true → value_of n ≤ m
+least_core : (gs hs : List Gear) (n : SearchAddress) → SameCore gs hs → ((m : ℕ) → wants gs m ≡ true → value_of n ≤ m) → (m : ℕ) → wants hs m ≡ true
+    → value_of n ≤ m
 least_core gs hs n same least m has = least m (sym (leaving.core_wants gs hs m same) ∙ has)
 
 least_sent : (s : Stage) (k : Kept) (x : Ascent) (n : SearchAddress) (gs : List Gear) (numbers : List ℕ) (left : ℕ) (c : Command) (h : Answer)
@@ -496,10 +497,10 @@ least_sent (stage.Programmed r a) k x n gs numbers left c h v is seek at =
 least_sent (stage.Confirmed r a) k x n gs numbers left c h v is seek at =
     subst (λ d. IsLeastAt (next_stage (stage.Confirmed r a) d h) n (row_after Everyone d 0 gs numbers)) (some_is Withdraw c is)
     (λ m has.
-        let was = withdrawing.withdrawn_wants gs numbers r m (seek r refl) has in
-        let from : value_of n ≤ m = at.least m was.0 in
-        let other : m ≡ value_of n → ⊥ = λ e. was.1 (e ∙ ap value_of (sym v.searched)) in
-        omega (arith, from, other))
+    let was = withdrawing.withdrawn_wants gs numbers r m (seek r refl) has in
+    let from : value_of n ≤ m = at.least m was.0 in
+    let other : m ≡ value_of n → ⊥ = λ e. was.1 (e ∙ ap value_of (sym v.searched)) in
+    omega (arith, from, other))
 least_sent (stage.Withdrawn r a) k x n gs numbers left c h v is seek at = absurd (cc)
 least_sent _ k x n gs numbers left c h v is seek at = absurd v.stage_is
 
@@ -577,7 +578,8 @@ hunts_sent p y s k heard opened x n start gs numbers left c h hunt v is t seek =
       done Surveying way sent.0 sent.1 (opens (those_drawn (row_after Everyone c 0 gs numbers)) sent.0
       (subst (λ hs. HuntAt true p (next_stage s c h) k (opened_after (next_stage s c h) (opened_at p s)) x n hs sent.0) row sent.2))
       (subst (λ hs. AreTabled (unseen start.gear) (to_come (next_stage s c h) n k.enrolled) hs) row names)
-      (subst (λ m. v.rest + surplus p + (111 * m + 10 + spare start.any) ≤ left) (sym (lost_same c gs numbers (searching_of gs c by) (still_of gs c by))) enough)
+      (subst (λ m. v.rest + surplus p + (111 * m + 10 + spare start.any) ≤ left) (sym (lost_same c gs numbers (searching_of gs c by) (still_of gs c by)))
+      enough)
 
 -- ---------------------------------------------------------------- the close
 
@@ -635,7 +637,7 @@ asked_unopened : (s : Stage) (a asked : ℕ) (gs : List Gear) → AskStage s a a
 asked_unopened stage.Opened a asked gs at = absurd at
 asked_unopened _ a asked gs at = refl
 
-abbrev pub SurveySent : Purpose → Way → Stage → Kept → Shorts → Bool → ℕ → Search → SearchAddress → ℕ → Begun → List Gear → List ℕ → ℕ → Command
+abbrev pub SurveySent : Purpose → Way → Stage → Kept → Shorts → Bool → ℕ → Ascent → SearchAddress → ℕ → Begun → List Gear → List ℕ → ℕ → Command
     → Answer → Type 0
 SurveySent p y s k heard opened asked x n from start gs numbers left c h =
     (l : ℕ) × (left ≡ suc l)

@@ -9,7 +9,6 @@ use Rattle.dali_script.specs.declared.stage.Stage.TheVariants as stage
 use Rattle.dali_script.specs.Stages.{IsTrace, stage_of}
 use Rattle.dali_script.specs.declared.orders.End.{End}
 use Rattle.dali_script.specs.declared.orders.End.TheVariants.{AllFound, BlockFull, GaveUp}
-use Rattle.dali_frame.specs.declared.frames.Answer.{Answer}
 use Rattle.dali_search.specs.declared.step.Step.TheVariants.{Again, Found as Reached}
 use Rattle.dali_search.specs.Least.{Gives}
 use Rattle.dali_search.specs.Ascending.{Ascent, IsAscent, Knows, asked_next, leads_to}

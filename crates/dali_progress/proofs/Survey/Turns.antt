@@ -25,6 +25,7 @@ use Rattle.dali_script.specs.declared.orders.Order.{Order}
 use Rattle.dali_script.specs.declared.orders.Order.TheVariants.{Put, Commit, Done, Halt}
 use Rattle.dali_controller.specs.declared.purpose.Purpose.TheVariants.{Asking, Waking}
 use Rattle.dali_controller.specs.declared.way.Way.TheVariants.{Surveying}
+use Rattle.dali_controller.specs.Course.{Course}
 use Rattle.dali_controller.specs.Machine.{Machine}
 use Rattle.dali_controller.specs.Next.{next_course, begins_at, beginning, asked_once}
 use Rattle.dali_controller.specs.Orders.{machine_ordered, Contradicts, AfterFinding, IsSought}
@@ -35,13 +36,14 @@ use Rattle.dali_events.specs.Wanted.{gear_of, is_wanted, is_bare, IsOpened, None
 use Rattle.dali_events.proofs.Search.Wanted as wanted
 use Rattle.dali_progress.proofs.Stands.{search_frames}
 use Rattle.dali_progress.proofs.Turns.{never_eight, has_random}
+use Rattle.dali_progress.proofs.Later.{course_stays}
 use Rattle.dali_progress.proofs.Sweep.Asked.{sending_of}
 use Rattle.dali_progress.proofs.Survey.Drawn.{those_drawn, is_lost, AreNumbered, bare_split, woken_opened, woken_none_named, tabled_drawn}
 use Rattle.dali_progress.proofs.Survey.Queried.{Holds, OneShort, IsTrue, unseen, below_next}
 use Rattle.dali_progress.proofs.Survey.Stands.{Begun, spare, wake_frames, silent_left, Sweeps, Wakes}
 use Rattle.dali_progress.proofs.Survey.Stands.{SurveyStands}
 use Rattle.dali_progress.proofs.Survey.Begins.{IsNext, calm_of, calm_ordered, turns_by, first_by}
-use Rattle.dali_progress.proofs.Survey.Begins.{begins_whole, asks_on, searches_by, own_settled}
+use Rattle.dali_progress.proofs.Survey.Begins.{begins_whole, asks_on, hunts_first, own_settled}
 
 -- A CONTROLLER THAT SURVEYS ACTS on what it was told, and what it orders goes on with the survey.
 
@@ -50,7 +52,7 @@ abbrev pub IsUncontradicted : Machine → Type 0
 IsUncontradicted t = (x : Finding) → finding_of t.trace ≡ Some x → Contradicts t.kept.enrolled (assigned x).0 (assigned x).1 → ⊥
 
 -- the finding of a transaction by its stage
-pub found_at : (start : Begun) (t : Machine) (gs : List Gear) (left : ℕ) (s : Stage) → SurveyStands start t gs left → stage_of t.trace ≡ s
+pub found_at : {told : Bool} (start : Begun) (t : Machine) (gs : List Gear) (left : ℕ) (s : Stage) → SurveyStands told start t gs left → stage_of t.trace ≡ s
     → finding_of t.trace ≡ finding_at s
 found_at start t gs left s st is = st.trace.finding ∙ ap finding_at is
 
@@ -63,14 +65,15 @@ silent_over t a b purpose at f whole =
     let sends = (sending_of (machine_ordered t (Put LATER f)) LATER f refl whole).sends in
     let here : SendsWhole t.kept t.course.number (Asking a) (stage.HighAsked b None) (command_of f) =
     subst (λ s. SendsWhole t.kept t.course.number (Asking a) s (command_of f)) at
-    (subst (λ p. SendsWhole t.kept t.course.number p (stage_of t.trace) (command_of f)) purpose sends) in
+    (subst (λ p. SendsWhole t.kept t.course.number p (stage_of t.trace) (command_of f)) purpose
+    (subst (λ (c : Course). SendsWhole t.kept c.number c.purpose (stage_of t.trace) (command_of f)) (course_stays t (stage.HighAsked b None) at tt) sends)) in
     absurd (let none : None ≡ Some (command_of f) = here.0 in cc)
 
 again_left : (asked : ℕ) → (asked == 0) ≡ false → 3 - asked ≤ silent_left asked
 again_left zero e = absurd (let none : (zero == 0) ≡ true = refl in cc)
 again_left (suc k) e = omega arith
 
-silent_turns : (start : Begun) (t : Machine) (o : Order) (a b : ℕ) (gs : List Gear) (left : ℕ) → IsGivenBy t o → SurveyStands start t gs left
+silent_turns : (start : Begun) (t : Machine) (o : Order) (a b : ℕ) (gs : List Gear) (left : ℕ) → IsGivenBy t o → SurveyStands true start t gs left
     → IsNoEnrolment t.last → t.course.purpose ≡ Asking a → stage_of t.trace ≡ stage.HighAsked b None → t.course.way ≡ Surveying → t.opened ≡ false
     → Sweeps a (stage.HighAsked b None) t.kept t.heard t.asked t.course.from start gs left → IsWhole (machine_ordered t o)
     → OneShort gs → IsTrue t.kept.enrolled gs → IsNext start (machine_ordered t o) o gs left
@@ -112,7 +115,7 @@ silent_turns start t o a b gs left g st last purpose is surveys opened v whole o
         count now some wake less enough = omega (arith, less, enough)
 
 -- three bytes told a number
-told_turns : (start : Begun) (t : Machine) (o : Order) (a b n : ℕ) (gs : List Gear) (left : ℕ) → IsGivenBy t o → SurveyStands start t gs left
+told_turns : (start : Begun) (t : Machine) (o : Order) (a b n : ℕ) (gs : List Gear) (left : ℕ) → IsGivenBy t o → SurveyStands true start t gs left
     → t.course.purpose ≡ Asking a → stage_of t.trace ≡ stage.Spelled b (Some n) → t.course.way ≡ Surveying → t.opened ≡ false
     → Sweeps a (stage.Spelled b (Some n)) t.kept t.heard t.asked t.course.from start gs left → IsKept t.kept → AreNumbered gs → OneShort gs
     → IsTrue t.kept.enrolled gs → IsUncontradicted t → IsNext start (machine_ordered t o) o gs left
@@ -182,7 +185,7 @@ told_turns start t o a b n gs left g st purpose is surveys opened v kept numbere
       let large : n < MASK24 → ⊥ = grind (arith, nat_tests, over) in
       goes o (g.followed.another b n is (λ s. large (subst (λ p. IsSought p t.course.number n) purpose s))) (none_drawn large)
 
-pub sweep_turns : (start : Begun) (t : Machine) (o : Order) (a : ℕ) (s : Stage) (gs : List Gear) (left : ℕ) → IsGivenBy t o → SurveyStands start t gs left
+pub sweep_turns : (start : Begun) (t : Machine) (o : Order) (a : ℕ) (s : Stage) (gs : List Gear) (left : ℕ) → IsGivenBy t o → SurveyStands true start t gs left
     → IsNoEnrolment t.last → t.course.purpose ≡ Asking a → stage_of t.trace ≡ s → (s ≡ stage.Free → ⊥) → t.course.way ≡ Surveying → t.opened ≡ false
     → Sweeps a s t.kept t.heard t.asked t.course.from start gs left → IsKept t.kept → AreNumbered gs → OneShort gs → IsTrue t.kept.enrolled gs
     → IsUncontradicted t → IsWhole (machine_ordered t o)
@@ -208,10 +211,11 @@ woken_over t purpose at f whole =
     let sends = (sending_of (machine_ordered t (Put LATER f)) LATER f refl whole).sends in
     let here : SendsWhole t.kept t.course.number Waking stage.Initialised (command_of f) =
     subst (λ s. SendsWhole t.kept t.course.number Waking s (command_of f)) at
-    (subst (λ p. SendsWhole t.kept t.course.number p (stage_of t.trace) (command_of f)) purpose sends) in
+    (subst (λ p. SendsWhole t.kept t.course.number p (stage_of t.trace) (command_of f)) purpose
+    (subst (λ (c : Course). SendsWhole t.kept c.number c.purpose (stage_of t.trace) (command_of f)) (course_stays t stage.Initialised at tt) sends)) in
     absurd (let none : None ≡ Some (command_of f) = here.0 in cc)
 
-pub wake_turns : (start : Begun) (t : Machine) (o : Order) (s : Stage) (gs : List Gear) (left : ℕ) → IsGivenBy t o → SurveyStands start t gs left
+pub wake_turns : (start : Begun) (t : Machine) (o : Order) (s : Stage) (gs : List Gear) (left : ℕ) → IsGivenBy t o → SurveyStands true start t gs left
     → IsNoEnrolment t.last → t.course.purpose ≡ Waking → stage_of t.trace ≡ s → (s ≡ stage.Free → ⊥) → t.course.way ≡ Surveying
     → Wakes s t.kept t.heard t.opened start gs left → IsKept t.kept → AreNumbered gs → IsWhole (machine_ordered t o)
     → IsNext start (machine_ordered t o) o gs left
@@ -225,7 +229,7 @@ wake_turns start t o stage.Initialised gs left g st last purpose is running surv
     let unnamed : NoneNamed (those_drawn gs) = woken_none_named gs v.gear in
     let split : count_by is_bare gs ≡ count_by is_bare (those_drawn gs) + count_by is_lost gs = bare_split gs in
     let count : count_by is_wanted (those_drawn gs) ≡ count_by is_bare (those_drawn gs) = wanted.wanted_count (those_drawn gs) opened unnamed in
-    searches_by start t o Surveying (search_frames (count_by is_wanted (those_drawn gs))) gs left (calm_of start t gs left st)
+    hunts_first start t o Surveying (search_frames (count_by is_wanted (those_drawn gs)) + 1) gs left (calm_of start t gs left st)
     (begins_whole t o stage.Initialised g is (λ r e. cc) (λ e. cc) (found_at start t gs left stage.Initialised st is) last
     (never_eight t.tries st.tries) (woken_over t purpose is) whole)
     (ap (begins_at t) is) surveys (λ e. cc) v.stage_is (λ e. own_settled t.kept t.heard kept.enrolled (v.settled e) (v.clear e)) v.settled opened unnamed
@@ -233,7 +237,7 @@ wake_turns start t o stage.Initialised gs left g st last purpose is running surv
     (enough (count_by is_bare gs) (count_by is_bare (those_drawn gs)) (count_by is_lost gs) (count_by is_wanted (those_drawn gs))
     (spare start.any) split count v.frames)
   where
-    enough : (bare drew lost wanted some : ℕ) → bare ≡ drew + lost → wanted ≡ drew → 111 * bare + 17 + some ≤ left + 3
-        → 111 * wanted + 5 + (111 * lost + 9 + some) ≤ left
+    enough : (bare drew lost wanted some : ℕ) → bare ≡ drew + lost → wanted ≡ drew → 111 * bare + 19 + some ≤ left + 3
+        → 111 * wanted + 5 + 1 + (111 * lost + 10 + some) ≤ left
     enough bare drew lost wanted some split count frames = omega (arith, split, count, frames)
 wake_turns start t o _ gs left g st last purpose is running surveys v kept numbered whole = absurd v.stage_is

@@ -29,7 +29,9 @@ use Rattle.dali_controller.specs.Machine.{Machine, machine_heard, asked_at, aske
 use Rattle.dali_controller.specs.Next.{next_course, begins_at, goes_on_to, asked_once, draws}
 use Rattle.dali_controller.specs.Orders.{IsAllowed, machine_ordered}
 use Rattle.dali_controller.specs.Whole.{IsWhole, IsSending, Pending, Sends}
+use Rattle.dali_progress.proofs.Later.{IsUnasked, course_stays}
 use Rattle.dali_progress.proofs.Sweep.Left.{waits, at_stage, of_purpose, of_last, beyond, left, beyond_less, waits_most, waits_least, goes_moves, Moves}
+use Rattle.dali_progress.proofs.Sweep.Left.{IsQuiet}
 
 -- A SWEEP IS BOUNDED: what each order leaves once a frame of it was heard.
 
@@ -89,6 +91,23 @@ moved_left u t n d is free moves = go moves.way where
             let some : of_last u n last ≤ u + 2 = most last in
             omega (arith, fewer, some)
 
+-- a course on which none is asked
+pub quiet_left : (u : ℕ) (t n : Machine) (d : Course) → n.course ≡ d → IsQuiet t.course d → left u n ≤ beyond u t.course.from
+quiet_left u t n d is quiet = go quiet.way where
+  none : (last : Option Order) → of_last u n last ≡ 0
+  none None = refl
+  none (Some (Put p f)) = rw (ap (λ c. c.purpose) is) (quiet.calm u n.asked (stage_of n.trace))
+  none (Some (Commit x)) = refl
+  none (Some (Done e)) = refl
+  none (Some (Halt w)) = refl
+
+  go : (d.way ≡ Drawing) ⊎ (d.way ≡ Surveying) → left u n ≤ beyond u t.course.from
+  go (inl draws) = let way : n.course.way ≡ Drawing = ap (λ c. c.way) is ∙ draws in rw way (omega arith)
+  go (inr surveys) =
+      let way : n.course.way ≡ Surveying = ap (λ c. c.way) is ∙ surveys in
+      let from : n.course.from ≡ t.course.from = ap (λ c. c.from) is ∙ quiet.from in
+      rw (way, from, none n.last) (omega arith)
+
 -- on the same course: what the outstanding frame leaves, too
 pub same_left : (u : ℕ) (t n : Machine) → n.course ≡ t.course → t.course.way ≡ Surveying → left u n ≡ beyond u t.course.from + of_last u n n.last
 same_left u t n is surveys =
@@ -120,13 +139,14 @@ asks_of k n a (stage.Unnamed r) c sends = absurd (let other = sends.0 in cc)
 asks_of k n a _ c sends = absurd (let none = sends.0 in cc)
 
 -- a machine that sends a later frame is where that frame is sent
-pub later_asks : (t : Machine) (f : Forward) (a : ℕ) (s : Stage) → t.course.purpose ≡ Asking a → stage_of t.trace ≡ s
+pub later_asks : (t : Machine) (f : Forward) (a : ℕ) (s : Stage) → t.course.purpose ≡ Asking a → stage_of t.trace ≡ s → IsUnasked s
     → IsWhole (machine_ordered t (Put LATER f))
     → Asks a s (command_of f)
-later_asks t f a s purpose at whole =
+later_asks t f a s purpose at unasked whole =
     asks_of t.kept t.course.number a s (command_of f)
     (subst (λ r. Sends t.kept t.course.number (Asking a) r (command_of f)) at
-    (subst (λ p. Sends t.kept t.course.number p (stage_of t.trace) (command_of f)) purpose whole.sends))
+    (subst (λ p. Sends t.kept t.course.number p (stage_of t.trace) (command_of f)) purpose
+    (subst (λ (c : Course). Sends t.kept c.number c.purpose (stage_of t.trace) (command_of f)) (course_stays t s at unasked) whole.sends)))
 
 -- silence is asked again with one frame less to go
 silent_less : (u k a j : ℕ) (h : Answer) → j ≡ asked_at (stage.HighAsked a (byte_heard h)) h k → (j == 0) ≡ false → waits u j + 1 ≤ waits u k
@@ -172,13 +192,14 @@ first_left u t a k h one surveys purpose at asked steady =
 
       later : (f : Forward) → (t.trace ≡ [] → ⊥) → IsWhole (machine_ordered t (Put LATER f))
           → 1 + left u (machine_ordered t (Put LATER f)) ≤ beyond u t.course.from + waits u k
-      later f running whole = go steady (later_asks t f a (stage.HighAsked a (byte_heard h)) purpose at whole) where
+      later f running whole = go steady (later_asks t f a (stage.HighAsked a (byte_heard h)) purpose at tt whole) where
         two : of_last u (machine_ordered t (Put LATER f)) (Some (Put LATER f)) ≡ 2
-        two = rw (purpose, at) refl
+        two = rw (at, purpose) refl
 
         go : (h ≡ Silence) ⊎ (3 ≤ waits u k) → Asks a (stage.HighAsked a (byte_heard h)) (command_of f)
             → 1 + left u (machine_ordered t (Put LATER f)) ≤ beyond u t.course.from + waits u k
-        go (inr enough) asks = rw (same_left u t (machine_ordered t (Put LATER f)) refl surveys, two) (omega (arith, enough))
+        go (inr enough) asks =
+            rw (same_left u t (machine_ordered t (Put LATER f)) (course_stays t (stage.HighAsked a (byte_heard h)) at tt) surveys, two) (omega (arith, enough))
         go (inl silent) (inl other) = absurd (let never = other.0 in cc)
         go (inl silent) (inr (inl (b, x, same, c, here))) =
             absurd (let none : stage.HighAsked a None ≡ stage.HighAsked b (Some x) = ap (λ r. stage.HighAsked a (byte_heard r)) (sym silent) ∙ same in cc)
@@ -186,9 +207,10 @@ first_left u t a k h one surveys purpose at asked steady =
 
 -- a later query was heard: more of the transaction follows, or another begins
 over_left : (u : ℕ) (t : Machine) (a r : ℕ) (s : Stage) → 1 ≤ r → t.course.way ≡ Surveying → t.course.purpose ≡ Asking a → stage_of t.trace ≡ s
+    → IsUnasked s
     → begins_at t s ≡ goes_on_to t → ((c : Command) → Asks a s c → at_stage u t.asked s + 1 ≤ r)
     → (o : Order) → IsAllowed t o → IsWhole (machine_ordered t o) → 1 + left u (machine_ordered t o) ≤ beyond u t.course.from + r
-over_left u t a r s one surveys purpose at over more =
+over_left u t a r s one surveys purpose at unasked over more =
     by_order t (λ o. IsWhole (machine_ordered t o) → 1 + left u (machine_ordered t o) ≤ beyond u t.course.from + r) first later
     (λ x whole. rest (machine_ordered t (Commit x)) refl refl) (λ e whole. rest (machine_ordered t (Done e)) refl refl)
     (λ w whole. rest (machine_ordered t (Halt w)) refl refl) where
@@ -205,9 +227,10 @@ over_left u t a r s one surveys purpose at over more =
       later : (f : Forward) → (t.trace ≡ [] → ⊥) → IsWhole (machine_ordered t (Put LATER f))
           → 1 + left u (machine_ordered t (Put LATER f)) ≤ beyond u t.course.from + r
       later f running whole =
-          let here : of_last u (machine_ordered t (Put LATER f)) (Some (Put LATER f)) ≡ at_stage u t.asked s = rw (purpose, at) refl in
-          let fewer : at_stage u t.asked s + 1 ≤ r = more (command_of f) (later_asks t f a s purpose at whole) in
-          rw (same_left u t (machine_ordered t (Put LATER f)) refl surveys, here) (omega (arith, fewer))
+          let here : of_last u (machine_ordered t (Put LATER f)) (Some (Put LATER f)) ≡ at_stage u t.asked s =
+          rw (course_stays t s at unasked, purpose, at) refl in
+          let fewer : at_stage u t.asked s + 1 ≤ r = more (command_of f) (later_asks t f a s purpose at unasked whole) in
+          rw (same_left u t (machine_ordered t (Put LATER f)) (course_stays t s at unasked) surveys, here) (omega (arith, fewer))
 
 pub self : (b : ℕ) → (b == b) ≡ true
 self b = grind (arith, nat_tests)
@@ -249,11 +272,11 @@ sent_left u m h p f a one surveys purpose last whole steady o may after =
           rw free (first_left u (machine_heard m (Some f) h) a m.asked h one surveys purpose (at ∙ next) silent steady o may after)
       go (inr (inl (b, x, same, middle, one_asked))) =
           let next : next_stage (stage_of m.trace) (command_of f) h ≡ stage.MiddleAsked b (bytes_heard (Some x) h) = rw (same, middle, self b) refl in
-          rw same (over_left u (machine_heard m (Some f) h) a 2 (stage.MiddleAsked b (bytes_heard (Some x) h)) (omega arith) surveys purpose (at ∙ next) refl
+          rw same (over_left u (machine_heard m (Some f) h) a 2 (stage.MiddleAsked b (bytes_heard (Some x) h)) (omega arith) surveys purpose (at ∙ next) tt refl
           (λ c asks. omega arith) o may after)
       go (inr (inr (b, x, same, low, one_asked))) =
           let next : next_stage (stage_of m.trace) (command_of f) h ≡ stage.Spelled b (number_heard (Some x) h) = rw (same, low, self b) refl in
-          rw same (over_left u (machine_heard m (Some f) h) a 1 (stage.Spelled b (number_heard (Some x) h)) (omega arith) surveys purpose (at ∙ next) refl
+          rw same (over_left u (machine_heard m (Some f) h) a 1 (stage.Spelled b (number_heard (Some x) h)) (omega arith) surveys purpose (at ∙ next) tt refl
           (λ c asks. absurd (never asks)) o may after) where
             never : {n : Option ℕ} {c : Command} → Asks a (stage.Spelled b n) c → ⊥
             never (inl is) = let other = is.0 in cc

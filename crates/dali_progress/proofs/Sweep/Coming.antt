@@ -33,12 +33,13 @@ use Rattle.dali_controller.specs.Course.{Course, number_at, is_asked, asked_amon
 use Rattle.dali_controller.proofs.Courses.{found_number}
 use Rattle.dali_controller.proofs.Given.{unwarranted}
 use Rattle.dali_controller.specs.Machine.{Machine, at_first, machine_told, machine_heard, machine_committed, asked_at, asked_after, asked_after_silence}
-use Rattle.dali_controller.specs.Next.{next_course, begins_at, goes_on_to, at_rest, asked_once}
+use Rattle.dali_controller.specs.Next.{next_course, begins_at, goes_on_to, at_rest, asked_once, course_on}
 use Rattle.dali_controller.specs.Orders.{IsGiven, IsAllowed, MayCommit, machine_after, machine_ordered}
 use Rattle.dali_controller.specs.Whole.{IsWhole, IsReady, IsSending, Pending, Sends, Knows}
 use Rattle.dali_progress.specs.Surveyed.{Step, IsTaken, IsCourse, IsPlain, ArePlain, stage_told}
 use Rattle.dali_progress.specs.Swept.{IsSurveyed, BeginsBySurvey, AreWhole}
 use Rattle.dali_progress.proofs.Accounted.{unreserved}
+use Rattle.dali_progress.proofs.Later.{IsUnasked, stays_at}
 use Rattle.dali_progress.proofs.Sweep.Asked.{by_order, Asks, asks_of, self, sending_of}
 use Rattle.dali_progress.proofs.Sweep.Course.{IsAlone, alone_after, put_is, commit_is, started, runs_after}
 
@@ -149,7 +150,7 @@ pub record Sweeping (m : Machine) (b : ℕ) : Type 0 where
 
 pub sweeping_ready : (m : Machine) (b : ℕ) → m.course.purpose ≡ Asking b → IsReady m → Sweeping m b
 sweeping_ready m b purpose ready =
-    let knows = subst (λ q. Knows m.course.way m.kept m.course.number m.course.search m.opened q) purpose ready.knows in
+    let knows = subst (λ q. Knows m.course.way m.kept m.course.number m.course.search m.course.ascent m.opened q) purpose ready.knows in
     record { way = knows.1; opened = knows.0 }
 
 pub storing_of : (m : Machine) (x : Record) → m.last ≡ Some (Commit x) → IsWhole m → IsReady m
@@ -221,11 +222,16 @@ abbrev pub StaysOrGoes : Machine → Type 0
 StaysOrGoes t = (next_course t ≡ t.course) ⊎ (next_course t ≡ goes_on_to t)
 
 -- an address that comes later
-pub ahead : (t : Machine) (a b : ℕ) → a < 64 → t.course.purpose ≡ Asking b → t.course.way ≡ Surveying → t.opened ≡ false → t.course.from ≤ a → StaysOrGoes t
+pub ahead : (t : Machine) (a b : ℕ) → a < 64 → t.course.purpose ≡ Asking b → t.course.way ≡ Surveying → t.opened ≡ false → t.course.from ≤ a
+    → IsUnasked (stage_of t.trace) → StaysOrGoes t
     → (o : Order) → IsAllowed t o → IsEnded (machine_ordered t o) ⊎ (IsTabled (machine_ordered t o) a ⊎ IsToCome (machine_ordered t o) a)
-ahead t a b small purpose surveys opened low next =
+ahead t a b small purpose surveys opened low unasked next =
     by_order t (λ o. IsEnded (machine_ordered t o) ⊎ (IsTabled (machine_ordered t o) a ⊎ IsToCome (machine_ordered t o) a)) (λ f. first f next)
-    (λ f running. inr (inr (b, purpose, inl low))) (λ x. inr (inr (b, purpose, inl low))) (λ e. inl (inl (e, refl))) (λ w. inl (inr (w, refl))) where
+    (λ f running. inr (inr (b, ap (λ c. c.purpose) stays ∙ purpose, inl (subst (λ (c : Course). c.from ≤ a) (sym stays) low))))
+    (λ x. inr (inr (b, purpose, inl low))) (λ e. inl (inl (e, refl))) (λ w. inl (inr (w, refl))) where
+      stays : course_on t (stage_of t.trace) ≡ t.course
+      stays = stays_at t (stage_of t.trace) unasked
+
       first : (f : Forward) → StaysOrGoes t
           → IsEnded (machine_ordered t (Put FIRST f)) ⊎ (IsTabled (machine_ordered t (Put FIRST f)) a ⊎ IsToCome (machine_ordered t (Put FIRST f)) a)
       first f (inl same) = inr (inr (b, ap (λ c. c.purpose) same ∙ purpose, inl (subst (λ (c : Course). c.from ≤ a) (sym same) low)))
@@ -357,6 +363,15 @@ begins_by_stage t b h m hears = go hears.at where
   go (inr (inl is)) = inr (ap (begins_at t) is.1)
   go (inr (inr is)) = inr (ap (begins_at t) is.1)
 
+hears_unasked : (m t : Machine) (b : ℕ) (h : Answer) → Hearing m t b h → IsUnasked (stage_of t.trace)
+hears_unasked m t b h hears = go hears.at where
+  go : ((stage_of t.trace ≡ stage.HighAsked b (byte_heard h)) × (t.asked ≡ asked_at (stage.HighAsked b (byte_heard h)) h m.asked))
+      ⊎ (((y : Option (ℕ × ℕ)) × (stage_of t.trace ≡ stage.MiddleAsked b y)) ⊎ ((y : Option ℕ) × (stage_of t.trace ≡ stage.Spelled b y)))
+      → IsUnasked (stage_of t.trace)
+  go (inl is) = subst IsUnasked (sym is.0) tt
+  go (inr (inl is)) = subst IsUnasked (sym is.1) tt
+  go (inr (inr is)) = subst IsUnasked (sym is.1) tt
+
 -- while another one is asked
 heard_next : (m : Machine) (h : Answer) (o : Order) (a b p : ℕ) (f : Forward) → a < 64 → m.course.purpose ≡ Asking b → m.last ≡ Some (Put p f)
     → IsGiven m (input.Heard h) o → IsWhole m → ((m.course.from ≤ a) ⊎ ((b ≡ a) × ((x : Record) → m.last ≡ Some (Commit x) → ⊥)))
@@ -364,7 +379,8 @@ heard_next : (m : Machine) (h : Answer) (o : Order) (a b p : ℕ) (f : Forward) 
 heard_next m h o a b p f small purpose last given whole (inr (here, none)) = inl (h, refl, here)
 heard_next m h o a b p f small purpose last given whole (inl low) =
     inr (subst (λ t. IsEnded (machine_ordered t o) ⊎ (IsTabled (machine_ordered t o) a ⊎ IsToCome (machine_ordered t o) a)) (sym told)
-    (ahead (machine_heard m (Some f) h) a b small purpose sweeps.way hears.opened low (begins_by_stage (machine_heard m (Some f) h) b h m hears) o
+    (ahead (machine_heard m (Some f) h) a b small purpose sweeps.way hears.opened low (hears_unasked m (machine_heard m (Some f) h) b h hears)
+    (begins_by_stage (machine_heard m (Some f) h) b h m hears) o
     (subst (λ t. IsAllowed t o) told given.answered.allowed))) where
       told : machine_told m (input.Heard h) ≡ machine_heard m (Some f) h
       told = ap (λ l. machine_heard m (frame_put l) h) last
@@ -397,7 +413,7 @@ lost_next m t o a b p f small purpose last whole course same_last opened free ma
       → IsEnded (machine_ordered t o) ⊎ (IsTabled (machine_ordered t o) a ⊎ IsToCome (machine_ordered t o) a)
   go (inl low) =
       ahead t a b small asks (ap (λ c. c.way) course ∙ sweeps.way) (opened ∙ sweeps.opened) (subst (λ (c : Course). c.from ≤ a) (sym course) low)
-      (inl same) o may
+      (subst IsUnasked (sym at) tt) (inl same) o may
   go (inr (here, none)) =
       by (again t a b stage.Free asks here same at (λ n e. cc) (ap finding_of free ∙ none_found)
       (λ c n e. let other : Some (Put p f) ≡ Some (Commit (Enrol c n)) = sym last ∙ (sym same_last ∙ e) in cc)
@@ -416,7 +432,8 @@ kept_next : (m : Machine) (x : Record) (o : Order) (a b : ℕ) → a < 64 → m.
     ⊎ (IsTabled (machine_ordered (machine_committed m (Some x)) o) a ⊎ IsToCome (machine_ordered (machine_committed m (Some x)) o) a)
 kept_next m x o a b small purpose last whole free unreserved may (inr (here, none)) = absurd (none x last)
 kept_next m x o a b small purpose last whole free unreserved may (inl low) =
-    ahead (machine_committed m (Some x)) a b small purpose sweeps.way sweeps.opened low (inr (ap (begins_at (machine_committed m (Some x))) at
+    ahead (machine_committed m (Some x)) a b small purpose sweeps.way sweeps.opened low (subst IsUnasked (sym at) tt)
+    (inr (ap (begins_at (machine_committed m (Some x))) at
     ∙ ap (at_rest (machine_committed m (Some x))) last ∙ goes x unreserved)) o may where
       sweeps : Sweeping m b
       sweeps = sweeping_ready m b purpose (storing_of m x last whole)

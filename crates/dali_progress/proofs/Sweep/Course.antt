@@ -185,7 +185,8 @@ unasked : (m : Machine) (p : ℕ) (f : Forward) (h : Answer) → (m.course.way �
 unasked m p f h other last whole = go (asking_or m.course.purpose) where
   go : ((a : ℕ) × (m.course.purpose ≡ Asking a)) ⊎ Rests m.course.purpose → was_sent (input.Heard h) m.course.purpose ≡ 0
   go (inl (a, is)) =
-      absurd (other (subst (λ q. Knows m.course.way m.kept m.course.number m.course.search m.opened q) is (sending_of m p f last whole).ready.knows).1)
+      absurd (other (subst (λ q. Knows m.course.way m.kept m.course.number m.course.search m.course.ascent m.opened q) is
+      (sending_of m p f last whole).ready.knows).1)
   go (inr calm) = calm.1 h
 
 other_counts : (u : ℕ) (m : Machine) (i : Input) (o : Order) → (m.course.way ≡ Surveying → ⊥) → (m.last ≡ None → ⊥) → accepts (due_after m.last) i ≡ true

@@ -14,17 +14,19 @@ use Rattle.dali_script.specs.declared.orders.Order.{Order}
 use Rattle.dali_script.specs.declared.orders.Order.TheVariants.{Put, Commit, Done, Halt}
 use Rattle.dali_script.specs.declared.orders.End.{End}
 use Rattle.dali_script.specs.declared.orders.End.TheVariants.{AllFound, BlockFull, GaveUp}
+use Rattle.dali_search.specs.declared.step.Step.{Step}
 use Rattle.dali_search.specs.declared.step.Step.TheVariants.{Again, Found, Nobody}
 use Rattle.dali_search.specs.Least.{answered}
+use Rattle.dali_search.specs.Ascending.{leads_to}
 use Rattle.dali_controller.specs.declared.purpose.Purpose.{Purpose}
 use Rattle.dali_controller.specs.declared.purpose.Purpose.TheVariants.{Asking}
 use Rattle.dali_controller.specs.declared.way.Way.{Way}
 use Rattle.dali_controller.specs.declared.way.Way.TheVariants.{Fresh, Surveying, Drawing}
 use Rattle.dali_controller.specs.Course.{Course, address_for, is_asked, asked_among, next_asked, is_yes, closing, going_on, going_on_early}
-use Rattle.dali_controller.specs.Course.{ask_or_wake}
+use Rattle.dali_controller.specs.Course.{ask_or_wake, hunting_first, hunting_on, searching_first, searching_on, hunted, missed}
 use Rattle.dali_controller.specs.Machine.{Machine}
 use Rattle.dali_controller.specs.Next.{begins_at, goes_on_to, at_rest, asked_once, probed_to, draw_or_close, draws, silenced}
-use Rattle.dali_controller.specs.Next.{unanswered}
+use Rattle.dali_controller.specs.Next.{unanswered, hunted_in, hunted_to, goes_on_anew}
 
 -- A SWEEP IS BOUNDED: by how many of its frames may still be sent, which each of them makes fewer. What may still be sent, and
 -- that a transaction that begins never makes it more. `u` is 3 where whoever is there may be silent twice and answer then, and 1
@@ -115,7 +117,7 @@ asks_next k c is = go (next_asked k c.from) (asked_within k (64 - c.from) c.from
       record { way = inr is; on = inr (omega (arith, low), omega (arith, low, high)) }
 
 going_moves : (k : Kept) (opened : Bool) (c : Course) → c.way ≡ Surveying → Moves c (going_on k opened c)
-going_moves k true c is = quiet c (going_on k true c) is refl refl (λ u n s. refl)
+going_moves k true c is = subst (λ y. Moves c (searching_on y c)) (sym is) (quiet c (hunting_on c) is refl refl (λ u n s. refl))
 going_moves k false c is = subst (λ y. Moves c (going_on_early k y c)) (sym is) (asks_next k c is)
 
 pub goes_moves : (t : Machine) → t.course.way ≡ Surveying → Moves t.course (goes_on_to t)
@@ -134,11 +136,35 @@ probed_moves t h is = go (answered t.course.search (is_yes h)) where
     by (Found r) = quiet t.course (probed_to t (Found r) (record t.course { search = s })) is refl refl (λ u n s. refl)
     by Nobody = closes_moves (draws t) t.course (record t.course { search = s }) AllFound is refl refl
 
+-- in a hunt none is asked
+pub record IsQuiet (c d : Course) : Type 0 where
+  pub way : (d.way ≡ Drawing) ⊎ (d.way ≡ Surveying)
+  pub from : d.from ≡ c.from
+  pub calm : (u k : ℕ) (s : Stage) → of_purpose u k d.purpose s ≡ 0
+
+pub hunted_quiet : (t : Machine) (h : Answer) → t.course.way ≡ Surveying → IsQuiet t.course (hunted_in t h)
+hunted_quiet t h is = go (leads_to (hunted t.course h).ascent) where
+  closes : (b : Bool) → IsQuiet t.course (draw_or_close b (hunted t.course h) AllFound)
+  closes true = record { way = inl refl; from = refl; calm = λ u k s. refl }
+  closes false = record { way = inr is; from = refl; calm = λ u k s. refl }
+
+  go : (x : Step) → IsQuiet t.course (hunted_to t x (hunted t.course h))
+  go Again = record { way = inr is; from = refl; calm = λ u k s. refl }
+  go (Found r) = record { way = inr is; from = refl; calm = λ u k s. refl }
+  go Nobody = closes (draws t)
+
+hunted_moves : (t : Machine) (h : Answer) → t.course.way ≡ Surveying → Moves t.course (hunted_in t h)
+hunted_moves t h is = let still = hunted_quiet t h is in record { way = still.way; on = inl (still.from, still.calm) }
+
+first_moves : (t : Machine) → t.course.way ≡ Surveying → Moves t.course (searching_first t.course.way t.course)
+first_moves t is =
+    subst (λ y. Moves t.course (searching_first y t.course)) (sym is) (quiet t.course (hunting_first t.course) is refl refl (λ u k s. refl))
+
 silenced_moves : (t : Machine) → t.course.way ≡ Surveying → Moves t.course (silenced t)
 silenced_moves t is = go (t.silent == 16) where
-  go : (b : Bool) → Moves t.course (if b then closing t.course GaveUp else goes_on_to t)
+  go : (b : Bool) → Moves t.course (if b then closing t.course GaveUp else goes_on_anew t)
   go true = quiet t.course (closing t.course GaveUp) is refl refl (λ u n s. refl)
-  go false = goes_moves t is
+  go false = let moved = going_moves t.kept t.opened (missed t.course) is in record { way = moved.way; on = moved.on }
 
 unanswered_moves : (t : Machine) (r : SearchAddress) (opened : Bool) (o : Option ℕ) → t.course.way ≡ Surveying → Moves t.course (unanswered t r opened o)
 unanswered_moves t r false (Some a) is = quiet t.course (unanswered t r false (Some a)) is refl refl (λ u n s. refl)
@@ -163,10 +189,11 @@ once_moves t false is = inl refl
 
 pub begins_moves : (t : Machine) (s : Stage) → t.course.way ≡ Surveying → StaysOrMoves t.course (begins_at t s)
 begins_moves t stage.Free is = rest_moves t t.last is
-begins_moves t stage.Opened is = inr (quiet t.course (begins_at t stage.Opened) is refl refl (λ u k s. refl))
-begins_moves t stage.Initialised is = inr (quiet t.course (begins_at t stage.Initialised) is refl refl (λ u k s. refl))
+begins_moves t stage.Opened is = inr (first_moves t is)
+begins_moves t stage.Initialised is = inr (first_moves t is)
 begins_moves t (stage.HighAsked a high) is = once_moves t (t.asked == 0) is
 begins_moves t (stage.Probed r h) is = inr (probed_moves t h is)
+begins_moves t (stage.Hunted r (Some h) left) is = inr (hunted_moves t h is)
 begins_moves t (stage.Unnamed r) is = inr (closes_moves (draws t) t.course t.course BlockFull is refl refl)
 begins_moves t (stage.Unanswered r) is = inr (unanswered_moves t r t.opened (address_for t.kept.reserved (value_of r)) is)
 begins_moves t (stage.Inconclusive r other) is = inr (silenced_moves t is)

@@ -18,6 +18,8 @@ use Rattle.dali_script.specs.declared.orders.Order.{Order}
 use Rattle.dali_script.specs.declared.orders.Order.TheVariants.{Put, Commit, Done, Halt}
 use Rattle.dali_script.specs.declared.orders.End.{End}
 use Rattle.dali_script.specs.declared.orders.End.TheVariants.{AllFound, BlockFull, GaveUp}
+use Rattle.dali_search.specs.declared.step.Step.{Step}
+use Rattle.dali_search.specs.Ascending.{leads_to}
 use Rattle.dali_search.specs.declared.step.Step.TheVariants.{Again, Found, Nobody}
 use Rattle.dali_search.specs.Least.{answered}
 use Rattle.dali_controller.specs.declared.purpose.Purpose.{Purpose}
@@ -25,16 +27,17 @@ use Rattle.dali_controller.specs.declared.purpose.Purpose.TheVariants.{Opening, 
 use Rattle.dali_controller.specs.declared.way.Way.{Way}
 use Rattle.dali_controller.specs.declared.way.Way.TheVariants.{Fresh, Surveying, Drawing}
 use Rattle.dali_controller.specs.Course.{Course, address_for, next_asked, is_yes, closing, going_on, going_on_early}
-use Rattle.dali_controller.specs.Course.{ask_or_wake}
+use Rattle.dali_controller.specs.Course.{ask_or_wake, searching_on, searching_first, hunted, missed}
 use Rattle.dali_controller.specs.Course.{next_unfinished, visit_or_opening}
 use Rattle.dali_controller.specs.Machine.{Machine}
 use Rattle.dali_controller.specs.Next.{next_course, begins_at, goes_on_to, at_rest, asked_once, probed_to, draw_or_close, draws, silenced}
-use Rattle.dali_controller.specs.Next.{unanswered}
+use Rattle.dali_controller.specs.Next.{unanswered, course_on, hunted_in, hunted_to, goes_on_anew}
 use Rattle.dali_controller.specs.Orders.{IsAllowed, machine_ordered}
 use Rattle.dali_progress.specs.Swept.{was_sent, was_lost}
 use Rattle.dali_progress.proofs.Sweep.Left.{at_stage, of_purpose, of_last, beyond, left_on, left, waits_most, quiet, goes_moves, StaysOrMoves, begins_moves}
+use Rattle.dali_progress.proofs.Sweep.Left.{IsQuiet, hunted_quiet}
 use Rattle.dali_progress.proofs.Sweep.Left.{Moves}
-use Rattle.dali_progress.proofs.Sweep.Asked.{by_order, moved_left, same_left}
+use Rattle.dali_progress.proofs.Sweep.Asked.{quiet_left, by_order, moved_left, same_left}
 
 -- A SWEEP IS BOUNDED: what an order leaves at every other step, and where no survey sweeps.
 
@@ -66,15 +69,31 @@ of_purpose_most : (u k : ℕ) (p : Purpose) (s : Stage) → of_purpose u k p s �
 of_purpose_most u k (Asking a) s = at_stage_most u k s
 of_purpose_most u k _ s = omega arith
 
+-- a later frame leaves the course, or it is the next question of a hunt
+abbrev StaysOrQuiet : Course → Course → Type 0
+StaysOrQuiet c d = (d ≡ c) ⊎ IsQuiet c d
+
+stays_or_quiet : (t : Machine) (s : Stage) → t.course.way ≡ Surveying → StaysOrQuiet t.course (course_on t s)
+stays_or_quiet t (stage.Hunted r (Some h) left) is = inr (hunted_quiet t h is)
+stays_or_quiet t _ is = inl refl
+
 -- whatever is ordered: no more than to one address and to those that were not looked at
 pub any_left : (u : ℕ) (t : Machine) → t.course.way ≡ Surveying → (o : Order) → IsAllowed t o → left u (machine_ordered t o) ≤ beyond u t.course.from + (u + 2)
 any_left u t surveys =
     by_order t (λ o. left u (machine_ordered t o) ≤ beyond u t.course.from + (u + 2)) first
-    (λ f running. same (machine_ordered t (Put LATER f)) refl (of_purpose_most u t.asked t.course.purpose (stage_of t.trace)))
+    (λ f running. later f (stays_or_quiet t (stage_of t.trace) surveys))
     (λ x. same (machine_ordered t (Commit x)) refl (omega arith)) (λ e. same (machine_ordered t (Done e)) refl (omega arith))
     (λ w. same (machine_ordered t (Halt w)) refl (omega arith)) where
       same : (n : Machine) → n.course ≡ t.course → of_last u n n.last ≤ u + 2 → left u n ≤ beyond u t.course.from + (u + 2)
       same n is most = rw (same_left u t n is surveys) (omega (arith, most))
+
+      later : (f : Forward) → StaysOrQuiet t.course (course_on t (stage_of t.trace))
+          → left u (machine_ordered t (Put LATER f)) ≤ beyond u t.course.from + (u + 2)
+      later f (inl is) = same (machine_ordered t (Put LATER f)) is (of_purpose_most u t.asked (course_on t (stage_of t.trace)).purpose (stage_of t.trace))
+      later f (inr quiet) =
+          let fewer : left u (machine_ordered t (Put LATER f)) ≤ beyond u t.course.from =
+          quiet_left u t (machine_ordered t (Put LATER f)) (course_on t (stage_of t.trace)) refl quiet in
+          omega (arith, fewer)
 
       first : (f : Forward) → left u (machine_ordered t (Put FIRST f)) ≤ beyond u t.course.from + (u + 2)
       first f = go (begins_moves t (stage_of t.trace) surveys) where
@@ -90,11 +109,15 @@ pub calm_left : (u : ℕ) (t : Machine) → t.course.way ≡ Surveying → ((k j
     → left u (machine_ordered t o) ≤ beyond u t.course.from
 calm_left u t surveys calm =
     by_order t (λ o. left u (machine_ordered t o) ≤ beyond u t.course.from) first
-    (λ f running. same (machine_ordered t (Put LATER f)) refl (calm u t.asked (stage_of t.trace)))
+    (λ f running. later f (stays_or_quiet t (stage_of t.trace) surveys))
     (λ x. same (machine_ordered t (Commit x)) refl refl) (λ e. same (machine_ordered t (Done e)) refl refl)
     (λ w. same (machine_ordered t (Halt w)) refl refl) where
       same : (n : Machine) → n.course ≡ t.course → of_last u n n.last ≡ 0 → left u n ≤ beyond u t.course.from
       same n is none = rw (same_left u t n is surveys, none) (omega arith)
+
+      later : (f : Forward) → StaysOrQuiet t.course (course_on t (stage_of t.trace)) → left u (machine_ordered t (Put LATER f)) ≤ beyond u t.course.from
+      later f (inl is) = same (machine_ordered t (Put LATER f)) is (rw is (calm u t.asked (stage_of t.trace)))
+      later f (inr quiet) = quiet_left u t (machine_ordered t (Put LATER f)) (course_on t (stage_of t.trace)) refl quiet
 
       first : (f : Forward) → left u (machine_ordered t (Put FIRST f)) ≤ beyond u t.course.from
       first f = go (begins_moves t (stage_of t.trace) surveys) where
@@ -139,11 +162,22 @@ way_going k Drawing c = inl refl
 abbrev KeepsWay : Course → Course → Type 0
 KeepsWay c d = (d.way ≡ c.way) ⊎ (d.way ≡ Drawing)
 
+pub way_on : (y : Way) (c : Course) → (searching_on y c).way ≡ c.way
+way_on Fresh c = refl
+way_on Surveying c = refl
+way_on Drawing c = refl
+
+pub way_first : (y : Way) (c : Course) → (searching_first y c).way ≡ c.way
+way_first Fresh c = refl
+way_first Surveying c = refl
+way_first Drawing c = refl
+
+goes_way_of : (k : Kept) (opened : Bool) (c : Course) → KeepsWay c (going_on k opened c)
+goes_way_of k true c = inl (way_on c.way c)
+goes_way_of k false c = way_going k c.way c
+
 goes_way : (t : Machine) → KeepsWay t.course (goes_on_to t)
-goes_way t = go t.opened where
-  go : (b : Bool) → KeepsWay t.course (going_on t.kept b t.course)
-  go true = inl refl
-  go false = way_going t.kept t.course.way t.course
+goes_way t = goes_way_of t.kept t.opened t.course
 
 closes_way : (b : Bool) (c d : Course) (e : End) → d.way ≡ c.way → KeepsWay c (draw_or_close b d e)
 closes_way true c d e is = inr refl
@@ -151,9 +185,9 @@ closes_way false c d e is = inl is
 
 silenced_way : (t : Machine) → KeepsWay t.course (silenced t)
 silenced_way t = go (t.silent == 16) where
-  go : (b : Bool) → KeepsWay t.course (if b then closing t.course GaveUp else goes_on_to t)
+  go : (b : Bool) → KeepsWay t.course (if b then closing t.course GaveUp else goes_on_anew t)
   go true = inl refl
-  go false = goes_way t
+  go false = goes_way_of t.kept t.opened (missed t.course)
 
 unanswered_way : (t : Machine) (r : SearchAddress) (opened : Bool) (o : Option ℕ) → KeepsWay t.course (unanswered t r opened o)
 unanswered_way t r false (Some a) = inl refl
@@ -169,6 +203,13 @@ probed_way t h r = go (answered t.course.search (is_yes h)) where
     by (Found n) = inl refl
     by Nobody = closes_way (draws t) t.course (record t.course { search = s }) AllFound refl
 
+hunted_way : (t : Machine) (h : Answer) → KeepsWay t.course (hunted_in t h)
+hunted_way t h = go (leads_to (hunted t.course h).ascent) where
+  go : (x : Step) → KeepsWay t.course (hunted_to t x (hunted t.course h))
+  go Again = inl refl
+  go (Found n) = inl refl
+  go Nobody = closes_way (draws t) t.course (hunted t.course h) AllFound refl
+
 rest_way : (t : Machine) (last : Option Order) → KeepsWay t.course (at_rest t last)
 rest_way t None = goes_way t
 rest_way t (Some (Put p f)) = inl refl
@@ -183,14 +224,19 @@ once_way t false = inl refl
 
 begins_way : (t : Machine) (s : Stage) → KeepsWay t.course (begins_at t s)
 begins_way t stage.Free = rest_way t t.last
-begins_way t stage.Opened = inl refl
-begins_way t stage.Initialised = inl refl
+begins_way t stage.Opened = inl (way_first t.course.way t.course)
+begins_way t stage.Initialised = inl (way_first t.course.way t.course)
 begins_way t (stage.HighAsked a high) = once_way t (t.asked == 0)
 begins_way t (stage.Probed r h) = probed_way t h r
+begins_way t (stage.Hunted r (Some h) left) = hunted_way t h
 begins_way t (stage.Unnamed r) = closes_way (draws t) t.course t.course BlockFull refl
 begins_way t (stage.Unanswered r) = unanswered_way t r t.opened (address_for t.kept.reserved (value_of r))
 begins_way t (stage.Inconclusive r other) = silenced_way t
 begins_way t _ = goes_way t
+
+on_way : (t : Machine) (s : Stage) → KeepsWay t.course (course_on t s)
+on_way t (stage.Hunted r (Some h) left) = begins_way t (stage.Hunted r (Some h) left)
+on_way t _ = inl refl
 
 none_left : (u : ℕ) (n : Machine) (y : Way) → (y ≡ Surveying → ⊥) → left_on u n y ≡ 0
 none_left u n Fresh other = refl
@@ -200,12 +246,18 @@ none_left u n Drawing other = refl
 -- where no survey sweeps, none will
 pub other_left : (u : ℕ) (t : Machine) → (t.course.way ≡ Surveying → ⊥) → (o : Order) → IsAllowed t o → left u (machine_ordered t o) ≡ 0
 other_left u t other =
-    by_order t (λ o. left u (machine_ordered t o) ≡ 0) first (λ f running. none_left u (machine_ordered t (Put LATER f)) t.course.way other)
+    by_order t (λ o. left u (machine_ordered t o) ≡ 0) first later
     (λ x. none_left u (machine_ordered t (Commit x)) t.course.way other) (λ e. none_left u (machine_ordered t (Done e)) t.course.way other)
     (λ w. none_left u (machine_ordered t (Halt w)) t.course.way other) where
       still : KeepsWay t.course (next_course t) → (next_course t).way ≡ Surveying → ⊥
       still (inl same) is = other (sym same ∙ is)
       still (inr drawn) is = let never : Drawing ≡ Surveying = sym drawn ∙ is in cc
+
+      later : (f : Forward) → (t.trace ≡ [] → ⊥) → left u (machine_ordered t (Put LATER f)) ≡ 0
+      later f running = none_left u (machine_ordered t (Put LATER f)) (course_on t (stage_of t.trace)).way (goes (on_way t (stage_of t.trace))) where
+        goes : KeepsWay t.course (course_on t (stage_of t.trace)) → (course_on t (stage_of t.trace)).way ≡ Surveying → ⊥
+        goes (inl same) is = other (sym same ∙ is)
+        goes (inr drawn) is = let never : Drawing ≡ Surveying = sym drawn ∙ is in cc
 
       first : (f : Forward) → left u (machine_ordered t (Put FIRST f)) ≡ 0
       first f = none_left u (machine_ordered t (Put FIRST f)) (next_course t).way (still (begins_way t (stage_of t.trace)))

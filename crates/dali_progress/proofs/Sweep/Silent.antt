@@ -68,7 +68,7 @@ came_of m t h a b p f small purpose here last hears o may whole = go hears.at wh
       which (inr more) =
           inr (inr (again t a b (stage.HighAsked b None) purpose here (ap (begins_at t) none ∙ ap (asked_once t) more) none (λ n e. cc)
           (hears.finding ∙ ap finding_at none) (λ c n e. let other : Some (Put p f) ≡ Some (Commit (Enrol c n)) = sym last ∙ (sym hears.last ∙ e) in cc)
-          (λ g running after. never (later_asks t g b (stage.HighAsked b None) purpose none after)) o may whole)) where
+          (λ g running after. never (later_asks t g b (stage.HighAsked b None) purpose none tt after)) o may whole)) where
             never : {c : Command} → Asks b (stage.HighAsked b None) c → ⊥
             never (inl is) = let other = is.0 in cc
             never (inr (inl is)) = let other = is.2 in cc

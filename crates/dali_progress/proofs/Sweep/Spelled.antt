@@ -19,6 +19,7 @@ use Rattle.dali_controller.specs.Orders.{IsGiven, machine_after, machine_ordered
 use Rattle.dali_controller.specs.Whole.{IsWhole}
 use Rattle.dali_progress.specs.Surveyed.{Step, IsTaken, IsCourse, IsPlain, ArePlain}
 use Rattle.dali_progress.specs.Swept.{IsClean, WasSpelled, IsSwept, IsNamed, BeginsBySurvey, AreWhole}
+use Rattle.dali_progress.proofs.Later.{course_stays, turn_unasked}
 use Rattle.dali_progress.proofs.Sweep.Coming.{IsTabled, IsToCome, IsEnded, Hearing, hearing_of, Looks, watched}
 use Rattle.dali_progress.proofs.Sweep.Told.{who_told}
 use Rattle.dali_progress.proofs.Accounted.{told_enrolled}
@@ -57,8 +58,12 @@ spelled_now s earlier a b p v f h byte is purpose here last given whole = by (he
       let number : (machine_told s.before (input.Heard h)).course.number ≡ s.before.course.number = ap (λ (t : Machine). t.course.number) told in
       let turns : turn_of (machine_told s.before (input.Heard h)).course.purpose (machine_told s.before (input.Heard h)).course.number
       (stage_of (machine_told s.before (input.Heard h)).trace) ≡ Some c = rw (asks, number, stage_is r at) turn in
-      subst (λ o. IsToCome (machine_ordered (machine_told s.before (input.Heard h)) o) a) (sym (given.followed.sent c turns))
-      (b, asks, inr (here, λ x e. cc))
+      subst (λ o. IsToCome (machine_ordered (machine_told s.before (input.Heard h)) o) a) (sym (given.followed.sent c turns)) (
+        b,
+        ap (λ c. c.purpose) (course_stays (machine_told s.before (input.Heard h)) r (stage_is r at) (turn_unasked (Asking b) s.before.course.number r c turn))
+            ∙ asks,
+        inr (here, λ x e. cc),
+      )
 
   by : (stage_of (machine_heard s.before (Some f) h).trace ≡ stage.HighAsked b (Some v))
       ⊎ (((y : ℕ × ℕ) × (stage_of (machine_heard s.before (Some f) h).trace ≡ stage.MiddleAsked b (Some y)))

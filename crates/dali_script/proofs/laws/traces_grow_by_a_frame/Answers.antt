@@ -1,4 +1,5 @@
-use Rattle.dali_script.proofs.Transactions.{stage_none, free_is_empty, stage_more}
+use Rattle.dali_script.proofs.Transactions.{stage_none, stage_more}
+use Rattle.dali_script.proofs.Firsts.{free_is_empty}
 use Rattle.dali_script.proofs.Found.{searched_more, asked_more, finding_more}
 use Rattle.dali_script.proofs.laws.traces_grow_by_a_frame.Goals as goal
 

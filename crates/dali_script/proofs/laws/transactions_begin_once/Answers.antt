@@ -1,4 +1,4 @@
-use Rattle.dali_script.proofs.Transactions.{first_commands, first_by, first_for_all, terminate_first, search_high_first, arc_first, random_high_first}
+use Rattle.dali_script.proofs.Firsts.{first_commands, first_by, first_for_all, terminate_first, search_high_first, arc_first, random_high_first}
 use Rattle.dali_script.proofs.laws.transactions_begin_once.Goals as goal
 
 pub returns : goal.returns

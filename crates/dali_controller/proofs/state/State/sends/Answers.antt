@@ -6,7 +6,8 @@ use Rattle.dali_controller.proofs.state.State.sends.Goals as goal
 pub returns-then-allows_by : goal.returns-then-allows_by
 returns-then-allows_by c =
     let w : Parts = (with_kept c.args.self.now c.args.kept.now) in
-    sends_allowed w.way w.kept w.number w.search w.ascent w.opened w.purpose w.trace c.args.frame c.chooses.result c.block.ensures.kept.reserved c.requires.knows
+    sends_allowed w.way w.kept w.number w.search w.ascent w.opened w.purpose w.trace c.args.frame c.chooses.result c.block.ensures.kept.reserved
+    c.requires.knows
     (c.allows_by.ensures.lawful.0 c.if-allows_by.true)
     (rw (← c.stage-stage.ensures, ← c.read-command.ensures.table) c.chooses.ensures)
 

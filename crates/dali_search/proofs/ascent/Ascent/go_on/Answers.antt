@@ -1,5 +1,5 @@
 use Rattle.std.proofs.Common.{◌≡◌, sym, ◌∙◌, ap, refl, subst}
-use Rattle.dali_search.specs.Ascending.{gone_on_from, above, leads_to}
+use Rattle.dali_search.specs.Ascending.{gone_on_from, leads_to}
 use Rattle.dali_search.specs.declared.step.Step.TheVariants.{Again, Found}
 use Rattle.dali_search.proofs.ascent.Ascent.go_on.Goals as goal
 

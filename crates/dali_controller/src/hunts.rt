@@ -1,0 +1,99 @@
+ghost use Rattle.std.specs.Prelude.{◌≡◌, true, Some, None};
+ghost use Rattle.dali_script.specs.declared.stage.Stage.TheVariants as stage;
+ghost use Rattle.dali_search.specs.declared.step.Step.TheVariants as search;
+
+use crate::moments::is_yes;
+use crate::purpose::{Purpose, bytes_to_send};
+use crate::state::State;
+use dali_frame::{Answer, SearchAddress};
+use dali_script::{Order, Records};
+use dali_search::Step;
+
+/// The moments of a hunt: question after question in one transaction, as long as it has room.
+impl State {
+    ghost use Rattle.dali_controller.specs.Parts.{with_kept, machine_with, course_of};
+    ghost use Rattle.dali_controller.specs.Whole.{IsWhole, IsSurvey};
+    ghost use Rattle.dali_controller.specs.Moments.{IsHeard, IsBetween, IsNext, Starts, AsksNext};
+    ghost use Rattle.dali_controller.specs.Course.{hunting, turn_of};
+    ghost use Rattle.dali_controller.specs.Next.{course_by, next_course, question, BeginsWith};
+    ghost use Rattle.dali_search.specs.Ascending.{leads_to};
+
+    /// The transaction that asks under the number of the search that goes up.
+    #[tactic(auto, using(crate::proofs::Steps::hunts))]
+    pub(crate) fn hunt(&mut self, kept: &Records<'_>) -> Order
+        requires between { IsBetween (with_kept self.old kept.now) }
+        requires opened { self.old.opened ≡ true }
+        requires survey { IsSurvey self.old.way }
+        requires running { leads_to self.old.ascent ≡ search.Again }
+
+        ensures starts { Starts (hunting (course_of self.old)) result (with_kept self.new kept.now) }
+        ensures next { IsNext (machine_with self.old kept.now) result (machine_with self.new kept.now) }
+        ensures whole { IsWhole (machine_with self.new kept.now) }
+    {
+        let number = SearchAddress::of(self.ascent.probe());
+        self.begin(kept, Purpose::Hunting, number)
+    }
+
+    /// COMPARE was sent in a hunt, and this was heard; so many frames may follow.
+    pub(crate) fn hunted(
+        &mut self,
+        kept: &Records<'_>,
+        sent: SearchAddress,
+        last: Option<Answer>,
+        left: u8,
+    ) -> Order
+        requires heard { IsHeard (with_kept self.old kept.now) (stage.Hunted sent last left) }
+        requires over { turn_of self.old.purpose self.old.number (stage.Hunted sent last left) ≡ None }
+
+        ensures asked { result ≡ question (next_course (machine_with self.old kept.now)) sent left }
+        ensures begins { BeginsWith (course_of self.new) result }
+        ensures course { course_of self.new ≡ course_by (machine_with self.old kept.now) result }
+        ensures next { IsNext (machine_with self.old kept.now) result (machine_with self.new kept.now) }
+        ensures whole { IsWhole (machine_with self.new kept.now) }
+    {
+        match last {
+            Some(heard) => self.answered(kept, sent, heard, left),
+            None => unreachable!(),
+        }
+    }
+
+    /// A question of a hunt was answered so.
+    fn answered(
+        &mut self,
+        kept: &Records<'_>,
+        sent: SearchAddress,
+        heard: Answer,
+        left: u8,
+    ) -> Order
+        requires { IsHeard (with_kept self.old kept.now) (stage.Hunted sent (Some heard) left) }
+
+        ensures asked { result ≡ question (next_course (machine_with self.old kept.now)) sent left }
+        ensures begins { BeginsWith (course_of self.new) result }
+        ensures course { course_of self.new ≡ course_by (machine_with self.old kept.now) result }
+        ensures next { IsNext (machine_with self.old kept.now) result (machine_with self.new kept.now) }
+        ensures whole { IsWhole (machine_with self.new kept.now) }
+    {
+        match self.ascent.answer(is_yes(heard)) {
+            Step::Again => self.ask_next(kept, sent, left),
+            Step::Found(found) => self.visit(kept, found),
+            Step::Nobody => self.nobody(kept),
+        }
+    }
+
+    /// The next question of a hunt: in the transaction that runs, where that has room for it.
+    fn ask_next(&mut self, kept: &Records<'_>, sent: SearchAddress, left: u8) -> Order
+        requires { AsksNext (with_kept self.old kept.now) sent left }
+
+        ensures asked { result ≡ question (hunting (course_of self.old)) sent left }
+        ensures course { course_of self.new ≡ hunting (course_of self.old) }
+        ensures next { IsNext (machine_with self.old kept.now) result (machine_with self.new kept.now) }
+        ensures whole { IsWhole (machine_with self.new kept.now) }
+    {
+        let number = SearchAddress::of(self.ascent.probe());
+        if bytes_to_send(number, sent) < left {
+            self.ask_on(kept, number, sent)
+        } else {
+            self.hunt(kept)
+        }
+    }
+}
