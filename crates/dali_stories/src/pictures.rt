@@ -230,6 +230,33 @@ event 444: controller 0 heard silence, done: block-full
     )
 }
 
+/// A gear that is searched by a survey: nobody under the old numbers, and two questions in the first hunt after it drew.
+const SURVEYED: &str = "site 1 0-3
+draws 123456
+survey 0
+run 212
+";
+
+#[test]
+fn a_page_says_what_a_hunt_asks(rt: HostRuntime) -> Result<(), Fail> {
+    mentions(
+        &rt,
+        SURVEYED,
+        "event 390: controller 0 heard silence, asks at priority 3 to send B1FF SEARCHADDRH
+event 392: controller 0 heard silence, asks at priority 1 to send B5FE SEARCHADDRL
+event 394: controller 0 heard silence, asks at priority 1 to send B3FF SEARCHADDRM
+event 396: controller 0 heard silence, asks at priority 1 to send A900 COMPARE
+event 398: controller 0 heard silence, asks at priority 1 to send A900 COMPARE
+event 400: controller 0 heard silence, asks at priority 3 to send A100 TERMINATE
+event 417: sent for controller 0: A900 COMPARE, heard FF
+event 418: controller 0 heard FF, asks at priority 1 to send B17F SEARCHADDRH
+event 420: controller 0 heard silence, asks at priority 1 to send B5FF SEARCHADDRL
+event 422: controller 0 heard silence, asks at priority 1 to send A900 COMPARE
+event 423: sent for controller 0: A900 COMPARE, heard FF
+",
+    )
+}
+
 #[test]
 fn a_page_shows_used_gear_from_the_start(rt: HostRuntime) -> Result<(), Fail> {
     let drawn = page(rt.alloc(), "site 2 0-3\ndraws\nused 1 9 0ABCDE\nquiet\n")?;
