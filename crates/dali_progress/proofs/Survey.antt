@@ -3,6 +3,7 @@ pub mod Drawn
 pub mod Queried
 pub mod Stands
 pub mod Rising
+pub mod Behind
 pub mod Sent
 pub mod Begins
 pub mod Turns

@@ -144,24 +144,24 @@ pub fn who_starts_alone_surveys_alone()
 {}
 
 /// A WHOLE SURVEY IS BOUNDED. On a site on which a controller is alone, with nothing on the bus, and nothing disturbs
-/// it: with n gear that have power and no short address, its survey sends at most 111 n + 211 frames, where each
+/// it: with n gear that have power and no short address, its survey sends at most 106 n + 219 frames, where each
 /// address that it has reserved is enrolled so (`settled_frames`). Three go to each of the 64 short addresses at the
 /// most: three questions where nobody answers, and the three queries of a random address where a gear does. Three wake
-/// gear, and then come a last probe of four, an opening of five, another last probe, and the close; for each of the n
-/// at most 25 probes of four frames, and 11 frames of visits.
+/// gear. Then come two searches that go up, under the old numbers and, after an opening of five, under new ones: for
+/// each of the n at most 95 frames of questions and 11 of visits, and 19 more for both, with the close.
 ///
-/// With any records it sends at most 104 more (`frames`): a gear may be found whose reservation is another's, and then
+/// With any records it sends at most 72 more (`frames`): a gear may be found whose reservation is another's, and then
 /// all draw new numbers. The gear may have short addresses from before, whoever gave them, and numbers that they drew
 /// or none. Events are no more than the other clauses say.
 pub fn a_survey_is_bounded()
     ensures frames { (s : SiteState) (c : ℕ) (es : List Event) → SurveysAlone s c → SurveyRounds s c es
-        → frames es ≤ 111 * count_by is_bare (world s).gear + 315 }
+        → frames es ≤ 106 * count_by is_bare (world s).gear + 291 }
     ensures events { (s : SiteState) (c : ℕ) (es : List Event) → SurveysAlone s c → SurveyRounds s c es
-        → length es ≤ 444 * count_by is_bare (world s).gear + 1261 }
+        → length es ≤ 424 * count_by is_bare (world s).gear + 1165 }
     ensures settled_frames { (s : SiteState) (c : ℕ) (es : List Event) → SurveysAlone s c → IsSettledAt s c
-        → SurveyRounds s c es → frames es ≤ 111 * count_by is_bare (world s).gear + 211 }
+        → SurveyRounds s c es → frames es ≤ 106 * count_by is_bare (world s).gear + 219 }
     ensures settled_events { (s : SiteState) (c : ℕ) (es : List Event) → SurveysAlone s c → IsSettledAt s c
-        → SurveyRounds s c es → length es ≤ 333 * count_by is_bare (world s).gear + 634 }
+        → SurveyRounds s c es → length es ≤ 318 * count_by is_bare (world s).gear + 658 }
 {}
 
 /// A SURVEY GOES ON OR HAS ENDED. At each moment of such a survey the controller has ended; or something is due for it
@@ -198,25 +198,25 @@ pub fn ends_of_surveys_are_true()
 {}
 
 /// A RUN AFTER A SURVEY BEGAN ENDS. On an installation with one controller that surveys alone, and that began so
-/// (`survey 0` of a script), with n gear that have power and no short address, a run of more than 444 n + 1260 rounds
+/// (`survey 0` of a script), with n gear that have power and no short address, a run of more than 424 n + 1164 rounds
 /// ends with the end of the controller, which is true; or at a call that was refused. With settled records more than
-/// 333 n + 633 are enough. A run of any length sends no more frames than the survey.
+/// 318 n + 657 are enough. A run of any length sends no more frames than the survey.
 pub fn a_run_of_a_survey_ends()
     ensures ends { (limit : ℕ) (n between : Installation) (o : Order) (sent : ℕ) (text : List ℕ) (m : Installation)
         → SurveysAlone n.site 0 → controllers n ≡ 1 → replayed.Surveys n 0 (Ok o) between
-        → 444 * count_by is_bare (world n.site).gear + 1260 < limit → Ran limit between sent text m
+        → 424 * count_by is_bare (world n.site).gear + 1164 < limit → Ran limit between sent text m
         → SurveyHasEnded n.site m.site 0 ⊎ WasRefused between sent text m }
     ensures frames { (limit : ℕ) (n between : Installation) (o : Order) (sent : ℕ) (text : List ℕ) (m : Installation)
         → SurveysAlone n.site 0 → controllers n ≡ 1 → replayed.Surveys n 0 (Ok o) between
-        → Ran limit between sent text m → sent ≤ 111 * count_by is_bare (world n.site).gear + 315 }
+        → Ran limit between sent text m → sent ≤ 106 * count_by is_bare (world n.site).gear + 291 }
     ensures settled_ends { (limit : ℕ) (n between : Installation) (o : Order) (sent : ℕ) (text : List ℕ)
         (m : Installation) → SurveysAlone n.site 0 → IsSettledAt n.site 0 → controllers n ≡ 1
-        → replayed.Surveys n 0 (Ok o) between → 333 * count_by is_bare (world n.site).gear + 633 < limit
+        → replayed.Surveys n 0 (Ok o) between → 318 * count_by is_bare (world n.site).gear + 657 < limit
         → Ran limit between sent text m → SurveyHasEnded n.site m.site 0 ⊎ WasRefused between sent text m }
     ensures settled_frames { (limit : ℕ) (n between : Installation) (o : Order) (sent : ℕ) (text : List ℕ)
         (m : Installation) → SurveysAlone n.site 0 → IsSettledAt n.site 0 → controllers n ≡ 1
         → replayed.Surveys n 0 (Ok o) between → Ran limit between sent text m
-        → sent ≤ 111 * count_by is_bare (world n.site).gear + 211 }
+        → sent ≤ 106 * count_by is_bare (world n.site).gear + 219 }
 {}
 
 /// WITH ROOM SUCH A RUN ENDS UNLESS THE NUMBERS ARE SPENT, where no gear is used, as a run of a controller that starts.
@@ -224,19 +224,19 @@ pub fn a_run_of_a_survey_with_room_ends()
     ensures room { (limit : ℕ) (n between : Installation) (o : Order) (sent : ℕ) (text : List ℕ) (m : Installation)
         → SurveysAlone n.site 0 → n.site.plan.used ≡ [] → controllers n ≡ 1
         → replayed.Surveys n 0 (Ok o) between
-        → 444 * count_by is_bare (world n.site).gear + 1260 < limit → 0 < n.site.queue
-        → length n.site.log + 444 * count_by is_bare (world n.site).gear + 1261 < n.site.room
+        → 424 * count_by is_bare (world n.site).gear + 1164 < limit → 0 < n.site.queue
+        → length n.site.log + 424 * count_by is_bare (world n.site).gear + 1165 < n.site.room
         → Ran limit between sent text m
         → SurveyHasEnded n.site m.site 0 ⊎ IsPumpRefused m.site trouble.None refusal.DrawsSpent }
     ensures settled_room { (limit : ℕ) (n between : Installation) (o : Order) (sent : ℕ) (text : List ℕ)
         (m : Installation) → SurveysAlone n.site 0 → n.site.plan.used ≡ []
         → IsSettledAt n.site 0 → controllers n ≡ 1 → replayed.Surveys n 0 (Ok o) between
-        → 333 * count_by is_bare (world n.site).gear + 633 < limit
-        → 0 < n.site.queue → length n.site.log + 333 * count_by is_bare (world n.site).gear + 634 < n.site.room
+        → 318 * count_by is_bare (world n.site).gear + 657 < limit
+        → 0 < n.site.queue → length n.site.log + 318 * count_by is_bare (world n.site).gear + 658 < n.site.room
         → Ran limit between sent text m
         → SurveyHasEnded n.site m.site 0 ⊎ IsPumpRefused m.site trouble.None refusal.DrawsSpent }
     ensures fresh { (limit : ℕ) (p : Plan) (b : Block) (between : Installation) (o : Order) (sent : ℕ) (text : List ℕ)
-        (m : Installation) → IsPlan p → p.used ≡ [] → p.blocks ≡ b ∷ [] → p.gear ≤ 128 → 333 * p.gear + 633 < limit
+        (m : Installation) → IsPlan p → p.used ≡ [] → p.blocks ≡ b ∷ [] → p.gear ≤ 128 → 318 * p.gear + 657 < limit
         → replayed.Surveys (installation_of p) 0 (Ok o) between → Ran limit between sent text m
         → SurveyHasEnded (installation_of p).site m.site 0 ⊎ IsPumpRefused m.site trouble.None refusal.DrawsSpent }
 {}
@@ -248,20 +248,20 @@ pub fn a_run_surveys()
     ensures alone { (limit : ℕ) (n between : Installation) (o : Order) (sent : ℕ) (text : List ℕ) (m : Installation)
         → SurveysAlone n.site 0 → n.site.plan.used ≡ [] → controllers n ≡ 1
         → replayed.Surveys n 0 (Ok o) between
-        → 444 * count_by is_bare (world n.site).gear + 1260 < limit → 0 < n.site.queue
-        → length n.site.log + 444 * count_by is_bare (world n.site).gear + 1261 < n.site.room
+        → 424 * count_by is_bare (world n.site).gear + 1164 < limit → 0 < n.site.queue
+        → length n.site.log + 424 * count_by is_bare (world n.site).gear + 1165 < n.site.room
         → length (world n.site).gear ≤ length (world n.site).left → Ran limit between sent text m
         → SurveyHasEnded n.site m.site 0 }
     ensures settled { (limit : ℕ) (n between : Installation) (o : Order) (sent : ℕ) (text : List ℕ) (m : Installation)
         → SurveysAlone n.site 0 → n.site.plan.used ≡ [] → IsSettledAt n.site 0 → controllers n ≡ 1
         → replayed.Surveys n 0 (Ok o) between
-        → 333 * count_by is_bare (world n.site).gear + 633 < limit → 0 < n.site.queue
-        → length n.site.log + 333 * count_by is_bare (world n.site).gear + 634 < n.site.room
+        → 318 * count_by is_bare (world n.site).gear + 657 < limit → 0 < n.site.queue
+        → length n.site.log + 318 * count_by is_bare (world n.site).gear + 658 < n.site.room
         → length (world n.site).gear ≤ length (world n.site).left → Ran limit between sent text m
         → SurveyHasEnded n.site m.site 0 }
     ensures fresh { (limit : ℕ) (p : Plan) (b : Block) (between : Installation) (o : Order) (sent : ℕ) (text : List ℕ)
         (m : Installation) → IsPlan p → p.used ≡ [] → p.blocks ≡ b ∷ [] → p.gear ≤ 128 → p.gear ≤ length p.draws
-        → 333 * p.gear + 633 < limit → replayed.Surveys (installation_of p) 0 (Ok o) between
+        → 318 * p.gear + 657 < limit → replayed.Surveys (installation_of p) 0 (Ok o) between
         → Ran limit between sent text m → SurveyHasEnded (installation_of p).site m.site 0 }
 {}
 

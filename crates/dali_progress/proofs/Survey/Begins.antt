@@ -49,7 +49,7 @@ use Rattle.dali_progress.specs.Rounds.{AreTabled}
 use Rattle.dali_progress.specs.Surveys.{IsSettled}
 use Rattle.dali_progress.proofs.Sweep.Coming.{asked_later, asked_before, unasked_enrolled}
 use Rattle.dali_script.proofs.Members.{same_member}
-use Rattle.dali_progress.proofs.Stands.{search_frames, Sends}
+use Rattle.dali_progress.proofs.Stands.{Sends}
 use Rattle.dali_progress.proofs.Later.{IsUnasked, later_leaves, turn_unasked}
 use Rattle.dali_progress.proofs.Survey.Queried.{OneShort, IsTrue, TabledBelow, unseen, below_all, below_named}
 use Rattle.dali_progress.proofs.Survey.Stands.{Begun, IsClear, wake_frames, IsOwn, searched_by, frames_after, Rises, HuntAt, Hunts, AreTaken, SurveyEnds}
@@ -108,7 +108,7 @@ pub record EnrolsHunted (start : Begun) (m : Machine) (b r : ℕ) (gs : List Gea
   pub reserved : Has m.kept.reserved (b, r)
   pub settled : start.any ≡ false → (x : Assignment) → Has m.kept.reserved x → Has m.kept.enrolled x ⊎ (x.1 ≡ r)
   pub tabled : AreTabled (unseen start.gear) ((b, r) ∷ m.kept.enrolled) (searched_by m.course.way gs)
-  pub frames : search_frames (count_by is_wanted (searched_by m.course.way gs)) + 27 + frames_after m.course.way start gs ≤ left
+  pub frames : 106 * count_by is_wanted (searched_by m.course.way gs) + 32 + frames_after m.course.way start gs ≤ left
 
 -- a reservation is to be kept, and then its gear is visited once more
 pub record ReservesHunted (start : Begun) (m : Machine) (a r : ℕ) (gs : List Gear) (left : ℕ) : Type 0 where
@@ -127,7 +127,7 @@ pub record ReservesHunted (start : Begun) (m : Machine) (a r : ℕ) (gs : List G
   pub more : ℕ
   pub count : count_by is_wanted (searched_by m.course.way gs) ≡ suc more
   pub tabled : AreTabled (unseen start.gear) m.kept.enrolled (searched_by m.course.way gs)
-  pub frames : 7 + search_frames more + 27 + frames_after m.course.way start gs ≤ left
+  pub frames : 39 + 106 * more + frames_after m.course.way start gs ≤ left
 
 abbrev pub SurveyCommits : Begun → Machine → Record → List Gear → ℕ → Type 0
 SurveyCommits start m (Enrol a r) gs left = EnrolsSwept start m a r gs left ⊎ EnrolsHunted start m a r gs left
@@ -177,6 +177,8 @@ hunts_untold p y s k heard opened x n start gs left unasked v = record {
   rest = v.rest;
   at = hunt_untold p s k (opened_at p s) x n (searched_by y gs) v.rest unasked v.at;
   tabled = v.tabled;
+  behind = v.behind;
+  behind_is = v.behind_is;
   frames = v.frames;
 }
 
@@ -335,7 +337,7 @@ asks_on start t o f gs left calm is next surveys opened asked from few settled c
 
 -- ---------------------------------------------------------------- the search that goes up
 
-no_surplus : (rest after left : ℕ) → rest + after ≤ left → rest + 0 + after ≤ left
+no_surplus : (rest after left : ℕ) → rest + after ≤ left → rest + 0 + after ≤ left + 5 * 0
 no_surplus rest after left enough = omega (arith, enough)
 
 pub hunts_by : (start : Begun) (t : Machine) (o : Order) (cs : Course) (y : Way) (rest : ℕ) (gs : List Gear) (left : ℕ) → Calm t → o ≡ beginning (next_course t)
@@ -353,6 +355,8 @@ hunts_by start t o cs y rest gs left calm is next way other opened own settled r
       rest = rest;
       at = (refl, rises);
       tabled = tabled;
+      behind = 0;
+      behind_is = refl;
       frames = no_surplus rest (frames_after y start gs) left frames;
     }))
 
@@ -366,7 +370,7 @@ pub hunts_first : (start : Begun) (t : Machine) (o : Order) (y : Way) (rest : �
     → next_course t ≡ searching_first t.course.way t.course → t.course.way ≡ y → (y ≡ Fresh → ⊥) → t.opened ≡ true
     → (start.any ≡ false → IsOwn t.kept t.heard) → (start.any ≡ false → IsSettled t.kept) → IsOpened (searched_by y gs) → NoneNamed (searched_by y gs)
     → AreTabled (unseen start.gear) t.kept.enrolled (searched_by y gs)
-    → search_frames (count_by is_wanted (searched_by y gs)) + 1 ≤ rest → rest + frames_after y start gs ≤ left → IsNext start (machine_ordered t o) o gs left
+    → 106 * count_by is_wanted (searched_by y gs) + 10 ≤ rest → rest + frames_after y start gs ≤ left → IsNext start (machine_ordered t o) o gs left
 hunts_first start t o y rest gs left calm is next way other opened own settled ready unnamed tabled enough frames =
     hunts_by start t o (record t.course { ascent = ascent_at_first }) y rest gs left calm is
     (next ∙ ap (λ z. searching_first z t.course) way ∙ first_way y t.course other) way other opened own settled
@@ -382,7 +386,7 @@ pub hunts_on : (start : Begun) (t : Machine) (o : Order) (r rest : ℕ) (gs : Li
     → next_course t ≡ goes_on_to t → (t.course.way ≡ Fresh → ⊥) → t.opened ≡ true → (start.any ≡ false → IsOwn t.kept t.heard)
     → (start.any ≡ false → IsSettled t.kept) → Above t.course.ascent r (searched_by t.course.way gs) → IsOpened (searched_by t.course.way gs)
     → NoneNamed (searched_by t.course.way gs) → AreTabled (unseen start.gear) t.kept.enrolled (searched_by t.course.way gs)
-    → search_frames (count_by is_wanted (searched_by t.course.way gs)) + 27 ≤ rest → rest + frames_after t.course.way start gs ≤ left
+    → 106 * count_by is_wanted (searched_by t.course.way gs) + 32 ≤ rest → rest + frames_after t.course.way start gs ≤ left
     → IsNext start (machine_ordered t o) o gs left
 hunts_on start t o r rest gs left calm is next other opened own settled up ready unnamed tabled enough frames =
     hunts_by start t o (record t.course { ascent = above t.course.ascent r }) t.course.way rest gs left calm is

@@ -205,7 +205,7 @@ runs_all start s c left (e ∷ es) u rounds =
 
 -- THE START
 pub starts : (any : Bool) (s : SiteState) (c : ℕ) → SurveysAlone s c → (any ≡ false → IsSettledAt s c)
-    → Runs (began_at any s) s c (111 * count_by is_bare (world s).gear + 211 + spare any)
+    → Runs (began_at any s) s c (106 * count_by is_bare (world s).gear + 219 + spare any)
 starts any s c a settled = record {
   run = a.run;
   machine = at_first c (controller_at (world s) c).records;
@@ -249,44 +249,44 @@ starts_so s c a = (
 )
 
 pub runs_after : (any : Bool) (s : SiteState) (c : ℕ) (es : List Event) → SurveysAlone s c → (any ≡ false → IsSettledAt s c) → SurveyRounds s c es
-    → RunsAll (began_at any s) s c (111 * count_by is_bare (world s).gear + 211 + spare any) es
+    → RunsAll (began_at any s) s c (106 * count_by is_bare (world s).gear + 219 + spare any) es
 runs_after any s c es a settled rounds =
-    runs_all (began_at any s) s c (111 * count_by is_bare (world s).gear + 211 + spare any) es (starts any s c a settled) rounds
+    runs_all (began_at any s) s c (106 * count_by is_bare (world s).gear + 219 + spare any) es (starts any s c a settled) rounds
 
 -- of any records
 pub unsettled : (s : SiteState) (c : ℕ) → true ≡ false → IsSettledAt s c
 unsettled s c e = absurd (cc)
 
 -- NO MORE FRAMES than these are sent
-pub bounded : (s : SiteState) (c : ℕ) (es : List Event) → SurveysAlone s c → SurveyRounds s c es → frames es ≤ 111 * count_by is_bare (world s).gear + 315
+pub bounded : (s : SiteState) (c : ℕ) (es : List Event) → SurveysAlone s c → SurveyRounds s c es → frames es ≤ 106 * count_by is_bare (world s).gear + 291
 bounded s c es a rounds = let all = runs_after true s c es a (unsettled s c) rounds in omega (arith, all.sum)
 
 pub settled_bounded : (s : SiteState) (c : ℕ) (es : List Event) → SurveysAlone s c → IsSettledAt s c → SurveyRounds s c es
-    → frames es ≤ 111 * count_by is_bare (world s).gear + 211
+    → frames es ≤ 106 * count_by is_bare (world s).gear + 219
 settled_bounded s c es a settled rounds = let all = runs_after false s c es a (λ e. settled) rounds in omega (arith, all.sum)
 
 -- and no more events come
 first_slack : (any : Bool) (s : SiteState) (c : ℕ) → SurveysAlone s c → slack_now any (world s) c ≡ 1
 first_slack any s c a = rw (a.last) refl
 
-pub few_events : (s : SiteState) (c : ℕ) (es : List Event) → SurveysAlone s c → SurveyRounds s c es → length es ≤ 444 * count_by is_bare (world s).gear + 1261
+pub few_events : (s : SiteState) (c : ℕ) (es : List Event) → SurveysAlone s c → SurveyRounds s c es → length es ≤ 424 * count_by is_bare (world s).gear + 1165
 few_events s c es a rounds =
     let all = runs_after true s c es a (unsettled s c) rounds in
     few (count_by is_bare (world s).gear) all.rest (slack_now true (world (site_after s es)) c) (slack_now true (world s) c) (length es)
     (first_slack true s c a)
     all.less
   where
-    few : (n rest x y k : ℕ) → y ≡ 1 → 4 * rest + x + k ≤ 4 * (111 * n + 211 + 104) + y → k ≤ 444 * n + 1261
+    few : (n rest x y k : ℕ) → y ≡ 1 → 4 * rest + x + k ≤ 4 * (106 * n + 219 + 72) + y → k ≤ 424 * n + 1165
     few n rest x y k one less = omega (arith, one, less)
 
 pub settled_events : (s : SiteState) (c : ℕ) (es : List Event) → SurveysAlone s c → IsSettledAt s c → SurveyRounds s c es
-    → length es ≤ 333 * count_by is_bare (world s).gear + 634
+    → length es ≤ 318 * count_by is_bare (world s).gear + 658
 settled_events s c es a settled rounds =
     let all = runs_after false s c es a (λ e. settled) rounds in
     few (count_by is_bare (world s).gear) all.rest (slack_now false (world (site_after s es)) c) (slack_now false (world s) c) (length es)
     (first_slack false s c a) all.less
   where
-    few : (n rest x y k : ℕ) → y ≡ 1 → 3 * rest + x + k ≤ 3 * (111 * n + 211 + 0) + y → k ≤ 333 * n + 634
+    few : (n rest x y k : ℕ) → y ≡ 1 → 3 * rest + x + k ≤ 3 * (106 * n + 219 + 0) + y → k ≤ 318 * n + 658
     few n rest x y k one less = omega (arith, one, less)
 
 -- ---------------------------------------------------------------- it ends, or goes on
@@ -316,7 +316,7 @@ pub goes_on : (s : SiteState) (c : ℕ) (es : List Event) → SurveysAlone s c �
 goes_on s c es a rounds =
     go (due_by (began_at true s) (world (site_after s es)) _ c all.runs.machine (controller_at (world (site_after s es)) c).last
     (controller_at (world (site_after s es)) c).told all.rest refl refl all.runs.goes.lone.moment all.runs.goes.holds) where
-      all : RunsAll (began_at true s) s c (111 * count_by is_bare (world s).gear + 211 + spare true) es
+      all : RunsAll (began_at true s) s c (106 * count_by is_bare (world s).gear + 219 + spare true) es
       all = runs_after true s c es a (unsettled s c) rounds
 
       go : ((e : End) × HasEnded (site_after s es) c e) ⊎ (IsDueIn (world (site_after s es)) c ⊎ HasNext (site_after s es)) → SurveyGoesOn (site_after s es) c

@@ -82,20 +82,22 @@ opening_turns start t o stage.Initialised gs left g st last purpose is running v
 opening_turns start t o stage.RandomisedOnce gs left g st last purpose is running v =
     turns_by start t o Opening stage.RandomisedOnce Randomise gs left g st purpose is refl tt refl
 opening_turns start t o stage.Opened gs left g st last purpose is running v =
-    go (searched_by t.course.way gs) (ap (λ y. searched_by y gs) v.way) v.at v.tabled where
-      enough : (bare rest after : ℕ) → 5 + search_frames bare ≤ rest + 5 → rest + 1 + after ≤ left → search_frames bare + 1 + 0 ≤ left
-      enough bare rest after one two = omega (arith, one, two)
+    go (searched_by t.course.way gs) (ap (λ y. searched_by y gs) v.way) v.at v.behind_is v.tabled where
+      enough : (bare rest behind after : ℕ) → 5 + search_frames bare ≤ rest + 5 → behind ≡ bare → rest + 5 + after ≤ left + 5 * behind
+          → 106 * bare + 10 + 0 ≤ left
+      enough bare rest behind after one same two = omega (arith, one, same, two)
 
-      go : (hs : List Gear) → hs ≡ gs → Opens stage.Opened true hs v.rest
+      go : (hs : List Gear) → hs ≡ gs → Opens stage.Opened true hs v.rest → v.behind ≡ count_by is_bare hs
           → AreTabled (unseen start.gear) (to_come stage.Opened t.course.number t.kept.enrolled) hs → IsNext start (machine_ordered t o) o gs left
-      go hs same at tabled =
+      go hs same at behind tabled =
           let here : Opens stage.Opened true gs v.rest = subst (λ ks. Opens stage.Opened true ks v.rest) same at in
           let count : count_by is_wanted gs ≡ count_by is_bare gs = opening.opened_count gs here.gear in
-          hunts_first start t o Drawing (search_frames (count_by is_bare gs) + 1) gs left (calm_of start t gs left st)
+          hunts_first start t o Drawing (106 * count_by is_bare gs + 10) gs left (calm_of start t gs left st)
           (given.begins_after t o stage.Opened g is tt (found_at start t gs left stage.Opened st is) last (never_eight t.tries st.tries))
           (ap (begins_at t) is) v.way (λ e. cc) v.opened_is v.own v.settled (opening.opened_is gs here.gear) (opening.opened_none_named gs here.gear)
           (subst (λ ks. AreTabled (unseen start.gear) t.kept.enrolled ks) same tabled)
-          (omega (arith, count)) (enough (count_by is_bare gs) v.rest (frames_after t.course.way start gs) here.frames v.frames)
+          (omega (arith, count)) (enough (count_by is_bare gs) v.rest v.behind (frames_after t.course.way start gs) here.frames
+          (subst (λ ks. v.behind ≡ count_by is_bare ks) same behind) v.frames)
 opening_turns start t o _ gs left g st last purpose is running v = absurd v.at.stage_is
 
 -- ---------------------------------------------------------------- a probe that was answered
@@ -168,8 +170,10 @@ search_over start t o Surveying h r room rest gs left calm asks next way other o
         at = record { stage_is = refl; gear = λ k in_row on. tt; frames = omega arith };
         tabled = whole_table;
         frames = count rest (count_by is_bare gs) (count_by is_lost gs) (spare start.any) split some enough;
+        behind = count_by is_bare gs;
+        behind_is = refl;
       }) where
-        count : (rest bare lost more : ℕ) → bare ≡ lost → 1 ≤ rest → rest + (111 * lost + 10 + more) ≤ left → 10 + 111 * bare + 1 + 0 ≤ left
+        count : (rest bare lost more : ℕ) → bare ≡ lost → 1 ≤ rest → rest + (106 * lost + 14 + more) ≤ left → 10 + 111 * bare + 5 + 0 ≤ left + 5 * bare
         count rest bare lost more split some enough = omega (arith, split, some, enough)
   go false none =
       first_by start t o (closing_by (hunted t.course h) AllFound) gs left calm
@@ -179,7 +183,7 @@ search_over start t o Surveying h r room rest gs left calm asks next way other o
         well = inr (all_taken t.kept t.heard (nothing (least_open t.kept t.heard) none), none_but gs all);
         settled = settled;
         tabled = whole_table;
-        frames = count rest (111 * count_by is_lost gs + 10 + spare start.any) some enough;
+        frames = count rest (106 * count_by is_lost gs + 14 + spare start.any) some enough;
       }) where
         nothing : (p : Option ℕ) → is_some p ≡ false → p ≡ None
         nothing None e = refl
@@ -268,6 +272,9 @@ hunting_turns start t o (stage.Hunted r (Some h) room) gs left g st purpose is r
       (ap (bytes_to_send (sought (asked_next (ascended t.course.ascent (is_yes h))))) stood
       ∙ bytes_same (asked_next (ascended t.course.ascent (is_yes h))) (asked_next t.course.ascent))
 
+  plain : (rest after behind : ℕ) → behind ≡ 0 → rest + 0 + after ≤ left + 5 * behind → rest + after ≤ left
+  plain rest after behind none enough = omega (arith, none, enough)
+
   again : (b : Bool) → questions.has_room (asking_next p.before (asked_next t.course.ascent)) (asked_next (ascended t.course.ascent (is_yes h))) ≡ b
       → leads_to (ascended t.course.ascent (is_yes h)) ≡ Again → IsNext start (machine_ordered t o) o gs left
   again true some e =
@@ -280,15 +287,15 @@ hunting_turns start t o (stage.Hunted r (Some h) room) gs left g st purpose is r
         rest = v.rest;
         at = (refl, rises_in now asking (searched_by t.course.way gs) v.rest r h room answered e stood p.stage_is.1 some);
         tabled = v.tabled;
+        behind = v.behind;
+        behind_is = v.behind_is;
         frames = v.frames;
       })
   again false none e =
       hunts_by start t o (hunted t.course h) t.course.way v.rest gs left (calm_of start t gs left st)
       (asks ∙ ap (λ c. question c r room) (next Again e) ∙ ap (asked_by t h r room) (fits ∙ none) ∙ sym (ap beginning (next Again e))) (next Again e) refl v.way
       v.opened_is v.own v.settled (rises_new now asking (searched_by t.course.way gs) v.rest answered e none) v.tabled
-      (count v.rest (frames_after t.course.way start gs) v.frames) where
-        count : (rest after : ℕ) → rest + 0 + after ≤ left → rest + after ≤ left
-        count rest after enough = omega (arith, enough)
+      (plain v.rest (frames_after t.course.way start gs) v.behind v.behind_is v.frames)
 
   go : (s : Step) → leads_to (ascended t.course.ascent (is_yes h)) ≡ s → IsNext start (machine_ordered t o) o gs left
   go Again e = again (questions.has_room asking (asked_next now)) refl e
@@ -326,17 +333,18 @@ hunting_turns start t o (stage.Hunted r (Some h) room) gs left g st purpose is r
           },
         );
         tabled = v.tabled;
-        frames = count v.rest (search_frames there.more) (frames_after t.course.way start gs) there.frames v.frames;
+        behind = there.more;
+        behind_is = there.count;
+        frames = count v.rest there.more (frames_after t.course.way start gs) there.frames
+            (plain v.rest (frames_after t.course.way start gs) v.behind v.behind_is v.frames);
       })
     where
-      count : (rest more after : ℕ) → 38 + more ≤ rest → rest + 0 + after ≤ left → 11 + more + 27 + after ≤ left
+      count : (rest more after : ℕ) → 43 + 106 * more ≤ rest → rest + after ≤ left → 11 + search_frames more + 27 + after ≤ left + 5 * more
       count rest more after need enough = omega (arith, need, enough)
   go Nobody e =
       let none = rise_nobody now asking (searched_by t.course.way gs) v.rest answered e in
       search_over start t o t.course.way h r room v.rest gs left (calm_of start t gs left st) asks (next Nobody e) refl v.way v.opened_is v.own v.settled
-      none.0 v.tabled none.1 (count v.rest (frames_after t.course.way start gs) v.frames) where
-        count : (rest after : ℕ) → rest + 0 + after ≤ left → rest + after ≤ left
-        count rest after enough = omega (arith, enough)
+      none.0 v.tabled none.1 (plain v.rest (frames_after t.course.way start gs) v.behind v.behind_is v.frames)
 hunting_turns start t o _ gs left g st purpose is running v = absurd v.at.1.stage_is
 
 -- ---------------------------------------------------------------- a visit
@@ -371,7 +379,8 @@ withheld_turns : (start : Begun) (t : Machine) (o : Order) (r : SearchAddress) (
     → Has t.kept.reserved (a, value_of r) → is_anothers t.kept t.heard a (value_of r) ≡ true → o ≡ beginning (next_course t)
     → IsNext start (machine_ordered t o) o gs left
 withheld_turns start t o r a gs left g st is v has other begins =
-    go t.course.way refl v.way w.ready w.unnamed w.visited.count v.tabled v.frames where
+    go t.course.way refl v.way w.ready w.unnamed w.visited.count v.tabled
+    (near v.behind (frames_after t.course.way start gs) same_behind (enough w.frames) v.frames) where
       w : Visits (stage.Unnamed r) t.kept t.course.number (searched_by t.course.way gs) v.rest
       w = v.at.1
 
@@ -384,6 +393,14 @@ withheld_turns start t o r a gs left g st is v has other begins =
       never : start.any ≡ false → ⊥
       never e = let both : true ≡ false = sym any ∙ e in cc
 
+      same_behind : suc w.more ≡ suc v.behind
+      same_behind = sym w.visited.count ∙ v.behind_is
+
+      -- without what it is behind
+      near : (behind after : ℕ) → suc w.more ≡ suc behind → 3 + search_frames w.more ≤ v.rest → v.rest + 27 + after ≤ left + 5 * behind
+          → 35 + 106 * w.more + after ≤ left
+      near behind after same need enough = omega (arith, same, need, enough)
+
       enough : VisitFrames t.kept t.course.number w.more (v.rest + 4) → 3 + search_frames w.more ≤ v.rest
       enough (inl e) = let some : 7 + search_frames w.more ≤ v.rest + 4 = e.1 in omega (arith, some)
       enough (inr e) = omega (arith, e)
@@ -394,19 +411,19 @@ withheld_turns start t o r a gs left g st is v has other begins =
           (ap (begins_at t) is ∙ ap (λ b. draw_or_close b t.course BlockFull) none) tt
           (record { stage_is = tt; well = inr (any, (a, value_of r, has, other)); settled = λ e. absurd (never e); tabled = tabled; frames = some })
 
-      some_left : (after : ℕ) → v.rest + 27 + after ≤ left → 1 ≤ left + 0
-      some_left after frames = let need : 3 + search_frames w.more ≤ v.rest = enough w.frames in omega (arith, need, frames)
+      some_left : (after : ℕ) → 35 + 106 * w.more + after ≤ left → 1 ≤ left + 0
+      some_left after frames = omega (arith, frames)
 
       go : (y : Way) → t.course.way ≡ y → (y ≡ Fresh → ⊥) → IsOpened (searched_by y gs) → NoneNamed (searched_by y gs)
           → count_by is_wanted (searched_by y gs) ≡ suc w.more → AreTabled (unseen start.gear) t.kept.enrolled (searched_by y gs)
-          → v.rest + 27 + frames_after y start gs ≤ left → IsNext start (machine_ordered t o) o gs left
+          → 35 + 106 * w.more + frames_after y start gs ≤ left → IsNext start (machine_ordered t o) o gs left
       go Fresh way fresh ready unnamed count tabled frames = absurd (fresh refl)
       go Drawing way fresh ready unnamed count tabled frames = closes (ap (draws_by t) way) tabled (some_left 0 frames)
       go Surveying way fresh ready unnamed count tabled frames = by (has_open t) refl where
         by : (b : Bool) → has_open t ≡ b → IsNext start (machine_ordered t o) o gs left
         by false none =
             closes (ap (draws_by t) way ∙ none) (drawn_tabled (unseen start.gear) t.kept.enrolled gs tabled)
-            (some_left (111 * count_by is_lost gs + 10 + spare start.any) frames)
+            (some_left (106 * count_by is_lost gs + 14 + spare start.any) frames)
         by true open_there =
             first_by start t o (drawing t.course) gs left (calm_of start t gs left st) begins
             (ap (begins_at t) is ∙ ap (λ b. draw_or_close b t.course BlockFull) (ap (draws_by t) way ∙ open_there)) tt
@@ -418,13 +435,15 @@ withheld_turns start t o r a gs left g st is v has other begins =
               rest = 10 + 111 * count_by is_bare gs;
               at = record { stage_is = refl; gear = λ k in_row on. tt; frames = omega arith };
               tabled = drawn_tabled (unseen start.gear) t.kept.enrolled gs tabled;
-              frames = sum v.rest (count_by is_bare gs) (count_by is_bare (those_drawn gs)) (count_by is_lost gs) (count_by is_wanted (those_drawn gs)) w.more
-                  (bare_split gs) (wanted.wanted_count (those_drawn gs) ready unnamed) count (enough w.frames)
-                  (subst (λ b. v.rest + 27 + (111 * count_by is_lost gs + 10 + spare b) ≤ left) any frames);
+              behind = count_by is_bare gs;
+              behind_is = refl;
+              frames = sum (count_by is_bare gs) (count_by is_bare (those_drawn gs)) (count_by is_lost gs) (count_by is_wanted (those_drawn gs)) w.more
+                  (bare_split gs) (wanted.wanted_count (those_drawn gs) ready unnamed) count
+                  (subst (λ b. 35 + 106 * w.more + (106 * count_by is_lost gs + 14 + spare b) ≤ left) any frames);
             }) where
-              sum : (rest bare drew lost sought more : ℕ) → bare ≡ drew + lost → sought ≡ drew → sought ≡ suc more → 3 + (111 * more + 5) ≤ rest
-                  → rest + 27 + (111 * lost + 10 + 104) ≤ left → 10 + 111 * bare + 1 + 0 ≤ left
-              sum rest bare drew lost sought more split same count need frames = omega (arith, split, same, count, need, frames)
+              sum : (bare drew lost sought more : ℕ) → bare ≡ drew + lost → sought ≡ drew → sought ≡ suc more
+                  → 35 + 106 * more + (106 * lost + 14 + 72) ≤ left → 10 + 111 * bare + 5 + 0 ≤ left + 5 * bare
+              sum bare drew lost sought more split same count frames = omega (arith, split, same, count, frames)
 
 unnamed_turns : (start : Begun) (t : Machine) (o : Order) (r : SearchAddress) (gs : List Gear) (left : ℕ) → IsGivenBy t o → SurveyStands true start t gs left
     → IsKept t.kept → t.course.purpose ≡ Visiting → stage_of t.trace ≡ stage.Unnamed r
@@ -443,7 +462,10 @@ unnamed_turns start t o r gs left g st kept purpose is v =
       frames none (inl e) = absurd (none (subst (HasRandom t.kept.reserved) (sym same) e.0))
       frames none (inr e) = omega (arith, e)
 
-      some : VisitFrames t.kept t.course.number w.more (v.rest + 4) → 1 ≤ v.rest
+      same_behind : suc w.more ≡ suc v.behind
+      same_behind = sym w.visited.count ∙ v.behind_is
+
+      some : VisitFrames t.kept t.course.number w.more (v.rest + 4) → 8 + 111 * w.more ≤ v.rest
       some (inl e) = let enough : 7 + search_frames w.more ≤ v.rest + 4 = e.1 in omega (arith, enough)
       some (inr e) = omega (arith, e)
 
@@ -475,11 +497,12 @@ unnamed_turns start t o r gs left g st kept purpose is v =
           more = w.more;
           count = w.visited.count;
           tabled = v.tabled;
-          frames = count (search_frames w.more) v.rest (frames_after t.course.way start gs) (frames none w.frames) v.frames;
+          frames = count w.more v.behind v.rest (frames_after t.course.way start gs) same_behind (frames none w.frames) v.frames;
         },
       ) where
-        count : (search rest after : ℕ) → 7 + search ≤ rest → rest + 27 + after ≤ left → 7 + search + 27 + after ≤ left
-        count search rest after one two = omega (arith, one, two)
+        count : (more behind rest after : ℕ) → suc more ≡ suc behind → 7 + search_frames more ≤ rest → rest + 27 + after ≤ left + 5 * behind
+            → 39 + 106 * more + after ≤ left
+        count more behind rest after same one two = omega (arith, same, one, two)
 
       go : (given_to : Option ℕ) → MatchOption given_to (HasRandom t.kept.reserved (value_of r) → ⊥) (λ a. Has t.kept.reserved (a, value_of r))
           → (free : Option ℕ) → least_open t.kept t.heard ≡ free → AfterMaskBy t r given_to free o → IsNext start (machine_ordered t o) o gs left
@@ -506,11 +529,11 @@ unnamed_turns start t o r gs left g st kept purpose is v =
             well = inl (all_taken t.kept t.heard least);
             settled = settled none;
             tabled = names t.course.way v.way v.tabled;
-            frames = count v.rest (frames_after t.course.way start gs) (some w.frames) v.frames;
+            frames = count w.more v.behind v.rest (frames_after t.course.way start gs) same_behind (some w.frames) v.frames;
           })
         where
-          count : (rest after : ℕ) → 1 ≤ rest → rest + 27 + after ≤ left → 1 ≤ left + 0
-          count rest after one two = omega (arith, one, two)
+          count : (more behind rest after : ℕ) → suc more ≡ suc behind → 8 + 111 * more ≤ rest → rest + 27 + after ≤ left + 5 * behind → 1 ≤ left + 0
+          count more behind rest after same one two = omega (arith, same, one, two)
 
           names : (y : Way) → (y ≡ Fresh → ⊥) → AreTabled (unseen start.gear) t.kept.enrolled (searched_by y gs)
               → AreTabled (unseen start.gear) t.kept.enrolled gs
@@ -536,6 +559,13 @@ withdrawn_turns start t o r a gs left g st kept purpose is v agreed = go o g (g.
   same : value_of t.course.number ≡ value_of r
   same = ap value_of (sym w.searched)
 
+  -- the frames that are left for the search that goes on
+  ends : 106 * count_by is_wanted (searched_by t.course.way gs) + 32 + frames_after t.course.way start gs ≤ left
+  ends = go (count_by is_wanted (searched_by t.course.way gs)) (frames_after t.course.way start gs) v.behind v.behind_is.0 v.behind_is.1 v.frames where
+    go : (count after behind : ℕ) → count ≤ behind → search_frames behind ≤ v.rest → v.rest + 27 + after ≤ left + 5 * behind
+        → 106 * count + 32 + after ≤ left
+    go count after behind few enough all = omega (arith, few, enough, all)
+
   -- and who is left is above it
   up : Above t.course.ascent (value_of r) (searched_by t.course.way gs)
   up = record {
@@ -560,10 +590,10 @@ withdrawn_turns start t o r a gs left g st kept purpose is v agreed = go o g (g.
 
   go : (q : Order) → IsGivenBy t q → AfterFinding t a (value_of r) q → IsNext start (machine_ordered t q) q gs left
   go (Put p f) g has =
-      hunts_on start t (Put p f) (value_of r) (v.rest + 27) gs left (calm_of start t gs left st)
+      hunts_on start t (Put p f) (value_of r) (106 * count_by is_wanted (searched_by t.course.way gs) + 32) gs left (calm_of start t gs left st)
       (given.withdrawn_known t (Put p f) r a g is kept.enrolled has) (ap (begins_at t) is) v.way v.opened_is v.own (settled has) up w.ready w.unnamed
       (tabled_over (unseen start.gear) ((a, value_of r) ∷ t.kept.enrolled) t.kept.enrolled (searched_by t.course.way gs) (λ x h. twice x h has) tabled)
-      (let enough : search_frames (count_by is_wanted (searched_by t.course.way gs)) ≤ v.rest = w.frames in omega (arith, enough)) v.frames
+      (omega arith) ends
   go (Commit x) g has = subst (λ y. IsNext start (machine_ordered t (Commit y)) (Commit y) gs left) (sym has) (
     calm_ordered start t (Commit (Enrol a (value_of r))) gs left st,
     inr (record {
@@ -576,15 +606,12 @@ withdrawn_turns start t o r a gs left g st kept purpose is v agreed = go o g (g.
       reserved = reserved;
       settled = λ e x is. by x (v.settled e x is);
       tabled = tabled;
-      frames = count (search_frames (count_by is_wanted (searched_by t.course.way gs))) v.rest (frames_after t.course.way start gs) w.frames v.frames;
+      frames = ends;
     }),
   ) where
     by : (x : Assignment) → Has t.kept.enrolled x ⊎ (x.1 ≡ value_of t.course.number) → Has t.kept.enrolled x ⊎ (x.1 ≡ value_of r)
     by x (inl enrolled) = inl enrolled
     by x (inr number) = inr (number ∙ same)
-
-    count : (search rest after : ℕ) → search ≤ rest → rest + 27 + after ≤ left → search + 27 + after ≤ left
-    count search rest after one two = omega (arith, one, two)
   go (Done e) g has = absurd has
   go (Halt why) g has = absurd (agreed (Queried a (value_of r)) (found_at start t gs left (stage.Withdrawn r a) st is) has)
 

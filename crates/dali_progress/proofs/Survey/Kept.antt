@@ -27,7 +27,7 @@ use Rattle.dali_progress.proofs.Frames.{value_sought}
 use Rattle.dali_progress.proofs.Tables.{tabled_over}
 use Rattle.dali_progress.proofs.Turns.{never_eight, no_enrolment, has_random, entry_last, with_kept}
 use Rattle.dali_progress.proofs.Survey.Queried.{OneShort, IsTrue, unseen}
-use Rattle.dali_progress.proofs.Survey.Stands.{Begun, wake_frames, searched_by}
+use Rattle.dali_progress.proofs.Survey.Stands.{Begun, wake_frames, searched_by, frames_after}
 use Rattle.dali_progress.proofs.Survey.Begins.{Calm, EnrolsSwept, ReleasesSwept, EnrolsHunted, ReservesHunted, SurveyCommits, IsNext, first_by, asks_on}
 use Rattle.dali_progress.proofs.Survey.Begins.{hunts_on}
 use Rattle.dali_progress.proofs.Survey.Begins.{own_enrolled, own_reserved}
@@ -146,7 +146,7 @@ hunted_next : (start : Begun) (m : Machine) (b r : ℕ) (o : Order) (gs : List G
     → IsNext start (machine_ordered (with_kept m (Enrol b r)) o) o gs left
 hunted_next start m b r o gs left calm v free last map g =
     let at : stage_of m.trace ≡ stage.Free = ap stage_of free ∙ stage_none in
-    hunts_on start (with_kept m (Enrol b r)) o r (search_frames (count_by is_wanted (searched_by m.course.way gs)) + 27) gs left
+    hunts_on start (with_kept m (Enrol b r)) o r (106 * count_by is_wanted (searched_by m.course.way gs) + 32) gs left
     (record { tries = calm.tries; silent = calm.silent }) (hunted_begins start m b r o gs left v free last map g)
     (ap (begins_at (with_kept m (Enrol b r))) at ∙ ap (at_rest (with_kept m (Enrol b r))) last) v.way v.opened
     (λ e. own_enrolled m.kept m.heard b r (v.own e) (λ q has. ap (λ (x : Assignment). x.1)
@@ -209,9 +209,14 @@ reserved_next start m a r o gs left calm v free last g =
         },
       );
       tabled = v.tabled;
-      frames = v.frames;
+      behind = v.more;
+      behind_is = v.count;
+      frames = count v.more (frames_after m.course.way start gs) v.frames;
     })
   where
+    count : (more after : ℕ) → 39 + 106 * more + after ≤ left → 7 + search_frames more + 27 + after ≤ left + 5 * more
+    count more after enough = omega (arith, enough)
+
     settled : start.any ≡ false → (x : Assignment) → Has m.kept.reserved x ⊎ ((a, r) ≡ x) → Has m.kept.enrolled x ⊎ (x.1 ≡ value_of (sought r))
     settled e x (inl has) = inl (v.settled e x has)
     settled e x (inr same) = inr (sym (ap (λ (q : Assignment). q.1) same) ∙ sym (value_sought r))

@@ -131,5 +131,5 @@ pub never_spent : (s : SiteState) (c : ℕ) (es : List Event) → SurveysAlone s
 never_spent s c es alone enough rounds =
     let all = runs_after true s c es alone (unsettled s c) rounds in
     spent_never (began_at true s) (site_after s es) c all.rest all.runs
-    (draws_all (began_at true s) s c (111 * count_by is_bare (world s).gear + 211 + spare true) es (starts true s c alone (unsettled s c)) rounds
+    (draws_all (began_at true s) s c (106 * count_by is_bare (world s).gear + 219 + spare true) es (starts true s c alone (unsettled s c)) rounds
     (λ m there undrawn. enough))

@@ -85,7 +85,7 @@ pub quiet_tabled : (s : SiteState) (c : ℕ) (es : List Event) (e : End) → Sur
     → HasEnded (site_after s es) c e → WasTabled s (site_after s es) c
 quiet_tabled s c es e a rounds quiet ended =
     subst (λ (k : Kept). AreSurveyed (world s).gear k.enrolled (world (site_after s es)).gear)
-    (all_keep (began_at true s) s c (111 * count_by is_bare (world s).gear + 211 + spare true) es (starts true s c a unsettled) rounds quiet
+    (all_keep (began_at true s) s c (106 * count_by is_bare (world s).gear + 219 + spare true) es (starts true s c a unsettled) rounds quiet
     (λ x is. (let never : None ≡ Some (Commit x) = sym a.last ∙ is in cc)))
     (tabled s c es e a rounds ended)
   where

@@ -39,7 +39,7 @@ well_after s t most k f alone none few waits fits comes = subst IsWell (sym come
   fits = less (length (site_after s comes.events).log) (length s.log) (length comes.events) (site_after s comes.events).room s.room
       (log_after s comes.events) (few comes.events comes.rounds) (room_after s comes.events) fits;
 }) where
-  all : RunsAll (began_at true s) s 0 (111 * count_by is_bare (world s).gear + 211 + spare true) comes.events
+  all : RunsAll (began_at true s) s 0 (106 * count_by is_bare (world s).gear + 219 + spare true) comes.events
   all = runs_after true s 0 comes.events alone (unsettled s 0) comes.rounds
 
   less : (x y n r q : ℕ) → x ≡ y + n → n ≤ most → r ≡ q → y + most < q → x < r
@@ -82,38 +82,38 @@ refused_so most n between o sent text m alone none one stepped few waits fits r 
         (record { events = events.events; rounds = events.rounds; is = events.is; spent = pump_refused r.between.site r.refusal now.fits r.refused.0 })
 
 run_to : (limit : ℕ) (n between : Installation) (o : Order) (sent : ℕ) (text : List ℕ) (m : Installation) → SurveysAlone n.site 0
-    → n.site.plan.used ≡ [] → controllers n ≡ 1 → replayed.Surveys n 0 (Ok o) between → 444 * count_by is_bare (world n.site).gear + 1260 < limit
+    → n.site.plan.used ≡ [] → controllers n ≡ 1 → replayed.Surveys n 0 (Ok o) between → 424 * count_by is_bare (world n.site).gear + 1164 < limit
     → 0 < n.site.queue
-    → length n.site.log + 444 * count_by is_bare (world n.site).gear + 1261 < n.site.room → Ran limit between sent text m
+    → length n.site.log + 424 * count_by is_bare (world n.site).gear + 1165 < n.site.room → Ran limit between sent text m
     → SurveyHasEnded n.site m.site 0 ⊎ IsSpentOut n.site m.site
 run_to limit n between o sent text m alone none one stepped enough waits fits ran =
     go (run_ends limit n between o sent text m alone one stepped enough ran)
   where
-    both : (x g r : ℕ) → x + 444 * g + 1261 < r → x + (444 * g + 1261) < r
+    both : (x g r : ℕ) → x + 424 * g + 1165 < r → x + (424 * g + 1165) < r
     both x g r less = omega (arith, less)
 
     go : SurveyHasEnded n.site m.site 0 ⊎ WasRefused between sent text m → SurveyHasEnded n.site m.site 0 ⊎ IsSpentOut n.site m.site
     go (inl ended) = inl ended
     go (inr refused) =
-        inr (refused_so (444 * count_by is_bare (world n.site).gear + 1261) n between o sent text m alone none one stepped
+        inr (refused_so (424 * count_by is_bare (world n.site).gear + 1165) n between o sent text m alone none one stepped
         (λ es rounds. few_events n.site 0 es alone rounds) waits
         (both (length n.site.log) (count_by is_bare (world n.site).gear) n.site.room fits) refused)
 
 settled_run_to : (limit : ℕ) (n between : Installation) (o : Order) (sent : ℕ) (text : List ℕ) (m : Installation) → SurveysAlone n.site 0
     → n.site.plan.used ≡ [] → IsSettledAt n.site 0 → controllers n ≡ 1 → replayed.Surveys n 0 (Ok o) between
-    → 333 * count_by is_bare (world n.site).gear + 633 < limit
-    → 0 < n.site.queue → length n.site.log + 333 * count_by is_bare (world n.site).gear + 634 < n.site.room → Ran limit between sent text m
+    → 318 * count_by is_bare (world n.site).gear + 657 < limit
+    → 0 < n.site.queue → length n.site.log + 318 * count_by is_bare (world n.site).gear + 658 < n.site.room → Ran limit between sent text m
     → SurveyHasEnded n.site m.site 0 ⊎ IsSpentOut n.site m.site
 settled_run_to limit n between o sent text m alone none settled one stepped enough waits fits ran =
     go (settled_run_ends limit n between o sent text m alone settled one stepped enough ran)
   where
-    both : (x g r : ℕ) → x + 333 * g + 634 < r → x + (333 * g + 634) < r
+    both : (x g r : ℕ) → x + 318 * g + 658 < r → x + (318 * g + 658) < r
     both x g r less = omega (arith, less)
 
     go : SurveyHasEnded n.site m.site 0 ⊎ WasRefused between sent text m → SurveyHasEnded n.site m.site 0 ⊎ IsSpentOut n.site m.site
     go (inl ended) = inl ended
     go (inr refused) =
-        inr (refused_so (333 * count_by is_bare (world n.site).gear + 634) n between o sent text m alone none one stepped
+        inr (refused_so (318 * count_by is_bare (world n.site).gear + 658) n between o sent text m alone none one stepped
         (λ es rounds. settled_events n.site 0 es alone settled rounds) waits
         (both (length n.site.log) (count_by is_bare (world n.site).gear) n.site.room fits) refused)
 
@@ -123,17 +123,17 @@ or_spent s t (inl ended) = inl ended
 or_spent s t (inr out) = inr out.spent
 
 pub run_with_room : (limit : ℕ) (n between : Installation) (o : Order) (sent : ℕ) (text : List ℕ) (m : Installation) → SurveysAlone n.site 0
-    → n.site.plan.used ≡ [] → controllers n ≡ 1 → replayed.Surveys n 0 (Ok o) between → 444 * count_by is_bare (world n.site).gear + 1260 < limit
+    → n.site.plan.used ≡ [] → controllers n ≡ 1 → replayed.Surveys n 0 (Ok o) between → 424 * count_by is_bare (world n.site).gear + 1164 < limit
     → 0 < n.site.queue
-    → length n.site.log + 444 * count_by is_bare (world n.site).gear + 1261 < n.site.room → Ran limit between sent text m
+    → length n.site.log + 424 * count_by is_bare (world n.site).gear + 1165 < n.site.room → Ran limit between sent text m
     → SurveyHasEnded n.site m.site 0 ⊎ IsPumpRefused m.site trouble.None refusal.DrawsSpent
 run_with_room limit n between o sent text m alone none one stepped enough waits fits ran =
     or_spent n.site m.site (run_to limit n between o sent text m alone none one stepped enough waits fits ran)
 
 pub settled_run_with_room : (limit : ℕ) (n between : Installation) (o : Order) (sent : ℕ) (text : List ℕ) (m : Installation) → SurveysAlone n.site 0
     → n.site.plan.used ≡ [] → IsSettledAt n.site 0 → controllers n ≡ 1 → replayed.Surveys n 0 (Ok o) between
-    → 333 * count_by is_bare (world n.site).gear + 633 < limit
-    → 0 < n.site.queue → length n.site.log + 333 * count_by is_bare (world n.site).gear + 634 < n.site.room → Ran limit between sent text m
+    → 318 * count_by is_bare (world n.site).gear + 657 < limit
+    → 0 < n.site.queue → length n.site.log + 318 * count_by is_bare (world n.site).gear + 658 < n.site.room → Ran limit between sent text m
     → SurveyHasEnded n.site m.site 0 ⊎ IsPumpRefused m.site trouble.None refusal.DrawsSpent
 settled_run_with_room limit n between o sent text m alone none settled one stepped enough waits fits ran =
     or_spent n.site m.site (settled_run_to limit n between o sent text m alone none settled one stepped enough waits fits ran)
@@ -145,34 +145,34 @@ unspent s t alone numbers (inr out) =
     absurd (never_spent s 0 out.events alone numbers out.rounds (subst (λ x. IsPumpRefused x trouble.None refusal.DrawsSpent) out.is out.spent))
 
 pub run_surveys : (limit : ℕ) (n between : Installation) (o : Order) (sent : ℕ) (text : List ℕ) (m : Installation) → SurveysAlone n.site 0
-    → n.site.plan.used ≡ [] → controllers n ≡ 1 → replayed.Surveys n 0 (Ok o) between → 444 * count_by is_bare (world n.site).gear + 1260 < limit
+    → n.site.plan.used ≡ [] → controllers n ≡ 1 → replayed.Surveys n 0 (Ok o) between → 424 * count_by is_bare (world n.site).gear + 1164 < limit
     → 0 < n.site.queue
-    → length n.site.log + 444 * count_by is_bare (world n.site).gear + 1261 < n.site.room → length (world n.site).gear ≤ length (world n.site).left
+    → length n.site.log + 424 * count_by is_bare (world n.site).gear + 1165 < n.site.room → length (world n.site).gear ≤ length (world n.site).left
     → Ran limit between sent text m → SurveyHasEnded n.site m.site 0
 run_surveys limit n between o sent text m alone none one stepped enough waits fits numbers ran =
     unspent n.site m.site alone numbers (run_to limit n between o sent text m alone none one stepped enough waits fits ran)
 
 pub settled_run_surveys : (limit : ℕ) (n between : Installation) (o : Order) (sent : ℕ) (text : List ℕ) (m : Installation) → SurveysAlone n.site 0
     → n.site.plan.used ≡ [] → IsSettledAt n.site 0 → controllers n ≡ 1 → replayed.Surveys n 0 (Ok o) between
-    → 333 * count_by is_bare (world n.site).gear + 633 < limit
-    → 0 < n.site.queue → length n.site.log + 333 * count_by is_bare (world n.site).gear + 634 < n.site.room
+    → 318 * count_by is_bare (world n.site).gear + 657 < limit
+    → 0 < n.site.queue → length n.site.log + 318 * count_by is_bare (world n.site).gear + 658 < n.site.room
     → length (world n.site).gear ≤ length (world n.site).left → Ran limit between sent text m → SurveyHasEnded n.site m.site 0
 settled_run_surveys limit n between o sent text m alone none settled one stepped enough waits fits numbers ran =
     unspent n.site m.site alone numbers (settled_run_to limit n between o sent text m alone none settled one stepped enough waits fits ran)
 
 -- and so does a run of a new installation
-bare_enough : (p : Plan) (limit : ℕ) → 333 * p.gear + 633 < limit → 333 * count_by is_bare (world (opened_site p 64 65536)).gear + 633 < limit
+bare_enough : (p : Plan) (limit : ℕ) → 318 * p.gear + 657 < limit → 318 * count_by is_bare (world (opened_site p 64 65536)).gear + 657 < limit
 bare_enough p limit enough = more (count_by is_bare (world (opened_site p 64 65536)).gear) (bare_few p) where
-  more : (g : ℕ) → g ≤ p.gear → 333 * g + 633 < limit
+  more : (g : ℕ) → g ≤ p.gear → 318 * g + 657 < limit
   more g less = omega (arith, less, enough)
 
-bare_fits : (p : Plan) → p.gear ≤ 128 → 0 + 333 * count_by is_bare (world (opened_site p 64 65536)).gear + 634 < 65536
+bare_fits : (p : Plan) → p.gear ≤ 128 → 0 + 318 * count_by is_bare (world (opened_site p 64 65536)).gear + 658 < 65536
 bare_fits p few = fits (count_by is_bare (world (opened_site p 64 65536)).gear) (bare_few p) where
-  fits : (g : ℕ) → g ≤ p.gear → 0 + 333 * g + 634 < 65536
+  fits : (g : ℕ) → g ≤ p.gear → 0 + 318 * g + 658 < 65536
   fits g less = omega (arith, less, few)
 
 pub new_runs : (limit : ℕ) (p : Plan) (b : Block) (between : Installation) (o : Order) (sent : ℕ) (text : List ℕ) (m : Installation) → IsPlan p
-    → p.used ≡ [] → p.blocks ≡ b ∷ [] → p.gear ≤ 128 → 333 * p.gear + 633 < limit → replayed.Surveys (installation_of p) 0 (Ok o) between
+    → p.used ≡ [] → p.blocks ≡ b ∷ [] → p.gear ≤ 128 → 318 * p.gear + 657 < limit → replayed.Surveys (installation_of p) 0 (Ok o) between
     → Ran limit between sent text m
     → SurveyHasEnded (installation_of p).site m.site 0 ⊎ IsPumpRefused m.site trouble.None refusal.DrawsSpent
 new_runs limit p b between o sent text m plan factory blocks few enough stepped ran =
@@ -182,7 +182,7 @@ new_runs limit p b between o sent text m plan factory blocks few enough stepped 
     (omega arith) (bare_fits p few) ran
 
 pub new_surveys : (limit : ℕ) (p : Plan) (b : Block) (between : Installation) (o : Order) (sent : ℕ) (text : List ℕ) (m : Installation) → IsPlan p
-    → p.used ≡ [] → p.blocks ≡ b ∷ [] → p.gear ≤ 128 → p.gear ≤ length p.draws → 333 * p.gear + 633 < limit
+    → p.used ≡ [] → p.blocks ≡ b ∷ [] → p.gear ≤ 128 → p.gear ≤ length p.draws → 318 * p.gear + 657 < limit
     → replayed.Surveys (installation_of p) 0 (Ok o) between
     → Ran limit between sent text m → SurveyHasEnded (installation_of p).site m.site 0
 new_surveys limit p b between o sent text m plan factory blocks few numbers enough stepped ran =

@@ -31,7 +31,7 @@ use Rattle.dali_events.proofs.Search.Leaving as leaving
 use Rattle.dali_events.proofs.Search.Leaving.{SameCore}
 use Rattle.dali_events.proofs.Search.Wanted as wanted
 use Rattle.dali_progress.specs.Rounds.{AreTabled}
-use Rattle.dali_progress.proofs.Stands.{search_frames, to_come, Sends}
+use Rattle.dali_progress.proofs.Stands.{to_come, Sends}
 use Rattle.dali_progress.proofs.Frames.{IsTaken, Seeks, probe_says, value_sought, gives_same}
 use Rattle.dali_progress.proofs.Tables.{LeavesNames, tabled_left}
 use Rattle.dali_progress.proofs.Survey.Drawn.{IsSoughtBy}
@@ -416,7 +416,7 @@ pub record IsReachedAt (x : Ascent) (m : ℕ) (gs : List Gear) (left : ℕ) : Ty
   pub least : (k : ℕ) → wants gs k ≡ true → m ≤ k
   pub more : ℕ
   pub count : count_by is_wanted gs ≡ suc more
-  pub frames : 38 + search_frames more ≤ left
+  pub frames : 43 + 106 * more ≤ left
 
 pub rise_found : (x : Ascent) (q : Asking) (gs : List Gear) (left m : ℕ) → Answered x q gs left → leads_to x ≡ Found m → IsReachedAt x m gs left
 rise_found x q gs left m v is = go (count_by is_wanted gs) refl v.frames where
@@ -455,7 +455,7 @@ rise_nobody x q gs left v is = (
 nothing_before : (m : ℕ) → has_room no_question m ≡ false
 nothing_before m = grind (arith, nat_tests)
 
-pub rises_first : (gs : List Gear) (left : ℕ) → IsOpened gs → NoneNamed gs → search_frames (count_by is_wanted gs) + 1 ≤ left
+pub rises_first : (gs : List Gear) (left : ℕ) → IsOpened gs → NoneNamed gs → 106 * count_by is_wanted gs + 10 ≤ left
     → Rises false stage.Free ascent_at_first (sought (asked_next ascent_at_first)) gs left
 rises_first gs left ready unnamed frames = go (count_by is_wanted gs) refl frames where
   knows : Knows (wants gs) ascent_at_first
@@ -478,14 +478,14 @@ rises_first gs left ready unnamed frames = go (count_by is_wanted gs) refl frame
     frames = rw (new_room no_question (asked_next ascent_at_first) (nothing_before (asked_next ascent_at_first))).1 (omega (arith, frames));
   }
 
-  go : (count : ℕ) → count_by is_wanted gs ≡ count → search_frames count + 1 ≤ left
+  go : (count : ℕ) → count_by is_wanted gs ≡ count → 106 * count + 10 ≤ left
       → Rises false stage.Free ascent_at_first (sought (asked_next ascent_at_first)) gs left
   go zero is frames = begins 5 (rw (is, (first_true no_question refl).2) (omega arith)) (omega arith) (rw is (omega (arith, frames)))
   go (suc more) is frames = begins 73 (rw (is, (first_true no_question refl).1) (omega arith)) (omega arith) (rw is (omega (arith, frames)))
 
 pub rises_above : (x : Ascent) (r : ℕ) (gs : List Gear) (left : ℕ) → IsAscent x → r < MASK24 → ((m : ℕ) → wants gs m ≡ true → r < m) → IsOpened gs
     → NoneNamed gs
-    → search_frames (count_by is_wanted gs) + 27 ≤ left → Rises false stage.Free (above x r) (sought (asked_next (above x r))) gs left
+    → 106 * count_by is_wanted gs + 32 ≤ left → Rises false stage.Free (above x r) (sought (asked_next (above x r))) gs left
 rises_above x r gs left is small past ready unnamed frames = go (count_by is_wanted gs) refl frames where
   knows : Knows (wants gs) (above x r)
   knows = record { above = λ m has. let over : r < m = past m has in omega (arith, over); below = λ low. absurd (omega (arith, low)) }
@@ -507,7 +507,7 @@ rises_above x r gs left is small past ready unnamed frames = go (count_by is_wan
     frames = rw (new_room no_question (asked_next (above x r)) (nothing_before (asked_next (above x r)))).1 (omega (arith, frames));
   }
 
-  go : (count : ℕ) → count_by is_wanted gs ≡ count → search_frames count + 27 ≤ left
+  go : (count : ℕ) → count_by is_wanted gs ≡ count → 106 * count + 32 ≤ left
       → Rises false stage.Free (above x r) (sought (asked_next (above x r))) gs left
   go zero counts frames = begins 31 (rw (counts, (above_true x r no_question is small refl).2) (omega arith)) (omega arith) (rw counts (omega (arith, frames)))
   go (suc more) counts frames =

@@ -109,7 +109,7 @@ pub record Events (s t : SiteState) (k f : ℕ) : Type 0 where
 events_of_run : (s between t : SiteState) (o : Order) (k f : ℕ) → SurveysAlone s 0 → between ≡ site_logged s (event.Acted 0 input.Survey o)
     → Allowed (world s) (event.Acted 0 input.Survey o) → IsOfSurvey s 0 (event.Acted 0 input.Survey o) → Comes between t k f → Events s t k f
 events_of_run s between t o k f alone logged here of comes =
-    let on = runs_on (began_at true s) s 0 (111 * count_by is_bare (world s).gear + 211 + spare true) (event.Acted 0 input.Survey o)
+    let on = runs_on (began_at true s) s 0 (106 * count_by is_bare (world s).gear + 219 + spare true) (event.Acted 0 input.Survey o)
     (starts true s 0 alone (unsettled s 0)) here of in
     let begun : begun_last (world (site_logged s (event.Acted 0 input.Survey o))) 0 =
     subst (λ w. begun_last w 0) (sym (world_logged s (event.Acted 0 input.Survey o))) (o, acted_last (world s) 0 input.Survey o here.up) in
@@ -196,23 +196,23 @@ run_by limit most n between o sent text m alone one stepped few enough ran = go 
       inr (record { rounds = ran.rounds; front = ran.front; between = ran.between; last = ran.last; played = ran.played; refused = refused; whole = ran.whole })
 
 pub run_ends : (limit : ℕ) (n between : Installation) (o : Order) (sent : ℕ) (text : List ℕ) (m : Installation) → SurveysAlone n.site 0 → controllers n ≡ 1
-    → replayed.Surveys n 0 (Ok o) between → 444 * count_by is_bare (world n.site).gear + 1260 < limit → Ran limit between sent text m
+    → replayed.Surveys n 0 (Ok o) between → 424 * count_by is_bare (world n.site).gear + 1164 < limit → Ran limit between sent text m
     → SurveyHasEnded n.site m.site 0 ⊎ WasRefused between sent text m
 run_ends limit n between o sent text m alone one stepped enough ran =
-    run_by limit (444 * count_by is_bare (world n.site).gear + 1260) n between o sent text m alone one stepped
+    run_by limit (424 * count_by is_bare (world n.site).gear + 1164) n between o sent text m alone one stepped
     (λ es rounds. one_more_is (count_by is_bare (world n.site).gear) (length es) (few_events n.site 0 es alone rounds)) enough ran
   where
-    one_more_is : (g x : ℕ) → x ≤ 444 * g + 1261 → x ≤ 444 * g + 1260 + 1
+    one_more_is : (g x : ℕ) → x ≤ 424 * g + 1165 → x ≤ 424 * g + 1164 + 1
     one_more_is g x less = omega (arith, less)
 
 pub settled_run_ends : (limit : ℕ) (n between : Installation) (o : Order) (sent : ℕ) (text : List ℕ) (m : Installation) → SurveysAlone n.site 0
-    → IsSettledAt n.site 0 → controllers n ≡ 1 → replayed.Surveys n 0 (Ok o) between → 333 * count_by is_bare (world n.site).gear + 633 < limit
+    → IsSettledAt n.site 0 → controllers n ≡ 1 → replayed.Surveys n 0 (Ok o) between → 318 * count_by is_bare (world n.site).gear + 657 < limit
     → Ran limit between sent text m → SurveyHasEnded n.site m.site 0 ⊎ WasRefused between sent text m
 settled_run_ends limit n between o sent text m alone settled one stepped enough ran =
-    run_by limit (333 * count_by is_bare (world n.site).gear + 633) n between o sent text m alone one stepped
+    run_by limit (318 * count_by is_bare (world n.site).gear + 657) n between o sent text m alone one stepped
     (λ es rounds. one_more_is (count_by is_bare (world n.site).gear) (length es) (settled_events n.site 0 es alone settled rounds)) enough ran
   where
-    one_more_is : (g x : ℕ) → x ≤ 333 * g + 634 → x ≤ 333 * g + 633 + 1
+    one_more_is : (g x : ℕ) → x ≤ 318 * g + 658 → x ≤ 318 * g + 657 + 1
     one_more_is g x less = omega (arith, less)
 
 -- and no more frames are sent
@@ -224,14 +224,14 @@ run_sent limit most n between o sent text m alone one stepped few ran =
     subst (λ x. x ≤ most) all.sent (few all.events all.rounds)
 
 pub run_frames : (limit : ℕ) (n between : Installation) (o : Order) (sent : ℕ) (text : List ℕ) (m : Installation) → SurveysAlone n.site 0 → controllers n ≡ 1
-    → replayed.Surveys n 0 (Ok o) between → Ran limit between sent text m → sent ≤ 111 * count_by is_bare (world n.site).gear + 315
+    → replayed.Surveys n 0 (Ok o) between → Ran limit between sent text m → sent ≤ 106 * count_by is_bare (world n.site).gear + 291
 run_frames limit n between o sent text m alone one stepped ran =
-    run_sent limit (111 * count_by is_bare (world n.site).gear + 315) n between o sent text m alone one stepped
+    run_sent limit (106 * count_by is_bare (world n.site).gear + 291) n between o sent text m alone one stepped
     (λ es rounds. bounded n.site 0 es alone rounds) ran
 
 pub settled_run_frames : (limit : ℕ) (n between : Installation) (o : Order) (sent : ℕ) (text : List ℕ) (m : Installation) → SurveysAlone n.site 0
     → IsSettledAt n.site 0 → controllers n ≡ 1 → replayed.Surveys n 0 (Ok o) between → Ran limit between sent text m
-    → sent ≤ 111 * count_by is_bare (world n.site).gear + 211
+    → sent ≤ 106 * count_by is_bare (world n.site).gear + 219
 settled_run_frames limit n between o sent text m alone settled one stepped ran =
-    run_sent limit (111 * count_by is_bare (world n.site).gear + 211) n between o sent text m alone one stepped
+    run_sent limit (106 * count_by is_bare (world n.site).gear + 219) n between o sent text m alone one stepped
     (λ es rounds. settled_bounded n.site 0 es alone settled rounds) ran

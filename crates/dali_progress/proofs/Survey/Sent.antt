@@ -1,17 +1,15 @@
 use Rattle.std.proofs.Common.{◌≡◌, ℕ, ◌+◌, ◌-◌, ◌*◌, ◌<◌, ◌≤◌, ◌⊎◌, inl, inr, Bool, true, false, zero, suc, List, [], ◌∷◌, refl, sym, ap, subst, ◌∙◌, arith}
 use Rattle.std.proofs.Common.{length}
-use Rattle.std.proofs.Common.{Option, Some, None}
+use Rattle.std.proofs.Common.{Some, None}
 use Rattle.std.specs.Prelude.{◌==◌, nat_lt, ◌&&◌, if◌then◌else◌}
 use Rattle.std.proofs.lemmas.Bool.Decides.{nat_tests}
 use Rattle.dali_frame.specs.declared.frames.Answer.{Answer}
-use Rattle.dali_frame.specs.declared.frames.Answer.TheVariants.{Silence, Byte, Damaged}
+use Rattle.dali_frame.specs.declared.frames.Answer.TheVariants.{Silence, Byte}
 use Rattle.dali_frame.specs.declared.numbers.SearchAddress.{SearchAddress}
 use Rattle.dali_frame.specs.Random.{value_of, number_of, high_of, middle_of, low_of, MASK24}
 use Rattle.dali_special.specs.declared.command.Command.{Command}
-use Rattle.dali_special.specs.declared.command.Command.TheVariants.{Terminate, Initialise, Withdraw, SearchHigh, SearchMiddle, SearchLow}
+use Rattle.dali_special.specs.declared.command.Command.TheVariants.{Terminate, Initialise, Withdraw, SearchMiddle, SearchLow}
 use Rattle.dali_special.specs.declared.command.Command.TheVariants.{QueryShort, RandomByte}
-use Rattle.dali_frame.specs.Short.{short_of}
-use Rattle.dali_special.specs.Command.{MASK}
 use Rattle.dali_special.specs.declared.command.Part.{Part}
 use Rattle.dali_special.specs.declared.command.Part.TheVariants.{High, Middle, Low}
 use Rattle.dali_special.specs.declared.command.Target.TheVariants.{Unaddressed}
@@ -28,7 +26,7 @@ use Rattle.dali_progress.specs.Surveys.{IsSettled}
 use Rattle.dali_script.specs.Records.{Assignment, IsKept, Kept, Has}
 use Rattle.dali_script.specs.declared.stage.Stage.{Stage}
 use Rattle.dali_script.specs.declared.stage.Stage.TheVariants as stage
-use Rattle.dali_script.specs.Stages.{next_stage, queried, named, verified, answered}
+use Rattle.dali_script.specs.Stages.{next_stage}
 use Rattle.dali_script.proofs.Transactions.{middle_next, low_next}
 use Rattle.dali_script.specs.declared.orders.End.{End}
 use Rattle.dali_script.specs.declared.orders.End.TheVariants.{AllFound, BlockFull, GaveUp}
@@ -42,9 +40,7 @@ use Rattle.dali_controller.specs.declared.way.Way.TheVariants.{Fresh, Surveying,
 use Rattle.dali_controller.specs.Course.{sought}
 use Rattle.dali_controller.specs.Machine.{opened_after, woken_after, heard_after, asked_after, asked_after_silence, asked_at, marked_at}
 use Rattle.dali_controller.proofs.Courses.{not_woken}
-use Rattle.dali_events.specs.Wanted.{gear_of, wants, AreApart, IsOpened}
-use Rattle.dali_events.proofs.Search.Programming as programming
-use Rattle.dali_events.proofs.Search.Withdrawing as withdrawing
+use Rattle.dali_events.specs.Wanted.{gear_of, AreApart, IsOpened}
 use Rattle.dali_events.proofs.Invariant.Takes.{row_length}
 use Rattle.dali_events.proofs.Invariant.Resolving.{whole_number}
 use Rattle.dali_events.proofs.Search.Wanted.{after_at}
@@ -53,6 +49,7 @@ use Rattle.dali_events.proofs.Search.Leaving.{SameCore, LeavesShort}
 use Rattle.dali_events.proofs.Search.Opened as opening
 use Rattle.dali_progress.specs.Rounds.{AreTabled}
 use Rattle.dali_progress.proofs.Stands.{to_come, VisitsAt, Sends}
+use Rattle.dali_progress.proofs.Survey.Behind.{IsHunt, least_sent, behind_sent, hunt_deep}
 use Rattle.dali_progress.proofs.Survey.Rising.{rises_sent, rising_tabled, rising_sought}
 use Rattle.dali_progress.proofs.Frames.{IsTaken, Seeks, at_sent, one_less, value_sought}
 use Rattle.dali_progress.proofs.Tables.{IsTabledTo, at_tabled, tabled_left}
@@ -64,7 +61,7 @@ use Rattle.dali_progress.proofs.Survey.Queried.{unseen, below_on}
 use Rattle.dali_progress.proofs.Survey.Stands.{Begun, spare, IsClear, IsClearBut, IsClearAt, wake_frames, silent_left, asked_left, Tells, AskStage, Sweeps}
 use Rattle.dali_progress.proofs.Survey.Stands.{Wakes}
 use Rattle.dali_progress.proofs.Survey.Stands.{searched_by, frames_after}
-use Rattle.dali_progress.proofs.Survey.Stands.{IsOnWay, opened_at, surplus, IsLeastAt, IsReached, HuntAt, Hunts, SurveyEnds, SurveyCloses, SurveyAt}
+use Rattle.dali_progress.proofs.Survey.Stands.{IsOnWay, opened_at, surplus, IsBehind, HuntAt, Hunts, SurveyEnds, SurveyCloses, SurveyAt}
 
 -- A FRAME OF A SURVEY IS SENT, and one frame less is left.
 
@@ -127,7 +124,7 @@ sweeps_on a s t k marks after asked now from start gs hs left l v same stage cle
   same = core_then start.gear gs hs v.same same;
   stage_is = stage;
   tabled = below_on a start.gear k.enrolled gs hs same v.tabled;
-  frames = subst (λ n. 3 * (63 - a) + asked_left t now + (111 * n + 19 + spare start.any) ≤ l) (sym (leaving.core_count_bare gs hs same)) enough;
+  frames = subst (λ n. 3 * (63 - a) + asked_left t now + (106 * n + 27 + spare start.any) ≤ l) (sym (leaving.core_count_bare gs hs same)) enough;
 }
 
 silence_again : (n : ℕ) → n ≤ 2 → (asked_after_silence n ≤ 2) × (silent_left (asked_after_silence n) + 1 ≤ 3 - n)
@@ -303,7 +300,7 @@ wake_less : (start : Begun) (c : Command) (gs : List Gear) (numbers : List ℕ) 
     → (l : ℕ) × (left ≡ suc l) × (wake_frames start (row_after Everyone c 0 gs numbers) ≤ l + (sent + 1))
 wake_less start c gs numbers left sent leaves enough small =
     let less = one_less (wake_frames start gs) left sent enough (omega (arith, small)) in
-    (less.0, less.1, subst (λ n. 111 * n + 19 + spare start.any ≤ less.0 + (sent + 1)) (sym (leaving.count_bare_after c gs numbers leaves)) less.2)
+    (less.0, less.1, subst (λ n. 106 * n + 27 + spare start.any ≤ less.0 + (sent + 1)) (sym (leaving.count_bare_after c gs numbers leaves)) less.2)
 
 wakes_sent : (s : Stage) (k : Kept) (marks : Shorts) (opened : Bool) (n : SearchAddress) (start : Begun) (gs : List Gear) (numbers : List ℕ) (left : ℕ)
     (c : Command)
@@ -404,13 +401,6 @@ taken_drawn c gs numbers h by t = record {
   apart = t.apart;
 }
 
--- of which transactions this is said
-abbrev pub IsHunt : Purpose → Type 0
-IsHunt Opening = Unit {0}
-IsHunt Hunting = Unit {0}
-IsHunt Visiting = Unit {0}
-IsHunt _ = ⊥
-
 -- the frame is one of a search, on the way where it counts
 hunted_by : (p : Purpose) (s : Stage) (k : Kept) (x : Ascent) (n : SearchAddress) (gs : List Gear) (left : ℕ) (c : Command) → IsHunt p → IsOnWay p Surveying
     → HuntAt false p s k (opened_at p s) x n (those_drawn gs) left → Sends p n k s c → Seeks s gs → IsSoughtBy gs c
@@ -439,70 +429,10 @@ abbrev HuntedTo : Purpose → Way → Stage → Kept → Shorts → Bool → Asc
 HuntedTo p y s k heard opened x n start gs numbers left c h =
     (l : ℕ) × (left ≡ suc l) × Hunts true p y (next_stage s c h) k heard opened x n start (row_after Everyone c 0 gs numbers) l
 
-spend_one : (rest some after left l : ℕ) → rest ≡ suc l → rest + some + after ≤ left → (m : ℕ) × (left ≡ suc m) × (l + some + after ≤ m)
-spend_one rest some after zero l is enough = absurd (omega (arith, is, enough))
-spend_one rest some after (suc m) l is enough = (m, refl, omega (arith, is, enough))
-
--- ---------------------------------------------------------------- who is visited stays the least
-
-first_query : (r : SearchAddress) (h : Answer) (q : SearchAddress) (a : ℕ) → queried r h ≡ stage.Withdrawn q a → ⊥
-first_query r Silence q a is = cc
-first_query r Damaged q a is = cc
-first_query r (Byte v) q a is = go (short_of v) (v == MASK) is where
-  go : (o : Option ℕ) (m : Bool) → named r o m ≡ stage.Withdrawn q a → ⊥
-  go (Some b) m is = cc
-  go None true is = cc
-  go None false is = cc
-
-second_query : (r : SearchAddress) (b : ℕ) (h : Answer) (q : SearchAddress) (a : ℕ) → verified r b h ≡ stage.Withdrawn q a → ⊥
-second_query r b Silence q a is = cc
-second_query r b Damaged q a is = cc
-second_query r b (Byte v) q a is = go (short_of v) is where
-  go : (o : Option ℕ) → answered r b o ≡ stage.Withdrawn q a → ⊥
-  go None is = cc
-  go (Some d) is = same (d == b) is where
-    same : (t : Bool) → (if t then stage.Confirmed r b else stage.Inconclusive r (Some d)) ≡ stage.Withdrawn q a → ⊥
-    same true is = cc
-    same false is = cc
-
-least_by : (t : Stage) (n : SearchAddress) (hs : List Gear) → ((m : ℕ) → wants hs m ≡ true → value_of n ≤ m)
-    → ((q : SearchAddress) (a : ℕ) → t ≡ stage.Withdrawn q a → ⊥) → IsLeastAt t n hs
-least_by (stage.Withdrawn q a) n hs least never = absurd (never q a refl)
-least_by _ n hs least never = least
-
-least_core : (gs hs : List Gear) (n : SearchAddress) → SameCore gs hs → ((m : ℕ) → wants gs m ≡ true → value_of n ≤ m) → (m : ℕ) → wants hs m ≡ true
-    → value_of n ≤ m
-least_core gs hs n same least m has = least m (sym (leaving.core_wants gs hs m same) ∙ has)
-
-least_sent : (s : Stage) (k : Kept) (x : Ascent) (n : SearchAddress) (gs : List Gear) (numbers : List ℕ) (left : ℕ) (c : Command) (h : Answer)
-    → VisitsAt s k n gs left → Sends Visiting n k s c → Seeks s gs → IsReached s x n gs
-    → IsLeastAt (next_stage s c h) n (row_after Everyone c 0 gs numbers)
-least_sent stage.Free k x n gs numbers left c h v is seek at = subst (λ d. IsLeastAt (next_stage stage.Free d h) n (row_after Everyone d 0 gs numbers)) (sym is)
-    (least_core gs _ n (leaving.core_after (SearchHigh n.high) gs numbers tt) at.least)
-least_sent (stage.HighSent high) k x n gs numbers left c h v is seek at =
-    subst (λ d. IsLeastAt (next_stage (stage.HighSent high) d h) n (row_after Everyone d 0 gs numbers)) (some_is (SearchMiddle n.middle) c is)
-    (least_core gs _ n (leaving.core_after (SearchMiddle n.middle) gs numbers tt) at.least)
-least_sent (stage.MiddleSent high middle) k x n gs numbers left c h v is seek at =
-    subst (λ d. IsLeastAt (next_stage (stage.MiddleSent high middle) d h) n (row_after Everyone d 0 gs numbers)) (some_is (SearchLow n.low) c is)
-    (least_core gs _ n (leaving.core_after (SearchLow n.low) gs numbers tt) at.least)
-least_sent (stage.NumberSent r) k x n gs numbers left c h v is seek at =
-    subst (λ d. IsLeastAt (next_stage (stage.NumberSent r) d h) n (row_after Everyone d 0 gs numbers)) (some_is QueryShort c is)
-    (least_by (queried r h) n _ (least_core gs _ n (leaving.core_after QueryShort gs numbers tt) at.least) (first_query r h))
-least_sent (stage.Unnamed r) k x n gs numbers left c h v is seek at =
-    subst (λ d. IsLeastAt (next_stage (stage.Unnamed r) d h) n (row_after Everyone d 0 gs numbers)) (sym is.3)
-    (λ m has. at.least m (sym (programming.programmed_wants gs numbers r is.0 m (seek r refl)) ∙ has))
-least_sent (stage.Programmed r a) k x n gs numbers left c h v is seek at =
-    subst (λ d. IsLeastAt (next_stage (stage.Programmed r a) d h) n (row_after Everyone d 0 gs numbers)) (some_is QueryShort c is)
-    (least_by (verified r a h) n _ (least_core gs _ n (leaving.core_after QueryShort gs numbers tt) at.least) (second_query r a h))
-least_sent (stage.Confirmed r a) k x n gs numbers left c h v is seek at =
-    subst (λ d. IsLeastAt (next_stage (stage.Confirmed r a) d h) n (row_after Everyone d 0 gs numbers)) (some_is Withdraw c is)
-    (λ m has.
-    let was = withdrawing.withdrawn_wants gs numbers r m (seek r refl) has in
-    let from : value_of n ≤ m = at.least m was.0 in
-    let other : m ≡ value_of n → ⊥ = λ e. was.1 (e ∙ ap value_of (sym v.searched)) in
-    omega (arith, from, other))
-least_sent (stage.Withdrawn r a) k x n gs numbers left c h v is seek at = absurd (cc)
-least_sent _ k x n gs numbers left c h v is seek at = absurd v.stage_is
+spend_one : (rest some after left behind l : ℕ) → rest ≡ suc l → 5 * behind < rest → rest + some + after ≤ left + 5 * behind
+    → (m : ℕ) × (left ≡ suc m) × (l + some + after ≤ m + 5 * behind)
+spend_one rest some after zero behind l is deep enough = absurd (omega (arith, is, deep, enough))
+spend_one rest some after (suc m) behind l is deep enough = (m, refl, omega (arith, is, enough))
 
 -- ---------------------------------------------------------------- of whichever of them
 
@@ -541,44 +471,66 @@ hunt_tabled before _ s k x n gs numbers left rest c h hunt at is seek next table
 hunts_sent : (p : Purpose) (y : Way) (s : Stage) (k : Kept) (heard : Shorts) (opened : Bool) (x : Ascent) (n : SearchAddress) (start : Begun) (gs : List Gear)
     (numbers : List ℕ) (left : ℕ) (c : Command) (h : Answer) → IsHunt p → Hunts false p y s k heard opened x n start gs left → Sends p n k s c
     → IsSurveyTaken c gs numbers h → Seeks s gs → HuntedTo p y s k heard opened x n start gs numbers left c h
-hunts_sent p y s k heard opened x n start gs numbers left c h hunt v is t seek = go y v.way v.at v.tabled v.frames where
-  done : (y : Way) → IsOnWay p y → (l : ℕ) → v.rest ≡ suc l → HuntAt true p (next_stage s c h) k (opened_at p (next_stage s c h)) x n
+hunts_sent p y s k heard opened x n start gs numbers left c h hunt v is t seek = go y v.way v.at v.behind_is v.tabled v.frames where
+  done : (y : Way) → IsOnWay p y → (l : ℕ) → v.rest ≡ suc l → 5 * v.behind < v.rest
+      → IsBehind p (next_stage s c h) v.behind (searched_by y (row_after Everyone c 0 gs numbers)) l
+      → HuntAt true p (next_stage s c h) k (opened_at p (next_stage s c h)) x n
       (searched_by y (row_after Everyone c 0 gs numbers)) l
       → AreTabled (unseen start.gear) (to_come (next_stage s c h) n k.enrolled) (searched_by y (row_after Everyone c 0 gs numbers))
-      → v.rest + surplus p + frames_after y start (row_after Everyone c 0 gs numbers) ≤ left → HuntedTo p y s k heard opened x n start gs numbers left c h
-  done y way l less at tabled enough =
-      let one = spend_one v.rest (surplus p) (frames_after y start (row_after Everyone c 0 gs numbers)) left l less enough in
-      (one.0, one.1, record { way = way; opened_is = v.opened_is; own = v.own; settled = v.settled; rest = l; at = at; tabled = tabled; frames = one.2 })
+      → v.rest + surplus p + frames_after y start (row_after Everyone c 0 gs numbers) ≤ left + 5 * v.behind
+      → HuntedTo p y s k heard opened x n start gs numbers left c h
+  done y way l less deep behind at tabled enough =
+      let one = spend_one v.rest (surplus p) (frames_after y start (row_after Everyone c 0 gs numbers)) left v.behind l less deep enough in (
+        one.0,
+        one.1,
+        record {
+          way = way;
+          opened_is = v.opened_is;
+          own = v.own;
+          settled = v.settled;
+          rest = l;
+          at = at;
+          tabled = tabled;
+          behind = v.behind;
+          behind_is = behind;
+          frames = one.2;
+        },
+      )
 
   opens : (hs : List Gear) (l : ℕ) → HuntAt true p (next_stage s c h) k (opened_after (next_stage s c h) (opened_at p s)) x n hs l
       → HuntAt true p (next_stage s c h) k (opened_at p (next_stage s c h)) x n hs l
   opens hs l at = subst (λ o. HuntAt true p (next_stage s c h) k o x n hs l) (opened_next p n k s (next_stage s c h) c hunt is) at
 
   go : (y : Way) → IsOnWay p y → HuntAt false p s k (opened_at p s) x n (searched_by y gs) v.rest
-      → AreTabled (unseen start.gear) (to_come s n k.enrolled) (searched_by y gs)
-      → v.rest + surplus p + frames_after y start gs ≤ left → HuntedTo p y s k heard opened x n start gs numbers left c h
-  go Fresh way at tabled enough = absurd (never_fresh p hunt way) where
+      → IsBehind p s v.behind (searched_by y gs) v.rest → AreTabled (unseen start.gear) (to_come s n k.enrolled) (searched_by y gs)
+      → v.rest + surplus p + frames_after y start gs ≤ left + 5 * v.behind → HuntedTo p y s k heard opened x n start gs numbers left c h
+  go Fresh way at behind tabled enough = absurd (never_fresh p hunt way) where
     never_fresh : (p : Purpose) → IsHunt p → IsOnWay p Fresh → ⊥
     never_fresh Opening hunt way = cc
     never_fresh Hunting hunt way = way refl
     never_fresh Visiting hunt way = way refl
     never_fresh _ hunt way = hunt
-  go Drawing way at tabled enough =
+  go Drawing way at behind tabled enough =
       let sent = hunt_sent p s k x n gs numbers v.rest c h hunt at is t.taken seek in
-      done Drawing way sent.0 sent.1 (opens (row_after Everyone c 0 gs numbers) sent.0 sent.2)
+      done Drawing way sent.0 sent.1 (hunt_deep p s k x n gs v.rest sent.0 v.behind hunt sent.1 at behind)
+      (behind_sent p s k x n gs numbers v.rest sent.0 v.behind c h hunt sent.1 at is seek behind) (opens (row_after Everyone c 0 gs numbers) sent.0 sent.2)
       (hunt_tabled (unseen start.gear) p s k x n gs numbers v.rest sent.0 c h hunt at is seek sent.2 tabled)
       enough
-  go Surveying way at tabled enough =
+  go Surveying way at behind tabled enough =
       let by : IsSoughtBy gs c = hunted_by p s k x n gs v.rest c hunt way at is seek in
       let sent = hunt_sent p s k x n (those_drawn gs) numbers v.rest c h hunt at is (taken_drawn c gs numbers h by t) (seeks_drawn s gs seek) in
       let row : row_after Everyone c 0 (those_drawn gs) numbers ≡ those_drawn (row_after Everyone c 0 gs numbers) =
       row_drawn c 0 gs numbers (searching_of gs c by) (still_of gs c by) in
       let names : IsTabledTo (unseen start.gear) s n k.enrolled (those_drawn gs) numbers c h =
       hunt_tabled (unseen start.gear) p s k x n (those_drawn gs) numbers v.rest sent.0 c h hunt at is (seeks_drawn s gs seek) sent.2 tabled in
-      done Surveying way sent.0 sent.1 (opens (those_drawn (row_after Everyone c 0 gs numbers)) sent.0
+      done Surveying way sent.0 sent.1 (hunt_deep p s k x n (those_drawn gs) v.rest sent.0 v.behind hunt sent.1 at behind)
+      (subst (λ hs. IsBehind p (next_stage s c h) v.behind hs sent.0) row
+      (behind_sent p s k x n (those_drawn gs) numbers v.rest sent.0 v.behind c h hunt sent.1 at is (seeks_drawn s gs seek) behind))
+      (opens (those_drawn (row_after Everyone c 0 gs numbers)) sent.0
       (subst (λ hs. HuntAt true p (next_stage s c h) k (opened_after (next_stage s c h) (opened_at p s)) x n hs sent.0) row sent.2))
       (subst (λ hs. AreTabled (unseen start.gear) (to_come (next_stage s c h) n k.enrolled) hs) row names)
-      (subst (λ m. v.rest + surplus p + (111 * m + 10 + spare start.any) ≤ left) (sym (lost_same c gs numbers (searching_of gs c by) (still_of gs c by)))
+      (subst (λ m. v.rest + surplus p + (106 * m + 14 + spare start.any) ≤ left + 5 * v.behind)
+      (sym (lost_same c gs numbers (searching_of gs c by) (still_of gs c by)))
       enough)
 
 -- ---------------------------------------------------------------- the close
@@ -653,7 +605,18 @@ hunts_as : (p : Purpose) (y : Way) (t : Stage) (k : Kept) (heard : Shorts) (open
     (left : ℕ)
     → now ≡ true → Hunts true p y t k heard opened x n start gs left → Hunts true p y t k heard now x n start gs left
 hunts_as p y t k heard opened now x n start gs left is v =
-    record { way = v.way; opened_is = is; own = v.own; settled = v.settled; rest = v.rest; at = v.at; tabled = v.tabled; frames = v.frames }
+    record {
+      way = v.way;
+      opened_is = is;
+      own = v.own;
+      settled = v.settled;
+      rest = v.rest;
+      at = v.at;
+      tabled = v.tabled;
+      behind = v.behind;
+      behind_is = v.behind_is;
+      frames = v.frames;
+    }
 
 pub survey_sent : (p : Purpose) (y : Way) (s : Stage) (k : Kept) (heard : Shorts) (opened : Bool) (asked : ℕ) (x : Ascent) (n : SearchAddress) (from : ℕ)
     (start : Begun) (gs : List Gear) (numbers : List ℕ) (left : ℕ) (c : Command) (h : Answer) → SurveyAt false p y s k heard opened asked x n from start gs left

@@ -43,12 +43,12 @@ pub record Begun : Type 0 where
 
 -- of any records what is reserved may be another's: then the search under the old numbers may be left off in a visit
 abbrev pub spare : Bool → ℕ
-spare true = 104
+spare true = 72
 spare false = 0
 
 -- so many frames take the wake, the two searches, the opening and the close, for so many gear without short address
 abbrev pub wake_frames : Begun → List Gear → ℕ
-wake_frames start gs = 111 * count_by is_bare gs + 19 + spare start.any
+wake_frames start gs = 106 * count_by is_bare gs + 27 + spare start.any
 
 -- and so many the short address that is asked: three where it is silent, and three where it tells its random address
 abbrev pub silent_left : ℕ → ℕ
@@ -128,7 +128,7 @@ searched_by Drawing gs = gs
 -- and the frames that come after it
 abbrev pub frames_after : Way → Begun → List Gear → ℕ
 frames_after Fresh start gs = 0
-frames_after Surveying start gs = 111 * count_by is_lost gs + 10 + spare start.any
+frames_after Surveying start gs = 106 * count_by is_lost gs + 14 + spare start.any
 frames_after Drawing start gs = 0
 
 -- and is enrolled, but for the number that is visited
@@ -162,7 +162,7 @@ pending told _ n = 0
 -- and so many follow the search for so many gear: the visit and what comes after it, or the close
 abbrev pub after_rise : ℕ → ℕ
 after_rise zero = 1
-after_rise (suc more) = 38 + search_frames more
+after_rise (suc more) = 43 + 106 * more
 
 -- what the questions still take, in thirds of a frame
 abbrev pub thirds_for : ℕ → Ascent → Asking → ℕ
@@ -209,11 +209,18 @@ HuntAt told Hunting s k opened x n gs left = (opened ≡ true) × Rises told s x
 HuntAt told Visiting s k opened x n gs left = (opened ≡ true) × VisitsAt s k n gs left × IsReached s x n gs
 HuntAt told _ s k opened x n gs left = ⊥
 
--- what a visit keeps for the search that finds nobody at last, and an opening for the second silence
+-- The frames of openings and visits are those of a start, so they count 111 for each gear that is still to be found. The search
+-- that goes up needs 106 for each, and some more where it ends: so many gear are behind, and five frames less for each of them.
 abbrev pub surplus : Purpose → ℕ
-surplus Opening = 1
+surplus Opening = 5
 surplus Visiting = 27
 surplus p = 0
+
+abbrev pub IsBehind : Purpose → Stage → ℕ → List Gear → ℕ → Type 0
+IsBehind Opening s behind gs left = behind ≡ count_by is_bare gs
+IsBehind Visiting (stage.Withdrawn r a) behind gs left = (count_by is_wanted gs ≤ behind) × (search_frames behind ≤ left)
+IsBehind Visiting s behind gs left = count_by is_wanted gs ≡ suc behind
+IsBehind p s behind gs left = behind ≡ 0
 
 pub record Hunts (told : Bool) (p : Purpose) (y : Way) (s : Stage) (k : Kept) (heard : Shorts) (opened : Bool) (x : Ascent) (n : SearchAddress)
     (start : Begun) (gs : List Gear) (left : ℕ) : Type 0 where
@@ -224,7 +231,9 @@ pub record Hunts (told : Bool) (p : Purpose) (y : Way) (s : Stage) (k : Kept) (h
   pub rest : ℕ
   pub at : HuntAt told p s k (opened_at p s) x n (searched_by y gs) rest
   pub tabled : AreTabled (unseen start.gear) (to_come s n k.enrolled) (searched_by y gs)
-  pub frames : rest + surplus p + frames_after y start gs ≤ left
+  pub behind : ℕ
+  pub behind_is : IsBehind p s behind (searched_by y gs) rest
+  pub frames : rest + surplus p + frames_after y start gs ≤ left + 5 * behind
 
 -- ---------------------------------------------------------------- the close
 

@@ -34,7 +34,6 @@ use Rattle.dali_controller.proofs.Given as given
 use Rattle.dali_controller.proofs.Given.{IsGivenBy, IsNoEnrolment}
 use Rattle.dali_events.specs.Wanted.{gear_of, is_wanted, is_bare, IsOpened, NoneNamed}
 use Rattle.dali_events.proofs.Search.Wanted as wanted
-use Rattle.dali_progress.proofs.Stands.{search_frames}
 use Rattle.dali_progress.proofs.Turns.{never_eight, has_random}
 use Rattle.dali_progress.proofs.Later.{course_stays}
 use Rattle.dali_progress.proofs.Sweep.Asked.{sending_of}
@@ -229,7 +228,7 @@ wake_turns start t o stage.Initialised gs left g st last purpose is running surv
     let unnamed : NoneNamed (those_drawn gs) = woken_none_named gs v.gear in
     let split : count_by is_bare gs ≡ count_by is_bare (those_drawn gs) + count_by is_lost gs = bare_split gs in
     let count : count_by is_wanted (those_drawn gs) ≡ count_by is_bare (those_drawn gs) = wanted.wanted_count (those_drawn gs) opened unnamed in
-    hunts_first start t o Surveying (search_frames (count_by is_wanted (those_drawn gs)) + 1) gs left (calm_of start t gs left st)
+    hunts_first start t o Surveying (106 * count_by is_wanted (those_drawn gs) + 10) gs left (calm_of start t gs left st)
     (begins_whole t o stage.Initialised g is (λ r e. cc) (λ e. cc) (found_at start t gs left stage.Initialised st is) last
     (never_eight t.tries st.tries) (woken_over t purpose is) whole)
     (ap (begins_at t) is) surveys (λ e. cc) v.stage_is (λ e. own_settled t.kept t.heard kept.enrolled (v.settled e) (v.clear e)) v.settled opened unnamed
@@ -237,7 +236,7 @@ wake_turns start t o stage.Initialised gs left g st last purpose is running surv
     (enough (count_by is_bare gs) (count_by is_bare (those_drawn gs)) (count_by is_lost gs) (count_by is_wanted (those_drawn gs))
     (spare start.any) split count v.frames)
   where
-    enough : (bare drew lost wanted some : ℕ) → bare ≡ drew + lost → wanted ≡ drew → 111 * bare + 19 + some ≤ left + 3
-        → 111 * wanted + 5 + 1 + (111 * lost + 10 + some) ≤ left
+    enough : (bare drew lost wanted some : ℕ) → bare ≡ drew + lost → wanted ≡ drew → 106 * bare + 27 + some ≤ left + 3
+        → 106 * wanted + 10 + (106 * lost + 14 + some) ≤ left
     enough bare drew lost wanted some split count frames = omega (arith, split, count, frames)
 wake_turns start t o _ gs left g st last purpose is running surveys v kept numbered whole = absurd v.stage_is

@@ -1,0 +1,211 @@
+use Rattle.std.proofs.Common.{◌≡◌, ℕ, ◌+◌, ◌*◌, ◌<◌, ◌≤◌, inl, inr, Bool, true, false, suc, List, refl, sym, ap, subst, ◌∙◌, arith}
+use Rattle.std.proofs.Common.{Option, Some, None}
+use Rattle.std.specs.List.{count_by}
+use Rattle.std.specs.Prelude.{◌==◌, if◌then◌else◌}
+use Rattle.dali_frame.specs.declared.frames.Answer.{Answer}
+use Rattle.dali_frame.specs.declared.frames.Answer.TheVariants.{Silence, Byte, Damaged}
+use Rattle.dali_frame.specs.declared.numbers.SearchAddress.{SearchAddress}
+use Rattle.dali_frame.specs.Random.{value_of}
+use Rattle.dali_special.specs.declared.command.Command.{Command}
+use Rattle.dali_special.specs.declared.command.Command.TheVariants.{Initialise, Withdraw, SearchHigh, SearchMiddle, SearchLow, Randomise}
+use Rattle.dali_special.specs.declared.command.Command.TheVariants.{QueryShort}
+use Rattle.dali_frame.specs.Short.{short_of}
+use Rattle.dali_special.specs.Command.{MASK}
+use Rattle.dali_special.specs.declared.command.Target.TheVariants.{Unaddressed}
+use Rattle.dali_gear.specs.declared.row.Reach.TheVariants.{Everyone}
+use Rattle.dali_gear.specs.Gear.{Gear}
+use Rattle.dali_gear.specs.Row.{row_after}
+use Rattle.dali_script.specs.Records.{Kept}
+use Rattle.dali_script.specs.declared.stage.Stage.{Stage}
+use Rattle.dali_script.specs.declared.stage.Stage.TheVariants as stage
+use Rattle.dali_script.specs.Stages.{next_stage, queried, named, verified, answered}
+use Rattle.dali_search.specs.Ascending.{Ascent}
+use Rattle.dali_controller.specs.declared.purpose.Purpose.{Purpose}
+use Rattle.dali_controller.specs.declared.purpose.Purpose.TheVariants.{Opening, Visiting, Hunting}
+use Rattle.dali_events.specs.Wanted.{wants, is_wanted, is_bare}
+use Rattle.dali_events.proofs.Search.Programming as programming
+use Rattle.dali_events.proofs.Search.Withdrawing as withdrawing
+use Rattle.dali_events.proofs.Search.Leaving as leaving
+use Rattle.dali_events.proofs.Search.Leaving.{SameCore, LeavesShort}
+use Rattle.dali_progress.proofs.Stands.{search_frames, Opens, VisitFrames, VisitsAt, Sends}
+use Rattle.dali_progress.proofs.Frames.{Seeks}
+use Rattle.dali_progress.proofs.Survey.Stands.{opened_at, IsBehind, IsLeastAt, IsReached, HuntAt}
+
+-- THE GEAR THAT IS VISITED is the least that is wanted; and how many gear are behind: that are counted with more frames than
+-- the search needs for them.
+
+-- of which transactions this is said
+abbrev pub IsHunt : Purpose → Type 0
+IsHunt Opening = Unit {0}
+IsHunt Hunting = Unit {0}
+IsHunt Visiting = Unit {0}
+IsHunt _ = ⊥
+
+some_is : (x c : Command) → Some x ≡ Some c → x ≡ c
+some_is x c e = cc
+
+-- ---------------------------------------------------------------- who is visited stays the least
+
+first_query : (r : SearchAddress) (h : Answer) (q : SearchAddress) (a : ℕ) → queried r h ≡ stage.Withdrawn q a → ⊥
+first_query r Silence q a is = cc
+first_query r Damaged q a is = cc
+first_query r (Byte v) q a is = go (short_of v) (v == MASK) is where
+  go : (o : Option ℕ) (m : Bool) → named r o m ≡ stage.Withdrawn q a → ⊥
+  go (Some b) m is = cc
+  go None true is = cc
+  go None false is = cc
+
+second_query : (r : SearchAddress) (b : ℕ) (h : Answer) (q : SearchAddress) (a : ℕ) → verified r b h ≡ stage.Withdrawn q a → ⊥
+second_query r b Silence q a is = cc
+second_query r b Damaged q a is = cc
+second_query r b (Byte v) q a is = go (short_of v) is where
+  go : (o : Option ℕ) → answered r b o ≡ stage.Withdrawn q a → ⊥
+  go None is = cc
+  go (Some d) is = same (d == b) is where
+    same : (t : Bool) → (if t then stage.Confirmed r b else stage.Inconclusive r (Some d)) ≡ stage.Withdrawn q a → ⊥
+    same true is = cc
+    same false is = cc
+
+least_by : (t : Stage) (n : SearchAddress) (hs : List Gear) → ((m : ℕ) → wants hs m ≡ true → value_of n ≤ m)
+    → ((q : SearchAddress) (a : ℕ) → t ≡ stage.Withdrawn q a → ⊥) → IsLeastAt t n hs
+least_by (stage.Withdrawn q a) n hs least never = absurd (never q a refl)
+least_by _ n hs least never = least
+
+least_core : (gs hs : List Gear) (n : SearchAddress) → SameCore gs hs → ((m : ℕ) → wants gs m ≡ true → value_of n ≤ m) → (m : ℕ) → wants hs m ≡ true
+    → value_of n ≤ m
+least_core gs hs n same least m has = least m (sym (leaving.core_wants gs hs m same) ∙ has)
+
+pub least_sent : (s : Stage) (k : Kept) (x : Ascent) (n : SearchAddress) (gs : List Gear) (numbers : List ℕ) (left : ℕ) (c : Command) (h : Answer)
+    → VisitsAt s k n gs left → Sends Visiting n k s c → Seeks s gs → IsReached s x n gs
+    → IsLeastAt (next_stage s c h) n (row_after Everyone c 0 gs numbers)
+least_sent stage.Free k x n gs numbers left c h v is seek at = subst (λ d. IsLeastAt (next_stage stage.Free d h) n (row_after Everyone d 0 gs numbers)) (sym is)
+    (least_core gs _ n (leaving.core_after (SearchHigh n.high) gs numbers tt) at.least)
+least_sent (stage.HighSent high) k x n gs numbers left c h v is seek at =
+    subst (λ d. IsLeastAt (next_stage (stage.HighSent high) d h) n (row_after Everyone d 0 gs numbers)) (some_is (SearchMiddle n.middle) c is)
+    (least_core gs _ n (leaving.core_after (SearchMiddle n.middle) gs numbers tt) at.least)
+least_sent (stage.MiddleSent high middle) k x n gs numbers left c h v is seek at =
+    subst (λ d. IsLeastAt (next_stage (stage.MiddleSent high middle) d h) n (row_after Everyone d 0 gs numbers)) (some_is (SearchLow n.low) c is)
+    (least_core gs _ n (leaving.core_after (SearchLow n.low) gs numbers tt) at.least)
+least_sent (stage.NumberSent r) k x n gs numbers left c h v is seek at =
+    subst (λ d. IsLeastAt (next_stage (stage.NumberSent r) d h) n (row_after Everyone d 0 gs numbers)) (some_is QueryShort c is)
+    (least_by (queried r h) n _ (least_core gs _ n (leaving.core_after QueryShort gs numbers tt) at.least) (first_query r h))
+least_sent (stage.Unnamed r) k x n gs numbers left c h v is seek at =
+    subst (λ d. IsLeastAt (next_stage (stage.Unnamed r) d h) n (row_after Everyone d 0 gs numbers)) (sym is.3)
+    (λ m has. at.least m (sym (programming.programmed_wants gs numbers r is.0 m (seek r refl)) ∙ has))
+least_sent (stage.Programmed r a) k x n gs numbers left c h v is seek at =
+    subst (λ d. IsLeastAt (next_stage (stage.Programmed r a) d h) n (row_after Everyone d 0 gs numbers)) (some_is QueryShort c is)
+    (least_by (verified r a h) n _ (least_core gs _ n (leaving.core_after QueryShort gs numbers tt) at.least) (second_query r a h))
+least_sent (stage.Confirmed r a) k x n gs numbers left c h v is seek at =
+    subst (λ d. IsLeastAt (next_stage (stage.Confirmed r a) d h) n (row_after Everyone d 0 gs numbers)) (some_is Withdraw c is)
+    (λ m has.
+    let was = withdrawing.withdrawn_wants gs numbers r m (seek r refl) has in
+    let from : value_of n ≤ m = at.least m was.0 in
+    let other : m ≡ value_of n → ⊥ = λ e. was.1 (e ∙ ap value_of (sym v.searched)) in
+    omega (arith, from, other))
+least_sent (stage.Withdrawn r a) k x n gs numbers left c h v is seek at = absurd (cc)
+least_sent _ k x n gs numbers left c h v is seek at = absurd v.stage_is
+
+-- ---------------------------------------------------------------- how many gear are behind
+
+behind_by : (t : Stage) (behind : ℕ) (hs : List Gear) (l : ℕ) → count_by is_wanted hs ≡ suc behind
+    → ((q : SearchAddress) (a : ℕ) → t ≡ stage.Withdrawn q a → ⊥) → IsBehind Visiting t behind hs l
+behind_by (stage.Withdrawn q a) behind hs l count never = absurd (never q a refl)
+behind_by _ behind hs l count never = count
+
+visit_behind : (s : Stage) (k : Kept) (n : SearchAddress) (gs : List Gear) (numbers : List ℕ) (left l behind : ℕ) (c : Command) (h : Answer) → left ≡ suc l
+    → VisitsAt s k n gs left → Sends Visiting n k s c → Seeks s gs → IsBehind Visiting s behind gs left
+    → IsBehind Visiting (next_stage s c h) behind (row_after Everyone c 0 gs numbers) l
+visit_behind stage.Free k n gs numbers left l behind c h less v is seek count =
+    subst (λ d. IsBehind Visiting (next_stage stage.Free d h) behind (row_after Everyone d 0 gs numbers) l) (sym is)
+    (leaving.core_count_wanted gs _ (leaving.core_after (SearchHigh n.high) gs numbers tt) ∙ count)
+visit_behind (stage.HighSent high) k n gs numbers left l behind c h less v is seek count =
+    subst (λ d. IsBehind Visiting (next_stage (stage.HighSent high) d h) behind (row_after Everyone d 0 gs numbers) l) (some_is (SearchMiddle n.middle) c is)
+    (leaving.core_count_wanted gs _ (leaving.core_after (SearchMiddle n.middle) gs numbers tt) ∙ count)
+visit_behind (stage.MiddleSent high middle) k n gs numbers left l behind c h less v is seek count =
+    subst (λ d. IsBehind Visiting (next_stage (stage.MiddleSent high middle) d h) behind (row_after Everyone d 0 gs numbers) l) (some_is (SearchLow n.low) c is)
+    (leaving.core_count_wanted gs _ (leaving.core_after (SearchLow n.low) gs numbers tt) ∙ count)
+visit_behind (stage.NumberSent r) k n gs numbers left l behind c h less v is seek count =
+    subst (λ d. IsBehind Visiting (next_stage (stage.NumberSent r) d h) behind (row_after Everyone d 0 gs numbers) l) (some_is QueryShort c is)
+    (behind_by (queried r h) behind _ l (leaving.core_count_wanted gs _ (leaving.core_after QueryShort gs numbers tt) ∙ count) (first_query r h))
+visit_behind (stage.Unnamed r) k n gs numbers left l behind c h less v is seek count =
+    subst (λ d. IsBehind Visiting (next_stage (stage.Unnamed r) d h) behind (row_after Everyone d 0 gs numbers) l) (sym is.3)
+    (programming.programmed_count gs numbers r is.0 (seek r refl) ∙ count)
+visit_behind (stage.Programmed r a) k n gs numbers left l behind c h less v is seek count =
+    subst (λ d. IsBehind Visiting (next_stage (stage.Programmed r a) d h) behind (row_after Everyone d 0 gs numbers) l) (some_is QueryShort c is)
+    (behind_by (verified r a h) behind _ l (leaving.core_count_wanted gs _ (leaving.core_after QueryShort gs numbers tt) ∙ count) (second_query r a h))
+visit_behind (stage.Confirmed r a) k n gs numbers left l behind c h less v is seek count =
+    subst (λ d. IsBehind Visiting (next_stage (stage.Confirmed r a) d h) behind (row_after Everyone d 0 gs numbers) l) (some_is Withdraw c is) (
+      (let fewer : count_by is_wanted (row_after Everyone Withdraw 0 gs numbers) < count_by is_wanted gs =
+          withdrawing.withdrawn_count gs numbers r (seek r refl)
+          (subst (λ m. wants gs m ≡ true) (ap value_of (sym v.searched)) v.visited.wanted) in omega (arith, fewer, count)),
+      (let more : suc v.more ≡ suc behind = sym v.visited.count ∙ count in
+          let enough : 7 + search_frames v.more ≤ left + 6 = v.frames in omega (arith, less, more, enough)),
+    )
+visit_behind (stage.Withdrawn r a) k n gs numbers left l behind c h less v is seek count = absurd (cc)
+visit_behind _ k n gs numbers left l behind c h less v is seek count = absurd v.stage_is
+
+-- an opening gives no short address
+opening_leaves : (s : Stage) (k : Kept) (opened : Bool) (n : SearchAddress) (gs : List Gear) (left : ℕ) (c : Command) → Opens s opened gs left
+    → Sends Opening n k s c → LeavesShort c
+opening_leaves stage.Free k opened n gs left c o is = subst LeavesShort (sym is) tt
+opening_leaves stage.Terminated k opened n gs left c o is = subst LeavesShort (some_is (Initialise Unaddressed) c is) tt
+opening_leaves stage.InitialisedOnce k opened n gs left c o is = subst LeavesShort (some_is (Initialise Unaddressed) c is) tt
+opening_leaves stage.Initialised k opened n gs left c o is = subst LeavesShort (some_is Randomise c is) tt
+opening_leaves stage.RandomisedOnce k opened n gs left c o is = subst LeavesShort (some_is Randomise c is) tt
+opening_leaves stage.Opened k opened n gs left c o is = absurd (cc)
+opening_leaves _ k opened n gs left c o is = absurd o.stage_is
+
+pub behind_sent : (p : Purpose) (s : Stage) (k : Kept) (x : Ascent) (n : SearchAddress) (gs : List Gear) (numbers : List ℕ) (left l behind : ℕ) (c : Command)
+    (h : Answer) → IsHunt p → left ≡ suc l → HuntAt false p s k (opened_at p s) x n gs left → Sends p n k s c → Seeks s gs → IsBehind p s behind gs left
+    → IsBehind p (next_stage s c h) behind (row_after Everyone c 0 gs numbers) l
+behind_sent Opening s k x n gs numbers left l behind c h hunt less at is seek count =
+    count ∙ sym (leaving.count_bare_after c gs numbers (opening_leaves s k (opened_at Opening s) n gs left c at is))
+behind_sent Hunting s k x n gs numbers left l behind c h hunt less at is seek count = count
+behind_sent Visiting s k x n gs numbers left l behind c h hunt less at is seek count =
+    visit_behind s k n gs numbers left l behind c h less at.1 is seek count
+behind_sent _ s k x n gs numbers left l behind c h hunt less at is seek count = absurd hunt
+
+-- and more frames are left than it is behind
+deep : (k : Kept) (n : SearchAddress) (more left behind sent : ℕ) → sent ≤ 4 → suc more ≡ suc behind → VisitFrames k n more (left + sent) → 5 * behind < left
+deep k n more left behind sent few same (inl e) = let enough : 7 + search_frames more ≤ left + sent = e.1 in omega (arith, few, same, enough)
+deep k n more left behind sent few same (inr e) = let enough : 11 + search_frames more ≤ left + sent = e in omega (arith, few, same, enough)
+
+visit_deep : (s : Stage) (k : Kept) (n : SearchAddress) (gs : List Gear) (left behind : ℕ) → VisitsAt s k n gs left → IsBehind Visiting s behind gs left
+    → 5 * behind < left
+visit_deep stage.Free k n gs left behind v count = deep k n v.more left behind 0 (omega arith) (sym v.visited.count ∙ count) v.frames
+visit_deep (stage.HighSent high) k n gs left behind v count = deep k n v.more left behind 1 (omega arith) (sym v.visited.count ∙ count) v.frames
+visit_deep (stage.MiddleSent high middle) k n gs left behind v count = deep k n v.more left behind 2 (omega arith) (sym v.visited.count ∙ count) v.frames
+visit_deep (stage.NumberSent r) k n gs left behind v count = deep k n v.more left behind 3 (omega arith) (sym v.visited.count ∙ count) v.frames
+visit_deep (stage.Unnamed r) k n gs left behind v count = deep k n v.more left behind 4 (omega arith) (sym v.visited.count ∙ count) v.frames
+visit_deep (stage.Programmed r a) k n gs left behind v count =
+    let more : suc v.more ≡ suc behind = sym v.visited.count ∙ count in
+    let enough : 7 + search_frames v.more ≤ left + 5 = v.frames in
+    omega (arith, more, enough)
+visit_deep (stage.Confirmed r a) k n gs left behind v count =
+    let more : suc v.more ≡ suc behind = sym v.visited.count ∙ count in
+    let enough : 7 + search_frames v.more ≤ left + 6 = v.frames in
+    omega (arith, more, enough)
+visit_deep (stage.Withdrawn r a) k n gs left behind v count = let enough : search_frames behind ≤ left = count.1 in omega (arith, enough)
+visit_deep _ k n gs left behind v count = absurd v.stage_is
+
+opening_deep : (s : Stage) (opened : Bool) (gs : List Gear) (left behind : ℕ) → Opens s opened gs left → behind ≡ count_by is_bare gs → 5 * behind < left
+opening_deep stage.Free opened gs left behind o count = let enough : 5 + search_frames (count_by is_bare gs) ≤ left + 0 =
+    o.frames in omega (arith, count, enough)
+opening_deep stage.Terminated opened gs left behind o count =
+    let enough : 5 + search_frames (count_by is_bare gs) ≤ left + 1 = o.frames in omega (arith, count, enough)
+opening_deep stage.InitialisedOnce opened gs left behind o count =
+    let enough : 5 + search_frames (count_by is_bare gs) ≤ left + 2 = o.frames in omega (arith, count, enough)
+opening_deep stage.Initialised opened gs left behind o count =
+    let enough : 5 + search_frames (count_by is_bare gs) ≤ left + 3 = o.frames in omega (arith, count, enough)
+opening_deep stage.RandomisedOnce opened gs left behind o count =
+    let enough : 5 + search_frames (count_by is_bare gs) ≤ left + 4 = o.frames in omega (arith, count, enough)
+opening_deep stage.Opened opened gs left behind o count =
+    let enough : 5 + search_frames (count_by is_bare gs) ≤ left + 5 = o.frames in omega (arith, count, enough)
+opening_deep _ opened gs left behind o count = absurd o.stage_is
+
+pub hunt_deep : (p : Purpose) (s : Stage) (k : Kept) (x : Ascent) (n : SearchAddress) (gs : List Gear) (left l behind : ℕ) → IsHunt p → left ≡ suc l
+    → HuntAt false p s k (opened_at p s) x n gs left → IsBehind p s behind gs left → 5 * behind < left
+hunt_deep Opening s k x n gs left l behind hunt less at count = opening_deep s (opened_at Opening s) gs left behind at count
+hunt_deep Hunting s k x n gs left l behind hunt less at count = omega (arith, less, count)
+hunt_deep Visiting s k x n gs left l behind hunt less at count = visit_deep s k n gs left behind at.1 count
+hunt_deep _ s k x n gs left l behind hunt less at count = absurd hunt
