@@ -230,8 +230,7 @@ event 444: controller 0 heard silence, done: block-full
     )
 }
 
-/// A gear that is searched by a survey: nobody under the old numbers, and two questions in the first hunt after it
-/// drew.
+/// A survey of one gear: nobody under the old numbers, and two questions in the first hunt after it drew.
 const SURVEYED: &str = "site 1 0-3
 draws 123456
 survey 0

@@ -170,3 +170,71 @@ fn an_ascent_over_nobody_asks_twice(rt: HostRuntime) {
     ascent.begin_anew();
     asks(&rt, &mut ascent, &[(0xFFFFFE, false)], Step::Again);
 }
+
+/// The ascent that is made of the parts of this one.
+fn made_again(ascent: &Ascent) -> Option<Ascent> {
+    Ascent::of(
+        ascent.low(),
+        ascent.high(),
+        ascent.steps(),
+        ascent.is_anew(),
+        ascent.silent(),
+        ascent.found(),
+        ascent.top(),
+    )
+}
+
+/// Whether an ascent that is made again before each question asks these numbers, each with its answer.
+fn goes_on_anew(ascent: &mut Ascent, probes: &[(u32, bool)]) -> bool {
+    for (probe, yes) in probes {
+        match made_again(ascent) {
+            Some(made) => *ascent = made,
+            None => return false,
+        }
+        if ascent.probe().value() != *probe {
+            return false;
+        }
+        ascent.answer(*yes);
+    }
+    true
+}
+
+/// At last it begins anew, and asks the greatest number that was found.
+#[test]
+fn an_ascent_is_made_again_of_its_parts(rt: HostRuntime) {
+    let mut ascent = Ascent::new();
+    for probes in [FIRST, SECOND, THIRD, LAST, &[(0x900000, true)]] {
+        same(&rt, &goes_on_anew(&mut ascent, probes), &true);
+        ascent.go_on();
+    }
+}
+
+/// The two bounds, the steps up, whether it begins anew, the silences, how many were found, and the greatest of them.
+type Parts = (u32, u32, u8, bool, u8, u8, u32);
+
+/// Whether there is an ascent with these parts.
+fn is_ascent(parts: Parts) -> Result<bool, Fail> {
+    let (low, high, steps, is_anew, silent, found, top) = parts;
+    let (low, high, top) = (random(low)?, random(high)?, random(top)?);
+    Ok(Ascent::of(low, high, steps, is_anew, silent, found, top).is_some())
+}
+
+#[test]
+fn parts_of_no_ascent_are_refused(rt: HostRuntime) -> Result<(), Fail> {
+    let cases: [(Parts, bool); 10] = [
+        ((0, 0xFFFFFF, 0, false, 0, 0, 0), true),
+        ((0, 0xFFFFFF, 0, true, 0, 255, 0xFFFFFE), true),
+        ((0xFFFFFF, 0xFFFFFF, 6, false, 2, 3, 0x900000), true),
+        ((0, 0xFFFFFF, 5, false, 0, 1, 0), false),
+        ((0xFFFFFF, 0xFFFFFF, 6, false, 1, 3, 0x900000), false),
+        ((0xFFFFFF, 0xFFFFFF, 6, false, 3, 3, 0x900000), false),
+        ((0xFFFFFE, 0xFFFFFF, 1, false, 1, 0, 0), false),
+        ((0, 0xFFFFFF, 0, false, 2, 0, 0), false),
+        ((0xFFFFFF, 0xFFFFFF, 0, true, 1, 1, 5), false),
+        ((0, 0xFFFFFF, 0, false, 0, 1, 0xFFFFFF), false),
+    ];
+    for (parts, wanted) in cases {
+        same(&rt, &is_ascent(parts)?, &wanted);
+    }
+    Ok(())
+}
