@@ -1,4 +1,4 @@
-ghost use Rattle.std.specs.Prelude.{◌≡◌, ◌≢◌, ℕ, IfOk, IfErr, IfSome, IfNone, OnOk, OnErr};
+ghost use Rattle.std.specs.Prelude.{◌≡◌, ◌≢◌, ℕ, false, IsTrue, IsSome, IfOk, IfErr, IfSome, IfNone, OnOk, OnErr};
 ghost use Rattle.std.specs.declared.option.Option.TheVariants.{None, Some};
 ghost use Rattle.once_cell.specs.Once.{cell_name};
 ghost use Rattle.dali_enrol.specs.declared.error.DirectoryError.TheVariants.{NoMemory};
@@ -37,10 +37,12 @@ impl Model for Directory {
 /// What one reader of a directory has learned of it: for each short address nothing yet, or the entry that stands
 /// there for good.
 ///
-/// Contracts see the places that it is of, and what it knows.
+/// Contracts see the places that it is of, what it knows, and what it found standing where it posted.
 #[derive(Drop)]
 pub struct Pass {
     notes: Vec<Note<Enrolled>>,
+    /// Where a card was posted or handed back, what stands there, be it of another address.
+    standing: Vec<Note<Enrolled>>,
 }
 
 impl Model for Pass {
@@ -53,13 +55,16 @@ impl Model for Pass {
     ghost view = { λ p. record {
       places = map (λ n. n.cell) p.notes.items;
       known = map (λ n. n.known) p.notes.items;
+      standing = map (λ n. n.known) p.standing.items;
     } };
 
-    ghost invariant = { λ p. (vec_len p.notes ≡ 64) × AtItsAddress (map (λ n. n.known) p.notes.items) };
+    ghost invariant = { λ p. (vec_len p.notes ≡ 64) × (vec_len p.standing ≡ 64)
+        × AtItsAddress (map (λ n. n.known) p.notes.items)
+        × (map (λ n. n.cell) p.standing.items ≡ map (λ n. n.cell) p.notes.items) };
 }
 
 impl Directory {
-    ghost use Rattle.dali_enrol.specs.Directory.{IsNothing, Keeps, known_at};
+    ghost use Rattle.dali_enrol.specs.Directory.{IsNothing, Keeps, known_at, stands_at};
 
     /// A directory in which nothing stands. It takes all the memory that it will need beside its cards.
     pub fn new(alloc: Global) -> Result<Directory, DirectoryError>
@@ -83,10 +88,14 @@ impl Directory {
         let Ok(mut notes) = Vec::with_capacity(alloc, ADDRESSES) else {
             return Err(DirectoryError::NoMemory);
         };
+        let Ok(mut standing) = Vec::with_capacity(alloc, ADDRESSES) else {
+            return Err(DirectoryError::NoMemory);
+        };
         for place in &self.places {
             notes.push_reserved(place.note());
+            standing.push_reserved(place.note());
         }
-        Ok(Pass { notes })
+        Ok(Pass { notes, standing })
     }
 
     /// The entry of a short address; `None` where none is there yet. It waits for nobody and takes no memory.
@@ -99,6 +108,7 @@ impl Directory {
         ensures known { IfSome result (λ e. known_at pass.new address ≡ Some e.now) }
         ensures others { (a : ℕ) → a ≢ address → known_at pass.new a ≡ known_at pass.old a }
         ensures kept { Keeps pass.old pass.new }
+        ensures standing { pass.new.standing ≡ pass.old.standing }
         ensures none { IfNone result (known_at pass.old address ≡ None) }
         ensures unchanged { IfNone result (pass.new ≡ pass.old) }
     {
@@ -108,19 +118,29 @@ impl Directory {
 
     /// Puts an entry at its short address, for good. It waits for nobody and takes no memory.
     ///
-    /// Where one was put there before, the card is handed back.
+    /// The card is handed back only where one was put there before. The pass then knows that one stands there, and
+    /// which (`stands_at`); that it is of this address, `look` says.
     pub fn post(&self, pass: &mut Pass, card: Box<Enrolled>) -> Result<(), Box<Enrolled>>
         requires { pass.old.places ≡ self.now }
         ensures places { pass.new.places ≡ pass.old.places }
         ensures posted { OnOk result (known_at pass.new card.value.short ≡ Some card.value) }
         ensures others { (a : ℕ) → a ≢ card.value.short → known_at pass.new a ≡ known_at pass.old a }
-        ensures first { OnOk result (known_at pass.old card.value.short ≡ None) }
+        ensures first { OnOk result ((known_at pass.old card.value.short ≡ None)
+            × (stands_at pass.old card.value.short ≡ None)) }
         ensures kept { Keeps pass.old pass.new }
         ensures back { IfErr result (λ back. back.value ≡ card.value) }
-        ensures unchanged { OnErr result (pass.new ≡ pass.old) }
+        ensures unchanged { OnErr result (pass.new.known ≡ pass.old.known) }
+        ensures stands { IsSome (stands_at pass.new card.value.short) }
+        ensures still { (a : ℕ) → IfSome (stands_at pass.old a) (λ e. stands_at pass.new a ≡ Some e) }
+        ensures nowhere_else { (a : ℕ) → a ≢ card.value.short → stands_at pass.new a ≡ stands_at pass.old a }
     {
         let at = usize::from(card.short().number());
-        offer(&self.places[at], &mut pass.notes[at], card)
+        offer(
+            &self.places[at],
+            &mut pass.notes[at],
+            &mut pass.standing[at],
+            card,
+        )
     }
 
     /// Two passes of one directory that both know an entry of a short address know the same one. It waits for nobody
@@ -161,24 +181,56 @@ fn ask<'a>(
     }
 }
 
-/// Puts a card into a place, where nothing stands there.
+/// Whether something stands in a place. The second note has it then.
+fn is_taken(
+    place: &OnceBox<Enrolled>,
+    note: &mut Note<Enrolled>,
+    stands: &mut Note<Enrolled>,
+) -> bool
+    requires note { note.old.cell ≡ cell_name place.now }
+    requires stands { stands.old.cell ≡ cell_name place.now }
+    ensures taken { IsTrue result → IsSome stands.new.known }
+    ensures free { result ≡ false → note.old.known ≡ None }
+    ensures note { note.new ≡ note.old }
+    ensures place { stands.new.cell ≡ stands.old.cell }
+    ensures kept { IfSome stands.old.known (λ e. stands.new.known ≡ Some e) }
+{
+    let mut seen = note.again();
+    if place.get_as(&mut seen).is_none() {
+        return false;
+    }
+    stands.compare(seen.again());
+    *stands = seen;
+    true
+}
+
+/// Puts a card into a place, where nothing stands there. The second note has what stands there then, whatever its
+/// address.
 fn offer(
     place: &OnceBox<Enrolled>,
     note: &mut Note<Enrolled>,
+    stands: &mut Note<Enrolled>,
     card: Box<Enrolled>,
 ) -> Result<(), Box<Enrolled>>
     requires place { note.old.cell ≡ cell_name place.now }
+    requires same_place { stands.old.cell ≡ cell_name place.now }
     requires own { IsOfAddress note.old.known card.value.short }
     ensures place { note.new.cell ≡ note.old.cell }
     ensures own { IsOfAddress note.new.known card.value.short }
     ensures kept { IfSome note.old.known (λ e. note.new.known ≡ Some e) }
-    ensures posted { OnOk result ((note.old.known ≡ None) × (note.new.known ≡ Some card.value)) }
+    ensures posted { OnOk result (note.new.known ≡ Some card.value) }
+    ensures first { OnOk result ((note.old.known ≡ None) × (stands.old.known ≡ None)) }
     ensures back { IfErr result (λ back. (back.value ≡ card.value) × (note.new ≡ note.old)) }
+    ensures same_place { stands.new.cell ≡ stands.old.cell }
+    ensures stands { IsSome stands.new.known }
+    ensures still { IfSome stands.old.known (λ e. stands.new.known ≡ Some e) }
 {
-    let was = note.again();
-    let posted = place.set_as(card, note);
-    if posted.is_err() {
-        *note = was;
+    if is_taken(place, note, stands) {
+        return Err(card);
+    }
+    let posted = place.set_as(card, stands);
+    if posted.is_ok() {
+        *note = stands.again();
     }
     posted
 }

@@ -26,7 +26,7 @@ ask-requires-clause-own c =
     let within : i < length notes.items = omega (arith, notes.ok.0) in
     let at : i ≡ c.args.address = omega (arith, c.from-at.ensures, c.number.ensures.value) in
     subst (IsOfAddress x.known) at (subst (λ o. IsOfAddress o i) (value_at (λ n. n.known) notes.items i x within c.index_mut.ensures.value None)
-    (c.pass.invariant.1 i))
+    (c.pass.invariant.2 i))
 
 pub invariant_of-pass : goal.invariant_of-pass
 invariant_of-pass c =
@@ -35,7 +35,12 @@ invariant_of-pass c =
     let y = c.ask.new.note in
     let within : i < length notes.items = omega (arith, notes.ok.0) in
     let at : i ≡ c.args.address = omega (arith, c.from-at.ensures, c.number.ensures.value) in
-    (c.pass.invariant.0, own_set (λ n. n.known) notes.items i y within c.pass.invariant.1 (subst (IsOfAddress y.known) (sym at) c.ask.ensures.own))
+    let cells = values_set (λ n. n.cell) notes.items i c.index_mut.result.now within c.index_mut.ensures.value y c.ask.ensures.place in (
+      c.pass.invariant.0,
+      c.pass.invariant.1,
+      own_set (λ n. n.known) notes.items i y within c.pass.invariant.2 (subst (IsOfAddress y.known) (sym at) c.ask.ensures.own),
+      c.pass.invariant.3 ∙ sym cells,
+    )
 
 pub returns-clause-places : goal.returns-clause-places
 returns-clause-places c =

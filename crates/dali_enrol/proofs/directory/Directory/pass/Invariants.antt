@@ -11,4 +11,8 @@ invariant-loop-place l = record {
   all : length l.place-items ≡ 64;
   places : map (λ n. n.cell) l.notes.items ≡ map cell_name (take l.place-index l.place-items);
   nothing : (k : ℕ) → get_or (map (λ n. n.known) l.notes.items) k None ≡ None;
+  count_too : vec_len l.standing ≡ l.place-index;
+  room_too : vec_capacity l.standing ≡ 64;
+  same : map (λ n. n.cell) l.standing.items ≡ map (λ n. n.cell) l.notes.items;
+  nothing_too : (k : ℕ) → get_or (map (λ n. n.known) l.standing.items) k None ≡ None;
 }
