@@ -7,13 +7,14 @@ use Rattle.dali_script.specs.declared.block.Block.{Block}
 use Rattle.dali_script.specs.declared.records.Record.{Record}
 use Rattle.dali_script.specs.declared.records.Record.TheVariants.{Enrol}
 use Rattle.dali_script.specs.Records.{Has}
-use Rattle.dali_enrol.specs.Directory.{Pass, known_at}
+use Rattle.dali_script.specs.Table.{Enrolled}
+use Rattle.dali_enrol.specs.Directory.{Pass, Keeps, known_at}
 use Rattle.dali_line.specs.Leaves.{IsStored, Leaves, Learns, Posts, Stores}
 use Rattle.dali_line.proofs.Leaving.{leaves_none, leaves_more}
 
 -- WHAT A WORKER'S PASS LEARNS, turn by turn.
 
-has_left : {A : Type 0} (xs ys : List A) (x : A) → Has xs x → Has (xs ++ ys) x
+pub has_left : {A : Type 0} (xs ys : List A) (x : A) → Has xs x → Has (xs ++ ys) x
 has_left [] ys x has = elim has [ ]
 has_left (z ∷ xs) ys x (inl here) = inl here
 has_left (z ∷ xs) ys x (inr there) = inr (has_left xs ys x there)
@@ -23,12 +24,12 @@ some_then None P Q f p = elim p [ ]
 some_then (Some x) P Q f p = f x p
 
 -- of longer lists too
-learns_wider : (was is : Pass) (xs ys : List Record) → ((x : Record) → Has xs x → Has ys x) → Learns was is xs → Learns was is ys
+pub learns_wider : (was is : Pass) (xs ys : List Record) → ((x : Record) → Has xs x → Has ys x) → Learns was is xs → Learns was is ys
 learns_wider was is xs ys wider learned a = ⊎_elim (λ same. inl same)
     (λ some. inr (some_then (known_at is a) _ _ (λ e has. wider _ has) some)) (learned a)
 
 -- first these, then those
-learns_more : (was between is : Pass) (xs : List Record) → Learns was between xs → Learns between is xs → Learns was is xs
+pub learns_more : (was between is : Pass) (xs : List Record) → Learns was between xs → Learns between is xs → Learns was is xs
 learns_more was between is xs first second a = ⊎_elim
     (λ same. ⊎_elim (λ before. inl (same ∙ before))
     (λ some. inr (subst (λ o. IsSomeAnd o (λ e. Has xs (Enrol e.short e.random))) (sym same) some)) (first a))
@@ -46,6 +47,14 @@ learns_stored b was is xs x stored learned a = ⊎_elim (λ same. inl same)
     (λ some. inr (some_then (known_at is a) _ _
     (λ e has. ⊎_elim (λ here. stored_stands b xs e.short e.random (subst (IsStored b xs) here stored)) (λ none. elim none [ ]) has) some))
     (learned a)
+
+-- what was known is known still, later too
+pub known_then : (o n m : Option Enrolled) → IfSome o (λ e. n ≡ Some e) → IfSome n (λ e. m ≡ Some e) → IfSome o (λ e. m ≡ Some e)
+known_then None n m one two = tt
+known_then (Some e) n m one two = subst (λ (x : Option Enrolled). IfSome x (λ f. m ≡ Some f)) one two
+
+pub keeps_more : (was between is : Pass) → Keeps was between → Keeps between is → Keeps was is
+keeps_more was between is one two a = known_then (known_at was a) (known_at between a) (known_at is a) (one a) (two a)
 
 module _ {S : Type 0} (is_up is_sound : S → Type 0) (holds : S → List Record → Type 0) where
   -- where the pass is as it was

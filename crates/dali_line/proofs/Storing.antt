@@ -1,11 +1,14 @@
-use Rattle.std.proofs.Common.{◌⊎◌, inl, inr, List, [], ◌∷◌, ◌++◌, ◌≡◌, sym, subst, ◌∙◌}
+use Rattle.std.proofs.Common.{◌⊎◌, inl, inr, List, [], ◌∷◌, ◌++◌, ◌≡◌, refl, sym, subst, ◌∙◌}
 use Rattle.std.proofs.lemmas.List.{append-nil}
 use Rattle.dali_script.specs.declared.block.Block.{Block}
 use Rattle.dali_script.specs.declared.records.Record.{Record}
 use Rattle.dali_script.specs.Records.{Kept, Has, Shows, TakesAway, with_record, without_records}
 use Rattle.dali_script.proofs.Lists.{has_last, shown_by, shown_none}
 use Rattle.dali_reserve.specs.Store.{replay_of, IsReplay}
+use Rattle.std.specs.declared.option.Option.TheVariants.{Some}
+use Rattle.dali_script.specs.declared.orders.Input.TheVariants as input
 use Rattle.dali_line.specs.Leaves.{IsStored, Stores}
+use Rattle.dali_line.specs.Steps.{TakesIn}
 
 -- A RECORD THAT THE RECORDS OF A STORE SHOW STANDS IN ITS LIST, unless it takes away.
 
@@ -44,3 +47,16 @@ stores_one is_up is_sound holds block old new x left s u xs held = go (left s u 
       let same = sym (append-nil xs) in
       ([], subst (holds new) same there.0, subst (λ (ys : List Record). IsStored (block new) ys x) same there.1)
   go (inr held) = (x ∷ [], held, inl (has_last xs x))
+
+-- what a store took in of the record that was due, where it has it then, and where it may
+pub takes_stored : {S : Type 0} (holds : S → List Record → Type 0) (b : Block) (new : S) (xs : List Record) (x : Record)
+    → (holds new xs × IsStored b xs x) ⊎ holds new (xs ++ x ∷ []) → (more : List Record) × TakesIn b xs (Some x) input.Committed more × holds new (xs ++ more)
+takes_stored holds b new xs x (inl there) =
+    let same = sym (append-nil xs) in
+    ([], (inl refl, subst (λ (ys : List Record). IsStored b ys x) same there.1), subst (holds new) same there.0)
+takes_stored holds b new xs x (inr held) = (x ∷ [], (inr refl, inl (has_last xs x)), held)
+
+pub takes_failed : {S : Type 0} (holds : S → List Record → Type 0) (b : Block) (new : S) (xs : List Record) (x : Record)
+    → holds new xs ⊎ holds new (xs ++ x ∷ []) → (more : List Record) × TakesIn b xs (Some x) input.CommitFailed more × holds new (xs ++ more)
+takes_failed holds b new xs x (inl held) = ([], inl refl, subst (holds new) (sym (append-nil xs)) held)
+takes_failed holds b new xs x (inr held) = (x ∷ [], inr refl, held)

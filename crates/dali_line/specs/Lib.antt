@@ -1,7 +1,13 @@
 pub mod Calls
 pub mod Commits
 pub mod Counts
+pub mod Driving
+pub mod Ends
+pub mod Facts
 pub mod Found
 pub mod Leaves
 pub mod Ports
+pub mod Posted
+pub mod Runs
 pub mod Shares
+pub mod Steps

@@ -1,6 +1,17 @@
-ghost use Rattle.std.specs.Prelude.{◌≡◌, ℕ, ◌+◌, IfOk, OnOk, OnErr};
+ghost use Rattle.std.specs.Prelude.{◌≡◌, ◌⊎◌, ℕ, ◌+◌, false, IfOk, IfErr, IfSome, IfNone, OnOk, OnErr, IsTrue};
+ghost use Rattle.dali_script.specs.declared.orders.Input.{Input};
+ghost use Rattle.dali_script.specs.declared.orders.Order.{Order};
+ghost use Rattle.dali_script.specs.declared.records.Record.{Record};
+ghost use Rattle.dali_standing.specs.declared.refusal.Refusal.{Refusal};
+ghost use Rattle.dali_standing.specs.declared.trouble.Trouble.{Trouble};
+ghost use Rattle.dali_standing.specs.declared.trouble.Report.{Report};
+ghost use Rattle.dali_line.specs.declared.ready.Ready.TheVariants as ready;
+ghost use Rattle.dali_line.specs.Steps.{IsOfBus};
 ghost use Rattle.dali_line.specs.Shares.{PortShare, raised_share};
-ghost use Rattle.dali_line.specs.Found.{events_in};
+ghost use Rattle.dali_line.specs.Found.{events_in, FromDriver, IsOver};
+ghost use Rattle.dali_line.specs.Calls.{ActsFrom, IsRefusedFrom, IsUntoldFrom, IsOrderedFrom};
+ghost use Rattle.dali_line.specs.Calls.{IsUnorderedFrom, IsDownFrom};
+ghost use Rattle.dali_line.specs.Calls.{PumpsFrom, LapsesFrom};
 
 use crate::driver::Driver;
 use crate::line::Line;
@@ -18,6 +29,19 @@ use std::sync::ledger::Ledger;
 ///
 /// Contracts see a port by `share`: the controller that it speaks for, and its share, how many events are steps of that
 /// controller. They see a driver by `driven`, its share: how many events are no controller's step.
+///
+/// What a call was answered they see by relations, which say it of the shares before and after. What knows a bus by
+/// this trait alone, as a `Worker`, has them from nothing but a call: so its contract says by them what it did.
+///
+/// - `acted`: the port's controller acted on this input, and ordered this.
+/// - `refused`: it was refused to act on this input.
+/// - `untold`: the bus had told it nothing.
+/// - `ordered`, `unordered`: the commit of this record was due for it, or none.
+/// - `is_down`: it was found to be down.
+/// - `pumped`: under this trouble the bus reported this.
+/// - `lapsed`: the owner of the bus lost it.
+/// - `is_over`: all was over.
+/// - `is_stopped`: all is stopped.
 pub trait Bus {
     /// The right to act for one controller.
     type Port;
@@ -29,6 +53,26 @@ pub trait Bus {
 
     ghost driven: { Self.Driver → ℕ };
 
+    ghost acted: { PortShare → Input → Order → PortShare → Type 0 };
+
+    ghost refused: { PortShare → Input → Refusal → Type 0 };
+
+    ghost untold: { PortShare → Type 0 };
+
+    ghost ordered: { PortShare → Record → Type 0 };
+
+    ghost unordered: { PortShare → Type 0 };
+
+    ghost is_down: { PortShare → Type 0 };
+
+    ghost pumped: { ℕ → Trouble → Report → ℕ → Type 0 };
+
+    ghost lapsed: { ℕ → ℕ → Type 0 };
+
+    ghost is_over: { ℕ → Type 0 };
+
+    ghost is_stopped: { Self → Type 0 };
+
     /// The number of the port's controller; 255 where it speaks for nobody.
     fn controller(&self, port: &Self::Port) -> u8
         ensures { result ≡ (share port.now).controller };
@@ -38,11 +82,15 @@ pub trait Bus {
         ensures accepted { OnOk result (share port.new ≡ raised_share (share port.old)) }
         ensures refused { OnErr result (share port.new ≡ share port.old) }
         ensures receipt { IfOk result (λ r. (r.controller ≡ (share port.old).controller) × (r.input ≡ input)
-            × (r.number ≡ (share port.new).share)) };
+            × (r.number ≡ (share port.new).share)) }
+        ensures acted { IfOk result (λ r. acted (share port.old) input r.order (share port.new)) }
+        ensures cause { IfErr result (refused (share port.old) input) };
 
     /// What the bus has told the port's controller, and it has not acted on; or Start.
     fn next<R: Wait>(&self, rt: &R, port: &mut Self::Port) -> Option<Input>
-        ensures { share port.new ≡ share port.old };
+        ensures same { share port.new ≡ share port.old }
+        ensures told { IfSome result IsOfBus }
+        ensures untold { IfNone result (untold (share port.old)) };
 
     /// What is due for the port's controller.
     fn due<R: Wait>(&self, rt: &R, port: &mut Self::Port) -> Due
@@ -51,12 +99,15 @@ pub trait Bus {
     /// Waits until something is due for the port's controller (true); or all is stopped, or the controller is down
     /// (false).
     fn wait<R: Wait>(&self, rt: &R, port: &mut Self::Port) -> bool
-        ensures { share port.new ≡ share port.old };
+        ensures same { share port.new ≡ share port.old }
+        ensures ended { result ≡ false → is_stopped self.now ⊎ is_down (share port.old) };
 
     /// The port's holder begins the commit that is due, if one is: of the record that is answered. Until the controller
     /// was told what became of it, or `end_commit`, nobody brings the controller up.
     fn begin_commit<R: Wait>(&self, rt: &R, port: &mut Self::Port) -> Option<Record>
-        ensures { share port.new ≡ share port.old };
+        ensures same { share port.new ≡ share port.old }
+        ensures ordered { IfSome result (ordered (share port.old)) }
+        ensures unordered { IfNone result (unordered (share port.old)) };
 
     /// The port's holder makes no commit any more, and has made one whose outcome it could not tell (true), or not.
     fn end_commit<R: Wait>(&self, rt: &R, port: &mut Self::Port, is_made: bool)
@@ -64,7 +115,8 @@ pub trait Bus {
 
     /// Waits until a request more may wait, or the port's controller is down (true); or all is stopped (false).
     fn wait_for_room<R: Wait>(&self, rt: &R, port: &mut Self::Port) -> bool
-        ensures { share port.new ≡ share port.old };
+        ensures same { share port.new ≡ share port.old }
+        ensures ended { result ≡ false → is_stopped self.now };
 
     /// The request that is next comes on the bus; Idle where none is.
     fn pump<R: Wait>(
@@ -74,22 +126,28 @@ pub trait Bus {
         trouble: Trouble,
     ) -> Result<Report, Refusal>
         ensures accepted { IfOk result (λ r. driven driver.new ≡ driven driver.old + events_in r) }
-        ensures refused { OnErr result (driven driver.new ≡ driven driver.old) };
+        ensures refused { OnErr result (driven driver.new ≡ driven driver.old) }
+        ensures pumped { IfOk result (λ r. pumped (driven driver.old) trouble r (driven driver.new)) };
 
     /// The owner of the bus loses it. Answers who it was, if anybody.
     fn lapse<R: Wait>(&self, rt: &R, driver: &mut Self::Driver) -> Result<Option<u8>, Refusal>
         ensures accepted { OnOk result (driven driver.new ≡ driven driver.old + 1) }
-        ensures refused { OnErr result (driven driver.new ≡ driven driver.old) };
+        ensures refused { OnErr result (driven driver.new ≡ driven driver.old) }
+        ensures lapsed { OnOk result (lapsed (driven driver.old) (driven driver.new)) };
 
     /// Waits until all is stopped, a request is next, nothing can be sent, or all is over.
     fn ready<R: Wait>(&self, rt: &R, driver: &mut Self::Driver) -> Ready
-        ensures { driven driver.new ≡ driven driver.old };
+        ensures same { driven driver.new ≡ driven driver.old }
+        ensures over { result ≡ ready.Over → is_over (driven driver.old) }
+        ensures stopped { result ≡ ready.Stopped → is_stopped self.now };
 
     /// All is stopped, for good: who waits now or later is told so.
-    fn stop<R: Wait>(&self, rt: &R);
+    fn stop<R: Wait>(&self, rt: &R)
+        ensures { is_stopped self.now };
 
     /// Whether all is stopped.
-    fn is_stopped<R: Wait>(&self, rt: &R) -> bool;
+    fn is_stopped<R: Wait>(&self, rt: &R) -> bool
+        ensures { IsTrue result → is_stopped self.now };
 }
 
 impl<P0: Ledger, P1: Ledger, P2: Ledger, P3: Ledger, D: Ledger> Bus for Line<P0, P1, P2, P3, D> {
@@ -100,6 +158,27 @@ impl<P0: Ledger, P1: Ledger, P2: Ledger, P3: Ledger, D: Ledger> Bus for Line<P0,
     ghost share = { λ port. port };
 
     ghost driven = { λ driver. driver };
+
+    ghost acted = { ActsFrom };
+
+    ghost refused = { IsRefusedFrom };
+
+    ghost untold = { IsUntoldFrom };
+
+    ghost ordered = { IsOrderedFrom };
+
+    ghost unordered = { IsUnorderedFrom };
+
+    ghost is_down = { IsDownFrom };
+
+    ghost pumped = { PumpsFrom };
+
+    ghost lapsed = { LapsesFrom };
+
+    ghost is_over = { λ driver. FromDriver driver IsOver };
+
+    // Which lines were stopped is not seen in their values.
+    ghost is_stopped = { λ _. Unit {0} };
 
     fn controller(&self, port: &Port<P0, P1, P2, P3, D>) -> u8 {
         port.controller()
@@ -114,6 +193,7 @@ impl<P0: Ledger, P1: Ledger, P2: Ledger, P3: Ledger, D: Ledger> Bus for Line<P0,
         self.act(rt, port, input)
     }
 
+    #[tactic(auto, using(crate::proofs::Telling::told_of_bus))]
     fn next<R: Wait>(&self, rt: &R, port: &mut Port<P0, P1, P2, P3, D>) -> Option<Input> {
         self.next(rt, port)
     }

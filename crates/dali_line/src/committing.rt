@@ -11,6 +11,7 @@ use dali_script::Record;
 /// They show it where a worker before committed it and could not tell.
 #[tactic(auto, using(crate::proofs::Storing::there_stored))]
 pub(crate) fn try_commit<K: Keep>(keep: &mut K, added: &Record) -> bool
+    ensures block { K.block keep.new ≡ K.block keep.old }
     ensures up { K.is_up keep.new → K.is_up keep.old }
     ensures sound { K.is_sound keep.old → K.is_up keep.new → K.is_sound keep.new }
     ensures list { K.is_sound keep.old → K.is_up keep.new → (xs : List Record) → K.holds keep.old xs

@@ -1,3 +1,6 @@
+ghost use Rattle.std.specs.Prelude.{◌≡◌};
+ghost use Rattle.dali_line.specs.Ends.{stops};
+
 use dali_script::{End, Fault};
 use dali_world::Refusal;
 
@@ -26,7 +29,9 @@ pub enum Outcome {
 
 impl Outcome {
     /// Whether a run that ends so stops the line: unless its controller ended or halted, or is down.
-    pub(crate) fn stops(self) -> bool {
+    pub fn stops(self) -> bool
+        ensures { result ≡ stops self }
+    {
         match self {
             Outcome::Ended(_) | Outcome::Halted(_) | Outcome::Down => false,
             Outcome::Refused(_) | Outcome::TurnsSpent | Outcome::Stopped | Outcome::NoMemory =>

@@ -1,8 +1,9 @@
-ghost use Rattle.std.specs.Prelude.{◌≡◌, [], ◌∷◌, IfOk, IfErr, IfSome, IfNone, IsSomeAnd};
+ghost use Rattle.std.specs.Prelude.{◌≡◌, [], ◌∷◌, IfOk, IfErr, OnOk, IfSome, IfNone, IsSomeAnd};
 ghost use Rattle.dali_script.specs.declared.table.TableError.TheVariants.{NoMemory};
 ghost use Rattle.dali_enrol.specs.Directory.{Keeps};
 ghost use Rattle.dali_script.specs.Table.{entry};
 ghost use Rattle.dali_line.specs.Leaves.{Learns};
+ghost use Rattle.dali_line.specs.Posted.{HasPosted, StillStands};
 
 use dali_enrol::{Directory, Enrolled, Pass, Table, TableError};
 use dali_frame::{Random24, Short};
@@ -40,6 +41,8 @@ pub(crate) fn post(
     ensures known { Keeps pass.old pass.new }
     ensures learned { IfSome kept.now (λ r. Learns pass.old pass.new (r ∷ [])) }
     ensures none { IfNone kept.now (pass.new ≡ pass.old) }
+    ensures still { StillStands pass.old pass.new }
+    ensures posted { OnOk result (HasPosted pass.new kept.now) }
     ensures refusal { IfErr result (λ e. e ≡ NoMemory) }
 {
     let Some(Record::Enrol(address, random)) = kept else {

@@ -1,4 +1,5 @@
-ghost use Rattle.std.specs.Prelude.{◌≡◌, ◌+◌, ◌≤◌};
+ghost use Rattle.std.specs.Prelude.{◌≡◌, ◌⊎◌, ◌+◌, ◌≤◌, false, None, Ok};
+ghost use Rattle.dali_line.specs.Driving.{Drives};
 
 use crate::bus::Bus;
 use crate::gate::{Gate, Moment};
@@ -32,7 +33,7 @@ impl<D, G: Gate> Pumper<D, G> {
     /// the line. Gives the driver back, with the refusal, if there was one.
     ///
     /// A turn waits until a request is next, and lets it come on the bus undisturbed. Where no request more may wait
-    /// and the owner of the bus has none among them, it lets the bus lapse.
+    /// and the owner of the bus has none among them, it lets the bus lapse. It does nothing else (`drives`).
     pub fn run<B: Bus<Driver = D>, R: Wait>(
         self,
         rt: &R,
@@ -41,6 +42,9 @@ impl<D, G: Gate> Pumper<D, G> {
     ) -> (D, Option<Refusal>)
         ensures least { B.driven self.driver ≤ B.driven result.0 }
         ensures most { B.driven result.0 ≤ B.driven self.driver + turns }
+        ensures drives { Drives B.pumped B.lapsed (B.driven self.driver) (B.driven result.0) turns }
+        // Nobody waits for it then.
+        ensures ended { B.is_stopped bus.now ⊎ ((result.1 ≡ None) × B.is_over (B.driven result.0)) }
     {
         let Pumper { driver, gate } = self;
         let mut driver = driver;
@@ -61,10 +65,12 @@ impl<D, G: Gate> Pumper<D, G> {
 }
 
 /// A turn of the bus, once there is one. Whether there was one: not where all is over, or the line is stopped.
-#[tactic(auto, using(crate::proofs::Counts::few_events))]
+#[tactic(auto, using(crate::proofs::Driving::turns))]
 fn take_turn<B: Bus, R: Wait>(rt: &R, bus: &B, driver: &mut B::Driver) -> Result<bool, Refusal>
     ensures least { B.driven driver.old ≤ B.driven driver.new }
     ensures most { B.driven driver.new ≤ B.driven driver.old + 1 }
+    ensures drives { Drives B.pumped B.lapsed (B.driven driver.old) (B.driven driver.new) 1 }
+    ensures ended { result ≡ Ok false → B.is_stopped bus.now ⊎ B.is_over (B.driven driver.new) }
 {
     match bus.ready(rt, driver) {
         Ready::Stopped | Ready::Over => Ok(false),

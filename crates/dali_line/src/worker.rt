@@ -1,7 +1,16 @@
-ghost use Rattle.std.specs.Prelude.{◌≡◌, ◌⊎◌, false, None, IfSome, IsTrue};
+ghost use Rattle.std.specs.Prelude.{◌≡◌, ◌⊎◌, false, List, [], ◌∷◌, ◌++◌, Option, None, Some, Err, IfSome, IfNone};
+ghost use Rattle.std.specs.Prelude.{IfOk, IfErr, OnErr, IsTrue, MatchOption};
 ghost use Rattle.dali_script.specs.declared.orders.Input.TheVariants as input;
+ghost use Rattle.dali_script.specs.declared.orders.Order.{Order};
+ghost use Rattle.dali_script.specs.declared.orders.Order.TheVariants as order;
 ghost use Rattle.dali_script.specs.declared.records.Record.{Record};
-ghost use Rattle.dali_line.specs.Leaves.{Leaves, Posts, Stores};
+ghost use Rattle.dali_standing.specs.declared.refusal.Refusal.TheVariants.{QueueFull};
+ghost use Rattle.dali_line.specs.Leaves.{Leaves, Learns, Posts, Stores};
+ghost use Rattle.dali_line.specs.Ends.{stops, end_of, end_when_refused};
+ghost use Rattle.dali_line.specs.Facts.{facts_of};
+ghost use Rattle.dali_line.specs.Runs.{IsIdle, Gives, Tells, Runs};
+ghost use Rattle.dali_line.specs.Steps.{TakesIn, given_of, told_at, first_of};
+ghost use Rattle.dali_line.specs.declared.outcome.Outcome.TheVariants.{TurnsSpent};
 ghost use Rattle.dali_line.specs.Shares.{Follows};
 ghost use Rattle.dali_enrol.specs.Directory.{Keeps};
 
@@ -62,6 +71,8 @@ impl<P, K: Keep, G: Gate> Worker<P, K, G> {
     ///
     /// Where the bus lapsed before the controller acted on what it was told (NotDue), the turn ends. The outcome of a
     /// commit is told, or the run ends: with Down, Stopped or Refused.
+    ///
+    /// The clause `runs` says all this of the steps that were made with the port, by what the bus says of its calls.
     #[tactic(auto, using(crate::proofs::Learning::turns))]
     pub fn run<B: Bus<Port = P>, R: Wait>(
         self,
@@ -78,6 +89,11 @@ impl<P, K: Keep, G: Gate> Worker<P, K, G> {
         ensures pass { result.3.places ≡ directory.now }
         ensures known { Keeps pass result.3 }
         ensures posted { Posts K.is_up K.is_sound K.holds self.keep result.2 pass result.3 }
+        ensures runs { (last : Option Order) × Runs K.is_up K.is_sound K.holds K.block
+            (facts_of B.acted B.refused B.untold B.unordered B.ordered B.is_down (B.is_stopped bus.now))
+            None last (B.share self.port) (B.share result.1) self.keep result.2 pass result.3 turns
+            (Some result.0) }
+        ensures stopped { IsTrue (stops result.0) → B.is_stopped bus.now }
     {
         let Worker {
             port,
@@ -90,20 +106,16 @@ impl<P, K: Keep, G: Gate> Worker<P, K, G> {
             keep,
             gate,
             surveys,
+            last: None,
             kept: None,
         };
-        let mut outcome = Outcome::TurnsSpent;
-        for _ in 0..turns {
-            if let Some(end) = shift.take_turn(rt, alloc, bus, directory, &mut pass) {
-                outcome = end;
-                break;
-            }
-        }
+        let outcome = shift.take_turns(rt, alloc, bus, directory, &mut pass, turns);
         let Shift {
             mut port,
             keep,
             gate,
             surveys: _,
+            last: _,
             kept,
         } = shift;
         bus.end_commit(rt, &mut port, kept.is_some());
@@ -117,10 +129,7 @@ impl<P, K: Keep, G: Gate> Worker<P, K, G> {
 
 /// What a controller is given that was told this: Survey where it is to start and begins by a survey.
 fn begun(told: Input, surveys: bool) -> Input
-    ensures survey { IsTrue surveys → told ≡ input.Start → result ≡ input.Survey }
-    ensures start { IsTrue surveys → result ≡ input.Start → ⊥ }
-    ensures other { (told ≡ input.Start → ⊥) → result ≡ told }
-    ensures plain { surveys ≡ false → result ≡ told }
+    ensures { result ≡ given_of surveys told }
 {
     match told {
         Input::Start if surveys => Input::Survey,
@@ -134,6 +143,18 @@ fn begun(told: Input, surveys: bool) -> Input
     }
 }
 
+/// Whether a record may be the one that is due after this order, the last of a run; where there was none, any may be.
+fn is_due(last: &Option<Order>, added: &Record) -> bool
+    ensures due { IsTrue result → MatchOption last.now (Unit {0}) (λ o. o ≡ order.Commit added.now) }
+    ensures other { result ≡ false → MatchOption last.now ⊥ (λ o. o ≡ order.Commit added.now → ⊥) }
+{
+    match last {
+        None => true,
+        Some(Order::Commit(ordered)) => ordered == added,
+        Some(Order::Put(..) | Order::Done(_) | Order::Halt(_)) => false,
+    }
+}
+
 /// The controller of a port acts on an input. Where no request more may wait, it waits for room before.
 ///
 /// QueueFull is answered only where the line was stopped meanwhile.
@@ -143,7 +164,11 @@ fn act_on<B: Bus, R: Wait>(
     port: &mut B::Port,
     input: Input,
 ) -> Result<Receipt, Refusal>
-    ensures { Follows (B.share port.old) (B.share port.new) 1 }
+    ensures port { Follows (B.share port.old) (B.share port.new) 1 }
+    ensures acted { IfOk result (λ r. B.acted (B.share port.old) input r.order (B.share port.new)) }
+    ensures refused { IfErr result (B.refused (B.share port.old) input) }
+    ensures unmoved { OnErr result (B.share port.new ≡ B.share port.old) }
+    ensures full { result ≡ Err QueueFull → B.is_stopped bus.now }
 {
     for _ in rt.forever() {
         match bus.act(rt, port, input) {
@@ -159,7 +184,9 @@ fn act_on<B: Bus, R: Wait>(
 }
 
 /// The end of a run at an order, if it is one.
-fn end_at(order: Order) -> Option<Outcome> {
+fn end_at(order: Order) -> Option<Outcome>
+    ensures { result ≡ end_of order }
+{
     match order {
         Order::Put(..) | Order::Commit(_) => None,
         Order::Done(end) => Some(Outcome::Ended(end)),
@@ -168,7 +195,9 @@ fn end_at(order: Order) -> Option<Outcome> {
 }
 
 /// The end of a run whose controller was refused to act on this, if it is one: not where the bus lapsed meanwhile.
-fn end_refused(refusal: Refusal, input: Input) -> Option<Outcome> {
+fn end_refused(refusal: Refusal, input: Input) -> Option<Outcome>
+    ensures { result ≡ end_when_refused refusal input }
+{
     match (refusal, input) {
         (Refusal::ControllerDown, _) => Some(Outcome::Down),
         (Refusal::QueueFull, _) => Some(Outcome::Stopped),
@@ -194,13 +223,14 @@ fn end_refused(refusal: Refusal, input: Input) -> Option<Outcome> {
     }
 }
 
-/// A worker in its run: its store, and the record that the store is found to have in this turn, until its controller
-/// was told so.
+/// A worker in its run: its store, its controller's last order in this run, and the record that the store is found to
+/// have in this turn, until its controller was told so.
 struct Shift<P, K, G> {
     port: P,
     keep: K,
     gate: G,
     surveys: bool,
+    last: Option<Order>,
     kept: Option<Record>,
 }
 
@@ -210,12 +240,17 @@ impl<P, K: Keep, G: Gate> Shift<P, K, G> {
     fn commit(&mut self, added: &Record) -> Input
         requires { self.old.kept ≡ None }
         ensures keep { Leaves K.is_up K.is_sound K.holds self.old.keep self.new.keep }
+        ensures block { K.block self.new.keep ≡ K.block self.old.keep }
         ensures told { (result ≡ input.Committed) ⊎ (result ≡ input.CommitFailed) }
         // Committed is told of a record that the store has.
-        ensures kept { result ≡ input.Committed
-            → Stores K.is_up K.is_sound K.holds K.block self.old.keep self.new.keep added.now }
+        ensures takes { K.is_sound self.old.keep → K.is_up self.new.keep → (xs : List Record)
+            → K.holds self.old.keep xs → (more : List Record)
+            × TakesIn (K.block self.new.keep) xs (Some added.now) result more
+            × K.holds self.new.keep (xs ++ more) }
         ensures stored { IfSome self.new.kept (Stores K.is_up K.is_sound K.holds K.block self.old.keep self.new.keep) }
+        ensures kept { self.new.kept ≡ first_of (told_at (Some added.now) result) }
         ensures port { self.new.port ≡ self.old.port }
+        ensures last { self.new.last ≡ self.old.last }
     {
         if try_commit(&mut self.keep, added) {
             self.kept = Some(*added);
@@ -230,8 +265,16 @@ impl<P, K: Keep, G: Gate> Shift<P, K, G> {
     #[tactic(auto, using(crate::proofs::Leaving::leaves_none))]
     fn given<B: Bus<Port = P>, R: Wait>(&mut self, rt: &R, bus: &B) -> Option<Input>
         ensures keep { Leaves K.is_up K.is_sound K.holds self.old.keep self.new.keep }
+        ensures block { K.block self.new.keep ≡ K.block self.old.keep }
+        ensures none { result ≡ None → (self.new.keep ≡ self.old.keep) × IsIdle
+            (facts_of B.acted B.refused B.untold B.unordered B.ordered B.is_down (B.is_stopped bus.now))
+            self.old.last (B.share self.old.port) }
+        ensures gives { IfSome result (λ i. Gives K.is_up K.is_sound K.holds K.block
+            (facts_of B.acted B.refused B.untold B.unordered B.ordered B.is_down (B.is_stopped bus.now))
+            self.old.last (B.share self.old.port) self.old.keep self.new.keep i self.new.kept) }
         ensures stored { IfSome self.new.kept (Stores K.is_up K.is_sound K.holds K.block self.old.keep self.new.keep) }
         ensures port { B.share self.new.port ≡ B.share self.old.port }
+        ensures last { self.new.last ≡ self.old.last }
         ensures surveys { IsTrue self.old.surveys → IfSome result (λ i. i ≡ input.Start → ⊥) }
     {
         self.kept = None;
@@ -241,6 +284,9 @@ impl<P, K: Keep, G: Gate> Shift<P, K, G> {
         let Some(added) = bus.begin_commit(rt, &mut self.port) else {
             return None;
         };
+        if !is_due(&self.last, &added) {
+            return None;
+        }
         let controller = bus.controller(&self.port);
         self.gate.at(rt, controller, Moment::BeforeCommit);
         let outcome = self.commit(&added);
@@ -248,8 +294,73 @@ impl<P, K: Keep, G: Gate> Shift<P, K, G> {
         Some(outcome)
     }
 
-    /// A turn: at most one act, on what is due. None where the run goes on.
+    /// Its controller acts on this, and what it is told to be committed is posted. The end of the run, if it ends.
     #[tactic(auto, using(crate::proofs::Leaving::leaves_none))]
+    fn tell<B: Bus<Port = P>, R: Wait>(
+        &mut self,
+        rt: &R,
+        alloc: Global,
+        bus: &B,
+        directory: &Directory,
+        pass: &mut Pass,
+        input: Input,
+    ) -> Option<Outcome>
+        requires { pass.old.places ≡ directory.now }
+        ensures keep { self.new.keep ≡ self.old.keep }
+        ensures port { Follows (B.share self.old.port) (B.share self.new.port) 1 }
+        ensures pass { pass.new.places ≡ pass.old.places }
+        ensures known { Keeps pass.old pass.new }
+        ensures tells { Tells
+            (facts_of B.acted B.refused B.untold B.unordered B.ordered B.is_down (B.is_stopped bus.now))
+            self.old.last self.new.last (B.share self.old.port) (B.share self.new.port) input pass.old pass.new
+            self.old.kept result }
+        ensures learned { IfSome self.old.kept (λ r. Learns pass.old pass.new (r ∷ [])) }
+        ensures none { IfNone self.old.kept (pass.new ≡ pass.old) }
+    {
+        match act_on(rt, bus, &mut self.port, input) {
+            Ok(receipt) => {
+                self.last = Some(receipt.order());
+                let told = self.kept.take();
+                match post(alloc, directory, pass, &told) {
+                    Ok(()) => end_at(receipt.order()),
+                    Err(_) => Some(Outcome::NoMemory),
+                }
+            }
+            Err(refusal) => end_refused(refusal, input),
+        }
+    }
+
+    /// At most one act, on what is due. The end of the run, if it ends.
+    #[tactic(auto, using(crate::proofs::Leaving::leaves_none))]
+    fn act<B: Bus<Port = P>, R: Wait>(
+        &mut self,
+        rt: &R,
+        alloc: Global,
+        bus: &B,
+        directory: &Directory,
+        pass: &mut Pass,
+    ) -> Option<Outcome>
+        requires { pass.old.places ≡ directory.now }
+        ensures keep { Leaves K.is_up K.is_sound K.holds self.old.keep self.new.keep }
+        ensures port { Follows (B.share self.old.port) (B.share self.new.port) 1 }
+        ensures pass { pass.new.places ≡ pass.old.places }
+        ensures known { Keeps pass.old pass.new }
+        ensures posted { Posts K.is_up K.is_sound K.holds self.old.keep self.new.keep pass.old pass.new }
+        ensures runs { Runs K.is_up K.is_sound K.holds K.block
+            (facts_of B.acted B.refused B.untold B.unordered B.ordered B.is_down (B.is_stopped bus.now))
+            self.old.last self.new.last (B.share self.old.port) (B.share self.new.port)
+            self.old.keep self.new.keep pass.old pass.new 1 result }
+        ensures unspent { result ≡ Some TurnsSpent → ⊥ }
+    {
+        let Some(input) = self.given(rt, bus) else {
+            return None;
+        };
+        self.tell(rt, alloc, bus, directory, pass, input)
+    }
+
+    /// A turn, once there is one: not where the line is stopped, or the controller is down. The end of the run, if it
+    /// ends.
+    #[tactic(auto, using(crate::proofs::Learning::turns))]
     fn take_turn<B: Bus<Port = P>, R: Wait>(
         &mut self,
         rt: &R,
@@ -264,6 +375,11 @@ impl<P, K: Keep, G: Gate> Shift<P, K, G> {
         ensures pass { pass.new.places ≡ pass.old.places }
         ensures known { Keeps pass.old pass.new }
         ensures posted { Posts K.is_up K.is_sound K.holds self.old.keep self.new.keep pass.old pass.new }
+        ensures runs { Runs K.is_up K.is_sound K.holds K.block
+            (facts_of B.acted B.refused B.untold B.unordered B.ordered B.is_down (B.is_stopped bus.now))
+            self.old.last self.new.last (B.share self.old.port) (B.share self.new.port)
+            self.old.keep self.new.keep pass.old pass.new 1 result }
+        ensures unspent { result ≡ Some TurnsSpent → ⊥ }
     {
         if !bus.wait(rt, &mut self.port) {
             // The line is stopped for good, or was not stopped when the controller was found to be down.
@@ -273,21 +389,39 @@ impl<P, K: Keep, G: Gate> Shift<P, K, G> {
                 Outcome::Down
             });
         }
-        let outcome = match self.given(rt, bus) {
-            None => None,
-            Some(input) => match act_on(rt, bus, &mut self.port, input) {
-                Ok(receipt) => {
-                    let told = self.kept.take();
-                    match post(alloc, directory, pass, &told) {
-                        Ok(()) => end_at(receipt.order()),
-                        Err(_) => Some(Outcome::NoMemory),
-                    }
-                }
-                Err(refusal) => end_refused(refusal, input),
-            },
-        };
+        let outcome = self.act(rt, alloc, bus, directory, pass);
         self.gate
             .at(rt, bus.controller(&self.port), Moment::AfterTurn);
         outcome
+    }
+
+    /// Turns, until one ends the run, or so many are taken.
+    #[tactic(auto, using(crate::proofs::Running::shifts))]
+    fn take_turns<B: Bus<Port = P>, R: Wait>(
+        &mut self,
+        rt: &R,
+        alloc: Global,
+        bus: &B,
+        directory: &Directory,
+        pass: &mut Pass,
+        turns: u32,
+    ) -> Outcome
+        requires { pass.old.places ≡ directory.now }
+        ensures keep { Leaves K.is_up K.is_sound K.holds self.old.keep self.new.keep }
+        ensures port { Follows (B.share self.old.port) (B.share self.new.port) turns }
+        ensures pass { pass.new.places ≡ pass.old.places }
+        ensures known { Keeps pass.old pass.new }
+        ensures posted { Posts K.is_up K.is_sound K.holds self.old.keep self.new.keep pass.old pass.new }
+        ensures runs { Runs K.is_up K.is_sound K.holds K.block
+            (facts_of B.acted B.refused B.untold B.unordered B.ordered B.is_down (B.is_stopped bus.now))
+            self.old.last self.new.last (B.share self.old.port) (B.share self.new.port)
+            self.old.keep self.new.keep pass.old pass.new turns (Some result) }
+    {
+        for _ in 0..turns {
+            if let Some(end) = self.take_turn(rt, alloc, bus, directory, pass) {
+                return end;
+            }
+        }
+        Outcome::TurnsSpent
     }
 }

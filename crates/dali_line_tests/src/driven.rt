@@ -49,6 +49,26 @@ impl<B: Bus> Bus for DrivenBus<'_, B> {
 
     ghost driven = { λ driver. B.driven driver };
 
+    ghost acted = { B.acted };
+
+    ghost refused = { B.refused };
+
+    ghost untold = { B.untold };
+
+    ghost ordered = { B.ordered };
+
+    ghost unordered = { B.unordered };
+
+    ghost is_down = { B.is_down };
+
+    ghost pumped = { B.pumped };
+
+    ghost lapsed = { B.lapsed };
+
+    ghost is_over = { B.is_over };
+
+    ghost is_stopped = { λ it. B.is_stopped it.bus.now };
+
     fn controller(&self, port: &B::Port) -> u8 {
         self.bus.controller(port)
     }

@@ -61,6 +61,26 @@ impl<B: Bus> Bus for ListedBus<'_, B> {
 
     ghost driven = { λ driver. B.driven driver.inner };
 
+    ghost acted = { B.acted };
+
+    ghost refused = { B.refused };
+
+    ghost untold = { B.untold };
+
+    ghost ordered = { B.ordered };
+
+    ghost unordered = { B.unordered };
+
+    ghost is_down = { B.is_down };
+
+    ghost pumped = { B.pumped };
+
+    ghost lapsed = { B.lapsed };
+
+    ghost is_over = { B.is_over };
+
+    ghost is_stopped = { λ it. B.is_stopped it.bus.now };
+
     fn controller(&self, port: &Listed<B::Port>) -> u8 {
         self.bus.controller(&port.inner)
     }
