@@ -1,4 +1,4 @@
-use Rattle.std.specs.Prelude.{◌≡◌, ◌⊎◌, ℕ, ◌<◌, length, false, None, IsSome}
+use Rattle.std.specs.Prelude.{◌≡◌, ◌⊎◌, ℕ, ◌<◌, Bool, true, false, length, None, IsSome}
 use Rattle.dali_script.specs.declared.orders.Due.TheVariants as due
 use Rattle.dali_events.specs.World.{controller_at}
 use Rattle.dali_events.specs.Promise.{KeepsPromise}
@@ -45,21 +45,52 @@ abbrev pub HasDue : SiteState → ℕ → Type 0
 HasDue s c =
     IsSome (controller_at (world s) c).told ⊎ (due_of (controller_at (world s) c) ≡ due.Store)
 
+-- controller c has no reason to wait: the line is stopped, something is due for c, or c is down
+abbrev pub Wakes : Bool → SiteState → ℕ → Type 0
+Wakes stopped s c =
+    (stopped ≡ true) ⊎ (HasDue s c ⊎ ((controller_at (world s) c).up ≡ false))
+
+-- HOW A WAIT ENDS: something is due, and the line is not stopped (true); or it is stopped, or the
+-- controller is down and nothing is due for it (false)
+abbrev pub EndsWait : Bool → SiteState → ℕ → Bool → Type 0
+EndsWait stopped s c true = (stopped ≡ false) × HasDue s c
+EndsWait stopped s c false =
+    (stopped ≡ true) ⊎ (((controller_at (world s) c).up ≡ false) × (HasDue s c → ⊥))
+
 -- controller c is not refused for want of room: a request more may wait; or it is down
 abbrev pub MayOffer : SiteState → ℕ → Type 0
 MayOffer s c = (IsCrowded s → ⊥) ⊎ ((controller_at (world s) c).up ≡ false)
 
--- nobody owns the bus, no request waits for it, and nothing is due for any controller: each has
--- ended, has halted or is down
+-- controller c has no reason to wait for room
+abbrev pub WakesForRoom : Bool → SiteState → ℕ → Type 0
+WakesForRoom stopped s c = (stopped ≡ true) ⊎ MayOffer s c
+
+-- HOW A WAIT FOR ROOM ENDS: there is room, and the line is not stopped (true); or it is stopped
+abbrev pub EndsWaitForRoom : Bool → SiteState → ℕ → Bool → Type 0
+EndsWaitForRoom stopped s c true = (stopped ≡ false) × MayOffer s c
+EndsWaitForRoom stopped s c false = stopped ≡ true
+
+-- nothing is due for any controller: each has ended, has halted or is down
+abbrev pub HaveEnded : SiteState → Type 0
+HaveEnded s =
+    (c : ℕ) → c < length s.plan.blocks → due_of (controller_at (world s) c) ≡ due.Nothing
+
+-- nobody owns the bus, no request waits for it, and all controllers have ended
 pub record IsOver (s : SiteState) : Type 0 where
   pub free : (world s).bus.owner ≡ None
   pub idle : next_request s ≡ None
-  pub ended : (c : ℕ) → c < length s.plan.blocks
-      → due_of (controller_at (world s) c) ≡ due.Nothing
+  pub ended : HaveEnded s
 
--- what the driver is told of the line
-abbrev pub IsReady : SiteState → Ready → Type 0
-IsReady s ready.Stopped = Unit {0}
-IsReady s ready.Next = IsSome (next_request s)
-IsReady s ready.Full = (next_request s ≡ None) × IsCrowded s
-IsReady s ready.Over = IsOver s
+-- WHAT THE DRIVER IS TOLD of a line that is stopped, or not: the first of these that holds
+abbrev pub IsReady : Bool → SiteState → Ready → Type 0
+IsReady stopped s ready.Stopped = stopped ≡ true
+IsReady stopped s ready.Next = (stopped ≡ false) × IsSome (next_request s)
+IsReady stopped s ready.Full = (stopped ≡ false) × (next_request s ≡ None) × IsCrowded s
+IsReady stopped s ready.Over = (stopped ≡ false) × (IsCrowded s → ⊥) × IsOver s
+
+-- and nothing, while none of them holds
+pub record IsBusy (stopped : Bool) (s : SiteState) : Type 0 where
+  pub runs : stopped ≡ false
+  pub idle : next_request s ≡ None
+  pub room : IsCrowded s → ⊥
+  pub more : IsOver s → ⊥

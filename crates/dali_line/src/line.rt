@@ -1,4 +1,4 @@
-ghost use Rattle.std.specs.Prelude.{◌≡◌, ◌+◌, ◌<◌, ◌≤◌, length, All, [], ◌∷◌, take, IfOk, OnOk, OnErr, IsTrue};
+ghost use Rattle.std.specs.Prelude.{◌≡◌, ◌+◌, ◌<◌, ◌≤◌, Bool, length, All, [], ◌∷◌, take, IfOk, OnOk, OnErr};
 ghost use Rattle.dali_events.specs.World.{controller_at};
 ghost use Rattle.dali_script.specs.Due.{record_ordered};
 ghost use Rattle.dali_standing.specs.Seats.{due_of};
@@ -6,7 +6,7 @@ ghost use Rattle.dali_events.specs.Promise.{KeepsPromise};
 ghost use Rattle.dali_world.specs.Site.{SiteState, world, Acts, share_of, IsSound};
 ghost use Rattle.dali_line.specs.Counts.{shares_of, counts_of, others_of};
 ghost use Rattle.dali_line.specs.Shares.{raised_share, port_share, total_of};
-ghost use Rattle.dali_line.specs.Found.{FromPort, FromDriver, HasDue, MayOffer, IsReady, events_in};
+ghost use Rattle.dali_line.specs.Found.{FromPort, FromDriver, EndsWait, EndsWaitForRoom, IsReady, events_in};
 ghost use Rattle.dali_line.specs.Calls.{Offers, PumpsOnce, Lapses, FallsQuiet, Powers, Expires, GoesDown, ComesUp};
 
 use crate::count::{others, steps};
@@ -22,7 +22,7 @@ use dali_frame::Forward;
 use dali_script::{Due, Input, Kept, Record};
 use dali_world::{Receipt, Refusal, Report, SiteState, Trouble};
 use std::sync::ledger::{Blank, Ledger};
-use std::sync::{Condvar, Mutex, Wait};
+use std::sync::{Condvar, Mutex, MutexGuard, Wait};
 
 /// A site under a lock, which threads share by reference.
 ///
@@ -107,6 +107,14 @@ impl<P0: Ledger, P1: Ledger, P2: Ledger, P3: Ledger, D: Ledger> Line<P0, P1, P2,
         locked.into_inner().close(ports, driver)
     }
 
+    /// The lock, for a call that may end a wait.
+    fn change<R: Wait>(&self, rt: &R) -> Change<'_, Locked<P0, P1, P2, P3, D>> {
+        Change {
+            locked: self.locked.lock(rt),
+            moved: &self.moved,
+        }
+    }
+
     /// The port's controller acts on an input, as `SiteState::act` says: on what `next` says, or on the outcome of its
     /// commit where `due` is Store. The receipt's number is the port's share with this step.
     ///
@@ -125,9 +133,7 @@ impl<P0: Ledger, P1: Ledger, P2: Ledger, P3: Ledger, D: Ledger> Line<P0, P1, P2,
         ensures receipt { IfOk result (λ r. (r.controller ≡ port.old.controller) × (r.input ≡ input)
             × (r.number ≡ port.new.share)) }
     {
-        let answer = self.locked.lock(rt).act(port, input);
-        self.moved.notify_all();
-        answer
+        self.change(rt).locked.act(port, input)
     }
 
     /// The port's controller asks to send a frame of direct arc power, as `SiteState::arc` says.
@@ -144,9 +150,7 @@ impl<P0: Ledger, P1: Ledger, P2: Ledger, P3: Ledger, D: Ledger> Line<P0, P1, P2,
         ensures accepted { OnOk result (port.new ≡ raised_share port.old) }
         ensures refused { OnErr result (port.new ≡ port.old) }
     {
-        let answer = self.locked.lock(rt).arc(port, frame);
-        self.moved.notify_all();
-        answer
+        self.change(rt).locked.arc(port, frame)
     }
 
     /// What the bus has told the port's controller, and it has not acted on, as `SiteState::next` says; None of a spare
@@ -174,7 +178,8 @@ impl<P0: Ledger, P1: Ledger, P2: Ledger, P3: Ledger, D: Ledger> Line<P0, P1, P2,
     /// Something is due where `next` says something, or where `due` is Store. It may wait forever, as with a port whose
     /// controller has ended.
     pub fn wait<R: Wait>(&self, rt: &R, port: &mut Port<P0, P1, P2, P3, D>) -> bool
-        ensures due { IsTrue result → FromPort port.old (λ s. HasDue s port.old.controller) }
+        ensures answer { FromPort port.old
+            (λ s. (stopped : Bool) × EndsWait stopped s port.old.controller result) }
         ensures same { port.new ≡ port.old }
     {
         let controller = port.controller();
@@ -215,7 +220,8 @@ impl<P0: Ledger, P1: Ledger, P2: Ledger, P3: Ledger, D: Ledger> Line<P0, P1, P2,
     /// Waits until the port's controller is not refused for want of room: until a request more may wait, or the
     /// controller is down (true); or until the line is stopped (false).
     pub fn wait_for_room<R: Wait>(&self, rt: &R, port: &mut Port<P0, P1, P2, P3, D>) -> bool
-        ensures room { IsTrue result → FromPort port.old (λ s. MayOffer s port.old.controller) }
+        ensures answer { FromPort port.old
+            (λ s. (stopped : Bool) × EndsWaitForRoom stopped s port.old.controller result) }
         ensures same { port.new ≡ port.old }
     {
         let controller = port.controller();
@@ -241,9 +247,7 @@ impl<P0: Ledger, P1: Ledger, P2: Ledger, P3: Ledger, D: Ledger> Line<P0, P1, P2,
         ensures accepted { IfOk result (λ r. driver.new ≡ driver.old + events_in r) }
         ensures refused { OnErr result (driver.new ≡ driver.old) }
     {
-        let answer = self.locked.lock(rt).pump(driver, trouble);
-        self.moved.notify_all();
-        answer
+        self.change(rt).locked.pump(driver, trouble)
     }
 
     /// The owner loses the bus, as `SiteState::lapse` says. Answers who it was, if anybody.
@@ -258,9 +262,7 @@ impl<P0: Ledger, P1: Ledger, P2: Ledger, P3: Ledger, D: Ledger> Line<P0, P1, P2,
         ensures accepted { OnOk result (driver.new ≡ driver.old + 1) }
         ensures refused { OnErr result (driver.new ≡ driver.old) }
     {
-        let answer = self.locked.lock(rt).lapse(driver);
-        self.moved.notify_all();
-        answer
+        self.change(rt).locked.lapse(driver)
     }
 
     /// The bus is quiet for so long that half of a send-twice pair is forgotten.
@@ -324,9 +326,7 @@ impl<P0: Ledger, P1: Ledger, P2: Ledger, P3: Ledger, D: Ledger> Line<P0, P1, P2,
         ensures accepted { OnOk result (driver.new ≡ driver.old + 1) }
         ensures refused { OnErr result (driver.new ≡ driver.old) }
     {
-        let answer = self.locked.lock(rt).down(driver, c);
-        self.moved.notify_all();
-        answer
+        self.change(rt).locked.down(driver, c)
     }
 
     /// Controller `c`, 0 to 3, comes up with a copy of its records: those that the site under the lock remembers, or
@@ -345,9 +345,7 @@ impl<P0: Ledger, P1: Ledger, P2: Ledger, P3: Ledger, D: Ledger> Line<P0, P1, P2,
         ensures accepted { OnOk result (driver.new ≡ driver.old + 1) }
         ensures refused { OnErr result (driver.new ≡ driver.old) }
     {
-        let answer = self.locked.lock(rt).up(driver, c, copy);
-        self.moved.notify_all();
-        answer
+        self.change(rt).locked.up(driver, c, copy)
     }
 
     /// Waits until there is something to say to the driver: the line is stopped, a request is next, nothing can be sent
@@ -355,7 +353,7 @@ impl<P0: Ledger, P1: Ledger, P2: Ledger, P3: Ledger, D: Ledger> Line<P0, P1, P2,
     ///
     /// It may wait forever, as where a controller is due and nobody acts for it.
     pub fn ready<R: Wait>(&self, rt: &R, driver: &mut Driver<P0, P1, P2, P3, D>) -> Ready
-        ensures answer { FromDriver driver.old (λ s. IsReady s result) }
+        ensures answer { FromDriver driver.old (λ s. (stopped : Bool) × IsReady stopped s result) }
         ensures same { driver.new ≡ driver.old }
     {
         for _ in rt.forever() {
@@ -371,13 +369,26 @@ impl<P0: Ledger, P1: Ledger, P2: Ledger, P3: Ledger, D: Ledger> Line<P0, P1, P2,
 
     /// The line is stopped, for good: who waits now or later is told so. Its other calls go on as before.
     pub fn stop<R: Wait>(&self, rt: &R) {
-        self.locked.lock(rt).stop();
-        self.moved.notify_all();
+        self.change(rt).locked.stop()
     }
 
     /// Whether the line is stopped.
     pub fn is_stopped<R: Wait>(&self, rt: &R) -> bool {
         self.locked.lock(rt).is_stopped()
+    }
+}
+
+/// A lock that is taken. When it is let go, all who wait are woken, so that no call can forget to wake them.
+struct Change<'a, L> {
+    locked: MutexGuard<'a, L>,
+    moved: &'a Condvar,
+}
+
+impl<L> Drop for Change<'_, L> {
+    fn drop(self) {
+        let Self { locked, moved } = self;
+        drop(locked);
+        moved.notify_all();
     }
 }
 

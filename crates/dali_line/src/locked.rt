@@ -1,5 +1,5 @@
-ghost use Rattle.std.specs.Prelude.{◌≡◌, ◌+◌, ◌<◌, ◌≤◌, ℕ, length, All, IfOk, OnOk, OnErr, IfSome, IsTrue, true, false};
-ghost use Rattle.std.specs.Prelude.{slice_set, None, Err, ◌↔◌, if◌then◌else◌};
+ghost use Rattle.std.specs.Prelude.{◌≡◌, ◌+◌, ◌<◌, ◌≤◌, length, All, IfOk, OnOk, OnErr, IfSome, IsTrue, true, false};
+ghost use Rattle.std.specs.Prelude.{slice_set, None, Err, ◌↔◌, if◌then◌else◌, MatchOption};
 ghost use Rattle.dali_events.specs.World.{controller_at};
 ghost use Rattle.dali_events.specs.Allowed.{IsDown};
 ghost use Rattle.dali_script.specs.Due.{record_ordered};
@@ -34,7 +34,8 @@ pub(crate) struct Locked<P0: Ledger, P1: Ledger, P2: Ledger, P3: Ledger, D: Ledg
 impl<P0: Ledger, P1: Ledger, P2: Ledger, P3: Ledger, D: Ledger> Locked<P0, P1, P2, P3, D> {
     ghost use Rattle.dali_world.specs.Site.{Acts, world, share_of, IsSound};
     ghost use Rattle.dali_line.specs.Shares.{raised_share, total_of};
-    ghost use Rattle.dali_line.specs.Found.{IsFoundFrom, IsFoundByDriver, HasDue, MayOffer, IsReady, events_in};
+    ghost use Rattle.dali_line.specs.Found.{IsFoundFrom, IsFoundByDriver, HasDue, Wakes, MayOffer, WakesForRoom};
+    ghost use Rattle.dali_line.specs.Found.{HaveEnded, IsBusy, IsReady, events_in};
     ghost use Rattle.dali_line.specs.Commits.{state_of, MayComeUp};
     ghost use Rattle.dali_line.specs.declared.up_refusal.UpRefusal.TheVariants.{CommitOpen};
     ghost use Rattle.dali_line.specs.declared.commits.CommitState.TheVariants as commit;
@@ -43,7 +44,8 @@ impl<P0: Ledger, P1: Ledger, P2: Ledger, P3: Ledger, D: Ledger> Locked<P0, P1, P
     /// A site with the tally of its log.
     pub(crate) fn new(site: SiteState, tally: Tally<P0, P1, P2, P3, D>) -> Locked<P0, P1, P2, P3, D>
         requires { tally ≡ counts_of site.log }
-        ensures { result.site ≡ site }
+        ensures site { result.site ≡ site }
+        ensures stopped { result.stopped ≡ false }
     {
         Locked {
             site,
@@ -59,6 +61,7 @@ impl<P0: Ledger, P1: Ledger, P2: Ledger, P3: Ledger, D: Ledger> Locked<P0, P1, P
         ensures few { length (world self.new.site).controllers ≤ 4 }
         ensures site { self.new.site ≡ self.old.site }
         ensures commits { self.new.commits ≡ self.old.commits }
+        ensures stopped { self.new.stopped ≡ self.old.stopped }
         ensures port { port.new ≡ port.old }
     {
         self.site.is_safe();
@@ -81,6 +84,7 @@ impl<P0: Ledger, P1: Ledger, P2: Ledger, P3: Ledger, D: Ledger> Locked<P0, P1, P
         ensures told { OnOk result
             (self.new.commits ≡ slice_set self.old.commits port.old.controller commit.Settled) }
         ensures untold { OnErr result (self.new.commits ≡ self.old.commits) }
+        ensures stopped { self.new.stopped ≡ self.old.stopped }
     {
         self.audit(port);
         let c = port.controller();
@@ -102,6 +106,7 @@ impl<P0: Ledger, P1: Ledger, P2: Ledger, P3: Ledger, D: Ledger> Locked<P0, P1, P
         ensures accepted { OnOk result (port.new ≡ raised_share port.old) }
         ensures refused { OnErr result (port.new ≡ port.old) }
         ensures commits { self.new.commits ≡ self.old.commits }
+        ensures stopped { self.new.stopped ≡ self.old.stopped }
     {
         self.audit(port);
         self.site.arc(port.controller(), frame)?;
@@ -163,6 +168,7 @@ impl<P0: Ledger, P1: Ledger, P2: Ledger, P3: Ledger, D: Ledger> Locked<P0, P1, P
         ensures answer { result ≡ (controller_at (world self.old.site) port.old.controller).told }
         ensures same { port.new ≡ port.old }
         ensures site { self.new.site ≡ self.old.site }
+        ensures stopped { self.new.stopped ≡ self.old.stopped }
     {
         self.audit(port);
         self.told(port.controller())
@@ -174,6 +180,7 @@ impl<P0: Ledger, P1: Ledger, P2: Ledger, P3: Ledger, D: Ledger> Locked<P0, P1, P
         ensures answer { result ≡ due_of (controller_at (world self.old.site) port.old.controller) }
         ensures same { port.new ≡ port.old }
         ensures site { self.new.site ≡ self.old.site }
+        ensures stopped { self.new.stopped ≡ self.old.stopped }
     {
         self.audit(port);
         self.due_for(port.controller())
@@ -181,22 +188,25 @@ impl<P0: Ledger, P1: Ledger, P2: Ledger, P3: Ledger, D: Ledger> Locked<P0, P1, P
 
     /// Whether something is due for a controller: it was told something, or its commit is to be made.
     fn has_due(&self, c: u8) -> bool
-        ensures { IsTrue result → HasDue self.now.site c }
+        ensures { IsTrue result ↔ HasDue self.now.site c }
     {
         self.told(c).is_some() || self.due_for(c) == Due::Store
     }
 
     /// Whether a controller has no reason to wait: the line is stopped, something is due for it, or it is down.
-    pub(crate) fn wakes(&self, c: u8) -> bool {
+    pub(crate) fn wakes(&self, c: u8) -> bool
+        ensures { IsTrue result ↔ Wakes self.now.stopped self.now.site c }
+    {
         self.stopped || self.has_due(c) || self.is_down(c)
     }
 
     /// Whether something is due for the port's controller, and the line is not stopped.
     pub(crate) fn waits(&mut self, port: &mut Port<P0, P1, P2, P3, D>) -> bool
         ensures found { IsFoundFrom port.old self.old.site }
-        ensures answer { IsTrue result → HasDue self.old.site port.old.controller }
+        ensures answer { IsTrue result ↔ (self.old.stopped ≡ false) × HasDue self.old.site port.old.controller }
         ensures same { port.new ≡ port.old }
         ensures site { self.new.site ≡ self.old.site }
+        ensures stopped { self.new.stopped ≡ self.old.stopped }
     {
         self.audit(port);
         !self.stopped && self.has_due(port.controller())
@@ -211,6 +221,7 @@ impl<P0: Ledger, P1: Ledger, P2: Ledger, P3: Ledger, D: Ledger> Locked<P0, P1, P
         ensures begun { IfSome result
             (λ _. self.new.commits ≡ slice_set self.old.commits port.old.controller commit.Begun) }
         ensures none { result ≡ None → self.new.commits ≡ self.old.commits }
+        ensures stopped { self.new.stopped ≡ self.old.stopped }
     {
         self.audit(port);
         let c = port.controller();
@@ -229,6 +240,7 @@ impl<P0: Ledger, P1: Ledger, P2: Ledger, P3: Ledger, D: Ledger> Locked<P0, P1, P
         ensures not_begun { (state_of self.old.commits port.now.controller ≡ commit.Begun → ⊥)
             → self.new.commits ≡ self.old.commits }
         ensures site { self.new.site ≡ self.old.site }
+        ensures stopped { self.new.stopped ≡ self.old.stopped }
     {
         let c = port.controller();
         if self.commits.state(c) == CommitState::Begun {
@@ -244,13 +256,15 @@ impl<P0: Ledger, P1: Ledger, P2: Ledger, P3: Ledger, D: Ledger> Locked<P0, P1, P
     }
 
     /// Whether a controller has no reason to wait for room: the line is stopped, or `may_offer` says so.
-    pub(crate) fn wakes_for_room(&self, c: u8) -> bool {
+    pub(crate) fn wakes_for_room(&self, c: u8) -> bool
+        ensures { IsTrue result ↔ WakesForRoom self.now.stopped self.now.site c }
+    {
         self.stopped || self.may_offer(c)
     }
 
     /// Whether a request more may wait, or the controller is down.
     fn may_offer(&self, c: u8) -> bool
-        ensures { IsTrue result → MayOffer self.now.site c }
+        ensures { IsTrue result ↔ MayOffer self.now.site c }
     {
         !self.site.is_crowded() || self.is_down(c)
     }
@@ -258,9 +272,10 @@ impl<P0: Ledger, P1: Ledger, P2: Ledger, P3: Ledger, D: Ledger> Locked<P0, P1, P
     /// Whether a request more may wait, or the port's controller is down, and the line is not stopped.
     pub(crate) fn has_room(&mut self, port: &mut Port<P0, P1, P2, P3, D>) -> bool
         ensures found { IsFoundFrom port.old self.old.site }
-        ensures answer { IsTrue result → MayOffer self.old.site port.old.controller }
+        ensures answer { IsTrue result ↔ (self.old.stopped ≡ false) × MayOffer self.old.site port.old.controller }
         ensures same { port.new ≡ port.old }
         ensures site { self.new.site ≡ self.old.site }
+        ensures stopped { self.new.stopped ≡ self.old.stopped }
     {
         self.audit(port);
         !self.stopped && self.may_offer(port.controller())
@@ -272,6 +287,7 @@ impl<P0: Ledger, P1: Ledger, P2: Ledger, P3: Ledger, D: Ledger> Locked<P0, P1, P
         ensures whole { total_of (counts_of self.old.site.log) ≡ length self.old.site.log }
         ensures site { self.new.site ≡ self.old.site }
         ensures commits { self.new.commits ≡ self.old.commits }
+        ensures stopped { self.new.stopped ≡ self.old.stopped }
         ensures driver { driver.new ≡ driver.old }
     {
         self.site.is_safe();
@@ -291,6 +307,7 @@ impl<P0: Ledger, P1: Ledger, P2: Ledger, P3: Ledger, D: Ledger> Locked<P0, P1, P
         ensures accepted { IfOk result (λ r. driver.new ≡ driver.old + events_in r) }
         ensures refused { OnErr result (driver.new ≡ driver.old) }
         ensures commits { self.new.commits ≡ self.old.commits }
+        ensures stopped { self.new.stopped ≡ self.old.stopped }
     {
         self.audit_driver(driver);
         let report = self.site.pump(trouble)?;
@@ -311,6 +328,7 @@ impl<P0: Ledger, P1: Ledger, P2: Ledger, P3: Ledger, D: Ledger> Locked<P0, P1, P
         ensures accepted { OnOk result (driver.new ≡ driver.old + 1) }
         ensures refused { OnErr result (driver.new ≡ driver.old) }
         ensures commits { self.new.commits ≡ self.old.commits }
+        ensures stopped { self.new.stopped ≡ self.old.stopped }
     {
         self.audit_driver(driver);
         let owner = self.site.lapse()?;
@@ -326,6 +344,7 @@ impl<P0: Ledger, P1: Ledger, P2: Ledger, P3: Ledger, D: Ledger> Locked<P0, P1, P
         ensures accepted { OnOk result (driver.new ≡ driver.old + 1) }
         ensures refused { OnErr result (driver.new ≡ driver.old) }
         ensures commits { self.new.commits ≡ self.old.commits }
+        ensures stopped { self.new.stopped ≡ self.old.stopped }
     {
         self.audit_driver(driver);
         self.site.quiet()?;
@@ -346,6 +365,7 @@ impl<P0: Ledger, P1: Ledger, P2: Ledger, P3: Ledger, D: Ledger> Locked<P0, P1, P
         ensures accepted { OnOk result (driver.new ≡ driver.old + 1) }
         ensures refused { OnErr result (driver.new ≡ driver.old) }
         ensures commits { self.new.commits ≡ self.old.commits }
+        ensures stopped { self.new.stopped ≡ self.old.stopped }
     {
         self.audit_driver(driver);
         self.site.power(number, on)?;
@@ -365,6 +385,7 @@ impl<P0: Ledger, P1: Ledger, P2: Ledger, P3: Ledger, D: Ledger> Locked<P0, P1, P
         ensures accepted { OnOk result (driver.new ≡ driver.old + 1) }
         ensures refused { OnErr result (driver.new ≡ driver.old) }
         ensures commits { self.new.commits ≡ self.old.commits }
+        ensures stopped { self.new.stopped ≡ self.old.stopped }
     {
         self.audit_driver(driver);
         self.site.expire(number)?;
@@ -384,6 +405,7 @@ impl<P0: Ledger, P1: Ledger, P2: Ledger, P3: Ledger, D: Ledger> Locked<P0, P1, P
         ensures accepted { OnOk result (driver.new ≡ driver.old + 1) }
         ensures refused { OnErr result (driver.new ≡ driver.old) }
         ensures commits { self.new.commits ≡ self.old.commits }
+        ensures stopped { self.new.stopped ≡ self.old.stopped }
     {
         self.audit_driver(driver);
         self.site.down(c)?;
@@ -423,6 +445,7 @@ impl<P0: Ledger, P1: Ledger, P2: Ledger, P3: Ledger, D: Ledger> Locked<P0, P1, P
         ensures accepted { OnOk result (driver.new ≡ driver.old + 1) }
         ensures refused { OnErr result (driver.new ≡ driver.old) }
         ensures commits { self.new.commits ≡ self.old.commits }
+        ensures stopped { self.new.stopped ≡ self.old.stopped }
         ensures settled { OnOk result (MayComeUp (state_of self.old.commits c)
             (controller_at (world self.old.site) c).records copy.now) }
         ensures open { result ≡ Err CommitOpen → MayComeUp (state_of self.old.commits c)
@@ -443,8 +466,7 @@ impl<P0: Ledger, P1: Ledger, P2: Ledger, P3: Ledger, D: Ledger> Locked<P0, P1, P
 
     /// Whether nothing is due for any controller: each has ended, has halted or is down.
     fn have_ended(&self) -> bool
-        ensures { IsTrue result → (c : ℕ) → c < length self.now.site.plan.blocks
-            → due_of (controller_at (world self.now.site) c) ≡ due.Nothing }
+        ensures { IsTrue result ↔ HaveEnded self.now.site }
     {
         let count = self.site.plan().blocks().len() as u8;
         for c in 0..count {
@@ -455,9 +477,16 @@ impl<P0: Ledger, P1: Ledger, P2: Ledger, P3: Ledger, D: Ledger> Locked<P0, P1, P
         true
     }
 
+    /// Whether nobody owns the bus, and nothing is due for any controller.
+    fn is_over(&self) -> bool
+        ensures { IsTrue result ↔ ((world self.now.site).bus.owner ≡ None) × HaveEnded self.now.site }
+    {
+        self.site.owner().is_none() && self.have_ended()
+    }
+
     /// What a driver may do, if there is anything to say.
     fn may_do(&self) -> Option<Ready>
-        ensures { IfSome result (IsReady self.now.site) }
+        ensures { MatchOption result (IsBusy self.now.stopped self.now.site) (IsReady self.now.stopped self.now.site) }
     {
         if self.stopped {
             return Some(Ready::Stopped);
@@ -468,36 +497,44 @@ impl<P0: Ledger, P1: Ledger, P2: Ledger, P3: Ledger, D: Ledger> Locked<P0, P1, P
         if self.site.is_crowded() {
             return Some(Ready::Full);
         }
-        if self.site.owner().is_none() && self.have_ended() {
+        if self.is_over() {
             return Some(Ready::Over);
         }
         None
     }
 
     /// Whether a driver has no reason to wait.
-    pub(crate) fn wakes_driver(&self) -> bool {
+    pub(crate) fn wakes_driver(&self) -> bool
+        ensures { IsTrue result ↔ (IsBusy self.now.stopped self.now.site → ⊥) }
+    {
         self.may_do().is_some()
     }
 
     /// What a driver may do, if there is anything to say.
     pub(crate) fn ready(&mut self, driver: &mut Driver<P0, P1, P2, P3, D>) -> Option<Ready>
         ensures found { IsFoundByDriver driver.old self.old.site }
-        ensures answer { IfSome result (IsReady self.old.site) }
+        ensures answer { MatchOption result (IsBusy self.old.stopped self.old.site)
+            (IsReady self.old.stopped self.old.site) }
         ensures same { driver.new ≡ driver.old }
         ensures site { self.new.site ≡ self.old.site }
+        ensures stopped { self.new.stopped ≡ self.old.stopped }
     {
         self.audit_driver(driver);
         self.may_do()
     }
 
     /// Whether nobody waits any more.
-    pub(crate) fn is_stopped(&self) -> bool {
+    pub(crate) fn is_stopped(&self) -> bool
+        ensures { result ≡ self.now.stopped }
+    {
         self.stopped
     }
 
     /// Nobody waits any more.
     pub(crate) fn stop(&mut self)
-        ensures { self.new.site ≡ self.old.site }
+        ensures stopped { self.new.stopped ≡ true }
+        ensures site { self.new.site ≡ self.old.site }
+        ensures commits { self.new.commits ≡ self.old.commits }
     {
         self.stopped = true;
     }
@@ -506,6 +543,7 @@ impl<P0: Ledger, P1: Ledger, P2: Ledger, P3: Ledger, D: Ledger> Locked<P0, P1, P
     fn take_back(&mut self, port: Port<P0, P1, P2, P3, D>)
         ensures share { share_of port.controller self.old.site.log ≡ port.share }
         ensures site { self.new.site ≡ self.old.site }
+        ensures stopped { self.new.stopped ≡ self.old.stopped }
     {
         let mut port = port;
         self.audit(&mut port);
