@@ -17,15 +17,15 @@ use Rattle.sqlite.specs.Table.{Table}
 use Rattle.sqlite.specs.Schema.{Schema}
 use Rattle.sqlite.specs.Change.{created, next_tree}
 use Rattle.sqlite.specs.Does.{Tally, Does, lacks_sequence}
-use Rattle.sqlite.specs.Effect.{Database}
+use Rattle.sqlite.specs.Effect.{Database, IsDatabase}
 use Rattle.sqlite.specs.Listing.{understood}
-use Rattle.sqlite.specs.State.{State, IsUnchanged, Shows, Executes, Shown, CommitsBy, text_of, mode_of}
-use Rattle.sqlite.proofs.Callers.{IsPlain, command_of, statement_of, runs_as, reads_as}
+use Rattle.sqlite.specs.State.{State, IsUnchanged, Shows, Executes, Shown, CommitsBy, CommitsShowing, text_of, mode_of}
+use Rattle.sqlite.proofs.Callers.{IsPlain, command_of, statement_of, runs_as, reads_as, never_commits}
 use Rattle.sqlite_keyed.proofs.ListLemmas.{map-map}
 use Rattle.dali_script.specs.declared.records.Record.{Record}
 use Rattle.dali_sqlite.specs.Table.{record_table, record_schema, no_schema}
 use Rattle.dali_sqlite.specs.Rows.{row_of, rows_after, shown_of, four_of}
-use Rattle.dali_sqlite.specs.Stored.{HasTable, Holds, Lists}
+use Rattle.dali_sqlite.specs.Stored.{IsTableOf, HasTable, Holds, Lists}
 use Rattle.dali_sqlite.proofs.Texts.{create_text, create_is, create_plain, insert_text, insert_is, insert_plain, select_text, select_is, select_plain, terms}
 use Rattle.dali_sqlite.proofs.Texts.{query}
 use Rattle.dali_sqlite.proofs.Open.{same_has}
@@ -90,10 +90,14 @@ adds old new count seq kind address random xs x is ran held =
       rows = lists_more old.now.trees new.now.trees xs x (put_in seq kind address random) is held.rows after.1;
     }
 
+table_of : (db : Database) (xs : List Record) → db.schema ≡ record_schema → IsDatabase db → Lists db.trees xs → IsTableOf db.trees xs
+table_of db xs has sound rows =
+    record { table = subst (λ schema. IsDatabase (record { schema = schema; trees = db.trees })) has sound; rows = rows }
+
 -- what a stop may leave: what it might have left before, or one record more
 pub stops : (old : State) (seq kind address random : ℤ) (xs : List Record) (x : Record)
     → Int seq ∷ Int kind ∷ Int address ∷ Int random ∷ [] ≡ row_of (length xs + 1) x → Holds old xs → (trees : Trees)
-    → CommitsBy insert_text (Int seq ∷ Int kind ∷ Int address ∷ Int random ∷ []) old trees → Lists trees (xs ++ x ∷ [])
+    → CommitsBy insert_text (Int seq ∷ Int kind ∷ Int address ∷ Int random ∷ []) old trees → IsTableOf trees (xs ++ x ∷ [])
 unfolding CommitsBy
 stops old seq kind address random xs x is held trees commits =
     let params = given seq kind address random in
@@ -109,9 +113,22 @@ stops old seq kind address random xs x is held trees commits =
       | inr writes ↦
           let after = inserts old.step_limit (mode_of old) old.now writes.2 (text_of insert_text commits.0) writes.1 seq kind address random held.has.table
           (rw (plain.0, command, plain.1, append-nil params) at writes.3) in
-          subst (λ db. Lists db (xs ++ x ∷ [])) (sym writes.5)
-          (lists_more old.now.trees writes.2.trees xs x (put_in seq kind address random) is held.rows after.1)
+          let rows = lists_more old.now.trees writes.2.trees xs x (put_in seq kind address random) is held.rows after.1 in
+          subst (λ db. IsTableOf db (xs ++ x ∷ [])) (sym writes.5) (table_of writes.2 (xs ++ x ∷ []) after.0 writes.4 rows)
     ]
+
+-- a record that was added is committed
+pub endures : (old new : State) (count : ℕ) (seq kind address random : ℤ) (xs : List Record) (x : Record)
+    → Int seq ∷ Int kind ∷ Int address ∷ Int random ∷ [] ≡ row_of (length xs + 1) x
+    → Executes insert_text (Int seq ∷ Int kind ∷ Int address ∷ Int random ∷ []) old new (Ok count) → Holds old xs
+    → IsTrue new.is_open × IsTableOf new.committed.trees (xs ++ x ∷ [])
+endures old new count seq kind address random xs x is ran held =
+    let w = runs_as insert_text _ old new record_schema held.has.table (Insert 0 (Values terms 5)) insert_is insert_plain count ran in
+    let added = adds old new count seq kind address random xs x is ran held in (
+      w.shown.is_open,
+      subst (λ (d : Database). IsTableOf d.trees (xs ++ x ∷ [])) added.has.committed
+          (table_of new.now (xs ++ x ∷ []) added.has.table w.sound added.rows),
+    )
 
 -- ---- SELECT
 
@@ -125,6 +142,9 @@ shows_unchanged old new rows has shown =
     let known = sym shown.1.is ∙ ap (λ s. understood s select_text) has in
     let plain = subst IsPlain (sym known) select_plain in
     (rw plain.0 at shown.2).3
+
+pub selects_quietly : (old : State) (trees : Trees) → old.now.schema ≡ record_schema → CommitsShowing select_text [] old trees → ⊥
+selects_quietly old trees has = never_commits select_text [] old trees (subst (λ s. IsPlain (understood s select_text)) (sym has) select_plain)
 
 pub selects_same : (old new : State) (rows : List Row) → Shown select_text [] old new rows → HasTable old
     → (new.now ≡ old.now) × HasTable new × IsTrue new.is_open

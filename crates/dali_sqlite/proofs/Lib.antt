@@ -5,3 +5,5 @@ mod Inserted
 mod Effects
 mod Taken
 mod Known
+mod Schemas
+mod Left

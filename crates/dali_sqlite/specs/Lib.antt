@@ -3,3 +3,4 @@ pub mod Rows
 pub mod Stored
 pub mod Refused
 pub mod Keep
+pub mod Files

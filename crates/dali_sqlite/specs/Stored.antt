@@ -1,6 +1,7 @@
 use Rattle.std.specs.Prelude.{◌≡◌, ◌⊎◌, ℕ, Bool, false, List, length, map}
 use Rattle.std.specs.Prelude.{IsPermutation, IsTrue}
 use Rattle.sqlite.specs.Tree.{Trees}
+use Rattle.sqlite.specs.Effect.{IsDatabase}
 use Rattle.sqlite.specs.State.{State, HasCleanDisk}
 use Rattle.dali_script.specs.declared.records.Record.{Record}
 use Rattle.dali_script.specs.Records.{Kept}
@@ -11,6 +12,12 @@ use Rattle.dali_sqlite.specs.Rows.{rows_after, shown_of}
 -- the rows of the table are those of the list, in any order
 abbrev pub Lists : Trees → List Record → Type 0
 Lists trees xs = IsPermutation (map shown_of (trees 0)) (rows_after 0 xs)
+
+-- A DATABASE OF THE TABLE ALONE, by its trees, which say what tables they are of. Its rows are
+-- those of the list.
+pub record IsTableOf (trees : Trees) (xs : List Record) : Type 0 where
+  pub table : IsDatabase (record { schema = record_schema; trees = trees })
+  pub rows : Lists trees xs
 
 -- A database with the table alone, outside a transaction: what it shows is what it committed last.
 pub record HasTable (s : State) : Type 0 where

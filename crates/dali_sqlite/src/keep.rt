@@ -1,18 +1,21 @@
-ghost use Rattle.std.specs.Prelude.{◌≡◌, ◌↔◌, List, [], false, IfOk, IfErr, Err};
+ghost use Rattle.std.specs.Prelude.{◌≡◌, ◌↔◌, ◌⊎◌, List, [], ◌∷◌, ◌++◌, true, false, IfOk, IfErr, Err, OnOk, OnErr};
+ghost use Rattle.sqlite.specs.Tree.{Trees};
 ghost use Rattle.sqlite.specs.State.{HasCleanDisk};
 ghost use Rattle.sqlite.specs.Held.{Held, state};
 ghost use Rattle.dali_script.specs.declared.records.Record.{Record};
 ghost use Rattle.dali_script.specs.declared.records.AddError.TheVariants as add;
-ghost use Rattle.dali_script.specs.Records.{without_records};
-ghost use Rattle.dali_reserve.specs.declared.error.KeepError.TheVariants.{BadStore};
+ghost use Rattle.dali_script.specs.Records.{without_records, with_record, Fits, IsAddressTaken, IsRandomTaken};
+ghost use Rattle.dali_script.specs.Records.{IsNotReserved};
+ghost use Rattle.dali_reserve.specs.declared.error.KeepError.TheVariants.{BadStore, StoreFailed};
 ghost use Rattle.dali_reserve.specs.declared.error.KeepError.TheVariants.{AddressTaken, RandomTaken, NotReserved};
-ghost use Rattle.dali_reserve.specs.Refusals.{RefusesRead, RefusesCommit};
+ghost use Rattle.dali_reserve.specs.Refusals.{RefusesRead, RefusesCommit, IsRefused, HasFailed};
 ghost use Rattle.dali_reserve.specs.Store.{AreGood};
 ghost use Rattle.dali_sqlite.specs.Table.{no_schema};
-ghost use Rattle.dali_sqlite.specs.Stored.{Holds, IsUp, IsOurs};
+ghost use Rattle.dali_sqlite.specs.Stored.{IsTableOf, Holds, IsUp, IsOurs};
 ghost use Rattle.dali_sqlite.specs.Keep.{connection_of, shown_by, block_of, kept_by, must_read, IsSound};
 
 use crate::replay::replay;
+use crate::statements::leaves_list;
 use crate::table::ensure_table;
 use crate::write::write;
 use dali_reserve::{Keep, KeepError};
@@ -62,13 +65,16 @@ impl<S: Alter + Drop> SqliteKeep<S> {
     /// A store over this connection, for a controller with this block. It makes the table where it isn't there, and
     /// reads it, so that the first commit needs no read.
     ///
-    /// The connection is to show an empty database, or one that has this table alone (`IsOurs`). A refusal drops it:
+    /// The connection is to show an empty database, or one that has this table alone (`IsOurs`). Where another table,
+    /// index or view stands beside it, nothing is promised: neither what the store holds, nor what becomes of the
+    /// others, nor that it is refused. A refusal drops the connection:
     ///
     /// - 5 `BadStore`: the table's rows are no list of records of this block. That is so where `seq` isn't 1, 2, ..
     ///   without a gap, where a value is no whole number in the range of its column, where a kind is no record's code,
     ///   where a reservation lies outside the block, where an address or a random address stands in two records of one
     ///   kind, or where one is released that is not reserved so. `last` of the clause `bad` is the connection as it was
-    ///   dropped.
+    ///   dropped: where its disk had returned what was written to it so far, as memory always has, the database held no
+    ///   such list. Of a file whose disk returned something else nothing is said.
     /// - 2 `StoreFailed`: the connection is inside a transaction, a table of this name cannot be read so, or the
     ///   disk failed.
     /// - 1 `NoMemory`.
@@ -128,7 +134,26 @@ impl<S: Alter + Drop> Keep for SqliteKeep<S> {
     ghost replay = { λ k xs sound read held. (sound.known read xs held).0 };
 
     /// The replay of the table's rows, by `seq`. `BadStore` as of `over`.
-    fn read(&mut self) -> Result<Kept, KeepError> {
+    ///
+    /// A stop within it or after it leaves no more than one before it (`crash`).
+    fn read(&mut self) -> Result<Kept, KeepError>
+        ensures answer { IfOk result (λ k. k ≡ kept_by self.new) }
+        ensures of_block { IfOk result (λ k. k.block ≡ block_of self.old) }
+        ensures is_read { OnOk result (must_read self.new ≡ false) }
+        ensures refusal { IfErr result RefusesRead }
+        ensures refused { OnErr result ((kept_by self.new ≡ kept_by self.old)
+            × (must_read self.new ≡ must_read self.old)) }
+        ensures bad { result ≡ Err BadStore → IsSound S.Store self.old → IsUp (shown_by S.Store self.new)
+            → (xs : List Record) → Holds (shown_by S.Store self.old) xs
+            → AreGood (without_records (block_of self.old)) xs → ⊥ }
+        ensures block { block_of self.new ≡ block_of self.old }
+        ensures up { IsUp (shown_by S.Store self.new) → IsUp (shown_by S.Store self.old) }
+        ensures sound { IsSound S.Store self.old → IsUp (shown_by S.Store self.new) → IsSound S.Store self.new }
+        ensures same { IsSound S.Store self.old → IsUp (shown_by S.Store self.new) → (xs : List Record)
+            → Holds (shown_by S.Store self.old) xs → Holds (shown_by S.Store self.new) xs }
+        ensures crash { IsSound S.Store self.old → HasCleanDisk (shown_by S.Store self.new) → (trees : Trees)
+            → (shown_by S.Store self.new).may_leave trees → (shown_by S.Store self.old).may_leave trees }
+    {
         let (kept, count) = replay(&mut self.conn, self.kept.block())?;
         let answer = kept.copy();
         self.kept = kept;
@@ -141,7 +166,48 @@ impl<S: Alter + Drop> Keep for SqliteKeep<S> {
     ///
     /// `AddressTaken`, `RandomTaken` and `NotReserved` are told before the statement. There are at most
     /// 9,223,372,036,854,775,807 records; one more is `StoreFailed`.
-    fn commit(&mut self, added: Record) -> Result<(), KeepError> {
+    ///
+    /// A stop within it or after it leaves what one before it might have left, or the list with the record (`crash`);
+    /// so of a store that is up, the list without the record or with it (`leaves`). A stop after an `Ok` leaves the
+    /// list with the record (`durable`).
+    fn commit(&mut self, added: Record) -> Result<(), KeepError>
+        requires { Fits (block_of self.old) added }
+        ensures read_first { must_read self.old ≡ true → result ≡ Err StoreFailed }
+        ensures address_taken { (result ≡ Err AddressTaken)
+            ↔ ((must_read self.old ≡ false) × IsAddressTaken (kept_by self.old) added) }
+        ensures random_taken { (result ≡ Err RandomTaken)
+            ↔ ((must_read self.old ≡ false) × IsRandomTaken (kept_by self.old) added) }
+        ensures not_reserved { (result ≡ Err NotReserved)
+            ↔ ((must_read self.old ≡ false) × IsNotReserved (kept_by self.old) added) }
+        ensures refusal { IfErr result RefusesCommit }
+        ensures ok { OnOk result ((kept_by self.new ≡ with_record (kept_by self.old) added)
+            × (must_read self.new ≡ false)) }
+        ensures refused { IsRefused result → (kept_by self.new ≡ kept_by self.old) × (must_read self.new ≡ false) }
+        ensures failed { HasFailed result → must_read self.new ≡ true }
+        ensures block { block_of self.new ≡ block_of self.old }
+        ensures up { IsUp (shown_by S.Store self.new) → IsUp (shown_by S.Store self.old) }
+        ensures sound { IsSound S.Store self.old → IsUp (shown_by S.Store self.new) → IsSound S.Store self.new }
+        ensures adds { OnOk result (IsSound S.Store self.old → IsUp (shown_by S.Store self.new)
+            → (xs : List Record) → Holds (shown_by S.Store self.old) xs
+            → Holds (shown_by S.Store self.new) (xs ++ added ∷ [])) }
+        ensures adds_none { ((must_read self.old ≡ true) ⊎ IsRefused result) → IsSound S.Store self.old
+            → IsUp (shown_by S.Store self.new) → (xs : List Record) → Holds (shown_by S.Store self.old) xs
+            → Holds (shown_by S.Store self.new) xs }
+        ensures adds_or_not { HasFailed result → IsSound S.Store self.old → IsUp (shown_by S.Store self.new)
+            → (xs : List Record) → Holds (shown_by S.Store self.old) xs → Holds (shown_by S.Store self.new) xs
+            ⊎ Holds (shown_by S.Store self.new) (xs ++ added ∷ []) }
+        ensures crash { IsSound S.Store self.old → HasCleanDisk (shown_by S.Store self.new) → (xs : List Record)
+            → Holds (shown_by S.Store self.old) xs → (trees : Trees) → (shown_by S.Store self.new).may_leave trees
+            → (shown_by S.Store self.old).may_leave trees ⊎ IsTableOf trees (xs ++ added ∷ []) }
+        ensures leaves { IsSound S.Store self.old → IsUp (shown_by S.Store self.old)
+            → HasCleanDisk (shown_by S.Store self.new) → (xs : List Record) → Holds (shown_by S.Store self.old) xs
+            → (trees : Trees) → (shown_by S.Store self.new).may_leave trees
+            → IsTableOf trees xs ⊎ IsTableOf trees (xs ++ added ∷ []) }
+        ensures durable { OnOk result (IsSound S.Store self.old → HasCleanDisk (shown_by S.Store self.new)
+            → (xs : List Record) → Holds (shown_by S.Store self.old) xs → (trees : Trees)
+            → (shown_by S.Store self.new).may_leave trees → IsTableOf trees (xs ++ added ∷ [])) }
+    {
+        leaves_list(&self.conn);
         if self.must_read {
             return Err(KeepError::StoreFailed);
         }

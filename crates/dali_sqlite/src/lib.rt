@@ -2,6 +2,7 @@
 //! ([`SqliteKeep`]).
 #![tactic(auto)]
 
+mod files;
 mod keep;
 mod memory;
 mod refused;

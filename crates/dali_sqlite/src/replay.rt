@@ -1,4 +1,5 @@
 ghost use Rattle.std.specs.Prelude.{◌≡◌, List, [], IfOk, IfErr, Err};
+ghost use Rattle.sqlite.specs.Tree.{Trees};
 ghost use Rattle.sqlite.specs.State.{HasCleanDisk};
 ghost use Rattle.sqlite.specs.Held.{state};
 ghost use Rattle.dali_script.specs.declared.records.Record.{Record};
@@ -23,6 +24,8 @@ pub fn replay<S: Alter>(conn: &mut Connection<S>, block: Block) -> Result<(Kept,
         × ((xs : List Record) → Holds (state S.Store conn.old) xs → AreGood (without_records block) xs → ⊥) }
     ensures same { IsUp (state S.Store conn.new) → (xs : List Record) → Holds (state S.Store conn.old) xs
         → Holds (state S.Store conn.new) xs }
+    ensures crash { HasCleanDisk (state S.Store conn.new) → HasTable (state S.Store conn.old)
+        → (trees : Trees) → (state S.Store conn.new).may_leave trees → (state S.Store conn.old).may_leave trees }
     ensures up { IsUp (state S.Store conn.new) → IsUp (state S.Store conn.old) }
     ensures refusal { IfErr result RefusesRead }
 {

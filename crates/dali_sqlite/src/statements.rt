@@ -8,7 +8,7 @@ ghost use Rattle.sqlite_schema.specs.Names.{table_named};
 ghost use Rattle.dali_script.specs.declared.records.Record.{Record};
 ghost use Rattle.dali_sqlite.specs.Table.{no_schema};
 ghost use Rattle.dali_sqlite.specs.Rows.{row_of, rows_after, four_of};
-ghost use Rattle.dali_sqlite.specs.Stored.{Lists, HasTable, Holds, IsUp};
+ghost use Rattle.dali_sqlite.specs.Stored.{IsTableOf, HasTable, Holds, IsUp};
 ghost use Rattle.dali_sqlite.specs.Refused.{HasFailed};
 
 use crate::refused::refusal;
@@ -20,6 +20,15 @@ pub fn has_table<S: Alter>(conn: &Connection<S>) -> bool
     ensures { result ≡ is_some (table_named (state S.Store conn.now).now.schema (codes "record")) }
 {
     conn.schema().table_named(b"record").is_some()
+}
+
+/// What a stop leaves of an open database that holds a list is the list. It does nothing.
+pub fn leaves_list<S: Alter>(conn: &Connection<S>)
+    ensures { IsUp (state S.Store conn.now) → (xs : List Record) → Holds (state S.Store conn.now) xs
+        → (trees : Trees) → (state S.Store conn.now).may_leave trees → IsTableOf trees xs }
+{
+    // For what it says of the rows: they are those of the tables in the schema.
+    let _ = conn.schema();
 }
 
 /// Makes the table.
@@ -60,7 +69,11 @@ pub fn insert<S: Alter>(
     ensures crash { HasCleanDisk (state S.Store conn.new) → (xs : List Record) (x : Record)
         → Int seq ∷ Int (pos kind) ∷ Int (pos address) ∷ Int (pos random) ∷ [] ≡ row_of (length xs + 1) x
         → Holds (state S.Store conn.old) xs → (trees : Trees) → (state S.Store conn.new).may_leave trees
-        → (state S.Store conn.old).may_leave trees ⊎ Lists trees (xs ++ x ∷ []) }
+        → (state S.Store conn.old).may_leave trees ⊎ IsTableOf trees (xs ++ x ∷ []) }
+    ensures durable { HasCleanDisk (state S.Store conn.new) → OnOk result ((xs : List Record) (x : Record)
+        → Int seq ∷ Int (pos kind) ∷ Int (pos address) ∷ Int (pos random) ∷ [] ≡ row_of (length xs + 1) x
+        → Holds (state S.Store conn.old) xs → (trees : Trees) → (state S.Store conn.new).may_leave trees
+        → IsTableOf trees (xs ++ x ∷ [])) }
     ensures up { IsUp (state S.Store conn.new) → IsUp (state S.Store conn.old) }
     ensures refusal { IfErr result HasFailed }
 {
@@ -81,6 +94,8 @@ pub fn select<S: Alter>(conn: &mut Connection<S>) -> Result<Vec<Row>, KeepError>
     ensures found { HasCleanDisk (state S.Store conn.new) → IfOk result (λ rows. HasTable (state S.Store conn.old)
         → (xs : List Record) → map four_of rows.items ≡ rows_after 0 xs → Holds (state S.Store conn.new) xs) }
     ensures open { HasCleanDisk (state S.Store conn.new) → OnOk result (IsUp (state S.Store conn.old)) }
+    ensures crash { HasCleanDisk (state S.Store conn.new) → HasTable (state S.Store conn.old)
+        → (trees : Trees) → (state S.Store conn.new).may_leave trees → (state S.Store conn.old).may_leave trees }
     ensures same { IsUp (state S.Store conn.new) → (xs : List Record) → Holds (state S.Store conn.old) xs
         → Holds (state S.Store conn.new) xs }
     ensures up { IsUp (state S.Store conn.new) → IsUp (state S.Store conn.old) }

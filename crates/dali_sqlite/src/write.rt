@@ -3,7 +3,7 @@ ghost use Rattle.sqlite.specs.Tree.{Trees};
 ghost use Rattle.sqlite.specs.State.{HasCleanDisk};
 ghost use Rattle.sqlite.specs.Held.{state};
 ghost use Rattle.dali_script.specs.declared.records.Record.{Record};
-ghost use Rattle.dali_sqlite.specs.Stored.{Lists, Holds, IsUp};
+ghost use Rattle.dali_sqlite.specs.Stored.{IsTableOf, Holds, IsUp};
 ghost use Rattle.dali_sqlite.specs.Refused.{HasFailed};
 
 use crate::statements::insert;
@@ -27,7 +27,10 @@ pub fn write<S: Alter>(
         → Holds (state S.Store conn.old) xs → Holds (state S.Store conn.new) xs) }
     ensures crash { HasCleanDisk (state S.Store conn.new) → (xs : List Record) → count ≡ length xs
         → Holds (state S.Store conn.old) xs → (trees : Trees) → (state S.Store conn.new).may_leave trees
-        → (state S.Store conn.old).may_leave trees ⊎ Lists trees (xs ++ added.now ∷ []) }
+        → (state S.Store conn.old).may_leave trees ⊎ IsTableOf trees (xs ++ added.now ∷ []) }
+    ensures durable { HasCleanDisk (state S.Store conn.new) → OnOk result ((xs : List Record) → count ≡ length xs
+        → Holds (state S.Store conn.old) xs → (trees : Trees) → (state S.Store conn.new).may_leave trees
+        → IsTableOf trees (xs ++ added.now ∷ [])) }
     ensures up { IsUp (state S.Store conn.new) → IsUp (state S.Store conn.old) }
     ensures refusal { IfErr result HasFailed }
 {

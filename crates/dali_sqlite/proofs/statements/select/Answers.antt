@@ -1,9 +1,13 @@
-use Rattle.std.proofs.Common.{[], arith}
+use Rattle.std.proofs.Common.{◌⊎◌, inl, inr, [], arith}
 use Rattle.sqlite.specs.Held.{state}
 use Rattle.dali_sqlite.proofs.Texts.{select_text}
 use Rattle.dali_sqlite.proofs.Open.{was_up, shown_open, query_stays, stays_open, stays_holds}
-use Rattle.dali_sqlite.proofs.Effects.{selects_exactly, selects_found}
+use Rattle.dali_sqlite.proofs.Effects.{selects_exactly, selects_found, selects_quietly}
 use Rattle.dali_sqlite.proofs.statements.select.Goals as goal
+
+or_never : {A B : Type 0} → A ⊎ B → (B → ⊥) → A
+or_never (inl a) never = a
+or_never (inr b) never = absurd (never b)
 
 pub returns-in-Ok-clause-exact : goal.returns-in-Ok-clause-exact
 returns-in-Ok-clause-exact g c clean =
@@ -33,3 +37,12 @@ returns-in-Err-clause-up g c =
 
 pub returns-in-Ok-clause-open : goal.returns-in-Ok-clause-open
 returns-in-Ok-clause-open g c clean = (omega (arith, c.query_all.ensures.survives.clean, clean), shown_open select_text [] _ _ _ (c.in-Ok.ensures.ok clean))
+
+-- a query commits nothing
+pub returns-in-Ok-clause-crash : goal.returns-in-Ok-clause-crash
+returns-in-Ok-clause-crash g c clean has trees left =
+    or_never (c.query_all.ensures.survives.crash clean trees left) (selects_quietly (state g.S.Store c.args.conn.now) trees has.table)
+
+pub returns-in-Err-clause-crash : goal.returns-in-Err-clause-crash
+returns-in-Err-clause-crash g c clean has trees left =
+    or_never (c.query_all.ensures.survives.crash clean trees left) (selects_quietly (state g.S.Store c.args.conn.now) trees has.table)

@@ -12,3 +12,6 @@ returns-clause-sound g c sound up =
     more_stored old (state g.S.Store c.write.new.conn) kept c.add.new.self c.args.self.now.count c.in_ok-self.field-0 c.args.added c.add.ensures.short
     c.requires (c.in-Ok.ensures.success.0 refl)
     c.in-Ok.ensures.ok c.in_ok-self.ensures.count (c.in_ok-self.ensures.added up.0) read
+
+pub returns-clause-durable : goal.returns-clause-durable
+returns-clause-durable g c sound clean xs held = c.in_ok-self.ensures.durable clean xs (sound.known c.if-self.false xs held).1 held
