@@ -3,7 +3,7 @@
 
 ghost use Rattle.std.specs.Prelude.{◌≡◌, ◌<◌};
 
-use super::threads::{Blanks, blanks, last_two, line_of};
+use super::threads::{Blanks, blanks, closed, last_two, line_of};
 use super::values::Ordered::{Commit, Done, Put};
 use super::values::{ENROL, Ordered, RESERVE, forward, one_reserved, same, site_of};
 use arrayvec::ArrayVec;
@@ -313,9 +313,15 @@ fn played<P0: Ledger, P1: Ledger, P2: Ledger, P3: Ledger, D: Ledger, R: Abort + 
     speaks_for_nobody(rt, line, &mut Port::default());
 }
 
-/// A port goes back to the others.
-fn goes_back<P: Default + Drop, R: Abort>(rt: &R, ports: &mut ArrayVec<P, 4>, port: P) {
-    assert!(rt; ports.try_push(port).is_ok());
+/// A port is back behind the others, unless it is a spare one.
+fn comes_back<P0: Ledger, P1: Ledger, P2: Ledger, P3: Ledger, D: Ledger, R: Abort>(
+    rt: &R,
+    ports: &mut ArrayVec<Port<P0, P1, P2, P3, D>, 4>,
+    port: Port<P0, P1, P2, P3, D>,
+) {
+    if port.controller() < 4 {
+        assert!(rt; ports.try_push(port).is_ok());
+    }
 }
 
 /// A line and a site that are the same at first are played a story, and have the same log at its end.
@@ -345,10 +351,9 @@ fn beside<P0: Ledger, P1: Ledger, P2: Ledger, P3: Ledger, D: Ledger, R: Abort + 
         records,
         story,
     );
-    goes_back(rt, &mut ports, port);
-    goes_back(rt, &mut ports, other);
-    let closed = line.close(ports, driver);
-    same(rt, &closed.log(), &site.log());
+    comes_back(rt, &mut ports, port);
+    comes_back(rt, &mut ports, other);
+    same(rt, &closed(rt, line, ports, driver).log(), &site.log());
 }
 
 /// A site of one gear with these blocks.

@@ -7,10 +7,10 @@ ghost use Rattle.dali_script.specs.Records.{Kept, Fits, with_record};
 ghost use Rattle.dali_reserve.specs.Store.{IsReplay, HasRecords};
 
 use super::calls::comes_up;
-use super::threads::{Blanks, TURNS, blanks, line_of, site_with, store_of};
+use super::threads::{Blanks, TURNS, blanks, closed, line_of, site_with, store_of};
 use super::values::{block, same};
 use dali_enrol::{Directory, Table};
-use dali_line::{Bus, Driver, Line, OpenGate, Outcome, Pumper, Worker};
+use dali_line::{Bus, Driver, Gate, Line, Moment, OpenGate, Outcome, Pumper, Worker};
 use dali_reserve::{Keep, KeepError, MemoryKeep};
 use dali_script::{AddError, Block, End, Fault, Kept, Record};
 use dali_world::SiteState;
@@ -18,6 +18,8 @@ use std::alloc::Global;
 use std::marker::Brand;
 use std::process::Abort;
 use std::sync::Wait;
+use std::sync::atomic::Ordering::SeqCst;
+use std::sync::atomic::{AtomicBool, AtomicU32};
 use std::sync::ledger::Ledger;
 use std::test::Fail;
 use std::thread::{Threads, join};
@@ -25,7 +27,7 @@ use std::thread::{Threads, join};
 /// A store in memory that is told to fail once: after so many commits the next one answers StoreFailed, and its record
 /// is stored or not. A read is due then, as the trait asks.
 #[derive(Drop)]
-struct FailingKeep {
+struct FailingKeep<'a> {
     store: MemoryKeep,
     /// What the store is known to hold, unless a read is due.
     known: Kept,
@@ -34,9 +36,11 @@ struct FailingKeep {
     /// Whether its record is stored.
     is_stored: bool,
     must_read: bool,
+    /// How often it was asked to commit.
+    asked: &'a AtomicU32,
 }
 
-impl FailingKeep {
+impl FailingKeep<'_> {
     /// Whether the next commit fails. The one after it is a commit nearer to failing.
     fn fails(&mut self) -> bool
         ensures store { self.new.store ≡ self.old.store }
@@ -65,7 +69,7 @@ fn is_added(store: &mut MemoryKeep, block: Block, added: &Record) -> bool
     store.is_of(block) && store.commit(*added).is_ok()
 }
 
-impl Keep for FailingKeep {
+impl Keep for FailingKeep<'_> {
     ghost block = { λ s. s.known.block };
 
     ghost holds = { λ s xs. IsReplay s.store.block xs s.store };
@@ -94,6 +98,7 @@ impl Keep for FailingKeep {
     }
 
     fn commit(&mut self, added: Record) -> Result<(), KeepError> {
+        self.asked.fetch_add(1, SeqCst);
         if self.must_read {
             return Err(KeepError::StoreFailed);
         }
@@ -117,16 +122,40 @@ impl Keep for FailingKeep {
     }
 }
 
-/// What a worker leaves: how it ended, its port, and its store.
-type Left<P> = (Outcome, P, FailingKeep);
+/// A gate that looks how often a store was asked to commit: once between the two moments of a commit.
+#[derive(Drop)]
+struct Looking<'a> {
+    asked: &'a AtomicU32,
+    /// How often before the commit.
+    before: AtomicU32,
+    is_right: &'a AtomicBool,
+}
 
-fn works<B: Bus, R: Wait>(
+impl Gate for Looking<'_> {
+    fn at<R: Wait>(&self, _rt: &R, _controller: u8, moment: Moment) {
+        let asked = self.asked.load(SeqCst);
+        match moment {
+            Moment::BeforeCommit => self.before.store(asked, SeqCst),
+            Moment::AfterCommit => {
+                if asked.wrapping_sub(self.before.load(SeqCst)) != 1 {
+                    self.is_right.store(false, SeqCst);
+                }
+            }
+            Moment::AfterTurn => {}
+        }
+    }
+}
+
+/// What a worker leaves: how it ended, its port, and its store.
+type Left<'a, P> = (Outcome, P, FailingKeep<'a>);
+
+fn works<'a, 'b, B: Bus, R: Wait>(
     rt: &R,
     alloc: Global,
     bus: &B,
     directory: &Directory,
-    worker: Worker<B::Port, FailingKeep, OpenGate>,
-) -> Left<B::Port> {
+    worker: Worker<B::Port, FailingKeep<'a>, Looking<'b>>,
+) -> Left<'a, B::Port> {
     match directory.pass(alloc) {
         Ok(pass) => {
             let (outcome, port, keep, _) = worker.run(rt, alloc, bus, directory, pass, TURNS);
@@ -140,23 +169,29 @@ fn works<B: Bus, R: Wait>(
 }
 
 /// A worker and a pumper run until the worker ends, which it does so. Its port and its store, and the driver.
-fn session<B, R>(
+fn session<'a, B, R>(
     rt: &R,
     alloc: Global,
     bus: &B,
     directory: &Directory,
     port: B::Port,
     driver: B::Driver,
-    keep: FailingKeep,
+    keep: FailingKeep<'a>,
     end: Outcome,
-) -> (B::Port, FailingKeep, B::Driver)
+) -> (B::Port, FailingKeep<'a>, B::Driver)
 where
     B: Bus + Sync,
     B::Port: Send + Drop,
     B::Driver: Send + Drop,
     R: Threads + Wait + Abort + Sync,
 {
-    let worker = Worker::new(port, keep, OpenGate);
+    let is_right = AtomicBool::new(true);
+    let gate = Looking {
+        asked: keep.asked,
+        before: AtomicU32::new(0),
+        is_right: &is_right,
+    };
+    let worker = Worker::new(port, keep, gate);
     let pumper = Pumper::new(driver, OpenGate);
     let ((outcome, port, keep), pumped) = join(
         rt,
@@ -164,6 +199,7 @@ where
         move || pumper.run(rt, bus, TURNS),
     );
     same(rt, &outcome, &end);
+    assert!(rt; is_right.load(SeqCst));
     (port, keep, pumped.0)
 }
 
@@ -172,7 +208,7 @@ fn restarts<P0: Ledger, P1: Ledger, P2: Ledger, P3: Ledger, D: Ledger, R: Abort 
     rt: &R,
     line: &Line<P0, P1, P2, P3, D>,
     driver: &mut Driver<P0, P1, P2, P3, D>,
-    keep: &mut FailingKeep,
+    keep: &mut FailingKeep<'_>,
     stored: (usize, usize),
 ) {
     same(rt, &line.down(rt, driver, 0), &Ok(()));
@@ -217,7 +253,7 @@ fn halts<P0, P1, P2, P3, D, R>(
     alloc: Global,
     site: SiteState,
     blanks: Blanks,
-    keep: FailingKeep,
+    keep: FailingKeep<'_>,
     directory: &Directory,
     stored: (usize, usize),
 )
@@ -242,12 +278,13 @@ where
     );
     restarts(rt, &line, &mut driver, &mut keep, stored);
     let ended = Outcome::Ended(End::AllFound);
-    let (_, _, driver) = session(rt, alloc, &line, directory, port, driver, keep, ended);
-    table_is_true(rt, &line.close(ports, driver));
+    let (port, _, driver) = session(rt, alloc, &line, directory, port, driver, keep, ended);
+    assert!(rt; ports.try_push(port).is_ok());
+    table_is_true(rt, &closed(rt, line, ports, driver));
 }
 
 /// An empty store of the block 0 to 7 that fails at this commit, and stores its record or not.
-fn failing_store(commit: u8, is_stored: bool) -> Result<FailingKeep, Fail> {
+fn failing_store(asked: &AtomicU32, commit: u8, is_stored: bool) -> Result<FailingKeep<'_>, Fail> {
     let store = store_of((0, 7))?;
     let known = Kept::new(block(0, 7)?);
     Ok(FailingKeep {
@@ -256,6 +293,7 @@ fn failing_store(commit: u8, is_stored: bool) -> Result<FailingKeep, Fail> {
         before: Some(commit),
         is_stored,
         must_read: false,
+        asked,
     })
 }
 
@@ -267,7 +305,8 @@ fn fails_at<R: Threads + Wait + Abort + Sync + AllocGlobal>(
 ) -> Result<(), Fail> {
     let alloc = rt.alloc();
     let directory = Directory::new(alloc)?;
-    let keep = failing_store(commit, is_stored)?;
+    let asked = AtomicU32::new(0);
+    let keep = failing_store(&asked, commit, is_stored)?;
     let site = site_with(alloc, 3, &[(0, 7)])?;
     let count = usize::from(commit) + usize::from(is_stored);
     let stored = (count.div_ceil(2), count / 2);

@@ -1,8 +1,9 @@
 //! A run: a worker for each controller and a pumper, in threads of their own, over one line.
 
-ghost use Rattle.std.specs.Prelude.{◌≡◌, ◌<◌, ◌≤◌, [], None, Some, OnOk, IfErr, IfSome, IsErrOf, length};
+ghost use Rattle.std.specs.Prelude.{◌≡◌, ◌<◌, ◌≤◌, [], None, Some, OnOk, OnErr, IfErr, IfSome, IsErrOf, IsTrue, length};
 ghost use Rattle.dali_events.specs.declared.plan.PlanError.{PlanError};
 ghost use Rattle.dali_events.specs.Plan.{refusal_of};
+ghost use Rattle.dali_line.specs.Ends.{stops};
 ghost use Rattle.dali_threads.specs.declared.setup.ThreadsFault.TheVariants.{BadPlan};
 
 use crate::draws::drawn;
@@ -39,7 +40,9 @@ fn works<B: Bus, R: Wait>(
     directory: &Directory,
     turns: u32,
     surveys: bool,
-) -> (Outcome, B::Port) {
+) -> (Outcome, B::Port)
+    ensures stopped { IsTrue (stops result.0) → B.is_stopped bus.now }
+{
     match (SqliteKeep::in_memory(alloc, block), directory.pass(alloc)) {
         (Ok(keep), Ok(pass)) => {
             let worker = Worker {
@@ -61,46 +64,48 @@ fn works<B: Bus, R: Wait>(
 /// What the threads of a run leave: how each worker ended and its port, in order of the controllers' numbers, and the
 /// driver.
 #[derive(Drop)]
-struct Left<P0: Ledger, P1: Ledger, P2: Ledger, P3: Ledger, D: Ledger> {
+struct Left<P, D> {
     outcomes: Vec<Outcome>,
-    ports: ArrayVec<Port<P0, P1, P2, P3, D>, 4>,
-    driver: Driver<P0, P1, P2, P3, D>,
+    ports: Vec<P>,
+    driver: D,
 }
 
 /// A worker runs for each port, and a pumper, until all have ended. The workers share a directory. Where a thread
-/// cannot be made the line is stopped.
-fn all_run<P0, P1, P2, P3, D, R>(
+/// cannot be made, or there is no memory for what it leaves, the bus is stopped, so that nobody waits for it.
+fn all_run<B, R>(
     rt: &R,
     alloc: Global,
-    line: &Line<P0, P1, P2, P3, D>,
-    ports: ArrayVec<Port<P0, P1, P2, P3, D>, 4>,
-    driver: Driver<P0, P1, P2, P3, D>,
+    bus: &B,
+    ports: Vec<B::Port>,
+    driver: B::Driver,
     blocks: &[Block],
     turns: u32,
     surveys: bool,
-) -> Result<Left<P0, P1, P2, P3, D>, AllocError>
+) -> Result<Left<B::Port, B::Driver>, AllocError>
 where
-    P0: Ledger + Send + Sync,
-    P1: Ledger + Send + Sync,
-    P2: Ledger + Send + Sync,
-    P3: Ledger + Send + Sync,
-    D: Ledger + Send + Sync,
+    B: Bus + Sync,
+    B::Port: Send + Drop,
+    B::Driver: Send + Drop,
     R: Threads + Wait + Sync,
+    ensures stopped { OnErr result (B.is_stopped bus.now) }
 {
     let Ok(directory) = Directory::new(alloc) else {
+        bus.stop(rt);
         return Err(AllocError);
     };
     let shared = &directory;
     thread::scope(
         thread::scope_env(),
         rt,
-        move |scope| -> Result<Left<P0, P1, P2, P3, D>, AllocError> {
+        move |scope| -> Result<Left<B::Port, B::Driver>, AllocError>
+            ensures { OnErr result (B.is_stopped bus.entry.now) }
+        {
             let mut workers = Vec::new(alloc);
             let mut refused = false;
             for (port, block) in ports.into_iter().zip(blocks) {
                 let block = *block;
                 match scope.spawn(move || works(
-                    rt, alloc, line, port, block, shared, turns, surveys,
+                    rt, alloc, bus, port, block, shared, turns, surveys,
                 )) {
                     Ok(worker) => {
                         if workers.push(worker).is_err() {
@@ -111,19 +116,19 @@ where
                 }
             }
             if refused {
-                line.stop(rt);
+                bus.stop(rt);
             }
-            let (driver, _) = Pumper::new(driver, OpenGate).run(rt, line, turns);
+            let (driver, _) = Pumper::new(driver, OpenGate).run(rt, bus, turns);
             let mut outcomes = Vec::new(alloc);
-            let mut ports = ArrayVec::new();
+            let mut ports = Vec::new(alloc);
             for worker in workers {
                 let (outcome, port) = worker.join(rt);
-                if outcomes.push(outcome).is_err() {
+                if outcomes.push(outcome).is_err() || ports.push(port).is_err() {
                     refused = true;
                 }
-                let _ = ports.try_push(port);
             }
             if refused {
+                bus.stop(rt);
                 return Err(AllocError);
             }
             Ok(Left {
@@ -133,6 +138,24 @@ where
             })
         },
     )
+}
+
+/// The ports of a line as a list.
+fn listed<P: Default + Drop>(alloc: Global, ports: ArrayVec<P, 4>) -> Result<Vec<P>, AllocError> {
+    let mut list = Vec::with_capacity(alloc, 4)?;
+    for port in ports {
+        list.push(port)?;
+    }
+    Ok(list)
+}
+
+/// A list of ports, four at most, as a line takes them back.
+fn gathered<P: Default + Drop>(list: Vec<P>) -> ArrayVec<P, 4> {
+    let mut ports = ArrayVec::new();
+    for port in list {
+        let _ = ports.try_push(port);
+    }
+    ports
 }
 
 /// The right to make the five ledgers of a line.
@@ -181,13 +204,18 @@ where
     let (line, ports, driver) = Line::<P0, P1, P2, P3, D>::new(
         site, first, second, third, fourth, driver,
     );
+    let ports = listed(alloc, ports)?;
     let left = all_run(rt, alloc, &line, ports, driver, &blocks, turns, surveys)?;
     let Left {
         outcomes,
         ports,
         driver,
     } = left;
-    Ok((outcomes, line.close(ports, driver)))
+    match line.close(gathered(ports), driver) {
+        Ok(site) => Ok((outcomes, site)),
+        // `all_run` has handed back each port, or has answered that a thread could not be made.
+        Err(_) => Err(AllocError),
+    }
 }
 
 /// A plan of this gear, these blocks and these numbers to be drawn.
