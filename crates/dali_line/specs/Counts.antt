@@ -1,9 +1,9 @@
-use Rattle.std.specs.Prelude.{ℕ, ◌+◌, Bool, true, false, List, [], ◌∷◌, length, take}
-use Rattle.std.specs.Prelude.{if◌then◌else◌}
+use Rattle.std.specs.Prelude.{◌≡◌, ℕ, ◌+◌, ◌<◌, Bool, true, false, List, [], ◌∷◌, length, take}
+use Rattle.std.specs.Prelude.{slice_index_or, if◌then◌else◌}
 use Rattle.dali_events.specs.declared.event.Event.{Event}
 use Rattle.dali_events.specs.declared.event.Event.TheVariants as event
 use Rattle.dali_world.specs.Site.{SiteState, share_of}
-use Rattle.dali_line.specs.Shares.{PortShare, port_share, Tally}
+use Rattle.dali_line.specs.Shares.{PortShare, port_share, no_share, Tally}
 
 -- whether an event is no controller's step
 abbrev pub is_other : Event → Bool
@@ -41,3 +41,8 @@ share_in s c = port_share c (share_of c s.log)
 abbrev pub shares_of : SiteState → List PortShare
 shares_of s =
     take (length s.plan.blocks) (share_in s 0 ∷ share_in s 1 ∷ share_in s 2 ∷ share_in s 3 ∷ [])
+
+-- each port is that of the controller whose number is the port's place
+abbrev pub AreInOrder : List PortShare → Type 0
+AreInOrder ports =
+    (i : ℕ) → i < length ports → (slice_index_or ports i no_share).controller ≡ i

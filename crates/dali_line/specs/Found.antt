@@ -1,4 +1,4 @@
-use Rattle.std.specs.Prelude.{◌≡◌, ◌⊎◌, ℕ, ◌<◌, Bool, true, false, length, None, IsSome}
+use Rattle.std.specs.Prelude.{◌≡◌, ◌⊎◌, ℕ, ◌<◌, Bool, true, false, List, length, All, None, IsSome}
 use Rattle.dali_script.specs.declared.orders.Due.TheVariants as due
 use Rattle.dali_events.specs.World.{controller_at}
 use Rattle.dali_events.specs.Promise.{KeepsPromise}
@@ -6,8 +6,8 @@ use Rattle.dali_standing.specs.Seats.{due_of}
 use Rattle.dali_standing.specs.declared.trouble.Report.{Report}
 use Rattle.dali_standing.specs.declared.trouble.Report.TheVariants as report
 use Rattle.dali_world.specs.Site.{SiteState, world, share_of, next_request, IsSound, IsCrowded}
-use Rattle.dali_line.specs.Shares.{PortShare}
-use Rattle.dali_line.specs.Counts.{others_of}
+use Rattle.dali_line.specs.Shares.{PortShare, total_of}
+use Rattle.dali_line.specs.Counts.{others_of, counts_of}
 use Rattle.dali_line.specs.declared.ready.Ready.{Ready}
 use Rattle.dali_line.specs.declared.ready.Ready.TheVariants as ready
 
@@ -94,3 +94,12 @@ pub record IsBusy (stopped : Bool) (s : SiteState) : Type 0 where
   pub idle : next_request s ≡ None
   pub room : IsCrowded s → ⊥
   pub more : IsOver s → ⊥
+
+-- A SITE THAT A LINE GIVES BACK: it keeps its promise, each share that came back is what its log
+-- has, and each event of the log is in one of the five shares, and in one alone.
+pub record IsGivenBack (s : SiteState) (ports : List PortShare) (driver : ℕ) : Type 0 where
+  pub sound : IsSound s
+  pub promise : KeepsPromise s.plan s.queue s.log
+  pub shares : All (λ one. share_of one.controller s.log ≡ one.share) ports
+  pub others : others_of s.log ≡ driver
+  pub whole : total_of (counts_of s.log) ≡ length s.log

@@ -1,12 +1,13 @@
-ghost use Rattle.std.specs.Prelude.{◌≡◌, ◌+◌, ◌<◌, ◌≤◌, Bool, length, All, [], ◌∷◌, take, IfOk, OnOk, OnErr};
+ghost use Rattle.std.specs.Prelude.{◌≡◌, ◌+◌, ◌<◌, ◌≤◌, Bool, [], ◌∷◌, take, IfOk, IfErr, OnOk, OnErr};
 ghost use Rattle.dali_events.specs.World.{controller_at};
 ghost use Rattle.dali_script.specs.Due.{record_ordered};
 ghost use Rattle.dali_standing.specs.Seats.{due_of};
 ghost use Rattle.dali_events.specs.Promise.{KeepsPromise};
-ghost use Rattle.dali_world.specs.Site.{SiteState, world, Acts, share_of, IsSound};
-ghost use Rattle.dali_line.specs.Counts.{shares_of, counts_of, others_of};
-ghost use Rattle.dali_line.specs.Shares.{raised_share, port_share, total_of};
-ghost use Rattle.dali_line.specs.Found.{FromPort, FromDriver, EndsWait, EndsWaitForRoom, IsReady, events_in};
+ghost use Rattle.dali_world.specs.Site.{SiteState, world, Acts, IsSound};
+ghost use Rattle.dali_line.specs.Counts.{shares_of, others_of};
+ghost use Rattle.dali_line.specs.Shares.{raised_share, port_share};
+ghost use Rattle.dali_line.specs.Found.{FromPort, FromDriver, EndsWait, EndsWaitForRoom, IsReady, IsGivenBack};
+ghost use Rattle.dali_line.specs.Found.{events_in};
 ghost use Rattle.dali_line.specs.Calls.{Offers, PumpsOnce, Lapses, FallsQuiet, Powers, Expires, GoesDown, ComesUp};
 
 use crate::count::{others, steps};
@@ -90,21 +91,22 @@ impl<P0: Ledger, P1: Ledger, P2: Ledger, P3: Ledger, D: Ledger> Line<P0, P1, P2,
         (line, ports(count, one, two, three, four), Driver::of(own))
     }
 
-    /// The site, out of the lock. Each port's share is how many events of its log are steps of the port's controller,
-    /// and the driver's share is how many are nobody's. Each event is in one of these shares, and in one alone.
+    /// The site, out of the lock. `Ok` where all ports are handed back, in order of their controllers' numbers, as
+    /// `new` gave them; else `Err`, with the site too.
+    ///
+    /// Each port's share is how many events of its log are steps of the port's controller, and the driver's share is
+    /// how many are nobody's. Each event is in one of the shares of all controllers and the driver, and in one alone.
     pub fn close(
         self,
         ports: ArrayVec<Port<P0, P1, P2, P3, D>, 4>,
         driver: Driver<P0, P1, P2, P3, D>,
-    ) -> SiteState
-        ensures ports { All (λ one. share_of one.controller result.log ≡ one.share) ports.items }
-        ensures driver { others_of result.log ≡ driver }
-        ensures whole { total_of (counts_of result.log) ≡ length result.log }
-        ensures promise { KeepsPromise result.plan result.queue result.log }
-        ensures sound { IsSound result }
+    ) -> Result<SiteState, SiteState>
+        ensures all { IfOk result (λ s. IsGivenBack s ports.items driver × (ports.items ≡ shares_of s)) }
+        ensures missing { IfErr result (λ s. IsGivenBack s ports.items driver × (ports.items ≡ shares_of s → ⊥)) }
     {
         let Line { locked, moved: _ } = self;
-        locked.into_inner().close(ports, driver)
+        let (site, has_all) = locked.into_inner().close(ports, driver);
+        if has_all { Ok(site) } else { Err(site) }
     }
 
     /// The lock, for a call that may end a wait.

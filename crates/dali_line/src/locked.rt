@@ -6,7 +6,7 @@ ghost use Rattle.dali_script.specs.Due.{record_ordered};
 ghost use Rattle.dali_standing.specs.Seats.{due_of};
 ghost use Rattle.dali_script.specs.declared.orders.Due.TheVariants as due;
 ghost use Rattle.dali_events.specs.Promise.{KeepsPromise};
-ghost use Rattle.dali_line.specs.Counts.{counts_of, others_of};
+ghost use Rattle.dali_line.specs.Counts.{counts_of, others_of, shares_of, AreInOrder};
 
 use crate::commits::{CommitState, Commits};
 use crate::driver::Driver;
@@ -549,27 +549,52 @@ impl<P0: Ledger, P1: Ledger, P2: Ledger, P3: Ledger, D: Ledger> Locked<P0, P1, P
         self.audit(&mut port);
     }
 
-    /// The site, of which each share is what its log has.
+    /// The site, of which each share is what its log has, and whether there is a port for each of its controllers, in
+    /// order.
     pub(crate) fn close(
         self,
         ports: ArrayVec<Port<P0, P1, P2, P3, D>, 4>,
         driver: Driver<P0, P1, P2, P3, D>,
-    ) -> SiteState
-        ensures site { result ≡ self.site }
-        ensures ports { All (λ one. share_of one.controller result.log ≡ one.share) ports.items }
-        ensures driver { others_of result.log ≡ driver }
-        ensures whole { total_of (counts_of result.log) ≡ length result.log }
-        ensures promise { KeepsPromise result.plan result.queue result.log }
-        ensures sound { IsSound result }
+    ) -> (SiteState, bool)
+        ensures site { result.0 ≡ self.site }
+        ensures ports { All (λ one. share_of one.controller result.0.log ≡ one.share) ports.items }
+        ensures driver { others_of result.0.log ≡ driver }
+        ensures whole { total_of (counts_of result.0.log) ≡ length result.0.log }
+        ensures promise { KeepsPromise result.0.plan result.0.queue result.0.log }
+        ensures sound { IsSound result.0 }
+        ensures all { IsTrue result.1 ↔ (ports.items ≡ shares_of result.0) }
     {
         let mut locked = self;
         let mut driver = driver;
         let mut ports = ports;
         locked.audit_driver(&mut driver);
+        let has_all = locked.has_all(ports.as_slice());
         while let Some(port) = ports.pop() {
             locked.take_back(port);
         }
         let Locked { site, .. } = locked;
-        site
+        (site, has_all)
     }
+
+    /// Whether these are as many ports as there are controllers, each that of the controller whose number is its place.
+    fn has_all(&self, ports: &[Port<P0, P1, P2, P3, D>]) -> bool
+        ensures few { length self.now.site.plan.blocks ≤ 4 }
+        ensures all { IsTrue result ↔ (length ports.now ≡ length self.now.site.plan.blocks) × AreInOrder ports.now }
+    {
+        ports.len() == self.site.plan().blocks().len() && are_in_order(ports)
+    }
+}
+
+/// Whether each port is that of the controller whose number is its place.
+fn are_in_order<P0: Ledger, P1: Ledger, P2: Ledger, P3: Ledger, D: Ledger>(
+    ports: &[Port<P0, P1, P2, P3, D>],
+) -> bool
+    ensures { IsTrue result ↔ AreInOrder ports.now }
+{
+    for place in 0..ports.len() {
+        if ports[place].controller() as usize != place {
+            return false;
+        }
+    }
+    true
 }

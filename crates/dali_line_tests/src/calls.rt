@@ -3,10 +3,9 @@
 
 ghost use Rattle.std.specs.Prelude.{◌≡◌, ◌<◌};
 
-use super::threads::{Blanks, blanks, last_two, line_of};
+use super::threads::{Blanks, blanks, closed, go_back, last_two, line_of};
 use super::values::Ordered::{Commit, Done, Put};
 use super::values::{ENROL, Ordered, RESERVE, forward, one_reserved, same, site_of};
-use arrayvec::ArrayVec;
 use dali_line::{Bus, Driver, Line, Port, Ready, UpRefusal};
 use dali_script::{Due, End, Input, Kept};
 use dali_world::{Receipt, Refusal, SiteState, Trouble};
@@ -313,11 +312,6 @@ fn played<P0: Ledger, P1: Ledger, P2: Ledger, P3: Ledger, D: Ledger, R: Abort + 
     speaks_for_nobody(rt, line, &mut Port::default());
 }
 
-/// A port goes back to the others.
-fn goes_back<P: Default + Drop, R: Abort>(rt: &R, ports: &mut ArrayVec<P, 4>, port: P) {
-    assert!(rt; ports.try_push(port).is_ok());
-}
-
 /// A line and a site that are the same at first are played a story, and have the same log at its end.
 fn beside<P0: Ledger, P1: Ledger, P2: Ledger, P3: Ledger, D: Ledger, R: Abort + Wait>(
     rt: &R,
@@ -345,10 +339,8 @@ fn beside<P0: Ledger, P1: Ledger, P2: Ledger, P3: Ledger, D: Ledger, R: Abort + 
         records,
         story,
     );
-    goes_back(rt, &mut ports, port);
-    goes_back(rt, &mut ports, other);
-    let closed = line.close(ports, driver);
-    same(rt, &closed.log(), &site.log());
+    go_back(rt, &mut ports, (port, other));
+    same(rt, &closed(rt, line, ports, driver).log(), &site.log());
 }
 
 /// A site of one gear with these blocks.

@@ -7,7 +7,7 @@ ghost use Rattle.dali_script.specs.Records.{Kept, Fits, with_record};
 ghost use Rattle.dali_reserve.specs.Store.{IsReplay, HasRecords};
 
 use super::calls::comes_up;
-use super::threads::{Blanks, TURNS, blanks, line_of, site_with, store_of};
+use super::threads::{Blanks, TURNS, blanks, closed, line_of, site_with, store_of};
 use super::values::{block, same};
 use dali_enrol::{Directory, Table};
 use dali_line::{Bus, Driver, Line, OpenGate, Outcome, Pumper, Worker};
@@ -242,8 +242,9 @@ where
     );
     restarts(rt, &line, &mut driver, &mut keep, stored);
     let ended = Outcome::Ended(End::AllFound);
-    let (_, _, driver) = session(rt, alloc, &line, directory, port, driver, keep, ended);
-    table_is_true(rt, &line.close(ports, driver));
+    let (port, _, driver) = session(rt, alloc, &line, directory, port, driver, keep, ended);
+    assert!(rt; ports.try_push(port).is_ok());
+    table_is_true(rt, &closed(rt, line, ports, driver));
 }
 
 /// An empty store of the block 0 to 7 that fails at this commit, and stores its record or not.

@@ -5,7 +5,9 @@ ghost use Rattle.std.specs.Prelude.{◌≡◌, ◌<◌};
 
 use super::calls::comes_up;
 use super::driven::DrivenBus;
-use super::threads::{Blanks, TURNS, blanks, last_two, line_of, site_with, store_of};
+use super::threads::{
+    Blanks, TURNS, blanks, closed, go_back, last_two, line_of, site_with, store_of,
+};
 use super::values::{block, forward, same};
 use dali_enrol::Directory;
 use dali_frame::Answer;
@@ -238,14 +240,13 @@ fn restarted<P0: Ledger, P1: Ledger, P2: Ledger, P3: Ledger, D: Ledger, R: Abort
     keep: MemoryKeep,
     records: &Kept,
     commit: u8,
-) -> MemoryKeep {
+) -> (Port<P0, P1, P2, P3, D>, MemoryKeep) {
     let (port, keep) = goes_down_at(rt, alloc, bus, port, keep, records, commit);
     let (port, keep) = goes_on(rt, alloc, bus, port, keep);
     goes_down(rt, bus.bus, bus.driver);
     let worker = Worker::new(port, keep, OpenGate);
     let (port, keep) = works(rt, alloc, bus, worker, TURNS, Outcome::Down);
-    let (_port, keep) = goes_on(rt, alloc, bus, port, keep);
-    keep
+    goes_on(rt, alloc, bus, port, keep)
 }
 
 /// The gate took the controller down, and did not bring it up.
@@ -265,7 +266,7 @@ fn flooded<P0: Ledger, P1: Ledger, P2: Ledger, P3: Ledger, D: Ledger, R: Abort +
     keep: MemoryKeep,
     turns: u8,
     end: Outcome,
-) -> MemoryKeep {
+) -> (Port<P0, P1, P2, P3, D>, MemoryKeep) {
     let (port, other) = ports;
     let turns = Mutex::new(turns);
     let gate = Flooding {
@@ -275,9 +276,9 @@ fn flooded<P0: Ledger, P1: Ledger, P2: Ledger, P3: Ledger, D: Ledger, R: Abort +
         stops: end == Outcome::Stopped,
     };
     let worker = Worker::new(port, keep, gate);
-    let (_port, keep) = works(rt, alloc, bus, worker, TURNS, end);
+    let (port, keep) = works(rt, alloc, bus, worker, TURNS, end);
     assert!(rt; bus.has_waited.load(SeqCst));
-    keep
+    (port, keep)
 }
 
 /// A worker runs for so many turns at most, and ends so.
@@ -289,13 +290,12 @@ fn runs<B: Bus, R: Abort + Wait>(
     keep: MemoryKeep,
     turns: u32,
     end: Outcome,
-) -> MemoryKeep
+) -> (B::Port, MemoryKeep)
 where
     B::Port: Drop,
 {
     let worker = Worker::new(port, keep, OpenGate);
-    let (_port, keep) = works(rt, alloc, bus, worker, turns, end);
-    keep
+    works(rt, alloc, bus, worker, turns, end)
 }
 
 /// As much arc power is offered as may wait. How many frames.
@@ -362,7 +362,7 @@ enum Story {
     Lapse,
 }
 
-/// A story is played on a line that drives itself. Its driver and the store of controller 0 then.
+/// A story is played on a line that drives itself. Its ports, its driver and the store of controller 0 then.
 fn driven<P0: Ledger, P1: Ledger, P2: Ledger, P3: Ledger, D: Ledger, R: Abort + Wait>(
     rt: &R,
     alloc: Global,
@@ -372,7 +372,11 @@ fn driven<P0: Ledger, P1: Ledger, P2: Ledger, P3: Ledger, D: Ledger, R: Abort + 
     keep: MemoryKeep,
     records: &Kept,
     story: Story,
-) -> (Driver<P0, P1, P2, P3, D>, MemoryKeep) {
+) -> (
+    (Port<P0, P1, P2, P3, D>, Port<P0, P1, P2, P3, D>),
+    Driver<P0, P1, P2, P3, D>,
+    MemoryKeep,
+) {
     let (port, other) = ports;
     let driver = Mutex::new(driver);
     let other = Mutex::new(other);
@@ -382,14 +386,14 @@ fn driven<P0: Ledger, P1: Ledger, P2: Ledger, P3: Ledger, D: Ledger, R: Abort + 
         driver: &driver,
         has_waited: &has_waited,
     };
-    let keep = match story {
+    let (port, keep) = match story {
         Story::Restart(commit) => restarted(rt, alloc, &bus, port, keep, records, commit),
         Story::Full => flooded(rt, alloc, &bus, (port, &other), keep, 3, FOUND),
         Story::Untold => flooded(rt, alloc, &bus, (port, &other), keep, 0, Outcome::Stopped),
         Story::Unmade => runs(rt, alloc, &bus, port, keep, 110, Outcome::TurnsSpent),
         Story::Rest | Story::Lapse => runs(rt, alloc, &bus, port, keep, TURNS, FOUND),
     };
-    (driver.into_inner(), keep)
+    ((port, other.into_inner()), driver.into_inner(), keep)
 }
 
 /// A story is played on a line round this site. The site and the store of controller 0 then.
@@ -410,8 +414,11 @@ fn played<P0: Ledger, P1: Ledger, P2: Ledger, P3: Ledger, D: Ledger, R: Abort + 
 {
     let (line, mut ports, driver) = line_of::<P0, P1, P2, P3, D>(site, blanks);
     let (mut port, mut other) = last_two(&mut ports);
-    let (driver, keep) = match story {
-        Story::Lapse => (lapses(rt, &line, &mut port, &mut other, driver), keep),
+    let ((port, other), driver, keep) = match story {
+        Story::Lapse => {
+            let driver = lapses(rt, &line, &mut port, &mut other, driver);
+            ((port, other), driver, keep)
+        }
         _ => driven(
             rt,
             alloc,
@@ -423,7 +430,8 @@ fn played<P0: Ledger, P1: Ledger, P2: Ledger, P3: Ledger, D: Ledger, R: Abort + 
             story,
         ),
     };
-    (line.close(ports, driver), keep)
+    go_back(rt, &mut ports, (port, other));
+    (closed(rt, line, ports, driver), keep)
 }
 
 /// A story is played from the start of a site, or after another one.

@@ -232,10 +232,10 @@ pub fn line_of<P0: Ledger, P1: Ledger, P2: Ledger, P3: Ledger, D: Ledger>(
 }
 
 /// Its worker found all gear, and its store has the records that the site remembers of this controller.
-fn has_found<P, R: Abort>(rt: &R, site: &SiteState, c: u8, left: &Left<P>) {
+fn has_found<R: Abort>(rt: &R, site: &SiteState, c: u8, left: (Outcome, Option<Kept>)) {
     same(rt, &left.0, &Outcome::Ended(End::AllFound));
     assert!(rt; usize::from(c) < site.plan().blocks().len());
-    match &left.2 {
+    match &left.1 {
         Some(kept) => assert!(rt; kept.same(site.kept(c))),
         None => assert!(rt; false),
     }
@@ -270,6 +270,35 @@ fn was_read<R: Abort>(
 pub fn last_two<P: Default + Drop>(ports: &mut ArrayVec<P, 4>) -> (P, P) {
     let other = ports.pop().unwrap_or_default();
     (ports.pop().unwrap_or_default(), other)
+}
+
+/// The last two ports are back, in order of their controllers. A spare one, as of a site of one controller, is let go.
+pub fn go_back<P0: Ledger, P1: Ledger, P2: Ledger, P3: Ledger, D: Ledger, R: Abort>(
+    rt: &R,
+    ports: &mut ArrayVec<Port<P0, P1, P2, P3, D>, 4>,
+    last: (Port<P0, P1, P2, P3, D>, Port<P0, P1, P2, P3, D>),
+) {
+    let (port, other) = last;
+    if port.controller() < 4 {
+        assert!(rt; ports.try_push(port).is_ok());
+    }
+    assert!(rt; ports.try_push(other).is_ok());
+}
+
+/// The site of a line that is closed with all its ports.
+pub fn closed<P0: Ledger, P1: Ledger, P2: Ledger, P3: Ledger, D: Ledger, R: Abort>(
+    rt: &R,
+    line: Line<P0, P1, P2, P3, D>,
+    ports: ArrayVec<Port<P0, P1, P2, P3, D>, 4>,
+    driver: Driver<P0, P1, P2, P3, D>,
+) -> SiteState {
+    match line.close(ports, driver) {
+        Ok(site) => site,
+        Err(site) => {
+            assert!(rt; false);
+            site
+        }
+    }
 }
 
 /// Two workers, a pumper and a reader run over a bus, and the gate saw both workers before a commit of their own. What
@@ -334,9 +363,10 @@ where
     let pair = last_two(&mut ports);
     let (one, other, pumped, reading) = run_apart(rt, alloc, &line, directory, pair, driver, keeps);
     same(rt, &pumped.1, &None);
-    let site = line.close(ports, pumped.0);
-    has_found(rt, &site, 0, &one);
-    has_found(rt, &site, 1, &other);
+    go_back(rt, &mut ports, (one.1, other.1));
+    let site = closed(rt, line, ports, pumped.0);
+    has_found(rt, &site, 0, (one.0, one.2));
+    has_found(rt, &site, 1, (other.0, other.2));
     was_read(rt, directory, &site, (one.3, other.3), reading);
 }
 
@@ -490,14 +520,14 @@ fn begins_so<R: Abort>(rt: &R, name: u8, list: &List) {
 }
 
 /// What a worker left, if there was one: it ended, or was stopped, and its list is what the log has of its controller.
-fn left_its_list<P: Drop, R: Abort>(
+fn left_its_list<R: Abort>(
     rt: &R,
     log: &[Event],
     name: u8,
-    left: Option<Left<Listed<P>>>,
+    left: Option<(Outcome, List)>,
     stops: bool,
 ) {
-    let Some((outcome, port, _, _)) = &left else {
+    let Some((outcome, list)) = &left else {
         return;
     };
     match outcome {
@@ -505,8 +535,32 @@ fn left_its_list<P: Drop, R: Abort>(
         Outcome::Stopped => assert!(rt; stops),
         _ => assert!(rt; false),
     }
-    begins_so(rt, name, &port.list);
-    is_logged(rt, log, name, &port.list);
+    begins_so(rt, name, list);
+    is_logged(rt, log, name, list);
+}
+
+/// The port of a worker, if there was one, is back behind the others. How the worker ended, and its list.
+fn comes_back<P: Default + Drop, R: Abort>(
+    rt: &R,
+    ports: &mut ArrayVec<P, 4>,
+    left: Option<Left<Listed<P>>>,
+) -> Option<(Outcome, List)> {
+    let (outcome, port, _, _) = left?;
+    let Listed { inner, list } = port;
+    assert!(rt; ports.try_push(inner).is_ok());
+    Some((outcome, list))
+}
+
+/// The ports of up to four workers are back, in order. How the workers ended, and their lists.
+fn come_back<P: Default + Drop, R: Abort>(
+    rt: &R,
+    ports: &mut ArrayVec<P, 4>,
+    left: Four<Left<Listed<P>>>,
+) -> Four<(Outcome, List)> {
+    let first = comes_back(rt, ports, left.0);
+    let second = comes_back(rt, ports, left.1);
+    let third = comes_back(rt, ports, left.2);
+    (first, second, third, comes_back(rt, ports, left.3))
 }
 
 /// A worker for a store, if there is one, with the last port, which is that of the controller of this number.
@@ -569,12 +623,7 @@ where
 }
 
 /// What four workers left is what the log has of their controllers, each as `left_its_list` says.
-fn left_their_lists<P: Drop, R: Abort>(
-    rt: &R,
-    log: &[Event],
-    left: Four<Left<Listed<P>>>,
-    stops: bool,
-) {
+fn left_their_lists<R: Abort>(rt: &R, log: &[Event], left: Four<(Outcome, List)>, stops: bool) {
     left_its_list(rt, log, 0, left.0, stops);
     left_its_list(rt, log, 1, left.1, stops);
     left_its_list(rt, log, 2, left.2, stops);
@@ -607,7 +656,9 @@ where
     let workers = workers_of(alloc, ports, keeps);
     let (left, driver) = listed_run(rt, alloc, &line, directory, workers, driver, stops);
     let Listed { inner, list } = driver;
-    let site = line.close(ArrayVec::new(), inner);
+    let mut ports = ArrayVec::new();
+    let left = come_back(rt, &mut ports, left);
+    let site = closed(rt, line, ports, inner);
     is_logged(rt, site.log(), 255, &list);
     left_their_lists(rt, site.log(), left, stops);
 }

@@ -187,7 +187,11 @@ where
         ports,
         driver,
     } = left;
-    Ok((outcomes, line.close(ports, driver)))
+    match line.close(ports, driver) {
+        Ok(site) => Ok((outcomes, site)),
+        // `all_run` has handed back each port, or has answered that a thread could not be made.
+        Err(_) => Err(AllocError),
+    }
 }
 
 /// A plan of this gear, these blocks and these numbers to be drawn.
