@@ -3,10 +3,9 @@
 
 ghost use Rattle.std.specs.Prelude.{◌≡◌, ◌<◌};
 
-use super::threads::{Blanks, blanks, closed, last_two, line_of};
+use super::threads::{Blanks, blanks, closed, go_back, last_two, line_of};
 use super::values::Ordered::{Commit, Done, Put};
 use super::values::{ENROL, Ordered, RESERVE, forward, one_reserved, same, site_of};
-use arrayvec::ArrayVec;
 use dali_line::{Bus, Driver, Line, Port, Ready, UpRefusal};
 use dali_script::{Due, End, Input, Kept};
 use dali_world::{Receipt, Refusal, SiteState, Trouble};
@@ -313,17 +312,6 @@ fn played<P0: Ledger, P1: Ledger, P2: Ledger, P3: Ledger, D: Ledger, R: Abort + 
     speaks_for_nobody(rt, line, &mut Port::default());
 }
 
-/// A port is back behind the others, unless it is a spare one.
-fn comes_back<P0: Ledger, P1: Ledger, P2: Ledger, P3: Ledger, D: Ledger, R: Abort>(
-    rt: &R,
-    ports: &mut ArrayVec<Port<P0, P1, P2, P3, D>, 4>,
-    port: Port<P0, P1, P2, P3, D>,
-) {
-    if port.controller() < 4 {
-        assert!(rt; ports.try_push(port).is_ok());
-    }
-}
-
 /// A line and a site that are the same at first are played a story, and have the same log at its end.
 fn beside<P0: Ledger, P1: Ledger, P2: Ledger, P3: Ledger, D: Ledger, R: Abort + Wait>(
     rt: &R,
@@ -351,8 +339,7 @@ fn beside<P0: Ledger, P1: Ledger, P2: Ledger, P3: Ledger, D: Ledger, R: Abort + 
         records,
         story,
     );
-    comes_back(rt, &mut ports, port);
-    comes_back(rt, &mut ports, other);
+    go_back(rt, &mut ports, (port, other));
     same(rt, &closed(rt, line, ports, driver).log(), &site.log());
 }
 

@@ -272,10 +272,17 @@ pub fn last_two<P: Default + Drop>(ports: &mut ArrayVec<P, 4>) -> (P, P) {
     (ports.pop().unwrap_or_default(), other)
 }
 
-/// The last two ports are back, in order of their controllers.
-pub fn go_back<P: Default + Drop, R: Abort>(rt: &R, ports: &mut ArrayVec<P, 4>, last: (P, P)) {
-    assert!(rt; ports.try_push(last.0).is_ok());
-    assert!(rt; ports.try_push(last.1).is_ok());
+/// The last two ports are back, in order of their controllers. A spare one, as of a site of one controller, is let go.
+pub fn go_back<P0: Ledger, P1: Ledger, P2: Ledger, P3: Ledger, D: Ledger, R: Abort>(
+    rt: &R,
+    ports: &mut ArrayVec<Port<P0, P1, P2, P3, D>, 4>,
+    last: (Port<P0, P1, P2, P3, D>, Port<P0, P1, P2, P3, D>),
+) {
+    let (port, other) = last;
+    if port.controller() < 4 {
+        assert!(rt; ports.try_push(port).is_ok());
+    }
+    assert!(rt; ports.try_push(other).is_ok());
 }
 
 /// The site of a line that is closed with all its ports.
