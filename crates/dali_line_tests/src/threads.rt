@@ -425,7 +425,8 @@ fn works_if<B: Bus, R: Wait>(
 /// Four of a thing, of which some may be missing.
 type Four<T> = (Option<T>, Option<T>, Option<T>, Option<T>);
 
-/// Up to four workers and a pumper run, each in a thread of its own. The bus may be stopped while the workers run.
+/// Up to four workers and a pumper run, each in a thread of its own. The bus may be stopped while the workers run,
+/// before the pumper's first turn: so no frame was sent before, and no worker can have ended.
 fn all_run<B, R>(
     rt: &R,
     alloc: Global,
@@ -519,7 +520,8 @@ fn begins_so<R: Abort>(rt: &R, name: u8, list: &List) {
     assert!(rt; *input == wanted);
 }
 
-/// What a worker left, if there was one: it ended, or was stopped, and its list is what the log has of its controller.
+/// What a worker left, if there was one: it ended, or it was stopped where the bus was stopped from outside; and its
+/// list is what the log has of its controller.
 fn left_its_list<R: Abort>(
     rt: &R,
     log: &[Event],
@@ -531,7 +533,7 @@ fn left_its_list<R: Abort>(
         return;
     };
     match outcome {
-        Outcome::Ended(_) => {}
+        Outcome::Ended(_) => assert!(rt; !stops),
         Outcome::Stopped => assert!(rt; stops),
         _ => assert!(rt; false),
     }
@@ -660,6 +662,7 @@ where
     let left = come_back(rt, &mut ports, left);
     let site = closed(rt, line, ports, inner);
     is_logged(rt, site.log(), 255, &list);
+    assert!(rt; list.events.is_empty() == stops);
     left_their_lists(rt, site.log(), left, stops);
 }
 
@@ -712,7 +715,7 @@ fn port_lists_of_two_controllers(rt: HostRuntime) -> Result<(), Fail> {
 }
 
 #[test]
-fn a_stop_from_outside_ends_all(rt: HostRuntime) -> Result<(), Fail> {
+fn a_stop_from_outside_stops_all(rt: HostRuntime) -> Result<(), Fail> {
     ports_list(
         &rt,
         &[(0, 1), (2, 3), (4, 5), (6, 7)],

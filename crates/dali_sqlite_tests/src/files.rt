@@ -1,12 +1,10 @@
-//! A database in a file: closed, and opened again.
+//! A store over two files: closed or stopped, and opened again.
 
-ghost use Rattle.std.specs.Prelude.{IsTrue, IfOk};
-ghost use Rattle.sqlite_disk.specs.Memory.{memory_is_usable};
-
-use super::stores::{Deed, done_over};
+use super::stores::{Deed, does};
 use super::values::block;
 use dali_script::Block;
-use sqlite::{Connection, Error, FileStore, Files, Options};
+use dali_sqlite::SqliteKeep;
+use sqlite::{FileStore, Files, Options};
 use sqlite_disk::Memory;
 use std::alloc::Global;
 use std::process::Abort;
@@ -19,49 +17,69 @@ const OPTIONS: Options = Options {
     seed: 1,
 };
 
-fn opened(alloc: Global, db: Memory) -> Result<Connection<FileStore<Memory>>, Error>
-    requires { IsTrue (memory_is_usable db) }
-{
-    let log = Memory::new(alloc);
-    match Connection::open_files(alloc, Files { log, db }, OPTIONS) {
-        Ok(conn) => Ok(conn),
-        Err((error, _)) => Err(error),
+/// How a store ends.
+#[derive(Clone, Copy)]
+enum Ending {
+    /// It is closed, and the database's file is taken without the log.
+    Closed,
+    /// Both files are taken as they lie.
+    Stopped,
+}
+
+fn ended(
+    alloc: Global,
+    keep: SqliteKeep<FileStore<Memory>>,
+    ending: Ending,
+) -> Result<Files<Memory>, Fail> {
+    match ending {
+        Ending::Closed => match keep.close_files() {
+            Ok(Files { log: _, db }) => Ok(Files {
+                log: Memory::new(alloc),
+                db,
+            }),
+            Err(error) => Err(Fail::from(error)),
+        },
+        Ending::Stopped => Ok(keep.into_files()),
     }
 }
 
-fn closed(conn: Connection<FileStore<Memory>>) -> Result<Memory, Fail>
-    ensures { IfOk result (λ db. IsTrue (memory_is_usable db)) }
-{
-    match conn.close_files() {
-        Ok(Files { log: _, db }) => Ok(db),
-        Err((error, _)) => Err(Fail::from(error)),
-    }
-}
-
-/// Something is done with a store of this block in this file, which is closed in the end.
+/// Something is done with a store of this block in these files, which ends so.
 fn done_in(
     rt: &impl Abort,
     alloc: Global,
-    db: Memory,
+    files: Files<Memory>,
     block: &Block,
     deed: Deed<'_>,
-) -> Result<Memory, Fail>
-    requires { IsTrue (memory_is_usable db) }
-    ensures { IfOk result (λ db. IsTrue (memory_is_usable db)) }
-{
-    match opened(alloc, db) {
-        Ok(conn) => match done_over(rt, conn, block, deed) {
-            Ok(conn) => closed(conn),
-            Err(fail) => Err(fail),
-        },
+    ending: Ending,
+) -> Result<Files<Memory>, Fail> {
+    if !files.may_be_used() {
+        return Err(Fail::from("files that may not be used"));
+    }
+    match SqliteKeep::open_files(alloc, files, OPTIONS, *block) {
+        Ok(keep) => {
+            let mut keep = keep;
+            match does(rt, &mut keep, block, deed) {
+                Ok(()) => ended(alloc, keep, ending),
+                Err(fail) => Err(fail),
+            }
+        }
         Err(error) => Err(Fail::from(error)),
     }
 }
 
-/// A list of commits in a file that is new, and more of them when it was closed and opened again.
-fn done_twice(rt: &impl Abort, alloc: Global, block: &Block) -> Result<Memory, Fail> {
-    match done_in(rt, alloc, Memory::new(alloc), block, Deed::List) {
-        Ok(db) => done_in(rt, alloc, db, block, Deed::MoreOfList),
+/// A list of commits in files that are new, and more of them when the store has ended and the files were opened again.
+fn done_twice(
+    rt: &impl Abort,
+    alloc: Global,
+    block: &Block,
+    ending: Ending,
+) -> Result<Files<Memory>, Fail> {
+    let files = Files {
+        log: Memory::new(alloc),
+        db: Memory::new(alloc),
+    };
+    match done_in(rt, alloc, files, block, Deed::List, ending) {
+        Ok(files) => done_in(rt, alloc, files, block, Deed::MoreOfList, ending),
         Err(fail) => Err(fail),
     }
 }
@@ -69,6 +87,7 @@ fn done_twice(rt: &impl Abort, alloc: Global, block: &Block) -> Result<Memory, F
 #[test]
 fn records_outlive_their_store(rt: HostRuntime) -> Result<(), Fail> {
     let block = block(0, 3)?;
-    done_twice(&rt, rt.alloc(), &block)?;
+    done_twice(&rt, rt.alloc(), &block, Ending::Closed)?;
+    done_twice(&rt, rt.alloc(), &block, Ending::Stopped)?;
     Ok(())
 }

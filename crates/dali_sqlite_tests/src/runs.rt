@@ -75,11 +75,14 @@ fn one_controller_names_its_gear(rt: HostRuntime) -> Result<(), Fail> {
     one_run(&rt)
 }
 
-/// Gear from the factory have no short address, so a survey hears nobody, and the run leaves what it leaves without.
+/// Gear from the factory have no short address, so a survey hears nobody, and the run leaves what it leaves without: an
+/// address for each of the three.
 fn surveys_nobody<R: Threads + Wait + Sync + Abort + AllocGlobal>(rt: &R) -> Result<(), Fail> {
     let plain = written(rt, setup(3, 7, &[(0, 3)]))?;
     let surveyed = written(rt, surveying(setup(3, 7, &[(0, 3)])))?;
     assert!(rt; surveyed == plain);
+    assert!(rt; plain.as_str().lines().next() == Some("controller 0: all-found"));
+    assert!(rt; plain.as_str().lines().last() == Some("addressed 3 of 3"));
     Ok(())
 }
 
@@ -88,10 +91,10 @@ fn one_controller_surveys_gear_from_the_factory(rt: HostRuntime) -> Result<(), F
     surveys_nobody(&rt)
 }
 
-/// Whether a line says that a controller ended, neither halted nor refused.
+/// Whether a line says that a controller ended by itself: it found nobody more, or its block was full.
 fn has_ended(line: &&str) -> bool {
     let end = word(line, 2);
-    word(line, 0) == "controller" && end != "halt" && end != "refused" && end != "no-memory"
+    word(line, 0) == "controller" && (end == "all-found" || end == "block-full")
 }
 
 /// Whether a line shows a gear with a short address.
@@ -128,8 +131,8 @@ fn names_gear<R: Abort>(rt: &R, text: &str, line: &str) {
     }
 }
 
-/// All four controllers end, neither halted nor refused; a gear alone has its short address; each table names gear by
-/// the addresses that the gear's own lines have. How many gear have an address.
+/// All four controllers end by themselves; a gear alone has its short address; each table names gear by the addresses
+/// that the gear's own lines have. How many gear have an address.
 fn four_named<R: Abort>(rt: &R, text: &str) -> usize {
     assert!(rt; text.lines().filter(has_ended).count() == 4);
     for line in text.lines() {
@@ -138,18 +141,26 @@ fn four_named<R: Abort>(rt: &R, text: &str) -> usize {
     text.lines().filter(is_addressed).count()
 }
 
-/// What is run by four workers and eight gear.
-fn four() -> Setup {
+/// What is run by four workers and eight gear, where each block has an address for each gear.
+fn wide() -> Setup {
+    setup(8, 1, &[(0, 7), (8, 15), (16, 23), (24, 31)])
+}
+
+/// The same where a block has two addresses. The first controller that closes has given both of them, and may leave the
+/// other gear without.
+fn narrow() -> Setup {
     setup(8, 1, &[(0, 1), (2, 3), (4, 5), (6, 7)])
 }
 
-/// A run of four workers and eight gear, whose last line counts the gear with an address.
+/// A run of four workers and eight gear, of which so many get an address at least. The last line counts them.
 fn four_run<R: Threads + Wait + Sync + Abort + AllocGlobal>(
     rt: &R,
     setup: Setup,
+    least: usize,
 ) -> Result<(), Fail> {
     let text = written(rt, setup)?;
     let count = four_named(rt, text.as_str());
+    assert!(rt; count >= least);
     let last = format!(in rt.alloc(); "addressed {count} of 8")?;
     assert!(rt; text.as_str().lines().last() == Some(last.as_str()));
     Ok(())
@@ -157,12 +168,14 @@ fn four_run<R: Threads + Wait + Sync + Abort + AllocGlobal>(
 
 #[test]
 fn four_controllers_name_the_same_gear(rt: HostRuntime) -> Result<(), Fail> {
-    four_run(&rt, four())
+    four_run(&rt, narrow(), 2)?;
+    four_run(&rt, wide(), 8)
 }
 
 #[test]
 fn four_controllers_that_survey_name_the_same_gear(rt: HostRuntime) -> Result<(), Fail> {
-    four_run(&rt, surveying(four()))
+    four_run(&rt, surveying(narrow()), 2)?;
+    four_run(&rt, surveying(wide()), 8)
 }
 
 #[test]

@@ -192,7 +192,12 @@ pub enum Deed<'a> {
 }
 
 /// Something is done with a store of this block.
-fn does<K: Keep>(rt: &impl Abort, keep: &mut K, block: &Block, deed: Deed<'_>) -> Result<(), Fail>
+pub fn does<K: Keep>(
+    rt: &impl Abort,
+    keep: &mut K,
+    block: &Block,
+    deed: Deed<'_>,
+) -> Result<(), Fail>
     requires { K.block keep.old ≡ block.now }
 {
     match deed {
