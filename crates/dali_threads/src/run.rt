@@ -141,7 +141,10 @@ where
 }
 
 /// The ports of a line as a list.
-fn listed<P: Default + Drop>(alloc: Global, ports: ArrayVec<P, 4>) -> Result<Vec<P>, AllocError> {
+fn listed<P0: Ledger, P1: Ledger, P2: Ledger, P3: Ledger, D: Ledger>(
+    alloc: Global,
+    ports: ArrayVec<Port<P0, P1, P2, P3, D>, 4>,
+) -> Result<Vec<Port<P0, P1, P2, P3, D>>, AllocError> {
     let mut list = Vec::with_capacity(alloc, 4)?;
     for port in ports {
         list.push(port)?;
