@@ -116,12 +116,27 @@ due_more due (s ∷ ss) ts = due_more (record_ordered (Some s.order)) ss ts
 
 left_none : (end : Option Outcome) (due : Option Record) (left : List Record) → left ≡ [] → IsLeft end due left
 left_none None due left is = is
-left_none (Some e) due left is = inl is
+left_none (Some (outcome.Ended e)) due left is = is
+left_none (Some (outcome.Halted w)) due left is = is
+left_none (Some outcome.Down) due left is = inl is
+left_none (Some (outcome.Refused e)) due left is = inl is
+left_none (Some outcome.TurnsSpent) due left is = is
+left_none (Some outcome.Stopped) due left is = inl is
+left_none (Some outcome.NoMemory) due left is = is
+
+left_either : (left : List Record) → (left ≡ []) ⊎ IsSomeAnd None (λ r. left ≡ r ∷ []) → left ≡ []
+left_either left (inl is) = is
+left_either left (inr some) = elim some [ ]
 
 left_at : (end : Option Outcome) (left : List Record) → IsLeft end None left → left ≡ []
 left_at None left is = is
-left_at (Some e) left (inl is) = is
-left_at (Some e) left (inr some) = elim some [ ]
+left_at (Some (outcome.Ended e)) left is = is
+left_at (Some (outcome.Halted w)) left is = is
+left_at (Some outcome.Down) left is = left_either left is
+left_at (Some (outcome.Refused e)) left is = left_either left is
+left_at (Some outcome.TurnsSpent) left is = is
+left_at (Some outcome.Stopped) left is = left_either left is
+left_at (Some outcome.NoMemory) left is = is
 
 left_more : (before : Option Order) (due other : Option Record) (ss ts : List Step) (end : Option Outcome) (left : List Record)
     → IsLinked (last_order before ss) other → IsLeft end (due_then other ts) left → IsLeft end (due_then (first_due due ss other) (ss ++ ts)) left
@@ -776,7 +791,7 @@ module _ {S : Type 0} (is_up is_sound : S → Type 0) (holds : S → List Record
     still = runs.still;
     posted = λ other. runs.posted (λ is. absurd (cc));
     block = runs.block;
-    list = λ sound up xs held. let l = runs.list sound up xs held in (l.0, l.1, l.2, inl l.3, l.4);
+    list = λ sound up xs held. let l = runs.list sound up xs held in (l.0, l.1, l.2, l.3, l.4);
   }
 
 -- how turns follow each other

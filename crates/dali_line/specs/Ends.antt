@@ -115,7 +115,13 @@ IsCount (Some (outcome.Refused e)) n most = n ≤ most
 IsCount (Some outcome.Stopped) n most = n ≤ most
 IsCount (Some outcome.NoMemory) n most = n ≤ most
 
--- a record that was due may be in the store and not told, where the run has ended
+-- a record that was due may be in the store and not told, where the controller could not be told
 abbrev pub IsLeft : Option Outcome → Option Record → List Record → Type 0
 IsLeft None due left = left ≡ []
-IsLeft (Some e) due left = (left ≡ []) ⊎ IsSomeAnd due (λ r. left ≡ r ∷ [])
+IsLeft (Some (outcome.Ended e)) due left = left ≡ []
+IsLeft (Some (outcome.Halted w)) due left = left ≡ []
+IsLeft (Some outcome.Down) due left = (left ≡ []) ⊎ IsSomeAnd due (λ r. left ≡ r ∷ [])
+IsLeft (Some (outcome.Refused e)) due left = (left ≡ []) ⊎ IsSomeAnd due (λ r. left ≡ r ∷ [])
+IsLeft (Some outcome.TurnsSpent) due left = left ≡ []
+IsLeft (Some outcome.Stopped) due left = (left ≡ []) ⊎ IsSomeAnd due (λ r. left ≡ r ∷ [])
+IsLeft (Some outcome.NoMemory) due left = left ≡ []

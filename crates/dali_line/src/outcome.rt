@@ -6,7 +6,7 @@ use dali_world::Refusal;
 
 /// How a worker's run ends. All but the first three stop the line.
 ///
-/// After an end but `Ended` and `Halted` the store may have one record more than its controller was told: the record of
+/// After `Down`, `Refused` and `Stopped` the store may have one record more than its controller was told: the record of
 /// a commit that was made, and could not be told. A worker that goes on with this store, and a restart with what the
 /// store reads, take it in.
 #[derive(Clone, Copy, Debug, PartialEq, Eq)]
