@@ -7,6 +7,7 @@ import script_forms
 
 MOST_ROUNDS = 30_000
 LAST_RUN = 100_000
+MOST_AGAIN = 100
 LONGEST_ABSENCE = 20
 
 # What may disturb a frame: at most one of these does.
@@ -39,7 +40,7 @@ TROUBLES = {**FRAME_TROUBLES, **ROUND_TROUBLES, **COMMIT_TROUBLES}
 class Site:
     """What a script is made of. `chances` has the chance of each trouble in a round, from 0 to 1. Where `survey` is
     set, each controller begins by a survey, also when it comes up again. So many gear as `used` says come with a short
-    address.
+    address. Each controller restarts so many times as `again` says, when all have ended.
     """
 
     gear: int
@@ -51,6 +52,7 @@ class Site:
     spell: bool = False
     survey: bool = False
     used: int = 0
+    again: int = 0
 
 
 def usual_rounds(gear, controllers):
@@ -193,8 +195,20 @@ def used_lines(site, numbers):
     return list(map(script_forms.used_line, places, shorts, randoms))
 
 
+def once_more(site):
+    """The lines of the restarts: one controller after the other comes up with what it kept, and runs until it has ended.
+    All others have ended before, so it is alone."""
+    lines = []
+    for controller in [*range(len(site.blocks))] * site.again:
+        lines += [f"down {controller}", f"up {controller}"]
+        if site.survey:
+            lines.append(f"survey {controller}")
+        lines.append(f"run {LAST_RUN}")
+    return [*lines, "show"] if lines else []
+
+
 def script_of(site):
-    """The whole script, with a last run that nothing disturbs."""
+    """The whole script, with a last run that nothing disturbs, and the restarts after it."""
     numbers = random.Random(f"draws {site.seed}").sample(range(script_forms.NO_RANDOM), site.draws)
-    lines = [*used_lines(site, numbers), *Rounds(site).all(), f"run {LAST_RUN}", "show"]
+    lines = [*used_lines(site, numbers), *Rounds(site).all(), f"run {LAST_RUN}", "show", *once_more(site)]
     return script_forms.site_of(site.gear, site.blocks, numbers, lines)
