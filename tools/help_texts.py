@@ -6,7 +6,8 @@ import subprocess
 import proving
 
 FOLDER = pathlib.Path(__file__).resolve().parent / "help"
-# Of each program the file of each text, and the words that ask for it.
+# Of each program the file of each text, and the words that ask for it. What only the launchers say, no program does:
+# dali_sim-launcher.txt and dali_view.txt.
 WORDS = {
     "dali_sim": {
         "dali_sim.txt": ["--help"],
