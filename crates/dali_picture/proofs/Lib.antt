@@ -1,2 +1,1 @@
 mod FoldLemmas
-mod Benches

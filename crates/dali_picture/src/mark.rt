@@ -1,9 +1,8 @@
 //! The marks of a picture: one for each event of a log.
 
-ghost use Rattle.std.specs.Prelude.{◌≡◌, map, IfOk};
+ghost use Rattle.std.specs.Prelude.{◌≡◌, ◌++◌, ◌∷◌, [], map, IfOk, OnOk};
 ghost use Rattle.dali_picture.specs.Marks.{tone_of, heard_look, order_look, mark_of};
 
-use crate::played::append;
 use dali_frame::{Answer, Forward};
 use dali_script::{Order, Record};
 use dali_special::Command;
@@ -197,13 +196,21 @@ pub fn mark_of(event: Event) -> Mark
     }
 }
 
+/// Puts one mark more at the end of a list.
+fn append(marks: &mut Vec<Mark>, mark: Mark) -> Result<(), AllocError>
+    ensures { OnOk result (marks.new.items ≡ marks.old.items ++ mark ∷ []) }
+{
+    marks.push(mark)?;
+    Ok(())
+}
+
 /// The marks of a log: one for each event, in their order, and no other.
 pub fn marks_of(alloc: Global, log: &[Event]) -> Result<Vec<Mark>, AllocError>
     ensures { IfOk result (λ marks. marks.items ≡ map mark_of log.now) }
 {
     let mut marks = Vec::with_capacity(alloc, log.len())?;
     for event in log {
-        append(&mut marks, &mark_of(*event))?;
+        append(&mut marks, mark_of(*event))?;
     }
     Ok(marks)
 }

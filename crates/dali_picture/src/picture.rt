@@ -2,16 +2,15 @@
 
 ghost use Rattle.std.specs.Prelude.{◌≡◌, length, map, IfOk};
 ghost use Rattle.dali_replay.specs.Replay.{setting_of};
+ghost use Rattle.dali_replay.specs.Played.{IsPlayedBy};
 ghost use Rattle.dali_picture.specs.Marks.{mark_of};
 ghost use Rattle.dali_picture.specs.Folds.{AreFolds};
-ghost use Rattle.dali_picture.specs.Played.{IsLogBy};
 
 use crate::folds::{Fold, folds_of};
 use crate::mark::{Mark, marks_of};
-use crate::played::Played;
 use crate::stays::{Stay, stays_of};
 use crate::transactions::{Transaction, transactions_of};
-use dali_replay::{INPUT_LIMIT, ReplayFault};
+use dali_replay::{INPUT_LIMIT, Played, ReplayFault};
 use std::alloc::{AllocError, Global};
 
 /// A script that was played, and what is drawn of it.
@@ -31,7 +30,7 @@ impl<'a> Picture<'a> {
     ///
     /// Faults: a bad line or a plan that is refused, memory, and `Read` of an input past the limit.
     pub fn of(alloc: Global, input: &'a [u8]) -> Result<Picture<'a>, ReplayFault>
-        ensures log { IfOk result (λ picture. IsLogBy (setting_of input.now) picture.played.log.items) }
+        ensures played { IfOk result (λ picture. IsPlayedBy (setting_of input.entry.now) picture.played) }
         ensures marks { IfOk result (λ picture. picture.marks.items ≡ map mark_of picture.played.log.items) }
         ensures folds { IfOk result (λ picture. AreFolds picture.folds.items (length picture.played.log.items)) }
     {
@@ -44,7 +43,7 @@ impl<'a> Picture<'a> {
 
     /// The picture of what was played.
     fn drawn(alloc: Global, played: Played<'a>) -> Result<Picture<'a>, AllocError>
-        ensures log { IfOk result (λ picture. picture.played.log.items ≡ played.entry.log.items) }
+        ensures played { IfOk result (λ picture. picture.played ≡ played.entry) }
         ensures marks { IfOk result (λ picture. picture.marks.items ≡ map mark_of played.entry.log.items) }
         ensures folds { IfOk result (λ picture. AreFolds picture.folds.items (length played.entry.log.items)) }
     {

@@ -1,6 +1,6 @@
 use Rattle.std.specs.Prelude.{ℕ, Result, Ok, Err}
 use Rattle.dali_replay.specs.ReplayFault.{status_of}
-use Rattle.dali_replay.specs.declared.replay.ReplayFault.{ReplayFault}
+use Rattle.dali_replay.specs.declared.fault.ReplayFault.{ReplayFault}
 
 -- THE EXIT STATUSES of the program
 abbrev pub status_after : {A : Type 0} → Result A ReplayFault → ℕ

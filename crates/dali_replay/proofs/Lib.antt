@@ -6,4 +6,6 @@ pub mod InStepLemmas
 pub mod InstallationLemmas
 pub mod RoundLemmas
 pub mod ReplayLemmas
+pub mod PlayerLemmas
+pub mod PlayedLemmas
 pub mod PassedLemmas

@@ -2,8 +2,8 @@ use Rattle.std.proofs.Common.{ℕ, List, [], Bool, true, false, ◌∙◌, Optio
 use Rattle.std.specs.Prelude.{IfSome}
 use Rattle.std.specs.Io.KnownBytes.{Appends, Keeps}
 use Rattle.dali_events.specs.Plan.{Plan}
-use Rattle.dali_replay.specs.declared.replay.ReplayFault.{ReplayFault}
-use Rattle.dali_replay.specs.declared.replay.ReplayFault.TheVariants.{BadLine, BadPlan, Memory, Read, Write}
+use Rattle.dali_replay.specs.declared.fault.ReplayFault.{ReplayFault}
+use Rattle.dali_replay.specs.declared.fault.ReplayFault.TheVariants.{BadLine, BadPlan, Memory, Read, Write}
 use Rattle.dali_replay.specs.Bench.{start}
 use Rattle.dali_replay.specs.Installation.{Installation, installation_of}
 use Rattle.dali_replay.specs.Replay.{NumberedLines, End, Setting, Output, Plays, PlaysSite, PlaysSetting, Replays, Tells, HavePlayed, played, nothing}

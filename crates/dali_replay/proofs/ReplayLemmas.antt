@@ -7,18 +7,16 @@ use Rattle.dali_events.specs.declared.plan.PlanError.{PlanError}
 use Rattle.dali_events.specs.declared.plan.PlanError.TheVariants as plan_error
 use Rattle.dali_events.specs.declared.used.Used.{Used}
 use Rattle.dali_events.specs.Plan.{Plan, refusal_of, IsRefusal, used_refusal_of, IsUsedRefusal}
-use Rattle.dali_replay.specs.declared.replay.ReplayFault.{ReplayFault}
-use Rattle.dali_replay.specs.declared.replay.ReplayFault.TheVariants.{BadLine, BadPlan, Memory, Read, Write}
+use Rattle.dali_replay.specs.declared.fault.ReplayFault.{ReplayFault}
+use Rattle.dali_replay.specs.declared.fault.ReplayFault.TheVariants.{BadLine, BadPlan, Memory, Read, Write}
 use Rattle.dali_replay.specs.declared.bench_line.BenchLine.{BenchLine}
-use Rattle.dali_replay.specs.declared.site_line.SiteLine.{SiteLine}
 use Rattle.dali_replay.specs.Lines.{words_of}
 use Rattle.dali_replay.specs.BenchLine.{bench_line_of}
 use Rattle.dali_replay.specs.SiteLine.{site_line_of}
 use Rattle.dali_replay.specs.Bench.{BenchState, start, after}
 use Rattle.dali_replay.specs.BenchReport.{report}
 use Rattle.dali_replay.specs.Installation.{Installation, installation_of}
-use Rattle.dali_replay.specs.SiteReport.{Says}
-use Rattle.dali_replay.specs.Replay.{NumberedLines, End, Setting, Output, Plays, PlaysSite, PlaysSetting, PlansNot, Replays, Tells, Chain, HavePlayed, IsBadAt}
+use Rattle.dali_replay.specs.Replay.{NumberedLines, End, Setting, Output, Plays, PlaysSite, PlaysSetting, PlansNot, Replays, Tells, HavePlayed, IsBadAt}
 use Rattle.dali_replay.specs.Replay.{played, setting_of}
 
 -- ---------------------------------------------------------------- texts
@@ -35,10 +33,6 @@ appends_more (Some us) (Some vs) (Some ws) xs ys first second =
     second ∙ ap (λ zs. zs ++ ys) first ∙ append_assoc us xs ys
 
 -- ---------------------------------------------------------------- benches
-
--- whatever playing the rest leaves behind, playing the whole does
-abbrev pub Leads : Output → Option (List ℕ) → Option (List ℕ) → Output → Type 0
-Leads whole a b rest = (c : Option (List ℕ)) (r : Result (Unit {0}) ReplayFault) → Plays rest b c r → Plays whole a c r
 
 -- a text, and then what playing the rest wrote
 plays_more : (a b c : Option (List ℕ)) (text : List ℕ) (more : Output) (r : Result (Unit {0}) ReplayFault)
@@ -74,47 +68,9 @@ plays_memory a o r is = subst (λ (s : Result (Unit {0}) ReplayFault). Plays o a
 
 -- ---------------------------------------------------------------- sites
 
--- one line more at the end of a chain
-chain_more : (n u m : Installation) (front : NumberedLines) (line : ℕ × List ℕ) (asked : SiteLine) (text more : List ℕ)
-    → Chain n front text u → site_line_of (words_of line.1) ≡ Some asked → Says u asked more m → Chain n (front ++ line ∷ []) (text ++ more) m
-chain_more n u m [] line asked text more played reads says = (
-  asked,
-  more,
-  m,
-  [],
-  reads,
-  subst (λ (x : Installation). Says x asked more m) played.1 says,
-  (refl, refl),
-  ap (λ xs. xs ++ more) played.0
-      ∙ sym (append-nil more),
-)
-chain_more n u m (first ∷ front) line asked text more played reads says = (
-  played.0,
-  played.1,
-  played.2,
-  played.3 ++ more,
-  played.4,
-  played.5,
-  chain_more played.2 u m front line asked played.3 more played.6 reads says,
-  ap (λ xs. xs ++ more) played.7 ∙ append_assoc played.1 played.3 more,
-)
-
 -- nothing was played yet
 pub have_played_none : (n : Installation) (lines : NumberedLines) (a : Option (List ℕ)) → HavePlayed n lines lines n a a
 have_played_none n lines a = record { front = []; text = []; split = refl; chain = (refl, refl); wrote = appends_none a }
-
--- one line more was played
-pub have_played_more : (n u m : Installation) (lines left rest : NumberedLines) (k : ℕ) (line : List ℕ) (asked : SiteLine) (more : List ℕ)
-    (a b c : Option (List ℕ))
-    → HavePlayed n lines left u a b → left ≡ (k, line) ∷ rest → site_line_of (words_of line) ≡ Some asked → Says u asked more m → Appends b c more
-    → HavePlayed n lines rest m a c
-have_played_more n u m lines left rest k line asked more a b c before next reads says wrote = record {
-  front = before.front ++ (k, line) ∷ [];
-  text = before.text ++ more;
-  split = before.split ∙ ap (λ xs. before.front ++ xs) next ∙ sym (append_assoc before.front ((k, line) ∷ []) rest);
-  chain = chain_more n u m before.front (k, line) asked before.text more before.chain reads says;
-  wrote = appends_more a b c before.text more before.wrote wrote;
-}
 
 pub site_bad_line : (n u : Installation) (lines left rest : NumberedLines) (k : ℕ) (line : List ℕ) (a b : Option (List ℕ))
     → HavePlayed n lines left u a b → left ≡ (k, line) ∷ rest → site_line_of (words_of line) ≡ None → PlaysSite {A = Unit {0}} n lines a b (Err (BadLine k))
@@ -180,17 +136,6 @@ replays_no_plan B a s (BadPlan e) not = rw not (refl, appends_none a)
 replays_no_plan B a s Memory not = replays_memory B a s
 replays_no_plan B a s Read not = absurd not
 replays_no_plan B a s Write not = absurd not
-
--- what playing says, where the lines set up a bench or a site
-pub replays_bench : (a c : Option (List ℕ)) (s : Result (Setting × NumberedLines) End) (is_bench : Bool) (p : Plan) (lines : NumberedLines) (w : BenchState)
-    (r : Result (Unit {0}) ReplayFault)
-    → s ≡ Ok ((is_bench, p), lines) → is_bench ≡ true → w ≡ start p → Plays (played w lines) a c r → Replays s a c r
-replays_bench a c s is_bench p lines w r is bench begun plays = rw (is, bench, ← begun) plays
-
-pub replays_site : (a c : Option (List ℕ)) (s : Result (Setting × NumberedLines) End) (is_bench : Bool) (p : Plan) (lines : NumberedLines) (n : Installation)
-    (r : Result (Unit {0}) ReplayFault)
-    → s ≡ Ok ((is_bench, p), lines) → is_bench ≡ false → n ≡ installation_of p → PlaysSite n lines a c r → Replays s a c r
-replays_site a c s is_bench p lines n r is site begun plays = rw (is, site, ← begun) plays
 
 -- memory was wanting
 pub replays_want : (a : Option (List ℕ)) (s : Result (Setting × NumberedLines) End) (r : Result (Unit {0}) ReplayFault) → r ≡ Err Memory → Replays s a a r

@@ -11,4 +11,6 @@ pub mod Calls
 pub mod Rounds
 pub mod SiteReport
 pub mod Replay
+pub mod Player
+pub mod Played
 pub mod ReplayFault

@@ -4,9 +4,9 @@ use Rattle.std.specs.Io.KnownBytes.{Appends, Keeps}
 use Rattle.dali_events.specs.declared.plan.PlanError.{PlanError}
 use Rattle.dali_events.specs.declared.used.Used.{Used}
 use Rattle.dali_events.specs.Plan.{Plan, plan_of, refusal_of, plan_with, used_refusal_of}
-use Rattle.dali_replay.specs.declared.replay.ReplayFault.{ReplayFault}
-use Rattle.dali_replay.specs.declared.replay.ReplayFault.TheVariants.{BadLine, BadPlan, Memory}
-use Rattle.dali_replay.specs.declared.replay.ReplayFault.TheVariants.{Read, Write}
+use Rattle.dali_replay.specs.declared.fault.ReplayFault.{ReplayFault}
+use Rattle.dali_replay.specs.declared.fault.ReplayFault.TheVariants.{BadLine, BadPlan, Memory}
+use Rattle.dali_replay.specs.declared.fault.ReplayFault.TheVariants.{Read, Write}
 use Rattle.dali_replay.specs.declared.bench_line.BenchLine.{BenchLine}
 use Rattle.dali_replay.specs.declared.site_line.SiteLine.{SiteLine}
 use Rattle.dali_replay.specs.Lines.{lines_of, numbered_after, words_of}

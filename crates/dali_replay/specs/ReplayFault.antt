@@ -1,7 +1,7 @@
 use Rattle.std.specs.Prelude.{ℕ}
-use Rattle.dali_replay.specs.declared.replay.ReplayFault.{ReplayFault}
-use Rattle.dali_replay.specs.declared.replay.ReplayFault.TheVariants.{BadLine, BadPlan, Memory}
-use Rattle.dali_replay.specs.declared.replay.ReplayFault.TheVariants.{Read, Write}
+use Rattle.dali_replay.specs.declared.fault.ReplayFault.{ReplayFault}
+use Rattle.dali_replay.specs.declared.fault.ReplayFault.TheVariants.{BadLine, BadPlan, Memory}
+use Rattle.dali_replay.specs.declared.fault.ReplayFault.TheVariants.{Read, Write}
 
 -- the exit statuses of the program
 abbrev pub status_of : ReplayFault → ℕ

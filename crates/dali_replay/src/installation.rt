@@ -4,7 +4,6 @@ ghost use Rattle.std.specs.Prelude.{false, ◌≡◌, ◌<◌, ◌≤◌, length
 ghost use Rattle.std.specs.Prelude.{IfSome, IsTrue, ◌↔◌, OnErr, IfNone, is_some};
 ghost use Rattle.dali_script.specs.Records.{Fits, MayAdd};
 ghost use Rattle.dali_script.specs.Due.{record_ordered};
-ghost use Rattle.dali_events.specs.World.{gear_at};
 ghost use Rattle.dali_events.specs.declared.event.Event.TheVariants as event;
 ghost use Rattle.dali_standing.specs.Seats.{due_of};
 ghost use Rattle.dali_world.specs.Site.{world, IsArcRefused, IsDownRefused, IsGearRefused, IsActRefused, IsBarred};
@@ -17,7 +16,6 @@ ghost use Rattle.dali_standing.specs.declared.refusal.Refusal.TheVariants as ref
 ghost use Rattle.dali_replay.specs.Rounds.{HasTurn};
 
 use dali_frame::Forward;
-use dali_gear::Gear;
 use dali_reserve::{Keep, MemoryKeep};
 use dali_script::{Block, Due, Input, Kept, Order, Pair, Record};
 use dali_world::{Plan, Refusal, Report, SiteState, Trouble};
@@ -300,28 +298,12 @@ impl Installation {
         &self.site
     }
 
-    /// How many gear there are.
-    pub fn gear_count(&self) -> u32
-        ensures value { result ≡ self.now.site.plan.gear }
-        ensures most { self.now.site.plan.gear ≤ 128 }
-    {
-        self.site.plan().gear()
-    }
-
     /// How many controllers there are.
     pub fn controllers(&self) -> u8
         ensures value { result ≡ length self.now.site.plan.blocks }
         ensures most { length self.now.site.plan.blocks ≤ 4 }
     {
         self.site.plan().blocks().len() as u8
-    }
-
-    /// A gear.
-    pub fn gear(&self, number: u32) -> Gear
-        requires { number < self.now.site.plan.gear }
-        ensures { result ≡ gear_at (world self.now.site) number }
-    {
-        self.site.gear(number)
     }
 
     /// The gear that a controller has enrolled, by the records that it keeps.

@@ -15,7 +15,7 @@ use crate::text::{
 };
 use dali_frame::Forward;
 use dali_script::Order;
-use dali_world::{Refusal, Report};
+use dali_world::{Refusal, Report, SiteState};
 use std::alloc::AllocError;
 
 /// The text of a call that answers nothing.
@@ -75,12 +75,12 @@ fn push_asked(
 }
 
 /// The state of all gear, in order of their numbers.
-fn push_gear_lines(text: &mut String, installation: &Installation) -> Result<(), AllocError>
+pub fn push_gear_lines(text: &mut String, site: &SiteState) -> Result<(), AllocError>
     ensures { OnOk result (string_bytes text.new ≡ string_bytes text.old
-        ++ gear_lines (world installation.now.site) installation.now.site.plan.gear) }
+        ++ gear_lines (world site.now) site.now.plan.gear) }
 {
-    for number in 0..installation.gear_count() {
-        let gear = installation.gear(number);
+    for number in 0..site.plan().gear() {
+        let gear = site.gear(number);
         push_gear(text, number as usize, &gear)?;
     }
     Ok(())
@@ -98,10 +98,10 @@ fn push_table_lines(text: &mut String, installation: &Installation) -> Result<()
 }
 
 /// `show`: the state of all gear, and the tables.
-fn show(text: &mut String, installation: &Installation) -> Result<(), AllocError>
+pub fn show(text: &mut String, installation: &Installation) -> Result<(), AllocError>
     ensures { OnOk result (string_bytes text.new ≡ string_bytes text.old ++ site_text installation.now.site) }
 {
-    push_gear_lines(text, installation)?;
+    push_gear_lines(text, installation.site())?;
     push_table_lines(text, installation)
 }
 

@@ -4,7 +4,8 @@ ghost use Rattle.std.specs.Prelude.{◌≡◌, [], OnOk, IfSome};
 ghost use Rattle.std.specs.Io.Buffered.{writer_buffer, writer_contents};
 ghost use Rattle.dali_replay.specs.Replay.{Tells, setting_of};
 
-use crate::replay::{ReplayFault, run_replay};
+use crate::fault::ReplayFault;
+use crate::replay::run_replay;
 use std::alloc::Global;
 use std::io;
 use std::io::{BufWriter, Read, Write};

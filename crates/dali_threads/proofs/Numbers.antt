@@ -26,3 +26,10 @@ none_large (x ∷ xs) below =
 pub refused_without : (gear : ℕ) (blocks : List (ℕ × ℕ)) (most : ℕ) (numbers : List ℕ) → AreDrawn most numbers → StandOnce numbers
     → refusal_of gear blocks numbers ≡ refusal_of gear blocks []
 refused_without gear blocks most numbers drawn once = rw (none_large numbers drawn.below, once) refl
+
+-- ---------------------------------------------------------------- the numbers of a seed
+
+-- one number more is below FFFFFF
+all_snoc : (P : ℕ → Type 0) (xs : List ℕ) (r : ℕ) → AllByRecursion P xs → P r → AllByRecursion P (xs ++ r ∷ [])
+all_snoc P [] r all p = (p, tt)
+all_snoc P (x ∷ xs) r all p = (all.0, all_snoc P xs r all.1 p)

@@ -1,2 +1,3 @@
 pub mod Setup
 pub mod Drawn
+pub mod Report

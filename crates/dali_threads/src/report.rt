@@ -1,51 +1,109 @@
 //! What is reported of a run.
 
+ghost use Rattle.std.specs.Prelude.{◌≡◌, ◌++◌, ◌<◌, IfOk, OnOk, length, string_bytes, if◌then◌else◌};
+ghost use Rattle.dali_events.specs.World.{controller_at};
+ghost use Rattle.dali_replay.specs.SiteReport.{gear_lines};
+ghost use Rattle.dali_threads.specs.Report.{outcome_text, outcome_line, outcome_lines, table_line, tables_up};
+ghost use Rattle.dali_threads.specs.Report.{addressed, addressed_text, run_text};
+ghost use Rattle.dali_world.specs.Site.{world};
+
 use dali_line::Outcome;
-use dali_replay::{push_gear, push_table};
+use dali_replay::{push_gear_lines, push_table};
 use dali_world::SiteState;
 use std::alloc::{AllocError, Global};
 
-/// How a worker ended: what is said before the name of it, and the name.
-fn outcome_words(outcome: Outcome) -> (&'static str, &'static str) {
+/// How a worker ended.
+fn push_outcome(text: &mut String, outcome: Outcome) -> Result<(), AllocError>
+    ensures { OnOk result (string_bytes text.new ≡ string_bytes text.old ++ outcome_text outcome) }
+{
     match outcome {
-        Outcome::Ended(end) => ("", end.name()),
-        Outcome::Halted(fault) => ("halt ", fault.name()),
-        Outcome::Down => ("", "down"),
-        Outcome::Refused(_) => ("", "refused"),
-        Outcome::TurnsSpent => ("", "turns-spent"),
-        Outcome::Stopped => ("", "stopped"),
-        Outcome::NoMemory => ("", "no-memory"),
+        Outcome::Ended(end) => text.push_str(end.name()),
+        Outcome::Halted(fault) => {
+            let name = fault.name();
+            write!(text, "halt {name}")
+        }
+        Outcome::Down => text.push_str("down"),
+        Outcome::Refused(_) => text.push_str("refused"),
+        Outcome::TurnsSpent => text.push_str("turns-spent"),
+        Outcome::Stopped => text.push_str("stopped"),
+        Outcome::NoMemory => text.push_str("no-memory"),
     }
+}
+
+/// The line of one worker.
+fn push_outcome_line(text: &mut String, c: usize, outcome: Outcome) -> Result<(), AllocError>
+    ensures { OnOk result (string_bytes text.new ≡ string_bytes text.old ++ outcome_line c outcome) }
+{
+    write!(text, "controller {c}: ")?;
+    push_outcome(text, outcome)?;
+    text.push_str("\n")
 }
 
 /// How each worker ended, in order of the controllers' numbers.
-fn push_outcomes(text: &mut String, outcomes: &[Outcome]) -> Result<(), AllocError> {
+fn push_outcomes(text: &mut String, outcomes: &[Outcome]) -> Result<(), AllocError>
+    ensures { OnOk result (string_bytes text.new ≡ string_bytes text.old ++ outcome_lines 0 outcomes.now) }
+{
     for (c, outcome) in outcomes.iter().enumerate() {
-        let (before, name) = outcome_words(*outcome);
-        write!(text, "controller {c}: {before}{name}\n")?;
+        push_outcome_line(text, c, *outcome)?;
     }
     Ok(())
 }
 
-/// The state of all gear, a line each. Answers how many have a short address.
-fn push_gear_lines(text: &mut String, site: &SiteState) -> Result<u32, AllocError> {
+/// The table of a controller, where it is up.
+fn push_table_line(text: &mut String, site: &SiteState, c: u8) -> Result<(), AllocError>
+    requires { c < length site.now.plan.blocks }
+    ensures { OnOk result (string_bytes text.new ≡ string_bytes text.old
+        ++ table_line c (controller_at (world site.now) c) (controller_at (world site.now) c).up) }
+{
+    match site.table(c) {
+        Some(table) => push_table(text, c, table.entries()),
+        None => Ok(()),
+    }
+}
+
+/// The tables of all controllers that are up, in order of their numbers.
+fn push_tables(text: &mut String, site: &SiteState) -> Result<(), AllocError>
+    ensures { OnOk result (string_bytes text.new ≡ string_bytes text.old
+        ++ tables_up (world site.now) (length site.now.plan.blocks)) }
+{
+    let controllers = site.plan().blocks().len() as u8;
+    for c in 0..controllers {
+        push_table_line(text, site, c)?;
+    }
+    Ok(())
+}
+
+/// How many gear have a short address.
+fn addressed(site: &SiteState) -> u32
+    ensures { result ≡ addressed (world site.now) site.now.plan.gear }
+{
     let mut addressed = 0u32;
     for number in 0..site.plan().gear() {
-        let gear = site.gear(number);
-        push_gear(text, number as usize, &gear)?;
-        addressed = addressed.saturating_add(u32::from(gear.short().is_some()));
-    }
-    Ok(addressed)
-}
-
-/// The tables of all controllers that are up.
-fn push_table_lines(text: &mut String, site: &SiteState) -> Result<(), AllocError> {
-    for c in 0..site.plan().blocks().len() {
-        if let Some(table) = site.table(c as u8) {
-            push_table(text, c as u8, table.entries())?;
+        if site.gear(number).short().is_some() {
+            addressed += 1;
         }
     }
-    Ok(())
+    addressed
+}
+
+/// How many gear of all have a short address.
+fn push_addressed(text: &mut String, site: &SiteState) -> Result<(), AllocError>
+    ensures { OnOk result (string_bytes text.new ≡ string_bytes text.old
+        ++ addressed_text (addressed (world site.now) site.now.plan.gear) site.now.plan.gear) }
+{
+    let addressed = addressed(site);
+    let gear = site.plan().gear();
+    write!(text, "addressed {addressed} of {gear}\n")
+}
+
+/// All of the report.
+fn push_run(text: &mut String, outcomes: &[Outcome], site: &SiteState) -> Result<(), AllocError>
+    ensures { OnOk result (string_bytes text.new ≡ string_bytes text.old ++ run_text outcomes.now site.now) }
+{
+    push_outcomes(text, outcomes)?;
+    push_gear_lines(text, site)?;
+    push_tables(text, site)?;
+    push_addressed(text, site)
 }
 
 /// How the workers ended, the states of all gear, the controllers' tables, and how many gear have a short address.
@@ -53,12 +111,10 @@ pub(crate) fn report(
     alloc: Global,
     outcomes: &[Outcome],
     site: &SiteState,
-) -> Result<String, AllocError> {
+) -> Result<String, AllocError>
+    ensures { IfOk result (λ text. string_bytes text ≡ run_text outcomes.now site.now) }
+{
     let mut text = String::new(alloc);
-    push_outcomes(&mut text, outcomes)?;
-    let addressed = push_gear_lines(&mut text, site)?;
-    push_table_lines(&mut text, site)?;
-    let gear = site.plan().gear();
-    write!(text, "addressed {addressed} of {gear}\n")?;
+    push_run(&mut text, outcomes, site)?;
     Ok(text)
 }

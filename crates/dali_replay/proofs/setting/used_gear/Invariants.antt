@@ -1,12 +1,11 @@
-use Rattle.std.proofs.Common.{◌≤◌, ◌+◌, length}
+use Rattle.std.proofs.Common.{◌≡◌, ◌≤◌, ◌+◌, [], length}
 use Rattle.dali_replay.specs.Lines.{numbered_after}
-use Rattle.dali_picture.proofs.Benches.{Left}
-use Rattle.dali_picture.proofs.played.run_bench.Given as goal
+use Rattle.dali_replay.specs.Replay.{used_of}
+use Rattle.dali_replay.proofs.setting.used_gear.Given as goal
 
 abbrev pub invariant-loop-line : goal.invariant-loop-line
 invariant-loop-line l = record {
-  played : Left l.fn.bench (numbered_after l.fn.script.read l.fn.script.rest.now) l.fn.log.items l.bench
-      (numbered_after l.script.read l.script.rest.now) l.log.items;
+  named : used_of [] (numbered_after l.fn.script.read l.fn.script.rest.now) ≡ used_of l.used.items (numbered_after l.script.read l.script.rest.now);
   range : l.script.read + length l.script.rest.now ≤ 1048576;
 }
 
