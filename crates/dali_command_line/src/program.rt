@@ -31,7 +31,7 @@ fn words<S: Env + AllocGlobal>(system: &S) -> Result<Vec<String>, Failure> {
 fn replay<S: Input + Print + AllocGlobal>(system: &S) -> Result<(), Failure> {
     match replay_streams(system) {
         Ok(()) => Ok(()),
-        Err(fault) => Err(Failure::Replay(fault)),
+        Err(explained) => Err(Failure::Replay(explained)),
     }
 }
 

@@ -12,3 +12,4 @@ pub mod Rounds
 pub mod SiteReport
 pub mod Replay
 pub mod ReplayFault
+pub mod Reason
