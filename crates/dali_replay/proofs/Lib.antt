@@ -7,3 +7,4 @@ pub mod InstallationLemmas
 pub mod RoundLemmas
 pub mod ReplayLemmas
 pub mod PassedLemmas
+pub mod ReasonLemmas
