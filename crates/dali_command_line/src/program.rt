@@ -72,7 +72,7 @@ where
     R: Threads + Wait + Sync,
 {
     let ended = run(system, rt);
-    match ended {
+    match &ended {
         Ok(()) | Err(Failure::BadCommandLine) => {}
         Err(failure) => {
             let _ = eprintln!(system; "{failure}");

@@ -19,7 +19,7 @@ fn main(rt: HostRuntime) -> ExitCode {
 /// changes nothing, also where it cannot be said.
 fn play_and_say<R: Input + Print + Eprint + AllocGlobal>(rt: &R) -> Result<(), Explained> {
     let ended = replay_streams(rt);
-    if let Err(explained) = ended {
+    if let Err(explained) = &ended {
         let _ = eprintln!(rt; "replay: {explained}");
     }
     ended

@@ -18,7 +18,7 @@ fn main(rt: HostRuntime) -> ExitCode {
 /// Draws the script of standard input, and says on standard error why it ended before its end.
 fn draw_and_say<R: Input + Print + Eprint + AllocGlobal>(rt: &R) -> Result<(), Explained> {
     let ended = draw_streams(rt);
-    if let Err(explained) = ended {
+    if let Err(explained) = &ended {
         let _ = eprintln!(rt; "view: {explained}");
     }
     ended
