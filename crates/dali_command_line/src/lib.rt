@@ -2,6 +2,7 @@
 #![tactic(auto)]
 
 mod failure;
+mod plain;
 mod program;
 mod threads_words;
 mod words;
