@@ -2,7 +2,6 @@
 #![tactic(auto)]
 
 mod failure;
-mod plain;
 mod program;
 mod threads_words;
 mod words;

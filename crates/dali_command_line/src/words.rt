@@ -4,10 +4,10 @@ ghost use Rattle.std.specs.Prelude.{◌≡◌};
 ghost use Rattle.dali_command_line.specs.Failure.{answered};
 
 use crate::failure::Failure;
-use crate::plain::Plain;
 use crate::threads_words::{setup, threads_command};
 use clap::error::ErrorKind;
 use clap::{ArgMatches, Command, Error};
+use dali_plain::Plain;
 use dali_threads::Setup;
 use std::alloc::{AllocError, Global};
 use std::io;
