@@ -104,6 +104,11 @@ def bad(number):
     return f"replay: line {number}: bad line\n"
 
 
+def first_words(said):
+    """What is said without the reason, which follows each bad line and each refused plan on the same line."""
+    return re.sub(r"\A(replay: (?:line \d+: bad line|plan refused: \w+)): [ -~]+\n\Z", r"\1\n", said)
+
+
 def plan_of(heading, draws):
     """What the first two lines set up, so far as they can be read."""
     bench, site, listed = heading.groups()

@@ -13,6 +13,7 @@ SAID = "crates/dali_commission_program/src/reports.rt"
 ENUMS = {
     "AddError": ("crates/dali_script/src/records.rt",),
     "Answer": ("crates/dali_frame/src/frames.rt", CODES),
+    "BenchLine": ("crates/dali_replay/src/bench_line.rt",),
     "DirectoryError": ("crates/dali_enrol/src/error.rt",),
     "DriverFault": ("crates/dali_commissioning/src/driver.rt",),
     "Due": (ORDERS, CODES),
@@ -34,6 +35,7 @@ ENUMS = {
     "ReplayFault": ("crates/dali_replay/src/replay.rt",),
     "Reply": ("crates/dali_commissioning/src/census.rt", SAID),
     "Report": ("crates/dali_standing/src/trouble.rt",),
+    "SiteLine": ("crates/dali_replay/src/site_line.rt",),
     "Standing": ("crates/dali_commissioning/src/census.rt", SAID),
     "StoreFault": ("crates/dali_commission_program/src/stores.rt",),
     "TableError": ("crates/dali_script/src/table.rt",),
@@ -82,6 +84,7 @@ HEADER, MAIN, STATUSES = "include/dali_c.h", "examples/c/main.c", "examples/c/st
 FORMAT, INSTALLER, VENDOR, ADAPTERS = "docs/FORMAT.md", "docs/INSTALLER.md", "docs/VENDOR.md", "docs/ADAPTERS.md"
 REPLAY, THREADS, FORMS = "tools/replay_report.py", "tools/threads_report.py", "tools/script_forms.py"
 SITE, LIBRARY = "tools/commission_site.py", "tools/c-library"
+LINES, MISTAKES = "crates/dali_replay/src/reason/forms.rt", "crates/dali_replay/src/reason/mistake.rt"
 # The inputs that do not tell what became of a frame; how it was heard is an answer.
 NOT_OF_FRAMES = "Start Survey Heard Committed CommitFailed"
 PLACES = (
@@ -126,6 +129,13 @@ PLACES = (
     Place(FORMAT, section("What `show` prints"), "InitialisationState", "`{kebab}`"),
     Place(FORMAT, section("Refusals"), "Refusal", "`refused {code} {name}`", "NoMemory"),
     Place(FORMAT, WHOLE, "Refusal", "{code} {name}"),
+    # The forms of lines, by which bad ones are explained. `Power` is `off` and `on`.
+    Place(LINES, WHOLE, "BenchLine", 'name: "{kebab}"'),
+    Place(LINES, WHOLE, "SiteLine", 'name: "{kebab}"', "Power"),
+    Place(LINES, block("const BENCH_NAMES", ";"), "BenchLine", "`{kebab}`"),
+    Place(LINES, block("const SITE_NAMES", ";"), "SiteLine", "`{kebab}`", "Power"),
+    Place(LINES, line('        text: "pump ['), "Trouble", "{word}", "None"),
+    Place(MISTAKES, line("            Mistake::NoTrouble"), "Trouble", "`{word}", "None"),
     # What programs end with.
     Place(FORMAT, table("| END |"), "End", "`{name}`"),
     Place(FORMAT, table("| END |"), "Fault", "`halt {name}`"),

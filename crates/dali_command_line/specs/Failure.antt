@@ -13,7 +13,7 @@ use Rattle.dali_command_line.specs.declared.words.Task.TheVariants.{Help}
 
 -- THE EXIT STATUSES of the program
 abbrev pub status_of : Failure → ℕ
-status_of (Replay fault) = replay.status_of fault
+status_of (Replay explained) = replay.status_of explained.fault
 status_of (Threads fault) = threads.status_of fault
 status_of BadCommandLine = 2
 status_of NotText = 2

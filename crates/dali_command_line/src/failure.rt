@@ -4,7 +4,8 @@ ghost use Rattle.std.specs.Prelude.{◌≡◌};
 ghost use Rattle.std.specs.Process.{exit_status};
 ghost use Rattle.dali_command_line.specs.Failure.{status_of, status_after};
 
-use dali_replay::ReplayFault;
+use dali_events::PlanError;
+use dali_replay::{Explained, plan_limit};
 use dali_threads::ThreadsFault;
 use std::fmt;
 use std::process::ExitCode;
@@ -13,7 +14,7 @@ use std::process::ExitCode;
 #[derive(Clone, Copy)]
 pub enum Failure {
     /// Status 1 or 3: a script was not played to its end.
-    Replay(ReplayFault),
+    Replay(Explained),
     /// Status 2 or 3: a run of threads did not come to its report.
     Threads(ThreadsFault),
     /// Status 2: the command line asks for nothing that this program does. `clap` says why.
@@ -24,12 +25,24 @@ pub enum Failure {
     Refused,
 }
 
+/// Writes the limit that a plan goes past.
+fn write_limit<W: fmt::Write>(f: &mut fmt::Formatter<W>, error: PlanError) -> fmt::Result {
+    let limit = plan_limit(error);
+    write!(f, ": {limit}")
+}
+
 /// What is said of it on standard error.
 impl fmt::Display for Failure {
     fn fmt<W: fmt::Write>(&self, f: &mut fmt::Formatter<W>) -> fmt::Result {
         match self {
-            Failure::Replay(fault) => write!(f, "replay: {fault}"),
-            Failure::Threads(fault) => write!(f, "threads: {fault}"),
+            Failure::Replay(explained) => write!(f, "replay: {explained}"),
+            Failure::Threads(fault) => {
+                write!(f, "threads: {fault}")?;
+                match fault {
+                    ThreadsFault::BadPlan(error) => write_limit(f, *error),
+                    ThreadsFault::Memory | ThreadsFault::Write => Ok(()),
+                }
+            }
             Failure::BadCommandLine => f.write_str("error: bad command line"),
             Failure::NotText => f.write_str("error: an argument is not UTF-8"),
             Failure::Refused => {
@@ -45,7 +58,7 @@ impl Failure {
         ensures { result ≡ status_of self }
     {
         match self {
-            Failure::Replay(fault) => fault.status(),
+            Failure::Replay(explained) => explained.fault.status(),
             Failure::Threads(fault) => fault.status(),
             Failure::BadCommandLine | Failure::NotText => 2,
             Failure::Refused => 3,

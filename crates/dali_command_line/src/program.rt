@@ -31,7 +31,7 @@ fn words<S: Env + AllocGlobal>(system: &S) -> Result<Vec<String>, Failure> {
 fn replay<S: Input + Print + AllocGlobal>(system: &S) -> Result<(), Failure> {
     match replay_streams(system) {
         Ok(()) => Ok(()),
-        Err(fault) => Err(Failure::Replay(fault)),
+        Err(explained) => Err(Failure::Replay(explained)),
     }
 }
 
@@ -72,7 +72,7 @@ where
     R: Threads + Wait + Sync,
 {
     let ended = run(system, rt);
-    match ended {
+    match &ended {
         Ok(()) | Err(Failure::BadCommandLine) => {}
         Err(failure) => {
             let _ = eprintln!(system; "{failure}");

@@ -3,7 +3,8 @@
 use arrayvec::ArrayVec;
 use clap::error::ErrorKind;
 use clap::{Arg, ArgAction, ArgMatches, Command, Error, value_parser};
-use dali_replay::block_of;
+use dali_events::PlanError;
+use dali_replay::{block_of, plan_limit};
 use dali_threads::Setup;
 use std::alloc::{AllocError, Global};
 use std::str::FromStr;
@@ -37,7 +38,7 @@ fn option<'a>(alloc: Global, name: &'a str, value: &'a str, help: &'a str) -> Ar
 }
 
 fn gear<'a>(alloc: Global) -> Arg<'a> {
-    option(alloc, "gear", "N", "How many gear there are, 1 to 128").value_parser(value_parser!(u32))
+    option(alloc, "gear", "N", "How many gear there are, 1 to 128")
 }
 
 fn seed<'a>(alloc: Global) -> Arg<'a> {
@@ -101,19 +102,33 @@ where
     }
 }
 
+/// How many gear there are, as far as it is a number: a plan refuses one that is out of range, in the same words.
+fn gear_count(alloc: Global, found: &ArgMatches<'_>) -> Result<u32, Error> {
+    let text = found.get_str("gear").unwrap_or_default();
+    match text.parse() {
+        Ok(gear) => Ok(gear),
+        Err(_) => {
+            let limit = plan_limit(PlanError::GearCount);
+            let message = format!(in alloc; "invalid value '{text}' for '--gear <N>': {limit}")?;
+            Err(fault(alloc, ErrorKind::ValueValidation, &message)?)
+        }
+    }
+}
+
 /// The blocks that some words are, spelled as in the line `site` of a script.
 fn blocks(alloc: Global, words: &[&str]) -> Result<ArrayVec<(u8, u8), 4>, Error> {
     let mut blocks = ArrayVec::new();
     for word in words {
         let Some(block) = block_of(word.as_bytes()) else {
             let message = format!(in alloc;
-                "invalid value '{word}' for '<BLOCK>...': not a block such as 0-15"
+                "invalid value '{word}' for '<BLOCK>...': a block is first-last, as 0-15, and addresses end at 63"
             )?;
             return Err(fault(alloc, ErrorKind::ValueValidation, &message)?);
         };
         if blocks.try_push(block).is_err() {
+            let limit = plan_limit(PlanError::ControllerCount);
             let message = format!(in alloc;
-                "unexpected value '{word}' for '<BLOCK>...' found; no more were expected"
+                "unexpected value '{word}' for '<BLOCK>...' found; no more were expected: {limit}"
             )?;
             return Err(fault(alloc, ErrorKind::TooManyValues, &message)?);
         }
@@ -124,7 +139,7 @@ fn blocks(alloc: Global, words: &[&str]) -> Result<ArrayVec<(u8, u8), 4>, Error>
 /// What is to be run.
 pub fn setup(alloc: Global, found: &ArgMatches<'_>) -> Result<Setup, Error> {
     Ok(Setup {
-        gear: number(alloc, found, "gear")?,
+        gear: gear_count(alloc, found)?,
         seed: number(alloc, found, "seed")?,
         turns: number(alloc, found, "turns")?,
         surveys: found.get_flag("survey"),

@@ -7,8 +7,10 @@ use crate::failure::Failure;
 use crate::threads_words::{setup, threads_command};
 use clap::error::ErrorKind;
 use clap::{ArgMatches, Command, Error};
+use dali_plain::Plain;
 use dali_threads::Setup;
 use std::alloc::{AllocError, Global};
+use std::io;
 use std::io::Eprint;
 
 /// What a command line asks for.
@@ -94,10 +96,20 @@ fn answered(kind: ErrorKind, printed: bool) -> Result<Task, Failure>
     }
 }
 
+/// Prints help, or says on standard error what is wrong, with the control characters of arguments by their numbers.
+fn print<R: Print + Eprint + AllocGlobal>(rt: &R, error: &Error) -> io::Result<()> {
+    if error.use_stderr() {
+        let text = error.to_string(rt.alloc())?;
+        rt.eprint(Plain(text))
+    } else {
+        error.print(rt)
+    }
+}
+
 /// What the words of a command line ask for. Help is printed, and what is wrong is said on standard error.
 pub fn asked<R: Print + Eprint + AllocGlobal>(rt: &R, words: &[String]) -> Result<Task, Failure> {
     match read(rt.alloc(), words) {
         Ok(task) => Ok(task),
-        Err(error) => answered(error.kind(), error.print(rt).is_ok()),
+        Err(error) => answered(error.kind(), print(rt, &error).is_ok()),
     }
 }

@@ -9,8 +9,10 @@ use clap::builder::ValueParser;
 use clap::error::ErrorKind;
 use clap::{Arg, ArgAction, ArgMatches, Command, Error, value_parser};
 use dali_frame::Short;
+use dali_plain::Plain;
 use dali_script::Block;
 use std::alloc::{AllocError, Global};
+use std::io;
 use std::io::Eprint;
 
 const LONG_ABOUT: &str = "\
@@ -471,6 +473,16 @@ fn answered(kind: ErrorKind, printed: bool) -> Result<Task, WordsFault>
     }
 }
 
+/// Prints help, or says on standard error what is wrong, with the control characters of arguments by their numbers.
+fn print<R: Print + Eprint + AllocGlobal>(rt: &R, error: &Error) -> io::Result<()> {
+    if error.use_stderr() {
+        let text = error.to_string(rt.alloc())?;
+        rt.eprint(Plain(text))
+    } else {
+        error.print(rt)
+    }
+}
+
 /// What the words of a command line ask for. Help is printed, and what is wrong is said on standard error.
 pub fn asked<R: Print + Eprint + AllocGlobal>(
     rt: &R,
@@ -478,6 +490,6 @@ pub fn asked<R: Print + Eprint + AllocGlobal>(
 ) -> Result<Task, WordsFault> {
     match read(rt.alloc(), words) {
         Ok(task) => Ok(task),
-        Err(error) => answered(error.kind(), error.print(rt).is_ok()),
+        Err(error) => answered(error.kind(), print(rt, &error).is_ok()),
     }
 }

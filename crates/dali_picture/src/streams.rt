@@ -2,7 +2,7 @@
 
 use crate::page::push_page;
 use crate::picture::Picture;
-use dali_replay::{ReplayFault, read_input};
+use dali_replay::{Explained, ReplayFault, read_input};
 use std::alloc::Global;
 use std::io;
 use std::io::{Read, Write};
@@ -29,7 +29,12 @@ fn draw<W: Write>(alloc: Global, input: &[u8], writer: &mut W) -> Result<(), Rep
     }
 }
 
-/// Plays standard input, and writes its page to standard output.
-pub fn draw_streams<R: Input + Print + AllocGlobal>(rt: &R) -> Result<(), ReplayFault> {
-    draw_run(rt.alloc(), &mut rt.reader(), &mut io::writer(rt))
+/// Plays standard input, and writes its page to standard output. A fault comes with its reason.
+pub fn draw_streams<R: Input + Print + AllocGlobal>(rt: &R) -> Result<(), Explained> {
+    let alloc = rt.alloc();
+    let input = read_input(alloc, &mut rt.reader())?;
+    match draw(alloc, &input, &mut io::writer(rt)) {
+        Ok(()) => Ok(()),
+        Err(fault) => Err(Explained::of(alloc, &input, fault)),
+    }
 }

@@ -7,7 +7,7 @@ ghost use Rattle.std.specs.Prelude.{◌≡◌};
 ghost use Rattle.std.specs.Process.{exit_status};
 ghost use Rattle.dali_play.specs.Status.{status_after};
 
-use dali_replay::{ReplayFault, replay_streams};
+use dali_replay::{Explained, replay_streams};
 use std::io::Eprint;
 use std::process::ExitCode;
 
@@ -17,20 +17,20 @@ fn main(rt: HostRuntime) -> ExitCode {
 
 /// Plays the script of standard input, and says on standard error why it ended before its end. What is said there
 /// changes nothing, also where it cannot be said.
-fn play_and_say<R: Input + Print + Eprint + AllocGlobal>(rt: &R) -> Result<(), ReplayFault> {
+fn play_and_say<R: Input + Print + Eprint + AllocGlobal>(rt: &R) -> Result<(), Explained> {
     let ended = replay_streams(rt);
-    if let Err(fault) = ended {
-        let _ = eprintln!(rt; "replay: {fault}");
+    if let Err(explained) = &ended {
+        let _ = eprintln!(rt; "replay: {explained}");
     }
     ended
 }
 
 /// The exit status: 0, or that of the fault.
-fn exit_code(ended: Result<(), ReplayFault>) -> ExitCode
+fn exit_code(ended: Result<(), Explained>) -> ExitCode
     ensures { exit_status result ≡ status_after ended }
 {
     match ended {
         Ok(()) => ExitCode::SUCCESS,
-        Err(fault) => ExitCode::from(fault.status()),
+        Err(explained) => ExitCode::from(explained.fault.status()),
     }
 }

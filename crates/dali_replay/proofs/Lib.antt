@@ -9,3 +9,4 @@ pub mod ReplayLemmas
 pub mod PlayerLemmas
 pub mod PlayedLemmas
 pub mod PassedLemmas
+pub mod ReasonLemmas

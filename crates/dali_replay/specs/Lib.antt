@@ -14,3 +14,4 @@ pub mod Replay
 pub mod Player
 pub mod Played
 pub mod ReplayFault
+pub mod Reason

@@ -5,7 +5,8 @@ ghost use Rattle.std.specs.Io.Buffered.{writer_buffer, writer_contents};
 ghost use Rattle.dali_replay.specs.Replay.{Tells, setting_of};
 
 use crate::fault::ReplayFault;
-use crate::replay::run_replay;
+use crate::reason::Explained;
+use crate::replay::{read_input, replay, run_replay};
 use std::alloc::Global;
 use std::io;
 use std::io::{BufWriter, Read, Write};
@@ -28,11 +29,19 @@ pub fn replay_through<R: Read, W: Write + Drop>(
     }
 }
 
-/// Plays standard input to standard output.
-pub fn replay_streams<R: Input + Print + AllocGlobal>(rt: &R) -> Result<(), ReplayFault> {
+/// Plays standard input to standard output. A fault comes with its reason, for which the input is kept to the end.
+pub fn replay_streams<R: Input + Print + AllocGlobal>(rt: &R) -> Result<(), Explained> {
     let alloc = rt.alloc();
+    let input = read_input(alloc, &mut rt.reader())?;
     let Ok(mut writer) = BufWriter::new(alloc, io::writer(rt)) else {
-        return Err(ReplayFault::Memory);
+        return Err(Explained::from(ReplayFault::Memory));
     };
-    replay_through(alloc, &mut rt.reader(), &mut writer)
+    let mut played = replay(alloc, &input, &mut writer);
+    if writer.flush().is_err() {
+        played = Err(ReplayFault::Write);
+    }
+    match played {
+        Ok(()) => Ok(()),
+        Err(fault) => Err(Explained::of(alloc, &input, fault)),
+    }
 }

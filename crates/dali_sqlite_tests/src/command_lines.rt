@@ -46,6 +46,10 @@ fn command_lines_are_answered(rt: HostRuntime) {
     for (words, said) in [
         (b"dali_sim".as_slice(), usage),
         (b"dali_sim play".as_slice(), "'play'"),
+        (
+            b"dali_sim pl\x1B[31may\x07".as_slice(),
+            "'pl\\x1B[31may\\x07'",
+        ),
         (b"dali_sim replay now".as_slice(), "'now'"),
         (
             b"dali_sim \xFF".as_slice(),
@@ -93,7 +97,7 @@ const BAD: [(&[u8], &str); 14] = [
     (b"dali_sim threads --gear -1 --seed 1 --turns 9 0-3", "'-1'"),
     (
         b"dali_sim threads --gear 4294967296 --seed 1 --turns 9 0-3",
-        "'4294967296' for '--gear <N>'",
+        "'4294967296' for '--gear <N>': a bus has 1 to 128 gear\n",
     ),
     (
         b"dali_sim threads --gear 1 --seed 18446744073709551616 --turns 9 0-3",
@@ -117,11 +121,11 @@ const BAD: [(&[u8], &str); 14] = [
     ),
     (
         b"dali_sim threads --gear 1 --seed 1 --turns 9 0-256",
-        "'0-256' for '<BLOCK>...'",
+        "'0-256' for '<BLOCK>...': a block is first-last, as 0-15, and addresses end at 63\n",
     ),
     (
         b"dali_sim threads --gear 1 --seed 1 --turns 9 0-1 2-3 4-5 6-7 8-9",
-        "'8-9' for '<BLOCK>...'",
+        "'8-9' for '<BLOCK>...' found; no more were expected: a site has 1 to 4 controllers",
     ),
 ];
 
@@ -137,15 +141,16 @@ fn a_refused_plan_of_threads_is_said(rt: HostRuntime) {
     for (words, said) in [
         (
             b"dali_sim threads --gear 0 --seed 1 --turns 9 0-3".as_slice(),
-            "threads: plan refused: GearCount\n",
+            "threads: plan refused: GearCount: a bus has 1 to 128 gear\n",
         ),
         (
-            b"dali_sim threads --gear 1 --seed 1 --turns 9 3-0".as_slice(),
-            "threads: plan refused: BlockOrder\n",
+            b"dali_sim threads --gear 1 --seed 1 --turns 9 0-64".as_slice(),
+            "threads: plan refused: BlockOrder: the first address of a block is not above its last, \
+and addresses end at 63\n",
         ),
         (
             b"dali_sim threads --gear 1 --seed 1 --turns 9 0-3 3-5".as_slice(),
-            "threads: plan refused: BlockOverlap\n",
+            "threads: plan refused: BlockOverlap: no address stands in two blocks\n",
         ),
     ] {
         ends(&rt, words, "", (2, "", said));
@@ -179,14 +184,23 @@ fn a_script_is_played_and_its_fault_is_said(rt: HostRuntime) {
         &rt,
         words,
         bad,
-        (1, "A900 silence\n", "replay: line 4: bad line\n"),
+        (
+            1,
+            "A900 silence\n",
+            "replay: line 4: bad line: word 2: `A1`: a frame has four hexadecimal digits, as FE80; \
+the form is `frame HHHH`\n",
+        ),
     );
     let refused = "bench 0\ndraws\n";
     ends(
         &rt,
         words,
         refused,
-        (1, "", "replay: plan refused: GearCount\n"),
+        (
+            1,
+            "",
+            "replay: plan refused: GearCount: line 1, word 2: `0`: a bus has 1 to 128 gear\n",
+        ),
     );
 }
 

@@ -7,7 +7,7 @@ ghost use Rattle.std.specs.Process.{exit_status};
 ghost use Rattle.dali_view.specs.Status.{status_after};
 
 use dali_picture::draw_streams;
-use dali_replay::ReplayFault;
+use dali_replay::Explained;
 use std::io::Eprint;
 use std::process::ExitCode;
 
@@ -16,20 +16,20 @@ fn main(rt: HostRuntime) -> ExitCode {
 }
 
 /// Draws the script of standard input, and says on standard error why it ended before its end.
-fn draw_and_say<R: Input + Print + Eprint + AllocGlobal>(rt: &R) -> Result<(), ReplayFault> {
+fn draw_and_say<R: Input + Print + Eprint + AllocGlobal>(rt: &R) -> Result<(), Explained> {
     let ended = draw_streams(rt);
-    if let Err(fault) = ended {
-        let _ = eprintln!(rt; "view: {fault}");
+    if let Err(explained) = &ended {
+        let _ = eprintln!(rt; "view: {explained}");
     }
     ended
 }
 
 /// The exit status: 0, or that of the fault.
-fn exit_code(ended: Result<(), ReplayFault>) -> ExitCode
+fn exit_code(ended: Result<(), Explained>) -> ExitCode
     ensures { exit_status result ≡ status_after ended }
 {
     match ended {
         Ok(()) => ExitCode::SUCCESS,
-        Err(fault) => ExitCode::from(fault.status()),
+        Err(explained) => ExitCode::from(explained.fault.status()),
     }
 }
