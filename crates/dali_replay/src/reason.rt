@@ -17,8 +17,8 @@ mod quote;
 mod words;
 
 use crate::bench_line::bench_line_of;
-use crate::lines::{INPUT_LIMIT, Script};
 use crate::fault::ReplayFault;
+use crate::lines::{INPUT_LIMIT, Script};
 use crate::setting::plan;
 use crate::site_line::site_line_of;
 use dali_world::PlanError;

@@ -58,7 +58,11 @@ fn play<W: Write>(
 }
 
 /// Plays a whole input.
-pub(crate) fn replay<W: Write>(alloc: Global, input: &[u8], writer: &mut W) -> Result<(), ReplayFault>
+pub(crate) fn replay<W: Write>(
+    alloc: Global,
+    input: &[u8],
+    writer: &mut W,
+) -> Result<(), ReplayFault>
     requires { length input.now ≤ 1048576 }
     ensures { Replays (setting_of input.now) (W.contents writer.old) (W.contents writer.new) result }
 {
