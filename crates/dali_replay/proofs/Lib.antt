@@ -8,5 +8,6 @@ pub mod RoundLemmas
 pub mod ReplayLemmas
 pub mod PlayerLemmas
 pub mod PlayedLemmas
+pub mod JsonLemmas
 pub mod PassedLemmas
 pub mod ReasonLemmas

@@ -13,5 +13,6 @@ pub mod SiteReport
 pub mod Replay
 pub mod Player
 pub mod Played
+pub mod Json
 pub mod ReplayFault
 pub mod Reason

@@ -8,6 +8,7 @@ mod bench_report;
 mod fault;
 mod heading;
 mod installation;
+mod json;
 mod lines;
 mod numbers;
 mod played;
@@ -22,6 +23,7 @@ mod streams;
 mod text;
 
 pub use fault::ReplayFault;
+pub use json::{push_comma, push_json_gear, push_json_table, show_json};
 pub use lines::INPUT_LIMIT;
 pub use numbers::block_of;
 pub use played::{Played, PlayedLine};

@@ -52,13 +52,13 @@ pub fn push_heard(text: &mut String, frame: Forward, answer: Answer) -> Result<(
     }
 }
 
-fn power_name(powered: bool) -> &'static str
+pub(crate) fn power_name(powered: bool) -> &'static str
     ensures { result.now ≡ power_text powered }
 {
     if powered { "on" } else { "off" }
 }
 
-fn state_name(state: InitialisationState) -> &'static str
+pub(crate) fn state_name(state: InitialisationState) -> &'static str
     ensures { result.now ≡ state_text state }
 {
     match state {

@@ -22,8 +22,11 @@ outcome_text outcome.Stopped = codes "stopped"
 outcome_text outcome.NoMemory = codes "no-memory"
 
 -- `controller c: END`, and those of the controllers after it
+abbrev pub controller_text : ℕ → List ℕ
+controller_text c = codes "controller " ++ (decimal c ++ codes ": ")
+
 abbrev pub outcome_line : ℕ → Outcome → List ℕ
-outcome_line c o = codes "controller " ++ (decimal c ++ (codes ": " ++ (outcome_text o ++ codes "\n")))
+outcome_line c o = controller_text c ++ (outcome_text o ++ codes "\n")
 
 abbrev pub outcome_lines : ℕ → List Outcome → List ℕ
 outcome_lines c [] = []

@@ -3,7 +3,7 @@
 ghost use Rattle.std.specs.Prelude.{◌≡◌, ◌++◌, ◌<◌, IfOk, OnOk, length, string_bytes, if◌then◌else◌};
 ghost use Rattle.dali_events.specs.World.{controller_at};
 ghost use Rattle.dali_replay.specs.SiteReport.{gear_lines};
-ghost use Rattle.dali_threads.specs.Report.{outcome_text, outcome_line, outcome_lines, table_line, tables_up};
+ghost use Rattle.dali_threads.specs.Report.{controller_text, outcome_text, outcome_line, outcome_lines, table_line, tables_up};
 ghost use Rattle.dali_threads.specs.Report.{addressed, addressed_text, run_text};
 ghost use Rattle.dali_world.specs.Site.{world};
 
@@ -30,21 +30,31 @@ fn push_outcome(text: &mut String, outcome: Outcome) -> Result<(), AllocError>
     }
 }
 
+fn push_controller(text: &mut String, c: usize) -> Result<(), AllocError>
+    ensures { OnOk result (string_bytes text.new ≡ string_bytes text.old ++ controller_text c) }
+{
+    write!(text, "controller {c}: ")
+}
+
 /// The line of one worker.
+#[tactic(auto, using(std::proofs::lemmas::List::append_assoc))]
 fn push_outcome_line(text: &mut String, c: usize, outcome: Outcome) -> Result<(), AllocError>
     ensures { OnOk result (string_bytes text.new ≡ string_bytes text.old ++ outcome_line c outcome) }
 {
-    write!(text, "controller {c}: ")?;
+    push_controller(text, c)?;
     push_outcome(text, outcome)?;
     text.push_str("\n")
 }
 
 /// How each worker ended, in order of the controllers' numbers.
+#[tactic(auto, using(std::proofs::lemmas::List::append_assoc))]
 fn push_outcomes(text: &mut String, outcomes: &[Outcome]) -> Result<(), AllocError>
     ensures { OnOk result (string_bytes text.new ≡ string_bytes text.old ++ outcome_lines 0 outcomes.now) }
 {
-    for (c, outcome) in outcomes.iter().enumerate() {
+    let mut c = 0usize;
+    for outcome in outcomes {
         push_outcome_line(text, c, *outcome)?;
+        c += 1;
     }
     Ok(())
 }
@@ -62,6 +72,7 @@ fn push_table_line(text: &mut String, site: &SiteState, c: u8) -> Result<(), All
 }
 
 /// The tables of all controllers that are up, in order of their numbers.
+#[tactic(auto, using(std::proofs::lemmas::List::append_assoc))]
 fn push_tables(text: &mut String, site: &SiteState) -> Result<(), AllocError>
     ensures { OnOk result (string_bytes text.new ≡ string_bytes text.old
         ++ tables_up (world site.now) (length site.now.plan.blocks)) }

@@ -1,10 +1,13 @@
 //! A run: a worker for each controller and a pumper, in threads of their own, over one line.
 
-ghost use Rattle.std.specs.Prelude.{◌≡◌, ◌<◌, ◌≤◌, [], None, Some, OnOk, OnErr, IfErr, IfSome, IsErrOf, IsTrue, length};
+ghost use Rattle.std.specs.Prelude.{◌≡◌, ◌*◌, ◌<◌, ◌≤◌, [], None, Some, IfOk, OnOk, OnErr, IfErr, IfSome, IsErrOf, IsTrue, length};
 ghost use Rattle.dali_events.specs.declared.plan.PlanError.{PlanError};
-ghost use Rattle.dali_events.specs.Plan.{refusal_of};
+ghost use Rattle.dali_events.specs.Plan.{plan_of, refusal_of};
 ghost use Rattle.dali_line.specs.Ends.{stops};
-ghost use Rattle.dali_threads.specs.declared.setup.ThreadsFault.TheVariants.{BadPlan};
+ghost use Rattle.dali_threads.specs.Drawn.{numbers_of};
+ghost use Rattle.dali_threads.specs.Report.{Reports};
+ghost use Rattle.dali_threads.specs.declared.setup.ThreadsFault.TheVariants.{BadPlan, Write};
+ghost use Rattle.std.specs.Io.KnownBytes.{Appends};
 
 use crate::draws::drawn;
 use crate::report::report;
@@ -230,6 +233,7 @@ fn planned(
 ) -> Result<Plan, ThreadsFault>
     requires { length draws.now ≤ 1024 }
     ensures allowed { OnOk result (refusal_of gear blocks.now draws.now ≡ None) }
+    ensures plan { IfOk result (λ plan. plan ≡ plan_of gear blocks.now draws.now) }
     ensures refused { IfSome (refusal_of gear blocks.now draws.now) (λ e. IsErrOf result (BadPlan e)) }
     ensures cause { IfErr result (λ fault. (e : PlanError) → fault ≡ BadPlan e
         → refusal_of gear blocks.now draws.now ≡ Some e) }
@@ -257,6 +261,7 @@ pub fn run_threads<R: Threads + Wait + Sync, W: Write>(
         (λ e. IsErrOf result (BadPlan e) × (writer.new ≡ writer.old)) }
     ensures cause { IfErr result (λ fault. (e : PlanError) → fault ≡ BadPlan e
         → refusal_of setup.gear setup.blocks.items [] ≡ Some e) }
+    ensures told { OnOk result (Reports (W.contents writer.old) (W.contents writer.new)) }
 {
     match planned(alloc, setup.gear, setup.blocks.as_slice(), &[]) {
         Ok(plan) => run_on(rt, alloc, &plan, &setup, writer),
@@ -267,6 +272,8 @@ pub fn run_threads<R: Threads + Wait + Sync, W: Write>(
 /// A plan of the same gear and blocks as one without numbers, with numbers drawn from the seed.
 fn drawn_plan(alloc: Global, setup: &Setup, undrawn: &Plan) -> Result<Plan, AllocError>
     requires { refusal_of setup.now.gear setup.now.blocks.items [] ≡ None }
+    ensures { IfOk result (λ plan. plan ≡ plan_of setup.now.gear setup.now.blocks.items
+        (numbers_of setup.now.seed (undrawn.now.gear * length undrawn.now.blocks))) }
 {
     let most = undrawn.gear() as usize * undrawn.blocks().len();
     let numbers = drawn(alloc, setup.seed, most)?;
@@ -279,6 +286,21 @@ fn drawn_plan(alloc: Global, setup: &Setup, undrawn: &Plan) -> Result<Plan, Allo
     }
 }
 
+/// Writes a text, and passes it on.
+fn write<W: Write>(writer: &mut W, text: &[u8]) -> Result<(), ThreadsFault>
+    ensures told { OnOk result (Appends (W.contents writer.old) (W.contents writer.new) text.now) }
+    ensures fault { IfErr result (λ fault. fault ≡ Write) }
+{
+    match writer.write_all(text) {
+        Ok(()) => {}
+        Err(_) => return Err(ThreadsFault::Write),
+    }
+    match writer.flush() {
+        Ok(()) => Ok(()),
+        Err(_) => Err(ThreadsFault::Write),
+    }
+}
+
 /// As `run_threads`, of a plan of the same gear and blocks in which no numbers are drawn.
 fn run_on<R: Threads + Wait + Sync, W: Write>(
     rt: &R,
@@ -288,7 +310,8 @@ fn run_on<R: Threads + Wait + Sync, W: Write>(
     writer: &mut W,
 ) -> Result<(), ThreadsFault>
     requires { refusal_of setup.now.gear setup.now.blocks.items [] ≡ None }
-    ensures { IfErr result (λ fault. (e : PlanError) → fault ≡ BadPlan e → ⊥) }
+    ensures cause { IfErr result (λ fault. (e : PlanError) → fault ≡ BadPlan e → ⊥) }
+    ensures told { OnOk result (Reports (W.contents writer.old) (W.contents writer.new)) }
 {
     let plan = drawn_plan(alloc, setup, undrawn)?;
     let Ok(site) = SiteState::new(alloc, plan, LOG_ROOM, QUEUE_ROOM) else {
@@ -304,8 +327,5 @@ fn run_on<R: Threads + Wait + Sync, W: Write>(
         setup.surveys,
     )?;
     let text = report(alloc, &outcomes, &site)?;
-    if writer.write_all(text.as_bytes()).is_err() || writer.flush().is_err() {
-        return Err(ThreadsFault::Write);
-    }
-    Ok(())
+    write(writer, text.as_bytes())
 }
