@@ -1,3 +1,6 @@
 pub mod Marks
 pub mod Folds
 pub mod Played
+pub mod Outcomes
+pub mod Incidents
+pub mod Clock

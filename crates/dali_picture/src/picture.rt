@@ -7,6 +7,7 @@ ghost use Rattle.dali_picture.specs.Folds.{AreFolds};
 ghost use Rattle.dali_picture.specs.Played.{IsLogBy};
 
 use crate::folds::{Fold, folds_of};
+use crate::incidents::{Happened, incidents_of};
 use crate::mark::{Mark, marks_of};
 use crate::played::Played;
 use crate::stays::{Stay, stays_of};
@@ -24,6 +25,8 @@ pub struct Picture<'a> {
     pub folds: Vec<Fold>,
     pub transactions: Vec<Transaction>,
     pub stays: Vec<Stay>,
+    /// What went wrong, in the order of the log.
+    pub incidents: Vec<Happened>,
 }
 
 impl<'a> Picture<'a> {
@@ -57,12 +60,14 @@ impl<'a> Picture<'a> {
             128
         };
         let stays = stays_of(alloc, gear, &played.used, &played.draws, &played.log)?;
+        let incidents = incidents_of(alloc, &played.lines, &played.log)?;
         Ok(Picture {
             played,
             marks,
             folds,
             transactions,
             stays,
+            incidents,
         })
     }
 }

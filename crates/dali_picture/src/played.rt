@@ -30,6 +30,8 @@ pub struct PlayedLine<'a> {
 /// A script, played to its end.
 #[derive(Drop)]
 pub struct Played<'a> {
+    /// All bytes of the script.
+    pub input: &'a [u8],
     pub gear: u32,
     pub controllers: u8,
     pub draws: Vec<Random24>,
@@ -195,12 +197,18 @@ fn copy_of<T: Copy + Drop>(alloc: Global, list: &[T]) -> Result<Vec<T>, AllocErr
 
 impl<'a> Played<'a> {
     /// Nothing yet, on a site of this plan.
-    fn begun(alloc: Global, plan: &Plan, is_bench: bool) -> Result<Played<'a>, AllocError>
+    fn begun(
+        alloc: Global,
+        input: &'a [u8],
+        plan: &Plan,
+        is_bench: bool,
+    ) -> Result<Played<'a>, AllocError>
         ensures { IfOk result (λ played. played.log.items ≡ []) }
     {
         let draws = copy_of(alloc, plan.draws())?;
         let used = copy_of(alloc, plan.used())?;
         Ok(Played {
+            input,
             gear: plan.gear(),
             controllers: if is_bench {
                 0
@@ -267,7 +275,7 @@ impl<'a> Played<'a> {
     {
         let mut script = Script::new(input);
         let (is_bench, plan) = plan(alloc, &mut script)?;
-        let mut played = Played::begun(alloc, &plan, is_bench)?;
+        let mut played = Played::begun(alloc, input, &plan, is_bench)?;
         if is_bench {
             played.run_on_bench(&mut script, plan)?;
             return Ok(played);
