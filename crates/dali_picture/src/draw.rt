@@ -6,8 +6,8 @@ use crate::geometry::{AXIS_TOP, Columns, EVENT_WIDTH, FOLD_WIDTH, Lanes};
 use crate::picture::Picture;
 use crate::shapes::{
     push_address, push_controller_name, push_end_name, push_fold_bar, push_fold_count,
-    push_gear_name, push_line, push_mark, push_number, push_only_name, push_owner, push_ring,
-    push_sender, push_stay, push_transaction_bar,
+    push_gear_name, push_line, push_mark, push_number, push_only_name, push_owner, push_sender,
+    push_stay, push_struck_answer, push_transaction_bar,
 };
 use std::alloc::{AllocError, Global};
 
@@ -66,8 +66,8 @@ fn push_mark_at(
     push_end_name(text, *event, x.saturating_add(11), y.saturating_add(16))
 }
 
-/// Rings around the frames whose answers were lost or damaged.
-fn push_rings(
+/// Boxes around the frames whose answers were lost or damaged.
+fn push_struck_answers(
     text: &mut String,
     picture: &Picture,
     columns: &Columns,
@@ -78,7 +78,7 @@ fn push_rings(
     for happened in &picture.incidents {
         if let Some(event) = picture.played.log.get(happened.at) {
             let x = columns.left(happened.at).saturating_sub(2);
-            push_ring(text, happened, *event, x, y, is_place)?;
+            push_struck_answer(text, happened, *event, x, y, is_place)?;
         }
     }
     Ok(())
@@ -192,7 +192,7 @@ fn push_stays(
     columns: &Columns,
     lanes: &Lanes,
 ) -> Result<(), AllocError> {
-    for stay in &picture.stays {
+    for stay in &picture.watched.stays {
         let x = columns.left(stay.first);
         let width = columns.left(stay.after).saturating_sub(x);
         let y = lanes.place_top(stay.gear).saturating_add(2);
@@ -309,7 +309,7 @@ pub fn push_long(
     push_common(text, picture, columns)?;
     push_transactions(text, picture, columns, &lanes)?;
     push_marks(text, picture, columns, &lanes)?;
-    push_rings(text, picture, columns, &lanes, false)?;
+    push_struck_answers(text, picture, columns, &lanes, false)?;
     text.push_str("</svg>\n</div>\n</div>\n")
 }
 
@@ -322,6 +322,6 @@ pub fn push_short_picture(
     push_begin(text, picture, columns, "The run in short")?;
     push_common(text, picture, columns)?;
     push_folds(text, picture, columns, &lanes_of(picture))?;
-    push_rings(text, picture, columns, &lanes_of(picture), true)?;
+    push_struck_answers(text, picture, columns, &lanes_of(picture), true)?;
     text.push_str("</svg>\n</div>\n</div>\n")
 }

@@ -22,8 +22,8 @@ role=\"status\"></span></p>
 /// What each gear shows at the end: the last of all stays, in the order of the gear.
 pub fn at_end<'a>(picture: &'a Picture) -> &'a [Stay] {
     let gear = picture.played.gear as usize;
-    let first = picture.stays.len().saturating_sub(gear);
-    match picture.stays.get(first..) {
+    let first = picture.watched.stays.len().saturating_sub(gear);
+    match picture.watched.stays.get(first..) {
         Some(end) => end,
         None => &[],
     }

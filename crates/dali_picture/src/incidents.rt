@@ -5,6 +5,8 @@ ghost use Rattle.dali_picture.specs.Incidents.{place, incident_of, disturbance_o
 ghost use Rattle.dali_picture.specs.Incidents.{is_caused, caused_count, count_of};
 
 use crate::played::PlayedLine;
+use crate::stays::Unheard;
+use dali_frame::Answer;
 use dali_replay::{SiteLine, site_line_of};
 use dali_world::{Event, Trouble};
 use std::alloc::{AllocError, Global};
@@ -153,49 +155,77 @@ pub fn count_of(incident: Incident, lines: &[PlayedLine], log: &[Event]) -> u64
     told_count(incident, log) + caused_count(incident, lines)
 }
 
-/// One incident: what it was, the place of its event in the log, and the number of the line that caused it.
+/// One incident: what it was, the place of its event in the log, the number of the line that caused it, and what gear
+/// answered to its frame, where something else was heard.
 #[derive(Clone, Copy)]
 pub struct Happened {
     pub incident: Incident,
     pub at: usize,
     pub line: u32,
+    pub unheard: Option<Answer>,
 }
 
-/// What went wrong by the events of one line.
-fn push_of_line(
+/// What gear answered at a place, where something else was heard. The answers are those from there on.
+fn unheard_at(unheard: &[Unheard], at: usize) -> Option<Answer> {
+    match unheard.first() {
+        Some(first) if first.at == at => Some(first.answer),
+        _ => None,
+    }
+}
+
+/// The answers from a place on.
+fn from_place(unheard: &[Unheard], at: usize) -> &[Unheard] {
+    match unheard {
+        [first, rest @ ..] if first.at < at => rest,
+        _ => unheard,
+    }
+}
+
+/// What went wrong by an event, whose line does this to an answer.
+fn incident_under(disturbance: Option<Incident>, event: Event) -> Option<Incident> {
+    match event {
+        Event::Sent(..) => disturbance,
+        _ => incident_of(event),
+    }
+}
+
+/// What went wrong by the events of one line. The answers that are left after it.
+fn push_of_line<'a>(
     happened: &mut Vec<Happened>,
     line: &PlayedLine,
     log: &[Event],
-) -> Result<(), AllocError> {
+    unheard: &'a [Unheard],
+) -> Result<&'a [Unheard], AllocError> {
     let disturbance = disturbance_of(line.line);
+    let mut left = unheard;
     for at in line.first..line.after {
+        left = from_place(left, at);
         let Some(event) = log.get(at) else {
-            return Ok(());
+            return Ok(left);
         };
-        let incident = match event {
-            Event::Sent(..) => disturbance,
-            _ => incident_of(*event),
-        };
-        if let Some(incident) = incident {
+        if let Some(incident) = incident_under(disturbance, *event) {
             happened.push(Happened {
                 incident,
                 at,
                 line: line.number,
+                unheard: unheard_at(left, at),
             })?;
         }
     }
-    Ok(())
+    Ok(left)
 }
 
-/// What went wrong, in the order of the log.
+/// What went wrong, in the order of the log, by these lines; and what gear answered unheard.
 pub fn incidents_of(
     alloc: Global,
     lines: &[PlayedLine],
     log: &[Event],
+    unheard: &[Unheard],
 ) -> Result<Vec<Happened>, AllocError> {
     let mut happened = Vec::new(alloc);
+    let mut left = unheard;
     for line in lines {
-        push_of_line(&mut happened, line, log)?;
+        left = push_of_line(&mut happened, line, log, left)?;
     }
     Ok(happened)
 }

@@ -31,6 +31,6 @@ pub use mark::{Lane, Look, Mark, Reply, Tone, mark_of, marks_of, tone_of};
 pub use outcomes::{Outcome, outcome_of};
 pub use picture::Picture;
 pub use played::{Played, PlayedLine};
-pub use stays::{Shown, Stay};
+pub use stays::{Shown, Stay, Unheard, Watched};
 pub use streams::{draw_run, draw_streams};
 pub use transactions::{Purpose, Transaction};

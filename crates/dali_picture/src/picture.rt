@@ -10,7 +10,7 @@ use crate::folds::{Fold, folds_of};
 use crate::incidents::{Happened, incidents_of};
 use crate::mark::{Mark, marks_of};
 use crate::played::Played;
-use crate::stays::{Stay, stays_of};
+use crate::stays::{Watched, watch_over};
 use crate::transactions::{Transaction, transactions_of};
 use dali_replay::{INPUT_LIMIT, ReplayFault};
 use std::alloc::{AllocError, Global};
@@ -24,7 +24,7 @@ pub struct Picture<'a> {
     /// What stands in one column of the short picture: each event in one of them, in their order.
     pub folds: Vec<Fold>,
     pub transactions: Vec<Transaction>,
-    pub stays: Vec<Stay>,
+    pub watched: Watched,
     /// What went wrong, in the order of the log.
     pub incidents: Vec<Happened>,
 }
@@ -59,14 +59,14 @@ impl<'a> Picture<'a> {
         } else {
             128
         };
-        let stays = stays_of(alloc, gear, &played.used, &played.draws, &played.log)?;
-        let incidents = incidents_of(alloc, &played.lines, &played.log)?;
+        let watched = watch_over(alloc, gear, &played.used, &played.draws, &played.log)?;
+        let incidents = incidents_of(alloc, &played.lines, &played.log, &watched.unheard)?;
         Ok(Picture {
             played,
             marks,
             folds,
             transactions,
-            stays,
+            watched,
             incidents,
         })
     }

@@ -5,7 +5,9 @@ use crate::incidents::{Happened, Incident};
 use crate::mark::{Lane, Look, Mark, Reply, Tone};
 use crate::stays::{Shown, Stay};
 use crate::transactions::{Purpose, Transaction};
-use crate::words::{push_event, push_fold, push_plain, push_short, push_shown, push_transaction};
+use crate::words::{
+    push_event, push_fold, push_plain, push_short, push_shown, push_transaction, push_unheard,
+};
 use dali_gear::InitialisationState;
 use dali_script::{End, Order, Record};
 use dali_world::Event;
@@ -119,8 +121,8 @@ pub fn push_end_name(text: &mut String, event: Event, x: u64, y: u64) -> Result<
     )
 }
 
-/// A ring around a frame whose answer was lost or damaged, with the whole event as its title.
-pub fn push_ring(
+/// A box around a frame whose answer was lost or damaged, with the whole event as its title.
+pub fn push_struck_answer(
     text: &mut String,
     happened: &Happened,
     event: Event,
@@ -128,15 +130,18 @@ pub fn push_ring(
     y: u64,
     is_place: bool,
 ) -> Result<(), AllocError> {
-    let (class, name) = match happened.incident {
-        Incident::Lost => ("lost", "answer lost"),
-        Incident::Noise => ("noise", "answer damaged"),
+    let (class, name) = match (happened.incident, happened.unheard) {
+        (Incident::Lost, None) => ("lost idle", "answer lost"),
+        (Incident::Lost, Some(_)) => ("lost", "answer lost"),
+        (Incident::Noise, _) => ("noise", "answer damaged"),
         _ => return Ok(()),
     };
     let at = happened.at;
     write!(text, "<path class=\"{class}\" d=\"M{x} {y}h12v24h-12z\"")?;
     push_place(text, at, is_place)?;
-    write!(text, "><title>event {at}: {name}; ")?;
+    write!(text, "><title>event {at}: {name}")?;
+    push_unheard(text, happened.incident, happened.unheard)?;
+    text.push_str("; ")?;
     push_event(text, event)?;
     text.push_str("</title></path>\n")
 }

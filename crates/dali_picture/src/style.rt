@@ -50,6 +50,7 @@ i { display: inline-block; width: 1em; height: 1em; vertical-align: -0.15em; bac
 .wit { fill: var(--wit); stroke: #5d8f5a; background: var(--wit); }
 .lost, .noise { fill: none; stroke: #e0233f; stroke-width: 2; }
 .noise { stroke: #e0007a; }
+.idle { stroke-dasharray: 3 2; }
 .marks :target, .marks .now { outline: 3px solid var(--link); outline-offset: 2px; }
 .say { position: sticky; bottom: 0; min-height: 2.2em; margin: 0; padding: 5px 8px; background: var(--names);
   border: 1px solid var(--line); }
@@ -97,9 +98,9 @@ pub const LEGEND: &str = "<h2 id=\"legend\">Legend</h2>
 <i class=\"t\"></i> TERMINATE, <i class=\"x\"></i> other frames.
 A frame after which a byte was heard has a dark edge (a light one on a dark page), and one after which a damaged answer
 was heard a red one, broken: several gear that answer COMPARE at once are heard so.</p>
-<p>A cross is a frame that was destroyed, or two that collided. A red ring is a frame whose answer the script let nobody
-hear (<code>pump lost</code>), whether a gear answered or not, and a pink one a frame after which the script let a
-damaged answer be heard (<code>pump noise</code>). Two bars in the lane of the bus are a lapse (red) or quiet.</p>
+<p>A cross is a frame that was destroyed, or two that collided. A red box around a frame: the script let nobody hear
+its answer (<code>pump lost</code>); the box is broken where no gear had answered. A pink one: the script let a damaged
+answer be heard (<code>pump noise</code>). Two bars in the lane of the bus are a lapse (red) or quiet.</p>
 <p>A box in the lane of the bus is a transaction, in the colour of what it is for; one with a number is so many probes
 in a row. Where every event is shown, the box stands below its frames, with the number of the controller that owns the
 bus.</p>

@@ -6,7 +6,7 @@ use crate::gear_table::{addressed_in, at_end};
 use crate::incidents::{Happened, INCIDENTS, Incident, count_of};
 use crate::outcomes::{Outcome, last_of, outcome_of};
 use crate::picture::Picture;
-use crate::words::{outcome_class, outcome_meaning, push_event, push_outcome};
+use crate::words::{outcome_class, outcome_meaning, push_event, push_outcome, push_unheard};
 use std::alloc::AllocError;
 
 /// How many incidents a page lists one by one.
@@ -92,6 +92,24 @@ fn names_of(incident: Incident) -> (&'static str, &'static str, &'static str) {
     }
 }
 
+/// To how many of the frames whose answers were lost gear had answered.
+fn push_given(
+    text: &mut String,
+    incident: Incident,
+    happened: &[Happened],
+) -> Result<(), AllocError> {
+    if !matches!(incident, Incident::Lost) {
+        return Ok(());
+    }
+    let mut given: u64 = 0;
+    for it in happened {
+        if matches!(it.incident, Incident::Lost) && it.unheard.is_some() {
+            given = given.saturating_add(1);
+        }
+    }
+    write!(text, " (gear had answered {given} of these frames)")
+}
+
 /// How often something went wrong, with a link to the first time.
 fn push_often(
     text: &mut String,
@@ -102,6 +120,7 @@ fn push_often(
     let (class, one, more) = names_of(incident);
     let name = if count == 1 { one } else { more };
     write!(text, "<li class=\"{class}\">{count} {name}")?;
+    push_given(text, incident, happened)?;
     for it in happened {
         if it.incident.place() == incident.place() {
             let at = it.at;
@@ -120,6 +139,7 @@ fn push_one(text: &mut String, picture: &Picture, it: &Happened) -> Result<(), A
         text,
         "<li class=\"{class}\"><a href=\"#e{at}\">event {at}</a>, line {line}: {name}"
     )?;
+    push_unheard(text, it.incident, it.unheard)?;
     if let Some(event) = picture.played.log.get(at) {
         text.push_str(" &#8211; ")?;
         push_event(text, *event)?;

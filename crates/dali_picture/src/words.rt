@@ -1,6 +1,7 @@
 //! What is said of an event, of a frame and of a gear.
 
 use crate::folds::{Fold, Held};
+use crate::incidents::Incident;
 use crate::outcomes::Outcome;
 use crate::stays::Shown;
 use crate::transactions::{Purpose, Transaction};
@@ -248,6 +249,24 @@ pub fn state_name(state: InitialisationState) -> &'static str {
         InitialisationState::Disabled => "disabled",
         InitialisationState::Enabled => "enabled",
         InitialisationState::Withdrawn => "withdrawn",
+    }
+}
+
+/// Of a frame whose answer was lost or damaged: what gear had answered, where something else was heard.
+pub fn push_unheard(
+    text: &mut String,
+    incident: Incident,
+    unheard: Option<Answer>,
+) -> Result<(), AllocError> {
+    match (incident, unheard) {
+        (Incident::Lost, None) | (_, Some(Answer::Silence)) => text.push_str(
+            " (no gear had answered)",
+        ),
+        (_, Some(Answer::Byte(byte))) => write!(text, " (a gear had answered {byte:02X})"),
+        (_, Some(Answer::Damaged)) | (Incident::Noise, None) => text.push_str(
+            " (several gear had answered)",
+        ),
+        _ => Ok(()),
     }
 }
 
