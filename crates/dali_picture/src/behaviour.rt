@@ -15,7 +15,7 @@ function words(mark) {
     var part = item.dataset.e.split('-');
     return +part[0] <= +event[1] && +event[1] < +part[1];
   })[0];
-  return line ? title + '. Line ' + line.value + ': ' + one('code', line).textContent : title;
+  return line ? title + '. Line ' + line.getAttribute('value') + ': ' + one('code', line).textContent : title;
 }
 function tell(mark) {
   if (now) { now.classList.remove('now'); }

@@ -432,3 +432,28 @@ const LINES: [Wanted<'static>; 2] = [
 fn a_page_has_the_whole_script(rt: HostRuntime) -> Result<(), Fail> {
     have(&rt, &LINES)
 }
+
+/// Two controllers that survey: a frame of the second one is no part of a hunt of the first, though it might go on with
+/// it; and a fold counts the transactions of both.
+const OWNED: [Wanted<'static>; 1] = [(
+    "site 1 0-3 4-7\ndraws 123456 234567\nsurvey 0\nsurvey 1\nrun 420\n",
+    &[
+        "<title>transaction of controller 0: hunt by COMPARE, frames: 5</title></rect>
+<text class=\"n\" x=\"7826\" y=\"223\">0</text>
+<rect class=\"bar k\" x=\"7924\" y=\"214\" width=\"88\" height=\"11\">\
+<title>transaction of controller 1: hunt by COMPARE, frames: 5</title></rect>
+<text class=\"n\" x=\"7926\" y=\"223\">1</text>
+",
+        "<title>transaction of controller 0: hunt by COMPARE, frames: 7</title></rect>
+<text class=\"n\" x=\"8226\" y=\"223\">0</text>
+<rect class=\"bar k\" x=\"8364\" y=\"214\" width=\"48\" height=\"11\">\
+<title>transaction of controller 1: hunt by COMPARE, frames: 3</title></rect>
+",
+        "hunt by COMPARE; transactions begun: 2, frames: 10</title>",
+    ],
+)];
+
+#[test]
+fn transactions_are_of_their_senders(rt: HostRuntime) -> Result<(), Fail> {
+    have(&rt, &OWNED)
+}
