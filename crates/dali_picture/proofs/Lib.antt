@@ -1,2 +1,3 @@
 mod FoldLemmas
 mod Benches
+mod TransactionLemmas

@@ -34,9 +34,11 @@ abbrev pub frames_shown : List Mark → ℕ
 frames_shown [] = 0
 frames_shown (m ∷ ms) = frames_on m.look + frames_shown ms
 
--- THE FRAMES OF A FOLD are those of its own events: with them, and with those before it, all up to its end are counted.
+-- THE FRAMES OF A FOLD are those of its own events: with those before it, they are all up to its
+-- end.
 abbrev pub HasItsFrames : List Mark → Fold → Type 0
-HasItsFrames marks f = frames_shown (take f.first marks) + f.frames ≡ frames_shown (take f.after marks)
+HasItsFrames marks f =
+    frames_shown (take f.first marks) + f.frames ≡ frames_shown (take f.after marks)
 
 abbrev pub HaveTheirFrames : List Mark → List Fold → Type 0
 HaveTheirFrames marks folds = All (HasItsFrames marks) folds

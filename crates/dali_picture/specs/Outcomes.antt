@@ -12,7 +12,8 @@ after_order (Commit x) = AtWork
 after_order (Done e) = Ended e
 after_order (Halt w) = Halted w
 
--- how controller c stands after an event: only its own orders, and that it goes down or comes up, change it
+-- how controller c stands after an event: its own orders change it, and that it goes down or comes
+-- up; nothing else does
 abbrev pub stands_after : ℕ → Outcome → Event → Outcome
 stands_after c was (event.Acted d i o) = if nat_eq d c then after_order o else was
 stands_after c was (event.Down d) = if nat_eq d c then Down else was

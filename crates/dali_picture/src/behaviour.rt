@@ -1,4 +1,5 @@
-//! The script of a page: it reads marks aloud, orders and hides gear, zooms, and cuts the pictures into strips for print.
+//! The script of a page: it says what a mark is, orders and hides gear, zooms, and cuts the pictures into strips for
+//! print.
 
 /// The script, at the end of the page. Without it the page shows all the same.
 pub const BEHAVIOUR: &str = "<script>//<![CDATA[
@@ -24,8 +25,8 @@ function tell(mark) {
   say.textContent = words(mark);
 }
 function place(mark) {
-  var x = mark.getAttribute('x') || (/[(M](\\d+)/.exec(mark.getAttribute('transform') || mark.getAttribute('d')) || [0, 0])[1];
-  return +x;
+  var found = /[(M](\\d+)/.exec(mark.getAttribute('transform') || mark.getAttribute('d'));
+  return +(mark.getAttribute('x') || (found ? found[1] : 0));
 }
 all('.scroll').forEach(function (scroll) {
   var marks = null, at = -1;

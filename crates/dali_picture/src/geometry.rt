@@ -8,8 +8,8 @@ use crate::mark::Lane;
 pub const EVENT_WIDTH: u8 = 10;
 
 pub const FOLD_WIDTH: u8 = 22;
-/// The heights of the lane with the lines of the script, of the two with the numbers of frames and with the time, and of
-/// one lane each.
+/// The heights of the lane with the lines of the script, of the two with the numbers of frames and the time, and of one
+/// lane each.
 const SCRIPT_HEIGHT: u64 = 110;
 
 const AXIS_HEIGHT: u64 = 28;

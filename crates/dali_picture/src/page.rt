@@ -10,7 +10,7 @@ use crate::summary::push_summary;
 use std::alloc::{AllocError, Global};
 
 /// What stands above the pictures, and below them: the words of the mark that was chosen.
-const TOOLS: &str = "<h2>The run</h2>
+const TOOLS: &str = "<h2 id=\"run\">The run</h2>
 <p class=\"tools\"><button type=\"button\" data-zoom=\"1.25\" aria-label=\"larger\">+</button>
 <button type=\"button\" data-zoom=\"0.8\" aria-label=\"smaller\">&#8722;</button>
 <button type=\"button\" data-zoom=\"0\">as it was</button> <a href=\"#legend\">Legend</a></p>

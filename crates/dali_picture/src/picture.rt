@@ -3,7 +3,8 @@
 ghost use Rattle.std.specs.Prelude.{◌≡◌, length, map, IfOk};
 ghost use Rattle.dali_replay.specs.Replay.{setting_of};
 ghost use Rattle.dali_picture.specs.Marks.{mark_of};
-ghost use Rattle.dali_picture.specs.Folds.{AreFolds};
+ghost use Rattle.dali_picture.specs.Folds.{AreFolds, HaveTheirFrames};
+ghost use Rattle.dali_picture.specs.Transactions.{owned, senders_of};
 ghost use Rattle.dali_picture.specs.Played.{IsLogBy};
 
 use crate::folds::{Fold, folds_of};
@@ -37,6 +38,9 @@ impl<'a> Picture<'a> {
         ensures log { IfOk result (λ picture. IsLogBy (setting_of input.now) picture.played.log.items) }
         ensures marks { IfOk result (λ picture. picture.marks.items ≡ map mark_of picture.played.log.items) }
         ensures folds { IfOk result (λ picture. AreFolds picture.folds.items (length picture.played.log.items)) }
+        ensures frames { IfOk result (λ picture. HaveTheirFrames picture.marks.items picture.folds.items) }
+        ensures transactions { IfOk result (λ picture.
+            owned picture.transactions.items ≡ senders_of picture.played.log.items) }
     {
         if input.len() > INPUT_LIMIT {
             return Err(ReplayFault::Read);
@@ -50,6 +54,9 @@ impl<'a> Picture<'a> {
         ensures log { IfOk result (λ picture. picture.played.log.items ≡ played.entry.log.items) }
         ensures marks { IfOk result (λ picture. picture.marks.items ≡ map mark_of played.entry.log.items) }
         ensures folds { IfOk result (λ picture. AreFolds picture.folds.items (length played.entry.log.items)) }
+        ensures frames { IfOk result (λ picture. HaveTheirFrames picture.marks.items picture.folds.items) }
+        ensures transactions { IfOk result (λ picture.
+            owned picture.transactions.items ≡ senders_of picture.played.log.items) }
     {
         let marks = marks_of(alloc, &played.log)?;
         let transactions = transactions_of(alloc, &played.log)?;

@@ -79,7 +79,7 @@ fn push_place(text: &mut String, at: usize, is_place: bool) -> Result<(), AllocE
     if !is_place {
         return Ok(());
     }
-    write!(text, " id=\"e{at}\" tabindex=\"0\"")
+    write!(text, " id=\"e{at}\" tabindex=\"0\" role=\"img\"")
 }
 
 /// That something stands in the lane of a gear.

@@ -1,5 +1,5 @@
-//! The result of a run: how each controller ended, how many gear have an address, and what went wrong, with links to the
-//! places in the picture.
+//! The result of a run: how each controller ended, how many gear have an address, and what went wrong, with links to
+//! the places in the picture.
 
 use crate::clock::{bits_of, frames_of, milliseconds};
 use crate::gear_table::{addressed_in, at_end};

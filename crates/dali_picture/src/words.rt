@@ -244,6 +244,7 @@ pub fn push_transaction(text: &mut String, transaction: &Transaction) -> Result<
     )
 }
 
+/// What an initialisation state is called.
 pub fn state_name(state: InitialisationState) -> &'static str {
     match state {
         InitialisationState::Disabled => "disabled",

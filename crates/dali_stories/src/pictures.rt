@@ -405,7 +405,8 @@ fn a_page_lists_what_went_wrong(rt: HostRuntime) -> Result<(), Fail> {
     have(&rt, &WRONG)
 }
 
-/// Every line of the script, with its own report, those that set it up too; and the axis, which counts destroyed frames.
+/// Every line of the script, with its own report, those that set it up too; and the axis, which counts destroyed
+/// frames.
 const LINES: [Wanted<'static>; 2] = [
     (
         "# a site\n\nsite 1 0-3\ndraws 123456\nused 0 9 0ABCDE\ngo 0\n# <a> & more\npump\npump\nup 0",
