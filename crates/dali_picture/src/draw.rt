@@ -74,11 +74,12 @@ fn push_struck_answers(
     lanes: &Lanes,
     is_place: bool,
 ) -> Result<(), AllocError> {
-    let y = lanes.bus_top().saturating_add(1);
+    let y = lanes.bus_top().saturating_add(2);
+    let width = inner(columns).saturating_add(4);
     for happened in &picture.incidents {
         if let Some(event) = picture.played.log.get(happened.at) {
             let x = columns.left(happened.at).saturating_sub(2);
-            push_struck_answer(text, happened, *event, x, y, is_place)?;
+            push_struck_answer(text, happened, *event, x, y, width, is_place)?;
         }
     }
     Ok(())

@@ -128,6 +128,7 @@ pub fn push_struck_answer(
     event: Event,
     x: u64,
     y: u64,
+    width: u64,
     is_place: bool,
 ) -> Result<(), AllocError> {
     let (class, name) = match (happened.incident, happened.unheard) {
@@ -137,7 +138,10 @@ pub fn push_struck_answer(
         _ => return Ok(()),
     };
     let at = happened.at;
-    write!(text, "<path class=\"{class}\" d=\"M{x} {y}h12v24h-12z\"")?;
+    write!(
+        text,
+        "<path class=\"{class}\" d=\"M{x} {y}h{width}v25h-{width}z\""
+    )?;
     push_place(text, at, is_place)?;
     write!(text, "><title>event {at}: {name}")?;
     push_unheard(text, happened.incident, happened.unheard)?;

@@ -1,7 +1,7 @@
 //! The transactions of a log: which frames belong together, and what they are for.
 
 ghost use Rattle.std.specs.Prelude.{◌≡◌, ◌<◌, ◌+◌, ◌++◌, true, IfOk};
-ghost use Rattle.dali_picture.specs.Transactions.{sender_in, senders_of, owned, owned_by, IsOf};
+ghost use Rattle.dali_picture.specs.Transactions.{senders_of, owned, owned_by, IsOf};
 
 use dali_frame::Forward;
 use dali_special::{Command, Part};

@@ -13,7 +13,11 @@ loop-at-preserved c = elim c.match-frame_of.branch [
             w.with-running.ensures.frames (rw (w.if-goes_on.ensures refl) w.in-Some.ensures);
         frames = omega (arith, w.with-running.ensures.frames, c.loop-at.invariant.frames);
       }
-  | in-Some+else-goes_on+in_ok-keep w ↦ rw (w.kept-is, w.running-is, senders_next c.args.log.now c.loop-at.at c.index-log-at.result c.loop-at-test.true c.index-log-at.is)
+  | in-Some+else-goes_on+in_ok-keep w ↦ rw (
+    w.kept-is,
+    w.running-is,
+    senders_next c.args.log.now c.loop-at.at c.index-log-at.result c.loop-at-test.true c.index-log-at.is,
+  )
       record {
         owned = begins c.loop-at.kept.items w.keep.new.kept.items c.loop-at.running w.begun-running.result
             (senders_of (take c.loop-at.at c.args.log.now)) c.index-log-at.result
