@@ -63,7 +63,7 @@ fn push_mark_at(
     let x = columns.left(at);
     let y = lanes.top(mark.lane);
     push_mark(text, *mark, *event, at, x, y, is_place)?;
-    push_end_name(text, *event, x.saturating_add(11), y.saturating_add(16))
+    push_end_name(text, *event, x.saturating_add(10), y.saturating_add(25))
 }
 
 /// Boxes around the frames whose answers were lost or damaged.
@@ -197,7 +197,9 @@ fn push_stays(
         let x = columns.left(stay.first);
         let width = columns.left(stay.after).saturating_sub(x);
         let y = lanes.place_top(stay.gear).saturating_add(2);
-        push_stay(text, stay, x, y, width)?;
+        if width > 0 {
+            push_stay(text, stay, x, y, width)?;
+        }
         if width > 14 {
             push_address(text, stay, x.saturating_add(3), y.saturating_add(11))?;
         }

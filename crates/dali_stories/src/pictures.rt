@@ -292,7 +292,7 @@ const RESULTS: [Wanted<'static>; 7] = [
             "<li class=\"good\">controller 0: <b><a href=\"#e244\">all-found</a></b>",
             "<p class=\"addressed good\"><b>addressed 1 of 1</b></p>",
             "<p>Nothing: no frame, answer or power was lost.</p>",
-            " id=\"e244\" tabindex=\"0\"><title>event 244: controller 0 heard silence, done: all-found",
+            " id=\"e244\" tabindex=\"0\" role=\"img\"><title>event 244: controller 0 heard silence, done: all-found",
             "\">all-found</text>",
         ],
     ),
@@ -382,7 +382,7 @@ const WRONG: [Wanted<'static>; 2] = [
             "line 5: answer lost (a gear had answered FF)",
             "line 7: answer lost (no gear had answered)",
             "line 9: answer damaged (no gear had answered)",
-            "id=\"e33\" tabindex=\"0\"><title>event 33: answer lost (a gear had answered FF); sent for",
+            "id=\"e33\" tabindex=\"0\" role=\"img\"><title>event 33: answer lost (a gear had answered FF); sent for",
         ],
     ),
     (
@@ -457,4 +457,23 @@ const OWNED: [Wanted<'static>; 1] = [(
 #[test]
 fn transactions_are_of_their_senders(rt: HostRuntime) -> Result<(), Fail> {
     have(&rt, &OWNED)
+}
+
+/// The second RANDOMISE of a pair is destroyed and reaches gear 0 alone, which draws; both draw when it is sent again;
+/// the initialisation of gear 1 runs out, and gear 0 loses its power.
+const STAYS: [Wanted<'static>; 1] = [(
+    "site 2 0-3\ndraws 111111 222222 333333\nrun 4\ngo 0\npump destroyed 0\nrun 5\nexpire 1\noff 0\n",
+    &[
+        "g=\"0\" x=\"94\" y=\"202\" width=\"20\" height=\"14\"><title>gear 0: on, enabled, random address 111111",
+        "g=\"1\" x=\"54\" y=\"220\" width=\"60\" height=\"14\"><title>gear 1: on, enabled, random address FFFFFF",
+        "g=\"0\" x=\"194\" y=\"202\" width=\"20\" height=\"14\"><title>gear 0: on, enabled, random address 222222",
+        "g=\"1\" x=\"194\" y=\"220\" width=\"10\" height=\"14\"><title>gear 1: on, enabled, random address 333333",
+        "g=\"1\" x=\"204\" y=\"220\" width=\"20\" height=\"14\"><title>gear 1: on, disabled, random address 333333",
+        "g=\"0\" x=\"214\" y=\"202\" width=\"10\" height=\"14\"><title>gear 0: off, enabled, random address 222222",
+    ],
+)];
+
+#[test]
+fn gear_show_what_they_took_and_drew(rt: HostRuntime) -> Result<(), Fail> {
+    have(&rt, &STAYS)
 }
