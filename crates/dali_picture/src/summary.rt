@@ -48,10 +48,17 @@ fn push_addressed(text: &mut String, picture: &Picture) -> Result<(), AllocError
     let end = at_end(picture);
     let addressed = addressed_in(end);
     let gear = end.len();
-    let class = if addressed == gear { "good" } else { "part" };
+    let (class, others) = if addressed == gear {
+        ("good", "")
+    } else {
+        (
+            "part",
+            "; <a href=\"#gear\">the others</a> stand out in the table",
+        )
+    };
     write!(
         text,
-        "<p class=\"addressed {class}\"><b>addressed {addressed} of {gear}</b></p>\n"
+        "<p class=\"addressed {class}\"><b>addressed {addressed} of {gear}</b>{others}</p>\n"
     )
 }
 

@@ -300,7 +300,7 @@ const RESULTS: [Wanted<'static>; 7] = [
         COMMISSIONED,
         &[
             "<li class=\"part\">controller 0: <b><a href=\"#e444\">block-full</a></b>",
-            "<p class=\"addressed part\"><b>addressed 1 of 2</b></p>",
+            "<p class=\"addressed part\"><b>addressed 1 of 2</b>; <a href=\"#gear\">the others</a>",
             "<use href=\"#full\" class=\"o\"",
             "<tr data-gear=\"0\"><td>0</td><td>0</td><td>on</td><td>disabled</td><td class=\"r\">123456</td></tr>",
             "<tr data-gear=\"1\" class=\"none\"><td>1</td><td>none</td>",
@@ -311,7 +311,7 @@ const RESULTS: [Wanted<'static>; 7] = [
         "site 1 0-3\ndraws 123456\ngo 0\npump\n",
         &[
             "<li class=\"part\">controller 0: <b>at work</b>",
-            "<p class=\"addressed part\"><b>addressed 0 of 1</b></p>",
+            "<p class=\"addressed part\"><b>addressed 0 of 1</b>; <a href=\"#gear\">",
         ],
     ),
     (
@@ -339,7 +339,7 @@ const RESULTS: [Wanted<'static>; 7] = [
     (
         BENCH,
         &[
-            "<ul class=\"ends\">\n</ul>\n<p class=\"addressed part\"><b>addressed 0 of 1</b></p>",
+            "<ul class=\"ends\">\n</ul>\n<p class=\"addressed part\"><b>addressed 0 of 1</b>; <a href=\"#gear\">",
             "<p>Frames: 6, <a href=\"#legend\">at least</a> 95 ms on the bus.",
         ],
     ),
