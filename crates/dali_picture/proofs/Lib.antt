@@ -1,1 +1,2 @@
 mod FoldLemmas
+mod TransactionLemmas

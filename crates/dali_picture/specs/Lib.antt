@@ -1,2 +1,6 @@
 pub mod Marks
 pub mod Folds
+pub mod Outcomes
+pub mod Incidents
+pub mod Clock
+pub mod Transactions

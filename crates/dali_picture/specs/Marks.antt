@@ -47,7 +47,7 @@ heard_look answer.Damaged = reply.Damaged
 abbrev pub order_look : Order → Look
 order_look (Put p f) = look.Asked (tone_of f)
 order_look (Commit x) = look.Commits x
-order_look (Done e) = look.Ended
+order_look (Done e) = look.Ended e
 order_look (Halt w) = look.Halted
 
 -- THE MARK OF AN EVENT: in the lane of whom it befalls, with a look of its own.

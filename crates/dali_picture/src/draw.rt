@@ -1,12 +1,13 @@
 //! A whole picture as SVG: lanes from top to bottom, events from left to right.
 
+use crate::clock::{bits_in, frames_in, milliseconds};
 use crate::folds::Fold;
 use crate::geometry::{AXIS_TOP, Columns, EVENT_WIDTH, FOLD_WIDTH, Lanes};
-use crate::mark::Look;
 use crate::picture::Picture;
 use crate::shapes::{
-    push_address, push_fold_bar, push_fold_count, push_line, push_mark, push_name, push_number,
-    push_only_name, push_owner, push_sender, push_stay, push_transaction_bar,
+    push_address, push_controller_name, push_end_name, push_fold_bar, push_fold_count,
+    push_gear_name, push_line, push_mark, push_number, push_only_name, push_owner, push_sender,
+    push_stay, push_struck_answer, push_transaction_bar,
 };
 use std::alloc::{AllocError, Global};
 
@@ -54,20 +55,34 @@ fn push_mark_at(
     columns: &Columns,
     lanes: &Lanes,
     at: usize,
+    is_place: bool,
 ) -> Result<(), AllocError> {
-    match (picture.marks.get(at), picture.played.log.get(at)) {
-        (Some(mark), Some(event)) => {
-            push_mark(
-                text,
-                *mark,
-                *event,
-                at,
-                columns.left(at),
-                lanes.top(mark.lane),
-            )
+    let (Some(mark), Some(event)) = (picture.marks.get(at), picture.played.log.get(at)) else {
+        return Ok(());
+    };
+    let x = columns.left(at);
+    let y = lanes.top(mark.lane);
+    push_mark(text, *mark, *event, at, x, y, is_place)?;
+    push_end_name(text, *event, x.saturating_add(10), y.saturating_add(25))
+}
+
+/// Boxes around the frames whose answers were lost or damaged.
+fn push_struck_answers(
+    text: &mut String,
+    picture: &Picture,
+    columns: &Columns,
+    lanes: &Lanes,
+    is_place: bool,
+) -> Result<(), AllocError> {
+    let y = lanes.bus_top().saturating_add(2);
+    let width = inner(columns).saturating_add(4);
+    for happened in &picture.incidents {
+        if let Some(event) = picture.played.log.get(happened.at) {
+            let x = columns.left(happened.at).saturating_sub(2);
+            push_struck_answer(text, happened, *event, x, y, width, is_place)?;
         }
-        _ => Ok(()),
     }
+    Ok(())
 }
 
 /// The marks of all events.
@@ -78,7 +93,7 @@ fn push_marks(
     lanes: &Lanes,
 ) -> Result<(), AllocError> {
     for at in 0..picture.marks.len() {
-        push_mark_at(text, picture, columns, lanes, at)?;
+        push_mark_at(text, picture, columns, lanes, at, false)?;
     }
     Ok(())
 }
@@ -163,7 +178,7 @@ fn push_folds(
 ) -> Result<(), AllocError> {
     for fold in &picture.folds {
         if fold.after == fold.first.saturating_add(1) {
-            push_mark_at(text, picture, columns, lanes, fold.first)?;
+            push_mark_at(text, picture, columns, lanes, fold.first, true)?;
         } else {
             push_many(text, fold, columns, lanes)?;
         }
@@ -178,11 +193,13 @@ fn push_stays(
     columns: &Columns,
     lanes: &Lanes,
 ) -> Result<(), AllocError> {
-    for stay in &picture.stays {
+    for stay in &picture.watched.stays {
         let x = columns.left(stay.first);
         let width = columns.left(stay.after).saturating_sub(x);
         let y = lanes.place_top(stay.gear).saturating_add(2);
-        push_stay(text, stay, x, y, width)?;
+        if width > 0 {
+            push_stay(text, stay, x, y, width)?;
+        }
         if width > 14 {
             push_address(text, stay, x.saturating_add(3), y.saturating_add(11))?;
         }
@@ -209,23 +226,20 @@ fn push_lines(text: &mut String, picture: &Picture, columns: &Columns) -> Result
     Ok(())
 }
 
-/// Whether a mark is a frame on the bus.
-fn is_frame(look: Look) -> bool {
-    matches!(look, Look::Sent(..) | Look::Destroyed | Look::Collided)
-}
-
-/// The numbers of the frames, along the axis.
+/// The numbers of the frames, and the time at their ends, along the axis.
 fn push_axis(text: &mut String, picture: &Picture, columns: &Columns) -> Result<(), AllocError> {
     let mut next: u64 = 0;
-    let mut frames: u32 = 0;
-    for (at, mark) in picture.marks.iter().enumerate() {
-        if is_frame(mark.look) {
-            frames = frames.saturating_add(1);
-            let x = columns.left(at);
-            if x >= next {
-                push_number(text, frames, x, AXIS_TOP.saturating_add(11))?;
-                next = x.saturating_add(40);
-            }
+    let mut frames: u64 = 0;
+    let mut bits: u64 = 0;
+    for (at, event) in picture.played.log.iter().enumerate() {
+        let frame = frames_in(*event);
+        frames = frames.saturating_add(frame);
+        bits = bits.saturating_add(bits_in(*event));
+        let x = columns.left(at);
+        if frame > 0 && x >= next {
+            push_number(text, frames, x, AXIS_TOP.saturating_add(11))?;
+            push_number(text, milliseconds(bits), x, AXIS_TOP.saturating_add(23))?;
+            next = x.saturating_add(40);
         }
     }
     Ok(())
@@ -235,22 +249,13 @@ fn push_axis(text: &mut String, picture: &Picture, columns: &Columns) -> Result<
 fn push_names(text: &mut String, lanes: &Lanes) -> Result<(), AllocError> {
     push_only_name(text, "script", AXIS_TOP.saturating_sub(40))?;
     push_only_name(text, "frame", AXIS_TOP.saturating_add(11))?;
+    push_only_name(text, "ms", AXIS_TOP.saturating_add(23))?;
     for c in 0..lanes.controllers {
-        push_name(
-            text,
-            "controller",
-            u32::from(c),
-            lanes.controller_top(c).saturating_add(16),
-        )?;
+        push_controller_name(text, c, lanes.controller_top(c).saturating_add(16))?;
     }
     push_only_name(text, "bus", lanes.bus_top().saturating_add(20))?;
     for number in 0..lanes.gear {
-        push_name(
-            text,
-            "gear",
-            number,
-            lanes.gear_top(number).saturating_add(13),
-        )?;
+        push_gear_name(text, number, lanes.gear_top(number).saturating_add(13))?;
     }
     Ok(())
 }
@@ -266,7 +271,8 @@ pub fn lanes_of(picture: &Picture) -> Lanes {
 fn push_open(text: &mut String, class: &str, width: u64, height: u64) -> Result<(), AllocError> {
     write!(
         text,
-        "<svg class=\"{class}\" xmlns=\"http://www.w3.org/2000/svg\" width=\"{width}\" height=\"{height}\">\n"
+        "<svg class=\"{class}\" xmlns=\"http://www.w3.org/2000/svg\" viewBox=\"0 0 {width} {height}\" \
+         width=\"{width}\" height=\"{height}\">\n"
     )
 }
 
@@ -278,13 +284,20 @@ fn push_common(text: &mut String, picture: &Picture, columns: &Columns) -> Resul
 }
 
 /// The names beside a picture, and the begin of the picture.
-fn push_begin(text: &mut String, picture: &Picture, columns: &Columns) -> Result<(), AllocError> {
+fn push_begin(
+    text: &mut String,
+    picture: &Picture,
+    columns: &Columns,
+    label: &str,
+) -> Result<(), AllocError> {
     let lanes = lanes_of(picture);
     let height = lanes.height();
     text.push_str("<div class=\"run\">\n")?;
     push_open(text, "names", 90, height)?;
     push_names(text, &lanes)?;
-    text.push_str("</svg>\n<div class=\"scroll\">\n")?;
+    text.push_str("</svg>\n<div class=\"scroll\" tabindex=\"0\" role=\"group\" aria-label=\"")?;
+    text.push_str(label)?;
+    text.push_str("; arrow keys go from mark to mark\">\n")?;
     push_open(text, "marks", columns.end(), height)
 }
 
@@ -295,10 +308,11 @@ pub fn push_long(
     columns: &Columns,
 ) -> Result<(), AllocError> {
     let lanes = lanes_of(picture);
-    push_begin(text, picture, columns)?;
+    push_begin(text, picture, columns, "Every event of the run")?;
     push_common(text, picture, columns)?;
     push_transactions(text, picture, columns, &lanes)?;
     push_marks(text, picture, columns, &lanes)?;
+    push_struck_answers(text, picture, columns, &lanes, false)?;
     text.push_str("</svg>\n</div>\n</div>\n")
 }
 
@@ -308,8 +322,9 @@ pub fn push_short_picture(
     picture: &Picture,
     columns: &Columns,
 ) -> Result<(), AllocError> {
-    push_begin(text, picture, columns)?;
+    push_begin(text, picture, columns, "The run in short")?;
     push_common(text, picture, columns)?;
     push_folds(text, picture, columns, &lanes_of(picture))?;
+    push_struck_answers(text, picture, columns, &lanes_of(picture), true)?;
     text.push_str("</svg>\n</div>\n</div>\n")
 }

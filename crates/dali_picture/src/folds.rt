@@ -1,7 +1,8 @@
 //! The folds of a log: what is drawn in one column of a short picture.
 
-ghost use Rattle.std.specs.Prelude.{◌≡◌, ◌≤◌, length, IfOk};
-ghost use Rattle.dali_picture.specs.Folds.{AreFolds};
+ghost use Rattle.std.specs.Prelude.{◌≡◌, ◌≤◌, ◌<◌, ◌+◌, List, length, IfOk};
+ghost use Rattle.dali_picture.specs.declared.mark.Mark.{Mark};
+ghost use Rattle.dali_picture.specs.Folds.{AreFolds, frames_on, HasItsFrames, HaveTheirFrames};
 
 use crate::mark::{Look, Mark};
 use crate::transactions::{Purpose, Transaction};
@@ -25,7 +26,7 @@ pub struct Fold {
     pub after: usize,
     pub held: Held,
     /// How many frames it has, and how many transactions began in it.
-    pub frames: u32,
+    pub frames: u64,
     pub transactions: u32,
     /// The controllers that sent frames in it: controller c is the bit of value 2^c.
     pub senders: u8,
@@ -67,6 +68,7 @@ impl Fold {
     fn empty(at: usize) -> Fold
         ensures first { result.first ≡ at }
         ensures after { result.after ≡ at }
+        ensures frames { result.frames ≡ 0 }
     {
         Fold {
             first: at,
@@ -90,27 +92,56 @@ impl Fold {
         }
     }
 
-    /// With the event that follows.
-    fn with(self, part: Part, after: usize) -> Fold
+    /// With the event that follows, which shows so many frames.
+    fn with(self, part: Part, frames: u64, after: usize) -> Fold
+        requires { self.frames + frames ≤ after }
         ensures first { result.first ≡ self.first }
         ensures after { result.after ≡ after }
+        ensures frames { result.frames ≡ self.frames + frames }
     {
+        let frames = self.frames + frames;
         match part {
-            Part::Order => Fold { after, ..self },
+            Part::Order => Fold {
+                after,
+                frames,
+                ..self
+            },
             Part::Alone => Fold {
                 after,
                 held: Held::Alone,
+                frames,
                 ..self
             },
             Part::Frame(transaction, is_first) => Fold {
                 after,
                 held: Held::Frames(transaction.purpose),
-                frames: self.frames.saturating_add(1),
+                frames,
                 transactions: self.transactions.saturating_add(u32::from(is_first)),
                 senders: self.senders | bit_of(transaction.sender),
                 ..self
             },
         }
+    }
+}
+
+/// How many frames a mark shows: one, where it is a frame on the bus.
+fn frames_on(look: Look) -> u64
+    ensures value { result ≡ frames_on look }
+    ensures most { result ≤ 1 }
+{
+    match look {
+        Look::Sent(..) | Look::Destroyed | Look::Collided => 1,
+        Look::Asked(_)
+        | Look::Commits(_)
+        | Look::Ended(_)
+        | Look::Halted
+        | Look::Lapsed
+        | Look::Quiet
+        | Look::PowerOff
+        | Look::PowerOn
+        | Look::Expired
+        | Look::Down
+        | Look::Up => 0,
     }
 }
 
@@ -136,7 +167,9 @@ fn from_place(transactions: &[Transaction], at: usize) -> &[Transaction] {
 /// Keeps a fold, if it has events.
 fn keep(folds: &mut Vec<Fold>, fold: Fold) -> Result<(), AllocError>
     requires { fold.first ≤ fold.after }
-    ensures { IfOk result (λ _. AreFolds folds.old.items fold.first → AreFolds folds.new.items fold.after) }
+    ensures folds { IfOk result (λ _. AreFolds folds.old.items fold.first → AreFolds folds.new.items fold.after) }
+    ensures frames { IfOk result (λ _. (marks : List Mark) → HaveTheirFrames marks folds.old.items
+        → HasItsFrames marks fold → HaveTheirFrames marks folds.new.items) }
 {
     if fold.first < fold.after {
         folds.push(fold)?;
@@ -144,13 +177,14 @@ fn keep(folds: &mut Vec<Fold>, fold: Fold) -> Result<(), AllocError>
     Ok(())
 }
 
-/// The folds of these marks: each event stands in one of them, in its order.
+/// The folds of these marks: each event stands in one of them, in its order, and each fold counts its own frames.
 pub fn folds_of(
     alloc: Global,
     marks: &[Mark],
     transactions: &[Transaction],
 ) -> Result<Vec<Fold>, AllocError>
-    ensures { IfOk result (λ folds. AreFolds folds.items (length marks.now)) }
+    ensures folds { IfOk result (λ folds. AreFolds folds.items (length marks.now)) }
+    ensures frames { IfOk result (λ folds. HaveTheirFrames marks.now folds.items) }
 {
     let mut folds = Vec::new(alloc);
     let mut fold = Fold::empty(0);
@@ -158,12 +192,12 @@ pub fn folds_of(
     for at in 0..marks.len() {
         left = from_place(left, at);
         let part = part_of(marks[at], at, left);
-        if fold.takes(part) {
-            fold = fold.with(part, at + 1);
-        } else {
+        let frames = frames_on(marks[at].look);
+        if !fold.takes(part) {
             keep(&mut folds, fold)?;
-            fold = Fold::empty(at).with(part, at + 1);
+            fold = Fold::empty(at);
         }
+        fold = fold.with(part, frames, at + 1);
     }
     keep(&mut folds, fold)?;
     Ok(folds)

@@ -8,10 +8,11 @@ use crate::mark::Lane;
 pub const EVENT_WIDTH: u8 = 10;
 
 pub const FOLD_WIDTH: u8 = 22;
-/// The height of the lane with the lines of the script, where the numbers of frames stand, and of one lane each.
+/// The heights of the lane with the lines of the script, of the two with the numbers of frames and the time, and of one
+/// lane each.
 const SCRIPT_HEIGHT: u64 = 110;
 
-const AXIS_HEIGHT: u64 = 16;
+const AXIS_HEIGHT: u64 = 28;
 
 const CONTROLLER_HEIGHT: u64 = 26;
 
@@ -26,7 +27,7 @@ pub struct Lanes {
     pub gear: u32,
 }
 
-/// The top of the lanes with the numbers of frames, and of the first controller.
+/// The top of the lane with the numbers of frames, and of the first controller.
 pub const AXIS_TOP: u64 = SCRIPT_HEIGHT;
 
 const CONTROLLERS_TOP: u64 = SCRIPT_HEIGHT + AXIS_HEIGHT;
@@ -34,21 +35,21 @@ const CONTROLLERS_TOP: u64 = SCRIPT_HEIGHT + AXIS_HEIGHT;
 impl Lanes {
     /// The top of the lane of controller c, in pixels from the top of the picture.
     pub fn controller_top(&self, c: u8) -> u64
-        ensures { result ≡ 126 + 26 * c }
+        ensures { result ≡ 138 + 26 * c }
     {
         CONTROLLERS_TOP + u64::from(c) * CONTROLLER_HEIGHT
     }
 
     /// The top of the lane of the bus, in pixels: it stands below those of the controllers.
     pub fn bus_top(&self) -> u64
-        ensures { result ≡ 126 + 26 * self.now.controllers }
+        ensures { result ≡ 138 + 26 * self.now.controllers }
     {
         self.controller_top(self.controllers)
     }
 
     /// The top of the lane of the gear with this number, in pixels: the lanes of the gear stand below that of the bus.
     pub fn gear_top(&self, number: u32) -> u64
-        ensures { result ≡ 162 + 26 * self.now.controllers + 18 * number }
+        ensures { result ≡ 174 + 26 * self.now.controllers + 18 * number }
     {
         self.bus_top() + BUS_HEIGHT + u64::from(number) * GEAR_HEIGHT
     }

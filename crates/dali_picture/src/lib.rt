@@ -4,21 +4,31 @@
 //! short picture shows several events; and with the transactions, and what each gear shows for how long.
 #![tactic(auto)]
 
+mod behaviour;
+mod clock;
 mod draw;
 mod folds;
+mod gear_table;
 mod geometry;
+mod incidents;
 mod mark;
+mod outcomes;
 mod page;
 mod picture;
+mod script_list;
 mod shapes;
 mod stays;
 mod streams;
+mod style;
+mod summary;
 mod transactions;
 mod words;
 
 pub use folds::{Fold, Held};
+pub use incidents::{Happened, Incident};
 pub use mark::{Lane, Look, Mark, Reply, Tone, mark_of, marks_of, tone_of};
+pub use outcomes::{Outcome, outcome_of};
 pub use picture::Picture;
-pub use stays::{Shown, Stay};
+pub use stays::{Shown, Stay, Unheard, Watched};
 pub use streams::{draw_run, draw_streams};
 pub use transactions::{Purpose, Transaction};

@@ -4,7 +4,7 @@ ghost use Rattle.std.specs.Prelude.{◌≡◌, ◌++◌, ◌∷◌, [], map, IfO
 ghost use Rattle.dali_picture.specs.Marks.{tone_of, heard_look, order_look, mark_of};
 
 use dali_frame::{Answer, Forward};
-use dali_script::{Order, Record};
+use dali_script::{End, Order, Record};
 use dali_special::Command;
 use dali_world::Event;
 use std::alloc::{AllocError, Global};
@@ -56,8 +56,8 @@ pub enum Look {
     Asked(Tone),
     /// This record is to be kept.
     Commits(Record),
-    /// A commissioning ended.
-    Ended,
+    /// A commissioning ended so.
+    Ended(End),
     /// A machine halted.
     Halted,
     /// A frame was sent, and this was heard.
@@ -131,7 +131,7 @@ fn order_look(order: Order) -> Look
     match order {
         Order::Put(_, frame) => Look::Asked(tone_of(frame)),
         Order::Commit(record) => Look::Commits(record),
-        Order::Done(_) => Look::Ended,
+        Order::Done(end) => Look::Ended(end),
         Order::Halt(_) => Look::Halted,
     }
 }

@@ -4,11 +4,13 @@ ghost use Rattle.std.specs.Prelude.{◌≡◌, length, map, IfOk};
 ghost use Rattle.dali_replay.specs.Replay.{setting_of};
 ghost use Rattle.dali_replay.specs.Played.{IsPlayedBy};
 ghost use Rattle.dali_picture.specs.Marks.{mark_of};
-ghost use Rattle.dali_picture.specs.Folds.{AreFolds};
+ghost use Rattle.dali_picture.specs.Folds.{AreFolds, HaveTheirFrames};
+ghost use Rattle.dali_picture.specs.Transactions.{owned, senders_of};
 
 use crate::folds::{Fold, folds_of};
+use crate::incidents::{Happened, incidents_of};
 use crate::mark::{Mark, marks_of};
-use crate::stays::{Stay, stays_of};
+use crate::stays::{Watched, watch_over};
 use crate::transactions::{Transaction, transactions_of};
 use dali_replay::{INPUT_LIMIT, Played, ReplayFault};
 use std::alloc::{AllocError, Global};
@@ -22,7 +24,9 @@ pub struct Picture<'a> {
     /// What stands in one column of the short picture: each event in one of them, in their order.
     pub folds: Vec<Fold>,
     pub transactions: Vec<Transaction>,
-    pub stays: Vec<Stay>,
+    pub watched: Watched,
+    /// What went wrong, in the order of the log.
+    pub incidents: Vec<Happened>,
 }
 
 impl<'a> Picture<'a> {
@@ -33,6 +37,9 @@ impl<'a> Picture<'a> {
         ensures played { IfOk result (λ picture. IsPlayedBy (setting_of input.entry.now) picture.played) }
         ensures marks { IfOk result (λ picture. picture.marks.items ≡ map mark_of picture.played.log.items) }
         ensures folds { IfOk result (λ picture. AreFolds picture.folds.items (length picture.played.log.items)) }
+        ensures frames { IfOk result (λ picture. HaveTheirFrames picture.marks.items picture.folds.items) }
+        ensures transactions { IfOk result (λ picture.
+            owned picture.transactions.items ≡ senders_of picture.played.log.items) }
     {
         if input.len() > INPUT_LIMIT {
             return Err(ReplayFault::Read);
@@ -46,6 +53,9 @@ impl<'a> Picture<'a> {
         ensures played { IfOk result (λ picture. picture.played ≡ played.entry) }
         ensures marks { IfOk result (λ picture. picture.marks.items ≡ map mark_of played.entry.log.items) }
         ensures folds { IfOk result (λ picture. AreFolds picture.folds.items (length played.entry.log.items)) }
+        ensures frames { IfOk result (λ picture. HaveTheirFrames picture.marks.items picture.folds.items) }
+        ensures transactions { IfOk result (λ picture.
+            owned picture.transactions.items ≡ senders_of picture.played.log.items) }
     {
         let marks = marks_of(alloc, &played.log)?;
         let transactions = transactions_of(alloc, &played.log)?;
@@ -55,13 +65,15 @@ impl<'a> Picture<'a> {
         } else {
             128
         };
-        let stays = stays_of(alloc, gear, &played.used, &played.draws, &played.log)?;
+        let watched = watch_over(alloc, gear, &played.used, &played.draws, &played.log)?;
+        let incidents = incidents_of(alloc, &played.lines, &played.log, &watched.unheard)?;
         Ok(Picture {
             played,
             marks,
             folds,
             transactions,
-            stays,
+            watched,
+            incidents,
         })
     }
 }

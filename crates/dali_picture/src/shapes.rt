@@ -1,12 +1,15 @@
 //! The marks, bars and texts of a picture, as elements of SVG.
 
 use crate::folds::{Fold, Held};
-use crate::mark::{Look, Mark, Reply, Tone};
+use crate::incidents::{Happened, Incident};
+use crate::mark::{Lane, Look, Mark, Reply, Tone};
 use crate::stays::{Shown, Stay};
 use crate::transactions::{Purpose, Transaction};
-use crate::words::{push_event, push_fold, push_plain, push_short, push_shown, push_transaction};
+use crate::words::{
+    push_event, push_fold, push_plain, push_short, push_shown, push_transaction, push_unheard,
+};
 use dali_gear::InitialisationState;
-use dali_script::Record;
+use dali_script::{End, Order, Record};
 use dali_world::Event;
 use std::alloc::AllocError;
 
@@ -48,8 +51,9 @@ fn shape_of(look: Look) -> (&'static str, &'static str, &'static str) {
         Look::Asked(tone) => ("ask", tone_class(tone), ""),
         Look::Sent(tone, reply) => ("frame", tone_class(tone), reply_class(reply)),
         Look::Commits(record) => ("commit", record_class(record), ""),
-        Look::Ended => ("end", "e", ""),
-        Look::Halted => ("end", "h", ""),
+        Look::Ended(End::AllFound) => ("end", "e", ""),
+        Look::Ended(End::BlockFull) => ("full", "o", ""),
+        Look::Ended(End::GaveUp) | Look::Halted => ("stop", "h", ""),
         Look::Destroyed => ("struck", "h", ""),
         Look::Collided => ("struck", "c", ""),
         Look::Lapsed => ("gap", "h", ""),
@@ -66,11 +70,27 @@ fn push_use(text: &mut String, look: Look, x: u64, y: u64) -> Result<(), AllocEr
     let (shape, class, more) = shape_of(look);
     write!(
         text,
-        "<use href=\"#{shape}\" class=\"{class}{more}\" x=\"{x}\" y=\"{y}\"><title>"
+        "<use href=\"#{shape}\" class=\"{class}{more}\" x=\"{x}\" y=\"{y}\""
     )
 }
 
-/// The mark of an event, with the event as its hover text.
+/// The name of an event's place in the short picture, where a link leads to it and the tab key stops.
+fn push_place(text: &mut String, at: usize, is_place: bool) -> Result<(), AllocError> {
+    if !is_place {
+        return Ok(());
+    }
+    write!(text, " id=\"e{at}\" tabindex=\"0\" role=\"img\"")
+}
+
+/// That something stands in the lane of a gear.
+fn push_in_lane(text: &mut String, lane: Lane) -> Result<(), AllocError> {
+    match lane {
+        Lane::Gear(number) => write!(text, " data-g=\"{number}\""),
+        Lane::Controller(_) | Lane::Bus => Ok(()),
+    }
+}
+
+/// The mark of an event, with the event as its title. In the short picture it is a place to which links lead.
 pub fn push_mark(
     text: &mut String,
     mark: Mark,
@@ -78,11 +98,56 @@ pub fn push_mark(
     at: usize,
     x: u64,
     y: u64,
+    is_place: bool,
 ) -> Result<(), AllocError> {
     push_use(text, mark.look, x, y)?;
-    write!(text, "event {at}: ")?;
+    push_place(text, at, is_place)?;
+    push_in_lane(text, mark.lane)?;
+    write!(text, "><title>event {at}: ")?;
     push_event(text, event)?;
     text.push_str("</title></use>\n")
+}
+
+/// The name of an end, beside its mark.
+pub fn push_end_name(text: &mut String, event: Event, x: u64, y: u64) -> Result<(), AllocError> {
+    let (before, name) = match event {
+        Event::Acted(_, _, Order::Done(end)) => ("", end.name()),
+        Event::Acted(_, _, Order::Halt(fault)) => ("halt ", fault.name()),
+        _ => return Ok(()),
+    };
+    write!(
+        text,
+        "<text class=\"v\" x=\"{x}\" y=\"{y}\">{before}{name}</text>\n"
+    )
+}
+
+/// A box around a frame whose answer was lost or damaged, with the whole event as its title.
+pub fn push_struck_answer(
+    text: &mut String,
+    happened: &Happened,
+    event: Event,
+    x: u64,
+    y: u64,
+    width: u64,
+    is_place: bool,
+) -> Result<(), AllocError> {
+    let (class, name) = match (happened.incident, happened.unheard) {
+        (Incident::Lost, None) => ("lost idle", "answer lost"),
+        (Incident::Lost, Some(_)) => ("lost", "answer lost"),
+        (Incident::Noise, _) => ("noise", "answer damaged"),
+        _ => return Ok(()),
+    };
+    let at = happened.at;
+    write!(
+        text,
+        "<path class=\"{class}\" d=\"M{x} {y}h{width}v25h-{width}z\""
+    )?;
+    push_place(text, at, is_place)?;
+    write!(text, "><title>event {at}: {name}")?;
+    push_unheard(text, happened.incident, happened.unheard)?;
+    text.push_str("; ")?;
+    push_event(text, event)?;
+    text.push_str("</title></path>\n")
 }
 
 /// The class of transactions for this.
@@ -202,14 +267,23 @@ pub fn push_stay(
     y: u64,
     width: u64,
 ) -> Result<(), AllocError> {
-    push_bar(text, shown_class(&stay.shown), x, y, width, 14)?;
+    let class = shown_class(&stay.shown);
+    let gear = stay.gear;
+    write!(
+        text,
+        "<rect class=\"bar {class}\" data-g=\"{gear}\" x=\"{x}\" y=\"{y}\" width=\"{width}\" height=\"14\"><title>"
+    )?;
     push_shown(text, stay.gear, &stay.shown)?;
     text.push_str("</title></rect>\n")
 }
 
 /// The short address of a gear, on its bar.
 pub fn push_address(text: &mut String, stay: &Stay, x: u64, y: u64) -> Result<(), AllocError> {
-    write!(text, "<text class=\"a\" x=\"{x}\" y=\"{y}\">")?;
+    let gear = stay.gear;
+    write!(
+        text,
+        "<text class=\"a\" data-g=\"{gear}\" x=\"{x}\" y=\"{y}\">"
+    )?;
     push_short(text, stay.shown.short)?;
     text.push_str("</text>\n")
 }
@@ -230,17 +304,25 @@ pub fn push_line(
     write!(text, "<title>line {number}</title></text>\n")
 }
 
-/// A number on the axis.
-pub fn push_number(text: &mut String, number: u32, x: u64, y: u64) -> Result<(), AllocError> {
+/// A number on an axis.
+pub fn push_number(text: &mut String, number: u64, x: u64, y: u64) -> Result<(), AllocError> {
     write!(
         text,
         "<text class=\"f\" x=\"{x}\" y=\"{y}\">{number}</text>\n"
     )
 }
 
-/// The name of a lane.
-pub fn push_name(text: &mut String, name: &str, number: u32, y: u64) -> Result<(), AllocError> {
-    write!(text, "<text x=\"4\" y=\"{y}\">{name} {number}</text>\n")
+/// The name of the lane of a controller.
+pub fn push_controller_name(text: &mut String, c: u8, y: u64) -> Result<(), AllocError> {
+    write!(text, "<text x=\"4\" y=\"{y}\">controller {c}</text>\n")
+}
+
+/// The name of the lane of a gear.
+pub fn push_gear_name(text: &mut String, number: u32, y: u64) -> Result<(), AllocError> {
+    write!(
+        text,
+        "<text x=\"4\" y=\"{y}\" data-g=\"{number}\">gear {number}</text>\n"
+    )
 }
 
 /// The name of a lane of which there is one.

@@ -1,10 +1,10 @@
-//! What the gear of a run show, and for how long.
+//! What the gear of a run show, and for how long; and what they answered where something else was heard.
 
 ghost use Rattle.std.specs.Prelude.{◌≡◌, ◌<◌, ◌≤◌, true, All};
 ghost use Rattle.dali_frame.specs.Random.{MASK24};
 
-use dali_frame::{Forward, Random24, Short};
-use dali_gear::{Gear, InitialisationState, Reach, Row};
+use dali_frame::{Answer, Forward, Random24, Short};
+use dali_gear::{Gear, Heard, InitialisationState, Reach, Row};
 use dali_special::Command;
 use dali_world::{Event, Used};
 use std::alloc::{AllocError, Global};
@@ -46,6 +46,20 @@ pub struct Stay {
     pub shown: Shown,
 }
 
+/// What gear answered to the frame of the event at a place of the log, where something else was heard.
+#[derive(Clone, Copy)]
+pub struct Unheard {
+    pub at: usize,
+    pub answer: Answer,
+}
+
+/// What became of the gear in a run.
+#[derive(Drop)]
+pub struct Watched {
+    pub stays: Vec<Stay>,
+    pub unheard: Vec<Unheard>,
+}
+
 /// The gear of a run at one moment, what each shows and since when, and how many numbers were drawn.
 #[derive(Drop)]
 struct Watch<'a> {
@@ -67,14 +81,33 @@ fn are_drawn(draws: &[Random24]) -> bool
     true
 }
 
-/// The gear take a frame. How many numbers they draw: none, where too few are left, as never in a run that was played.
-fn take(gear: &mut Row, frame: Forward, reach: &Reach, left: &[Random24]) -> usize {
+/// The gear take a frame. Nothing comes of it where too few numbers are left, as never in a run that was played.
+fn take(gear: &mut Row, frame: Forward, reach: &Reach, left: &[Random24]) -> Heard {
     let command = Command::read(frame);
     let needed = gear.draws_needed(&command, *reach);
     if needed > left.len() || !are_drawn(left) {
-        return 0;
+        return Heard {
+            drawn: 0,
+            answer: Answer::Silence,
+        };
     }
-    gear.take(&command, *reach, left).drawn
+    gear.take(&command, *reach, left)
+}
+
+/// Notes what gear answered, if something else was heard.
+fn note_answer(
+    unheard: &mut Vec<Unheard>,
+    at: usize,
+    event: Event,
+    answer: Answer,
+) -> Result<(), AllocError> {
+    match event {
+        Event::Sent(_, _, heard) if heard != answer => {
+            unheard.push(Unheard { at, answer })?;
+            Ok(())
+        }
+        _ => Ok(()),
+    }
 }
 
 /// The numbers that are left where a frame makes gear draw; else none, so that nobody goes over them.
@@ -107,18 +140,19 @@ fn expire(gear: &mut Row, number: u32) {
 }
 
 impl Watch<'_> {
-    /// A frame reaches gear.
-    fn reached(&mut self, frame: Forward, reach: Reach) {
+    /// A frame reaches gear. What they answer.
+    fn reached(&mut self, frame: Forward, reach: Reach) -> Answer {
         let left = left_for(self.draws, self.drawn, frame);
-        let drawn = take(&mut self.gear, frame, &reach, left);
-        self.drawn = self.drawn.saturating_add(drawn);
+        let heard = take(&mut self.gear, frame, &reach, left);
+        self.drawn = self.drawn.saturating_add(heard.drawn);
+        heard.answer
     }
 
-    /// An event befalls the gear.
-    fn befall(&mut self, event: Event) {
+    /// An event befalls the gear. What they answer to its frame.
+    fn befall(&mut self, event: Event) -> Answer {
         match event {
-            Event::Sent(_, frame, _) => self.reached(frame, Reach::Everyone),
-            Event::Destroyed(_, frame, set) => self.reached(frame, Reach::Only(set)),
+            Event::Sent(_, frame, _) => return self.reached(frame, Reach::Everyone),
+            Event::Destroyed(_, frame, set) => return self.reached(frame, Reach::Only(set)),
             Event::Power(number, on) => power(&mut self.gear, number, on),
             Event::Expired(number) => expire(&mut self.gear, number),
             Event::Quiet => self.gear.quiet(),
@@ -129,6 +163,7 @@ impl Watch<'_> {
             | Event::Down(_)
             | Event::Up(..) => {}
         }
+        Answer::Silence
     }
 
     /// Notes whom the event at a place has changed.
@@ -197,15 +232,15 @@ fn place(gear: &mut Row, used: &[Used]) {
     }
 }
 
-/// What so many gear showed while this happened, in which they drew of these numbers. All but the used ones come from
-/// the factory.
-pub fn stays_of(
+/// What so many gear showed while this happened, in which they drew of these numbers, and what they answered unheard.
+/// All but the used ones come from the factory.
+pub fn watch_over(
     alloc: Global,
     gear: usize,
     used: &[Used],
     draws: &[Random24],
     log: &[Event],
-) -> Result<Vec<Stay>, AllocError>
+) -> Result<Watched, AllocError>
     requires { gear ≤ 128 }
 {
     let mut gear = Row::new(gear);
@@ -218,12 +253,14 @@ pub fn stays_of(
         since,
     };
     let mut stays = Vec::new(alloc);
+    let mut unheard = Vec::new(alloc);
     for (at, event) in log.iter().enumerate() {
-        watch.befall(*event);
+        let answer = watch.befall(*event);
+        note_answer(&mut unheard, at, *event, answer)?;
         if is_felt(*event) {
             watch.note(&mut stays, at)?;
         }
     }
     watch.end(&mut stays, log.len())?;
-    Ok(stays)
+    Ok(Watched { stays, unheard })
 }

@@ -1,5 +1,8 @@
 //! The transactions of a log: which frames belong together, and what they are for.
 
+ghost use Rattle.std.specs.Prelude.{◌≡◌, ◌<◌, ◌+◌, ◌++◌, true, IfOk};
+ghost use Rattle.dali_picture.specs.Transactions.{senders_of, owned, owned_by, IsOf};
+
 use dali_frame::Forward;
 use dali_special::{Command, Part};
 use dali_world::Event;
@@ -44,11 +47,13 @@ pub struct Transaction {
     pub first: usize,
     pub last: usize,
     /// How many frames it has.
-    pub frames: u32,
+    pub frames: u64,
 }
 
 /// The frame that came on the bus by an event, and its sender. Of two that collided neither counts.
-pub fn frame_of(event: Event) -> Option<(u8, Forward)> {
+pub fn frame_of(event: Event) -> Option<(u8, Forward)>
+    ensures { IsOf result event }
+{
     match event {
         Event::Sent(c, frame, _) | Event::Destroyed(c, frame, _) => Some((c, frame)),
         Event::Acted(..)
@@ -128,7 +133,10 @@ fn visited(purpose: Purpose) -> Purpose {
 
 impl Transaction {
     /// A transaction of one frame, at a place of the log.
-    fn begun(sender: u8, frame: Forward, at: usize) -> Transaction {
+    fn begun(sender: u8, frame: Forward, at: usize) -> Transaction
+        ensures sender { result.sender ≡ sender }
+        ensures frames { result.frames ≡ 1 }
+    {
         Transaction {
             sender,
             purpose: purpose_after(Purpose::Other, frame),
@@ -139,7 +147,11 @@ impl Transaction {
     }
 
     /// With one more frame.
-    fn with(self, frame: Forward, at: usize) -> Transaction {
+    fn with(self, frame: Forward, at: usize) -> Transaction
+        requires { self.frames < 18446744073709551615 }
+        ensures sender { result.sender ≡ self.sender }
+        ensures frames { result.frames ≡ self.frames + 1 }
+    {
         let purpose = if self.begins_hunt(frame) {
             Purpose::Hunt
         } else {
@@ -148,7 +160,7 @@ impl Transaction {
         Transaction {
             purpose,
             last: at,
-            frames: self.frames.saturating_add(1),
+            frames: self.frames + 1,
             ..self
         }
     }
@@ -166,14 +178,18 @@ impl Transaction {
     }
 
     /// Whether a frame of this sender goes on with it. Nothing follows direct arc power.
-    fn goes_on(&self, sender: u8, frame: Forward) -> bool {
+    fn goes_on(&self, sender: u8, frame: Forward) -> bool
+        ensures { result ≡ true → self.now.sender ≡ sender }
+    {
         let is_over = matches!(self.purpose, Purpose::Other);
         !is_over && self.sender == sender && (!is_first(frame) || self.hunts_on(frame))
     }
 }
 
 /// Keeps a transaction, if it has frames.
-fn keep(kept: &mut Vec<Transaction>, running: Transaction) -> Result<(), AllocError> {
+fn keep(kept: &mut Vec<Transaction>, running: Transaction) -> Result<(), AllocError>
+    ensures { IfOk result (λ _. owned kept.new.items ≡ owned kept.old.items ++ owned_by running) }
+{
     if running.frames > 0 {
         kept.push(running)?;
     }
@@ -181,7 +197,9 @@ fn keep(kept: &mut Vec<Transaction>, running: Transaction) -> Result<(), AllocEr
 }
 
 /// The transactions of a log, in their order.
-pub fn transactions_of(alloc: Global, log: &[Event]) -> Result<Vec<Transaction>, AllocError> {
+pub fn transactions_of(alloc: Global, log: &[Event]) -> Result<Vec<Transaction>, AllocError>
+    ensures { IfOk result (λ transactions. owned transactions.items ≡ senders_of log.now) }
+{
     let mut kept = Vec::new(alloc);
     let mut running = Transaction::default();
     for (at, event) in log.iter().enumerate() {

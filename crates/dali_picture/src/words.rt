@@ -1,11 +1,13 @@
 //! What is said of an event, of a frame and of a gear.
 
 use crate::folds::{Fold, Held};
+use crate::incidents::Incident;
+use crate::outcomes::Outcome;
 use crate::stays::Shown;
 use crate::transactions::{Purpose, Transaction};
 use dali_frame::{Answer, Forward, Short};
 use dali_gear::{GearSet, InitialisationState, Reach};
-use dali_script::{Input, Order, Record};
+use dali_script::{End, Fault, Input, Order, Record};
 use dali_special::{Command, Part};
 use dali_world::Event;
 use std::alloc::AllocError;
@@ -242,11 +244,67 @@ pub fn push_transaction(text: &mut String, transaction: &Transaction) -> Result<
     )
 }
 
-fn state_name(state: InitialisationState) -> &'static str {
+/// What an initialisation state is called.
+pub fn state_name(state: InitialisationState) -> &'static str {
     match state {
         InitialisationState::Disabled => "disabled",
         InitialisationState::Enabled => "enabled",
         InitialisationState::Withdrawn => "withdrawn",
+    }
+}
+
+/// Of a frame whose answer was lost or damaged: what gear had answered, where something else was heard.
+pub fn push_unheard(
+    text: &mut String,
+    incident: Incident,
+    unheard: Option<Answer>,
+) -> Result<(), AllocError> {
+    match (incident, unheard) {
+        (Incident::Lost, None) | (_, Some(Answer::Silence)) => text.push_str(
+            " (no gear had answered)",
+        ),
+        (_, Some(Answer::Byte(byte))) => write!(text, " (a gear had answered {byte:02X})"),
+        (_, Some(Answer::Damaged)) | (Incident::Noise, None) => text.push_str(
+            " (several gear had answered)",
+        ),
+        _ => Ok(()),
+    }
+}
+
+/// How a controller stands, in a word or two.
+pub fn push_outcome(text: &mut String, outcome: Outcome) -> Result<(), AllocError> {
+    match outcome {
+        Outcome::AtWork => text.push_str("at work"),
+        Outcome::Down => text.push_str("down"),
+        Outcome::Ended(end) => text.push_str(end.name()),
+        Outcome::Halted(fault) => {
+            let name = fault.name();
+            write!(text, "halt {name}")
+        }
+    }
+}
+
+/// The class that shows how good that is.
+pub fn outcome_class(outcome: Outcome) -> &'static str {
+    match outcome {
+        Outcome::Ended(End::AllFound) => "good",
+        Outcome::AtWork | Outcome::Ended(End::BlockFull) => "part",
+        Outcome::Ended(End::GaveUp) | Outcome::Halted(_) | Outcome::Down => "bad",
+    }
+}
+
+/// What it means to whoever installs the gear.
+pub fn outcome_meaning(outcome: Outcome) -> &'static str {
+    match outcome {
+        Outcome::AtWork => "it was still at work when the script ended, or had not begun",
+        Outcome::Ended(End::AllFound) => "no gear answers its search any more",
+        Outcome::Ended(End::BlockFull) =>
+            "a gear has no short address, and its block of addresses is used up",
+        Outcome::Ended(End::GaveUp) =>
+            "its transactions were lost again and again, or its searches led to no gear",
+        Outcome::Halted(Fault::Store) => "a record could not be kept",
+        Outcome::Halted(Fault::Conflict) => "a gear contradicts its table",
+        Outcome::Down => "it went down, and did not come up again",
     }
 }
 

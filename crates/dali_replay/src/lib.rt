@@ -29,6 +29,7 @@ pub use numbers::block_of;
 pub use played::{Played, PlayedLine};
 pub use reason::{Excerpt, Explained, Hint, Mistake, Place, Quote, Reason, plan_limit, reason_of};
 pub use replay::{read_input, run_replay};
+pub use site_line::{SiteLine, site_line_of};
 pub use site_report::push_gear_lines;
 pub use streams::{replay_streams, replay_through};
 pub use text::push_table;

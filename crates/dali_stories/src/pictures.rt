@@ -18,7 +18,7 @@ fn counts(picture: &Picture) -> [usize; 7] {
         picture.marks.len(),
         picture.folds.len(),
         picture.transactions.len(),
-        picture.stays.len(),
+        picture.watched.stays.len(),
         after,
     ]
 }
@@ -262,4 +262,218 @@ fn a_page_shows_used_gear_from_the_start(rt: HostRuntime) -> Result<(), Fail> {
     let drawn = page(rt.alloc(), "site 2 0-3\ndraws\nused 1 9 0ABCDE\nquiet\n")?;
     assert!(rt; drawn.contains("gear 1: on, disabled, random address 0ABCDE, short address 9"));
     Ok(())
+}
+
+/// A script, and what its page has among other things.
+type Wanted<'a> = (&'a str, &'a [&'a str]);
+
+/// Wants these texts on a page.
+fn has<R: Abort + AllocGlobal>(rt: &R, script: &str, texts: &[&str]) -> Result<(), Fail> {
+    let drawn = page(rt.alloc(), script)?;
+    for text in texts {
+        assert!(rt; drawn.contains(*text), "{text:?} on the page of {script:?}");
+    }
+    Ok(())
+}
+
+/// Wants on each page what is wanted there.
+fn have<R: Abort + AllocGlobal>(rt: &R, pages: &[Wanted]) -> Result<(), Fail> {
+    for (script, texts) in pages {
+        has(rt, *script, *texts)?;
+    }
+    Ok(())
+}
+
+/// How controllers end, and how many gear have an address then.
+const RESULTS: [Wanted<'static>; 7] = [
+    (
+        "site 1 0-3\ndraws 123456\nrun 500\n",
+        &[
+            "<li class=\"good\">controller 0: <b><a href=\"#e244\">all-found</a></b>",
+            "<p class=\"addressed good\"><b>addressed 1 of 1</b></p>",
+            "<p>Nothing: no frame, answer or power was lost.</p>",
+            " id=\"e244\" tabindex=\"0\" role=\"img\"><title>event 244: controller 0 heard silence, done: all-found",
+            "\">all-found</text>",
+        ],
+    ),
+    (
+        COMMISSIONED,
+        &[
+            "<li class=\"part\">controller 0: <b><a href=\"#e444\">block-full</a></b>",
+            "<p class=\"addressed part\"><b>addressed 1 of 2</b>; <a href=\"#gear\">the others</a>",
+            "<use href=\"#full\" class=\"o\"",
+            "<tr data-gear=\"0\"><td>0</td><td>0</td><td>on</td><td>disabled</td><td class=\"r\">123456</td></tr>",
+            "<tr data-gear=\"1\" class=\"none\"><td>1</td><td>none</td>",
+            "table 0: 0=123456\n",
+        ],
+    ),
+    (
+        "site 1 0-3\ndraws 123456\ngo 0\npump\n",
+        &[
+            "<li class=\"part\">controller 0: <b>at work</b>",
+            "<p class=\"addressed part\"><b>addressed 0 of 1</b>; <a href=\"#gear\">",
+        ],
+    ),
+    (
+        "site 1 0-3 4-7\ndraws\ndown 1\nup 1\ndown 0\n",
+        &[
+            "<li class=\"bad\">controller 0: <b><a href=\"#e2\">down</a></b>",
+            "<li class=\"part\">controller 1: <b>at work</b>",
+        ],
+    ),
+    (
+        GIVING_UP,
+        &[
+            "<li class=\"bad\">controller 0: <b><a href=\"#e16\">gave-up</a></b>",
+            "<use href=\"#stop\" class=\"h\"",
+            "<li class=\"destroyed\">8 frames destroyed: <a href=\"#e1\">first at event 1</a></li>",
+        ],
+    ),
+    (
+        "site 1 0-3\ndraws 123456\nrun 110\nfail 0\n",
+        &[
+            "<li class=\"bad\">controller 0: <b>",
+            "halt store</a></b>, a record could not be kept",
+        ],
+    ),
+    (
+        BENCH,
+        &[
+            "<ul class=\"ends\">\n</ul>\n<p class=\"addressed part\"><b>addressed 0 of 1</b>; <a href=\"#gear\">",
+            "<p>Frames: 6, <a href=\"#legend\">at least</a> 95 ms on the bus.",
+        ],
+    ),
+];
+
+/// Eight times in a row the first frame is destroyed.
+const GIVING_UP: &str = "site 1 0-3
+draws 123456
+go 0
+pump destroyed -
+go 0
+pump destroyed -
+go 0
+pump destroyed -
+go 0
+pump destroyed -
+go 0
+pump destroyed -
+go 0
+pump destroyed -
+go 0
+pump destroyed -
+go 0
+pump destroyed -
+go 0
+";
+
+#[test]
+fn a_page_begins_with_the_result(rt: HostRuntime) -> Result<(), Fail> {
+    have(&rt, &RESULTS)
+}
+
+/// What goes wrong: a lost answer that a gear gave and one that none gave, noise, and all that befalls a site.
+const WRONG: [Wanted<'static>; 2] = [
+    (
+        "site 1 0-3\ndraws 123456\nrun 16\ngo 0\npump lost\ngo 0\npump lost\ngo 0\npump noise\n",
+        &[
+            "<li class=\"lost\">2 answers lost (gear had answered 1 of these frames): <a href=\"#e33\">",
+            "<li class=\"noise\">1 answer damaged: <a href=\"#e37\">first at event 37</a></li>",
+            "line 5: answer lost (a gear had answered FF)",
+            "line 7: answer lost (no gear had answered)",
+            "line 9: answer damaged (no gear had answered)",
+            "id=\"e33\" tabindex=\"0\" role=\"img\"><title>event 33: answer lost (a gear had answered FF); sent for",
+        ],
+    ),
+    (
+        TROUBLED,
+        &[
+            "<li class=\"destroyed\">1 frame destroyed: <a href=\"#e7\">first at event 7</a></li>",
+            "<li class=\"collided\">1 collision: <a href=\"#e4\">first at event 4</a></li>",
+            "<li class=\"lapsed\">1 lapse of the bus: <a href=\"#e5\">first at event 5</a></li>",
+            "<li class=\"power\">1 power cut of a gear: <a href=\"#e9\">first at event 9</a></li>",
+            "<li class=\"expired\">1 initialisation ran out: <a href=\"#e8\">first at event 8</a></li>",
+            "<li class=\"down\">1 controller went down: <a href=\"#e12\">first at event 12</a></li>",
+            "<li class=\"destroyed\"><a href=\"#e7\">event 7</a>, line 10: frame destroyed &#8211; destroyed, of",
+            "<p>Frames: 3, <a href=\"#legend\">at least</a> 15 ms on the bus.",
+        ],
+    ),
+];
+
+#[test]
+fn a_page_lists_what_went_wrong(rt: HostRuntime) -> Result<(), Fail> {
+    have(&rt, &WRONG)
+}
+
+/// Every line of the script, with its own report, those that set it up too; and the axis, which counts destroyed
+/// frames.
+const LINES: [Wanted<'static>; 2] = [
+    (
+        "# a site\n\nsite 1 0-3\ndraws 123456\nused 0 9 0ABCDE\ngo 0\n# <a> & more\npump\npump\nup 0",
+        &[
+            "<li value=\"1\"><code># a site</code></li>\n<li value=\"2\"><code></code></li>\n",
+            "<li value=\"3\"><code>site 1 0-3</code></li>\n<li value=\"4\"><code>draws 123456</code></li>\n",
+            "<li value=\"5\"><code>used 0 9 0ABCDE</code></li>\n<li value=\"6\" data-e=\"0-1\"><code>go 0</code> ",
+            "<span class=\"report\">0: put 3 A100; </span></li>\n<li value=\"7\"><code># &lt;a&gt; &amp; more<",
+            "<li value=\"8\" data-e=\"1-2\"><code>pump</code> <span class=\"report\">0: sent A100 silence; </span>",
+            "<code>pump</code> <span class=\"report\">idle; </span></li>\n<li value=\"10\" data-e=\"2-2\"><code>up 0",
+            "<span class=\"report\">refused 2 ControllerUp; </span></li>\n</ol>",
+        ],
+    ),
+    (
+        "site 1 0-3\ndraws\ngo 0\npump destroyed -\noff 0\non 0\ngo 0\npump\n",
+        &[
+            "y=\"121\">1</text>\n<text class=\"f\" x=\"26\" y=\"133\">0</text>",
+            "x=\"92\" y=\"121\">2</text>\n<text class=\"f\" x=\"92\" y=\"133\">15</text>",
+        ],
+    ),
+];
+
+#[test]
+fn a_page_has_the_whole_script(rt: HostRuntime) -> Result<(), Fail> {
+    have(&rt, &LINES)
+}
+
+/// Two controllers that survey: a frame of the second one is no part of a hunt of the first, though it might go on with
+/// it; and a fold counts the transactions of both.
+const OWNED: [Wanted<'static>; 1] = [(
+    "site 1 0-3 4-7\ndraws 123456 234567\nsurvey 0\nsurvey 1\nrun 420\n",
+    &[
+        "<title>transaction of controller 0: hunt by COMPARE, frames: 5</title></rect>
+<text class=\"n\" x=\"7826\" y=\"223\">0</text>
+<rect class=\"bar k\" x=\"7924\" y=\"214\" width=\"88\" height=\"11\">\
+<title>transaction of controller 1: hunt by COMPARE, frames: 5</title></rect>
+<text class=\"n\" x=\"7926\" y=\"223\">1</text>
+",
+        "<title>transaction of controller 0: hunt by COMPARE, frames: 7</title></rect>
+<text class=\"n\" x=\"8226\" y=\"223\">0</text>
+<rect class=\"bar k\" x=\"8364\" y=\"214\" width=\"48\" height=\"11\">\
+<title>transaction of controller 1: hunt by COMPARE, frames: 3</title></rect>
+",
+        "hunt by COMPARE; transactions begun: 2, frames: 10</title>",
+    ],
+)];
+
+#[test]
+fn transactions_are_of_their_senders(rt: HostRuntime) -> Result<(), Fail> {
+    have(&rt, &OWNED)
+}
+
+/// The second RANDOMISE of a pair is destroyed and reaches gear 0 alone, which draws; both draw when it is sent again;
+/// the initialisation of gear 1 runs out, and gear 0 loses its power.
+const STAYS: [Wanted<'static>; 1] = [(
+    "site 2 0-3\ndraws 111111 222222 333333\nrun 4\ngo 0\npump destroyed 0\nrun 5\nexpire 1\noff 0\n",
+    &[
+        "g=\"0\" x=\"94\" y=\"202\" width=\"20\" height=\"14\"><title>gear 0: on, enabled, random address 111111",
+        "g=\"1\" x=\"54\" y=\"220\" width=\"60\" height=\"14\"><title>gear 1: on, enabled, random address FFFFFF",
+        "g=\"0\" x=\"194\" y=\"202\" width=\"20\" height=\"14\"><title>gear 0: on, enabled, random address 222222",
+        "g=\"1\" x=\"194\" y=\"220\" width=\"10\" height=\"14\"><title>gear 1: on, enabled, random address 333333",
+        "g=\"1\" x=\"204\" y=\"220\" width=\"20\" height=\"14\"><title>gear 1: on, disabled, random address 333333",
+        "g=\"0\" x=\"214\" y=\"202\" width=\"10\" height=\"14\"><title>gear 0: off, enabled, random address 222222",
+    ],
+)];
+
+#[test]
+fn gear_show_what_they_took_and_drew(rt: HostRuntime) -> Result<(), Fail> {
+    have(&rt, &STAYS)
 }
