@@ -431,7 +431,7 @@ fn says<R: Abort + AllocGlobal>(
 }
 
 /// These lines are bad behind those before them, and this is said of them.
-fn say<R: Abort + AllocGlobal>(
+pub fn say<R: Abort + AllocGlobal>(
     rt: &R,
     before: &str,
     lines: &[(&str, u32, &str)],
