@@ -168,7 +168,7 @@ alone",
             (
                 "show",
                 2,
-                "`show` is no second line: those are `draws RRRRRR ..`",
+                "`show` is no second line: that is `draws RRRRRR ..`",
             ),
             ("bench 1", 2, "`bench` belongs to the first line"),
             (
