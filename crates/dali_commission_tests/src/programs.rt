@@ -59,7 +59,10 @@ fn words_that_ask_for_nothing_are_refused(rt: HostRuntime) {
             b"dali_commission".as_slice(),
             "Usage: dali_commission <COMMAND>",
         ),
-        (b"dali_commission walk".as_slice(), "'walk'"),
+        (
+            b"dali_commission wa\x1B[31mlk\x07".as_slice(),
+            "'wa\\x1B[31mlk\\x07'",
+        ),
         (b"dali_commission run 0-63".as_slice(), "--records <FILE>"),
         (
             b"dali_commission run --records site.db".as_slice(),

@@ -1,5 +1,6 @@
 //! Plans: those that are refused, for which cause, and the widest that are taken.
 
+use super::reasons::say;
 use super::story::{are_bad, ends, played};
 use dali_replay::ReplayFault;
 use dali_world::PlanError;
@@ -195,5 +196,8 @@ fn up_to_1024_numbers_are_drawn(rt: HostRuntime) -> Result<(), Fail> {
     let (end, _) = played(rt.alloc(), input.as_bytes())?;
     assert_eq!(rt; end, Ok(()));
     let more = draws(&rt, 1025)?;
-    are_bad(&rt, "bench 1\n", "", &[more.as_str()])
+    are_bad(&rt, "bench 1\n", "", &[more.as_str()])?;
+    let reason =
+        "word 1026: `000400`: at most 1024 numbers are drawn; the form is `draws RRRRRR ..`";
+    say(&rt, "bench 1\n", &[(more.as_str(), 2, reason)])
 }

@@ -168,7 +168,7 @@ alone",
             (
                 "show",
                 2,
-                "`show` is no second line: those are `draws RRRRRR ..`",
+                "`show` is no second line: that is `draws RRRRRR ..`",
             ),
             ("bench 1", 2, "`bench` belongs to the first line"),
             (
@@ -431,7 +431,7 @@ fn says<R: Abort + AllocGlobal>(
 }
 
 /// These lines are bad behind those before them, and this is said of them.
-fn say<R: Abort + AllocGlobal>(
+pub fn say<R: Abort + AllocGlobal>(
     rt: &R,
     before: &str,
     lines: &[(&str, u32, &str)],

@@ -5,7 +5,7 @@ use super::names::is_near;
 use std::fmt;
 
 /// Where a line stands in a script, by which its form is decided.
-#[derive(Clone, Copy, Debug, PartialEq, Eq)]
+#[derive(Clone, Copy)]
 pub enum Place {
     /// The first line.
     First,
@@ -48,7 +48,7 @@ pub enum Hint {
     Form(&'static str),
     /// The name that was probably meant.
     Meant(&'static str),
-    /// The names that there are.
+    /// The names that there are, as a part of a sentence.
     Names(&'static str),
 }
 
@@ -58,7 +58,7 @@ impl fmt::Display for Hint {
             Hint::Nothing => Ok(()),
             Hint::Form(text) => write!(f, "; the form is `{text}`"),
             Hint::Meant(name) => write!(f, "; did you mean `{name}`?"),
-            Hint::Names(names) => write!(f, ": those are {names}"),
+            Hint::Names(names) => write!(f, ": {names}"),
         }
     }
 }
@@ -216,11 +216,11 @@ const SITE: &[Form] = &[
     SHOW,
 ];
 
-const BENCH_NAMES: &str = "`frame`, `off`, `on`, `expire`, `quiet` and `show`";
+const BENCH_NAMES: &str = "those are `frame`, `off`, `on`, `expire`, `quiet` and `show`";
 
 const SITE_NAMES: &str =
-    "`go`, `survey`, `store`, `fail`, `pump`, `lapse`, `arc`, `down`, `up`, `run`, `off`, `on`, \
-`expire`, `quiet` and `show`";
+    "those are `go`, `survey`, `store`, `fail`, `pump`, `lapse`, `arc`, `down`, `up`, `run`, `off`, \
+`on`, `expire`, `quiet` and `show`";
 
 impl Form {
     /// Whether a line begins with the words of this form.
@@ -266,8 +266,11 @@ impl Place {
     /// What is said of a first word that no line here has, and of lines that begin with it elsewhere.
     pub(super) fn stranger(self, name: &[u8]) -> (Mistake, Hint) {
         let (other, names) = match self {
-            Place::First => (Mistake::OtherFirst, "`bench N` and `site N BLOCK ..`"),
-            Place::Second => (Mistake::OtherSecond, "`draws RRRRRR ..`"),
+            Place::First => (
+                Mistake::OtherFirst,
+                "those are `bench N` and `site N BLOCK ..`",
+            ),
+            Place::Second => (Mistake::OtherSecond, "that is `draws RRRRRR ..`"),
             Place::Used | Place::Bench => (Mistake::OtherOnBench, BENCH_NAMES),
             Place::Site => (Mistake::OtherOnSite, SITE_NAMES),
         };

@@ -3,7 +3,7 @@
 use dali_world::PlanError;
 
 /// What is wrong with a line, one of its words, or a plan.
-#[derive(Clone, Copy, Debug, PartialEq, Eq)]
+#[derive(Clone, Copy)]
 pub enum Mistake {
     // Bytes that no line has.
     ByteOrderMark,

@@ -33,7 +33,7 @@ struct Cell {
 }
 
 /// Numbers of a plan.
-#[derive(Clone, Copy, PartialEq, Eq)]
+#[derive(Clone, Copy)]
 enum Column {
     /// Those to draw.
     Draw,
