@@ -8,6 +8,5 @@ pub mod RoundLemmas
 pub mod ReplayLemmas
 pub mod PlayerLemmas
 pub mod PlayedLemmas
-pub mod JsonLemmas
 pub mod PassedLemmas
 pub mod ReasonLemmas

@@ -13,6 +13,5 @@ pub mod SiteReport
 pub mod Replay
 pub mod Player
 pub mod Played
-pub mod Json
 pub mod ReplayFault
 pub mod Reason

@@ -1,14 +1,6 @@
 //! The state of all gear and the tables as JSON: what `show` writes for other programs.
 
-ghost use Rattle.std.specs.Prelude.{◌≡◌, ◌++◌, ◌+◌, ◌<◌, ◌≤◌, OnOk, length, slice_index_or, string_bytes};
-ghost use Rattle.dali_events.specs.World.{gear_at};
-ghost use Rattle.dali_gear.specs.Gear.{fresh};
-ghost use Rattle.dali_world.specs.Site.{world};
-ghost use Rattle.dali_replay.specs.Json.{comma_before, condition_json, addresses_json, short_json, gear_json, gear_jsons};
-ghost use Rattle.dali_replay.specs.Json.{entry_json, entries_json, table_json, tables_json, state_json, line_json};
-ghost use Rattle.dali_replay.specs.Json.{shown_json, ShowsInput, WritesShows};
-ghost use Rattle.dali_replay.specs.Replay.{setting_of};
-ghost use Rattle.dali_replay.specs.Lines.{numbered_after};
+ghost use Rattle.std.specs.Prelude.{◌+◌, ◌≤◌, length};
 
 use crate::fault::ReplayFault;
 use crate::installation::Installation;
@@ -25,7 +17,6 @@ use std::io::Write;
 
 /// A comma, but before the first item.
 pub fn push_comma(text: &mut String, number: usize) -> Result<(), AllocError>
-    ensures { OnOk result (string_bytes text.new ≡ string_bytes text.old ++ comma_before number) }
 {
     if number == 0 {
         return Ok(());
@@ -34,7 +25,6 @@ pub fn push_comma(text: &mut String, number: usize) -> Result<(), AllocError>
 }
 
 fn push_condition(text: &mut String, number: usize, gear: &Gear) -> Result<(), AllocError>
-    ensures { OnOk result (string_bytes text.new ≡ string_bytes text.old ++ condition_json number gear.now) }
 {
     let power = power_name(gear.is_powered());
     let state = state_name(gear.state());
@@ -43,7 +33,6 @@ fn push_condition(text: &mut String, number: usize, gear: &Gear) -> Result<(), A
 }
 
 fn push_addresses(text: &mut String, gear: &Gear) -> Result<(), AllocError>
-    ensures { OnOk result (string_bytes text.new ≡ string_bytes text.old ++ addresses_json gear.now) }
 {
     let random = gear.random();
     let search = gear.search().value();
@@ -54,7 +43,6 @@ fn push_addresses(text: &mut String, gear: &Gear) -> Result<(), AllocError>
 }
 
 fn push_short(text: &mut String, short: Option<Short>) -> Result<(), AllocError>
-    ensures { OnOk result (string_bytes text.new ≡ string_bytes text.old ++ short_json short) }
 {
     match short {
         None => text.push_str("null"),
@@ -66,10 +54,7 @@ fn push_short(text: &mut String, short: Option<Short>) -> Result<(), AllocError>
 }
 
 /// The state of one gear, behind a comma if it is not the first.
-#[tactic(auto, using(std::proofs::lemmas::List::append_assoc))]
 fn push_gear(text: &mut String, number: usize, gear: &Gear) -> Result<(), AllocError>
-    ensures { OnOk result (string_bytes text.new ≡ string_bytes text.old
-        ++ (comma_before number ++ gear_json number gear.now)) }
 {
     push_comma(text, number)?;
     push_condition(text, number, gear)?;
@@ -80,8 +65,6 @@ fn push_gear(text: &mut String, number: usize, gear: &Gear) -> Result<(), AllocE
 
 /// The states of a row of gear.
 fn push_row(text: &mut String, row: &Row) -> Result<(), AllocError>
-    ensures { OnOk result (string_bytes text.new ≡ string_bytes text.old
-        ++ gear_jsons (λ k. slice_index_or row.now k fresh) (length row.now)) }
 {
     for number in 0..row.len() {
         let gear = row.gear(number);
@@ -92,8 +75,6 @@ fn push_row(text: &mut String, row: &Row) -> Result<(), AllocError>
 
 /// The states of all gear of a site.
 pub fn push_json_gear(text: &mut String, site: &SiteState) -> Result<(), AllocError>
-    ensures { OnOk result (string_bytes text.new ≡ string_bytes text.old
-        ++ gear_jsons (λ k. gear_at (world site.now) k) site.now.plan.gear) }
 {
     for number in 0..site.plan().gear() {
         let gear = site.gear(number);
@@ -102,9 +83,7 @@ pub fn push_json_gear(text: &mut String, site: &SiteState) -> Result<(), AllocEr
     Ok(())
 }
 
-#[tactic(auto, using(std::proofs::lemmas::List::append_assoc))]
 fn push_entry(text: &mut String, number: usize, entry: Pair) -> Result<(), AllocError>
-    ensures { OnOk result (string_bytes text.new ≡ string_bytes text.old ++ (comma_before number ++ entry_json entry)) }
 {
     let short = entry.address();
     let random = entry.random();
@@ -115,7 +94,6 @@ fn push_entry(text: &mut String, number: usize, entry: Pair) -> Result<(), Alloc
 }
 
 fn push_entries(text: &mut String, entries: &[Pair]) -> Result<(), AllocError>
-    ensures { OnOk result (string_bytes text.new ≡ string_bytes text.old ++ entries_json 0 entries.now) }
 {
     let mut number = 0usize;
     for entry in entries {
@@ -126,9 +104,7 @@ fn push_entries(text: &mut String, entries: &[Pair]) -> Result<(), AllocError>
 }
 
 /// A controller's table.
-#[tactic(auto, using(std::proofs::lemmas::List::append_assoc))]
 pub fn push_json_table(text: &mut String, c: u8, entries: &[Pair]) -> Result<(), AllocError>
-    ensures { OnOk result (string_bytes text.new ≡ string_bytes text.old ++ table_json c entries.now) }
 {
     text.push_str("{\"controller\":")?;
     write!(text, "{c},\"entries\":[")?;
@@ -137,10 +113,7 @@ pub fn push_json_table(text: &mut String, c: u8, entries: &[Pair]) -> Result<(),
 }
 
 /// A controller's table, behind a comma if it is not the first.
-#[tactic(auto, using(std::proofs::lemmas::List::append_assoc))]
 fn push_next_table(text: &mut String, c: u8, entries: &[Pair]) -> Result<(), AllocError>
-    ensures { OnOk result (string_bytes text.new ≡ string_bytes text.old
-        ++ (comma_before c ++ table_json c entries.now)) }
 {
     push_comma(text, c as usize)?;
     push_json_table(text, c, entries)
@@ -148,8 +121,6 @@ fn push_next_table(text: &mut String, c: u8, entries: &[Pair]) -> Result<(), All
 
 /// The tables of all controllers, in order of their numbers.
 fn push_tables(text: &mut String, installation: &Installation) -> Result<(), AllocError>
-    ensures { OnOk result (string_bytes text.new ≡ string_bytes text.old
-        ++ tables_json (world installation.now.site) (length installation.now.site.plan.blocks)) }
 {
     for c in 0..installation.controllers() {
         push_next_table(text, c, installation.enrolled(c))?;
@@ -158,9 +129,7 @@ fn push_tables(text: &mut String, installation: &Installation) -> Result<(), All
 }
 
 /// The gear and the tables. A bench has no tables.
-#[tactic(auto, using(std::proofs::lemmas::List::append_assoc))]
 fn push_state(text: &mut String, player: &Player) -> Result<(), AllocError>
-    ensures { OnOk result (string_bytes text.new ≡ string_bytes text.old ++ state_json player.now) }
 {
     text.push_str("\"gear\":[")?;
     match player {
@@ -178,9 +147,7 @@ fn push_state(text: &mut String, player: &Player) -> Result<(), AllocError>
 }
 
 /// The line of a `show`, by its number in the script.
-#[tactic(auto, using(std::proofs::lemmas::List::append_assoc))]
 fn push_line(text: &mut String, number: u32, player: &Player) -> Result<(), AllocError>
-    ensures { OnOk result (string_bytes text.new ≡ string_bytes text.old ++ line_json number player.now) }
 {
     text.push_str("{\"line\":")?;
     write!(text, "{number},")?;
@@ -195,7 +162,6 @@ fn push_shown(
     line: &[u8],
     player: &Player,
 ) -> Result<(), AllocError>
-    ensures { OnOk result (string_bytes text.new ≡ string_bytes text.old ++ shown_json (number, line.now) player.now) }
 {
     if line == b"show".as_slice() {
         return push_line(text, number, player);
@@ -211,8 +177,6 @@ fn show_all<W: Write>(
     writer: &mut W,
 ) -> Result<(), ReplayFault>
     requires { script.old.read + length script.old.rest.now ≤ 1048576 }
-    ensures { OnOk result (WritesShows player.old (numbered_after script.old.read script.old.rest.now)
-        (W.contents writer.old) (W.contents writer.new)) }
 {
     let mut report = String::new(alloc);
     let mut shown = String::new(alloc);
@@ -234,7 +198,6 @@ fn show_all<W: Write>(
 /// The faults are those of `run_replay`.
 pub fn show_json<W: Write>(alloc: Global, input: &[u8], writer: &mut W) -> Result<(), ReplayFault>
     requires { length input.now ≤ 1048576 }
-    ensures { OnOk result (ShowsInput (setting_of input.now) (W.contents writer.old) (W.contents writer.new)) }
 {
     let mut script = Script::new(input);
     let (is_bench, plan) = plan(alloc, &mut script)?;
