@@ -6,7 +6,7 @@ ghost use Rattle.dali_command_line.specs.Failure.{status_after};
 
 use crate::failure::Failure;
 use crate::words::{Task, asked};
-use dali_replay::replay_streams;
+use dali_replay::{Form, replay_streams};
 use dali_threads::{Setup, run_threads};
 use std::env::Env;
 use std::io;
@@ -28,8 +28,8 @@ fn words<S: Env + AllocGlobal>(system: &S) -> Result<Vec<String>, Failure> {
 }
 
 /// Plays a script from the system's input to its output.
-fn replay<S: Input + Print + AllocGlobal>(system: &S) -> Result<(), Failure> {
-    match replay_streams(system) {
+fn replay<S: Input + Print + AllocGlobal>(system: &S, form: Form) -> Result<(), Failure> {
+    match replay_streams(system, form) {
         Ok(()) => Ok(()),
         Err(explained) => Err(Failure::Replay(explained)),
     }
@@ -58,7 +58,7 @@ where
     let words = words(system)?;
     match asked(system, &words)? {
         Task::Help => Ok(()),
-        Task::Replay => replay(system),
+        Task::Replay(form) => replay(system, form),
         Task::Threads(setup) => threads(system, rt, setup),
     }
 }

@@ -58,6 +58,14 @@ fn survey<'a>(alloc: Global) -> Arg<'a> {
         .help("Each controller begins by a survey: it asks first who has a short address")
 }
 
+/// The flag for a result that other programs read.
+pub fn json<'a>(alloc: Global, help: &'a str) -> Arg<'a> {
+    Arg::new(alloc, "json")
+        .long("json")
+        .action(ArgAction::SetTrue)
+        .help(help)
+}
+
 fn block_words<'a>(alloc: Global) -> Arg<'a> {
     Arg::new(alloc, "blocks")
         .value_name("BLOCK")
@@ -74,6 +82,7 @@ pub fn threads_command<'a>(alloc: Global, name: &'a str) -> Result<Command<'a>, 
         seed(alloc),
         turns(alloc),
         survey(alloc),
+        json(alloc, "Writes the report as one line of JSON"),
         block_words(alloc),
     ]?;
     Command::new(alloc, name)
@@ -143,6 +152,7 @@ pub fn setup(alloc: Global, found: &ArgMatches<'_>) -> Result<Setup, Error> {
         seed: number(alloc, found, "seed")?,
         turns: number(alloc, found, "turns")?,
         surveys: found.get_flag("survey"),
+        as_json: found.get_flag("json"),
         blocks: blocks(alloc, found.get_raw("blocks").unwrap_or_default())?,
     })
 }

@@ -4,10 +4,11 @@ ghost use Rattle.std.specs.Prelude.{◌≡◌};
 ghost use Rattle.dali_command_line.specs.Failure.{answered};
 
 use crate::failure::Failure;
-use crate::threads_words::{setup, threads_command};
+use crate::threads_words::{json, setup, threads_command};
 use clap::error::ErrorKind;
 use clap::{ArgMatches, Command, Error};
 use dali_plain::Plain;
+use dali_replay::Form;
 use dali_threads::Setup;
 use std::alloc::{AllocError, Global};
 use std::io;
@@ -16,8 +17,8 @@ use std::io::Eprint;
 /// What a command line asks for.
 #[derive(Drop)]
 pub enum Task {
-    /// A script is to be played.
-    Replay,
+    /// A script is to be played, and this is to be written.
+    Replay(Form),
     /// Controllers are to be run in threads.
     Threads(Setup),
     /// Help or the version, which is printed.
@@ -47,6 +48,19 @@ fn replay_command<'a>(alloc: Global) -> Command<'a> {
         .about("Reads a script of events from standard input and reports each")
         .long_about(REPLAY)
         .after_help(AFTER_REPLAY)
+        .arg(json(
+            alloc,
+            "Writes what each line `show` shows as one line of JSON, and no other report",
+        ))
+}
+
+/// What is to be written of a script.
+fn form(found: &ArgMatches<'_>) -> Form {
+    if found.get_flag("json") {
+        Form::Json
+    } else {
+        Form::Text
+    }
 }
 
 /// The words that the program knows.
@@ -73,7 +87,7 @@ fn no_task(alloc: Global) -> Result<Task, Error> {
 
 fn asked_for(alloc: Global, found: &ArgMatches<'_>) -> Result<Task, Error> {
     match found.subcommand() {
-        Some(("replay", _)) => Ok(Task::Replay),
+        Some(("replay", found)) => Ok(Task::Replay(form(found))),
         Some(("threads", found)) => Ok(Task::Threads(setup(alloc, found)?)),
         _ => no_task(alloc),
     }

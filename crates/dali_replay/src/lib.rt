@@ -31,5 +31,5 @@ pub use reason::{Excerpt, Explained, Hint, Mistake, Place, Quote, Reason, plan_l
 pub use replay::{read_input, run_replay};
 pub use site_line::{SiteLine, site_line_of};
 pub use site_report::push_gear_lines;
-pub use streams::{replay_streams, replay_through};
+pub use streams::{Form, replay_streams, replay_through};
 pub use text::push_table;

@@ -5,6 +5,7 @@ ghost use Rattle.std.specs.Io.Buffered.{writer_buffer, writer_contents};
 ghost use Rattle.dali_replay.specs.Replay.{Tells, setting_of};
 
 use crate::fault::ReplayFault;
+use crate::json::show_json;
 use crate::reason::Explained;
 use crate::replay::{read_input, replay, run_replay};
 use std::alloc::Global;
@@ -29,14 +30,26 @@ pub fn replay_through<R: Read, W: Write + Drop>(
     }
 }
 
+/// What is written of a script.
+#[derive(Clone, Copy, PartialEq, Eq)]
+pub enum Form {
+    /// The report of each line.
+    Text,
+    /// What each `show` shows, as one line of JSON.
+    Json,
+}
+
 /// Plays standard input to standard output. A fault comes with its reason, for which the input is kept to the end.
-pub fn replay_streams<R: Input + Print + AllocGlobal>(rt: &R) -> Result<(), Explained> {
+pub fn replay_streams<R: Input + Print + AllocGlobal>(rt: &R, form: Form) -> Result<(), Explained> {
     let alloc = rt.alloc();
     let input = read_input(alloc, &mut rt.reader())?;
     let Ok(mut writer) = BufWriter::new(alloc, io::writer(rt)) else {
         return Err(Explained::from(ReplayFault::Memory));
     };
-    let mut played = replay(alloc, &input, &mut writer);
+    let mut played = match form {
+        Form::Text => replay(alloc, &input, &mut writer),
+        Form::Json => show_json(alloc, &input, &mut writer),
+    };
     if writer.flush().is_err() {
         played = Err(ReplayFault::Write);
     }

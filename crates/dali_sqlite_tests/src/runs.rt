@@ -19,6 +19,7 @@ fn setup(gear: u32, seed: u64, blocks: &[(u8, u8)]) -> Setup {
         seed,
         turns: 100_000,
         surveys: false,
+        as_json: false,
         blocks: list,
     }
 }

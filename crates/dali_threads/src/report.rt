@@ -8,7 +8,7 @@ ghost use Rattle.dali_threads.specs.Report.{addressed, addressed_text, run_text}
 ghost use Rattle.dali_world.specs.Site.{world};
 
 use dali_line::Outcome;
-use dali_replay::{push_gear_lines, push_table};
+use dali_replay::{push_comma, push_gear_lines, push_json_gear, push_json_table, push_table};
 use dali_world::SiteState;
 use std::alloc::{AllocError, Global};
 
@@ -127,5 +127,59 @@ pub(crate) fn report(
 {
     let mut text = String::new(alloc);
     push_run(&mut text, outcomes, site)?;
+    Ok(text)
+}
+
+/// How each worker ended, as a list of JSON.
+fn push_json_outcomes(text: &mut String, outcomes: &[Outcome]) -> Result<(), AllocError> {
+    for c in 0..outcomes.len() {
+        push_comma(text, c)?;
+        text.push_str("{\"controller\":")?;
+        write!(text, "{c},\"end\":\"")?;
+        push_outcome(text, outcomes[c])?;
+        text.push_str("\"}")?;
+    }
+    Ok(())
+}
+
+/// The tables of all controllers that are up, as a list of JSON.
+fn push_json_tables(text: &mut String, site: &SiteState) -> Result<(), AllocError> {
+    let mut before = 0usize;
+    for c in 0..site.plan().blocks().len() {
+        if let Some(table) = site.table(c as u8) {
+            push_comma(text, before)?;
+            push_json_table(text, c as u8, table.entries())?;
+            before = 1;
+        }
+    }
+    Ok(())
+}
+
+/// All of the report as one line of JSON.
+fn push_json_run(
+    text: &mut String,
+    outcomes: &[Outcome],
+    site: &SiteState,
+) -> Result<(), AllocError> {
+    let addressed = addressed(site);
+    let gear = site.plan().gear();
+    text.push_str("{\"controllers\":[")?;
+    push_json_outcomes(text, outcomes)?;
+    text.push_str("],\"gear\":[")?;
+    push_json_gear(text, site)?;
+    text.push_str("],\"tables\":[")?;
+    push_json_tables(text, site)?;
+    write!(text, "],\"addressed\":{addressed},\"of\":{gear}")?;
+    text.push_str("}\n")
+}
+
+/// The report of `report` as one line of JSON.
+pub(crate) fn json_report(
+    alloc: Global,
+    outcomes: &[Outcome],
+    site: &SiteState,
+) -> Result<String, AllocError> {
+    let mut text = String::new(alloc);
+    push_json_run(&mut text, outcomes, site)?;
     Ok(text)
 }

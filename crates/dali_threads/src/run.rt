@@ -1,6 +1,6 @@
 //! A run: a worker for each controller and a pumper, in threads of their own, over one line.
 
-ghost use Rattle.std.specs.Prelude.{◌≡◌, ◌*◌, ◌<◌, ◌≤◌, [], None, Some, IfOk, OnOk, OnErr, IfErr, IfSome, IsErrOf, IsTrue, length};
+ghost use Rattle.std.specs.Prelude.{◌≡◌, ◌*◌, ◌<◌, ◌≤◌, [], None, Some, IfOk, OnOk, OnErr, IfErr, IfSome, IsErrOf, IsTrue, false, length};
 ghost use Rattle.dali_events.specs.declared.plan.PlanError.{PlanError};
 ghost use Rattle.dali_events.specs.Plan.{plan_of, refusal_of};
 ghost use Rattle.dali_line.specs.Ends.{stops};
@@ -10,7 +10,7 @@ ghost use Rattle.dali_threads.specs.declared.setup.ThreadsFault.TheVariants.{Bad
 ghost use Rattle.std.specs.Io.KnownBytes.{Appends};
 
 use crate::draws::drawn;
-use crate::report::report;
+use crate::report::{json_report, report};
 use crate::setup::{Setup, ThreadsFault};
 use arrayvec::ArrayVec;
 use dali_enrol::Directory;
@@ -261,7 +261,7 @@ pub fn run_threads<R: Threads + Wait + Sync, W: Write>(
         (λ e. IsErrOf result (BadPlan e) × (writer.new ≡ writer.old)) }
     ensures cause { IfErr result (λ fault. (e : PlanError) → fault ≡ BadPlan e
         → refusal_of setup.gear setup.blocks.items [] ≡ Some e) }
-    ensures told { OnOk result (Reports (W.contents writer.old) (W.contents writer.new)) }
+    ensures told { setup.as_json ≡ false → OnOk result (Reports (W.contents writer.old) (W.contents writer.new)) }
 {
     match planned(alloc, setup.gear, setup.blocks.as_slice(), &[]) {
         Ok(plan) => run_on(rt, alloc, &plan, &setup, writer),
@@ -311,7 +311,7 @@ fn run_on<R: Threads + Wait + Sync, W: Write>(
 ) -> Result<(), ThreadsFault>
     requires { refusal_of setup.now.gear setup.now.blocks.items [] ≡ None }
     ensures cause { IfErr result (λ fault. (e : PlanError) → fault ≡ BadPlan e → ⊥) }
-    ensures told { OnOk result (Reports (W.contents writer.old) (W.contents writer.new)) }
+    ensures told { setup.now.as_json ≡ false → OnOk result (Reports (W.contents writer.old) (W.contents writer.new)) }
 {
     let plan = drawn_plan(alloc, setup, undrawn)?;
     let Ok(site) = SiteState::new(alloc, plan, LOG_ROOM, QUEUE_ROOM) else {
@@ -326,6 +326,10 @@ fn run_on<R: Threads + Wait + Sync, W: Write>(
         setup.turns,
         setup.surveys,
     )?;
-    let text = report(alloc, &outcomes, &site)?;
+    let text = if setup.as_json {
+        json_report(alloc, &outcomes, &site)?
+    } else {
+        report(alloc, &outcomes, &site)?
+    };
     write(writer, text.as_bytes())
 }

@@ -18,6 +18,8 @@ pub struct Setup {
     pub turns: u32,
     /// Whether each controller begins by a survey.
     pub surveys: bool,
+    /// Whether the report is one line of JSON.
+    pub as_json: bool,
     /// The first and the last short address of each controller's block, 0 to 63.
     pub blocks: ArrayVec<(u8, u8), 4>,
 }
