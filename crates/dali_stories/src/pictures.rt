@@ -2,7 +2,7 @@
 
 use crate::story::played;
 use dali_picture::{Picture, draw_run};
-use dali_replay::ReplayFault;
+use dali_replay::{INPUT_LIMIT, ReplayFault, read_input};
 use std::alloc::Global;
 use std::process::Abort;
 use std::test::Fail;
@@ -26,7 +26,9 @@ fn counts(picture: &Picture) -> [usize; 7] {
 
 /// What is drawn of a script.
 fn drawn(alloc: Global, script: &str) -> Result<[usize; 7], Fail> {
-    match Picture::of(alloc, script.as_bytes()) {
+    let mut reader = script.as_bytes();
+    let input = read_input(alloc, &mut reader).ok().ok_or("a script")?;
+    match Picture::of(alloc, &input) {
         Ok(picture) => Ok(counts(&picture)),
         Err(_) => Err(Fail::from("a picture")),
     }
@@ -78,7 +80,9 @@ fn a_site_is_drawn(rt: HostRuntime) -> Result<(), Fail> {
 
 /// A bad line has no picture.
 fn is_refused<R: Abort + AllocGlobal>(rt: &R, script: &str, line: u32) -> Result<(), Fail> {
-    let was = match Picture::of(rt.alloc(), script.as_bytes()) {
+    let mut reader = script.as_bytes();
+    let input = read_input(rt.alloc(), &mut reader).ok().ok_or("a script")?;
+    let was = match Picture::of(rt.alloc(), &input) {
         Ok(_) => Ok(()),
         Err(fault) => Err(fault),
     };
@@ -101,6 +105,25 @@ fn page(alloc: Global, script: &str) -> Result<String, Fail> {
         Ok(()) => Ok(String::from_str(alloc, text)?),
         Err(_) => Err(Fail::from("a page")),
     }
+}
+
+/// How the drawing of a script ends.
+fn ended(alloc: Global, script: &str) -> Result<(), ReplayFault> {
+    let mut reader = script.as_bytes();
+    let mut written = Vec::new(alloc);
+    draw_run(alloc, &mut reader, &mut written)
+}
+
+#[test]
+fn a_script_may_have_so_many_bytes(rt: HostRuntime) -> Result<(), Fail> {
+    let mut script = String::from_str(rt.alloc(), "bench 1\ndraws\n")?;
+    while script.len() < INPUT_LIMIT {
+        script.push('#')?;
+    }
+    assert_eq!(rt; ended(rt.alloc(), script.as_str()), Ok(()));
+    script.push('#')?;
+    assert_eq!(rt; ended(rt.alloc(), script.as_str()), Err(ReplayFault::Read));
+    Ok(())
 }
 
 /// Appends the words of a line of the page, if it is a mark.
