@@ -91,6 +91,7 @@ METHODS = {
     "BufRead": ("lines", "read_line", "read_until"),
     "Crash": ("crash",),
     "Rng": ("next_u32", "next_u64", "fill_bytes"),
+    "NextWord": ("next_word",),
     "SeedableRng": ("from_seed", "seed_from_u64"),
     "Write": ("flush", "write_all", "write_str", "write!", "writeln!"),
 }

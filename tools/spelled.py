@@ -32,7 +32,7 @@ ENUMS = {
     "PlanError": ("crates/dali_events/src/plan.rt",),
     "Record": ("crates/dali_script/src/records.rt",),
     "Refusal": ("crates/dali_standing/src/refusal.rt",),
-    "ReplayFault": ("crates/dali_replay/src/replay.rt",),
+    "ReplayFault": ("crates/dali_replay/src/fault.rt",),
     "Reply": ("crates/dali_commissioning/src/census.rt", SAID),
     "Report": ("crates/dali_standing/src/trouble.rt",),
     "SiteLine": ("crates/dali_replay/src/site_line.rt",),

@@ -43,7 +43,7 @@ Examples:
 
 The manual is README.md of the repository, and docs/FORMAT.md for each line that is read or written.";
 
-fn replay_command<'a>(alloc: Global) -> Command<'a> {
+fn replay_command<'a>(alloc: Global) -> Result<Command<'a>, AllocError> {
     Command::new(alloc, "replay")
         .about("Reads a script of events from standard input and reports each")
         .long_about(REPLAY)
@@ -65,8 +65,9 @@ fn form(found: &ArgMatches<'_>) -> Form {
 
 /// The words that the program knows.
 fn command<'a>(alloc: Global) -> Result<Command<'a>, AllocError> {
+    let replay = replay_command(alloc)?;
     let threads = threads_command(alloc, "threads")?;
-    let tasks = vec![in alloc; replay_command(alloc), threads]?;
+    let tasks = vec![in alloc; replay, threads]?;
     Command::new(alloc, "dali_sim")
         .version("0.1.0")
         .about("Short address commissioning of DALI control gear, simulated")

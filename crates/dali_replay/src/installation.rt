@@ -6,7 +6,7 @@ ghost use Rattle.dali_script.specs.Records.{Fits, MayAdd};
 ghost use Rattle.dali_script.specs.Due.{record_ordered};
 ghost use Rattle.dali_events.specs.declared.event.Event.TheVariants as event;
 ghost use Rattle.dali_standing.specs.Seats.{due_of};
-ghost use Rattle.dali_world.specs.Site.{world, IsArcRefused, IsDownRefused, IsGearRefused, IsActRefused, IsBarred};
+ghost use Rattle.dali_world.specs.Site.{IsArcRefused, IsDownRefused, IsGearRefused, IsActRefused, IsBarred};
 ghost use Rattle.dali_replay.specs.Installation.{installation_of, empty_store, store_settled, store_at, controller};
 ghost use Rattle.dali_replay.specs.Installation.{IsUpAt, store_committed, with_store, IsMade, IsGiven, HasNone};
 ghost use Rattle.dali_replay.specs.Installation.{HasStepped, Goes, IsPending, Stores, Fails, Surveys};

@@ -96,8 +96,8 @@ fn play_all<'a>(
     log: &mut Vec<Event>,
 ) -> Result<(), ReplayFault>
     requires { script.old.read + length script.old.rest.now ≤ 1048576 }
-    ensures { PlaysAll (stand player.old script.old) player.new lines.old.items lines.new.items (string_bytes reports.old)
-        (string_bytes reports.new) log.old.items log.new.items result }
+    ensures { PlaysAll (stand player.old script.old) player.new lines.old.items lines.new.items
+        (string_bytes reports.old) (string_bytes reports.new) log.old.items log.new.items result }
 {
     let mut first = events_in(player, log);
     while let Some(line) = script.next() {

@@ -31,8 +31,8 @@ impl Player {
         Ok(Player::Site(Installation::new(alloc, plan)?))
     }
 
-    /// Plays the line of this number, and appends the report of it. Answers the event that came of it on a bench, if one
-    /// did; what came of it on a site stands in the log of the site.
+    /// Plays the line of this number, and appends the report of it. Answers the event that came of it on a bench, if
+    /// one did; what came of it on a site stands in the log of the site.
     ///
     /// The faults are `BadLine`, of a line that has none of the forms, and `Memory`.
     pub fn play(

@@ -30,6 +30,12 @@ fn surveying(mut setup: Setup) -> Setup {
     setup
 }
 
+/// The same to be run, and reported as JSON.
+fn as_json(mut setup: Setup) -> Setup {
+    setup.as_json = true;
+    setup
+}
+
 /// What a run writes.
 fn written<R: Threads + Wait + Sync + AllocGlobal>(rt: &R, setup: Setup) -> Result<String, Fail> {
     let mut bytes = Vec::new(rt.alloc());
@@ -74,6 +80,37 @@ fn one_run<R: Threads + Wait + Sync + Abort + AllocGlobal>(rt: &R) -> Result<(),
 #[test]
 fn one_controller_names_its_gear(rt: HostRuntime) -> Result<(), Fail> {
     one_run(&rt)
+}
+
+/// The report of one gear as JSON, by the report as text.
+fn one_gear_json<R: Abort + AllocGlobal>(rt: &R, text: &str, json: &str) -> Result<(), Fail> {
+    let gear = text.lines().nth(1).unwrap_or("");
+    let (random, search) = (word(gear, 4), word(gear, 5));
+    let mut wanted = String::from_str(
+        rt.alloc(),
+        "{\"controllers\":[{\"controller\":0,\"end\":\"all-found\"}],\"gear\":[{\"gear\":0,\"power\":\"on\",",
+    )?;
+    write!(
+        wanted,
+        "\"state\":\"disabled\",\"random\":\"{random}\",\"search\":\"{search}\",\"short\":0"
+    )?;
+    wanted.push_str("}],\"tables\":[{\"controller\":0,\"entries\":[{\"short\":0,")?;
+    write!(wanted, "\"random\":\"{random}\"")?;
+    wanted.push_str("}]}],\"addressed\":1,\"of\":1}\n")?;
+    assert_eq!(rt; json, wanted.as_str());
+    Ok(())
+}
+
+/// A run of the same seed as text and as JSON.
+fn one_run_twice<R: Threads + Wait + Sync + Abort + AllocGlobal>(rt: &R) -> Result<(), Fail> {
+    let text = written(rt, setup(1, 7, &[(0, 3)]))?;
+    let json = written(rt, as_json(setup(1, 7, &[(0, 3)])))?;
+    one_gear_json(rt, text.as_str(), json.as_str())
+}
+
+#[test]
+fn a_report_as_json_says_what_the_text_says(rt: HostRuntime) -> Result<(), Fail> {
+    one_run_twice(&rt)
 }
 
 /// Gear from the factory have no short address, so a survey hears nobody, and the run leaves what it leaves without: an

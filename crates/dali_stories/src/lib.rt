@@ -16,6 +16,8 @@ mod faults;
 #[cfg(test)]
 mod giving_up;
 #[cfg(test)]
+mod json;
+#[cfg(test)]
 mod pictures;
 #[cfg(test)]
 mod plans;

@@ -1,5 +1,5 @@
-use Rattle.std.specs.Prelude.{◌≡◌, ℕ, zero, suc, ◌+◌, List, [], ◌∷◌, ◌++◌, length, Bool, true, false, Option, Some, None}
-use Rattle.std.specs.Prelude.{codes, decimal}
+use Rattle.std.specs.Prelude.{ℕ, zero, suc, ◌+◌, List, [], ◌∷◌, ◌++◌, length, Bool, true, false}
+use Rattle.std.specs.Prelude.{Option, Some, None, codes, decimal}
 use Rattle.std.specs.Io.KnownBytes.{Appends}
 use Rattle.dali_script.specs.Names.{end_name, fault_name}
 use Rattle.dali_events.specs.World.{World, Controller, gear_at, controller_at}
@@ -52,7 +52,9 @@ addressed w zero = 0
 addressed w (suc k) = addressed w k + one_if_some (gear_at w k).short
 
 abbrev pub addressed_text : ℕ → ℕ → List ℕ
-addressed_text some all = codes "addressed " ++ (decimal some ++ (codes " of " ++ (decimal all ++ codes "\n")))
+addressed_text some all =
+    codes "addressed "
+    ++ (decimal some ++ (codes " of " ++ (decimal all ++ codes "\n")))
 
 abbrev pub run_text : List Outcome → SiteState → List ℕ
 run_text outcomes s =
@@ -63,4 +65,5 @@ run_text outcomes s =
 
 -- what was written is the report of some run and of the site that it left
 abbrev pub Reports : Option (List ℕ) → Option (List ℕ) → Type 0
-Reports old new = (outcomes : List Outcome) × (s : SiteState) × Appends old new (run_text outcomes s)
+Reports old new =
+    (outcomes : List Outcome) × (s : SiteState) × Appends old new (run_text outcomes s)

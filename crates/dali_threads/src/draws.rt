@@ -1,6 +1,6 @@
 //! The random addresses that the gear of a run may draw.
 
-ghost use Rattle.std.specs.Prelude.{◌≡◌, ◌%◌, ◌^◌, ◌≤◌, ◌<◌, IfOk, OnOk, length};
+ghost use Rattle.std.specs.Prelude.{◌≡◌, ◌%◌, ◌^◌, ◌≤◌, IfOk, OnOk};
 ghost use Rattle.dali_threads.specs.Drawn.{AreDrawn, StandOnce, with_number, drawn_on, numbers_of};
 
 use indexmap::IndexSet;

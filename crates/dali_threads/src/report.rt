@@ -1,10 +1,9 @@
 //! What is reported of a run.
 
-ghost use Rattle.std.specs.Prelude.{◌≡◌, ◌++◌, ◌<◌, IfOk, OnOk, length, string_bytes, if◌then◌else◌};
+ghost use Rattle.std.specs.Prelude.{◌≡◌, ◌++◌, ◌<◌, IfOk, OnOk, length, string_bytes};
 ghost use Rattle.dali_events.specs.World.{controller_at};
-ghost use Rattle.dali_replay.specs.SiteReport.{gear_lines};
-ghost use Rattle.dali_threads.specs.Report.{controller_text, outcome_text, outcome_line, outcome_lines, table_line, tables_up};
-ghost use Rattle.dali_threads.specs.Report.{addressed, addressed_text, run_text};
+ghost use Rattle.dali_threads.specs.Report.{controller_text, outcome_text, outcome_line, outcome_lines};
+ghost use Rattle.dali_threads.specs.Report.{table_line, tables_up, addressed, addressed_text, run_text};
 ghost use Rattle.dali_world.specs.Site.{world};
 
 use dali_line::Outcome;

@@ -1,6 +1,7 @@
 //! A run: a worker for each controller and a pumper, in threads of their own, over one line.
 
-ghost use Rattle.std.specs.Prelude.{◌≡◌, ◌*◌, ◌<◌, ◌≤◌, [], None, Some, IfOk, OnOk, OnErr, IfErr, IfSome, IsErrOf, IsTrue, false, length};
+ghost use Rattle.std.specs.Prelude.{◌≡◌, ◌*◌, ◌<◌, ◌≤◌, [], None, Some, IfOk, OnOk, OnErr, IfErr};
+ghost use Rattle.std.specs.Prelude.{IfSome, IsErrOf, IsTrue, false, length};
 ghost use Rattle.dali_events.specs.declared.plan.PlanError.{PlanError};
 ghost use Rattle.dali_events.specs.Plan.{plan_of, refusal_of};
 ghost use Rattle.dali_line.specs.Ends.{stops};
