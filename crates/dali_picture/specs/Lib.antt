@@ -4,3 +4,4 @@ pub mod Outcomes
 pub mod Incidents
 pub mod Clock
 pub mod Transactions
+pub mod RunGear

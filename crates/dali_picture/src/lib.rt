@@ -15,6 +15,7 @@ mod mark;
 mod outcomes;
 mod page;
 mod picture;
+mod run_gear;
 mod script_list;
 mod shapes;
 mod stays;

@@ -196,11 +196,11 @@ pub fn mark_of(event: Event) -> Mark
     }
 }
 
-/// Puts one mark more at the end of a list.
-fn append(marks: &mut Vec<Mark>, mark: Mark) -> Result<(), AllocError>
-    ensures { OnOk result (marks.new.items ≡ marks.old.items ++ mark ∷ []) }
+/// Puts one item more at the end of a list.
+fn append<T: Copy>(list: &mut Vec<T>, item: &T) -> Result<(), AllocError>
+    ensures { OnOk result (list.new.items ≡ list.old.items ++ item.now ∷ []) }
 {
-    marks.push(mark)?;
+    list.push(*item)?;
     Ok(())
 }
 
@@ -210,7 +210,7 @@ pub fn marks_of(alloc: Global, log: &[Event]) -> Result<Vec<Mark>, AllocError>
 {
     let mut marks = Vec::with_capacity(alloc, log.len())?;
     for event in log {
-        append(&mut marks, mark_of(*event))?;
+        append(&mut marks, &mark_of(*event))?;
     }
     Ok(marks)
 }

@@ -1,8 +1,8 @@
 //! A run as a picture: its marks, and the folds of a short picture.
 
-ghost use Rattle.std.specs.Prelude.{◌≡◌, length, map, IfOk};
+ghost use Rattle.std.specs.Prelude.{◌≡◌, ◌≤◌, length, map, IfOk, IfErr};
 ghost use Rattle.dali_replay.specs.Replay.{setting_of};
-ghost use Rattle.dali_replay.specs.Played.{IsPlayedBy};
+ghost use Rattle.dali_replay.specs.Played.{IsPlayedBy, StopsBy};
 ghost use Rattle.dali_picture.specs.Marks.{mark_of};
 ghost use Rattle.dali_picture.specs.Folds.{AreFolds, HaveTheirFrames};
 ghost use Rattle.dali_picture.specs.Transactions.{owned, senders_of};
@@ -12,7 +12,7 @@ use crate::incidents::{Happened, incidents_of};
 use crate::mark::{Mark, marks_of};
 use crate::stays::{Watched, watch_over};
 use crate::transactions::{Transaction, transactions_of};
-use dali_replay::{INPUT_LIMIT, Played, ReplayFault};
+use dali_replay::{Played, ReplayFault};
 use std::alloc::{AllocError, Global};
 
 /// A script that was played, and what is drawn of it.
@@ -32,18 +32,17 @@ pub struct Picture<'a> {
 impl<'a> Picture<'a> {
     /// The picture of a script: a mark for each event of its log, in their order, and no other.
     ///
-    /// Faults: a bad line or a plan that is refused, memory, and `Read` of an input past the limit.
+    /// Faults: a bad line or a plan that is refused, and memory.
     pub fn of(alloc: Global, input: &'a [u8]) -> Result<Picture<'a>, ReplayFault>
+        requires { length input.now ≤ 1048576 }
         ensures played { IfOk result (λ picture. IsPlayedBy (setting_of input.entry.now) picture.played) }
+        ensures stops { IfErr result (StopsBy (setting_of input.entry.now)) }
         ensures marks { IfOk result (λ picture. picture.marks.items ≡ map mark_of picture.played.log.items) }
         ensures folds { IfOk result (λ picture. AreFolds picture.folds.items (length picture.played.log.items)) }
         ensures frames { IfOk result (λ picture. HaveTheirFrames picture.marks.items picture.folds.items) }
         ensures transactions { IfOk result (λ picture.
             owned picture.transactions.items ≡ senders_of picture.played.log.items) }
     {
-        if input.len() > INPUT_LIMIT {
-            return Err(ReplayFault::Read);
-        }
         let played = Played::of(alloc, input)?;
         Ok(Picture::drawn(alloc, played)?)
     }

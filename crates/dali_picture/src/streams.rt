@@ -1,5 +1,7 @@
 //! A page from the bytes of a script.
 
+ghost use Rattle.std.specs.Prelude.{◌≤◌, length};
+
 use crate::page::push_page;
 use crate::picture::Picture;
 use dali_replay::{Explained, ReplayFault, read_input};
@@ -19,7 +21,9 @@ pub fn draw_run<R: Read, W: Write>(
 }
 
 /// Writes the page of a script.
-fn draw<W: Write>(alloc: Global, input: &[u8], writer: &mut W) -> Result<(), ReplayFault> {
+fn draw<W: Write>(alloc: Global, input: &[u8], writer: &mut W) -> Result<(), ReplayFault>
+    requires { length input.now ≤ 1048576 }
+{
     let picture = Picture::of(alloc, input)?;
     let mut text = String::new(alloc);
     push_page(alloc, &mut text, &picture)?;

@@ -60,8 +60,9 @@ th, td { border: 1px solid var(--line); padding: 2px 8px; text-align: left; }
 td.r, pre, code { font-family: monospace; }
 tr.none td { background: var(--bad); font-weight: bold; }
 button, input { font: inherit; min-height: 2em; }
+input[type=checkbox] { min-height: 0; vertical-align: middle; }
 li code { white-space: pre; }
-.report { color: var(--soft); user-select: none; }
+.report { display: inline-block; vertical-align: top; white-space: pre-wrap; color: var(--soft); user-select: none; }
 .strips { display: none; }
 @media (max-width: 600px) { body { margin: 6px; } pre { overflow-x: auto; } }
 @media print { @page { size: A4 landscape; margin: 10mm; }

@@ -189,6 +189,9 @@ pub fn push_event(text: &mut String, event: Event) -> Result<(), AllocError> {
 
 /// Which gear took a frame all the same.
 fn push_set(text: &mut String, set: GearSet) -> Result<(), AllocError> {
+    if set == GearSet::of(0) {
+        return text.push_str("; taken by no gear");
+    }
     text.push_str("; taken by gear:")?;
     for number in 0..128usize {
         if Reach::Only(set).includes(number) {
@@ -336,13 +339,12 @@ fn push_byte(text: &mut String, byte: u8) -> Result<(), AllocError> {
         b'&' => text.push_str("&amp;"),
         b'<' => text.push_str("&lt;"),
         b'>' => text.push_str("&gt;"),
-        b'\n' => text.push_str("; "),
-        32..=126 => text.push(char::from(byte)),
+        32..=126 | b'\n' => text.push(char::from(byte)),
         _ => text.push_str("?"),
     }
 }
 
-/// A line of a script or of a report, with the marks of the page's language in their place.
+/// A line of a script, or the report of one, with the marks of the page's language in their place.
 pub fn push_plain(text: &mut String, bytes: &[u8]) -> Result<(), AllocError> {
     for byte in bytes {
         push_byte(text, *byte)?;

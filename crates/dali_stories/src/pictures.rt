@@ -1,7 +1,8 @@
 //! What is drawn of a script.
 
+use crate::story::played;
 use dali_picture::{Picture, draw_run};
-use dali_replay::ReplayFault;
+use dali_replay::{INPUT_LIMIT, ReplayFault, read_input};
 use std::alloc::Global;
 use std::process::Abort;
 use std::test::Fail;
@@ -25,7 +26,9 @@ fn counts(picture: &Picture) -> [usize; 7] {
 
 /// What is drawn of a script.
 fn drawn(alloc: Global, script: &str) -> Result<[usize; 7], Fail> {
-    match Picture::of(alloc, script.as_bytes()) {
+    let mut reader = script.as_bytes();
+    let input = read_input(alloc, &mut reader).ok().ok_or("a script")?;
+    match Picture::of(alloc, &input) {
         Ok(picture) => Ok(counts(&picture)),
         Err(_) => Err(Fail::from("a picture")),
     }
@@ -77,7 +80,9 @@ fn a_site_is_drawn(rt: HostRuntime) -> Result<(), Fail> {
 
 /// A bad line has no picture.
 fn is_refused<R: Abort + AllocGlobal>(rt: &R, script: &str, line: u32) -> Result<(), Fail> {
-    let was = match Picture::of(rt.alloc(), script.as_bytes()) {
+    let mut reader = script.as_bytes();
+    let input = read_input(rt.alloc(), &mut reader).ok().ok_or("a script")?;
+    let was = match Picture::of(rt.alloc(), &input) {
         Ok(_) => Ok(()),
         Err(fault) => Err(fault),
     };
@@ -100,6 +105,25 @@ fn page(alloc: Global, script: &str) -> Result<String, Fail> {
         Ok(()) => Ok(String::from_str(alloc, text)?),
         Err(_) => Err(Fail::from("a page")),
     }
+}
+
+/// How the drawing of a script ends.
+fn ended(alloc: Global, script: &str) -> Result<(), ReplayFault> {
+    let mut reader = script.as_bytes();
+    let mut written = Vec::new(alloc);
+    draw_run(alloc, &mut reader, &mut written)
+}
+
+#[test]
+fn a_script_may_have_so_many_bytes(rt: HostRuntime) -> Result<(), Fail> {
+    let mut script = String::from_str(rt.alloc(), "bench 1\ndraws\n")?;
+    while script.len() < INPUT_LIMIT {
+        script.push('#')?;
+    }
+    assert_eq!(rt; ended(rt.alloc(), script.as_str()), Ok(()));
+    script.push('#')?;
+    assert_eq!(rt; ended(rt.alloc(), script.as_str()), Err(ReplayFault::Read));
+    Ok(())
 }
 
 /// Appends the words of a line of the page, if it is a mark.
@@ -414,10 +438,10 @@ const LINES: [Wanted<'static>; 2] = [
             "<li value=\"1\"><code># a site</code></li>\n<li value=\"2\"><code></code></li>\n",
             "<li value=\"3\"><code>site 1 0-3</code></li>\n<li value=\"4\"><code>draws 123456</code></li>\n",
             "<li value=\"5\"><code>used 0 9 0ABCDE</code></li>\n<li value=\"6\" data-e=\"0-1\"><code>go 0</code> ",
-            "<span class=\"report\">0: put 3 A100; </span></li>\n<li value=\"7\"><code># &lt;a&gt; &amp; more<",
-            "<li value=\"8\" data-e=\"1-2\"><code>pump</code> <span class=\"report\">0: sent A100 silence; </span>",
-            "<code>pump</code> <span class=\"report\">idle; </span></li>\n<li value=\"10\" data-e=\"2-2\"><code>up 0",
-            "<span class=\"report\">refused 2 ControllerUp; </span></li>\n</ol>",
+            "<span class=\"report\">0: put 3 A100\n</span></li>\n<li value=\"7\"><code># &lt;a&gt; &amp; more<",
+            "<li value=\"8\" data-e=\"1-2\"><code>pump</code> <span class=\"report\">0: sent A100 silence\n</span>",
+            "<code>pump</code> <span class=\"report\">idle\n</span></li>\n<li value=\"10\" data-e=\"2-2\"><code>up 0",
+            "<span class=\"report\">refused 2 ControllerUp\n</span></li>\n</ol>",
         ],
     ),
     (
@@ -432,6 +456,61 @@ const LINES: [Wanted<'static>; 2] = [
 #[test]
 fn a_page_has_the_whole_script(rt: HostRuntime) -> Result<(), Fail> {
     have(&rt, &LINES)
+}
+
+/// Appends the reports on a page, one after the other. No report has a mark of the page's language in it.
+fn push_reports(reports: &mut String, page: &str) -> Result<(), Fail> {
+    let mut left = page;
+    while let Some((_, after)) = left.split_once("<span class=\"report\">") {
+        let Some((report, rest)) = after.split_once("</span>") else {
+            return Err(Fail::from("an end of a report"));
+        };
+        reports.push_str(report)?;
+        left = rest;
+    }
+    Ok(())
+}
+
+/// Wants on the page of a script what `replay` reports of it.
+fn reports_as_replay<R: Abort + AllocGlobal>(rt: &R, script: &str) -> Result<(), Fail> {
+    let drawn = page(rt.alloc(), script)?;
+    let mut reports = String::new(rt.alloc());
+    push_reports(&mut reports, drawn.as_str())?;
+    let (_, wanted) = played(rt.alloc(), script.as_bytes())?;
+    assert_eq!(rt; reports.as_str(), wanted.as_str(), "of {script:?}");
+    Ok(())
+}
+
+/// Reports of more than one line: two gear and a table, and before them refusals and a bus that has nothing to send.
+const SHOWN: &str = "site 2 0-3 4-7
+draws 123456 654321
+show
+up 0
+pump
+off 2
+go 0
+pump noise
+run 500
+go 1
+show
+down 1
+show
+";
+
+#[test]
+fn a_page_has_the_reports_of_replay(rt: HostRuntime) -> Result<(), Fail> {
+    for script in [
+        BENCH,
+        SITE,
+        TROUBLED,
+        COMMISSIONED,
+        SURVEYED,
+        GIVING_UP,
+        SHOWN,
+    ] {
+        reports_as_replay(&rt, script)?;
+    }
+    Ok(())
 }
 
 /// Two controllers that survey: a frame of the second one is no part of a hunt of the first, though it might go on with

@@ -3,7 +3,7 @@ use Rattle.std.proofs.lemmas.List.{take_all}
 use Rattle.std.proofs.lemmas.List.Elements.{All-more}
 use Rattle.std.specs.Prelude.{All}
 use Rattle.dali_frame.specs.Random.{MASK24}
-use Rattle.dali_picture.proofs.stays.are_drawn.Goals as goal
+use Rattle.dali_picture.proofs.run_gear.are_drawn.Goals as goal
 
 pub loop-at-preserved : goal.loop-at-preserved
 loop-at-preserved c =

@@ -1,0 +1,74 @@
+use Rattle.std.specs.Prelude.{◌≤◌, ◌<◌, ℕ, List, length, drop, map}
+use Rattle.dali_frame.specs.declared.frames.Answer.{Answer}
+use Rattle.dali_frame.specs.declared.frames.Answer.TheVariants.{Silence}
+use Rattle.dali_special.specs.declared.command.Command.{Command}
+use Rattle.dali_special.specs.Command.{command_of}
+use Rattle.dali_gear.specs.declared.row.Reach.{Reach}
+use Rattle.dali_gear.specs.declared.row.Reach.TheVariants.{Everyone, Only}
+use Rattle.dali_gear.specs.Gear.{Gear, gear_expired, gear_quieted}
+use Rattle.dali_gear.specs.Row.{row_after, draws_needed, answers_of, heard_of}
+use Rattle.dali_events.specs.declared.event.Event.{Event}
+use Rattle.dali_events.specs.declared.event.Event.TheVariants as event
+use Rattle.dali_events.specs.World.{gear_changed}
+use Rattle.dali_events.specs.Happens.{gear_powered}
+
+-- the gear of a run, and the numbers that are left to be drawn
+pub record Moment : Type 0 where
+  pub gear : List Gear
+  pub left : List ℕ
+
+-- whether an event may befall the gear: enough numbers are left for those that draw, and the gear
+-- whose power or time it is is there
+abbrev pub MayTake : Reach → Command → Moment → Type 0
+MayTake reach x m = draws_needed reach x 0 m.gear ≤ length m.left
+
+abbrev pub MayBefall : Event → Moment → Type 0
+MayBefall (event.Sent c f h) m = MayTake Everyone (command_of f) m
+MayBefall (event.Destroyed c f set) m = MayTake (Only set) (command_of f) m
+MayBefall (event.Power g on) m = g < length m.gear
+MayBefall (event.Expired g) m = g < length m.gear
+MayBefall event.Quiet m = Unit {0}
+MayBefall (event.Collided c f d g) m = Unit {0}
+MayBefall (event.Acted c i o) m = Unit {0}
+MayBefall (event.Offered c f) m = Unit {0}
+MayBefall event.Lapsed m = Unit {0}
+MayBefall (event.Down c) m = Unit {0}
+MayBefall (event.Up c kept) m = Unit {0}
+
+abbrev pub after_frame : Reach → Command → Moment → Moment
+after_frame reach x m = record {
+  gear = row_after reach x 0 m.gear m.left;
+  left = drop (draws_needed reach x 0 m.gear) m.left;
+}
+
+-- WHAT AN EVENT DOES TO THE GEAR, as in a world: a destroyed frame reaches those of its set alone,
+-- and two that collide reach nobody.
+abbrev pub befallen : Event → Moment → Moment
+befallen (event.Sent c f h) m = after_frame Everyone (command_of f) m
+befallen (event.Destroyed c f set) m = after_frame (Only set) (command_of f) m
+befallen (event.Power g on) m = record m { gear = gear_changed m.gear g (gear_powered on) }
+befallen (event.Expired g) m = record m { gear = gear_changed m.gear g gear_expired }
+befallen event.Quiet m = record m { gear = map gear_quieted m.gear }
+befallen (event.Collided c f d g) m = m
+befallen (event.Acted c i o) m = m
+befallen (event.Offered c f) m = m
+befallen event.Lapsed m = m
+befallen (event.Down c) m = m
+befallen (event.Up c kept) m = m
+
+-- what gear answer to the frame of an event
+abbrev pub plain_answer : Reach → Command → Moment → Answer
+plain_answer reach x m = heard_of (answers_of reach x 0 m.gear)
+
+abbrev pub answer_to : Event → Moment → Answer
+answer_to (event.Sent c f h) m = plain_answer Everyone (command_of f) m
+answer_to (event.Destroyed c f set) m = plain_answer (Only set) (command_of f) m
+answer_to (event.Power g on) m = Silence
+answer_to (event.Expired g) m = Silence
+answer_to event.Quiet m = Silence
+answer_to (event.Collided c f d g) m = Silence
+answer_to (event.Acted c i o) m = Silence
+answer_to (event.Offered c f) m = Silence
+answer_to event.Lapsed m = Silence
+answer_to (event.Down c) m = Silence
+answer_to (event.Up c kept) m = Silence

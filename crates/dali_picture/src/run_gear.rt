@@ -1,0 +1,147 @@
+//! The gear of a run, event by event: what they take, draw and answer.
+
+ghost use Rattle.std.specs.Prelude.{◌≡◌, ◌<◌, ◌≤◌, true, length, All};
+ghost use Rattle.dali_frame.specs.Random.{MASK24};
+ghost use Rattle.dali_special.specs.Command.{command_of};
+ghost use Rattle.dali_events.specs.World.{gear_changed};
+ghost use Rattle.dali_events.specs.Happens.{gear_powered};
+ghost use Rattle.dali_gear.specs.Gear.{gear_expired};
+
+use dali_frame::{Answer, Forward, Random24};
+use dali_gear::{Reach, Row};
+use dali_special::Command;
+use dali_world::{Event, Used};
+use std::marker::Model;
+
+/// Whether gear draw all of these.
+fn are_drawn(draws: &[Random24]) -> bool
+    ensures { result ≡ true → All (λ r. r < MASK24) draws.now }
+{
+    for at in 0..draws.len() {
+        if draws[at].value() >= 0xFFFFFF {
+            return false;
+        }
+    }
+    true
+}
+
+/// Used gear stand in their places, where these are there.
+fn place(gear: &mut Row, used: &[Used]) {
+    for one in used {
+        let number = one.gear as usize;
+        if number < gear.len() {
+            gear.place(number, one.random, one.short);
+        }
+    }
+}
+
+/// The power of a gear comes or goes, where it is there.
+fn power(gear: &mut Row, number: u32, on: bool)
+    ensures { number < length gear.old → gear.new ≡ gear_changed gear.old number (gear_powered on) }
+{
+    let number = number as usize;
+    if number >= gear.len() {
+        return;
+    }
+    if on {
+        gear.power_on(number);
+    } else {
+        gear.power_off(number);
+    }
+}
+
+/// The initialisation of a gear runs out, where it is there.
+fn expire(gear: &mut Row, number: u32)
+    ensures { number < length gear.old → gear.new ≡ gear_changed gear.old number gear_expired }
+{
+    let number = number as usize;
+    if number < gear.len() {
+        gear.expire(number);
+    }
+}
+
+/// The gear of a run at one moment, and the numbers that they draw. Contracts see the gear, and the numbers that are
+/// left.
+#[derive(Drop)]
+pub struct RunGear<'a> {
+    gear: Row,
+    draws: &'a [Random24],
+    drawn: usize,
+}
+
+impl<'a> Model for RunGear<'a> {
+    ghost use Rattle.std.specs.Prelude.{◌≤◌, ◌<◌, drop, length, All};
+    ghost use Rattle.dali_frame.specs.Random.{MASK24};
+    ghost use Rattle.dali_picture.specs.RunGear.{Moment};
+
+    ghost Value = { Moment };
+
+    ghost view = { λ r. record { gear = r.gear; left = drop r.drawn r.draws.now } };
+
+    ghost invariant = { λ r. (r.drawn ≤ length r.draws.now) × All (λ n. n < MASK24) r.draws.now };
+}
+
+impl<'a> RunGear<'a> {
+    ghost use Rattle.dali_picture.specs.RunGear.{MayTake, MayBefall, after_frame, befallen, plain_answer, answer_to};
+
+    /// So many gear as they are at first: all but the used ones come from the factory. They draw none of the numbers
+    /// where one is `FFFFFF`, as never in a run that was played.
+    pub fn new(gear: usize, used: &[Used], draws: &'a [Random24]) -> RunGear<'a>
+        requires { gear ≤ 128 }
+    {
+        let mut gear = Row::new(gear);
+        place(&mut gear, used);
+        let draws = if are_drawn(draws) { draws } else { &[] };
+        RunGear {
+            gear,
+            draws,
+            drawn: 0,
+        }
+    }
+
+    /// The gear, in order of their number.
+    pub fn row(&self) -> &Row
+        ensures { result.now ≡ self.now.gear }
+    {
+        &self.gear
+    }
+
+    /// A frame reaches gear. What they answer. Nothing comes of it where too few numbers are left, as never in a run
+    /// that was played.
+    fn reached(&mut self, frame: Forward, reach: &Reach) -> Answer
+        ensures gear { MayTake reach.now (command_of frame) self.old
+            → self.new ≡ after_frame reach.now (command_of frame) self.old }
+        ensures answer { MayTake reach.now (command_of frame) self.old
+            → result ≡ plain_answer reach.now (command_of frame) self.old }
+    {
+        let command = Command::read(frame);
+        let left = &self.draws[self.drawn..];
+        if self.gear.draws_needed(&command, *reach) > left.len() {
+            return Answer::Silence;
+        }
+        let heard = self.gear.take(&command, *reach, left);
+        self.drawn += heard.drawn;
+        heard.answer
+    }
+
+    /// An event befalls the gear. What they answer to its frame.
+    pub fn befall(&mut self, event: Event) -> Answer
+        ensures gear { MayBefall event self.old → self.new ≡ befallen event self.old }
+        ensures answer { MayBefall event self.old → result ≡ answer_to event self.old }
+    {
+        match event {
+            Event::Sent(_, frame, _) => return self.reached(frame, &Reach::Everyone),
+            Event::Destroyed(_, frame, set) => return self.reached(frame, &Reach::Only(set)),
+            Event::Power(number, on) => power(&mut self.gear, number, on),
+            Event::Expired(number) => expire(&mut self.gear, number),
+            Event::Quiet => self.gear.quiet(),
+            Event::Acted(..)
+            | Event::Offered(..)
+            | Event::Collided(..)
+            | Event::Lapsed
+            | Event::Down(_)
+            | Event::Up(..) => {}
+        }
+        Answer::Silence
+    }
+}
