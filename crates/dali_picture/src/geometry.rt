@@ -102,10 +102,10 @@ impl Columns {
         }
     }
 
-    /// How wide the picture is.
+    /// How wide the picture is, with room for the name of an end behind the last mark.
     pub fn end(&self) -> u64 {
         let column = self.last();
         let width = u64::from(self.width);
-        12 + u64::from(column) * width + width
+        72 + u64::from(column) * width + width
     }
 }

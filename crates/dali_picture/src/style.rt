@@ -60,6 +60,7 @@ th, td { border: 1px solid var(--line); padding: 2px 8px; text-align: left; }
 td.r, pre, code { font-family: monospace; }
 tr.none td { background: var(--bad); font-weight: bold; }
 button, input { font: inherit; min-height: 2em; }
+input[type=checkbox] { min-height: 0; vertical-align: middle; }
 li code { white-space: pre; }
 .report { display: inline-block; vertical-align: top; white-space: pre-wrap; color: var(--soft); user-select: none; }
 .strips { display: none; }

@@ -189,6 +189,9 @@ pub fn push_event(text: &mut String, event: Event) -> Result<(), AllocError> {
 
 /// Which gear took a frame all the same.
 fn push_set(text: &mut String, set: GearSet) -> Result<(), AllocError> {
+    if set == GearSet::of(0) {
+        return text.push_str("; taken by no gear");
+    }
     text.push_str("; taken by gear:")?;
     for number in 0..128usize {
         if Reach::Only(set).includes(number) {
