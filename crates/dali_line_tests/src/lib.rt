@@ -9,6 +9,8 @@ mod driven;
 #[cfg(test)]
 mod failing;
 #[cfg(test)]
+mod full;
+#[cfg(test)]
 mod listed;
 #[cfg(test)]
 mod reading;

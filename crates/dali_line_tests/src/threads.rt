@@ -117,8 +117,63 @@ pub fn works<B: Bus, K: Keep + Drop, G: Gate, R: Wait>(
 /// What two workers, a pumper and a reader leave.
 type Run<P, D> = (Left<P>, Left<P>, (D, Option<Refusal>), Option<Reading>);
 
-/// Two workers, a pumper and a reader of the directory. The second worker begins when the first one's gate has seen it
-/// before its first commit; the reader ends when both workers have.
+/// Two workers run, each in a thread of its own. The second begins when the first one's gate has seen it before its
+/// first commit.
+fn both_work<B, R>(
+    rt: &R,
+    alloc: Global,
+    bus: &B,
+    directory: &Directory,
+    gate: &Holding,
+    first: Worker<B::Port, MemoryKeep, &Holding>,
+    second: Worker<B::Port, MemoryKeep, &Holding>,
+) -> (Left<B::Port>, Left<B::Port>)
+where
+    B: Bus + Sync,
+    B::Port: Send + Drop,
+    R: Threads + Wait + Sync,
+    ensures one { IfSome result.0.3 (λ p. p.places ≡ directory.now) }
+    ensures other { IfSome result.1.3 (λ p. p.places ≡ directory.now) }
+{
+    join(
+        rt,
+        move || -> Left<B::Port>
+            ensures { IfSome result.3 (λ p. p.places ≡ directory.entry.now) }
+        { works(rt, alloc, bus, directory, first) },
+        move || -> Left<B::Port>
+            ensures { IfSome result.3 (λ p. p.places ≡ directory.entry.now) }
+        {
+            gate.await_first(rt);
+            works(rt, alloc, bus, directory, second)
+        },
+    )
+}
+
+/// A pumper and a reader of the directory, each in a thread of its own.
+fn pumps_and_reads<B, R>(
+    rt: &R,
+    alloc: Global,
+    bus: &B,
+    directory: &Directory,
+    flag: &AtomicBool,
+    pumper: Pumper<B::Driver, OpenGate>,
+) -> ((B::Driver, Option<Refusal>), Option<Reading>)
+where
+    B: Bus + Sync,
+    B::Driver: Send + Drop,
+    R: Threads + Wait + Sync,
+    ensures { IfSome result.1 (λ r. r.pass.places ≡ directory.now) }
+{
+    join(
+        rt,
+        move || pumper.run(rt, bus, TURNS),
+        move || -> Option<Reading>
+            ensures { IfSome result (λ r. r.pass.places ≡ directory.entry.now) }
+        { reads(alloc, directory, flag) },
+    )
+}
+
+/// Two workers, a pumper and a reader of the directory, which ends when both workers have.
 fn two_run<B, R>(
     rt: &R,
     alloc: Global,
@@ -149,32 +204,13 @@ where
             ensures one { IfSome result.0.3 (λ p. p.places ≡ directory.entry.now) }
             ensures other { IfSome result.1.3 (λ p. p.places ≡ directory.entry.now) }
         {
-            let both = join(
-                rt,
-                move || -> Left<B::Port>
-                    ensures { IfSome result.3 (λ p. p.places ≡ directory.entry.now) }
-                { works(rt, alloc, bus, directory, first) },
-                move || -> Left<B::Port>
-                    ensures { IfSome result.3 (λ p. p.places ≡ directory.entry.now) }
-                {
-                    gate.await_first(rt);
-                    works(rt, alloc, bus, directory, second)
-                },
-            );
+            let both = both_work(rt, alloc, bus, directory, gate, first, second);
             flag.store(true, SeqCst);
             both
         },
         move || -> ((B::Driver, Option<Refusal>), Option<Reading>)
             ensures { IfSome result.1 (λ r. r.pass.places ≡ directory.entry.now) }
-        {
-            join(
-                rt,
-                move || pumper.run(rt, bus, TURNS),
-                move || -> Option<Reading>
-                    ensures { IfSome result (λ r. r.pass.places ≡ directory.entry.now) }
-                { reads(alloc, directory, flag) },
-            )
-        },
+        { pumps_and_reads(rt, alloc, bus, directory, flag, pumper) },
     );
     (one, other, pumped, reading)
 }
@@ -272,14 +308,16 @@ pub fn last_two<P: Default + Drop>(ports: &mut ArrayVec<P, 4>) -> (P, P) {
     (ports.pop().unwrap_or_default(), other)
 }
 
-/// The last two ports are back, in order of their controllers. A spare one, as of a site of one controller, is let go.
-pub fn go_back<P0: Ledger, P1: Ledger, P2: Ledger, P3: Ledger, D: Ledger, R: Abort>(
+/// The last two ports are back, in order of their controllers; the first of them only if it is no spare one, as it is
+/// of a site of one controller.
+pub fn go_back<P: Drop, R: Abort>(
     rt: &R,
-    ports: &mut ArrayVec<Port<P0, P1, P2, P3, D>, 4>,
-    last: (Port<P0, P1, P2, P3, D>, Port<P0, P1, P2, P3, D>),
+    ports: &mut ArrayVec<P, 4>,
+    last: (P, P),
+    is_spare: bool,
 ) {
     let (port, other) = last;
-    if port.controller() < 4 {
+    if !is_spare {
         assert!(rt; ports.try_push(port).is_ok());
     }
     assert!(rt; ports.try_push(other).is_ok());
@@ -363,7 +401,7 @@ where
     let pair = last_two(&mut ports);
     let (one, other, pumped, reading) = run_apart(rt, alloc, &line, directory, pair, driver, keeps);
     same(rt, &pumped.1, &None);
-    go_back(rt, &mut ports, (one.1, other.1));
+    go_back(rt, &mut ports, (one.1, other.1), false);
     let site = closed(rt, line, ports, pumped.0);
     has_found(rt, &site, 0, (one.0, one.2));
     has_found(rt, &site, 1, (other.0, other.2));
@@ -392,21 +430,31 @@ fn stores_apart() -> Result<(MemoryKeep, MemoryKeep), Fail> {
     Ok((store_of(APART[0])?, store_of(APART[1])?))
 }
 
-#[test]
-fn commit_outside_lock(rt: HostRuntime) -> Result<(), Fail> {
-    let site = site_of(rt.alloc(), 2, &APART, &[1, 2, 3, 4])?;
-    let directory = Directory::new(rt.alloc())?;
-    commit_apart(&rt, rt.alloc(), site, stores_apart()?, &directory);
+/// The same with so many gear, and with empty stores.
+fn commit_gear<R: Threads + Wait + Abort + Sync + AllocGlobal>(
+    rt: &R,
+    gear: u32,
+    directory: &Directory,
+) -> Result<(), Fail> {
+    let alloc = rt.alloc();
+    let keeps = stores_apart()?;
+    let site = site_with(alloc, gear, &APART)?;
+    commit_apart(rt, alloc, site, keeps, directory);
     Ok(())
 }
 
 #[test]
-fn look_while_running(rt: HostRuntime) -> Result<(), Fail> {
-    let site = site_with(rt.alloc(), 4, &APART)?;
-    let directory = Directory::new(rt.alloc())?;
-    commit_apart(&rt, rt.alloc(), site, stores_apart()?, &directory);
-    Ok(())
+fn commit_outside_lock(rt: HostRuntime) -> Result<(), Fail> {
+    commit_gear(&rt, 2, &Directory::new(rt.alloc())?)
 }
+
+#[test]
+fn look_while_running(rt: HostRuntime) -> Result<(), Fail> {
+    commit_gear(&rt, 4, &Directory::new(rt.alloc())?)
+}
+
+/// A worker, if there is one, with a store in memory and an open gate.
+type MaybeWorker<P> = Option<Worker<P, MemoryKeep, OpenGate>>;
 
 /// A worker runs, if there is one.
 fn works_if<B: Bus, R: Wait>(
@@ -414,7 +462,7 @@ fn works_if<B: Bus, R: Wait>(
     alloc: Global,
     bus: &B,
     directory: &Directory,
-    worker: Option<Worker<B::Port, MemoryKeep, OpenGate>>,
+    worker: MaybeWorker<B::Port>,
 ) -> Option<Left<B::Port>> {
     match worker {
         Some(worker) => Some(works(rt, alloc, bus, directory, worker)),
@@ -424,6 +472,27 @@ fn works_if<B: Bus, R: Wait>(
 
 /// Four of a thing, of which some may be missing.
 type Four<T> = (Option<T>, Option<T>, Option<T>, Option<T>);
+
+/// Up to two workers run, each in a thread of its own.
+fn both_work_if<B, R>(
+    rt: &R,
+    alloc: Global,
+    bus: &B,
+    directory: &Directory,
+    first: MaybeWorker<B::Port>,
+    second: MaybeWorker<B::Port>,
+) -> (Option<Left<B::Port>>, Option<Left<B::Port>>)
+where
+    B: Bus + Sync,
+    B::Port: Send + Drop,
+    R: Threads + Wait + Sync,
+{
+    join(
+        rt,
+        move || works_if(rt, alloc, bus, directory, first),
+        move || works_if(rt, alloc, bus, directory, second),
+    )
+}
 
 /// Up to four workers and a pumper run, each in a thread of its own. The bus may be stopped while the workers run,
 /// before the pumper's first turn: so no frame was sent before, and no worker can have ended.
@@ -443,30 +512,18 @@ where
     R: Threads + Wait + Sync,
 {
     let (first, second, third, fourth) = workers;
-    let ((one, two), (three, (four, pumped))) = join(
+    let ((one, two), ((three, four), pumped)) = join(
         rt,
+        move || both_work_if(rt, alloc, bus, directory, first, second),
         move || {
             join(
                 rt,
-                move || works_if(rt, alloc, bus, directory, first),
-                move || works_if(rt, alloc, bus, directory, second),
-            )
-        },
-        move || {
-            join(
-                rt,
-                move || works_if(rt, alloc, bus, directory, third),
+                move || both_work_if(rt, alloc, bus, directory, third, fourth),
                 move || {
-                    join(
-                        rt,
-                        move || works_if(rt, alloc, bus, directory, fourth),
-                        move || {
-                            if stops {
-                                bus.stop(rt);
-                            }
-                            pumper.run(rt, bus, TURNS)
-                        },
-                    )
+                    if stops {
+                        bus.stop(rt);
+                    }
+                    pumper.run(rt, bus, TURNS)
                 },
             )
         },
