@@ -300,6 +300,11 @@ fn played<B: FullBus, R: Abort + Wait>(
     speaks_for_nobody(rt, bus, spare);
 }
 
+/// Both sites have the same log.
+fn have_one_log<R: Abort>(rt: &R, was: SiteState, wanted: &SiteState) {
+    same(rt, &was.log(), &wanted.log());
+}
+
 /// A line and a site that are the same at first are played a story, and have the same log at its end.
 fn beside<P0: Ledger, P1: Ledger, P2: Ledger, P3: Ledger, D: Ledger, R: Abort + Wait>(
     rt: &R,
@@ -328,7 +333,7 @@ fn beside<P0: Ledger, P1: Ledger, P2: Ledger, P3: Ledger, D: Ledger, R: Abort + 
     );
     let is_spare = port.controller() == 255;
     go_back(rt, &mut ports, (port, other), is_spare);
-    same(rt, &closed(rt, line, ports, driver).log(), &site.log());
+    have_one_log(rt, closed(rt, line, ports, driver), site);
 }
 
 /// A site of one gear with these blocks.

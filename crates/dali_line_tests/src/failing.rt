@@ -11,7 +11,9 @@ ghost use Rattle.dali_reserve.specs.declared.error.KeepError.TheVariants.{Addres
 
 use super::calls::comes_up;
 use super::full::FullBus;
-use super::threads::{Blanks, TURNS, blanks, closed, line_of, site_with, store_of};
+use super::threads::{
+    Blanks, TURNS, blanks, closed, go_back, last_two, line_of, site_with, store_of,
+};
 use super::values::{block, same};
 use dali_enrol::{Directory, Table};
 use dali_line::{Bus, Gate, Moment, OpenGate, Outcome, Pumper, Worker};
@@ -265,13 +267,13 @@ fn is_named(site: &SiteState, table: &Table, number: u32) -> bool {
 }
 
 /// The table of the one controller has each of three gear, under the addresses that the gear has.
-fn table_is_true<R: Abort>(rt: &R, site: &SiteState) {
+fn table_is_true<R: Abort>(rt: &R, site: SiteState) {
     assert!(rt; site.plan().blocks().len() == 1);
     match site.table(0) {
         Some(table) => {
             same(rt, &table.entries().len(), &3);
             for number in 0..3 {
-                assert!(rt; is_named(site, table, number));
+                assert!(rt; is_named(&site, table, number));
             }
         }
         None => assert!(rt; false),
@@ -330,10 +332,10 @@ where
     requires driver { (blanks.4.name ≡ D.name) × (blanks.4.parts ≡ D.parts) × (0 < D.parts) }
 {
     let (line, mut ports, driver) = line_of::<P0, P1, P2, P3, D>(site, blanks);
-    let port = ports.pop().unwrap_or_default();
+    let (spare, port) = last_two(&mut ports);
     let (port, driver) = sessions(rt, alloc, &line, directory, port, driver, keep, stored);
-    assert!(rt; ports.try_push(port).is_ok());
-    table_is_true(rt, &closed(rt, line, ports, driver));
+    go_back(rt, &mut ports, (spare, port), true);
+    table_is_true(rt, closed(rt, line, ports, driver));
 }
 
 /// An empty store of the block 0 to 7 that fails at this commit, and stores its record or not.

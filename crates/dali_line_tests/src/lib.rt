@@ -11,6 +11,8 @@ mod failing;
 #[cfg(test)]
 mod full;
 #[cfg(test)]
+mod holding;
+#[cfg(test)]
 mod listed;
 #[cfg(test)]
 mod reading;

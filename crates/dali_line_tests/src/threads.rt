@@ -2,12 +2,13 @@
 
 ghost use Rattle.std.specs.Prelude.{◌≡◌, ◌<◌, IfSome};
 
+use super::holding::{Holding, Seen};
 use super::listed::{List, Listed, ListedBus};
 use super::reading::{Reading, has_read, reads, see_table};
 use super::values::{block, same, site_of};
 use arrayvec::ArrayVec;
 use dali_enrol::{Directory, Pass};
-use dali_line::{Bus, Driver, Gate, Line, Moment, OpenGate, Outcome, Port, Pumper, Worker};
+use dali_line::{Bus, Driver, Gate, Line, OpenGate, Outcome, Port, Pumper, Worker};
 use dali_reserve::{Keep, MemoryKeep};
 use dali_script::{End, Input, Kept};
 use dali_world::{Event, Refusal, SiteState};
@@ -21,71 +22,8 @@ use std::sync::{Mutex, Wait};
 use std::test::Fail;
 use std::thread::{Threads, join};
 
-/// How often a gate looks before it gives up.
-const LOOKS: u32 = 100_000_000;
-
 /// How many turns a worker and a pumper may take.
 pub const TURNS: u32 = 100_000;
-
-/// What a gate has seen.
-#[derive(Drop)]
-struct Seen {
-    /// Controller 0 is before its first commit, or was.
-    first: bool,
-    /// Another controller is before a commit, or was.
-    second: bool,
-    /// Neither came within so many looks.
-    has_failed: bool,
-}
-
-/// A gate that holds the first commit of controller 0 until another controller is before a commit of its own.
-#[derive(Drop)]
-struct Holding {
-    seen: Mutex<Seen>,
-}
-
-impl Holding {
-    /// Whether controller 0 is before its first commit now.
-    fn comes_first<R: Wait>(&self, rt: &R) -> bool {
-        let mut seen = self.seen.lock(rt);
-        let comes = !seen.first;
-        seen.first = true;
-        comes
-    }
-
-    /// Waits until another controller is before a commit.
-    fn await_second<R: Wait>(&self, rt: &R) {
-        for _ in 0..LOOKS {
-            if self.seen.lock(rt).second {
-                return;
-            }
-        }
-        self.seen.lock(rt).has_failed = true;
-    }
-
-    /// Waits until controller 0 is before its first commit.
-    fn await_first<R: Wait>(&self, rt: &R) {
-        for _ in 0..LOOKS {
-            if self.seen.lock(rt).first {
-                return;
-            }
-        }
-        self.seen.lock(rt).has_failed = true;
-    }
-}
-
-impl Gate for &Holding {
-    fn at<R: Wait>(&self, rt: &R, controller: u8, moment: Moment) {
-        if moment != Moment::BeforeCommit {
-            return;
-        }
-        if controller != 0 {
-            self.seen.lock(rt).second = true;
-        } else if self.comes_first(rt) {
-            self.await_second(rt);
-        }
-    }
-}
 
 /// What a worker leaves: how it ended, its port, what its store reads, and its pass.
 pub type Left<P> = (Outcome, P, Option<Kept>, Option<Pass>);
@@ -302,6 +240,24 @@ fn was_read<R: Abort>(
     see_table(rt, directory, &mut one, &mut other, second);
 }
 
+/// Both workers found all gear, and what they posted was read and is seen.
+fn all_is_right<R: Abort>(
+    rt: &R,
+    directory: &Directory,
+    site: SiteState,
+    left: ((Outcome, Option<Kept>), (Outcome, Option<Kept>)),
+    passes: (Option<Pass>, Option<Pass>),
+    reading: Option<Reading>,
+)
+    requires one { IfSome passes.0 (λ p. p.places ≡ directory.now) }
+    requires other { IfSome passes.1 (λ p. p.places ≡ directory.now) }
+{
+    let (one, other) = left;
+    has_found(rt, &site, 0, one);
+    has_found(rt, &site, 1, other);
+    was_read(rt, directory, &site, passes, reading);
+}
+
 /// The last two ports, in order of their controllers.
 pub fn last_two<P: Default + Drop>(ports: &mut ArrayVec<P, 4>) -> (P, P) {
     let other = ports.pop().unwrap_or_default();
@@ -403,9 +359,8 @@ where
     same(rt, &pumped.1, &None);
     go_back(rt, &mut ports, (one.1, other.1), false);
     let site = closed(rt, line, ports, pumped.0);
-    has_found(rt, &site, 0, (one.0, one.2));
-    has_found(rt, &site, 1, (other.0, other.2));
-    was_read(rt, directory, &site, (one.3, other.3), reading);
+    let left = ((one.0, one.2), (other.0, other.2));
+    all_is_right(rt, directory, site, left, (one.3, other.3), reading);
 }
 
 const APART: [(u8, u8); 2] = [(0, 3), (4, 7)];
@@ -689,6 +644,20 @@ fn left_their_lists<R: Abort>(rt: &R, log: &[Event], left: Four<(Outcome, List)>
     left_its_list(rt, log, 3, left.3, stops);
 }
 
+/// The list of the driver and those of the workers are what the log has. The driver's is empty where the bus was
+/// stopped from outside.
+fn lists_are_right<R: Abort>(
+    rt: &R,
+    site: SiteState,
+    list: List,
+    left: Four<(Outcome, List)>,
+    stops: bool,
+) {
+    is_logged(rt, site.log(), 255, &list);
+    assert!(rt; list.events.is_empty() == stops);
+    left_their_lists(rt, site.log(), left, stops);
+}
+
 fn lists_are_logged<P0, P1, P2, P3, D, R>(
     rt: &R,
     alloc: Global,
@@ -717,10 +686,7 @@ where
     let Listed { inner, list } = driver;
     let mut ports = ArrayVec::new();
     let left = come_back(rt, &mut ports, left);
-    let site = closed(rt, line, ports, inner);
-    is_logged(rt, site.log(), 255, &list);
-    assert!(rt; list.events.is_empty() == stops);
-    left_their_lists(rt, site.log(), left, stops);
+    lists_are_right(rt, closed(rt, line, ports, inner), list, left, stops);
 }
 
 /// An empty store for the controller of this number, if there is one.
