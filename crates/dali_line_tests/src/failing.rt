@@ -267,17 +267,22 @@ fn is_named(site: &SiteState, table: &Table, number: u32) -> bool {
 }
 
 /// The table of the one controller has each of three gear, under the addresses that the gear has.
-fn table_is_true<R: Abort>(rt: &R, site: SiteState) {
+fn table_is_true<R: Abort>(rt: &R, site: &SiteState) {
     assert!(rt; site.plan().blocks().len() == 1);
     match site.table(0) {
         Some(table) => {
             same(rt, &table.entries().len(), &3);
             for number in 0..3 {
-                assert!(rt; is_named(&site, table, number));
+                assert!(rt; is_named(site, table, number));
             }
         }
         None => assert!(rt; false),
     }
+}
+
+/// The site that is left has a true table.
+fn has_ended<R: Abort>(rt: &R, site: SiteState) {
+    table_is_true(rt, &site);
 }
 
 /// The controller halts at the commit that fails. Over what its store has then, a second worker goes on to the end. The
@@ -335,7 +340,7 @@ where
     let (spare, port) = last_two(&mut ports);
     let (port, driver) = sessions(rt, alloc, &line, directory, port, driver, keep, stored);
     go_back(rt, &mut ports, (spare, port), true);
-    table_is_true(rt, closed(rt, line, ports, driver));
+    has_ended(rt, closed(rt, line, ports, driver));
 }
 
 /// An empty store of the block 0 to 7 that fails at this commit, and stores its record or not.
