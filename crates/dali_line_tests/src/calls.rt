@@ -3,10 +3,11 @@
 
 ghost use Rattle.std.specs.Prelude.{◌≡◌, ◌<◌};
 
+use super::full::FullBus;
 use super::threads::{Blanks, blanks, closed, go_back, last_two, line_of};
 use super::values::Ordered::{Commit, Done, Put};
 use super::values::{ENROL, Ordered, RESERVE, forward, one_reserved, same, site_of};
-use dali_line::{Bus, Driver, Line, Port, Ready, UpRefusal};
+use dali_line::{Bus, Port, Ready, UpRefusal};
 use dali_script::{Due, End, Input, Kept};
 use dali_world::{Receipt, Refusal, SiteState, Trouble};
 use std::alloc::Global;
@@ -169,13 +170,64 @@ const STOP: [Step; 5] = [
     Step::Ready(Ready::Stopped),
 ];
 
-/// A step that any bus takes.
-fn bus_does<B: Bus, R: Abort + Wait>(
+/// What a call answered that says no more than that it was accepted.
+fn does<R: Abort>(rt: &R, answer: Result<(), Refusal>, other: Result<(), Refusal>) {
+    same(rt, &[answer, other], &[Ok(()), Ok(())]);
+}
+
+/// What a line answered where a controller was to come up.
+pub fn comes_up<R: Abort>(rt: &R, was: Result<(), UpRefusal>, wanted: &Result<(), UpRefusal>) {
+    same(rt, &was, wanted);
+}
+
+/// The records with which a controller may come up again: those of its store, and others.
+type Records<'a> = (&'a Kept, &'a Kept);
+
+/// A step that not every bus takes.
+fn line_does<B: FullBus, R: Abort + Wait>(
+    rt: &R,
+    bus: &B,
+    other: &mut B::Port,
+    driver: &mut B::Driver,
+    site: &mut SiteState,
+    records: Records<'_>,
+    step: &Step,
+) {
+    let (kept, wrong) = records;
+    let disagrees = Refusal::StoreDisagrees;
+    let arc = forward(0xFE80);
+    match *step {
+        Step::Down => does(rt, bus.down(rt, driver, 0), site.down(0)),
+        Step::Up => {
+            comes_up(rt, bus.up(rt, driver, 0, kept), &Ok(()));
+            same(rt, &site.up(0, kept), &Ok(()));
+        }
+        Step::UpWithOthers => {
+            let refused = Err(UpRefusal::Site(disagrees));
+            comes_up(rt, bus.up(rt, driver, 0, wrong), &refused);
+            same(rt, &site.up(0, wrong), &Err(disagrees));
+        }
+        Step::Arc => does(rt, bus.arc(rt, other, arc), site.arc(1, arc)),
+        Step::Quiet => does(rt, bus.quiet(rt, driver), site.quiet()),
+        Step::Power => does(rt, bus.power(rt, driver, 0, false), site.power(0, false)),
+        Step::Expire => does(rt, bus.expire(rt, driver, 0), site.expire(0)),
+        Step::Until(..)
+        | Step::Goes(..)
+        | Step::Pumps(_)
+        | Step::Lapses
+        | Step::Ready(_)
+        | Step::Stops => assert!(rt; false),
+    }
+}
+
+/// The line and the site take a step.
+fn both_do<B: FullBus, R: Abort + Wait>(
     rt: &R,
     bus: &B,
     ports: (&mut B::Port, &mut B::Port),
     driver: &mut B::Driver,
     site: &mut SiteState,
+    records: Records<'_>,
     step: &Step,
 ) {
     let (first, other) = ports;
@@ -202,87 +254,23 @@ fn bus_does<B: Bus, R: Abort + Wait>(
         | Step::Arc
         | Step::Quiet
         | Step::Power
-        | Step::Expire => assert!(rt; false),
-    }
-}
-
-/// What a call answered that says no more than that it was accepted.
-fn does<R: Abort>(rt: &R, answer: Result<(), Refusal>, other: Result<(), Refusal>) {
-    same(rt, &[answer, other], &[Ok(()), Ok(())]);
-}
-
-/// What a line answered where a controller was to come up.
-pub fn comes_up<R: Abort>(rt: &R, was: Result<(), UpRefusal>, wanted: &Result<(), UpRefusal>) {
-    same(rt, &was, wanted);
-}
-
-/// The records with which a controller may come up again: those of its store, and others.
-type Records<'a> = (&'a Kept, &'a Kept);
-
-/// A step that a line takes, and no other bus.
-fn line_does<P0: Ledger, P1: Ledger, P2: Ledger, P3: Ledger, D: Ledger, R: Abort + Wait>(
-    rt: &R,
-    line: &Line<P0, P1, P2, P3, D>,
-    other: &mut Port<P0, P1, P2, P3, D>,
-    driver: &mut Driver<P0, P1, P2, P3, D>,
-    site: &mut SiteState,
-    records: Records<'_>,
-    step: &Step,
-) {
-    let (kept, wrong) = records;
-    let disagrees = Refusal::StoreDisagrees;
-    let arc = forward(0xFE80);
-    match *step {
-        Step::Down => does(rt, line.down(rt, driver, 0), site.down(0)),
-        Step::Up => {
-            comes_up(rt, line.up(rt, driver, 0, kept), &Ok(()));
-            same(rt, &site.up(0, kept), &Ok(()));
-        }
-        Step::UpWithOthers => {
-            let refused = Err(UpRefusal::Site(disagrees));
-            comes_up(rt, line.up(rt, driver, 0, wrong), &refused);
-            same(rt, &site.up(0, wrong), &Err(disagrees));
-        }
-        Step::Arc => does(rt, line.arc(rt, other, arc), site.arc(1, arc)),
-        Step::Quiet => does(rt, line.quiet(rt, driver), site.quiet()),
-        Step::Power => does(rt, line.power(rt, driver, 0, false), site.power(0, false)),
-        Step::Expire => does(rt, line.expire(rt, driver, 0), site.expire(0)),
-        Step::Until(..)
-        | Step::Goes(..)
-        | Step::Pumps(_)
-        | Step::Lapses
-        | Step::Ready(_)
-        | Step::Stops => assert!(rt; false),
+        | Step::Expire => line_does(rt, bus, other, driver, site, records, step),
     }
 }
 
 /// The line and the site take these steps.
-fn both_do<P0: Ledger, P1: Ledger, P2: Ledger, P3: Ledger, D: Ledger, R: Abort + Wait>(
+fn both_take<B: FullBus, R: Abort + Wait>(
     rt: &R,
-    line: &Line<P0, P1, P2, P3, D>,
-    ports: (&mut Port<P0, P1, P2, P3, D>, &mut Port<P0, P1, P2, P3, D>),
-    driver: &mut Driver<P0, P1, P2, P3, D>,
+    bus: &B,
+    ports: (&mut B::Port, &mut B::Port),
+    driver: &mut B::Driver,
     site: &mut SiteState,
     records: Records<'_>,
     steps: &[Step],
 ) {
     let (first, other) = ports;
     for step in steps {
-        match *step {
-            Step::Down
-            | Step::Up
-            | Step::UpWithOthers
-            | Step::Arc
-            | Step::Quiet
-            | Step::Power
-            | Step::Expire => line_does(rt, line, other, driver, site, records, step),
-            Step::Until(..)
-            | Step::Goes(..)
-            | Step::Pumps(_)
-            | Step::Lapses
-            | Step::Ready(_)
-            | Step::Stops => bus_does(rt, line, (first, other), driver, site, step),
-        }
+        both_do(rt, bus, (first, other), driver, site, records, step);
     }
 }
 
@@ -296,20 +284,25 @@ fn speaks_for_nobody<B: Bus, R: Abort + Wait>(rt: &R, bus: &B, spare: &mut B::Po
     same(rt, &shown(bus.act(rt, spare, Input::Start)), &refused);
 }
 
-/// A line and its site are played a story, and stopped.
-fn played<P0: Ledger, P1: Ledger, P2: Ledger, P3: Ledger, D: Ledger, R: Abort + Wait>(
+/// A line and its site are played a story, and stopped. The ports are two of the line, and a spare one.
+fn played<B: FullBus, R: Abort + Wait>(
     rt: &R,
-    line: &Line<P0, P1, P2, P3, D>,
-    port: &mut Port<P0, P1, P2, P3, D>,
-    other: &mut Port<P0, P1, P2, P3, D>,
-    driver: &mut Driver<P0, P1, P2, P3, D>,
+    bus: &B,
+    ports: (&mut B::Port, &mut B::Port, &mut B::Port),
+    driver: &mut B::Driver,
     site: &mut SiteState,
     records: Records<'_>,
     story: &[Step],
 ) {
-    both_do(rt, line, (port, other), driver, site, records, story);
-    both_do(rt, line, (port, other), driver, site, records, &STOP);
-    speaks_for_nobody(rt, line, &mut Port::default());
+    let (port, other, spare) = ports;
+    both_take(rt, bus, (port, other), driver, site, records, story);
+    both_take(rt, bus, (port, other), driver, site, records, &STOP);
+    speaks_for_nobody(rt, bus, spare);
+}
+
+/// Both sites have the same log.
+fn have_one_log<R: Abort>(rt: &R, was: SiteState, wanted: &SiteState) {
+    same(rt, &was.log(), &wanted.log());
 }
 
 /// A line and a site that are the same at first are played a story, and have the same log at its end.
@@ -332,15 +325,15 @@ fn beside<P0: Ledger, P1: Ledger, P2: Ledger, P3: Ledger, D: Ledger, R: Abort + 
     played(
         rt,
         &line,
-        &mut port,
-        &mut other,
+        (&mut port, &mut other, &mut Port::default()),
         &mut driver,
         site,
         records,
         story,
     );
-    go_back(rt, &mut ports, (port, other));
-    same(rt, &closed(rt, line, ports, driver).log(), &site.log());
+    let is_spare = port.controller() == 255;
+    go_back(rt, &mut ports, (port, other), is_spare);
+    have_one_log(rt, closed(rt, line, ports, driver), site);
 }
 
 /// A site of one gear with these blocks.

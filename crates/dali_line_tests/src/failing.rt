@@ -1,16 +1,22 @@
 //! A store of the tests' own: it fails at one commit, before or after the record is there.
 
-ghost use Rattle.std.specs.Prelude.{◌≡◌, ◌<◌, false, List, [], ◌∷◌, ◌++◌, IsTrue};
+ghost use Rattle.std.specs.Prelude.{◌≡◌, ◌<◌, ◌↔◌, ◌⊎◌, false, List, [], ◌∷◌, ◌++◌, IsTrue};
 ghost use Rattle.std.proofs.Common.{subst, sym};
 ghost use Rattle.dali_script.specs.declared.records.Record.{Record};
 ghost use Rattle.dali_script.specs.Records.{Kept, Fits, with_record};
+ghost use Rattle.dali_script.specs.declared.records.AddError.TheVariants as add;
+ghost use Rattle.dali_reserve.specs.Refusals.{RefusesCommit};
 ghost use Rattle.dali_reserve.specs.Store.{IsReplay, HasRecords};
+ghost use Rattle.dali_reserve.specs.declared.error.KeepError.TheVariants.{AddressTaken, RandomTaken, NotReserved};
 
 use super::calls::comes_up;
-use super::threads::{Blanks, TURNS, blanks, closed, line_of, site_with, store_of};
+use super::full::FullBus;
+use super::threads::{
+    Blanks, TURNS, blanks, closed, go_back, last_two, line_of, site_with, store_of,
+};
 use super::values::{block, same};
 use dali_enrol::{Directory, Table};
-use dali_line::{Bus, Driver, Gate, Line, Moment, OpenGate, Outcome, Pumper, Worker};
+use dali_line::{Bus, Gate, Moment, OpenGate, Outcome, Pumper, Worker};
 use dali_reserve::{Keep, KeepError, MemoryKeep};
 use dali_script::{AddError, Block, End, Fault, Kept, Record};
 use dali_world::SiteState;
@@ -40,6 +46,18 @@ struct FailingKeep<'a> {
     asked: &'a AtomicU32,
 }
 
+/// Adds a record to a store that is of this block. Whether it is added.
+fn is_added(store: &mut MemoryKeep, block: Block, added: &Record) -> bool
+    requires { Fits block added.now }
+    ensures there { IsTrue result → store.new ≡ with_record store.old added.now }
+    ensures adds { IsTrue result → (xs : List Record) → IsReplay store.old.block xs store.old
+        → IsReplay store.new.block (xs ++ added.now ∷ []) store.new }
+    ensures same { result ≡ false → store.new ≡ store.old }
+    ensures sound { HasRecords store.new }
+{
+    store.is_of(block) && store.commit(*added).is_ok()
+}
+
 impl FailingKeep<'_> {
     /// Whether the next commit fails. The one after it is a commit nearer to failing.
     fn fails(&mut self) -> bool
@@ -55,18 +73,40 @@ impl FailingKeep<'_> {
             None => false,
         }
     }
+
+    /// Stores a record, unless this commit fails before. Whether the store tells that it did.
+    fn stores(&mut self, block: Block, added: &Record) -> bool
+        requires { Fits block added.now }
+        ensures known { self.new.known ≡ self.old.known }
+        ensures must_read { self.new.must_read ≡ self.old.must_read }
+        ensures told { IsTrue result → self.new.store ≡ with_record self.old.store added.now }
+        ensures adds { IsTrue result → (xs : List Record) → IsReplay self.old.store.block xs self.old.store
+            → IsReplay self.new.store.block (xs ++ added.now ∷ []) self.new.store }
+        ensures adds_or_not { (xs : List Record) → IsReplay self.old.store.block xs self.old.store
+            → IsReplay self.new.store.block xs self.new.store
+            ⊎ IsReplay self.new.store.block (xs ++ added.now ∷ []) self.new.store }
+        ensures sound { HasRecords self.old.store → HasRecords self.new.store }
+    {
+        let fails = self.fails();
+        if fails && !self.is_stored {
+            return false;
+        }
+        is_added(&mut self.store, block, added) && !fails
+    }
 }
 
-/// Adds a record to a store that is of this block. Whether it is added.
-fn is_added(store: &mut MemoryKeep, block: Block, added: &Record) -> bool
-    requires { Fits block added.now }
-    ensures there { IsTrue result → store.new ≡ with_record store.old added.now }
-    ensures adds { IsTrue result → (xs : List Record) → IsReplay store.old.block xs store.old
-        → IsReplay store.new.block (xs ++ added.now ∷ []) store.new }
-    ensures same { result ≡ false → store.new ≡ store.old }
-    ensures sound { HasRecords store.new }
+/// What a record that is refused is to a store.
+fn refused(error: AddError) -> KeepError
+    ensures address_taken { (result ≡ AddressTaken) ↔ (error ≡ add.AddressTaken) }
+    ensures random_taken { (result ≡ RandomTaken) ↔ (error ≡ add.RandomTaken) }
+    ensures not_reserved { (result ≡ NotReserved) ↔ (error ≡ add.NotReserved) }
+    ensures refusal { RefusesCommit result }
 {
-    store.is_of(block) && store.commit(*added).is_ok()
+    match error {
+        AddError::AddressTaken => KeepError::AddressTaken,
+        AddError::RandomTaken => KeepError::RandomTaken,
+        AddError::NotReserved => KeepError::NotReserved,
+    }
 }
 
 impl Keep for FailingKeep<'_> {
@@ -103,18 +143,11 @@ impl Keep for FailingKeep<'_> {
             return Err(KeepError::StoreFailed);
         }
         let block = self.known.block();
-        match self.known.add(added) {
-            Ok(()) => {}
-            Err(AddError::AddressTaken) => return Err(KeepError::AddressTaken),
-            Err(AddError::RandomTaken) => return Err(KeepError::RandomTaken),
-            Err(AddError::NotReserved) => return Err(KeepError::NotReserved),
+        if let Err(error) = self.known.add(added) {
+            return Err(refused(error));
         }
-        let fails = self.fails();
         self.must_read = true;
-        if fails && !self.is_stored {
-            return Err(KeepError::StoreFailed);
-        }
-        if !is_added(&mut self.store, block, &added) || fails {
+        if !self.stores(block, &added) {
             return Err(KeepError::StoreFailed);
         }
         self.must_read = false;
@@ -204,21 +237,21 @@ where
 }
 
 /// The controller goes down, and comes up with what its store reads: so many reservations and enrolments.
-fn restarts<P0: Ledger, P1: Ledger, P2: Ledger, P3: Ledger, D: Ledger, R: Abort + Wait>(
+fn restarts<B: FullBus, R: Abort + Wait>(
     rt: &R,
-    line: &Line<P0, P1, P2, P3, D>,
-    driver: &mut Driver<P0, P1, P2, P3, D>,
+    bus: &B,
+    driver: &mut B::Driver,
     keep: &mut FailingKeep<'_>,
     stored: (usize, usize),
 ) {
-    same(rt, &line.down(rt, driver, 0), &Ok(()));
+    same(rt, &bus.down(rt, driver, 0), &Ok(()));
     let kept = keep.read();
     let Ok(kept) = &kept else {
         assert!(rt; false);
         return;
     };
     same(rt, &(kept.reserved().len(), kept.enrolled().len()), &stored);
-    comes_up(rt, line.up(rt, driver, 0, kept), &Ok(()));
+    comes_up(rt, bus.up(rt, driver, 0, kept), &Ok(()));
 }
 
 /// Whether a table has a gear under the address that the gear has.
@@ -247,7 +280,40 @@ fn table_is_true<R: Abort>(rt: &R, site: &SiteState) {
     }
 }
 
-/// The controller halts at the commit that fails. Over what its store has then, a second worker goes on to the end.
+/// The site that is left has a true table.
+fn has_ended<R: Abort>(rt: &R, site: SiteState) {
+    table_is_true(rt, &site);
+}
+
+/// The controller halts at the commit that fails. Over what its store has then, a second worker goes on to the end. The
+/// port and the driver.
+fn sessions<B, R>(
+    rt: &R,
+    alloc: Global,
+    bus: &B,
+    directory: &Directory,
+    port: B::Port,
+    driver: B::Driver,
+    keep: FailingKeep<'_>,
+    stored: (usize, usize),
+) -> (B::Port, B::Driver)
+where
+    B: FullBus + Sync,
+    B::Port: Send + Drop,
+    B::Driver: Send + Drop,
+    R: Threads + Wait + Abort + Sync,
+{
+    let halted = Outcome::Halted(Fault::Store);
+    let (port, mut keep, mut driver) = session(
+        rt, alloc, bus, directory, port, driver, keep, halted,
+    );
+    restarts(rt, bus, &mut driver, &mut keep, stored);
+    let ended = Outcome::Ended(End::AllFound);
+    let (port, _, driver) = session(rt, alloc, bus, directory, port, driver, keep, ended);
+    (port, driver)
+}
+
+/// The sessions of one controller on a line. Its table is true in the end.
 fn halts<P0, P1, P2, P3, D, R>(
     rt: &R,
     alloc: Global,
@@ -271,16 +337,10 @@ where
     requires driver { (blanks.4.name ≡ D.name) × (blanks.4.parts ≡ D.parts) × (0 < D.parts) }
 {
     let (line, mut ports, driver) = line_of::<P0, P1, P2, P3, D>(site, blanks);
-    let port = ports.pop().unwrap_or_default();
-    let halted = Outcome::Halted(Fault::Store);
-    let (port, mut keep, mut driver) = session(
-        rt, alloc, &line, directory, port, driver, keep, halted,
-    );
-    restarts(rt, &line, &mut driver, &mut keep, stored);
-    let ended = Outcome::Ended(End::AllFound);
-    let (port, _, driver) = session(rt, alloc, &line, directory, port, driver, keep, ended);
-    assert!(rt; ports.try_push(port).is_ok());
-    table_is_true(rt, &closed(rt, line, ports, driver));
+    let (spare, port) = last_two(&mut ports);
+    let (port, driver) = sessions(rt, alloc, &line, directory, port, driver, keep, stored);
+    go_back(rt, &mut ports, (spare, port), true);
+    has_ended(rt, closed(rt, line, ports, driver));
 }
 
 /// An empty store of the block 0 to 7 that fails at this commit, and stores its record or not.

@@ -9,6 +9,10 @@ mod driven;
 #[cfg(test)]
 mod failing;
 #[cfg(test)]
+mod full;
+#[cfg(test)]
+mod holding;
+#[cfg(test)]
 mod listed;
 #[cfg(test)]
 mod reading;

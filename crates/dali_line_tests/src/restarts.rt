@@ -5,15 +5,14 @@ ghost use Rattle.std.specs.Prelude.{◌≡◌, ◌<◌};
 
 use super::calls::comes_up;
 use super::driven::DrivenBus;
+use super::full::FullBus;
 use super::threads::{
     Blanks, TURNS, blanks, closed, go_back, last_two, line_of, site_with, store_of,
 };
 use super::values::{block, forward, same};
 use dali_enrol::Directory;
 use dali_frame::Answer;
-use dali_line::{
-    Bus, Driver, Gate, Line, Moment, OpenGate, Outcome, Port, Pumper, Ready, UpRefusal, Worker,
-};
+use dali_line::{Bus, Gate, Moment, OpenGate, Outcome, Pumper, Ready, UpRefusal, Worker};
 use dali_reserve::{Keep, MemoryKeep};
 use dali_script::{Due, End, Input, Kept};
 use dali_world::{Event, Refusal, SiteState, Trouble};
@@ -39,15 +38,14 @@ struct Done {
 /// A gate that takes controller 0 down while its worker is at a commit, and tries to bring it up with records that were
 /// read before.
 #[derive(Drop)]
-struct Restarting<'a, P0: Ledger, P1: Ledger, P2: Ledger, P3: Ledger, D: Ledger> {
-    line: &'a Line<P0, P1, P2, P3, D>,
-    driver: &'a Mutex<Driver<P0, P1, P2, P3, D>>,
+struct Restarting<'a, B: Bus> {
+    bus: &'a B,
+    driver: &'a Mutex<B::Driver>,
     records: &'a Kept,
     done: &'a Mutex<Done>,
 }
 
-impl<P0: Ledger, P1: Ledger, P2: Ledger, P3: Ledger, D: Ledger> Gate
-    for Restarting<'_, P0, P1, P2, P3, D> {
+impl<B: FullBus> Gate for Restarting<'_, B> {
     fn at<R: Wait>(&self, rt: &R, _controller: u8, moment: Moment) {
         if moment != Moment::BeforeCommit {
             return;
@@ -58,23 +56,23 @@ impl<P0: Ledger, P1: Ledger, P2: Ledger, P3: Ledger, D: Ledger> Gate
             return;
         }
         let mut driver = self.driver.lock(rt);
-        done.down = Some(self.line.down(rt, &mut driver, 0));
-        done.up = Some(self.line.up(rt, &mut driver, 0, self.records));
+        done.down = Some(self.bus.down(rt, &mut driver, 0));
+        done.up = Some(self.bus.up(rt, &mut driver, 0, self.records));
     }
 }
 
 /// A gate that lets controller 1 offer arc power until no request more may wait: before each commit, and at the end of
-/// some turns. Before a commit it may stop the line.
+/// some turns. Before a commit it may stop the bus.
 #[derive(Drop)]
-struct Flooding<'a, P0: Ledger, P1: Ledger, P2: Ledger, P3: Ledger, D: Ledger> {
-    line: &'a Line<P0, P1, P2, P3, D>,
-    port: &'a Mutex<Port<P0, P1, P2, P3, D>>,
+struct Flooding<'a, B: Bus> {
+    bus: &'a B,
+    port: &'a Mutex<B::Port>,
     /// At how many turns more it offers.
     turns: &'a Mutex<u8>,
     stops: bool,
 }
 
-impl<P0: Ledger, P1: Ledger, P2: Ledger, P3: Ledger, D: Ledger> Flooding<'_, P0, P1, P2, P3, D> {
+impl<B: FullBus> Flooding<'_, B> {
     /// Whether this is the end of a turn at which it offers.
     fn is_turn<R: Wait>(&self, rt: &R) -> bool {
         let mut turns = self.turns.lock(rt);
@@ -87,21 +85,20 @@ impl<P0: Ledger, P1: Ledger, P2: Ledger, P3: Ledger, D: Ledger> Flooding<'_, P0,
     fn flood<R: Wait>(&self, rt: &R) {
         let mut port = self.port.lock(rt);
         for _ in 0..100 {
-            if self.line.arc(rt, &mut port, forward(0xFE80)).is_err() {
+            if self.bus.arc(rt, &mut port, forward(0xFE80)).is_err() {
                 break;
             }
         }
     }
 }
 
-impl<P0: Ledger, P1: Ledger, P2: Ledger, P3: Ledger, D: Ledger> Gate
-    for Flooding<'_, P0, P1, P2, P3, D> {
+impl<B: FullBus> Gate for Flooding<'_, B> {
     fn at<R: Wait>(&self, rt: &R, _controller: u8, moment: Moment) {
         match moment {
             Moment::BeforeCommit => {
                 self.flood(rt);
                 if self.stops {
-                    self.line.stop(rt);
+                    self.bus.stop(rt);
                 }
             }
             Moment::AfterCommit => {}
@@ -145,62 +142,55 @@ fn works<B: Bus, G: Gate, R: Abort + Wait>(
 }
 
 /// Controller 0 comes up with what its store reads.
-fn goes_up<P0: Ledger, P1: Ledger, P2: Ledger, P3: Ledger, D: Ledger, R: Abort + Wait>(
+fn goes_up<B: FullBus, R: Abort + Wait>(
     rt: &R,
-    line: &Line<P0, P1, P2, P3, D>,
-    driver: &Mutex<Driver<P0, P1, P2, P3, D>>,
+    bus: &B,
+    driver: &Mutex<B::Driver>,
     keep: &mut MemoryKeep,
 ) {
     match keep.read() {
         Ok(kept) => {
             let mut driver = driver.lock(rt);
-            comes_up(rt, line.up(rt, &mut driver, 0, &kept), &Ok(()));
+            comes_up(rt, bus.up(rt, &mut driver, 0, &kept), &Ok(()));
         }
         Err(_) => assert!(rt; false),
     }
 }
 
 /// Controller 0 does not come up with records from before the commit that its worker has made.
-fn stays_down<P0: Ledger, P1: Ledger, P2: Ledger, P3: Ledger, D: Ledger, R: Abort + Wait>(
+fn stays_down<B: FullBus, R: Abort + Wait>(
     rt: &R,
-    line: &Line<P0, P1, P2, P3, D>,
-    driver: &Mutex<Driver<P0, P1, P2, P3, D>>,
+    bus: &B,
+    driver: &Mutex<B::Driver>,
     records: &Kept,
 ) {
     let mut driver = driver.lock(rt);
-    assert!(rt; line.up(rt, &mut driver, 0, records).is_err());
+    assert!(rt; bus.up(rt, &mut driver, 0, records).is_err());
 }
 
 /// Controller 0 goes down, and its worker ends.
-fn goes_down<P0: Ledger, P1: Ledger, P2: Ledger, P3: Ledger, D: Ledger, R: Abort + Wait>(
-    rt: &R,
-    line: &Line<P0, P1, P2, P3, D>,
-    driver: &Mutex<Driver<P0, P1, P2, P3, D>>,
-) {
+fn goes_down<B: FullBus, R: Abort + Wait>(rt: &R, bus: &B, driver: &Mutex<B::Driver>) {
     let mut driver = driver.lock(rt);
-    same(rt, &line.down(rt, &mut driver, 0), &Ok(()));
+    same(rt, &bus.down(rt, &mut driver, 0), &Ok(()));
 }
 
-/// A line that drives itself.
-type Driven<'a, P0, P1, P2, P3, D> = DrivenBus<'a, Line<P0, P1, P2, P3, D>>;
-
 /// While its worker is at this commit controller 0 goes down, and is not brought up. The worker ends.
-fn goes_down_at<P0: Ledger, P1: Ledger, P2: Ledger, P3: Ledger, D: Ledger, R: Abort + Wait>(
+fn goes_down_at<B: FullBus, R: Abort + Wait>(
     rt: &R,
     alloc: Global,
-    bus: &Driven<'_, P0, P1, P2, P3, D>,
-    port: Port<P0, P1, P2, P3, D>,
+    bus: &DrivenBus<'_, B>,
+    port: B::Port,
     keep: MemoryKeep,
     records: &Kept,
     commit: u8,
-) -> (Port<P0, P1, P2, P3, D>, MemoryKeep) {
+) -> (B::Port, MemoryKeep) {
     let done = Mutex::new(Done {
         before: commit,
         down: None,
         up: None,
     });
     let gate = Restarting {
-        line: bus.bus,
+        bus: bus.bus,
         driver: bus.driver,
         records,
         done: &done,
@@ -213,13 +203,13 @@ fn goes_down_at<P0: Ledger, P1: Ledger, P2: Ledger, P3: Ledger, D: Ledger, R: Ab
 }
 
 /// Controller 0 comes up with what its store reads, and another worker goes on to the end.
-fn goes_on<P0: Ledger, P1: Ledger, P2: Ledger, P3: Ledger, D: Ledger, R: Abort + Wait>(
+fn goes_on<B: FullBus, R: Abort + Wait>(
     rt: &R,
     alloc: Global,
-    bus: &Driven<'_, P0, P1, P2, P3, D>,
-    port: Port<P0, P1, P2, P3, D>,
+    bus: &DrivenBus<'_, B>,
+    port: B::Port,
     mut keep: MemoryKeep,
-) -> (Port<P0, P1, P2, P3, D>, MemoryKeep) {
+) -> (B::Port, MemoryKeep) {
     goes_up(rt, bus.bus, bus.driver, &mut keep);
     works(
         rt,
@@ -232,15 +222,15 @@ fn goes_on<P0: Ledger, P1: Ledger, P2: Ledger, P3: Ledger, D: Ledger, R: Abort +
 }
 
 /// Controller 0 goes down at this commit, and goes on; and it goes down once more when it has ended.
-fn restarted<P0: Ledger, P1: Ledger, P2: Ledger, P3: Ledger, D: Ledger, R: Abort + Wait>(
+fn restarted<B: FullBus, R: Abort + Wait>(
     rt: &R,
     alloc: Global,
-    bus: &Driven<'_, P0, P1, P2, P3, D>,
-    port: Port<P0, P1, P2, P3, D>,
+    bus: &DrivenBus<'_, B>,
+    port: B::Port,
     keep: MemoryKeep,
     records: &Kept,
     commit: u8,
-) -> (Port<P0, P1, P2, P3, D>, MemoryKeep) {
+) -> (B::Port, MemoryKeep) {
     let (port, keep) = goes_down_at(rt, alloc, bus, port, keep, records, commit);
     let (port, keep) = goes_on(rt, alloc, bus, port, keep);
     goes_down(rt, bus.bus, bus.driver);
@@ -258,19 +248,19 @@ fn has_tried<R: Abort + Wait>(rt: &R, done: &Mutex<Done>) {
 
 /// The queue is full before each commit of controller 0, and after its first turns; the line may be stopped then. Its
 /// worker waits for room, and ends so.
-fn flooded<P0: Ledger, P1: Ledger, P2: Ledger, P3: Ledger, D: Ledger, R: Abort + Wait>(
+fn flooded<B: FullBus, R: Abort + Wait>(
     rt: &R,
     alloc: Global,
-    bus: &Driven<'_, P0, P1, P2, P3, D>,
-    ports: (Port<P0, P1, P2, P3, D>, &Mutex<Port<P0, P1, P2, P3, D>>),
+    bus: &DrivenBus<'_, B>,
+    ports: (B::Port, &Mutex<B::Port>),
     keep: MemoryKeep,
     turns: u8,
     end: Outcome,
-) -> (Port<P0, P1, P2, P3, D>, MemoryKeep) {
+) -> (B::Port, MemoryKeep) {
     let (port, other) = ports;
     let turns = Mutex::new(turns);
     let gate = Flooding {
-        line: bus.bus,
+        bus: bus.bus,
         port: other,
         turns: &turns,
         stops: end == Outcome::Stopped,
@@ -299,13 +289,9 @@ where
 }
 
 /// As much arc power is offered as may wait. How many frames.
-fn offered<P0: Ledger, P1: Ledger, P2: Ledger, P3: Ledger, D: Ledger, R: Wait>(
-    rt: &R,
-    line: &Line<P0, P1, P2, P3, D>,
-    port: &mut Port<P0, P1, P2, P3, D>,
-) -> u8 {
+fn offered<B: FullBus, R: Wait>(rt: &R, bus: &B, port: &mut B::Port) -> u8 {
     for count in 0..100 {
-        if line.arc(rt, port, forward(0xFE80)).is_err() {
+        if bus.arc(rt, port, forward(0xFE80)).is_err() {
             return count;
         }
     }
@@ -313,35 +299,35 @@ fn offered<P0: Ledger, P1: Ledger, P2: Ledger, P3: Ledger, D: Ledger, R: Wait>(
 }
 
 /// While controller 0 owns the bus, so much arc power waits that it is refused.
-fn is_crowded<P0: Ledger, P1: Ledger, P2: Ledger, P3: Ledger, D: Ledger, R: Abort + Wait>(
+fn is_crowded<B: FullBus, R: Abort + Wait>(
     rt: &R,
-    line: &Line<P0, P1, P2, P3, D>,
-    port: &mut Port<P0, P1, P2, P3, D>,
-    other: &mut Port<P0, P1, P2, P3, D>,
-    driver: &mut Driver<P0, P1, P2, P3, D>,
+    bus: &B,
+    port: &mut B::Port,
+    other: &mut B::Port,
+    driver: &mut B::Driver,
 ) {
-    assert!(rt; line.act(rt, port, Input::Start).is_ok());
-    let _ = line.pump(rt, driver, Trouble::None);
-    same(rt, &offered(rt, line, other), &64);
-    same(rt, &line.ready(rt, driver), &Ready::Full);
+    assert!(rt; bus.act(rt, port, Input::Start).is_ok());
+    let _ = bus.pump(rt, driver, Trouble::None);
+    same(rt, &offered(rt, bus, other), &64);
+    same(rt, &bus.ready(rt, driver), &Ready::Full);
     let heard = Input::Heard(Answer::Silence);
-    let refused = line.act(rt, port, heard).err();
+    let refused = bus.act(rt, port, heard).err();
     same(rt, &refused, &Some(Refusal::QueueFull));
 }
 
 /// A pumper lets the bus lapse then and sends the first of the arc power, and the controller goes on.
-fn lapses<P0: Ledger, P1: Ledger, P2: Ledger, P3: Ledger, D: Ledger, R: Abort + Wait>(
+fn lapses<B: FullBus, R: Abort + Wait>(
     rt: &R,
-    line: &Line<P0, P1, P2, P3, D>,
-    port: &mut Port<P0, P1, P2, P3, D>,
-    other: &mut Port<P0, P1, P2, P3, D>,
-    mut driver: Driver<P0, P1, P2, P3, D>,
-) -> Driver<P0, P1, P2, P3, D> {
-    is_crowded(rt, line, port, other, &mut driver);
-    let (driver, refusal) = Pumper::new(driver, OpenGate).run(rt, line, 2);
+    bus: &B,
+    port: &mut B::Port,
+    other: &mut B::Port,
+    mut driver: B::Driver,
+) -> B::Driver {
+    is_crowded(rt, bus, port, other, &mut driver);
+    let (driver, refusal) = Pumper::new(driver, OpenGate).run(rt, bus, 2);
     same(rt, &refusal, &None);
-    same(rt, &line.next(rt, port), &Some(Input::Lapsed));
-    assert!(rt; line.act(rt, port, Input::Lapsed).is_ok());
+    same(rt, &bus.next(rt, port), &Some(Input::Lapsed));
+    assert!(rt; bus.act(rt, port, Input::Lapsed).is_ok());
     driver
 }
 
@@ -363,20 +349,20 @@ enum Story {
 }
 
 /// A story is played on a line that drives itself. Its ports, its driver and the store of controller 0 then.
-fn driven<P0: Ledger, P1: Ledger, P2: Ledger, P3: Ledger, D: Ledger, R: Abort + Wait>(
+fn driven<B: FullBus, R: Abort + Wait>(
     rt: &R,
     alloc: Global,
-    line: &Line<P0, P1, P2, P3, D>,
-    ports: (Port<P0, P1, P2, P3, D>, Port<P0, P1, P2, P3, D>),
-    driver: Driver<P0, P1, P2, P3, D>,
+    line: &B,
+    ports: (B::Port, B::Port),
+    driver: B::Driver,
     keep: MemoryKeep,
     records: &Kept,
     story: Story,
-) -> (
-    (Port<P0, P1, P2, P3, D>, Port<P0, P1, P2, P3, D>),
-    Driver<P0, P1, P2, P3, D>,
-    MemoryKeep,
-) {
+) -> ((B::Port, B::Port), B::Driver, MemoryKeep)
+where
+    B::Port: Drop,
+    B::Driver: Drop,
+{
     let (port, other) = ports;
     let driver = Mutex::new(driver);
     let other = Mutex::new(other);
@@ -430,7 +416,7 @@ fn played<P0: Ledger, P1: Ledger, P2: Ledger, P3: Ledger, D: Ledger, R: Abort + 
             story,
         ),
     };
-    go_back(rt, &mut ports, (port, other));
+    go_back(rt, &mut ports, (port, other), false);
     (closed(rt, line, ports, driver), keep)
 }
 

@@ -2,12 +2,13 @@
 
 ghost use Rattle.std.specs.Prelude.{◌≡◌, ◌<◌, IfSome};
 
+use super::holding::{Holding, Seen};
 use super::listed::{List, Listed, ListedBus};
 use super::reading::{Reading, has_read, reads, see_table};
 use super::values::{block, same, site_of};
 use arrayvec::ArrayVec;
 use dali_enrol::{Directory, Pass};
-use dali_line::{Bus, Driver, Gate, Line, Moment, OpenGate, Outcome, Port, Pumper, Worker};
+use dali_line::{Bus, Driver, Gate, Line, OpenGate, Outcome, Port, Pumper, Worker};
 use dali_reserve::{Keep, MemoryKeep};
 use dali_script::{End, Input, Kept};
 use dali_world::{Event, Refusal, SiteState};
@@ -21,71 +22,8 @@ use std::sync::{Mutex, Wait};
 use std::test::Fail;
 use std::thread::{Threads, join};
 
-/// How often a gate looks before it gives up.
-const LOOKS: u32 = 100_000_000;
-
 /// How many turns a worker and a pumper may take.
 pub const TURNS: u32 = 100_000;
-
-/// What a gate has seen.
-#[derive(Drop)]
-struct Seen {
-    /// Controller 0 is before its first commit, or was.
-    first: bool,
-    /// Another controller is before a commit, or was.
-    second: bool,
-    /// Neither came within so many looks.
-    has_failed: bool,
-}
-
-/// A gate that holds the first commit of controller 0 until another controller is before a commit of its own.
-#[derive(Drop)]
-struct Holding {
-    seen: Mutex<Seen>,
-}
-
-impl Holding {
-    /// Whether controller 0 is before its first commit now.
-    fn comes_first<R: Wait>(&self, rt: &R) -> bool {
-        let mut seen = self.seen.lock(rt);
-        let comes = !seen.first;
-        seen.first = true;
-        comes
-    }
-
-    /// Waits until another controller is before a commit.
-    fn await_second<R: Wait>(&self, rt: &R) {
-        for _ in 0..LOOKS {
-            if self.seen.lock(rt).second {
-                return;
-            }
-        }
-        self.seen.lock(rt).has_failed = true;
-    }
-
-    /// Waits until controller 0 is before its first commit.
-    fn await_first<R: Wait>(&self, rt: &R) {
-        for _ in 0..LOOKS {
-            if self.seen.lock(rt).first {
-                return;
-            }
-        }
-        self.seen.lock(rt).has_failed = true;
-    }
-}
-
-impl Gate for &Holding {
-    fn at<R: Wait>(&self, rt: &R, controller: u8, moment: Moment) {
-        if moment != Moment::BeforeCommit {
-            return;
-        }
-        if controller != 0 {
-            self.seen.lock(rt).second = true;
-        } else if self.comes_first(rt) {
-            self.await_second(rt);
-        }
-    }
-}
 
 /// What a worker leaves: how it ended, its port, what its store reads, and its pass.
 pub type Left<P> = (Outcome, P, Option<Kept>, Option<Pass>);
@@ -117,8 +55,63 @@ pub fn works<B: Bus, K: Keep + Drop, G: Gate, R: Wait>(
 /// What two workers, a pumper and a reader leave.
 type Run<P, D> = (Left<P>, Left<P>, (D, Option<Refusal>), Option<Reading>);
 
-/// Two workers, a pumper and a reader of the directory. The second worker begins when the first one's gate has seen it
-/// before its first commit; the reader ends when both workers have.
+/// Two workers run, each in a thread of its own. The second begins when the first one's gate has seen it before its
+/// first commit.
+fn both_work<B, R>(
+    rt: &R,
+    alloc: Global,
+    bus: &B,
+    directory: &Directory,
+    gate: &Holding,
+    first: Worker<B::Port, MemoryKeep, &Holding>,
+    second: Worker<B::Port, MemoryKeep, &Holding>,
+) -> (Left<B::Port>, Left<B::Port>)
+where
+    B: Bus + Sync,
+    B::Port: Send + Drop,
+    R: Threads + Wait + Sync,
+    ensures one { IfSome result.0.3 (λ p. p.places ≡ directory.now) }
+    ensures other { IfSome result.1.3 (λ p. p.places ≡ directory.now) }
+{
+    join(
+        rt,
+        move || -> Left<B::Port>
+            ensures { IfSome result.3 (λ p. p.places ≡ directory.entry.now) }
+        { works(rt, alloc, bus, directory, first) },
+        move || -> Left<B::Port>
+            ensures { IfSome result.3 (λ p. p.places ≡ directory.entry.now) }
+        {
+            gate.await_first(rt);
+            works(rt, alloc, bus, directory, second)
+        },
+    )
+}
+
+/// A pumper and a reader of the directory, each in a thread of its own.
+fn pumps_and_reads<B, R>(
+    rt: &R,
+    alloc: Global,
+    bus: &B,
+    directory: &Directory,
+    flag: &AtomicBool,
+    pumper: Pumper<B::Driver, OpenGate>,
+) -> ((B::Driver, Option<Refusal>), Option<Reading>)
+where
+    B: Bus + Sync,
+    B::Driver: Send + Drop,
+    R: Threads + Wait + Sync,
+    ensures { IfSome result.1 (λ r. r.pass.places ≡ directory.now) }
+{
+    join(
+        rt,
+        move || pumper.run(rt, bus, TURNS),
+        move || -> Option<Reading>
+            ensures { IfSome result (λ r. r.pass.places ≡ directory.entry.now) }
+        { reads(alloc, directory, flag) },
+    )
+}
+
+/// Two workers, a pumper and a reader of the directory, which ends when both workers have.
 fn two_run<B, R>(
     rt: &R,
     alloc: Global,
@@ -149,32 +142,13 @@ where
             ensures one { IfSome result.0.3 (λ p. p.places ≡ directory.entry.now) }
             ensures other { IfSome result.1.3 (λ p. p.places ≡ directory.entry.now) }
         {
-            let both = join(
-                rt,
-                move || -> Left<B::Port>
-                    ensures { IfSome result.3 (λ p. p.places ≡ directory.entry.now) }
-                { works(rt, alloc, bus, directory, first) },
-                move || -> Left<B::Port>
-                    ensures { IfSome result.3 (λ p. p.places ≡ directory.entry.now) }
-                {
-                    gate.await_first(rt);
-                    works(rt, alloc, bus, directory, second)
-                },
-            );
+            let both = both_work(rt, alloc, bus, directory, gate, first, second);
             flag.store(true, SeqCst);
             both
         },
         move || -> ((B::Driver, Option<Refusal>), Option<Reading>)
             ensures { IfSome result.1 (λ r. r.pass.places ≡ directory.entry.now) }
-        {
-            join(
-                rt,
-                move || pumper.run(rt, bus, TURNS),
-                move || -> Option<Reading>
-                    ensures { IfSome result (λ r. r.pass.places ≡ directory.entry.now) }
-                { reads(alloc, directory, flag) },
-            )
-        },
+        { pumps_and_reads(rt, alloc, bus, directory, flag, pumper) },
     );
     (one, other, pumped, reading)
 }
@@ -266,20 +240,40 @@ fn was_read<R: Abort>(
     see_table(rt, directory, &mut one, &mut other, second);
 }
 
+/// Both workers found all gear, and what they posted was read and is seen.
+fn all_is_right<R: Abort>(
+    rt: &R,
+    directory: &Directory,
+    site: SiteState,
+    left: ((Outcome, Option<Kept>), (Outcome, Option<Kept>)),
+    passes: (Option<Pass>, Option<Pass>),
+    reading: Option<Reading>,
+)
+    requires one { IfSome passes.0 (λ p. p.places ≡ directory.now) }
+    requires other { IfSome passes.1 (λ p. p.places ≡ directory.now) }
+{
+    let (one, other) = left;
+    has_found(rt, &site, 0, one);
+    has_found(rt, &site, 1, other);
+    was_read(rt, directory, &site, passes, reading);
+}
+
 /// The last two ports, in order of their controllers.
 pub fn last_two<P: Default + Drop>(ports: &mut ArrayVec<P, 4>) -> (P, P) {
     let other = ports.pop().unwrap_or_default();
     (ports.pop().unwrap_or_default(), other)
 }
 
-/// The last two ports are back, in order of their controllers. A spare one, as of a site of one controller, is let go.
-pub fn go_back<P0: Ledger, P1: Ledger, P2: Ledger, P3: Ledger, D: Ledger, R: Abort>(
+/// The last two ports are back, in order of their controllers; the first of them only if it is no spare one, as it is
+/// of a site of one controller.
+pub fn go_back<P: Drop, R: Abort>(
     rt: &R,
-    ports: &mut ArrayVec<Port<P0, P1, P2, P3, D>, 4>,
-    last: (Port<P0, P1, P2, P3, D>, Port<P0, P1, P2, P3, D>),
+    ports: &mut ArrayVec<P, 4>,
+    last: (P, P),
+    is_spare: bool,
 ) {
     let (port, other) = last;
-    if port.controller() < 4 {
+    if !is_spare {
         assert!(rt; ports.try_push(port).is_ok());
     }
     assert!(rt; ports.try_push(other).is_ok());
@@ -363,11 +357,10 @@ where
     let pair = last_two(&mut ports);
     let (one, other, pumped, reading) = run_apart(rt, alloc, &line, directory, pair, driver, keeps);
     same(rt, &pumped.1, &None);
-    go_back(rt, &mut ports, (one.1, other.1));
+    go_back(rt, &mut ports, (one.1, other.1), false);
     let site = closed(rt, line, ports, pumped.0);
-    has_found(rt, &site, 0, (one.0, one.2));
-    has_found(rt, &site, 1, (other.0, other.2));
-    was_read(rt, directory, &site, (one.3, other.3), reading);
+    let left = ((one.0, one.2), (other.0, other.2));
+    all_is_right(rt, directory, site, left, (one.3, other.3), reading);
 }
 
 const APART: [(u8, u8); 2] = [(0, 3), (4, 7)];
@@ -392,21 +385,31 @@ fn stores_apart() -> Result<(MemoryKeep, MemoryKeep), Fail> {
     Ok((store_of(APART[0])?, store_of(APART[1])?))
 }
 
-#[test]
-fn commit_outside_lock(rt: HostRuntime) -> Result<(), Fail> {
-    let site = site_of(rt.alloc(), 2, &APART, &[1, 2, 3, 4])?;
-    let directory = Directory::new(rt.alloc())?;
-    commit_apart(&rt, rt.alloc(), site, stores_apart()?, &directory);
+/// The same with so many gear, and with empty stores.
+fn commit_gear<R: Threads + Wait + Abort + Sync + AllocGlobal>(
+    rt: &R,
+    gear: u32,
+    directory: &Directory,
+) -> Result<(), Fail> {
+    let alloc = rt.alloc();
+    let keeps = stores_apart()?;
+    let site = site_with(alloc, gear, &APART)?;
+    commit_apart(rt, alloc, site, keeps, directory);
     Ok(())
 }
 
 #[test]
-fn look_while_running(rt: HostRuntime) -> Result<(), Fail> {
-    let site = site_with(rt.alloc(), 4, &APART)?;
-    let directory = Directory::new(rt.alloc())?;
-    commit_apart(&rt, rt.alloc(), site, stores_apart()?, &directory);
-    Ok(())
+fn commit_outside_lock(rt: HostRuntime) -> Result<(), Fail> {
+    commit_gear(&rt, 2, &Directory::new(rt.alloc())?)
 }
+
+#[test]
+fn look_while_running(rt: HostRuntime) -> Result<(), Fail> {
+    commit_gear(&rt, 4, &Directory::new(rt.alloc())?)
+}
+
+/// A worker, if there is one, with a store in memory and an open gate.
+type MaybeWorker<P> = Option<Worker<P, MemoryKeep, OpenGate>>;
 
 /// A worker runs, if there is one.
 fn works_if<B: Bus, R: Wait>(
@@ -414,7 +417,7 @@ fn works_if<B: Bus, R: Wait>(
     alloc: Global,
     bus: &B,
     directory: &Directory,
-    worker: Option<Worker<B::Port, MemoryKeep, OpenGate>>,
+    worker: MaybeWorker<B::Port>,
 ) -> Option<Left<B::Port>> {
     match worker {
         Some(worker) => Some(works(rt, alloc, bus, directory, worker)),
@@ -424,6 +427,27 @@ fn works_if<B: Bus, R: Wait>(
 
 /// Four of a thing, of which some may be missing.
 type Four<T> = (Option<T>, Option<T>, Option<T>, Option<T>);
+
+/// Up to two workers run, each in a thread of its own.
+fn both_work_if<B, R>(
+    rt: &R,
+    alloc: Global,
+    bus: &B,
+    directory: &Directory,
+    first: MaybeWorker<B::Port>,
+    second: MaybeWorker<B::Port>,
+) -> (Option<Left<B::Port>>, Option<Left<B::Port>>)
+where
+    B: Bus + Sync,
+    B::Port: Send + Drop,
+    R: Threads + Wait + Sync,
+{
+    join(
+        rt,
+        move || works_if(rt, alloc, bus, directory, first),
+        move || works_if(rt, alloc, bus, directory, second),
+    )
+}
 
 /// Up to four workers and a pumper run, each in a thread of its own. The bus may be stopped while the workers run,
 /// before the pumper's first turn: so no frame was sent before, and no worker can have ended.
@@ -443,30 +467,18 @@ where
     R: Threads + Wait + Sync,
 {
     let (first, second, third, fourth) = workers;
-    let ((one, two), (three, (four, pumped))) = join(
+    let ((one, two), ((three, four), pumped)) = join(
         rt,
+        move || both_work_if(rt, alloc, bus, directory, first, second),
         move || {
             join(
                 rt,
-                move || works_if(rt, alloc, bus, directory, first),
-                move || works_if(rt, alloc, bus, directory, second),
-            )
-        },
-        move || {
-            join(
-                rt,
-                move || works_if(rt, alloc, bus, directory, third),
+                move || both_work_if(rt, alloc, bus, directory, third, fourth),
                 move || {
-                    join(
-                        rt,
-                        move || works_if(rt, alloc, bus, directory, fourth),
-                        move || {
-                            if stops {
-                                bus.stop(rt);
-                            }
-                            pumper.run(rt, bus, TURNS)
-                        },
-                    )
+                    if stops {
+                        bus.stop(rt);
+                    }
+                    pumper.run(rt, bus, TURNS)
                 },
             )
         },
@@ -632,6 +644,20 @@ fn left_their_lists<R: Abort>(rt: &R, log: &[Event], left: Four<(Outcome, List)>
     left_its_list(rt, log, 3, left.3, stops);
 }
 
+/// The list of the driver and those of the workers are what the log has. The driver's is empty where the bus was
+/// stopped from outside.
+fn lists_are_right<R: Abort>(
+    rt: &R,
+    site: SiteState,
+    list: List,
+    left: Four<(Outcome, List)>,
+    stops: bool,
+) {
+    is_logged(rt, site.log(), 255, &list);
+    assert!(rt; list.events.is_empty() == stops);
+    left_their_lists(rt, site.log(), left, stops);
+}
+
 fn lists_are_logged<P0, P1, P2, P3, D, R>(
     rt: &R,
     alloc: Global,
@@ -660,10 +686,7 @@ where
     let Listed { inner, list } = driver;
     let mut ports = ArrayVec::new();
     let left = come_back(rt, &mut ports, left);
-    let site = closed(rt, line, ports, inner);
-    is_logged(rt, site.log(), 255, &list);
-    assert!(rt; list.events.is_empty() == stops);
-    left_their_lists(rt, site.log(), left, stops);
+    lists_are_right(rt, closed(rt, line, ports, inner), list, left, stops);
 }
 
 /// An empty store for the controller of this number, if there is one.
