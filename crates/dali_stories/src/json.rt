@@ -1,6 +1,6 @@
 //! What `replay --json` writes: a line for each `show`, and nothing for all other lines.
 
-use dali_replay::{ReplayFault, show_json};
+use dali_replay::{INPUT_LIMIT, ReplayFault, show_json};
 use std::process::Abort;
 use std::test::Fail;
 
@@ -42,8 +42,10 @@ fn shows<R: Abort + AllocGlobal>(
     shown: Shown,
     end: Result<(), ReplayFault>,
 ) -> Result<(), Fail> {
+    let input = shown.0.as_bytes();
+    assert!(rt; input.len() <= INPUT_LIMIT);
     let mut written = Vec::new(rt.alloc());
-    assert!(rt; show_json(rt.alloc(), shown.0.as_bytes(), &mut written) == end);
+    assert!(rt; show_json(rt.alloc(), input, &mut written) == end);
     let text = std::str::from_utf8(&written)
         .ok()
         .ok_or("what is written is text")?;
