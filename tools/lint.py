@@ -11,7 +11,8 @@ import spelled
 
 WIDTHS = {"src": (".rt", 120), "specs": (".antt", 100), "proofs": (".antt", 160)}
 LONGEST = 800
-TESTS = ("dali_tests", "dali_stories", "dali_line_tests", "dali_sqlite_tests")
+# The folders that have crates, and the lists of what each crate stands on.
+FOLDERS = {"crates": "crates.txt", "tests": "tests/tests.txt", "extra": "extra/programs.txt"}
 
 
 def files(root, pattern):
@@ -29,8 +30,8 @@ def everywhere(root, suffix):
 
 
 def code(root, pattern):
-    """The files of crates that match, in crates/, and in extra/ with .txt behind their names."""
-    return files(root, f"crates/{pattern}") + files(root, f"extra/{pattern}.txt")
+    """The files of crates that match, in each folder that has crates."""
+    return [file for folder in FOLDERS for file in files(root, f"{folder}/{pattern}")]
 
 
 def named(root, file):
@@ -118,9 +119,9 @@ def without_comments(text):
 
 
 def docs(root):
-    """Each public function of a library has a doc, unless it is of a trait's impl, where the trait has it."""
+    """Each public function of a library has a doc, unless it is of a trait's impl, where the trait has it, or of tests."""
     for file in code(root, "*/src/**/*.rt"):
-        if file.relative_to(root).parts[1] in TESTS:
+        if file.relative_to(root).parts[0] == "tests":
             continue
         lines = file.read_text().splitlines()
         for at, line in enumerate(lines):
@@ -141,7 +142,7 @@ def documented(lines, at):
 
 def crates(root):
     """Each crate that a list names below another is named by a file of that one, in code and not in a comment."""
-    for listing in (root / "crates.txt", root / "extra/programs.txt"):
+    for listing in (root / it for it in FOLDERS.values()):
         for line in listing.read_text().splitlines() if listing.exists() else ():
             head, _, below = re.split("#| [+] ", line)[0].partition(":")
             if not head.strip():
@@ -185,7 +186,7 @@ def headings(file):
 
 def paths(root):
     """Paths of the repository that documents name, as `docs/FORMAT.md` or `tools/launch`, are there."""
-    tops = ("crates", "extra", "adapters", "docs", "tools", "bench", "examples", "include")
+    tops = (*FOLDERS, "adapters", "docs", "tools", "bench", "examples", "include")
     for file in everywhere(root, ".md"):
         if file.name == "CHANGELOG.md":
             continue

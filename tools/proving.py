@@ -50,7 +50,7 @@ class Crate:
         self.name, self.line, self.folder, self.borrowed = name, line, folder, borrowed
         self.direct, self.of_kit = direct, of_kit
         self.below = list(dict.fromkeys(it for crate in direct for it in [*crate.below, crate]))
-        self.is_program = any((self.folder / "src" / name).is_file() for name in ("main.rt", "main.rt.txt"))
+        self.is_program = (self.folder / "src/main.rt").is_file()
         self.made = self.folder / "out" / (name if self.is_program else f"stated/{name}.rlib/format")
         head = line.partition(":")[0]
         self.backend = ["--backend", "rattle" if " backend=rattle" in head else "llvm"]
@@ -111,12 +111,12 @@ def say(text):
     print(text, file=sys.stderr, flush=True)
 
 
-def room():
+def room(name="proving"):
     """The folder in which crates are proved.
 
     It is none of the checkout, where rt would take its crates for some of the repository's.
     """
-    return ROOT / (".git/proving" if (ROOT / ".git").is_dir() else ".proving")
+    return ROOT / (f".git/{name}" if (ROOT / ".git").is_dir() else f".{name}")
 
 
 class Build:
@@ -245,20 +245,15 @@ def commands(crate, jobs):
     ]
 
 
-def link(file, name):
-    """One more name for a file. Sources in extra/ have .txt behind their names, since rt takes no others than its crates'."""
-    os.link(file, str(name).removesuffix(".txt"))
-
-
 def lay_out(crate, place):
     """Makes a copy of the crate's sources, by links: what is built there is taken over when it is whole."""
     shutil.rmtree(place, ignore_errors=True)
     place.mkdir(parents=True)
     for part in PARTS:
         if (crate.folder / part).is_dir():
-            shutil.copytree(crate.folder / part, place / part, copy_function=link)
+            shutil.copytree(crate.folder / part, place / part, copy_function=os.link)
     for file in crate.borrowed:
-        link(file, place / "src" / file.name)
+        os.link(file, place / "src" / file.name)
     (place / "out/stated").mkdir(parents=True)
 
 
