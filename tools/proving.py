@@ -24,8 +24,12 @@ WORKSPACES = ((ROOT / "crates.txt", CRATES), (ROOT / "extra/programs.txt", ROOT 
 PARTS = ("src", "specs", "proofs")
 # What one check takes at most, in bytes of memory.
 MEMORY = 2_500_000_000
-# From how many lines on a second job is worth what it costs.
-LARGE = 2_000
+# The seconds of processor that each crate took with one job when it was last measured: tools/build --measure writes them.
+SECONDS = ROOT / "tools/proof-seconds.txt"
+# How long a job must have to do in seconds of processor, so that it is worth its reading; and how many jobs a crate has at most.
+WORTH, MOST_JOBS = 20, 4
+# What a crate is taken to need that was never measured, and how many must be done before the time that is left is guessed.
+UNMEASURED, FEWEST = 100, 3
 REFUSED, MISSING, INTERRUPTED = 126, 127, 130
 
 
@@ -43,11 +47,11 @@ class Interrupted(Exception):
 
 class Crate:
     """A crate: its line in its list, its folder, the crates that it names and all below it, the libraries of the kit that it
-    names, the files of other crates that it has among its sources, how a program is compiled, and how many lines there are to
-    prove."""
+    names, the files of other crates that it has among its sources, how a program is compiled, and how many seconds of processor
+    its proof takes, if that was measured."""
 
-    def __init__(self, name, line, folder, direct, of_kit, borrowed):
-        self.name, self.line, self.folder, self.borrowed = name, line, folder, borrowed
+    def __init__(self, name, line, folder, direct, of_kit, borrowed, seconds):
+        self.name, self.line, self.folder, self.borrowed, self.seconds = name, line, folder, borrowed, seconds
         self.direct, self.of_kit = direct, of_kit
         self.below = list(dict.fromkeys(it for crate in direct for it in [*crate.below, crate]))
         self.is_program = (self.folder / "src/main.rt").is_file()
@@ -56,7 +60,6 @@ class Crate:
         self.backend = ["--backend", "rattle" if " backend=rattle" in head else "llvm"]
         self.backend += ["--opt-level", *level] if (level := re.findall(r" opt_level=(\d)", head)) else []
         self.log = self.folder / "out/build.log"
-        self.lines = sum(file.read_bytes().count(b"\n") for file in self.sources())
 
     def sources(self):
         own = [file for part in PARTS for file in (self.folder / part).rglob("*") if file.is_file()]
@@ -78,7 +81,7 @@ class Crate:
 
 def workspace():
     """The crates by name, those of crates/ before those of extra/, and in each folder the lowest first."""
-    found = {}
+    found, seconds = {}, measured()
     for file, folder in WORKSPACES:
         for line in file.read_text().splitlines():
             line, _, borrowed = line.partition("#")[0].partition(" + ")
@@ -86,8 +89,21 @@ def workspace():
             if head.strip():
                 name, direct = head.split()[0], [found[it] for it in below.split() if it in found]
                 of_kit = [it for it in below.split() if it not in found]
-                found[name] = Crate(name, line, folder / name, direct, of_kit, [ROOT / it for it in borrowed.split()])
+                borrows = [ROOT / it for it in borrowed.split()]
+                found[name] = Crate(name, line, folder / name, direct, of_kit, borrows, seconds.get(name, UNMEASURED))
     return found
+
+
+def measured():
+    """The seconds of the crates that were measured."""
+    lines = SECONDS.read_text().splitlines() if SECONDS.is_file() else []
+    return {name: int(seconds) for name, seconds in (line.split() for line in lines if not line.startswith("#"))}
+
+
+def note(seconds):
+    """Writes down the seconds of crates that were measured, beside those of the others."""
+    head = "# The seconds of processor that each crate took with one job when it was last measured, by tools/build --measure.\n"
+    SECONDS.write_text(head + "".join(f"{name} {count}\n" for name, count in sorted({**measured(), **seconds}.items())))
 
 
 def built(name):
@@ -122,14 +138,14 @@ def room(name="proving"):
 class Build:
     """A build of crates that are not proved yet, lowest first."""
 
-    def __init__(self, title, crates):
-        self.title, self.crates, self.left = title, crates, list(crates)
-        self.running, self.ended, self.begun, self.read = {}, {}, {}, {}
+    def __init__(self, title, crates, is_measured=False):
+        self.title, self.crates, self.left, self.is_measured = title, crates, list(crates), is_measured
+        self.running, self.ended, self.read, self.took = {}, {}, {}, {}
         self.processors, self.changed, self.first = processors(), threading.Condition(), time.monotonic()
 
     def behind(self, crate):
-        """The lines of the longest chain of crates that begins with this one."""
-        return crate.lines + max((self.behind(it) for it in self.crates if crate in it.below), default=0)
+        """The seconds of the longest chain of crates that begins with this one."""
+        return crate.seconds + max((self.behind(it) for it in self.crates if crate in it.below), default=0)
 
     def ready(self):
         """The crates whose libraries are proved, those with the longest chain behind them first."""
@@ -145,7 +161,8 @@ class Build:
             with self.changed:
                 self.changed.wait_for(lambda: self.ended, timeout=1)
                 ended, self.ended = self.ended, {}
-            for crate, status in ended.items():
+            for crate, (status, seconds) in ended.items():
+                self.took[crate] = seconds
                 self.end(crate, status)
 
     def start(self, crate):
@@ -157,7 +174,7 @@ class Build:
         with crate.log.open("wb") as log:
             how = {"stdin": subprocess.DEVNULL, "stdout": log, "stderr": log, "start_new_session": True}
             ran = subprocess.Popen(self.words_of(crate, is_longest), cwd=place, **how)
-        self.running[crate], self.begun[crate] = ran, time.monotonic()
+        self.running[crate] = ran
         threading.Thread(target=self.wait_for, args=(crate, ran), daemon=True).start()
 
     def words_of(self, crate, is_longest):
@@ -168,17 +185,17 @@ class Build:
     def jobs(self, crate, is_longest):
         """How many jobs prove a crate.
 
-        Each loads the libraries for itself and what the others proved, so two of them take a quarter more of processor time,
-        and three still more for little. A large crate with the longest chain behind it has two: all else waits for it in the
-        end. Each other crate has one.
+        Each loads the libraries for itself and what the others proved, which costs processor time, and saves time by the clock. So
+        the crate with the longest chain behind it has as many as are worth it: all else waits for it in the end. Each other crate
+        has one, and where crates are measured, all have.
         """
-        wanted = 2 if is_longest and crate.lines >= LARGE else 1
+        wanted = min(crate.seconds // WORTH, MOST_JOBS) if is_longest and not self.is_measured else 1
         return max(min(self.processors, wanted, free_memory() // MEMORY), 1)
 
     def wait_for(self, crate, ran):
-        status = ran.wait()
+        _, status, used = os.wait4(ran.pid, 0)
         with self.changed:
-            self.ended[crate] = status
+            self.ended[crate] = status, used.ru_utime + used.ru_stime
             self.changed.notify_all()
 
     def end(self, crate, status):
@@ -189,22 +206,28 @@ class Build:
             if it.is_edited(self.read[crate] if it is crate else it.made.stat().st_mtime):
                 raise Changed(it.name)
         keep(crate, self.read[crate])
-        self.begun[crate] = time.monotonic() - self.begun[crate]
         count = len(self.crates) - len(self.left) - len(self.running)
         passed = int(time.monotonic() - self.first)
         so_far = f"{count} of {len(self.crates)} crates proved after {passed // 60}:{passed % 60:02} ({crate.name})"
         say(f"{self.title}: {so_far}{self.guess()}")
 
     def guess(self):
-        """What is left, by the seconds that the crates before took for their lines."""
+        """What is left, by what all took that was done so far, beside their seconds. The first crates say too little for a guess."""
         waits = [*self.left, *self.running]
-        if not waits:
-            return ""
         done = [it for it in self.crates if it not in waits]
-        pace = sum(self.begun[it] for it in done) / sum(it.lines for it in done)
-        lines = max(max(self.behind(it) for it in waits), sum(it.lines for it in waits) / self.processors)
-        minutes = round(pace * lines / 60)
+        if not waits or len(done) < FEWEST:
+            return ""
+        pace = (time.monotonic() - self.first) / self.clock(done)
+        minutes = round(pace * self.clock(waits) / 60)
         return f", some {minutes} minutes left" if minutes > 1 else ", a minute or two left"
+
+    def clock(self, crates):
+        """The least time by the clock in which these crates can be proved, by their seconds."""
+
+        def chain(crate):
+            return crate.seconds + max((chain(it) for it in crate.direct if it in crates), default=0)
+
+        return max(*map(chain, crates), sum(it.seconds for it in crates) / self.processors)
 
     def stop(self):
         for ran in self.running.values():
@@ -310,8 +333,8 @@ def forget_others(kit_name):
     last.write_text(kit_name)
 
 
-def prove(title, programs):
-    """Proves and builds programs, and returns an exit status."""
+def prove(title, programs, is_measured):
+    """Proves and builds programs, and returns an exit status. What its crates took is written down where they are measured."""
     if not wanted(programs):
         return 0
     found = kit()
@@ -319,11 +342,13 @@ def prove(title, programs):
         return MISSING
     forget_others(found)
     crates = wanted(programs)
-    run = Build(title, crates)
+    run = Build(title, crates, is_measured)
     begun = f"proving {len(crates)} crates on {run.processors} processors"
     say(f"{title}: {begun}; the prover's words go to crates/NAME/out/build.log")
     try:
         run.run()
+        if is_measured:
+            note({crate.name: round(took) for crate, took in run.took.items()})
         return 0
     except Refused as refused:
         log = workspace()[str(refused)].log
@@ -338,7 +363,7 @@ def prove(title, programs):
         shutil.rmtree(room(), ignore_errors=True)
 
 
-def build(title, programs):
+def build(title, programs, is_measured=False):
     """Proves and builds programs while no other build of this checkout runs, and returns an exit status."""
 
     def interrupt(*_):
@@ -349,7 +374,7 @@ def build(title, programs):
     try:
         with open(f"{room()}.lock", "w") as lock:
             wait_for_others(title, lock)
-            return prove(title, programs)
+            return prove(title, programs, is_measured)
     except Interrupted:
         say(f"{title}: interrupted; what is proved is kept, and the next run goes on there")
         return INTERRUPTED

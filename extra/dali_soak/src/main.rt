@@ -9,15 +9,17 @@
 
 ghost use Rattle.std.specs.Prelude.{◌≡◌, ◌<◌};
 
+mod kept_promise;
 mod listed;
 
 use arrayvec::ArrayVec;
 use dali_enrol::Directory;
 use dali_line::{Bus, Driver, Gate, Line, Moment, Outcome, Port, Ready, UpRefusal, Worker};
 use dali_reserve::Keep;
-use dali_script::{Block, Kept, Pair};
+use dali_script::{Block, Kept};
 use dali_sqlite::SqliteKeep;
 use dali_world::{Event, Plan, Refusal, SiteState, Trouble};
+use kept_promise::{are_apart, is_true};
 use listed::{List, Listed, ListedBus};
 use sqlite::MemStore;
 use std::alloc::Global;
@@ -29,15 +31,19 @@ use std::sync::{Mutex, Wait};
 use std::thread::{Threads, join, yield_now};
 
 const GEAR: u32 = 48;
+
 const BLOCKS: [(u8, u8); 4] = [(0, 15), (16, 31), (32, 47), (48, 63)];
 /// How many turns a worker may take in a session, and the bus's thread.
 const TURNS: u32 = 100_000;
+
 const SESSIONS: u32 = 100;
 /// How many workers a controller's thread runs in a session, after the first.
 const RESTARTS: u32 = 10_000;
 /// A log that is longer gets no further session.
 const LONG: usize = 50_000;
+
 type Database = SqliteKeep<MemStore>;
+
 type Four<T> = (T, T, T, T);
 /// What is wrong, or why a run could not go on.
 struct Wrong(&'static str);
@@ -462,7 +468,9 @@ where
     ports.push(fourth);
     let closed = line.close(ports, inner);
     let has_all = closed.is_ok();
-    let site = match closed { Ok(site) | Err(site) => site };
+    let site = match closed {
+        Ok(site) | Err(site) => site
+    };
     let events = site.log().get(begun..).unwrap_or(&[]);
     let is_right = is_logged(events, &list, 4)
         && is_logged(events, &one, 0)
@@ -515,50 +523,6 @@ fn blanks() -> Blanks
         Blank::new(1),
         Blank::new(1),
     )
-}
-
-/// Whether a gear has this short and this random address.
-fn is_named(site: &SiteState, entry: &Pair) -> bool {
-    for number in 0..site.plan().gear() {
-        let gear = site.gear(number);
-        if gear.short().map(|it| it.number()) == Some(entry.address()) {
-            return gear.random() == entry.random();
-        }
-    }
-    false
-}
-
-/// No two gear have one short address.
-fn are_apart(site: &SiteState) -> bool {
-    for one in 0..site.plan().gear() {
-        for other in 0..one {
-            let short = site.gear(one).short();
-            if short.is_some() && site.gear(other).short() == short {
-                return false;
-            }
-        }
-    }
-    true
-}
-
-/// Each enrolment of a controller names a gear, and its store has what the site keeps, or one record more.
-fn is_true(site: &SiteState, c: u8, stored: &Kept) -> bool {
-    if usize::from(c) >= site.plan().blocks().len() {
-        return false;
-    }
-    let kept = site.kept(c);
-    // A release is one record more, and leaves one reservation fewer.
-    let more = stored.reserved().len() != kept.reserved().len()
-        || stored.enrolled().len() > kept.enrolled().len();
-    if !more && !stored.same(kept) {
-        return false;
-    }
-    for entry in kept.enrolled() {
-        if !is_named(site, entry) {
-            return false;
-        }
-    }
-    true
 }
 
 fn read(keep: &mut Database) -> Result<Kept, Wrong> {

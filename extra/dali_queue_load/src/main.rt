@@ -1,5 +1,6 @@
-//! Fills the queue of a bus, silences half of the senders, and lets the others send, again and again. With a word it
-//! has room for 1,024 requests, else for 64. It writes how many were offered and how many were sent.
+//! Fills the queue of a bus, silences half of the senders, and lets the others send, again and again. Its two words
+//! say how many requests are offered in all, and for how many there is room, 1 to 1,024. It writes how many were
+//! offered and how many were sent.
 #![tactic(auto)]
 
 ghost use Rattle.std.specs.Prelude.{◌≤◌};
@@ -8,10 +9,8 @@ use dali_arbiter::Arbiter;
 use dali_frame::{Forward, Priority};
 use rand_core::{Rng, SeedableRng};
 use rand_pcg::Pcg32;
+use std::alloc::Global;
 use std::process::ExitCode;
-
-/// How many requests are offered in all.
-const OFFERS: u32 = 1 << 21;
 
 /// How many senders there are.
 const SENDERS: u8 = 16;
@@ -53,23 +52,35 @@ fn send(arbiter: &mut Arbiter, capacity: u32) -> u32
     capacity
 }
 
-fn main(rt: HostRuntime) -> ExitCode {
-    let wide = match std::env::args(&rt) {
-        Ok(mut words) => words.nth(1).is_some(),
-        Err(_) => false,
-    };
-    let capacity = if wide { 1024 } else { 64 };
-    let Ok(mut arbiter) = Arbiter::new(rt.alloc(), capacity as usize) else {
-        return ExitCode::FAILURE;
-    };
+/// Offers so many requests in all, and sends what waits. How many were sent; `None` where there is no such queue.
+fn load(alloc: Global, offers: u32, capacity: u32) -> Option<u64> {
+    let mut arbiter = Arbiter::new(alloc, capacity as usize).ok()?;
     let mut draws = Pcg32::seed_from_u64(1);
     let mut sent = 0u64;
-    for _ in 0..OFFERS / capacity {
+    for _ in 0..offers.checked_div(capacity)? {
         fill(&mut arbiter, &mut draws, capacity);
         silence(&mut arbiter, &mut draws);
         sent = sent.wrapping_add(u64::from(send(&mut arbiter, capacity)));
     }
-    match println!(&rt; "{OFFERS} {sent}") {
+    Some(sent)
+}
+
+/// The two numbers that the program is given.
+fn numbers(rt: &HostRuntime) -> Option<(u32, u32)> {
+    let mut words = std::env::args(rt).ok()?;
+    let offers = words.nth(1)?.as_str().parse::<u32>().ok()?;
+    let capacity = words.next()?.as_str().parse::<u32>().ok()?;
+    Some((offers, capacity))
+}
+
+fn main(rt: HostRuntime) -> ExitCode {
+    let Some((offers, capacity)) = numbers(&rt) else {
+        return ExitCode::FAILURE;
+    };
+    let Some(sent) = load(rt.alloc(), offers, capacity) else {
+        return ExitCode::FAILURE;
+    };
+    match println!(&rt; "{offers} {sent}") {
         Ok(()) => ExitCode::SUCCESS,
         Err(_) => ExitCode::FAILURE,
     }
