@@ -47,14 +47,15 @@ class Interrupted(Exception):
 
 class Crate:
     """A crate: its line in its list, its folder, the crates that it names and all below it, the libraries of the kit that it
-    names, the files of other crates that it has among its sources, how a program is compiled, and how many seconds of processor
-    its proof takes, if that was measured."""
+    names, the files of other crates that it has among its sources, whether it is a program or a static library, how it is
+    compiled, and how many seconds of processor its proof takes, if that was measured."""
 
     def __init__(self, name, line, folder, direct, of_kit, borrowed, seconds):
         self.name, self.line, self.folder, self.borrowed, self.seconds = name, line, folder, borrowed, seconds
         self.direct, self.of_kit = direct, of_kit
         self.below = list(dict.fromkeys(it for crate in direct for it in [*crate.below, crate]))
         self.is_program = (self.folder / "src/main.rt").is_file()
+        self.is_static = " staticlib" in line.partition(":")[0]
         self.made = self.folder / "out" / (name if self.is_program else f"stated/{name}.rlib/format")
         head = line.partition(":")[0]
         self.backend = ["--backend", "rattle" if " backend=rattle" in head else "llvm"]
@@ -281,15 +282,21 @@ def lay_out(crate, place):
 
 
 def keep(crate, read):
-    """Takes what was built into the checkout. It is as old as the reading of its sources: what was edited since is newer."""
+    """Takes what was built in the crate's place into the checkout."""
     place = room() / crate.name
+    made = crate.made if crate.is_program else crate.made.parent
+    take(crate, place / made.relative_to(crate.folder), read)
+    shutil.rmtree(place, ignore_errors=True)
+
+
+def take(crate, built, read):
+    """Takes a program or a library into the checkout. It is as old as the reading of its sources: what was edited since is newer."""
     made = crate.made if crate.is_program else crate.made.parent
     if made.is_dir():
         shutil.rmtree(made)
     made.parent.mkdir(parents=True, exist_ok=True)
-    os.replace(place / made.relative_to(crate.folder), made)
+    os.replace(built, made)
     os.utime(crate.made, (read, read))
-    shutil.rmtree(place, ignore_errors=True)
 
 
 def wanted(programs):
