@@ -13,7 +13,7 @@ SAID = "crates/dali_commission_program/src/reports.rt"
 ENUMS = {
     "AddError": ("crates/dali_script/src/records.rt",),
     "Answer": ("crates/dali_frame/src/frames.rt", CODES),
-    "BenchLine": ("crates/dali_replay/src/bench_line.rt",),
+    "BenchLine": ("crates/dali_grammar/src/bench_line.rt",),
     "DirectoryError": ("crates/dali_enrol/src/error.rt",),
     "DriverFault": ("crates/dali_commissioning/src/driver.rt",),
     "Due": (ORDERS, CODES),
@@ -32,15 +32,15 @@ ENUMS = {
     "PlanError": ("crates/dali_events/src/plan.rt",),
     "Record": ("crates/dali_script/src/records.rt",),
     "Refusal": ("crates/dali_standing/src/refusal.rt",),
-    "ReplayFault": ("crates/dali_replay/src/fault.rt",),
+    "ReplayFault": ("crates/dali_grammar/src/fault.rt",),
     "Reply": ("crates/dali_commissioning/src/census.rt", SAID),
-    "Report": ("crates/dali_standing/src/trouble.rt",),
-    "SiteLine": ("crates/dali_replay/src/site_line.rt",),
+    "Report": ("crates/dali_standing/src/report.rt",),
+    "SiteLine": ("crates/dali_grammar/src/site_line.rt",),
     "Standing": ("crates/dali_commissioning/src/census.rt", SAID),
     "StoreFault": ("crates/dali_commission_program/src/stores.rt",),
     "TableError": ("crates/dali_script/src/table.rt",),
     "ThreadsFault": ("crates/dali_threads/src/setup.rt",),
-    "Trouble": ("crates/dali_standing/src/trouble.rt",),
+    "Trouble": ("crates/dali_events/src/trouble.rt",),
 }
 
 
@@ -84,7 +84,7 @@ HEADER, MAIN, STATUSES = "include/dali_c.h", "examples/c/main.c", "examples/c/st
 FORMAT, INSTALLER, VENDOR, ADAPTERS = "docs/FORMAT.md", "docs/INSTALLER.md", "docs/VENDOR.md", "docs/ADAPTERS.md"
 REPLAY, THREADS, FORMS = "tools/replay_report.py", "tools/threads_report.py", "tools/script_forms.py"
 SITE, LIBRARY = "tools/commission_site.py", "tools/c-library"
-LINES, MISTAKES = "crates/dali_replay/src/reason/forms.rt", "crates/dali_replay/src/reason/mistake.rt"
+LINES, MISTAKES = "crates/dali_grammar/src/reason/forms.rt", "crates/dali_grammar/src/reason/mistake.rt"
 # The inputs that do not tell what became of a frame; how it was heard is an answer.
 NOT_OF_FRAMES = "Start Survey Heard Committed CommitFailed"
 PLACES = (

@@ -2,7 +2,7 @@ use Rattle.std.specs.Prelude.{ℕ, Bool, true, false, Result, Ok, Err}
 use Rattle.clap.specs.declared.error.kind.ErrorKind.{ErrorKind}
 use Rattle.clap.specs.declared.error.kind.ErrorKind.TheVariants.{DisplayHelp, DisplayVersion}
 use Rattle.clap.specs.declared.error.kind.ErrorKind.TheVariants.{OutOfMemory}
-use Rattle.dali_replay.specs.ReplayFault as replay
+use Rattle.dali_grammar.specs.ReplayFault as replay
 use Rattle.dali_threads.specs.Setup as threads
 use Rattle.dali_command_line.specs.declared.failure.Failure.{Failure}
 use Rattle.dali_command_line.specs.declared.failure.Failure.TheVariants.{Replay, Threads}

@@ -8,3 +8,4 @@ pub mod Promise
 pub mod Laws
 pub mod Searching
 pub mod Wanted
+pub mod Troubles

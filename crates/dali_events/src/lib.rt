@@ -7,9 +7,11 @@
 mod event;
 pub mod laws;
 mod plan;
+mod trouble;
 mod used;
 
 pub use dali_gear::GearSet;
 pub use event::Event;
 pub use plan::{CONTROLLER_LIMIT, DRAW_LIMIT, GEAR_LIMIT, Plan, PlanError};
+pub use trouble::Trouble;
 pub use used::Used;

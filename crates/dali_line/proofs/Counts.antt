@@ -10,9 +10,9 @@ use Rattle.dali_events.specs.Happens.{happens}
 use Rattle.dali_events.specs.Allowed.{Allowed}
 use Rattle.dali_events.specs.Runs.{AllAllowed, IsRun}
 use Rattle.dali_events.proofs.Invariant.Controllers.{controllers_count}
-use Rattle.dali_standing.specs.declared.trouble.Trouble.{Trouble}
-use Rattle.dali_standing.specs.declared.trouble.Report.{Report}
-use Rattle.dali_standing.specs.declared.trouble.Report.TheVariants as report
+use Rattle.dali_events.specs.declared.trouble.Trouble.{Trouble}
+use Rattle.dali_standing.specs.declared.report.Report.{Report}
+use Rattle.dali_standing.specs.declared.report.Report.TheVariants as report
 use Rattle.dali_world.specs.Site.{SiteState, is_step_of, share_of, site_logged, Pumps}
 use Rattle.dali_line.specs.Shares.{Tally, total_of, count_at, raised, raised_driver}
 use Rattle.dali_line.specs.Counts.{is_other, others_of, counts_of}

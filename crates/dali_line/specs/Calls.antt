@@ -10,8 +10,8 @@ use Rattle.dali_events.specs.declared.event.Event.TheVariants as event
 use Rattle.dali_events.specs.World.{controller_at}
 use Rattle.dali_standing.specs.declared.refusal.Refusal.{Refusal}
 use Rattle.dali_standing.specs.declared.refusal.Refusal.TheVariants as refusal
-use Rattle.dali_standing.specs.declared.trouble.Trouble.{Trouble}
-use Rattle.dali_standing.specs.declared.trouble.Report.{Report}
+use Rattle.dali_events.specs.declared.trouble.Trouble.{Trouble}
+use Rattle.dali_standing.specs.declared.report.Report.{Report}
 use Rattle.dali_world.specs.Site.{SiteState, Receipt, world, Acts, Logs, LogsRequest, IsFull, Pumps}
 use Rattle.dali_world.specs.Site.{IsUpWith}
 use Rattle.dali_world.specs.Site.{IsArcRefused, IsPumpRefused, IsGearRefused, IsDownRefused}

@@ -3,8 +3,8 @@ use Rattle.dali_script.specs.declared.orders.Due.TheVariants as due
 use Rattle.dali_events.specs.World.{controller_at}
 use Rattle.dali_events.specs.Promise.{KeepsPromise}
 use Rattle.dali_standing.specs.Seats.{due_of}
-use Rattle.dali_standing.specs.declared.trouble.Report.{Report}
-use Rattle.dali_standing.specs.declared.trouble.Report.TheVariants as report
+use Rattle.dali_standing.specs.declared.report.Report.{Report}
+use Rattle.dali_standing.specs.declared.report.Report.TheVariants as report
 use Rattle.dali_world.specs.Site.{SiteState, world, share_of, next_request, IsSound, IsCrowded}
 use Rattle.dali_line.specs.Shares.{PortShare, total_of}
 use Rattle.dali_line.specs.Counts.{others_of, counts_of}

@@ -2,12 +2,12 @@ use Rattle.std.specs.Prelude.{ℕ, ◌+◌, List, [], ◌∷◌, Bool, true, fal
 use Rattle.std.specs.Prelude.{nat_eq, nat_lt, option_and_then, if◌then◌else◌}
 use Rattle.dali_events.specs.declared.event.Event.{Event}
 use Rattle.dali_events.specs.declared.event.Event.TheVariants as event
-use Rattle.dali_standing.specs.declared.trouble.Trouble.{Trouble}
-use Rattle.dali_standing.specs.declared.trouble.Trouble.TheVariants as trouble
-use Rattle.dali_replay.specs.declared.site_line.SiteLine.{SiteLine}
-use Rattle.dali_replay.specs.declared.site_line.SiteLine.TheVariants as line
-use Rattle.dali_replay.specs.Lines.{words_of}
-use Rattle.dali_replay.specs.SiteLine.{site_line_of}
+use Rattle.dali_events.specs.declared.trouble.Trouble.{Trouble}
+use Rattle.dali_events.specs.declared.trouble.Trouble.TheVariants as trouble
+use Rattle.dali_grammar.specs.declared.site_line.SiteLine.{SiteLine}
+use Rattle.dali_grammar.specs.declared.site_line.SiteLine.TheVariants as line
+use Rattle.dali_grammar.specs.Lines.{words_of}
+use Rattle.dali_grammar.specs.SiteLine.{site_line_of}
 use Rattle.dali_replay.specs.declared.played.PlayedLine.{PlayedLine}
 use Rattle.dali_picture.specs.declared.incidents.Incident.{Incident}
 use Rattle.dali_picture.specs.declared.incidents.Incident.TheVariants as incident

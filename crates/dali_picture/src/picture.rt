@@ -1,7 +1,7 @@
 //! A run as a picture: its marks, and the folds of a short picture.
 
 ghost use Rattle.std.specs.Prelude.{◌≡◌, ◌≤◌, length, map, IfOk, IfErr};
-ghost use Rattle.dali_replay.specs.Replay.{setting_of};
+ghost use Rattle.dali_grammar.specs.Setting.{setting_of};
 ghost use Rattle.dali_replay.specs.Played.{IsPlayedBy, StopsBy};
 ghost use Rattle.dali_picture.specs.Marks.{mark_of};
 ghost use Rattle.dali_picture.specs.Folds.{AreFolds, HaveTheirFrames};

@@ -41,7 +41,7 @@ use Rattle.dali_events.specs.Wanted.{is_bare}
 use Rattle.dali_events.proofs.Search.Opened.{AreOpening}
 use Rattle.dali_events.proofs.Invariant.Takes.{row_length}
 use Rattle.dali_standing.specs.declared.refusal.Refusal.TheVariants as refusal
-use Rattle.dali_standing.specs.declared.trouble.Trouble.TheVariants as trouble
+use Rattle.dali_events.specs.declared.trouble.Trouble.TheVariants as trouble
 use Rattle.dali_standing.specs.Seats.{informed_by}
 use Rattle.dali_standing.specs.Standing.{machine_in}
 use Rattle.dali_world.specs.Site.{SiteState, world, machine_at, site_logged, IsPumpRefused}

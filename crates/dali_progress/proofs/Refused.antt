@@ -27,7 +27,7 @@ use Rattle.dali_events.specs.Allowed.{IsDue, IsCommit}
 use Rattle.dali_events.specs.Wanted.{is_bare}
 use Rattle.dali_standing.specs.declared.refusal.Refusal.{Refusal}
 use Rattle.dali_standing.specs.declared.refusal.Refusal.TheVariants as refusal
-use Rattle.dali_standing.specs.declared.trouble.Trouble.TheVariants as trouble
+use Rattle.dali_events.specs.declared.trouble.Trouble.TheVariants as trouble
 use Rattle.dali_standing.specs.Seats.{due_of, ReservesUsed}
 use Rattle.dali_world.specs.Site.{SiteState, world, site_logged, opened_site, IsBarred, IsActRefused, IsPumpRefused}
 use Rattle.dali_replay.specs.declared.rounds.Round.TheVariants as round

@@ -20,10 +20,10 @@ use Rattle.dali_events.specs.Plan.{Plan}
 use Rattle.dali_events.specs.World.{Controller, controller_at}
 use Rattle.dali_events.specs.Allowed.{IsDue, IsCommit}
 use Rattle.dali_events.specs.Wanted.{is_bare}
-use Rattle.dali_standing.specs.declared.trouble.Trouble.TheVariants as trouble
-use Rattle.dali_standing.specs.declared.trouble.Report.{Report}
-use Rattle.dali_standing.specs.declared.trouble.Report.TheVariants as report
-use Rattle.dali_standing.specs.Troubles.{nobody_at_all}
+use Rattle.dali_events.specs.declared.trouble.Trouble.TheVariants as trouble
+use Rattle.dali_standing.specs.declared.report.Report.{Report}
+use Rattle.dali_standing.specs.declared.report.Report.TheVariants as report
+use Rattle.dali_events.specs.Troubles.{nobody_at_all}
 use Rattle.dali_standing.specs.Seats.{LeavesWhole, due_of}
 use Rattle.dali_world.specs.Site.{SiteState, HasActed, Pumps, machine_at, world, site_logged, next_request}
 use Rattle.dali_replay.specs.declared.rounds.Round.TheVariants as round

@@ -35,7 +35,7 @@ ghost use Rattle.dali_events.specs.Runs.{AllAllowed, IsRun};
 ghost use Rattle.dali_events.specs.Promise.{KeepsPromise};
 ghost use Rattle.dali_events.specs.Wanted.{is_bare};
 ghost use Rattle.dali_standing.specs.declared.refusal.Refusal.TheVariants as refusal;
-ghost use Rattle.dali_standing.specs.declared.trouble.Trouble.TheVariants as trouble;
+ghost use Rattle.dali_events.specs.declared.trouble.Trouble.TheVariants as trouble;
 ghost use Rattle.dali_world.specs.Site.{SiteState, opened_site, world, IsPumpRefused};
 ghost use Rattle.dali_replay.specs.Installation.{Installation, installation_of};
 ghost use Rattle.dali_replay.specs.Installation as replayed;

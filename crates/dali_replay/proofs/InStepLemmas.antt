@@ -23,9 +23,9 @@ use Rattle.dali_script.proofs.Members.{each_changed, each_set}
 use Rattle.dali_events.proofs.Invariant.Growing.{after_more}
 use Rattle.dali_standing.specs.Seats.{due_of}
 use Rattle.dali_standing.specs.declared.refusal.Refusal.{Refusal}
-use Rattle.dali_standing.specs.declared.trouble.Trouble.{Trouble}
-use Rattle.dali_standing.specs.declared.trouble.Report.{Report}
-use Rattle.dali_standing.specs.declared.trouble.Report.TheVariants as report
+use Rattle.dali_events.specs.declared.trouble.Trouble.{Trouble}
+use Rattle.dali_standing.specs.declared.report.Report.{Report}
+use Rattle.dali_standing.specs.declared.report.Report.TheVariants as report
 use Rattle.dali_world.specs.Site.{SiteState, Receipt, world, opened_site, Logs, HasActed, IsUpWith, Pumps}
 use Rattle.dali_replay.specs.Installation.{Store, IsInstalled, no_store, empty_store, store_settled, IsInStepBy, IsInStep, IsMade}
 

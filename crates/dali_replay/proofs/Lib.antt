@@ -1,5 +1,3 @@
-pub mod LineLemmas
-pub mod NumberLemmas
 pub mod BenchLemmas
 pub mod TextLemmas
 pub mod InStepLemmas
@@ -9,4 +7,3 @@ pub mod ReplayLemmas
 pub mod PlayerLemmas
 pub mod PlayedLemmas
 pub mod PassedLemmas
-pub mod ReasonLemmas

@@ -2,12 +2,13 @@ use Rattle.std.proofs.Common.{ℕ, List, [], Bool, true, false, ◌∙◌, Optio
 use Rattle.std.specs.Prelude.{IfSome}
 use Rattle.std.specs.Io.KnownBytes.{Appends, Keeps}
 use Rattle.dali_events.specs.Plan.{Plan}
-use Rattle.dali_replay.specs.declared.fault.ReplayFault.{ReplayFault}
-use Rattle.dali_replay.specs.declared.fault.ReplayFault.TheVariants.{BadLine, BadPlan, Memory, Read, Write}
+use Rattle.dali_grammar.specs.declared.fault.ReplayFault.{ReplayFault}
+use Rattle.dali_grammar.specs.declared.fault.ReplayFault.TheVariants.{BadLine, BadPlan, Memory, Read, Write}
 use Rattle.dali_replay.specs.Bench.{start}
 use Rattle.dali_replay.specs.Installation.{Installation, installation_of}
-use Rattle.dali_replay.specs.Replay.{NumberedLines, End, Setting, Output, Plays, PlaysSite, PlaysSetting, Replays, Tells, HavePlayed, played, nothing}
-use Rattle.dali_replay.specs.Replay.{setting_of}
+use Rattle.dali_grammar.specs.Setting.{NumberedLines, End, Setting}
+use Rattle.dali_replay.specs.Replay.{Output, Plays, PlaysSite, PlaysSetting, Replays, Tells, HavePlayed, played, nothing}
+use Rattle.dali_grammar.specs.Setting.{setting_of}
 
 -- WHAT A RUN SAYS stays true where the bytes that were written are passed on.
 

@@ -3,13 +3,13 @@ use mathlib.Core.List.{append_assoc}
 use Rattle.std.proofs.lemmas.List.{append-nil}
 use Rattle.dali_events.specs.declared.event.Event.{Event}
 use Rattle.dali_events.specs.Plan.{Plan}
-use Rattle.dali_replay.specs.declared.fault.ReplayFault.{ReplayFault}
-use Rattle.dali_replay.specs.declared.fault.ReplayFault.TheVariants.{BadLine, BadPlan, Memory, Read, Write}
+use Rattle.dali_grammar.specs.declared.fault.ReplayFault.{ReplayFault}
+use Rattle.dali_grammar.specs.declared.fault.ReplayFault.TheVariants.{BadLine, BadPlan, Memory, Read, Write}
 use Rattle.dali_replay.specs.declared.player.Player.{Player}
 use Rattle.dali_replay.specs.declared.played.PlayedLine.{PlayedLine}
 use Rattle.dali_replay.specs.declared.played.Played.{Played}
 use Rattle.dali_replay.specs.BenchReport.{with_event}
-use Rattle.dali_replay.specs.Replay.{NumberedLines, End, Setting, PlansNot}
+use Rattle.dali_grammar.specs.Setting.{NumberedLines, End, Setting, PlansNot}
 use Rattle.dali_replay.specs.Player.{Turns, Takes, player_of}
 use Rattle.dali_replay.specs.Played.{Follow, IsLine, IsBadLater, StopsIn, PlaysAll, IsPlayed, IsOf, IsSame, IsPlayedBy, StopsBy, events_in}
 

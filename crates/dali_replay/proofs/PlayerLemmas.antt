@@ -2,16 +2,17 @@ use Rattle.std.proofs.Common.{◌≡◌, ℕ, List, [], ◌∷◌, ◌++◌, Boo
 use Rattle.std.specs.Io.KnownBytes.{Appends}
 use Rattle.dali_events.specs.declared.event.Event.{Event}
 use Rattle.dali_events.specs.Plan.{Plan}
-use Rattle.dali_replay.specs.declared.fault.ReplayFault.{ReplayFault}
-use Rattle.dali_replay.specs.declared.fault.ReplayFault.TheVariants.{BadLine, BadPlan, Memory, Read, Write}
+use Rattle.dali_grammar.specs.declared.fault.ReplayFault.{ReplayFault}
+use Rattle.dali_grammar.specs.declared.fault.ReplayFault.TheVariants.{BadLine, BadPlan, Memory, Read, Write}
 use Rattle.dali_replay.specs.declared.player.Player.{Player}
 use Rattle.dali_replay.specs.declared.player.Player.TheVariants as player
-use Rattle.dali_replay.specs.declared.site_line.SiteLine.{SiteLine}
-use Rattle.dali_replay.specs.Lines.{words_of}
-use Rattle.dali_replay.specs.SiteLine.{site_line_of}
+use Rattle.dali_grammar.specs.declared.site_line.SiteLine.{SiteLine}
+use Rattle.dali_grammar.specs.Lines.{words_of}
+use Rattle.dali_grammar.specs.SiteLine.{site_line_of}
 use Rattle.dali_replay.specs.Installation.{Installation}
 use Rattle.dali_replay.specs.SiteReport.{Says}
-use Rattle.dali_replay.specs.Replay.{NumberedLines, End, Setting, PlaysSite, PlaysSetting, HavePlayed, Replays, played}
+use Rattle.dali_grammar.specs.Setting.{NumberedLines, End, Setting}
+use Rattle.dali_replay.specs.Replay.{PlaysSite, PlaysSetting, HavePlayed, Replays, played}
 use Rattle.dali_replay.specs.Player.{Turns, Takes, IsBad, PlaysOn, player_of}
 use Rattle.dali_replay.proofs.ReplayLemmas.{appends_more, plays_line, plays_bad_line, plays_done, plays_memory}
 use Rattle.dali_replay.proofs.ReplayLemmas.{have_played_none, site_bad_line, site_done, site_memory}

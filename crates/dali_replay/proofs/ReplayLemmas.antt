@@ -7,17 +7,19 @@ use Rattle.dali_events.specs.declared.plan.PlanError.{PlanError}
 use Rattle.dali_events.specs.declared.plan.PlanError.TheVariants as plan_error
 use Rattle.dali_events.specs.declared.used.Used.{Used}
 use Rattle.dali_events.specs.Plan.{Plan, refusal_of, IsRefusal, used_refusal_of, IsUsedRefusal}
-use Rattle.dali_replay.specs.declared.fault.ReplayFault.{ReplayFault}
-use Rattle.dali_replay.specs.declared.fault.ReplayFault.TheVariants.{BadLine, BadPlan, Memory, Read, Write}
-use Rattle.dali_replay.specs.declared.bench_line.BenchLine.{BenchLine}
-use Rattle.dali_replay.specs.Lines.{words_of}
-use Rattle.dali_replay.specs.BenchLine.{bench_line_of}
-use Rattle.dali_replay.specs.SiteLine.{site_line_of}
+use Rattle.dali_grammar.specs.declared.fault.ReplayFault.{ReplayFault}
+use Rattle.dali_grammar.specs.declared.fault.ReplayFault.TheVariants.{BadLine, BadPlan, Memory, Read, Write}
+use Rattle.dali_grammar.specs.declared.bench_line.BenchLine.{BenchLine}
+use Rattle.dali_grammar.specs.Lines.{words_of}
+use Rattle.dali_grammar.specs.BenchLine.{bench_line_of}
+use Rattle.dali_grammar.specs.SiteLine.{site_line_of}
 use Rattle.dali_replay.specs.Bench.{BenchState, start, after}
 use Rattle.dali_replay.specs.BenchReport.{report}
 use Rattle.dali_replay.specs.Installation.{Installation, installation_of}
-use Rattle.dali_replay.specs.Replay.{NumberedLines, End, Setting, Output, Plays, PlaysSite, PlaysSetting, PlansNot, Replays, Tells, HavePlayed, IsBadAt}
-use Rattle.dali_replay.specs.Replay.{played, setting_of}
+use Rattle.dali_grammar.specs.Setting.{NumberedLines, End, Setting, PlansNot}
+use Rattle.dali_replay.specs.Replay.{Output, Plays, PlaysSite, PlaysSetting, Replays, Tells, HavePlayed, IsBadAt}
+use Rattle.dali_grammar.specs.Setting.{setting_of}
+use Rattle.dali_replay.specs.Replay.{played}
 
 -- ---------------------------------------------------------------- texts
 

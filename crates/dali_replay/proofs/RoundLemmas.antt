@@ -4,9 +4,9 @@ use Rattle.std.specs.Prelude.{if◌then◌else◌, ◌||◌}
 use mathlib.Core.List.{append_assoc}
 use Rattle.std.proofs.lemmas.List.{append-nil}
 use Rattle.dali_standing.specs.declared.refusal.Refusal.{Refusal}
-use Rattle.dali_standing.specs.declared.trouble.Trouble.TheVariants as trouble
-use Rattle.dali_standing.specs.declared.trouble.Report.{Report}
-use Rattle.dali_standing.specs.declared.trouble.Report.TheVariants as report
+use Rattle.dali_events.specs.declared.trouble.Trouble.TheVariants as trouble
+use Rattle.dali_standing.specs.declared.report.Report.{Report}
+use Rattle.dali_standing.specs.declared.report.Report.TheVariants as report
 use Rattle.dali_replay.specs.declared.rounds.Round.{Round}
 use Rattle.dali_replay.specs.declared.rounds.Round.TheVariants as round
 use Rattle.dali_replay.specs.Installation.{Installation, PumpsOn}

@@ -7,9 +7,9 @@ use Rattle.dali_gear.specs.Gear.{Gear, fresh, without_power, with_power, gear_ex
 use Rattle.dali_gear.specs.Row.{row_after, draws_needed}
 use Rattle.dali_events.specs.Used.{with_used}
 use Rattle.dali_events.specs.Plan.{Plan}
-use Rattle.dali_replay.specs.declared.bench_line.BenchLine.{BenchLine}
-use Rattle.dali_replay.specs.declared.bench_line.BenchLine.TheVariants.{Frame, Off, On, Expire}
-use Rattle.dali_replay.specs.declared.bench_line.BenchLine.TheVariants.{Quiet, Show}
+use Rattle.dali_grammar.specs.declared.bench_line.BenchLine.{BenchLine}
+use Rattle.dali_grammar.specs.declared.bench_line.BenchLine.TheVariants.{Frame, Off, On, Expire}
+use Rattle.dali_grammar.specs.declared.bench_line.BenchLine.TheVariants.{Quiet, Show}
 
 -- a bench: its gear, and the numbers that are left to be drawn
 pub record BenchState : Type 0 where

@@ -6,9 +6,9 @@ use Rattle.dali_gear.specs.Row.{answers_of, heard_of}
 use Rattle.dali_events.specs.declared.event.Event.{Event}
 use Rattle.dali_events.specs.declared.event.Event.TheVariants as event
 use Rattle.dali_standing.specs.declared.refusal.Refusal.TheVariants.{UnknownGear, DrawsSpent}
-use Rattle.dali_replay.specs.declared.bench_line.BenchLine.{BenchLine}
-use Rattle.dali_replay.specs.declared.bench_line.BenchLine.TheVariants.{Frame, Off, On, Expire}
-use Rattle.dali_replay.specs.declared.bench_line.BenchLine.TheVariants.{Quiet, Show}
+use Rattle.dali_grammar.specs.declared.bench_line.BenchLine.{BenchLine}
+use Rattle.dali_grammar.specs.declared.bench_line.BenchLine.TheVariants.{Frame, Off, On, Expire}
+use Rattle.dali_grammar.specs.declared.bench_line.BenchLine.TheVariants.{Quiet, Show}
 use Rattle.dali_replay.specs.Bench.{BenchState, is_enough}
 use Rattle.dali_replay.specs.Text.{heard_text, ok_text, gear_texts, refused_text}
 

@@ -16,8 +16,8 @@ use Rattle.dali_events.specs.Allowed.{IsCommit}
 use Rattle.dali_standing.specs.Seats.{due_of}
 use Rattle.dali_standing.specs.declared.refusal.Refusal.{Refusal}
 use Rattle.dali_standing.specs.declared.refusal.Refusal.TheVariants as refusal
-use Rattle.dali_standing.specs.declared.trouble.Trouble.{Trouble}
-use Rattle.dali_standing.specs.declared.trouble.Report.{Report}
+use Rattle.dali_events.specs.declared.trouble.Trouble.{Trouble}
+use Rattle.dali_standing.specs.declared.report.Report.{Report}
 use Rattle.dali_world.specs.Site.{SiteState, Receipt, world, opened_site, IsBarred, IsActRefused}
 use Rattle.dali_world.specs.Site.{IsUpRefused, IsUpWith, HasActed, Pumps, IsPumpRefused}
 

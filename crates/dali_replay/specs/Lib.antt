@@ -1,8 +1,3 @@
-pub mod Lines
-pub mod Numbers
-pub mod Heading
-pub mod BenchLine
-pub mod SiteLine
 pub mod Bench
 pub mod Installation
 pub mod Text
@@ -13,5 +8,3 @@ pub mod SiteReport
 pub mod Replay
 pub mod Player
 pub mod Played
-pub mod ReplayFault
-pub mod Reason

@@ -2,19 +2,19 @@ use Rattle.std.specs.Prelude.{◌≡◌, ◌⊎◌, ℕ, List, [], ◌∷◌, �
 use Rattle.std.specs.Prelude.{Ok, Err, string_bytes, if◌then◌else◌}
 use Rattle.dali_events.specs.declared.event.Event.{Event}
 use Rattle.dali_events.specs.Plan.{Plan}
-use Rattle.dali_replay.specs.declared.fault.ReplayFault.{ReplayFault}
-use Rattle.dali_replay.specs.declared.fault.ReplayFault.TheVariants.{BadLine, BadPlan, Memory}
-use Rattle.dali_replay.specs.declared.fault.ReplayFault.TheVariants.{Read, Write}
-use Rattle.dali_replay.specs.declared.lines.Script.{Script}
+use Rattle.dali_grammar.specs.declared.fault.ReplayFault.{ReplayFault}
+use Rattle.dali_grammar.specs.declared.fault.ReplayFault.TheVariants.{BadLine, BadPlan, Memory}
+use Rattle.dali_grammar.specs.declared.fault.ReplayFault.TheVariants.{Read, Write}
+use Rattle.dali_grammar.specs.declared.lines.Script.{Script}
 use Rattle.dali_replay.specs.declared.player.Player.{Player}
 use Rattle.dali_replay.specs.declared.player.Player.TheVariants as player
 use Rattle.dali_replay.specs.declared.played.PlayedLine.{PlayedLine}
 use Rattle.dali_replay.specs.declared.played.Played.{Played}
-use Rattle.dali_replay.specs.Lines.{numbered_after}
+use Rattle.dali_grammar.specs.Lines.{numbered_after}
 use Rattle.dali_replay.specs.BenchReport.{with_event}
 use Rattle.dali_replay.specs.Text.{gear_texts}
 use Rattle.dali_replay.specs.SiteReport.{site_text}
-use Rattle.dali_replay.specs.Replay.{NumberedLines, End, Setting, PlansNot}
+use Rattle.dali_grammar.specs.Setting.{NumberedLines, End, Setting, PlansNot}
 use Rattle.dali_replay.specs.Player.{Turns, IsBad, player_of}
 
 -- ---------------------------------------------------------------- what stands

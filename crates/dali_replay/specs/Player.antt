@@ -1,22 +1,23 @@
 use Rattle.std.specs.Prelude.{◌≡◌, ℕ, List, Bool, true, false, Option, Some, None, Result, Ok, Err}
 use Rattle.dali_events.specs.declared.event.Event.{Event}
 use Rattle.dali_events.specs.Plan.{Plan}
-use Rattle.dali_replay.specs.declared.bench_line.BenchLine.{BenchLine}
-use Rattle.dali_replay.specs.declared.site_line.SiteLine.{SiteLine}
-use Rattle.dali_replay.specs.declared.fault.ReplayFault.{ReplayFault}
-use Rattle.dali_replay.specs.declared.fault.ReplayFault.TheVariants.{BadLine, BadPlan, Memory}
-use Rattle.dali_replay.specs.declared.fault.ReplayFault.TheVariants.{Read, Write}
+use Rattle.dali_grammar.specs.declared.bench_line.BenchLine.{BenchLine}
+use Rattle.dali_grammar.specs.declared.site_line.SiteLine.{SiteLine}
+use Rattle.dali_grammar.specs.declared.fault.ReplayFault.{ReplayFault}
+use Rattle.dali_grammar.specs.declared.fault.ReplayFault.TheVariants.{BadLine, BadPlan, Memory}
+use Rattle.dali_grammar.specs.declared.fault.ReplayFault.TheVariants.{Read, Write}
 use Rattle.dali_replay.specs.declared.player.Player.{Player}
 use Rattle.dali_replay.specs.declared.player.Player.TheVariants as player
-use Rattle.dali_replay.specs.Lines.{words_of}
-use Rattle.dali_replay.specs.BenchLine.{bench_line_of}
-use Rattle.dali_replay.specs.SiteLine.{site_line_of}
+use Rattle.dali_grammar.specs.Lines.{words_of}
+use Rattle.dali_grammar.specs.BenchLine.{bench_line_of}
+use Rattle.dali_grammar.specs.SiteLine.{site_line_of}
 use Rattle.dali_replay.specs.Bench.{start, after}
 use Rattle.dali_replay.specs.BenchReport.{report, bench_event}
 use Rattle.dali_replay.specs.Installation.{Installation, installation_of}
 use Rattle.dali_replay.specs.SiteReport.{Says}
 use Rattle.dali_replay.specs.Text.{Writes}
-use Rattle.dali_replay.specs.Replay.{NumberedLines, Plays, PlaysSite, played}
+use Rattle.dali_grammar.specs.Setting.{NumberedLines}
+use Rattle.dali_replay.specs.Replay.{Plays, PlaysSite, played}
 
 -- what the first lines set up, before anything is played
 abbrev pub player_of : Bool → Plan → Player

@@ -7,9 +7,9 @@ use Rattle.dali_script.specs.declared.orders.Due.TheVariants as due
 use Rattle.dali_events.specs.World.{Controller}
 use Rattle.dali_standing.specs.Seats.{due_of}
 use Rattle.dali_standing.specs.declared.refusal.Refusal.{Refusal}
-use Rattle.dali_standing.specs.declared.trouble.Trouble.TheVariants as trouble
-use Rattle.dali_standing.specs.declared.trouble.Report.{Report}
-use Rattle.dali_standing.specs.declared.trouble.Report.TheVariants as report
+use Rattle.dali_events.specs.declared.trouble.Trouble.TheVariants as trouble
+use Rattle.dali_standing.specs.declared.report.Report.{Report}
+use Rattle.dali_standing.specs.declared.report.Report.TheVariants as report
 use Rattle.dali_replay.specs.declared.rounds.Round.{Round}
 use Rattle.dali_replay.specs.declared.rounds.Round.TheVariants as round
 use Rattle.dali_replay.specs.Installation.{Installation, controller, Goes, PumpsOn}

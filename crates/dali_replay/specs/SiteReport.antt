@@ -4,8 +4,8 @@ use Rattle.dali_events.specs.World.{World, gear_at, controller_at}
 use Rattle.dali_standing.specs.declared.refusal.Refusal.{Refusal}
 use Rattle.dali_world.specs.Site.{SiteState, world, IsArcRefused, IsDownRefused, IsGearRefused}
 use Rattle.dali_replay.specs.Calls.{Befalls, Requests, BefallsGear, Lapses, IsLogFull}
-use Rattle.dali_replay.specs.declared.site_line.SiteLine.{SiteLine}
-use Rattle.dali_replay.specs.declared.site_line.SiteLine.TheVariants as line
+use Rattle.dali_grammar.specs.declared.site_line.SiteLine.{SiteLine}
+use Rattle.dali_grammar.specs.declared.site_line.SiteLine.TheVariants as line
 use Rattle.dali_replay.specs.Installation.{Installation, Goes, Stores, Fails, Surveys}
 use Rattle.dali_replay.specs.Installation.{ComesUp, Calls}
 use Rattle.dali_replay.specs.Installation.{PumpsOn}

@@ -16,8 +16,8 @@ use Rattle.dali_script.specs.Names.{record_name, end_name, fault_name}
 use Rattle.dali_script.specs.declared.orders.Order.{Order}
 use Rattle.dali_script.specs.declared.orders.Order.TheVariants.{Put, Commit, Done, Halt}
 use Rattle.dali_standing.specs.declared.refusal.Refusal.{Refusal}
-use Rattle.dali_standing.specs.declared.trouble.Report.{Report}
-use Rattle.dali_standing.specs.declared.trouble.Report.TheVariants as report
+use Rattle.dali_standing.specs.declared.report.Report.{Report}
+use Rattle.dali_standing.specs.declared.report.Report.TheVariants as report
 use Rattle.dali_standing.specs.Refusals.{refusal_number, name_of}
 
 -- THE TEXTS of reports, of benches and of sites. A report ends with a line feed.

@@ -33,7 +33,7 @@ impl Model for Bench {
 
 impl Bench {
     ghost use Rattle.dali_replay.specs.Bench.{start, is_enough, after_command, with_gear, after};
-    ghost use Rattle.dali_replay.specs.declared.bench_line.BenchLine.TheVariants.{Quiet};
+    ghost use Rattle.dali_grammar.specs.declared.bench_line.BenchLine.TheVariants.{Quiet};
 
     /// The gear of a plan, as they are at the start.
     pub fn new(plan: Plan) -> Bench

@@ -7,8 +7,8 @@ ghost use Rattle.dali_replay.specs.BenchReport.{bench_event, report};
 ghost use Rattle.dali_replay.specs.Bench.{after};
 
 use crate::bench::Bench;
-use crate::bench_line::BenchLine;
 use crate::text::{push_all_gear, push_heard, push_ok, push_refused};
+use dali_grammar::BenchLine;
 use dali_world::{Event, Refusal};
 use std::alloc::AllocError;
 

@@ -2,13 +2,11 @@
 
 ghost use Rattle.std.specs.Prelude.{◌+◌, ◌≤◌, length};
 
-use crate::fault::ReplayFault;
 use crate::installation::Installation;
-use crate::lines::Script;
 use crate::player::Player;
-use crate::setting::plan;
 use crate::text::{power_name, state_name};
 use dali_gear::{Gear, Row};
+use dali_grammar::{ReplayFault, Script, plan};
 use dali_script::Pair;
 use dali_world::SiteState;
 use std::alloc::{AllocError, Global};

@@ -4,15 +4,13 @@ ghost use Rattle.std.specs.Prelude.{◌≡◌, ◌+◌, ◌≤◌, ◌++◌, ◌
 ghost use Rattle.dali_replay.specs.BenchReport.{with_event};
 ghost use Rattle.dali_replay.specs.Played.{stand, events_in, end_text, log_in, IsEmpty, IsOf, IsSame, PlaysAll};
 ghost use Rattle.dali_replay.specs.Played.{IsPlayed, IsPlayedBy, StopsIn, StopsBy};
-ghost use Rattle.dali_replay.specs.Replay.{setting_of};
+ghost use Rattle.dali_grammar.specs.Setting.{setting_of};
 
-use crate::fault::ReplayFault;
-use crate::lines::Script;
 use crate::player::Player;
-use crate::setting::plan;
 use crate::site_report::show;
 use crate::text::push_all_gear;
 use dali_frame::Random24;
+use dali_grammar::{ReplayFault, Script, plan};
 use dali_world::{Event, Plan, Used};
 use std::alloc::{AllocError, Global};
 

@@ -4,12 +4,10 @@ ghost use Rattle.std.specs.Prelude.{◌≡◌, IfOk, string_bytes};
 ghost use Rattle.dali_replay.specs.Player.{player_of, Takes};
 
 use crate::bench::Bench;
-use crate::bench_line::bench_line_of;
 use crate::bench_report::report_bench;
-use crate::fault::ReplayFault;
 use crate::installation::Installation;
-use crate::site_line::site_line_of;
 use crate::site_report::report_site;
+use dali_grammar::{ReplayFault, bench_line_of, site_line_of};
 use dali_world::{Event, Plan};
 use std::alloc::{AllocError, Global};
 

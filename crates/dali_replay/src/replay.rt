@@ -2,14 +2,13 @@
 
 ghost use Rattle.std.specs.Prelude.{◌≡◌, ℕ, ◌+◌, ◌<◌, ◌≤◌, ◌⊎◌, List, length, IfOk, IfErr, IfSome, IsErrOf, IsErrAnd};
 ghost use Rattle.std.specs.Io.KnownBytes.{Consumes};
-ghost use Rattle.dali_replay.specs.Lines.{numbered_after};
+ghost use Rattle.dali_grammar.specs.Lines.{numbered_after};
 ghost use Rattle.dali_replay.specs.Player.{PlaysOn};
-ghost use Rattle.dali_replay.specs.Replay.{Replays, Tells, setting_of};
+ghost use Rattle.dali_grammar.specs.Setting.{setting_of};
+ghost use Rattle.dali_replay.specs.Replay.{Replays, Tells};
 
-use crate::fault::ReplayFault;
-use crate::lines::{INPUT_LIMIT, Script};
 use crate::player::Player;
-use crate::setting::plan;
+use dali_grammar::{INPUT_LIMIT, ReplayFault, Script, plan};
 use std::alloc::Global;
 use std::io::{Read, Write};
 

@@ -8,12 +8,12 @@ ghost use Rattle.dali_world.specs.Site.{world};
 
 use crate::installation::Installation;
 use crate::rounds::run;
-use crate::site_line::SiteLine;
 use crate::text::{
     push_gear, push_lapse, push_offered, push_ok, push_ordered, push_refused, push_report,
     push_table,
 };
 use dali_frame::Forward;
+use dali_grammar::SiteLine;
 use dali_script::Order;
 use dali_world::{Refusal, Report, SiteState};
 use std::alloc::AllocError;

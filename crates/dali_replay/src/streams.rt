@@ -2,12 +2,12 @@
 
 ghost use Rattle.std.specs.Prelude.{◌≡◌, [], OnOk, IfSome};
 ghost use Rattle.std.specs.Io.Buffered.{writer_buffer, writer_contents};
-ghost use Rattle.dali_replay.specs.Replay.{Tells, setting_of};
+ghost use Rattle.dali_grammar.specs.Setting.{setting_of};
+ghost use Rattle.dali_replay.specs.Replay.{Tells};
 
-use crate::fault::ReplayFault;
 use crate::json::show_json;
-use crate::reason::Explained;
 use crate::replay::{read_input, replay, run_replay};
+use dali_grammar::{Explained, ReplayFault};
 use std::alloc::Global;
 use std::io;
 use std::io::{BufWriter, Read, Write};

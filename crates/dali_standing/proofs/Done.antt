@@ -32,9 +32,9 @@ use Rattle.dali_standing.specs.Standing.{machine_in, machines_after, Moves, MayB
 use Rattle.dali_standing.proofs.Seats.{seat_at, world_of, with_seat, running_in, goes_on_in, has_acted, has_offered, has_sent, has_lost, has_collided}
 use Rattle.dali_standing.proofs.Seats.{has_lapsed, has_gone_down, has_come_up, IsMove}
 use Rattle.dali_standing.specs.Settled.{IsAccepted, IsHearing, IsOwning, IsPlacedBy, IsPlaced, IsPlacedOn, Settled}
-use Rattle.dali_standing.specs.declared.trouble.Trouble.{Trouble}
-use Rattle.dali_standing.specs.declared.trouble.Trouble.TheVariants as trouble
-use Rattle.dali_standing.specs.Troubles.{heard_under, nobody_at_all}
+use Rattle.dali_events.specs.declared.trouble.Trouble.{Trouble}
+use Rattle.dali_events.specs.declared.trouble.Trouble.TheVariants as trouble
+use Rattle.dali_events.specs.Troubles.{heard_under, nobody_at_all}
 use Rattle.dali_standing.proofs.Moves.{MaySendAt, is_up, controller_in, machine_of, up_there, place_elsewhere, moves_acted, moves_offered, moves_sent}
 use Rattle.dali_standing.proofs.Moves.{moves_lost, moves_collided, moves_lapsed, moves_down, moves_up}
 use Rattle.dali_special.specs.declared.command.Command.TheVariants.{Arc}

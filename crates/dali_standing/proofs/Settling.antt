@@ -45,7 +45,7 @@ use Rattle.dali_standing.proofs.Queues.{Elsewhere, MayAsk, Gone, next_is, next_o
 use Rattle.dali_standing.proofs.Queues.{served_lapsed, served_idle, served_silenced, served_offered, served_acted, five_lapsed, five_offered, five_acted}
 use Rattle.dali_standing.proofs.Queues.{five_destroyed, five_sent, five_silenced, up_more, up_lapsed, up_offered, up_acted, up_destroyed, up_sent, up_silenced}
 use Rattle.dali_standing.proofs.Queues.{up_start, next_up}
-use Rattle.dali_standing.specs.Troubles.{nobody_at_all}
+use Rattle.dali_events.specs.Troubles.{nobody_at_all}
 
 -- BUS AND CONTROLLERS STAY SETTLED, whatever happens on a site.
 

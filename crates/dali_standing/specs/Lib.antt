@@ -1,5 +1,4 @@
 pub mod Refusals
-pub mod Troubles
 pub mod Seats
 pub mod FittedGear
 pub mod Standing

@@ -7,10 +7,10 @@
 
 mod fitted;
 mod refusal;
+mod report;
 mod seat;
 mod standing;
-mod trouble;
 
 pub use refusal::Refusal;
+pub use report::Report;
 pub use standing::{Standing, is_arc_power};
-pub use trouble::{Report, Trouble};

@@ -16,16 +16,15 @@ ghost use Rattle.dali_events.specs.Allowed.{IsArc, IsDue};
 ghost use Rattle.dali_standing.specs.Standing.{seats_from};
 ghost use Rattle.dali_standing.specs.Seats.{MayAnswer, LeavesWhole, ReservesUsed, MayReserveUsed, Agrees, trace_of};
 ghost use Rattle.dali_standing.specs.Seats.{told_at, due_of};
-ghost use Rattle.dali_standing.specs.Troubles.{heard_under, nobody_at_all};
+ghost use Rattle.dali_events.specs.Troubles.{heard_under, nobody_at_all};
 ghost use Rattle.dali_standing.specs.Settled.{IsAccepted, IsHearing, IsPlacedOn};
 ghost use Rattle.dali_standing.specs.declared.refusal.Refusal.TheVariants as refusal;
 
 use crate::fitted::FittedGear;
 use crate::refusal::Refusal;
 use crate::seat::Seat;
-use crate::trouble::Trouble;
 use dali_arbiter::{Arbiter, Request};
-use dali_events::{Plan, Used};
+use dali_events::{Plan, Trouble, Used};
 use dali_frame::{Answer, Forward, Priority, Short};
 use dali_gear::{GearSet, Reach, Row};
 use dali_script::{Block, Due, Input, Kept, Order, Record, Table, Trace};

@@ -1,6 +1,6 @@
 use Rattle.std.specs.Prelude.{ℕ, Result, Ok, Err}
-use Rattle.dali_replay.specs.ReplayFault.{status_of}
-use Rattle.dali_replay.specs.declared.reason.Explained.{Explained}
+use Rattle.dali_grammar.specs.ReplayFault.{status_of}
+use Rattle.dali_grammar.specs.declared.reason.Explained.{Explained}
 
 -- THE EXIT STATUSES of the program
 abbrev pub status_after : {A : Type 0} → Result A Explained → ℕ

@@ -41,9 +41,9 @@ use Rattle.dali_script.specs.declared.orders.Order.TheVariants.{Halt}
 use Rattle.dali_script.specs.declared.orders.Fault.TheVariants as fault
 use Rattle.dali_world.specs.Site.{SiteState, world, site_logged, machines_all, machines, machine_at, is_step_of, share_of, IsSite, opened_site, HasRoom}
 use Rattle.dali_world.specs.Site.{IsCrowded, Logs, Receipt, HasActed, IsSpent, IsSendable}
-use Rattle.dali_standing.specs.Troubles.{reach_under}
-use Rattle.dali_standing.specs.declared.trouble.Trouble.{Trouble}
-use Rattle.dali_standing.specs.declared.trouble.Trouble.TheVariants as trouble
+use Rattle.dali_events.specs.Troubles.{reach_under}
+use Rattle.dali_events.specs.declared.trouble.Trouble.{Trouble}
+use Rattle.dali_events.specs.declared.trouble.Trouble.TheVariants as trouble
 
 -- A LOG GROWS BY ONE EVENT, and all that is read from it follows.
 

@@ -23,11 +23,11 @@ use Rattle.dali_events.specs.Runs.{after, IsRun, LeavesUsed}
 use Rattle.dali_events.specs.Promise.{IsSafeHistory}
 use Rattle.dali_standing.specs.declared.refusal.Refusal.{Refusal}
 use Rattle.dali_standing.specs.declared.refusal.Refusal.TheVariants as refusal
-use Rattle.dali_standing.specs.declared.trouble.Trouble.{Trouble}
-use Rattle.dali_standing.specs.declared.trouble.Trouble.TheVariants as trouble
-use Rattle.dali_standing.specs.declared.trouble.Report.{Report}
-use Rattle.dali_standing.specs.declared.trouble.Report.TheVariants as report
-use Rattle.dali_standing.specs.Troubles.{heard_under, reach_under, nobody_at_all}
+use Rattle.dali_events.specs.declared.trouble.Trouble.{Trouble}
+use Rattle.dali_events.specs.declared.trouble.Trouble.TheVariants as trouble
+use Rattle.dali_standing.specs.declared.report.Report.{Report}
+use Rattle.dali_standing.specs.declared.report.Report.TheVariants as report
+use Rattle.dali_events.specs.Troubles.{heard_under, reach_under, nobody_at_all}
 use Rattle.dali_standing.specs.Seats.{MayAnswer, LeavesWhole, MayReserveUsed, Agrees}
 use Rattle.dali_standing.specs.Standing.{Standing, stand_of, machine_in, machines_at}
 use Rattle.dali_standing.specs.Standing.{machines_after}

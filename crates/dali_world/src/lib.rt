@@ -9,8 +9,8 @@ mod receipt;
 mod site;
 
 pub use dali_events::{
-    CONTROLLER_LIMIT, DRAW_LIMIT, Event, GEAR_LIMIT, GearSet, Plan, PlanError, Used, laws,
+    CONTROLLER_LIMIT, DRAW_LIMIT, Event, GEAR_LIMIT, GearSet, Plan, PlanError, Trouble, Used, laws,
 };
-pub use dali_standing::{Refusal, Report, Trouble};
+pub use dali_standing::{Refusal, Report};
 pub use receipt::Receipt;
 pub use site::SiteState;

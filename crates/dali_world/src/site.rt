@@ -15,16 +15,16 @@ ghost use Rattle.dali_script.specs.declared.orders.Order.TheVariants as order;
 ghost use Rattle.dali_script.specs.declared.orders.Fault.TheVariants as fault;
 ghost use Rattle.dali_controller.specs.Machine.{Machine};
 ghost use Rattle.dali_script.specs.Table.{table_of};
-ghost use Rattle.dali_standing.specs.declared.trouble.Trouble.TheVariants as trouble;
+ghost use Rattle.dali_events.specs.declared.trouble.Trouble.TheVariants as trouble;
 ghost use Rattle.dali_standing.specs.declared.refusal.Refusal.TheVariants as refusal;
 
 use crate::receipt::Receipt;
 use dali_arbiter::Request;
-use dali_events::{Event, Plan};
+use dali_events::{Event, Plan, Trouble};
 use dali_frame::{Forward, Short};
 use dali_gear::{Gear, GearSet};
 use dali_script::{Due, Input, Kept, Record, Table};
-use dali_standing::{Refusal, Report, Standing, Trouble, is_arc_power};
+use dali_standing::{Refusal, Report, Standing, is_arc_power};
 use std::alloc::Global;
 use std::marker::Model;
 

@@ -9,7 +9,7 @@ use Rattle.dali_events.specs.declared.event.Event.{Event}
 use Rattle.dali_events.specs.Plan.{Plan, IsPlan}
 use Rattle.dali_events.specs.Wanted.{is_bare}
 use Rattle.dali_standing.specs.declared.refusal.Refusal.TheVariants as refusal
-use Rattle.dali_standing.specs.declared.trouble.Trouble.TheVariants as trouble
+use Rattle.dali_events.specs.declared.trouble.Trouble.TheVariants as trouble
 use Rattle.dali_world.specs.Site.{SiteState, world, opened_site, IsPumpRefused}
 use Rattle.dali_replay.specs.declared.rounds.Round.TheVariants as round
 use Rattle.dali_replay.specs.Installation.{Installation, installation_of}

@@ -1,5 +1,5 @@
 use Rattle.std.proofs.Common.{◌+◌, ◌≤◌, length}
-use Rattle.dali_replay.specs.Lines.{numbered_after}
+use Rattle.dali_grammar.specs.Lines.{numbered_after}
 use Rattle.dali_replay.proofs.json.show_all.Given as goal
 
 abbrev pub invariant-loop-line : goal.invariant-loop-line

@@ -1,5 +1,5 @@
 use Rattle.std.proofs.Common.{◌≡◌, Err, rules, string_bytes}
-use Rattle.dali_replay.specs.Lines.{numbered_after}
+use Rattle.dali_grammar.specs.Lines.{numbered_after}
 use Rattle.dali_replay.proofs.PlayedLemmas.{kept_none, all_kept, stops_all}
 use Rattle.dali_replay.proofs.played.play_all.Goals as goal
 

@@ -1,5 +1,5 @@
 use Rattle.std.proofs.Common.{◌≡◌, Ok, Err, rules, string_bytes}
-use Rattle.dali_replay.specs.Lines.{numbered_after}
+use Rattle.dali_grammar.specs.Lines.{numbered_after}
 use Rattle.dali_replay.proofs.PlayerLemmas.{leads_more, plays_end, plays_fault}
 use Rattle.dali_replay.proofs.replay.play.Goals as goal
 

@@ -1,5 +1,5 @@
 use Rattle.std.proofs.Common.{◌+◌, ◌≤◌, length}
-use Rattle.dali_replay.specs.Lines.{numbered_after}
+use Rattle.dali_grammar.specs.Lines.{numbered_after}
 use Rattle.dali_replay.proofs.PlayerLemmas.{LeadsOn}
 use Rattle.dali_replay.proofs.replay.play.Given as goal
 

@@ -1,5 +1,5 @@
 use Rattle.std.proofs.Common.{◌≡◌, Err, rules, zero-add}
-use Rattle.dali_replay.specs.declared.fault.ReplayFault.TheVariants.{Memory}
+use Rattle.dali_grammar.specs.declared.fault.ReplayFault.TheVariants.{Memory}
 use Rattle.dali_replay.proofs.ReplayLemmas.{replays_no_plan, replays_want}
 use Rattle.dali_replay.proofs.PlayerLemmas.{replays_all}
 use Rattle.dali_replay.proofs.replay.replay.Goals as goal

@@ -1,6 +1,6 @@
 use Rattle.std.proofs.Common.{refl, sym, ◌∙◌}
 use Rattle.dali_events.specs.declared.event.Event.TheVariants as event
-use Rattle.dali_standing.specs.Troubles.{nobody_at_all}
+use Rattle.dali_events.specs.Troubles.{nobody_at_all}
 use Rattle.dali_world.proofs.Logs.{site_goes_on, site_logs, lost_room, world_lists}
 use Rattle.dali_world.proofs.site.SiteState.collide.Goals as goal
 

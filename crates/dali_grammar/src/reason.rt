@@ -1,0 +1,233 @@
+//! Why a run ended at a bad line or a refused plan: which word, what is wrong with it, and the form that is wanted.
+//!
+//! A run answers the number of the line alone. What is said here is read from the script once more.
+
+ghost use Rattle.std.specs.Prelude.{◌≡◌, ◌≤◌, ◌+◌, length, IfSome};
+ghost use Rattle.dali_grammar.specs.Lines.{numbered_after};
+ghost use Rattle.dali_grammar.specs.Setting.{setting_of};
+ghost use Rattle.dali_grammar.specs.Reason.{Quotes, StopsAt, IsOfLine, first_bad, is_bad};
+
+mod excerpt;
+mod forms;
+mod line;
+mod mistake;
+mod names;
+mod planned;
+mod quote;
+mod words;
+
+use crate::bench_line::bench_line_of;
+use crate::fault::ReplayFault;
+use crate::lines::{INPUT_LIMIT, Script};
+use crate::setting::plan;
+use crate::site_line::site_line_of;
+use dali_events::PlanError;
+pub use excerpt::Excerpt;
+pub use forms::{Hint, Place};
+use line::line_mistake;
+pub use mistake::{Mistake, plan_limit};
+use planned::plan_clue;
+pub use quote::Quote;
+use quote::{part_at, quoted};
+use std::alloc::Global;
+use std::fmt;
+
+/// Why a line is bad, or a plan refused.
+#[derive(Clone, Copy)]
+pub struct Reason {
+    pub mistake: Mistake,
+    /// The word that it is said of; `None` where it is a line or a word that is missing, or spaces.
+    pub word: Option<Quote>,
+    /// Another word that does not go with it.
+    pub beside: Option<Quote>,
+    pub hint: Hint,
+}
+
+impl fmt::Display for Reason {
+    fn fmt<W: fmt::Write>(&self, f: &mut fmt::Formatter<W>) -> fmt::Result {
+        if let Some(word) = self.word {
+            let excerpt = word.excerpt;
+            if self.mistake.is_of_name() {
+                write!(f, "`{excerpt}` ")?;
+            } else {
+                write!(f, "{word}: ")?;
+            }
+        }
+        f.write_str(self.mistake.text())?;
+        if let Some(beside) = self.beside {
+            let line = beside.line;
+            write!(f, "; see line {line}, {beside}")?;
+        }
+        let hint = self.hint;
+        write!(f, "{hint}")
+    }
+}
+
+/// Whether a line is a bad one, on a bench or on a site.
+fn is_bad(is_bench: bool, line: &[u8]) -> bool
+    ensures { result ≡ is_bad is_bench line.now }
+{
+    if is_bench {
+        bench_line_of(line).is_none()
+    } else {
+        site_line_of(line).is_none()
+    }
+}
+
+/// The number of the first bad line among those that are left.
+fn first_bad(is_bench: bool, script: &mut Script) -> Option<u32>
+    requires { script.old.read + length script.old.rest.now ≤ 1048576 }
+    ensures { result ≡ first_bad is_bench (numbered_after script.old.read script.old.rest.now) }
+{
+    while let Some(line) = script.next() {
+        if is_bad(is_bench, line) {
+            return Some(script.number());
+        }
+    }
+    None
+}
+
+/// Where a bad line of the plan stands.
+fn place_of(input: &[u8], number: u32) -> Place
+    requires { length input.now ≤ 1048576 }
+{
+    let mut script = Script::new(input);
+    if script.next().is_none() || script.number() == number {
+        return Place::First;
+    }
+    if script.next().is_none() || script.number() == number {
+        return Place::Second;
+    }
+    Place::Used
+}
+
+/// At which bad line or refused plan a script stops, and where such a line stands.
+fn stop_of(alloc: Global, input: &[u8]) -> Option<(ReplayFault, Place)>
+    requires { length input.now ≤ 1048576 }
+    ensures { IfSome result (λ stop. StopsAt (setting_of input.now) stop.0) }
+{
+    let mut script = Script::new(input);
+    match plan(alloc, &mut script) {
+        Ok((is_bench, _)) => {
+            let number = first_bad(is_bench, &mut script)?;
+            let place = if is_bench { Place::Bench } else { Place::Site };
+            Some((ReplayFault::BadLine(number), place))
+        }
+        Err(ReplayFault::BadLine(number)) => {
+            Some((ReplayFault::BadLine(number), place_of(input, number)))
+        }
+        Err(ReplayFault::BadPlan(error)) => Some((ReplayFault::BadPlan(error), Place::First)),
+        Err(_) => None,
+    }
+}
+
+/// Why this line is bad.
+fn line_reason(input: &[u8], number: u32, place: Place) -> Reason
+    ensures word { IfSome result.word (Quotes input.now) }
+    ensures line { IfSome result.word (λ quote. quote.line ≡ number) }
+    ensures beside { IfSome result.beside (Quotes input.now) }
+{
+    let line = match part_at(input, b'\n', number.saturating_sub(1) as usize) {
+        Some(line) => line,
+        None => &[],
+    };
+    let ((mistake, word), hint) = line_mistake(place, line);
+    Reason {
+        mistake,
+        word: quoted(input, number, word),
+        beside: None,
+        hint,
+    }
+}
+
+/// Why this plan is refused.
+fn plan_reason(alloc: Global, input: &[u8], error: PlanError) -> Option<Reason>
+    requires { length input.now ≤ 1048576 }
+    ensures word { IfSome result (λ reason. IfSome reason.word (Quotes input.now)) }
+    ensures beside { IfSome result (λ reason. IfSome reason.beside (Quotes input.now)) }
+{
+    let clue = plan_clue(alloc, input, error)?;
+    let beside = match clue.beside {
+        Some(spot) => quoted(input, spot.line, spot.word),
+        None => None,
+    };
+    Some(Reason {
+        mistake: clue.mistake,
+        word: quoted(input, clue.at.line, clue.at.word),
+        beside,
+        hint: Hint::Nothing,
+    })
+}
+
+/// Why a script ends so. `None` where it does not end so, where there is nothing to say, where the script is longer
+/// than 1,048,576 bytes, or where there is too little memory to find it out.
+pub fn reason_of(alloc: Global, input: &[u8], fault: ReplayFault) -> Option<Reason>
+    // The script stops at just this line, or for just this refusal.
+    ensures stops { IfSome result (λ reason. StopsAt (setting_of input.now) fault) }
+    // A word that is named stands there.
+    ensures word { IfSome result (λ reason. IfSome reason.word (Quotes input.now)) }
+    ensures beside { IfSome result (λ reason. IfSome reason.beside (Quotes input.now)) }
+    // Of a bad line a word of that line is named.
+    ensures line { IfSome result (λ reason. IfSome reason.word (IsOfLine fault)) }
+{
+    if input.len() > INPUT_LIMIT {
+        return None;
+    }
+    let (stop, place) = stop_of(alloc, input)?;
+    if stop != fault {
+        return None;
+    }
+    match fault {
+        ReplayFault::BadLine(number) => Some(line_reason(input, number, place)),
+        ReplayFault::BadPlan(error) => plan_reason(alloc, input, error),
+        ReplayFault::Memory | ReplayFault::Read | ReplayFault::Write => None,
+    }
+}
+
+/// Why a run ended before the end of its input, with the reason where one is known.
+#[derive(Clone, Copy)]
+pub struct Explained {
+    pub fault: ReplayFault,
+    pub reason: Option<Reason>,
+}
+
+impl Explained {
+    /// The fault of a run over this input.
+    pub fn of(alloc: Global, input: &[u8], fault: ReplayFault) -> Explained
+        ensures { result.fault ≡ fault }
+    {
+        Explained {
+            fault,
+            reason: reason_of(alloc, input, fault),
+        }
+    }
+}
+
+impl From<ReplayFault> for Explained {
+    ghost use Rattle.std.specs.Prelude.{◌≡◌};
+
+    ghost from_gives = { λ fault e. e.fault ≡ fault };
+
+    fn from(fault: ReplayFault) -> Explained {
+        Explained {
+            fault,
+            reason: None,
+        }
+    }
+}
+
+impl fmt::Display for Explained {
+    fn fmt<W: fmt::Write>(&self, f: &mut fmt::Formatter<W>) -> fmt::Result {
+        let fault = self.fault;
+        write!(f, "{fault}")?;
+        let Some(reason) = self.reason else {
+            return Ok(());
+        };
+        f.write_str(": ")?;
+        if let (ReplayFault::BadPlan(_), Some(word)) = (fault, reason.word) {
+            let line = word.line;
+            write!(f, "line {line}, ")?;
+        }
+        write!(f, "{reason}")
+    }
+}
