@@ -1,8 +1,6 @@
 //! A line and a site are played the same steps side by side, and each call of the line answers as the site's does.
 //! No contract says that a line's calls are not all refused, nor that its waits end.
 
-ghost use Rattle.std.specs.Prelude.{◌≡◌, ◌<◌};
-
 use super::full::FullBus;
 use super::threads::{Blanks, blanks, closed, go_back, last_two, line_of};
 use super::values::Ordered::{Commit, Done, Put};
@@ -313,13 +311,7 @@ fn beside<P0: Ledger, P1: Ledger, P2: Ledger, P3: Ledger, D: Ledger, R: Abort + 
     site: &mut SiteState,
     records: Records<'_>,
     story: &[Step],
-)
-    requires first { (blanks.0.name ≡ P0.name) × (blanks.0.parts ≡ P0.parts) × (0 < P0.parts) }
-    requires second { (blanks.1.name ≡ P1.name) × (blanks.1.parts ≡ P1.parts) × (0 < P1.parts) }
-    requires third { (blanks.2.name ≡ P2.name) × (blanks.2.parts ≡ P2.parts) × (0 < P2.parts) }
-    requires fourth { (blanks.3.name ≡ P3.name) × (blanks.3.parts ≡ P3.parts) × (0 < P3.parts) }
-    requires driver { (blanks.4.name ≡ D.name) × (blanks.4.parts ≡ D.parts) × (0 < D.parts) }
-{
+) {
     let (line, mut ports, mut driver) = line_of::<P0, P1, P2, P3, D>(under, blanks);
     let (mut port, mut other) = last_two(&mut ports);
     played(

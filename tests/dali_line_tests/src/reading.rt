@@ -1,7 +1,5 @@
 //! A directory that is read while workers post in it.
 
-ghost use Rattle.std.specs.Prelude.{◌≡◌, IfSome};
-
 use super::values::same;
 use dali_enrol::{Directory, Enrolled, Pass, Table};
 use dali_frame::Short;
@@ -32,10 +30,7 @@ fn number_of(entry: &Enrolled) -> u32 {
 }
 
 /// Looks at all addresses. Whether each entry that was seen before is seen unchanged.
-fn look_at_all(directory: &Directory, pass: &mut Pass, seen: &mut [Option<u32>; 64]) -> bool
-    requires { pass.old.places ≡ directory.now }
-    ensures { pass.new.places ≡ pass.old.places }
-{
+fn look_at_all(directory: &Directory, pass: &mut Pass, seen: &mut [Option<u32>; 64]) -> bool {
     let mut steady = true;
     for number in 0..64u8 {
         if let Some(address) = Short::of(number) {
@@ -51,9 +46,7 @@ fn look_at_all(directory: &Directory, pass: &mut Pass, seen: &mut [Option<u32>; 
 }
 
 /// A reader with a pass of its own looks at all addresses again and again, and once more after the end was told.
-pub fn reads(alloc: Global, directory: &Directory, ended: &AtomicBool) -> Option<Reading>
-    ensures { IfSome result (λ r. r.pass.places ≡ directory.now) }
-{
+pub fn reads(alloc: Global, directory: &Directory, ended: &AtomicBool) -> Option<Reading> {
     let mut pass = directory.pass(alloc).ok()?;
     let mut seen = [None; 64];
     let mut is_steady = true;
@@ -76,12 +69,13 @@ pub fn reads(alloc: Global, directory: &Directory, ended: &AtomicBool) -> Option
 }
 
 /// Two passes see an entry under its address.
-fn both_see<R: Abort>(rt: &R, directory: &Directory, one: &mut Pass, other: &mut Pass, entry: Pair)
-    requires one { one.old.places ≡ directory.now }
-    requires other { other.old.places ≡ directory.now }
-    ensures one { one.new.places ≡ directory.now }
-    ensures other { other.new.places ≡ directory.now }
-{
+fn both_see<R: Abort>(
+    rt: &R,
+    directory: &Directory,
+    one: &mut Pass,
+    other: &mut Pass,
+    entry: Pair,
+) {
     let Some(address) = Short::of(entry.address()) else {
         return;
     };
@@ -98,12 +92,7 @@ pub fn see_table<R: Abort>(
     one: &mut Pass,
     other: &mut Pass,
     table: &Table,
-)
-    requires one { one.old.places ≡ directory.now }
-    requires other { other.old.places ≡ directory.now }
-    ensures one { one.new.places ≡ directory.now }
-    ensures other { other.new.places ≡ directory.now }
-{
+) {
     for entry in table.entries() {
         both_see(rt, directory, one, other, *entry);
     }

@@ -1,8 +1,6 @@
 //! A worker alone, on a bus that drives itself: its controller is restarted while it is at a commit, its line's queue
 //! is full, and it ends with a commit that is not made, or not told.
 
-ghost use Rattle.std.specs.Prelude.{◌≡◌, ◌<◌};
-
 use super::calls::comes_up;
 use super::driven::DrivenBus;
 use super::full::FullBus;
@@ -391,13 +389,7 @@ fn played<P0: Ledger, P1: Ledger, P2: Ledger, P3: Ledger, D: Ledger, R: Abort + 
     keep: MemoryKeep,
     records: &Kept,
     story: Story,
-) -> (SiteState, MemoryKeep)
-    requires first { (blanks.0.name ≡ P0.name) × (blanks.0.parts ≡ P0.parts) × (0 < P0.parts) }
-    requires second { (blanks.1.name ≡ P1.name) × (blanks.1.parts ≡ P1.parts) × (0 < P1.parts) }
-    requires third { (blanks.2.name ≡ P2.name) × (blanks.2.parts ≡ P2.parts) × (0 < P2.parts) }
-    requires fourth { (blanks.3.name ≡ P3.name) × (blanks.3.parts ≡ P3.parts) × (0 < P3.parts) }
-    requires driver { (blanks.4.name ≡ D.name) × (blanks.4.parts ≡ D.parts) × (0 < D.parts) }
-{
+) -> (SiteState, MemoryKeep) {
     let (line, mut ports, driver) = line_of::<P0, P1, P2, P3, D>(site, blanks);
     let (mut port, mut other) = last_two(&mut ports);
     let ((port, other), driver, keep) = match story {

@@ -1,7 +1,5 @@
 //! Workers and a pumper, each in a thread of its own.
 
-ghost use Rattle.std.specs.Prelude.{◌≡◌, ◌<◌, IfSome};
-
 use super::holding::{Holding, Seen};
 use super::listed::{List, Listed, ListedBus};
 use super::reading::{Reading, has_read, reads, see_table};
@@ -35,9 +33,7 @@ pub fn works<B: Bus, K: Keep + Drop, G: Gate, R: Wait>(
     bus: &B,
     directory: &Directory,
     worker: Worker<B::Port, K, G>,
-) -> Left<B::Port>
-    ensures { IfSome result.3 (λ p. p.places ≡ directory.now) }
-{
+) -> Left<B::Port> {
     match directory.pass(alloc) {
         Ok(pass) => {
             let (outcome, port, mut keep, pass) = worker.run(
@@ -70,17 +66,11 @@ where
     B: Bus + Sync,
     B::Port: Send + Drop,
     R: Threads + Wait + Sync,
-    ensures one { IfSome result.0.3 (λ p. p.places ≡ directory.now) }
-    ensures other { IfSome result.1.3 (λ p. p.places ≡ directory.now) }
 {
     join(
         rt,
-        move || -> Left<B::Port>
-            ensures { IfSome result.3 (λ p. p.places ≡ directory.entry.now) }
-        { works(rt, alloc, bus, directory, first) },
-        move || -> Left<B::Port>
-            ensures { IfSome result.3 (λ p. p.places ≡ directory.entry.now) }
-        {
+        move || -> Left<B::Port> { works(rt, alloc, bus, directory, first) },
+        move || -> Left<B::Port> {
             gate.await_first(rt);
             works(rt, alloc, bus, directory, second)
         },
@@ -100,14 +90,11 @@ where
     B: Bus + Sync,
     B::Driver: Send + Drop,
     R: Threads + Wait + Sync,
-    ensures { IfSome result.1 (λ r. r.pass.places ≡ directory.now) }
 {
     join(
         rt,
         move || pumper.run(rt, bus, TURNS),
-        move || -> Option<Reading>
-            ensures { IfSome result (λ r. r.pass.places ≡ directory.entry.now) }
-        { reads(alloc, directory, flag) },
+        move || -> Option<Reading> { reads(alloc, directory, flag) },
     )
 }
 
@@ -129,26 +116,20 @@ where
     B::Port: Send + Drop,
     B::Driver: Send + Drop,
     R: Threads + Wait + Sync,
-    ensures one { IfSome result.0.3 (λ p. p.places ≡ directory.now) }
-    ensures other { IfSome result.1.3 (λ p. p.places ≡ directory.now) }
-    ensures reader { IfSome result.3 (λ r. r.pass.places ≡ directory.now) }
 {
     let (first, second) = workers;
     let ended = AtomicBool::new(false);
     let flag = &ended;
     let ((one, other), (pumped, reading)) = join(
         rt,
-        move || -> (Left<B::Port>, Left<B::Port>)
-            ensures one { IfSome result.0.3 (λ p. p.places ≡ directory.entry.now) }
-            ensures other { IfSome result.1.3 (λ p. p.places ≡ directory.entry.now) }
-        {
+        move || -> (Left<B::Port>, Left<B::Port>) {
             let both = both_work(rt, alloc, bus, directory, gate, first, second);
             flag.store(true, SeqCst);
             both
         },
-        move || -> ((B::Driver, Option<Refusal>), Option<Reading>)
-            ensures { IfSome result.1 (λ r. r.pass.places ≡ directory.entry.now) }
-        { pumps_and_reads(rt, alloc, bus, directory, flag, pumper) },
+        move || -> ((B::Driver, Option<Refusal>), Option<Reading>) {
+            pumps_and_reads(rt, alloc, bus, directory, flag, pumper)
+        },
     );
     (one, other, pumped, reading)
 }
@@ -170,13 +151,7 @@ pub fn store_of(bounds: (u8, u8)) -> Result<MemoryKeep, Fail> {
 /// The right to make the five ledgers of a line.
 pub type Blanks = (Blank, Blank, Blank, Blank, Blank);
 
-pub fn blanks() -> Blanks
-    ensures first { 0 < result.0.parts }
-    ensures second { 0 < result.1.parts }
-    ensures third { 0 < result.2.parts }
-    ensures fourth { 0 < result.3.parts }
-    ensures driver { 0 < result.4.parts }
-{
+pub fn blanks() -> Blanks {
     (
         Blank::new(1),
         Blank::new(1),
@@ -194,13 +169,7 @@ pub fn line_of<P0: Ledger, P1: Ledger, P2: Ledger, P3: Ledger, D: Ledger>(
     Line<P0, P1, P2, P3, D>,
     ArrayVec<Port<P0, P1, P2, P3, D>, 4>,
     Driver<P0, P1, P2, P3, D>,
-)
-    requires first { (blanks.0.name ≡ P0.name) × (blanks.0.parts ≡ P0.parts) × (0 < P0.parts) }
-    requires second { (blanks.1.name ≡ P1.name) × (blanks.1.parts ≡ P1.parts) × (0 < P1.parts) }
-    requires third { (blanks.2.name ≡ P2.name) × (blanks.2.parts ≡ P2.parts) × (0 < P2.parts) }
-    requires fourth { (blanks.3.name ≡ P3.name) × (blanks.3.parts ≡ P3.parts) × (0 < P3.parts) }
-    requires driver { (blanks.4.name ≡ D.name) × (blanks.4.parts ≡ D.parts) × (0 < D.parts) }
-{
+) {
     let (first, second, third, fourth, driver) = blanks;
     Line::new(site, first, second, third, fourth, driver)
 }
@@ -222,10 +191,7 @@ fn was_read<R: Abort>(
     site: &SiteState,
     passes: (Option<Pass>, Option<Pass>),
     reading: Option<Reading>,
-)
-    requires one { IfSome passes.0 (λ p. p.places ≡ directory.now) }
-    requires other { IfSome passes.1 (λ p. p.places ≡ directory.now) }
-{
+) {
     assert!(rt; site.plan().blocks().len() == 2);
     let (Some(mut one), Some(mut other), Some(reading)) = (passes.0, passes.1, reading) else {
         assert!(rt; false);
@@ -248,10 +214,7 @@ fn all_is_right<R: Abort>(
     left: ((Outcome, Option<Kept>), (Outcome, Option<Kept>)),
     passes: (Option<Pass>, Option<Pass>),
     reading: Option<Reading>,
-)
-    requires one { IfSome passes.0 (λ p. p.places ≡ directory.now) }
-    requires other { IfSome passes.1 (λ p. p.places ≡ directory.now) }
-{
+) {
     let (one, other) = left;
     has_found(rt, &site, 0, one);
     has_found(rt, &site, 1, other);
@@ -311,9 +274,6 @@ where
     B::Port: Send + Drop,
     B::Driver: Send + Drop,
     R: Threads + Wait + Abort + Sync,
-    ensures one { IfSome result.0.3 (λ p. p.places ≡ directory.now) }
-    ensures other { IfSome result.1.3 (λ p. p.places ≡ directory.now) }
-    ensures reader { IfSome result.3 (λ r. r.pass.places ≡ directory.now) }
 {
     let gate = Holding {
         seen: Mutex::new(Seen {
@@ -347,11 +307,6 @@ where
     P3: Ledger + Send + Sync,
     D: Ledger + Send + Sync,
     R: Threads + Wait + Abort + Sync,
-    requires first { (blanks.0.name ≡ P0.name) × (blanks.0.parts ≡ P0.parts) × (0 < P0.parts) }
-    requires second { (blanks.1.name ≡ P1.name) × (blanks.1.parts ≡ P1.parts) × (0 < P1.parts) }
-    requires third { (blanks.2.name ≡ P2.name) × (blanks.2.parts ≡ P2.parts) × (0 < P2.parts) }
-    requires fourth { (blanks.3.name ≡ P3.name) × (blanks.3.parts ≡ P3.parts) × (0 < P3.parts) }
-    requires driver { (blanks.4.name ≡ D.name) × (blanks.4.parts ≡ D.parts) × (0 < D.parts) }
 {
     let (line, mut ports, driver) = line_of::<P0, P1, P2, P3, D>(site, blanks);
     let pair = last_two(&mut ports);
@@ -674,11 +629,6 @@ where
     P3: Ledger + Send + Sync,
     D: Ledger + Send + Sync,
     R: Threads + Wait + Abort + Sync,
-    requires first { (blanks.0.name ≡ P0.name) × (blanks.0.parts ≡ P0.parts) × (0 < P0.parts) }
-    requires second { (blanks.1.name ≡ P1.name) × (blanks.1.parts ≡ P1.parts) × (0 < P1.parts) }
-    requires third { (blanks.2.name ≡ P2.name) × (blanks.2.parts ≡ P2.parts) × (0 < P2.parts) }
-    requires fourth { (blanks.3.name ≡ P3.name) × (blanks.3.parts ≡ P3.parts) × (0 < P3.parts) }
-    requires driver { (blanks.4.name ≡ D.name) × (blanks.4.parts ≡ D.parts) × (0 < D.parts) }
 {
     let (line, ports, driver) = line_of::<P0, P1, P2, P3, D>(site, blanks);
     let workers = workers_of(alloc, ports, keeps);

@@ -3,9 +3,6 @@
 //! What is done with a store is told by a `Deed`. One function does it with any store, one over any connection, and one
 //! names what lies under a database in memory.
 
-ghost use Rattle.std.specs.Prelude.{◌≡◌, ◌⊎◌, List, [], ◌∷◌, ◌++◌, OnOk, IfOk, false};
-ghost use Rattle.dali_script.specs.declared.records.Record.{Record};
-
 use super::values::InNumbers::{Enrol, Release, Reserve};
 use super::values::{InNumbers, are_pairs, block, number, same};
 use dali_reserve::{Keep, KeepError, MemoryKeep};
@@ -17,15 +14,7 @@ use std::process::Abort;
 use std::test::Fail;
 
 /// Reads, and commits what fits what was read: all that a worker does with its store.
-fn read_and_commit<K: Keep>(keep: &mut K, added: Record) -> Result<Result<(), KeepError>, Fail>
-    ensures up { K.is_up keep.new → K.is_up keep.old }
-    ensures sound { K.is_sound keep.old → K.is_up keep.new → K.is_sound keep.new }
-    ensures list { K.is_sound keep.old → K.is_up keep.new → (xs : List Record) → K.holds keep.old xs
-        → K.holds keep.new xs ⊎ K.holds keep.new (xs ++ added ∷ []) }
-    ensures committed { IfOk result (λ answer. OnOk answer (K.is_sound keep.old → K.is_up keep.new
-        → (xs : List Record) → K.holds keep.old xs → K.holds keep.new (xs ++ added ∷ []))) }
-    ensures read { IfOk result (λ answer. OnOk answer (K.must_read keep.new ≡ false)) }
-{
+fn read_and_commit<K: Keep>(keep: &mut K, added: Record) -> Result<Result<(), KeepError>, Fail> {
     let kept = keep.read()?;
     if kept.fits(&added) {
         Ok(keep.commit(added))
@@ -98,10 +87,7 @@ fn commit_unread<K: Keep>(
     keep: &mut K,
     none: &Kept,
     added: Record,
-) -> Result<Result<(), KeepError>, Fail>
-    requires { K.block keep.old ≡ none.now.block }
-    ensures { K.block keep.new ≡ K.block keep.old }
-{
+) -> Result<Result<(), KeepError>, Fail> {
     if none.fits(&added) {
         Ok(keep.commit(added))
     } else {
@@ -110,9 +96,7 @@ fn commit_unread<K: Keep>(
 }
 
 /// Three commits without a read before them.
-fn begins<K: Keep>(rt: &impl Abort, keep: &mut K, none: &Kept) -> Result<(), Fail>
-    requires { K.block keep.old ≡ none.now.block }
-{
+fn begins<K: Keep>(rt: &impl Abort, keep: &mut K, none: &Kept) -> Result<(), Fail> {
     let first = commit_unread(keep, none, Reserve(2, 1).record()?)?;
     same(rt, &first, &Ok(()));
     let second = commit_unread(keep, none, Reserve(2, 2).record()?)?;
@@ -197,9 +181,7 @@ pub fn does<K: Keep>(
     keep: &mut K,
     block: &Block,
     deed: Deed<'_>,
-) -> Result<(), Fail>
-    requires { K.block keep.old ≡ block.now }
-{
+) -> Result<(), Fail> {
     match deed {
         Deed::List => commits_are_read_back(rt, keep),
         Deed::MoreOfList => goes_on(rt, keep),

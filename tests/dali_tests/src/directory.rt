@@ -1,7 +1,5 @@
 //! The directory of enrolled gear, as two passes see it.
 
-ghost use Rattle.std.specs.Prelude.{◌≡◌};
-
 use super::values::{addresses, block, same, short};
 use dali_enrol::{Directory, Enrolled, Pass, Table};
 use std::alloc::Global;
@@ -66,10 +64,7 @@ fn sees<R: Abort>(
     pass: &mut Pass,
     address: u8,
     wanted: Option<(u8, u32)>,
-) -> Result<(), Fail>
-    requires { pass.old.places ≡ directory.now }
-    ensures { pass.new.places ≡ pass.old.places }
-{
+) -> Result<(), Fail> {
     let found = match directory.look(pass, short(address)?) {
         Some(entry) => Some(numbers(entry)),
         None => None,
@@ -86,10 +81,7 @@ fn posts<R: Abort>(
     directory: &Directory,
     pass: &mut Pass,
     posted: (u8, Option<(u8, u32)>),
-) -> Result<(), Fail>
-    requires { pass.old.places ≡ directory.now }
-    ensures { pass.new.places ≡ pass.old.places }
-{
+) -> Result<(), Fail> {
     let (address, wanted) = posted;
     let card = card_of(alloc, table, address)?;
     let back = match directory.post(pass, card) {
@@ -108,10 +100,7 @@ fn two_passes<R: Abort>(
     directory: &Directory,
     one: &mut Pass,
     other: &mut Pass,
-) -> Result<(), Fail>
-    requires one { one.old.places ≡ directory.now }
-    requires other { other.old.places ≡ directory.now }
-{
+) -> Result<(), Fail> {
     let entry = Some((5, 0x123456));
     sees(rt, directory, other, 5, None)?;
     posts(rt, alloc, table, directory, one, (5, None))?;

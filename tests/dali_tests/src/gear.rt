@@ -1,7 +1,5 @@
 //! Gear, alone and in a row, through the start-up and the search of IEC 62386-102:2014.
 
-ghost use Rattle.std.specs.Prelude.{◌<◌, ◌↔◌, IsTrue, All};
-
 use super::values::{forward, random, same};
 use dali_frame::{Answer, Random24, SearchAddress, Short};
 use dali_gear::{Gear, GearSet, Heard, InitialisationState, Reach, Row};
@@ -90,9 +88,7 @@ fn hear<R: Abort>(
 }
 
 /// Whether gear may draw each of these numbers.
-fn are_drawable(draws: &[Random24]) -> bool
-    ensures { IsTrue result ↔ All (λ draw. draw < 0xFFFFFF) draws.now }
-{
+fn are_drawable(draws: &[Random24]) -> bool {
     draws.iter().all(|draw| draw.value() < 0xFFFFFF)
 }
 
