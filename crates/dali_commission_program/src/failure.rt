@@ -45,32 +45,31 @@ pub enum Failure {
 /// What is said of it on standard error.
 impl fmt::Display for Failure {
     fn fmt<W: fmt::Write>(&self, f: &mut fmt::Formatter<W>) -> fmt::Result {
-        match self {
+        let text = match self {
             Failure::AddressedBefore => {
-                f.write_str(
-                    "not begun: gear answer to short addresses that the records do not name",
-                )
+                "not begun: gear answer to short addresses that the records do not name"
             }
-            Failure::NotAsRecorded => f.write_str("the gear are not as recorded"),
-            Failure::BadCommandLine => f.write_str("error: bad command line"),
-            Failure::NotText => f.write_str("error: an argument is not UTF-8"),
-            Failure::Refused => {
-                f.write_str("error: memory, the command line or the output is refused")
+            Failure::NotAsRecorded => "the gear are not as recorded",
+            Failure::BadCommandLine => "error: bad command line",
+            Failure::NotText => "error: an argument is not UTF-8",
+            Failure::Refused => "error: memory, the command line or the output is refused",
+            Failure::Driver(line, fault) => {
+                return write!(f, "error: line {line} of the driver: {fault}");
             }
-            Failure::Driver(line, fault) => write!(f, "error: line {line} of the driver: {fault}"),
-            Failure::Store(fault) => write!(f, "error: {fault}"),
+            Failure::Store(fault) => return write!(f, "error: {fault}"),
             Failure::Outside(short) => {
                 let number = short.number();
-                write!(
+                return write!(
                     f,
                     "error: short address {number} is reserved, and lies outside of the block"
-                )
+                );
             }
-            Failure::BlockFull => f.write_str("ended: block-full"),
-            Failure::GaveUp => f.write_str("ended: gave-up"),
-            Failure::Conflict => f.write_str("ended: conflict"),
-            Failure::Spent => f.write_str("ended: too many steps"),
-        }
+            Failure::BlockFull => "ended: block-full",
+            Failure::GaveUp => "ended: gave-up",
+            Failure::Conflict => "ended: conflict",
+            Failure::Spent => "ended: too many steps",
+        };
+        f.write_str(text)
     }
 }
 

@@ -146,10 +146,10 @@ fn begun<K: Keep, R: Read, W: Write, P: Watch>(
 {
     match setup.start {
         Start::Fresh => begin(store, driver, watch, &setup.others, setup.quiet_runs),
-        Start::Survey => match commission(store, driver, watch, Told::Survey, setup.quiet_runs) {
-            Ok(outcome) => Ok(Begun::Commissioned(outcome)),
-            Err(fault) => Err(fault),
-        },
+        Start::Survey => {
+            let outcome = commission(store, driver, watch, Told::Survey, setup.quiet_runs)?;
+            Ok(Begun::Commissioned(outcome))
+        }
     }
 }
 
@@ -165,6 +165,26 @@ fn say_ended<S: Eprint, K: Keep>(
     say_left_alone(system, &outcome);
     say_commissioned(system, after.saturating_sub(enrolled), after, frames);
     ended_as(outcome.ended)
+}
+
+/// Says what a run came to. Before it the records were these.
+fn say_came<S: Eprint, K: Keep>(
+    system: &S,
+    store: &mut K,
+    setup: &Setup,
+    before: &Kept,
+    frames: u64,
+    came: Begun,
+) -> Result<(), Failure> {
+    match came {
+        Begun::Addressed(replies) => {
+            say_addressed(system, before, &setup.others, &replies);
+            Err(Failure::AddressedBefore)
+        }
+        Begun::Commissioned(outcome) => {
+            say_ended(system, store, before.enrolled().len(), frames, outcome)
+        }
+    }
 }
 
 /// Gives short addresses to gear, from and into these records.
@@ -188,19 +208,7 @@ where
     let came = begun(store, &mut driver, &mut progress, setup);
     progress.end();
     match came {
-        Ok(Begun::Addressed(replies)) => {
-            say_addressed(system, &before, &setup.others, &replies);
-            Err(Failure::AddressedBefore)
-        }
-        Ok(Begun::Commissioned(outcome)) => {
-            say_ended(
-                system,
-                store,
-                before.enrolled().len(),
-                progress.frames(),
-                outcome,
-            )
-        }
+        Ok(came) => say_came(system, store, setup, &before, progress.frames(), came),
         Err(fault) => Err(failure_of(fault, driver.lines())),
     }
 }
@@ -227,13 +235,7 @@ where
 {
     let mut driver = Driver::new(system.alloc(), system.reader(), io::writer(system));
     match check(store, &mut driver, &bounds.others) {
-        Ok((kept, replies)) => {
-            if say_checked(system, &kept, &bounds.others, &replies) {
-                Ok(())
-            } else {
-                Err(Failure::NotAsRecorded)
-            }
-        }
+        Ok((kept, replies)) => say_checked(system, &kept, &bounds.others, &replies),
         Err(fault) => Err(failure_of(fault, driver.lines())),
     }
 }

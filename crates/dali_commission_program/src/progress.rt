@@ -50,19 +50,14 @@ impl<'a, S: Eprint> Progress<'a, S> {
     /// What is said. Where it cannot be said, nothing else changes.
     fn say(&self) {
         let (found, frames, left) = (self.found, self.frames, self.left);
-        match self.manner {
-            Manner::Quiet => {}
-            Manner::Plain => {
-                let _ = eprintln!(self.system;
-                    "{found} gear found, {frames} frames, {left} addresses left"
-                );
-            }
-            Manner::Rewritten => {
-                let _ = eprint!(self.system;
-                    "\r{found} gear found, {frames} frames, {left} addresses left "
-                );
-            }
-        }
+        let (start, end) = match self.manner {
+            Manner::Quiet => return,
+            Manner::Plain => ("", "\n"),
+            Manner::Rewritten => ("\r", " "),
+        };
+        let _ = eprint!(self.system;
+            "{start}{found} gear found, {frames} frames, {left} addresses left{end}"
+        );
     }
 
     /// The last line is ended.

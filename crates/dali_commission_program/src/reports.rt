@@ -1,5 +1,6 @@
 //! What is said on standard error of what came of a task.
 
+use crate::failure::Failure;
 use crate::table::random_at;
 use dali_commissioning::{Outcome, Reply, Standing, is_known, stands};
 use dali_frame::{Random24, Short};
@@ -145,13 +146,14 @@ fn say_reserved<S: Eprint>(system: &S, kept: &Kept, replies: &[Reply]) -> usize 
     unfinished
 }
 
-/// Where all gear stand, beside the records: each that is enrolled, and each stranger. Whether they are as recorded.
+/// Where all gear stand, beside the records: each that is enrolled, and each stranger. `NotAsRecorded` where they are
+/// not as recorded.
 pub fn say_checked<S: Eprint>(
     system: &S,
     kept: &Kept,
     others: &[Block],
     replies: &[Reply],
-) -> bool {
+) -> Result<(), Failure> {
     let wrong = say_enrolled(system, kept, others, replies);
     let unfinished = say_reserved(system, kept, replies);
     let strangers = say_strangers(system, kept, others, replies);
@@ -159,5 +161,9 @@ pub fn say_checked<S: Eprint>(
     let _ = eprintln!(system;
         "{enrolled} in the table, {wrong} of them not there; {strangers} strangers; {reserved} addresses reserved"
     );
-    wrong == 0 && unfinished == 0 && strangers == 0
+    if wrong == 0 && unfinished == 0 && strangers == 0 {
+        Ok(())
+    } else {
+        Err(Failure::NotAsRecorded)
+    }
 }

@@ -1,6 +1,7 @@
 use Rattle.std.proofs.Common.{◌≡◌, ℕ, ◌+◌, ◌-◌, ◌<◌, ◌≤◌, inl, inr, Bool, true, false, List, [], ◌∷◌, ◌++◌, refl, sym, ap, subst, ◌∙◌, arith, Option, Some}
 use Rattle.std.proofs.Common.{None}
 use Rattle.std.specs.Prelude.{◌==◌, MatchOption, is_some, suc, if◌then◌else◌}
+use Rattle.std.proofs.lemmas.Bool.{ne_eqb}
 use Rattle.std.proofs.lemmas.Bool.Decides.{nat_tests}
 use Rattle.dali_frame.specs.declared.frames.Forward.{Forward}
 use Rattle.dali_frame.specs.declared.frames.Answer.{Answer}
@@ -26,7 +27,7 @@ use Rattle.dali_script.specs.declared.orders.Due.TheVariants as due
 use Rattle.dali_script.specs.Due.{due_after, frame_put, record_ordered}
 use Rattle.dali_search.specs.declared.step.Step.{Step}
 use Rattle.dali_search.specs.declared.step.Step.TheVariants.{Again, Found, Nobody}
-use Rattle.dali_search.specs.Ascending.{leads_to}
+use Rattle.dali_search.specs.Ascending.{Ascent, leads_to, begun_anew}
 use Rattle.dali_search.specs.Least.{Search, step_after, probe_after, next_probe, answered}
 use Rattle.dali_controller.specs.declared.purpose.Purpose.{Purpose}
 use Rattle.dali_controller.specs.declared.purpose.Purpose.TheVariants.{Opening, Probing, Visiting, Resolving, Closing, Asking, Waking, Hunting}
@@ -36,7 +37,7 @@ use Rattle.dali_controller.specs.Course.{taking, missed, hunted, searching_on, s
 use Rattle.dali_controller.specs.Course.{visit_or_opening, next_unfinished}
 use Rattle.dali_controller.specs.Machine.{Machine, machine_lost, machine_committed, machine_told, woken_after}
 use Rattle.dali_controller.specs.Next.{begins_at, course_by, course_on, next_course, beginning, probed_to, probed_in, draw_or_close, draws, draws_by}
-use Rattle.dali_controller.specs.Next.{goes_on_to, goes_on_anew, hunted_to, question, unanswered, at_rest, asked_once}
+use Rattle.dali_controller.specs.Next.{silenced, goes_on_to, goes_on_anew, hunted_to, question, unanswered, at_rest, asked_once}
 use Rattle.dali_controller.specs.declared.way.Way.{Way}
 use Rattle.dali_controller.specs.declared.way.Way.TheVariants.{Fresh, Surveying, Drawing}
 use Rattle.dali_script.specs.declared.orders.End.{End}
@@ -52,6 +53,17 @@ use Rattle.dali_controller.specs.Whole.{IsWhole, Pending}
 pub started : (w : Parts) (s : Stage) (o : Order) (new : Parts) (c : Course) → stage_of w.trace ≡ s → c ≡ begins_at (machine_of w) s → Starts c o new
     → parts_course new ≡ course_by (machine_of w) o
 started w s o new c stage is starts = rw starts.order (starts.course ∙ is ∙ ap (λ x. begins_at (machine_of w) x) (sym stage))
+
+-- a search that led to no gear goes on, where it was not the sixteenth in a row
+pub on_anew : (w : Parts) (new : Ascent) → new ≡ begun_anew w.ascent → (w.silent ≡ 16 → ⊥) → next_course (machine_of w) ≡ silenced (machine_of w)
+    → going_on w.kept w.opened (record (parts_course w) { ascent = new }) ≡ next_course (machine_of w)
+on_anew w new anew more next =
+    ap (λ a. going_on w.kept w.opened (record (parts_course w) { ascent = a })) anew
+    ∙ ap (λ b. if b then closing (parts_course w) GaveUp else goes_on_anew (machine_of w)) (sym (ne_eqb w.silent 16 more)) ∙ sym next
+
+-- a short address that was silent is asked again
+pub asked_again : (t : Machine) → (t.asked ≡ 0 → ⊥) → t.course ≡ asked_once t (t.asked == 0)
+asked_again t more = ap (asked_once t) (sym (ne_eqb t.asked 0 more))
 
 -- a transaction that goes on by its turn leaves the course
 course_stays : (t : Machine) (s : Stage) (c : Command) → turn_of t.course.purpose t.course.number s ≡ Some c → course_on t s ≡ t.course
