@@ -20,7 +20,8 @@ pub returns-clause-held : goal.returns-clause-held
 returns-clause-held g c clean up xs held left may =
     let conn = connection_of c.args.self in
     let table = committed_table (file_state conn) xs up.1 c.into_store.ensures.live held in
-    left_records left _ xs (recovers conn.store) (λ trees. settled_at conn.store g.met.D.Disk.seen_may_stay trees up.1) table (returns-clause-allowed g c clean left may)
+    left_records left _ xs (recovers conn.store) (λ trees. settled_at conn.store g.met.D.Disk.seen_may_stay trees up.1) table
+    (returns-clause-allowed g c clean left may)
 
 pub returns-clause-either : goal.returns-clause-either
 returns-clause-either g c clean xs ys tables left may =
