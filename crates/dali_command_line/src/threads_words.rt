@@ -51,19 +51,22 @@ fn turns<'a>(alloc: Global) -> Arg<'a> {
     option(alloc, "turns", "T", help).value_parser(value_parser!(u32))
 }
 
-fn survey<'a>(alloc: Global) -> Arg<'a> {
-    Arg::new(alloc, "survey")
-        .long("survey")
+/// A flag.
+fn flag<'a>(alloc: Global, name: &'a str, help: &'a str) -> Arg<'a> {
+    Arg::new(alloc, name)
+        .long(name)
         .action(ArgAction::SetTrue)
-        .help("Each controller begins by a survey: it asks first who has a short address")
+        .help(help)
+}
+
+fn survey<'a>(alloc: Global) -> Arg<'a> {
+    let help = "Each controller begins by a survey: it asks first who has a short address";
+    flag(alloc, "survey", help)
 }
 
 /// The flag for a result that other programs read.
 pub fn json<'a>(alloc: Global, help: &'a str) -> Arg<'a> {
-    Arg::new(alloc, "json")
-        .long("json")
-        .action(ArgAction::SetTrue)
-        .help(help)
+    flag(alloc, "json", help)
 }
 
 fn block_words<'a>(alloc: Global) -> Arg<'a> {
@@ -97,6 +100,15 @@ fn fault(alloc: Global, kind: ErrorKind, message: &str) -> Result<Error, AllocEr
     threads_command(alloc, "dali_sim threads")?.error(kind, message)
 }
 
+/// Refuses the words of `threads` with this message, if it could be made.
+fn refuse<T>(
+    alloc: Global,
+    kind: ErrorKind,
+    message: Result<String, AllocError>,
+) -> Result<T, Error> {
+    Err(fault(alloc, kind, &message?)?)
+}
+
 /// The number that an option has.
 fn number<T: FromStr>(alloc: Global, found: &ArgMatches<'_>, name: &str) -> Result<T, Error>
 where
@@ -104,10 +116,11 @@ where
 {
     match found.get_one(name) {
         Some(number) => Ok(number),
-        None => {
-            let message = format!(in alloc; "a number is required for '--{name}'")?;
-            Err(fault(alloc, ErrorKind::MissingRequiredArgument, &message)?)
-        }
+        None => refuse(
+            alloc,
+            ErrorKind::MissingRequiredArgument,
+            format!(in alloc; "a number is required for '--{name}'"),
+        ),
     }
 }
 
@@ -118,8 +131,8 @@ fn gear_count(alloc: Global, found: &ArgMatches<'_>) -> Result<u32, Error> {
         Ok(gear) => Ok(gear),
         Err(_) => {
             let limit = plan_limit(PlanError::GearCount);
-            let message = format!(in alloc; "invalid value '{text}' for '--gear <N>': {limit}")?;
-            Err(fault(alloc, ErrorKind::ValueValidation, &message)?)
+            let message = format!(in alloc; "invalid value '{text}' for '--gear <N>': {limit}");
+            refuse(alloc, ErrorKind::ValueValidation, message)
         }
     }
 }
@@ -131,15 +144,15 @@ fn blocks(alloc: Global, words: &[&str]) -> Result<ArrayVec<(u8, u8), 4>, Error>
         let Some(block) = block_of(word.as_bytes()) else {
             let message = format!(in alloc;
                 "invalid value '{word}' for '<BLOCK>...': a block is first-last, as 0-15, and addresses end at 63"
-            )?;
-            return Err(fault(alloc, ErrorKind::ValueValidation, &message)?);
+            );
+            return refuse(alloc, ErrorKind::ValueValidation, message);
         };
         if blocks.try_push(block).is_err() {
             let limit = plan_limit(PlanError::ControllerCount);
             let message = format!(in alloc;
                 "unexpected value '{word}' for '<BLOCK>...' found; no more were expected: {limit}"
-            )?;
-            return Err(fault(alloc, ErrorKind::TooManyValues, &message)?);
+            );
+            return refuse(alloc, ErrorKind::TooManyValues, message);
         }
     }
     Ok(blocks)

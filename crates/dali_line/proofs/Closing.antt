@@ -1,10 +1,10 @@
-use Rattle.std.proofs.Common.{◌≡◌, ℕ, zero, suc, ◌<◌, ◌≤◌, List, [], ◌∷◌, ◌++◌, length, take, refl, sym, ap, subst, ◌∙◌, arith}
+use Rattle.std.proofs.Common.{◌≡◌, ℕ, zero, suc, ◌≤◌, List, [], ◌∷◌, ◌++◌, length, take, refl, sym, ap, subst, ◌∙◌, arith}
 use Rattle.std.specs.Prelude.{All, ◌↔◌, IsTrue, Bool}
 use Rattle.std.proofs.lemmas.List.Elements.{All-nil, All-cons, All-same}
 use Rattle.std.proofs.lemmas.List.{append-nil}
 use Rattle.dali_events.specs.declared.event.Event.{Event}
 use Rattle.dali_world.specs.Site.{SiteState, share_of}
-use Rattle.dali_line.specs.Shares.{PortShare, port_share, no_share}
+use Rattle.dali_line.specs.Shares.{PortShare, port_share}
 use Rattle.dali_line.specs.Counts.{shares_of, AreInOrder}
 
 -- THE PORTS ARE TAKEN BACK one by one, from the last, and each share is what the log has.

@@ -358,15 +358,10 @@ impl<P0: Ledger, P1: Ledger, P2: Ledger, P3: Ledger, D: Ledger> Line<P0, P1, P2,
         ensures answer { FromDriver driver.old (λ s. (stopped : Bool) × IsReady stopped s result) }
         ensures same { driver.new ≡ driver.old }
     {
-        for _ in rt.forever() {
-            let mut locked = self
-                .moved
-                .wait_while(rt, self.locked.lock(rt), |l| !l.wakes_driver());
-            if let Some(ready) = locked.ready(driver) {
-                return ready;
-            }
-        }
-        unreachable!()
+        let mut locked = self
+            .moved
+            .wait_while(rt, self.locked.lock(rt), |l| !l.wakes_driver());
+        locked.ready(driver).unwrap()
     }
 
     /// The line is stopped, for good: who waits now or later is told so. Its other calls go on as before.
@@ -406,22 +401,12 @@ fn ports<P0: Ledger, P1: Ledger, P2: Ledger, P3: Ledger, D: Ledger>(
     ensures { result.items ≡ take count
         (port_share 0 first ∷ port_share 1 second ∷ port_share 2 third ∷ port_share 3 fourth ∷ []) }
 {
-    let mut ports = ArrayVec::new();
-    if count == 0 {
-        return ports;
-    }
-    ports.push(Port::of(Kind::First(first)));
-    if count == 1 {
-        return ports;
-    }
-    ports.push(Port::of(Kind::Second(second)));
-    if count == 2 {
-        return ports;
-    }
-    ports.push(Port::of(Kind::Third(third)));
-    if count == 3 {
-        return ports;
-    }
-    ports.push(Port::of(Kind::Fourth(fourth)));
+    let mut ports = ArrayVec::from([
+        Port::of(Kind::First(first)),
+        Port::of(Kind::Second(second)),
+        Port::of(Kind::Third(third)),
+        Port::of(Kind::Fourth(fourth)),
+    ]);
+    ports.truncate(count);
     ports
 }

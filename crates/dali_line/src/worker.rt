@@ -171,13 +171,9 @@ fn act_on<B: Bus, R: Wait>(
     ensures full { result ≡ Err QueueFull → B.is_stopped bus.now }
 {
     for _ in rt.forever() {
-        match bus.act(rt, port, input) {
-            Err(Refusal::QueueFull) => {
-                if !bus.wait_for_room(rt, port) {
-                    return Err(Refusal::QueueFull);
-                }
-            }
-            answer => return answer,
+        let answer = bus.act(rt, port, input);
+        if !matches!(answer, Err(Refusal::QueueFull)) || !bus.wait_for_room(rt, port) {
+            return answer;
         }
     }
     unreachable!()
@@ -281,9 +277,7 @@ impl<P, K: Keep, G: Gate> Shift<P, K, G> {
         if let Some(told) = bus.next(rt, &mut self.port) {
             return Some(begun(told, self.surveys));
         }
-        let Some(added) = bus.begin_commit(rt, &mut self.port) else {
-            return None;
-        };
+        let added = bus.begin_commit(rt, &mut self.port)?;
         if !is_due(&self.last, &added) {
             return None;
         }

@@ -16,18 +16,16 @@ const TOOLS: &str = "<h2 id=\"run\">The run</h2>
 <button type=\"button\" data-zoom=\"0\">as it was</button> <a href=\"#legend\">Legend</a></p>
 ";
 
-const SAY: &str =
-    "<p class=\"say\" role=\"status\" aria-live=\"polite\">Choose a mark to read it here.</p>\n";
+const SAY: &str = "</details>
+<p class=\"say\" role=\"status\" aria-live=\"polite\">Choose a mark to read it here.</p>
+";
 
 /// The short picture, and the long one folded away.
 fn push_pictures(alloc: Global, text: &mut String, picture: &Picture) -> Result<(), AllocError> {
     text.push_str(TOOLS)?;
-    let short = short_columns(alloc, &picture.folds)?;
-    push_short_picture(text, picture, &short)?;
-    let long = long_columns(alloc, picture.marks.len())?;
+    push_short_picture(text, picture, &short_columns(alloc, &picture.folds)?)?;
     text.push_str("<details><summary>Every event</summary>\n")?;
-    push_long(text, picture, &long)?;
-    text.push_str("</details>\n")?;
+    push_long(text, picture, &long_columns(alloc, picture.marks.len())?)?;
     text.push_str(SAY)
 }
 

@@ -13,6 +13,7 @@ use crate::mark::{Mark, marks_of};
 use crate::stays::{Watched, watch_over};
 use crate::transactions::{Transaction, transactions_of};
 use dali_replay::{Played, ReplayFault};
+use dali_world::Event;
 use std::alloc::{AllocError, Global};
 
 /// A script that was played, and what is drawn of it.
@@ -44,28 +45,8 @@ impl<'a> Picture<'a> {
             owned picture.transactions.items ≡ senders_of picture.played.log.items) }
     {
         let played = Played::of(alloc, input)?;
-        Ok(Picture::drawn(alloc, played)?)
-    }
-
-    /// The picture of what was played.
-    fn drawn(alloc: Global, played: Played<'a>) -> Result<Picture<'a>, AllocError>
-        ensures played { IfOk result (λ picture. picture.played ≡ played.entry) }
-        ensures marks { IfOk result (λ picture. picture.marks.items ≡ map mark_of played.entry.log.items) }
-        ensures folds { IfOk result (λ picture. AreFolds picture.folds.items (length played.entry.log.items)) }
-        ensures frames { IfOk result (λ picture. HaveTheirFrames picture.marks.items picture.folds.items) }
-        ensures transactions { IfOk result (λ picture.
-            owned picture.transactions.items ≡ senders_of picture.played.log.items) }
-    {
-        let marks = marks_of(alloc, &played.log)?;
-        let transactions = transactions_of(alloc, &played.log)?;
-        let folds = folds_of(alloc, &marks, &transactions)?;
-        let gear = if played.gear <= 128 {
-            played.gear as usize
-        } else {
-            128
-        };
-        let watched = watch_over(alloc, gear, &played.used, &played.draws, &played.log)?;
-        let incidents = incidents_of(alloc, &played.lines, &played.log, &watched.unheard)?;
+        let (marks, transactions, folds) = laid_out(alloc, &played.log)?;
+        let (watched, incidents) = watched_in(alloc, &played)?;
         Ok(Picture {
             played,
             marks,
@@ -75,4 +56,28 @@ impl<'a> Picture<'a> {
             incidents,
         })
     }
+}
+
+/// What is drawn of a log: its marks, its transactions, and the folds of both.
+fn laid_out(
+    alloc: Global,
+    log: &[Event],
+) -> Result<(Vec<Mark>, Vec<Transaction>, Vec<Fold>), AllocError>
+    ensures marks { IfOk result (λ drawn. drawn.0.items ≡ map mark_of log.now) }
+    ensures transactions { IfOk result (λ drawn. owned drawn.1.items ≡ senders_of log.now) }
+    ensures folds { IfOk result (λ drawn. AreFolds drawn.2.items (length log.now)) }
+    ensures frames { IfOk result (λ drawn. HaveTheirFrames drawn.0.items drawn.2.items) }
+{
+    let marks = marks_of(alloc, log)?;
+    let transactions = transactions_of(alloc, log)?;
+    let folds = folds_of(alloc, &marks, &transactions)?;
+    Ok((marks, transactions, folds))
+}
+
+/// What became of the gear, and what went wrong.
+fn watched_in(alloc: Global, played: &Played) -> Result<(Watched, Vec<Happened>), AllocError> {
+    let gear = played.gear.min(128) as usize;
+    let watched = watch_over(alloc, gear, &played.used, &played.draws, &played.log)?;
+    let incidents = incidents_of(alloc, &played.lines, &played.log, &watched.unheard)?;
+    Ok((watched, incidents))
 }

@@ -57,12 +57,9 @@ fn shape_of(look: Look) -> (&'static str, &'static str, &'static str) {
         Look::Destroyed => ("struck", "h", ""),
         Look::Collided => ("struck", "c", ""),
         Look::Lapsed => ("gap", "h", ""),
-        Look::Quiet => ("gap", "x", ""),
-        Look::PowerOff => ("fall", "h", ""),
-        Look::PowerOn => ("rise", "e", ""),
-        Look::Expired => ("gap", "x", ""),
-        Look::Down => ("fall", "h", ""),
-        Look::Up => ("rise", "e", ""),
+        Look::Quiet | Look::Expired => ("gap", "x", ""),
+        Look::PowerOff | Look::Down => ("fall", "h", ""),
+        Look::PowerOn | Look::Up => ("rise", "e", ""),
     }
 }
 

@@ -60,9 +60,7 @@ impl<D: Disk + Drop> SqliteKeep<FileStore<D>> {
             × IsTrue (D.Disk.is_usable files.db)) }
         ensures refusal { IfErr result HasFailed }
     {
-        let conn = self.into_connection();
-        // For what it says of the rows: they are those of the table alone.
-        let _ = conn.schema();
+        let conn = self.into_live();
         match conn.close_files() {
             Ok(files) => Ok(files),
             Err((error, store)) => {
@@ -89,8 +87,6 @@ impl<D: Disk + Drop> SqliteKeep<FileStore<D>> {
             → (left : Image) → outcomes D.Disk result.log result.db left
             → ∥ (HoldRecords left xs ⊎ HoldRecords left ys) ∥₁ }
     {
-        let conn = self.into_connection();
-        let _ = conn.schema();
-        conn.into_store().close()
+        self.into_store().close()
     }
 }

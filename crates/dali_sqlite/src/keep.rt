@@ -1,7 +1,9 @@
 ghost use Rattle.std.specs.Prelude.{◌≡◌, ◌↔◌, ◌⊎◌, List, [], ◌∷◌, ◌++◌, true, false, IfOk, IfErr, Err, OnOk, OnErr};
+ghost use Rattle.std.specs.Prelude.{IsTrue};
 ghost use Rattle.sqlite.specs.Tree.{Trees};
-ghost use Rattle.sqlite.specs.State.{HasCleanDisk};
-ghost use Rattle.sqlite.specs.Held.{Held, state};
+ghost use Rattle.sqlite_trees.specs.View.{IsClean, IsQuiet};
+ghost use Rattle.sqlite.specs.State.{HasCleanDisk, IsLive};
+ghost use Rattle.sqlite.specs.Held.{Held, state, AreDatabases};
 ghost use Rattle.dali_script.specs.declared.records.Record.{Record};
 ghost use Rattle.dali_script.specs.declared.records.AddError.TheVariants as add;
 ghost use Rattle.dali_script.specs.Records.{without_records, with_record, Fits, IsAddressTaken, IsRandomTaken};
@@ -100,6 +102,28 @@ impl<S: Alter + Drop> SqliteKeep<S> {
             count,
             must_read: false,
         })
+    }
+
+    /// The connection, whose rows are those of its tables alone while it is open.
+    pub(crate) fn into_live(self) -> Connection<S>
+        ensures connection { result ≡ connection_of self }
+        ensures live { IsLive (state S.Store result) }
+    {
+        let conn = self.into_connection();
+        // For what it says of the rows.
+        let _ = conn.schema();
+        conn
+    }
+
+    /// What lies under the connection, as a stop leaves it.
+    pub(crate) fn into_store(self) -> S
+        ensures live { IsLive (shown_by S.Store self) }
+        ensures numbered { IsClean (S.Store.view result) → IsTrue (S.Store.view result).is_numbered }
+        ensures sound { IsClean (S.Store.view result) → AreDatabases (S.Store.recovers result) }
+        ensures quiet { IsQuiet S.Store.view S.Store.faults S.Store.recovers S.Store.is_shielded
+            (connection_of self).store result }
+    {
+        self.into_live().into_store()
     }
 
     /// The connection, with what is stored: to close its files, or to hand it to another program.

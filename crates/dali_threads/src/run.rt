@@ -328,9 +328,9 @@ fn run_on<R: Threads + Wait + Sync, W: Write>(
         setup.surveys,
     )?;
     let text = if setup.as_json {
-        json_report(alloc, &outcomes, &site)?
+        json_report(alloc, &outcomes, &site)
     } else {
-        report(alloc, &outcomes, &site)?
-    };
+        report(alloc, &outcomes, &site)
+    }?;
     write(writer, text.as_bytes())
 }

@@ -2,7 +2,7 @@ use Rattle.std.proofs.Common.{rules, ◌≡◌, ◌≤◌, List, [], length, ◌
 use Rattle.std.specs.Prelude.{All, ◌↔◌, IsTrue}
 use Rattle.dali_world.specs.Site.{SiteState}
 use Rattle.dali_line.specs.Shares.{PortShare}
-use Rattle.dali_line.specs.Counts.{shares_of, AreInOrder}
+use Rattle.dali_line.specs.Counts.{AreInOrder}
 use Rattle.dali_line.proofs.Closing.{IsExact, one_back, all_back, all_there}
 use Rattle.dali_line.proofs.locked.Locked.close.Goals as goal
 
@@ -21,11 +21,9 @@ pub returns-clause-all : goal.returns-clause-all
 returns-clause-all g c =
     let items = c.args.ports.items in
     let whole = c.has_all-has_all.result in
-    let none : c.loop-port.ports.items ≡ [] = search rules in
-    let few : length c.args.self.site.plan.blocks ≤ 4 =
-    subst (λ (s : SiteState). length s.plan.blocks ≤ 4) c.audit_driver.ensures.site c.has_all-has_all.ensures.few in
+    let same = c.audit_driver.ensures.site ∙ sym c.loop-port.invariant.site in
+    let few = subst (λ (s : SiteState). length s.plan.blocks ≤ 4) same c.has_all-has_all.ensures.few in
     let given = subst (λ (ps : List PortShare). IsTrue whole ↔ ((length ps ≡ length c.audit_driver.new.self.site.plan.blocks) × AreInOrder ps))
     c.as_slice.ensures.value c.has_all-has_all.ensures.all in
-    let found = subst (λ (s : SiteState). IsTrue whole ↔ ((length items ≡ length s.plan.blocks) × AreInOrder items)) c.audit_driver.ensures.site given in
-    let all = all_there c.args.self.site items whole few (all_back _ _ _ c.loop-port.invariant.back none) found in
-    subst (λ (s : SiteState). IsTrue whole ↔ (items ≡ shares_of s)) (sym c.loop-port.invariant.site) all
+    let found = subst (λ (s : SiteState). IsTrue whole ↔ ((length items ≡ length s.plan.blocks) × AreInOrder items)) same given in
+    all_there c.loop-port.locked.site items whole few (returns-clause-ports g c) found

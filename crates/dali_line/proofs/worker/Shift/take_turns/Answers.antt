@@ -9,6 +9,19 @@ use Rattle.dali_line.proofs.Learning.{keeps_more, posts_more}
 use Rattle.dali_line.proofs.Running.{runs_more, runs_wider}
 use Rattle.dali_line.proofs.worker.Shift.take_turns.Goals as goal
 
+pub returns-in-Some-clause-keep : goal.returns-in-Some-clause-keep
+returns-in-Some-clause-keep g c =
+    leaves_more g.K.Keep.is_up g.K.Keep.is_sound g.K.Keep.holds _ _ _ c.loop.invariant.keep c.take_turn.ensures.keep
+
+pub returns-in-Some-clause-known : goal.returns-in-Some-clause-known
+returns-in-Some-clause-known g c =
+    keeps_more c.args.pass.now c.loop.pass c.take_turn.new.pass c.loop.invariant.known c.take_turn.ensures.known
+
+pub returns-in-Some-clause-posted : goal.returns-in-Some-clause-posted
+returns-in-Some-clause-posted g c =
+    posts_more g.K.Keep.is_up g.K.Keep.is_sound g.K.Keep.holds _ _ _ _ _ _
+    c.loop.invariant.keep c.take_turn.ensures.keep c.loop.invariant.posted c.take_turn.ensures.posted
+
 pub returns-in-Some-clause-runs : goal.returns-in-Some-clause-runs
 returns-in-Some-clause-runs g c =
     let wide : c.loop.counter + 1 ≤ c.args.turns = search rules in
