@@ -26,8 +26,10 @@ PARTS = ("src", "specs", "proofs")
 MEMORY = 2_500_000_000
 # The seconds of processor that each crate took with one job when it was last measured: tools/build --measure writes them.
 SECONDS = ROOT / "tools/proof-seconds.txt"
-# How long a job must have to do in seconds of processor, so that it is worth its reading; and how many jobs a crate has at most.
-WORTH, MOST_JOBS = 20, 4
+# How long a job must have to do in seconds of processor, so that it is worth its reading.
+WORTH = 12
+# By the clock, how much faster so many jobs are than one.
+FASTER = {1: 1, 2: 1.4, 3: 1.7}
 # What a crate is taken to need that was never measured, and how many must be done before the time that is left is guessed.
 UNMEASURED, FEWEST = 100, 3
 REFUSED, MISSING, INTERRUPTED = 126, 127, 130
@@ -190,7 +192,7 @@ class Build:
         the crate with the longest chain behind it has as many as are worth it: all else waits for it in the end. Each other crate
         has one, and where crates are measured, all have.
         """
-        wanted = min(crate.seconds // WORTH, MOST_JOBS) if is_longest and not self.is_measured else 1
+        wanted = min(crate.seconds // WORTH, max(FASTER)) if is_longest and not self.is_measured else 1
         return max(min(self.processors, wanted, free_memory() // MEMORY), 1)
 
     def wait_for(self, crate, ran):
@@ -226,7 +228,8 @@ class Build:
         """The least time by the clock in which these crates can be proved, by their seconds."""
 
         def chain(crate):
-            return crate.seconds + max((chain(it) for it in crate.direct if it in crates), default=0)
+            below = max((chain(it) for it in crate.direct if it in crates), default=0)
+            return below + crate.seconds / FASTER[self.jobs(crate, True)]
 
         return max(*map(chain, crates), sum(it.seconds for it in crates) / self.processors)
 
