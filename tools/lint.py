@@ -24,7 +24,7 @@ def everywhere(root, suffix):
     """The files of the repository with this suffix, but not what git and builds keep."""
     found = []
     for folder, folders, names in os.walk(root):
-        folders[:] = [it for it in folders if it not in (".git", ".proving", "out")]
+        folders[:] = [it for it in folders if it not in (".git", ".proving", ".gate", "out")]
         found += [pathlib.Path(folder, name) for name in names if name.endswith(suffix)]
     return sorted(found)
 
