@@ -8,8 +8,8 @@ ghost use Rattle.dali_grammar.specs.Heading.{is_used_line, used_words_of, used_l
 
 use crate::lines::{cut, words};
 use crate::numbers::{block_of, number_in, short_of};
-use dali_frame::Random24;
 use dali_events::{DRAW_LIMIT, Used};
+use dali_frame::Random24;
 use std::alloc::{AllocError, Global};
 
 /// What the first line sets up: gear, and a block of short addresses for each controller.

@@ -4,8 +4,8 @@ ghost use Rattle.std.specs.Prelude.{◌≡◌, [], ◌∷◌, map};
 ghost use Rattle.dali_grammar.specs.Numbers.{number_in, number_to, starts_plain, block_of, block_of_parts, set_of};
 
 use crate::lines::{cut, parts};
-use dali_frame::Short;
 use dali_events::GearSet;
+use dali_frame::Short;
 use std::str;
 
 /// The largest number that a line may name.

@@ -7,8 +7,8 @@ ghost use Rattle.dali_grammar.specs.SiteLine.{two_words_of, destroyed_of, site_l
 
 use crate::lines::words;
 use crate::numbers::{number_in, set_of};
-use dali_frame::Forward;
 use dali_events::Trouble;
+use dali_frame::Forward;
 
 /// A line of a site, after the two of its plan. Controllers and gear are named by their numbers, from 0.
 #[derive(Clone, Copy)]

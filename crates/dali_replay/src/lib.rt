@@ -15,8 +15,8 @@ mod streams;
 mod text;
 
 pub use dali_grammar::{
-    Excerpt, Explained, Hint, INPUT_LIMIT, Mistake, Place, Quote, Reason, ReplayFault, SiteLine, block_of, plan_limit,
-    reason_of, site_line_of,
+    Excerpt, Explained, Hint, INPUT_LIMIT, Mistake, Place, Quote, Reason, ReplayFault, SiteLine,
+    block_of, plan_limit, reason_of, site_line_of,
 };
 pub use json::{push_comma, push_json_gear, push_json_table, show_json};
 pub use played::{Played, PlayedLine};

@@ -3,8 +3,8 @@
 use super::forms::Kind;
 use super::mistake::Mistake;
 use crate::numbers::{block_of, number_in, set_of, short_of};
-use dali_frame::{Forward, Random24};
 use dali_events::Trouble;
+use dali_frame::{Forward, Random24};
 
 /// Whether a word has decimal digits alone.
 fn has_digits(word: &[u8]) -> bool {
