@@ -24,11 +24,11 @@ WORKSPACES = ((ROOT / "crates.txt", CRATES), (ROOT / "extra/programs.txt", ROOT 
 PARTS = ("src", "specs", "proofs")
 # What one check takes at most, in bytes of memory.
 MEMORY = 2_500_000_000
-# The seconds of processor that each crate took with one job when it was last measured: tools/build --measure writes them.
+# The seconds of processor that each crate takes with one job, as the file says it came by them: tools/build --measure writes them.
 SECONDS = ROOT / "tools/proof-seconds.txt"
 # How long a job must have to do in seconds of processor, so that it is worth its reading.
 WORTH = 12
-# By the clock, how much faster so many jobs are than one.
+# By the clock, how much faster so many jobs are than one: a guess, between the two crates that were tried with three (docs/GATE.md).
 FASTER = {1: 1, 2: 1.4, 3: 1.7}
 # What a crate is taken to need that was never measured, and how many must be done before the time that is left is guessed.
 UNMEASURED, FEWEST = 100, 3
