@@ -7,7 +7,7 @@ use Rattle.dali_script.specs.Records.{IsAddressTaken, IsRandomTaken, IsNotReserv
 use Rattle.dali_script.specs.Due.{record_ordered}
 use Rattle.dali_controller.specs.Machine.{Machine}
 use Rattle.dali_controller.specs.Orders.{IsGiven, machine_after}
-use Rattle.dali_c.specs.Orders.{order_of}
+use Rattle.dali_c.specs.Orders.{order_of, HasNoMore}
 use Rattle.dali_c.specs.Machines.{Holds}
 use Rattle.dali_c.specs.declared.machine.PlainMachine.{PlainMachine}
 use Rattle.dali_c.specs.declared.orders.PlainOrder.{PlainOrder}
@@ -54,6 +54,7 @@ pub record Steps (m : Machine) (i : Input) (after : PlainMachine) (order : Plain
     : Type 0 where
   pub ordered : Order
   pub spelled : order_of order ≡ Some (Some ordered)
+  pub more : HasNoMore order (Some ordered)
   pub given : IsGiven m i ordered
   pub state : Holds after (machine_after m i ordered)
   pub fits : IfSome (record_ordered (Some ordered)) (Fits m.kept.block)

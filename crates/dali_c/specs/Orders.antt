@@ -1,4 +1,4 @@
-use Rattle.std.specs.Prelude.{ℕ, ◌==◌, ◌&&◌, nat_le, Option, Some, None, option_map}
+use Rattle.std.specs.Prelude.{◌≡◌, ℕ, ◌==◌, ◌&&◌, nat_le, Option, Some, None, option_map}
 use Rattle.std.specs.Prelude.{if◌then◌else◌}
 use Rattle.dali_script.specs.declared.records.Record.{Record}
 use Rattle.dali_script.specs.declared.orders.Order.{Order}
@@ -39,6 +39,20 @@ given_of o =
 
 abbrev pub order_of : PlainOrder → Option (Option Order)
 order_of o = if o.kind == 0 then Some None else option_map (λ x. Some x) (given_of o)
+
+-- WHAT THE KIND OF AN ORDER DOES NOT NAME is 0.
+abbrev pub HasNoFrame : PlainOrder → Type 0
+HasNoFrame x = (x.priority ≡ 0) × (x.address_byte ≡ 0) × (x.opcode_byte ≡ 0)
+
+abbrev pub HasNoRecord : PlainOrder → Type 0
+HasNoRecord x = (x.record.kind ≡ 0) × (x.record.pair ≡ (0, 0))
+
+abbrev pub HasNoMore : PlainOrder → Option Order → Type 0
+HasNoMore x None = HasNoFrame x × HasNoRecord x × (x.reason ≡ 0)
+HasNoMore x (Some (Put p f)) = HasNoRecord x × (x.reason ≡ 0)
+HasNoMore x (Some (Commit r)) = HasNoFrame x × (x.reason ≡ 0)
+HasNoMore x (Some (Done e)) = HasNoFrame x × HasNoRecord x
+HasNoMore x (Some (Halt w)) = HasNoFrame x × HasNoRecord x
 
 -- struct dali_finding: kind 0 is none, 1 by QUERY SHORT ADDRESS, 2 by QUERY RANDOM ADDRESS
 abbrev pub finding_by : ℕ → Assignment → Option (Option Finding)

@@ -12,7 +12,7 @@ ghost use Rattle.dali_controller.specs.Orders.{IsGiven, machine_after};
 ghost use Rattle.dali_controller.specs.Parts.{machine_with};
 ghost use Rattle.dali_controller.specs.Whole.{IsWhole};
 ghost use Rattle.dali_c.specs.Codes.{input_of, due_code};
-ghost use Rattle.dali_c.specs.Orders.{record_of, order_of};
+ghost use Rattle.dali_c.specs.Orders.{record_of, order_of, HasNoMore};
 ghost use Rattle.dali_c.specs.Records.{kept_of, AreRecords};
 ghost use Rattle.dali_c.specs.Machines.{IsRead, Holds};
 ghost use Rattle.dali_c.specs.Calls.{AnswersAdd, Steps, OK, NOT_DUE, NO_MACHINE, BAD_ARGUMENT, NO_RECORDS};
@@ -238,7 +238,8 @@ pub extern "C" fn dali_machine_due(machine: &PlainMachine, due: &mut u8) -> u8
 /// What a machine ordered last.
 #[unsafe(no_mangle)]
 pub extern "C" fn dali_machine_last(machine: &PlainMachine, order: &mut PlainOrder) -> u8
-    ensures last { (m : Machine) → Holds machine.now m → (result ≡ OK) × (order_of order.new ≡ Some m.last) }
+    ensures last { (m : Machine) → Holds machine.now m
+        → (result ≡ OK) × (order_of order.new ≡ Some m.last) × HasNoMore order.new m.last }
     ensures no_machine { ((m : Machine) → Holds machine.now m → ⊥) → result ≡ NO_MACHINE }
     ensures held { result ≡ OK → (m : Machine) × Holds machine.now m }
     ensures named { (result ≡ OK) ⊎ (result ≡ NO_MACHINE) }

@@ -83,7 +83,7 @@ fn read_entries(plain: &[PlainEntry]) -> Option<ArrayVec<Entry, FRAMES>>
     Some(entries)
 }
 
-/// A list in the first places of as many as there may be; the others are 0.
+/// A list in the first places of as many as there may be.
 pub(crate) fn write_entries(entries: &[Entry]) -> [PlainEntry; FRAMES]
     requires { length entries.now ≤ 8 }
     ensures { AreEntries (take (length entries.now) result) entries.now }

@@ -1,7 +1,7 @@
 //! Records, orders and findings as plain bytes.
 
-ghost use Rattle.std.specs.Prelude.{◌≡◌, Some};
-ghost use Rattle.dali_c.specs.Orders.{record_of, order_of, finding_of};
+ghost use Rattle.std.specs.Prelude.{◌≡◌, Some, None};
+ghost use Rattle.dali_c.specs.Orders.{record_of, order_of, finding_of, HasNoMore};
 
 use crate::pairs::read_pair;
 use dali_frame::{Forward, Priority};
@@ -48,7 +48,8 @@ pub struct PlainOrder {
 impl PlainOrder {
     /// Of this kind, and all other bytes 0.
     fn empty(kind: u8) -> PlainOrder
-        ensures { result.kind ≡ kind }
+        ensures kind { result.kind ≡ kind }
+        ensures more { HasNoMore result None }
     {
         PlainOrder {
             kind,
@@ -64,7 +65,8 @@ impl PlainOrder {
     }
 
     pub(crate) fn of(last: Option<Order>) -> PlainOrder
-        ensures { order_of result ≡ Some last }
+        ensures spelled { order_of result ≡ Some last }
+        ensures more { HasNoMore result last }
     {
         match last {
             None => PlainOrder::empty(0),
@@ -73,7 +75,8 @@ impl PlainOrder {
     }
 
     fn ordered(order: Order) -> PlainOrder
-        ensures { order_of result ≡ Some (Some order) }
+        ensures spelled { order_of result ≡ Some (Some order) }
+        ensures more { HasNoMore result (Some order) }
     {
         match order {
             Order::Put(priority, frame) => PlainOrder {

@@ -200,6 +200,17 @@ AreCounted k others a [] x y = y ≡ x
 AreCounted k others a (r ∷ more) x y =
     (mid : Talk) × IsCounted k others a r x mid × AreCounted k others (a + 1) more mid y
 
+-- THE CENSUS IS LOST at a short address that is not accounted for and is given up, after all those
+-- before it.
+abbrev pub IsLost : Kept → List Block → Talk → Talk → Type 0
+IsLost k others x y =
+    (replies : List Reply)
+    × (mid : Talk)
+    × (length replies < 64)
+    × AreCounted k others 0 replies x mid
+    × (is_known k others (length replies) ≡ false)
+    × IsGivenUp (length replies) mid y
+
 -- whether something was heard of a short address
 abbrev pub is_silent : Reply → Bool
 is_silent reply.Silence = true

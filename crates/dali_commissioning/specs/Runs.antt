@@ -102,9 +102,9 @@ pub record IsRead {S : Type 0} (is_up is_sound : S → Type 0) (holds : S → Li
   pub same : is_sound was → is_up keep → (xs : List Record) → holds was xs → holds keep xs
   pub stays : Stays is_up is_sound was keep
 
--- WHAT CAME OF A BEGINNING. Where a gear answers to a short address that no record names, nothing
--- is begun: the questions are all that was put, and the store has what it had. Else machines run,
--- each of which begins with Start.
+-- WHAT CAME OF A BEGINNING, after a census of all 64 short addresses. Where a gear answers to one
+-- that no record names, nothing is begun: the questions are all that was put, and the store has what
+-- it had. Else machines run, each of which begins with Start.
 abbrev pub IsBegun : {S : Type 0} (is_up is_sound : S → Type 0)
     (holds : S → List Record → Type 0) → Block → List Block → ℕ → S → S → Talk → Talk → Begun
     → Type 0
@@ -112,6 +112,7 @@ IsBegun is_up is_sound holds block others wanted was keep x y (begun.Addressed r
     (k : Kept)
     × IsRead is_up is_sound holds block was keep k
     × AreCounted k others 0 replies.items x y
+    × (length replies.items ≡ 64)
     × (is_addressed replies.items ≡ true)
 IsBegun {S = S} is_up is_sound holds block others wanted was keep x y
     (begun.Commissioned outcome) =
@@ -122,6 +123,7 @@ IsBegun {S = S} is_up is_sound holds block others wanted was keep x y
     × (runs : List Run)
     × IsRead is_up is_sound holds block was mid k
     × AreCounted k others 0 replies x at
+    × (length replies ≡ 64)
     × (is_addressed replies ≡ false)
     × AreRuns is_up is_sound holds block Start mid keep at y runs
     × EndWith outcome.ended runs

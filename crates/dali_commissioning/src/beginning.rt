@@ -1,9 +1,9 @@
 //! What comes first: the records are read, and the gear are asked that no record names.
 
-ghost use Rattle.std.specs.Prelude.{◌≡◌, ◌<◌, IfOk, IfErr};
-ghost use Rattle.dali_script.specs.Records.{without_records};
+ghost use Rattle.std.specs.Prelude.{◌≡◌, ◌≢◌, ◌<◌, length, Err, IfOk, IfErr};
+ghost use Rattle.dali_script.specs.Records.{Kept, without_records};
 ghost use Rattle.dali_commissioning.specs.Drivers.{talk_of};
-ghost use Rattle.dali_commissioning.specs.Census.{AreCounted};
+ghost use Rattle.dali_commissioning.specs.Census.{AreCounted, IsLost};
 ghost use Rattle.dali_commissioning.specs.Conducted.{Stays};
 ghost use Rattle.dali_commissioning.specs.Runs.{IsRead, IsBegun, Grows, outside};
 
@@ -36,6 +36,7 @@ fn records<K: Keep>(keep: &mut K) -> Result<Kept, CommissionFault>
     ensures left { IfErr result (λ _. Grows K.is_up K.is_sound K.holds keep.old keep.new) }
     ensures stays { Stays K.is_up K.is_sound keep.old keep.new }
     ensures block { K.block keep.new ≡ K.block keep.old }
+    ensures none_lost { result ≢ Err CommissionFault.QuestionLost }
 {
     match keep.read() {
         Ok(kept) => Ok(kept),
@@ -60,6 +61,9 @@ pub fn begin<K: Keep, R: Read, W: Write, P: Watch>(
     requires some { 0 < quiet_runs }
     ensures begun { IfOk result (IsBegun K.is_up K.is_sound K.holds (K.block keep.old) others.now quiet_runs
         keep.old keep.new (talk_of R.remaining W.contents driver.old) (talk_of R.remaining W.contents driver.new)) }
+    ensures lost { result ≡ Err CommissionFault.QuestionLost → (k : Kept)
+        × IsRead K.is_up K.is_sound K.holds (K.block keep.old) keep.old keep.new k × IsLost k others.now
+        (talk_of R.remaining W.contents driver.old) (talk_of R.remaining W.contents driver.new) }
     ensures left { IfErr result (λ _. Grows K.is_up K.is_sound K.holds keep.old keep.new) }
     ensures block { K.block keep.new ≡ K.block keep.old }
 {
@@ -85,6 +89,9 @@ pub fn check<K: Keep, R: Read, W: Write>(
         found.0) }
     ensures counted { IfOk result (λ found. AreCounted (without_records (K.block keep.old)) others.now 0 found.1.items
         (talk_of R.remaining W.contents driver.old) (talk_of R.remaining W.contents driver.new)) }
+    ensures all { IfOk result (λ found. length found.1.items ≡ 64) }
+    ensures lost { result ≡ Err CommissionFault.QuestionLost → IsLost (without_records (K.block keep.old)) others.now
+        (talk_of R.remaining W.contents driver.old) (talk_of R.remaining W.contents driver.new) }
     ensures left { IfErr result (λ _. Grows K.is_up K.is_sound K.holds keep.old keep.new) }
 {
     let kept = records(keep)?;

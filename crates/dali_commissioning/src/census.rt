@@ -1,6 +1,6 @@
 //! The census of the short addresses: which gear answer to addresses that no record names, before any is given.
 
-ghost use Rattle.std.specs.Prelude.{◌≡◌, ◌<◌, ◌==◌, length, List, Err, IfOk};
+ghost use Rattle.std.specs.Prelude.{◌≡◌, ◌<◌, ◌==◌, false, length, List, Err, IfOk};
 ghost use Rattle.std.specs.List.{list_any};
 ghost use Rattle.dali_script.specs.declared.orders.Input.{Input};
 ghost use Rattle.dali_special.specs.declared.command.Command.TheVariants.{RandomByte};
@@ -9,7 +9,7 @@ ghost use Rattle.dali_commissioning.specs.Drivers.{talk_of};
 ghost use Rattle.dali_commissioning.specs.Census.{IsPut, answer_told, IsAsked, reply_of, reply_told};
 ghost use Rattle.dali_commissioning.specs.Census.{is_byte, is_silence, without_number};
 ghost use Rattle.dali_commissioning.specs.Census.{joined, joined_if, one_if, lost_after};
-ghost use Rattle.dali_commissioning.specs.Census.{IsAnswered, IsGivenUp, is_named, IsCounted, AreCounted};
+ghost use Rattle.dali_commissioning.specs.Census.{IsAnswered, IsGivenUp, is_named, IsCounted, AreCounted, IsLost};
 ghost use Rattle.dali_commissioning.specs.Census.{is_known, is_silent, is_addressed, standing_of};
 ghost use Rattle.dali_script.specs.Stages.{in_block};
 
@@ -275,8 +275,10 @@ fn count<R: Read, W: Write>(
     others: &[Block],
     short: Short,
 ) -> Result<Reply, CommissionFault>
-    ensures { IfOk result (λ reply. IsCounted kept.now others.now short reply
+    ensures counted { IfOk result (λ reply. IsCounted kept.now others.now short reply
         (talk_of R.remaining W.contents driver.old) (talk_of R.remaining W.contents driver.new)) }
+    ensures lost { result ≡ Err CommissionFault.QuestionLost → (is_known kept.now others.now short ≡ false)
+        × IsGivenUp short (talk_of R.remaining W.contents driver.old) (talk_of R.remaining W.contents driver.new) }
 {
     if is_known(kept, others, short) {
         Ok(Reply::Silence)
@@ -298,6 +300,8 @@ pub fn take_census<R: Read, W: Write>(
     ensures all { IfOk result (λ replies. length replies.items ≡ 64) }
     ensures counted { IfOk result (λ replies. AreCounted kept.now others.now 0 replies.items
         (talk_of R.remaining W.contents driver.old) (talk_of R.remaining W.contents driver.new)) }
+    ensures lost { result ≡ Err CommissionFault.QuestionLost → IsLost kept.now others.now
+        (talk_of R.remaining W.contents driver.old) (talk_of R.remaining W.contents driver.new) }
 {
     let mut replies = ArrayVec::new();
     for number in 0..64u8 {

@@ -157,6 +157,7 @@ fn answer<K: Keep, R: Read, W: Write>(
     ensures left { IfErr result (λ _. MayCommit K.is_up K.is_sound K.holds keep.old keep.new []) }
     ensures not_spent { result ≢ Err CommissionFault.StepsSpent }
     ensures one_run { result ≢ Err CommissionFault.RunsSpent }
+    ensures none_lost { result ≢ Err CommissionFault.QuestionLost }
 {
     match *order {
         Order::Put(priority, frame) => {
@@ -228,6 +229,7 @@ pub fn conduct<K: Keep, R: Read, W: Write, P: Watch>(
     ensures spent { result ≡ Err CommissionFault.StepsSpent → HasTaken machine.old machine.new (steps + 1) }
     ensures fault { IfErr result (λ _. IsLeft K.is_up K.is_sound K.holds keep.old keep.new machine.old machine.new) }
     ensures one_run { result ≢ Err CommissionFault.RunsSpent }
+    ensures none_lost { result ≢ Err CommissionFault.QuestionLost }
     ensures stays { Stays K.is_up K.is_sound keep.old keep.new }
     ensures block { K.block keep.new ≡ K.block keep.old }
 {

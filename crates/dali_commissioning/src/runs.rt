@@ -54,6 +54,7 @@ fn run<K: Keep, R: Read, W: Write, P: Watch>(
     ensures stays { Stays K.is_up K.is_sound keep.old keep.new }
     ensures block { K.block keep.new ≡ K.block keep.old }
     ensures one_run { result ≢ Err CommissionFault.RunsSpent }
+    ensures none_lost { result ≢ Err CommissionFault.QuestionLost }
 {
     let kept = match keep.read() {
         Ok(kept) => kept,
@@ -88,6 +89,7 @@ pub fn commission<K: Keep, R: Read, W: Write, P: Watch>(
     ensures spent { result ≡ Err CommissionFault.RunsSpent → HaveRun K.is_up K.is_sound K.holds (K.block keep.old)
         start keep.old keep.new (talk_of R.remaining W.contents driver.old)
         (talk_of R.remaining W.contents driver.new) 1000 }
+    ensures none_lost { result ≢ Err CommissionFault.QuestionLost }
     ensures left { IfErr result (λ _. Grows K.is_up K.is_sound K.holds keep.old keep.new) }
     ensures stays { Stays K.is_up K.is_sound keep.old keep.new }
     ensures block { K.block keep.new ≡ K.block keep.old }

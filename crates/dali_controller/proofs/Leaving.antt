@@ -19,8 +19,8 @@ use Rattle.dali_controller.specs.declared.way.Way.{Way}
 use Rattle.dali_controller.specs.declared.way.Way.TheVariants.{Fresh, Surveying, Drawing}
 use Rattle.dali_controller.specs.Parts.{Parts}
 use Rattle.dali_controller.specs.Course.{Course, first_of, closing_of, address_for, least_open, is_anothers}
-use Rattle.dali_controller.specs.Machine.{Machine}
-use Rattle.dali_controller.specs.Next.{begins_at, beginning, next_course, draws, draw_or_close, is_withheld, is_withheld_by}
+use Rattle.dali_controller.specs.Machine.{Machine, is_withheld, is_withheld_by}
+use Rattle.dali_controller.specs.Next.{begins_at, beginning, next_course, draws, draw_or_close}
 use Rattle.dali_controller.proofs.Courses.{address_is}
 use Rattle.dali_controller.proofs.Asked.{least_open_is, open_unreserved}
 use Rattle.dali_controller.specs.Orders.{AfterReserved, AfterMaskBy, AfterMaskOn, AfterMaskSurveyed, IsOrderedTo, IsLeft}

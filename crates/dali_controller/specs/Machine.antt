@@ -4,7 +4,7 @@ use Rattle.dali_frame.specs.declared.frames.Forward.{Forward}
 use Rattle.dali_frame.specs.declared.frames.Answer.{Answer}
 use Rattle.dali_frame.specs.declared.frames.Answer.TheVariants.{Silence}
 use Rattle.dali_frame.specs.declared.numbers.SearchAddress.{SearchAddress}
-use Rattle.dali_frame.specs.Random.{MASK24}
+use Rattle.dali_frame.specs.Random.{value_of, MASK24}
 use Rattle.dali_script.specs.declared.finding.Finding.{Finding}
 use Rattle.dali_script.specs.declared.records.Record.{Record}
 use Rattle.dali_script.specs.declared.trace.Entry.{Entry}
@@ -28,9 +28,11 @@ use Rattle.dali_script.specs.Due.{frame_put, record_ordered}
 use Rattle.dali_controller.specs.declared.purpose.Purpose.{Purpose}
 use Rattle.dali_controller.specs.declared.purpose.Purpose.TheVariants.{Asking, Waking, Hunting}
 use Rattle.dali_controller.specs.declared.shorts.Shorts.{Shorts}
-use Rattle.dali_controller.specs.declared.way.Way.TheVariants.{Surveying}
+use Rattle.dali_controller.specs.declared.way.Way.{Way}
+use Rattle.dali_controller.specs.declared.way.Way.TheVariants.{Fresh, Surveying, Drawing}
 use Rattle.dali_controller.specs.Shorts.{with_short, without_short}
-use Rattle.dali_controller.specs.Course.{Course, course_at_first, closing_of, turn_of}
+use Rattle.dali_controller.specs.Course.{Course, course_at_first, closing_of, turn_of, address_for}
+use Rattle.dali_controller.specs.Course.{is_anothers}
 
 -- What contracts see of a machine: its number; what it keeps; the running transaction; its last
 -- finding; its last order; how often the transaction was lost; how many searches in a row led to no
@@ -82,6 +84,25 @@ is_front _ = false
 
 abbrev pub is_ended : Purpose → SearchAddress → Stage → Bool
 is_ended p n s = is_front p && not (is_some (turn_of p n s))
+
+-- In a survey: whether what is reserved for a number is another's, where gear are searched. Then a
+-- visit that found gear without short address ends before PROGRAM SHORT ADDRESS.
+abbrev pub is_withheld_by : Machine → Way → ℕ → ℕ → Bool
+is_withheld_by t Fresh a r = false
+is_withheld_by t Surveying a r = t.opened && is_anothers t.kept t.heard a r
+is_withheld_by t Drawing a r = t.opened && is_anothers t.kept t.heard a r
+
+abbrev pub is_withheld : Machine → ℕ → ℕ → Bool
+is_withheld t a r = is_withheld_by t t.course.way a r
+
+abbrev pub withholds : Machine → ℕ → Option ℕ → Bool
+withholds t r None = false
+withholds t r (Some a) = is_withheld t a r
+
+abbrev pub is_passed_by : Machine → Stage → Bool
+is_passed_by t (Unnamed r) =
+    withholds t (value_of r) (address_for t.kept.reserved (value_of r))
+is_passed_by t _ = false
 
 -- the tries of one transaction
 abbrev pub tries_after : Bool → ℕ → ℕ
@@ -184,7 +205,8 @@ machine_heard_to m t h = record {
   last = m.last;
   tries =
       tries_after (is_complete m.kept (closing_of m.course.purpose) (stage_of t)
-      || is_ended m.course.purpose m.course.number (stage_of t)) m.tries;
+      || is_ended m.course.purpose m.course.number (stage_of t)
+      || is_passed_by m (stage_of t)) m.tries;
   silent = silent_after (stage_of t) m.opened m.silent;
   opened =
       woken_after (stage_of t) m.course.purpose (opened_after (stage_of t) m.opened);

@@ -28,7 +28,7 @@ use Rattle.dali_controller.specs.declared.way.Way.TheVariants.{Fresh, Surveying,
 use Rattle.dali_controller.specs.Course.{Course, first_of, searching_first, visiting, resolving}
 use Rattle.dali_controller.specs.Course.{hunting, hunted, missed, byte_to_send, bytes_to_send}
 use Rattle.dali_controller.specs.Course.{closing, drawing, address_for, going_on, is_yes}
-use Rattle.dali_controller.specs.Course.{after_step, least_open, is_anothers}
+use Rattle.dali_controller.specs.Course.{after_step, least_open}
 use Rattle.dali_controller.specs.Machine.{Machine}
 
 -- THE TABLE OF MOMENTS, first half: which transaction begins next, if one does, in a machine that
@@ -51,18 +51,9 @@ abbrev pub unanswered : Machine → SearchAddress → Bool → Option ℕ → Co
 unanswered t r false (Some a) = resolving t.course a r
 unanswered t r _ _ = silenced t
 
--- In a survey: whether an address is open; and whether what is reserved for a number is another's,
--- where gear are searched.
+-- in a survey: whether an address is open
 abbrev pub has_open : Machine → Bool
 has_open t = is_some (least_open t.kept t.heard)
-
-abbrev pub is_withheld_by : Machine → Way → ℕ → ℕ → Bool
-is_withheld_by t Fresh a r = false
-is_withheld_by t Surveying a r = t.opened && is_anothers t.kept t.heard a r
-is_withheld_by t Drawing a r = t.opened && is_anothers t.kept t.heard a r
-
-abbrev pub is_withheld : Machine → ℕ → ℕ → Bool
-is_withheld t a r = is_withheld_by t t.course.way a r
 
 -- In a survey gear draw new random addresses once no more can be given under the old ones, if an
 -- address is open; else the close follows.

@@ -28,14 +28,14 @@ use Rattle.dali_script.specs.declared.orders.Order.TheVariants.{Put, Commit, Don
 use Rattle.dali_script.specs.declared.orders.End.{End}
 use Rattle.dali_script.specs.declared.orders.End.TheVariants.{AllFound, BlockFull, GaveUp}
 use Rattle.dali_script.specs.declared.orders.Fault.TheVariants as fault
-use Rattle.dali_controller.specs.Machine.{Machine, machine_told}
+use Rattle.dali_controller.specs.Machine.{Machine, machine_told, is_withheld}
 use Rattle.dali_controller.specs.declared.purpose.Purpose.{Purpose}
 use Rattle.dali_controller.specs.declared.purpose.Purpose.TheVariants.{Closing, Asking}
 use Rattle.dali_controller.specs.declared.way.Way.{Way}
 use Rattle.dali_controller.specs.declared.way.Way.TheVariants.{Fresh, Surveying, Drawing}
 use Rattle.dali_controller.specs.Course.{Course, closing_of, turn_of, address_for, least_open}
 use Rattle.dali_controller.specs.Next.{course_by, next_course, beginning, question, BeginsWith}
-use Rattle.dali_controller.specs.Next.{draws, is_withheld}
+use Rattle.dali_controller.specs.Next.{draws}
 
 -- WHAT AN ORDER DOES, to a machine that was told an input.
 

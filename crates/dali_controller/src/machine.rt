@@ -132,6 +132,7 @@ impl Machine {
     pub fn would_order(&self, input: Input) -> Result<Order, StepError>
         ensures due { IsOk result ↔ (accepts (due_after self.now.last) input ≡ true) }
         ensures given { IfOk result (IsGiven self.now input) }
+        ensures whole { IfOk result (λ order. IsWhole (machine_after self.now input order)) }
     {
         let mut copy = self.copy();
         copy.step(input)

@@ -55,8 +55,9 @@ impl State {
     ghost use Rattle.dali_controller.specs.Course.{going_on, turn_of, visit_or_opening, next_unfinished, taking};
     ghost use Rattle.dali_controller.specs.Course.{ask_or_wake, next_asked, waking, drawing};
     ghost use Rattle.dali_controller.specs.Next.{course_by, next_course, beginning, silenced, BeginsWith};
-    ghost use Rattle.dali_controller.specs.Next.{draws, draw_or_close, is_withheld, question};
-    ghost use Rattle.dali_controller.specs.Machine.{machine_told};
+    ghost use Rattle.dali_controller.specs.Next.{draws, draw_or_close, question};
+    ghost use Rattle.dali_controller.specs.Machine.{machine_told, is_withheld, withholds};
+    ghost use Rattle.dali_controller.specs.Course.{address_for};
     ghost use Rattle.dali_controller.specs.Orders.{AfterFinding, AfterEnrolled, IsFollowed, IsSought};
     ghost use Rattle.dali_script.specs.declared.records.Record.TheVariants.{Reserve, Enrol};
     ghost use Rattle.dali_script.specs.declared.orders.Order.TheVariants.{Commit};
@@ -204,7 +205,17 @@ impl State {
         order
     }
 
-    /// Whether what is reserved for a random address is another gear's, by what a survey heard.
+    /// Whether what is reserved for a random address, if anything is, is another gear's, by what a survey heard.
+    pub(crate) fn withholds(&self, kept: &Records<'_>, random: Random24) -> bool
+        ensures { result ≡ withholds (machine_with self.now kept.now) random (address_for kept.now.reserved random) }
+    {
+        match kept.reserved_for(random) {
+            Some(address) => self.is_withheld(kept, address, random),
+            None => false,
+        }
+    }
+
+    /// Whether this address, which is reserved for a random address, is another gear's.
     fn is_withheld(&self, kept: &Records<'_>, address: Short, random: Random24) -> bool
         ensures { result ≡ is_withheld (machine_with self.now kept.now) address random }
     {

@@ -10,7 +10,8 @@ ghost use Rattle.dali_script.specs.declared.orders.Input.TheVariants as input;
 ghost use Rattle.dali_script.specs.declared.orders.Order.TheVariants as order;
 ghost use Rattle.dali_controller.specs.declared.purpose.Purpose.TheVariants as purpose;
 ghost use Rattle.dali_script.specs.Due.{frame_put};
-ghost use Rattle.dali_controller.specs.Machine.{machine_told, is_complete, is_ended, tries_after, silent_after};
+ghost use Rattle.dali_controller.specs.Machine.{machine_told, is_complete, is_ended, is_passed_by, tries_after};
+ghost use Rattle.dali_controller.specs.Machine.{silent_after};
 ghost use Rattle.dali_controller.specs.Machine.{opened_after, woken_after, heard_after, asked_after};
 ghost use Rattle.dali_controller.specs.Machine.{marked_at, asked_at};
 ghost use Rattle.dali_controller.specs.Orders.{machine_ordered, AfterMaskOn};
@@ -105,13 +106,29 @@ impl State {
     fn tries_after(&self, kept: &Records<'_>) -> u8
         ensures { result
             ≡ tries_after (is_complete kept.now (closing_of self.now.purpose) (stage_of self.now.trace)
-            || is_ended self.now.purpose self.now.number (stage_of self.now.trace)) self.now.tries }
+            || is_ended self.now.purpose self.now.number (stage_of self.now.trace)
+            || is_passed_by (machine_with self.now kept.now) (stage_of self.now.trace)) self.now.tries }
     {
         // Of a transaction that was not lost before, it need not be known.
-        if self.tries == 0 || self.is_complete(kept) || self.is_ended() {
+        if self.tries == 0
+            || self.is_complete(kept)
+            || self.is_ended()
+            || self.is_passed_by(kept)
+        {
             0
         } else {
             self.tries
+        }
+    }
+
+    /// Whether the running transaction is a visit that ends before PROGRAM SHORT ADDRESS, since what is reserved for the
+    /// gear that it found is another's.
+    fn is_passed_by(&self, kept: &Records<'_>) -> bool
+        ensures { result ≡ is_passed_by (machine_with self.now kept.now) (stage_of self.now.trace) }
+    {
+        match self.trace.stage() {
+            Stage::Unnamed(number) => self.withholds(kept, number.value()),
+            _ => false,
         }
     }
 

@@ -1,10 +1,10 @@
-use Rattle.std.proofs.Common.{◌≡◌, ℕ, ◌+◌, List, length, Bool, Some, Result, Ok, Err, refl, zero-add}
+use Rattle.std.proofs.Common.{◌≡◌, ℕ, ◌+◌, List, length, Bool, Some, None, Result, Ok, Err, refl, zero-add}
 use Rattle.dali_events.specs.declared.plan.PlanError.{PlanError}
 use Rattle.dali_grammar.specs.declared.fault.ReplayFault.TheVariants.{BadLine, BadPlan}
 use Rattle.dali_events.specs.Plan.{Plan}
 use Rattle.dali_grammar.specs.Lines.{lines_of, numbered_after}
 use Rattle.dali_grammar.specs.Setting.{End, AtLine, Refused, NumberedLines, Setting, planned, setting_of}
-use Rattle.dali_grammar.specs.Reason.{StopsAt, first_bad}
+use Rattle.dali_grammar.specs.Reason.{StopsAt, stop_of, first_bad}
 
 -- the first lines, as a reader of no line has them
 pub setting_at : (input rest : List ℕ) (read : ℕ) (r : Result (Setting × NumberedLines) End) → read ≡ 0 → rest ≡ input
@@ -21,3 +21,8 @@ stops_plan s e is = rw is refl
 pub stops_line : (s : Result (Setting × NumberedLines) End) (is_bench : Bool) (p : Plan) (lines : NumberedLines) (n : ℕ)
     → s ≡ Ok ((is_bench, p), lines) → Some n ≡ first_bad is_bench lines → StopsAt s (BadLine n)
 stops_line s is_bench p lines n is first = rw (is, ← first) refl
+
+-- or nowhere
+pub stops_nowhere : (s : Result (Setting × NumberedLines) End) (is_bench : Bool) (p : Plan) (lines : NumberedLines)
+    → s ≡ Ok ((is_bench, p), lines) → None ≡ first_bad is_bench lines → stop_of s ≡ None
+stops_nowhere s is_bench p lines is none = rw (is, ← none) refl

@@ -1,4 +1,5 @@
-use Rattle.std.specs.Prelude.{◌≡◌, ℕ, ◌-◌, List, [], ◌∷◌, take, slice_get, Bool, true, false}
+use Rattle.std.specs.Prelude.{◌≡◌, ℕ, ◌-◌, ◌<◌, List, [], ◌∷◌, length, take, slice_get}
+use Rattle.std.specs.Prelude.{Bool, true, false}
 use Rattle.std.specs.Prelude.{Option, Some, None, Result, Ok, Err, is_none, if◌then◌else◌}
 use Rattle.std.specs.Prelude.{option_map, option_and_then}
 use Rattle.dali_grammar.specs.declared.fault.ReplayFault.{ReplayFault}
@@ -9,7 +10,7 @@ use Rattle.dali_grammar.specs.declared.reason.quote.Quote.{Quote}
 use Rattle.dali_grammar.specs.Lines.{parts_of, words_of}
 use Rattle.dali_grammar.specs.BenchLine.{bench_line_of}
 use Rattle.dali_grammar.specs.SiteLine.{site_line_of}
-use Rattle.dali_grammar.specs.Setting.{End, AtLine, Refused, NumberedLines, Setting}
+use Rattle.dali_grammar.specs.Setting.{End, AtLine, Refused, NumberedLines, Setting, setting_of}
 
 -- ---------------------------------------------------------------- where a script stops
 
@@ -37,6 +38,19 @@ StopsAt setting (BadPlan e) = stop_of setting ≡ Some (Refused e)
 StopsAt setting Memory = ⊥
 StopsAt setting Read = ⊥
 StopsAt setting Write = ⊥
+
+-- What is found of it, with where it stands: a bad line or a refusal; or that there is none.
+abbrev pub Finds : {A : Type 0} → Result (Setting × NumberedLines) End → Option (ReplayFault × A)
+    → Type 0
+Finds setting (Some stop) = StopsAt setting stop.0
+Finds setting None = stop_of setting ≡ None
+
+-- A REASON IS GIVEN wherever a script stops so, unless it is longer than any that is read, or
+-- memory was wanting.
+abbrev pub Gives : {A B : Type 0} → List ℕ → ReplayFault → Result (Option A) B → Type 0
+Gives input fault (Ok (Some reason)) = Unit {0}
+Gives input fault (Ok None) = StopsAt (setting_of input) fault → 1048576 < length input
+Gives input fault (Err e) = Unit {0}
 
 -- ---------------------------------------------------------------- words that are named
 

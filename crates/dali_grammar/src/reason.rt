@@ -2,10 +2,10 @@
 //!
 //! A run answers the number of the line alone. What is said here is read from the script once more.
 
-ghost use Rattle.std.specs.Prelude.{◌≡◌, ◌≤◌, ◌+◌, length, IfSome};
+ghost use Rattle.std.specs.Prelude.{◌≡◌, ◌≤◌, ◌+◌, length, IfOk, IfSome};
 ghost use Rattle.dali_grammar.specs.Lines.{numbered_after};
 ghost use Rattle.dali_grammar.specs.Setting.{setting_of};
-ghost use Rattle.dali_grammar.specs.Reason.{Quotes, StopsAt, IsOfLine, first_bad, is_bad};
+ghost use Rattle.dali_grammar.specs.Reason.{Quotes, StopsAt, Finds, Gives, IsOfLine, first_bad, is_bad};
 
 mod excerpt;
 mod forms;
@@ -29,7 +29,7 @@ pub use mistake::{Mistake, plan_limit};
 use planned::plan_clue;
 pub use quote::Quote;
 use quote::{part_at, quoted};
-use std::alloc::Global;
+use std::alloc::{AllocError, Global};
 use std::fmt;
 
 /// Why a line is bad, or a plan refused.
@@ -101,23 +101,27 @@ fn place_of(input: &[u8], number: u32) -> Place
     Place::Used
 }
 
-/// At which bad line or refused plan a script stops, and where such a line stands.
-fn stop_of(alloc: Global, input: &[u8]) -> Option<(ReplayFault, Place)>
+/// At which bad line or refused plan a script stops, if at any, and where such a line stands.
+fn stop_of(alloc: Global, input: &[u8]) -> Result<Option<(ReplayFault, Place)>, AllocError>
     requires { length input.now ≤ 1048576 }
-    ensures { IfSome result (λ stop. StopsAt (setting_of input.now) stop.0) }
+    ensures { IfOk result (Finds (setting_of input.now)) }
 {
     let mut script = Script::new(input);
     match plan(alloc, &mut script) {
         Ok((is_bench, _)) => {
-            let number = first_bad(is_bench, &mut script)?;
             let place = if is_bench { Place::Bench } else { Place::Site };
-            Some((ReplayFault::BadLine(number), place))
+            match first_bad(is_bench, &mut script) {
+                Some(number) => Ok(Some((ReplayFault::BadLine(number), place))),
+                None => Ok(None),
+            }
         }
         Err(ReplayFault::BadLine(number)) => {
-            Some((ReplayFault::BadLine(number), place_of(input, number)))
+            let place = place_of(input, number);
+            Ok(Some((ReplayFault::BadLine(number), place)))
         }
-        Err(ReplayFault::BadPlan(error)) => Some((ReplayFault::BadPlan(error), Place::First)),
-        Err(_) => None,
+        Err(ReplayFault::BadPlan(error)) => Ok(Some((ReplayFault::BadPlan(error), Place::First))),
+        Err(ReplayFault::Memory) => Err(AllocError),
+        Err(ReplayFault::Read | ReplayFault::Write) => unreachable!(),
     }
 }
 
@@ -140,18 +144,25 @@ fn line_reason(input: &[u8], number: u32, place: Place) -> Reason
     }
 }
 
-/// Why this plan is refused.
-fn plan_reason(alloc: Global, input: &[u8], error: PlanError) -> Option<Reason>
+/// Why this plan is refused; no word is named where none is found.
+fn plan_reason(alloc: Global, input: &[u8], error: PlanError) -> Result<Reason, AllocError>
     requires { length input.now ≤ 1048576 }
-    ensures word { IfSome result (λ reason. IfSome reason.word (Quotes input.now)) }
-    ensures beside { IfSome result (λ reason. IfSome reason.beside (Quotes input.now)) }
+    ensures word { IfOk result (λ reason. IfSome reason.word (Quotes input.now)) }
+    ensures beside { IfOk result (λ reason. IfSome reason.beside (Quotes input.now)) }
 {
-    let clue = plan_clue(alloc, input, error)?;
+    let Some(clue) = plan_clue(alloc, input, error)? else {
+        return Ok(Reason {
+            mistake: Mistake::Plan(error),
+            word: None,
+            beside: None,
+            hint: Hint::Nothing,
+        });
+    };
     let beside = match clue.beside {
         Some(spot) => quoted(input, spot.line, spot.word),
         None => None,
     };
-    Some(Reason {
+    Ok(Reason {
         mistake: clue.mistake,
         word: quoted(input, clue.at.line, clue.at.word),
         beside,
@@ -159,42 +170,52 @@ fn plan_reason(alloc: Global, input: &[u8], error: PlanError) -> Option<Reason>
     })
 }
 
-/// Why a script ends so. `None` where it does not end so, where there is nothing to say, where the script is longer
-/// than 1,048,576 bytes, or where there is too little memory to find it out.
-pub fn reason_of(alloc: Global, input: &[u8], fault: ReplayFault) -> Option<Reason>
+/// Why a script ends so. `Ok(None)` where it does not end so, or is longer than 1,048,576 bytes; `Err` where there is too
+/// little memory to find it out.
+pub fn reason_of(
+    alloc: Global,
+    input: &[u8],
+    fault: ReplayFault,
+) -> Result<Option<Reason>, AllocError>
     // The script stops at just this line, or for just this refusal.
-    ensures stops { IfSome result (λ reason. StopsAt (setting_of input.now) fault) }
+    ensures stops { IfOk result (λ reason. IfSome reason (λ _. StopsAt (setting_of input.now) fault)) }
+    // And where it does, a reason is given.
+    ensures given { Gives input.now fault result }
     // A word that is named stands there.
-    ensures word { IfSome result (λ reason. IfSome reason.word (Quotes input.now)) }
-    ensures beside { IfSome result (λ reason. IfSome reason.beside (Quotes input.now)) }
+    ensures word { IfOk result (λ reason. IfSome reason (λ reason. IfSome reason.word (Quotes input.now))) }
+    ensures beside { IfOk result (λ reason. IfSome reason (λ reason. IfSome reason.beside (Quotes input.now))) }
     // Of a bad line a word of that line is named.
-    ensures line { IfSome result (λ reason. IfSome reason.word (IsOfLine fault)) }
+    ensures line { IfOk result (λ reason. IfSome reason (λ reason. IfSome reason.word (IsOfLine fault))) }
 {
     if input.len() > INPUT_LIMIT {
-        return None;
+        return Ok(None);
     }
-    let (stop, place) = stop_of(alloc, input)?;
+    let Some((stop, place)) = stop_of(alloc, input)? else {
+        return Ok(None);
+    };
     if stop != fault {
-        return None;
+        return Ok(None);
     }
     match fault {
-        ReplayFault::BadLine(number) => Some(line_reason(input, number, place)),
-        ReplayFault::BadPlan(error) => plan_reason(alloc, input, error),
-        ReplayFault::Memory | ReplayFault::Read | ReplayFault::Write => None,
+        ReplayFault::BadLine(number) => Ok(Some(line_reason(input, number, place))),
+        ReplayFault::BadPlan(error) => Ok(Some(plan_reason(alloc, input, error)?)),
+        ReplayFault::Memory | ReplayFault::Read | ReplayFault::Write => Ok(None),
     }
 }
 
-/// Why a run ended before the end of its input, with the reason where one is known.
+/// Why a run ended before the end of its input.
 #[derive(Clone, Copy)]
 pub struct Explained {
     pub fault: ReplayFault,
-    pub reason: Option<Reason>,
+    /// Of a bad line and of a refused plan the reason; `Err` where there was too little memory to find it out.
+    pub reason: Result<Option<Reason>, AllocError>,
 }
 
 impl Explained {
     /// The fault of a run over this input.
     pub fn of(alloc: Global, input: &[u8], fault: ReplayFault) -> Explained
-        ensures { result.fault ≡ fault }
+        ensures fault { result.fault ≡ fault }
+        ensures given { Gives input.now fault result.reason }
     {
         Explained {
             fault,
@@ -204,14 +225,14 @@ impl Explained {
 }
 
 impl From<ReplayFault> for Explained {
-    ghost use Rattle.std.specs.Prelude.{◌≡◌};
+    ghost use Rattle.std.specs.Prelude.{◌≡◌, Ok, None};
 
-    ghost from_gives = { λ fault e. e.fault ≡ fault };
+    ghost from_gives = { λ fault e. (e.fault ≡ fault) × (e.reason ≡ Ok None) };
 
     fn from(fault: ReplayFault) -> Explained {
         Explained {
             fault,
-            reason: None,
+            reason: Ok(None),
         }
     }
 }
@@ -220,8 +241,10 @@ impl fmt::Display for Explained {
     fn fmt<W: fmt::Write>(&self, f: &mut fmt::Formatter<W>) -> fmt::Result {
         let fault = self.fault;
         write!(f, "{fault}")?;
-        let Some(reason) = self.reason else {
-            return Ok(());
+        let reason = match self.reason {
+            Ok(Some(reason)) => reason,
+            Ok(None) => return Ok(()),
+            Err(_) => return f.write_str(": there is too little memory to say why"),
         };
         f.write_str(": ")?;
         if let (ReplayFault::BadPlan(_), Some(word)) = (fault, reason.word) {

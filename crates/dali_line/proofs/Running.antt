@@ -39,7 +39,7 @@ steps_more (None ∷ xs) ys = steps_more xs ys
 taken_more : (bus : Facts) (before : Option Order) (p q r : PortShare) (xs ys : List (Option Step)) → AreTaken bus before p xs q
     → AreTaken bus (last_order before (steps_in xs)) q ys r → AreTaken bus before p (xs ++ ys) r
 taken_more bus before p q r [] ys taken rest = subst (λ (x : PortShare). AreTaken bus before x ys r) taken rest
-taken_more bus before p q r (Some s ∷ xs) ys taken rest = (taken.0, taken.1, taken_more bus (Some s.order) taken.0 q r xs ys taken.2 rest)
+taken_more bus before p q r (Some s ∷ xs) ys taken rest = (taken.0, taken.1, taken.2, taken_more bus (Some s.order) taken.0 q r xs ys taken.3 rest)
 taken_more bus before p q r (None ∷ xs) ys taken rest = (taken.0, taken_more bus before p q r xs ys taken.1 rest)
 
 last_more : (before : Option Order) (ss ts : List Step) → last_order before (ss ++ ts) ≡ last_order (last_order before ss) ts
@@ -629,7 +629,7 @@ module _ {S : Type 0} (is_up is_sound : S → Type 0) (holds : S → List Record
       due = gives.due;
       known = gives.known;
       turns = Some (step_of i o) ∷ [];
-      taken = (q, acted, refl);
+      taken = (q, acted, gives.given, refl);
       count = one_counts end other;
       last = last;
       ends = ⊎_elim (λ is. subst (λ (x : Option Outcome). IsEnd bus q x (step_of i o ∷ [])) (sym is.0) (end_acted bus q i o))

@@ -91,6 +91,9 @@ abbrev pub IsUnorderedFrom : PortShare → Type 0
 IsUnorderedFrom port =
     FromPort port (λ s. record_ordered (controller_at (world s) port.controller).last ≡ None)
 
+abbrev pub IsToldFrom : PortShare → Input → Type 0
+IsToldFrom port i = FromPort port (λ s. (controller_at (world s) port.controller).told ≡ Some i)
+
 abbrev pub IsUntoldFrom : PortShare → Type 0
 IsUntoldFrom port = FromPort port (λ s. (controller_at (world s) port.controller).told ≡ None)
 

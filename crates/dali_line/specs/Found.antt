@@ -81,11 +81,15 @@ pub record IsOver (s : SiteState) : Type 0 where
   pub idle : next_request s ≡ None
   pub ended : HaveEnded s
 
+-- nothing can be sent: no request is next, and no more may wait
+abbrev pub IsStuck : SiteState → Type 0
+IsStuck s = (next_request s ≡ None) × IsCrowded s
+
 -- WHAT THE DRIVER IS TOLD of a line that is stopped, or not: the first of these that holds
 abbrev pub IsReady : Bool → SiteState → Ready → Type 0
 IsReady stopped s ready.Stopped = stopped ≡ true
 IsReady stopped s ready.Next = (stopped ≡ false) × IsSome (next_request s)
-IsReady stopped s ready.Full = (stopped ≡ false) × (next_request s ≡ None) × IsCrowded s
+IsReady stopped s ready.Full = (stopped ≡ false) × IsStuck s
 IsReady stopped s ready.Over = (stopped ≡ false) × (IsCrowded s → ⊥) × IsOver s
 
 -- and nothing, while none of them holds

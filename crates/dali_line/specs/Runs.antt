@@ -30,7 +30,7 @@ IsIdle bus before p =
 abbrev pub AreTaken : Facts → Option Order → PortShare → List (Option Step) → PortShare → Type 0
 AreTaken bus before from [] to = to ≡ from
 AreTaken bus before from (Some s ∷ ts) to =
-    (next : PortShare) × bus.acted from s.input s.order next
+    (next : PortShare) × bus.acted from s.input s.order next × bus.gives from s.input
     × AreTaken bus (Some s.order) next ts to
 AreTaken bus before from (None ∷ ts) to = IsIdle bus before from × AreTaken bus before from ts to
 
@@ -51,6 +51,7 @@ pub record Gives {S : Type 0} (is_up is_sound : S → Type 0) (holds : S → Lis
     (old new : S) (i : Input) (kept : Option Record) : Type 0 where
   pub due : Option Record
   pub known : IsKnownDue bus before from due
+  pub given : bus.gives from i
   pub commits : IsDueFor due i
   pub kept_is : kept ≡ first_of (told_at due i)
   pub list : is_sound old → is_up new → (xs : List Record) → holds old xs

@@ -8,8 +8,8 @@ ghost use Rattle.dali_standing.specs.declared.report.Report.{Report};
 ghost use Rattle.dali_line.specs.declared.ready.Ready.TheVariants as ready;
 ghost use Rattle.dali_line.specs.Steps.{IsOfBus};
 ghost use Rattle.dali_line.specs.Shares.{PortShare, raised_share};
-ghost use Rattle.dali_line.specs.Found.{events_in, FromDriver, IsOver};
-ghost use Rattle.dali_line.specs.Calls.{ActsFrom, IsRefusedFrom, IsUntoldFrom, IsOrderedFrom};
+ghost use Rattle.dali_line.specs.Found.{events_in, FromDriver, IsStuck, IsOver};
+ghost use Rattle.dali_line.specs.Calls.{ActsFrom, IsRefusedFrom, IsToldFrom, IsUntoldFrom, IsOrderedFrom};
 ghost use Rattle.dali_line.specs.Calls.{IsUnorderedFrom, IsDownFrom};
 ghost use Rattle.dali_line.specs.Calls.{PumpsFrom, LapsesFrom};
 
@@ -35,13 +35,15 @@ use std::sync::ledger::Ledger;
 ///
 /// - `acted`: the port's controller acted on this input, and ordered this.
 /// - `refused`: it was refused to act on this input.
-/// - `untold`: the bus had told it nothing.
+/// - `told`, `untold`: the bus had told it this, or nothing.
 /// - `ordered`, `unordered`: the commit of this record was due for it, or none.
 /// - `is_down`: it was found to be down.
 /// - `pumped`: under this trouble the bus reported this.
 /// - `lapsed`: the owner of the bus lost it.
+/// - `is_stuck`: nothing could be sent, since no request was next and no more might wait.
 /// - `is_over`: all was over.
-/// - `is_stopped`: all is stopped.
+/// - `is_stopped`: all was found to be stopped, by a call that looks.
+/// - `is_told_to_stop`: a call has stopped all.
 pub trait Bus {
     /// The right to act for one controller.
     type Port;
@@ -57,6 +59,8 @@ pub trait Bus {
 
     ghost refused: { PortShare → Input → Refusal → Type 0 };
 
+    ghost told: { PortShare → Input → Type 0 };
+
     ghost untold: { PortShare → Type 0 };
 
     ghost ordered: { PortShare → Record → Type 0 };
@@ -69,9 +73,13 @@ pub trait Bus {
 
     ghost lapsed: { ℕ → ℕ → Type 0 };
 
+    ghost is_stuck: { ℕ → Type 0 };
+
     ghost is_over: { ℕ → Type 0 };
 
     ghost is_stopped: { Self → Type 0 };
+
+    ghost is_told_to_stop: { Self → Type 0 };
 
     /// The number of the port's controller; 255 where it speaks for nobody.
     fn controller(&self, port: &Self::Port) -> u8
@@ -89,7 +97,8 @@ pub trait Bus {
     /// What the bus has told the port's controller, and it has not acted on; or Start.
     fn next<R: Wait>(&self, rt: &R, port: &mut Self::Port) -> Option<Input>
         ensures same { share port.new ≡ share port.old }
-        ensures told { IfSome result IsOfBus }
+        ensures told { IfSome result (told (share port.old)) }
+        ensures of_bus { IfSome result IsOfBus }
         ensures untold { IfNone result (untold (share port.old)) };
 
     /// What is due for the port's controller.
@@ -138,12 +147,13 @@ pub trait Bus {
     /// Waits until all is stopped, a request is next, nothing can be sent, or all is over.
     fn ready<R: Wait>(&self, rt: &R, driver: &mut Self::Driver) -> Ready
         ensures same { driven driver.new ≡ driven driver.old }
+        ensures full { result ≡ ready.Full → is_stuck (driven driver.old) }
         ensures over { result ≡ ready.Over → is_over (driven driver.old) }
         ensures stopped { result ≡ ready.Stopped → is_stopped self.now };
 
     /// All is stopped, for good: who waits now or later is told so.
     fn stop<R: Wait>(&self, rt: &R)
-        ensures { is_stopped self.now };
+        ensures { is_told_to_stop self.now };
 
     /// Whether all is stopped.
     fn is_stopped<R: Wait>(&self, rt: &R) -> bool
@@ -163,6 +173,8 @@ impl<P0: Ledger, P1: Ledger, P2: Ledger, P3: Ledger, D: Ledger> Bus for Line<P0,
 
     ghost refused = { IsRefusedFrom };
 
+    ghost told = { IsToldFrom };
+
     ghost untold = { IsUntoldFrom };
 
     ghost ordered = { IsOrderedFrom };
@@ -175,10 +187,14 @@ impl<P0: Ledger, P1: Ledger, P2: Ledger, P3: Ledger, D: Ledger> Bus for Line<P0,
 
     ghost lapsed = { LapsesFrom };
 
+    ghost is_stuck = { λ driver. FromDriver driver IsStuck };
+
     ghost is_over = { λ driver. FromDriver driver IsOver };
 
     // Which lines were stopped is not seen in their values.
     ghost is_stopped = { λ _. Unit {0} };
+
+    ghost is_told_to_stop = { λ _. Unit {0} };
 
     fn controller(&self, port: &Port<P0, P1, P2, P3, D>) -> u8 {
         port.controller()

@@ -42,9 +42,10 @@ impl<D, G: Gate> Pumper<D, G> {
     ) -> (D, Option<Refusal>)
         ensures least { B.driven self.driver ≤ B.driven result.0 }
         ensures most { B.driven result.0 ≤ B.driven self.driver + turns }
-        ensures drives { Drives B.pumped B.lapsed (B.driven self.driver) (B.driven result.0) turns }
+        ensures drives { Drives B.pumped B.is_stuck B.lapsed (B.driven self.driver) (B.driven result.0) turns }
         // Nobody waits for it then.
-        ensures ended { B.is_stopped bus.now ⊎ ((result.1 ≡ None) × B.is_over (B.driven result.0)) }
+        ensures ended { B.is_told_to_stop bus.now
+            ⊎ ((result.1 ≡ None) × (B.is_stopped bus.now ⊎ B.is_over (B.driven result.0))) }
     {
         let Pumper { driver, gate } = self;
         let mut driver = driver;
@@ -69,7 +70,7 @@ impl<D, G: Gate> Pumper<D, G> {
 fn take_turn<B: Bus, R: Wait>(rt: &R, bus: &B, driver: &mut B::Driver) -> Result<bool, Refusal>
     ensures least { B.driven driver.old ≤ B.driven driver.new }
     ensures most { B.driven driver.new ≤ B.driven driver.old + 1 }
-    ensures drives { Drives B.pumped B.lapsed (B.driven driver.old) (B.driven driver.new) 1 }
+    ensures drives { Drives B.pumped B.is_stuck B.lapsed (B.driven driver.old) (B.driven driver.new) 1 }
     ensures ended { result ≡ Ok false → B.is_stopped bus.now ⊎ B.is_over (B.driven driver.new) }
 {
     match bus.ready(rt, driver) {

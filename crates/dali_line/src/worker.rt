@@ -1,4 +1,4 @@
-ghost use Rattle.std.specs.Prelude.{◌≡◌, ◌⊎◌, false, List, [], ◌∷◌, ◌++◌, Option, None, Some, Err, IfSome, IfNone};
+ghost use Rattle.std.specs.Prelude.{◌≡◌, ◌⊎◌, false, List, [], ◌∷◌, ◌++◌, Bool, Option, None, Some, Err, IfSome, IfNone};
 ghost use Rattle.std.specs.Prelude.{IfOk, IfErr, OnErr, IsTrue, MatchOption};
 ghost use Rattle.dali_script.specs.declared.orders.Input.TheVariants as input;
 ghost use Rattle.dali_script.specs.declared.orders.Order.{Order};
@@ -90,10 +90,10 @@ impl<P, K: Keep, G: Gate> Worker<P, K, G> {
         ensures known { Keeps pass result.3 }
         ensures posted { Posts K.is_up K.is_sound K.holds self.keep result.2 pass result.3 }
         ensures runs { (last : Option Order) × Runs K.is_up K.is_sound K.holds K.block
-            (facts_of B.acted B.refused B.untold B.unordered B.ordered B.is_down (B.is_stopped bus.now))
+            (facts_of B.acted B.refused B.told B.untold B.unordered B.ordered B.is_down (B.is_stopped bus.now) self.surveys)
             None last (B.share self.port) (B.share result.1) self.keep result.2 pass result.3 turns
             (Some result.0) }
-        ensures stopped { IsTrue (stops result.0) → B.is_stopped bus.now }
+        ensures stopped { IsTrue (stops result.0) → B.is_told_to_stop bus.now }
     {
         let Worker {
             port,
@@ -105,16 +105,14 @@ impl<P, K: Keep, G: Gate> Worker<P, K, G> {
             port,
             keep,
             gate,
-            surveys,
             last: None,
             kept: None,
         };
-        let outcome = shift.take_turns(rt, alloc, bus, directory, &mut pass, turns);
+        let outcome = shift.take_turns(rt, alloc, bus, directory, &mut pass, surveys, turns);
         let Shift {
             mut port,
             keep,
             gate,
-            surveys: _,
             last: _,
             kept,
         } = shift;
@@ -225,7 +223,6 @@ struct Shift<P, K, G> {
     port: P,
     keep: K,
     gate: G,
-    surveys: bool,
     last: Option<Order>,
     kept: Option<Record>,
 }
@@ -259,23 +256,27 @@ impl<P, K: Keep, G: Gate> Shift<P, K, G> {
     /// What its controller is given to act on: what the bus has told it, with Survey in place of Start where it begins
     /// by a survey; or what became of its commit, which is made now. None where nothing is due.
     #[tactic(auto, using(crate::proofs::Leaving::leaves_none))]
-    fn given<B: Bus<Port = P>, R: Wait>(&mut self, rt: &R, bus: &B) -> Option<Input>
+    fn given<B: Bus<Port = P>, R: Wait>(
+        &mut self,
+        rt: &R,
+        bus: &B,
+        surveys: bool,
+    ) -> Option<Input>
         ensures keep { Leaves K.is_up K.is_sound K.holds self.old.keep self.new.keep }
         ensures block { K.block self.new.keep ≡ K.block self.old.keep }
         ensures none { result ≡ None → (self.new.keep ≡ self.old.keep) × IsIdle
-            (facts_of B.acted B.refused B.untold B.unordered B.ordered B.is_down (B.is_stopped bus.now))
+            (facts_of B.acted B.refused B.told B.untold B.unordered B.ordered B.is_down (B.is_stopped bus.now) surveys)
             self.old.last (B.share self.old.port) }
         ensures gives { IfSome result (λ i. Gives K.is_up K.is_sound K.holds K.block
-            (facts_of B.acted B.refused B.untold B.unordered B.ordered B.is_down (B.is_stopped bus.now))
+            (facts_of B.acted B.refused B.told B.untold B.unordered B.ordered B.is_down (B.is_stopped bus.now) surveys)
             self.old.last (B.share self.old.port) self.old.keep self.new.keep i self.new.kept) }
         ensures stored { IfSome self.new.kept (Stores K.is_up K.is_sound K.holds K.block self.old.keep self.new.keep) }
         ensures port { B.share self.new.port ≡ B.share self.old.port }
         ensures last { self.new.last ≡ self.old.last }
-        ensures surveys { IsTrue self.old.surveys → IfSome result (λ i. i ≡ input.Start → ⊥) }
     {
         self.kept = None;
         if let Some(told) = bus.next(rt, &mut self.port) {
-            return Some(begun(told, self.surveys));
+            return Some(begun(told, surveys));
         }
         let added = bus.begin_commit(rt, &mut self.port)?;
         if !is_due(&self.last, &added) {
@@ -304,8 +305,8 @@ impl<P, K: Keep, G: Gate> Shift<P, K, G> {
         ensures port { Follows (B.share self.old.port) (B.share self.new.port) 1 }
         ensures pass { pass.new.places ≡ pass.old.places }
         ensures known { Keeps pass.old pass.new }
-        ensures tells { Tells
-            (facts_of B.acted B.refused B.untold B.unordered B.ordered B.is_down (B.is_stopped bus.now))
+        ensures tells { (surveys : Bool) → Tells
+            (facts_of B.acted B.refused B.told B.untold B.unordered B.ordered B.is_down (B.is_stopped bus.now) surveys)
             self.old.last self.new.last (B.share self.old.port) (B.share self.new.port) input pass.old pass.new
             self.old.kept result }
         ensures learned { IfSome self.old.kept (λ r. Learns pass.old pass.new (r ∷ [])) }
@@ -333,6 +334,7 @@ impl<P, K: Keep, G: Gate> Shift<P, K, G> {
         bus: &B,
         directory: &Directory,
         pass: &mut Pass,
+        surveys: bool,
     ) -> Option<Outcome>
         requires { pass.old.places ≡ directory.now }
         ensures keep { Leaves K.is_up K.is_sound K.holds self.old.keep self.new.keep }
@@ -341,12 +343,12 @@ impl<P, K: Keep, G: Gate> Shift<P, K, G> {
         ensures known { Keeps pass.old pass.new }
         ensures posted { Posts K.is_up K.is_sound K.holds self.old.keep self.new.keep pass.old pass.new }
         ensures runs { Runs K.is_up K.is_sound K.holds K.block
-            (facts_of B.acted B.refused B.untold B.unordered B.ordered B.is_down (B.is_stopped bus.now))
+            (facts_of B.acted B.refused B.told B.untold B.unordered B.ordered B.is_down (B.is_stopped bus.now) surveys)
             self.old.last self.new.last (B.share self.old.port) (B.share self.new.port)
             self.old.keep self.new.keep pass.old pass.new 1 result }
         ensures unspent { result ≡ Some TurnsSpent → ⊥ }
     {
-        let Some(input) = self.given(rt, bus) else {
+        let Some(input) = self.given(rt, bus, surveys) else {
             return None;
         };
         self.tell(rt, alloc, bus, directory, pass, input)
@@ -362,6 +364,7 @@ impl<P, K: Keep, G: Gate> Shift<P, K, G> {
         bus: &B,
         directory: &Directory,
         pass: &mut Pass,
+        surveys: bool,
     ) -> Option<Outcome>
         requires { pass.old.places ≡ directory.now }
         ensures keep { Leaves K.is_up K.is_sound K.holds self.old.keep self.new.keep }
@@ -370,7 +373,7 @@ impl<P, K: Keep, G: Gate> Shift<P, K, G> {
         ensures known { Keeps pass.old pass.new }
         ensures posted { Posts K.is_up K.is_sound K.holds self.old.keep self.new.keep pass.old pass.new }
         ensures runs { Runs K.is_up K.is_sound K.holds K.block
-            (facts_of B.acted B.refused B.untold B.unordered B.ordered B.is_down (B.is_stopped bus.now))
+            (facts_of B.acted B.refused B.told B.untold B.unordered B.ordered B.is_down (B.is_stopped bus.now) surveys)
             self.old.last self.new.last (B.share self.old.port) (B.share self.new.port)
             self.old.keep self.new.keep pass.old pass.new 1 result }
         ensures unspent { result ≡ Some TurnsSpent → ⊥ }
@@ -383,7 +386,7 @@ impl<P, K: Keep, G: Gate> Shift<P, K, G> {
                 Outcome::Down
             });
         }
-        let outcome = self.act(rt, alloc, bus, directory, pass);
+        let outcome = self.act(rt, alloc, bus, directory, pass, surveys);
         self.gate
             .at(rt, bus.controller(&self.port), Moment::AfterTurn);
         outcome
@@ -398,6 +401,7 @@ impl<P, K: Keep, G: Gate> Shift<P, K, G> {
         bus: &B,
         directory: &Directory,
         pass: &mut Pass,
+        surveys: bool,
         turns: u32,
     ) -> Outcome
         requires { pass.old.places ≡ directory.now }
@@ -407,12 +411,12 @@ impl<P, K: Keep, G: Gate> Shift<P, K, G> {
         ensures known { Keeps pass.old pass.new }
         ensures posted { Posts K.is_up K.is_sound K.holds self.old.keep self.new.keep pass.old pass.new }
         ensures runs { Runs K.is_up K.is_sound K.holds K.block
-            (facts_of B.acted B.refused B.untold B.unordered B.ordered B.is_down (B.is_stopped bus.now))
+            (facts_of B.acted B.refused B.told B.untold B.unordered B.ordered B.is_down (B.is_stopped bus.now) surveys)
             self.old.last self.new.last (B.share self.old.port) (B.share self.new.port)
             self.old.keep self.new.keep pass.old pass.new turns (Some result) }
     {
         for _ in 0..turns {
-            if let Some(end) = self.take_turn(rt, alloc, bus, directory, pass) {
+            if let Some(end) = self.take_turn(rt, alloc, bus, directory, pass, surveys) {
                 return end;
             }
         }

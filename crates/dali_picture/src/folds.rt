@@ -48,7 +48,13 @@ fn joins(held: Purpose, purpose: Purpose) -> bool {
     match held {
         Purpose::Probe => matches!(purpose, Purpose::Probe),
         Purpose::Hunt => matches!(purpose, Purpose::Hunt),
-        _ => false,
+        Purpose::Search
+        | Purpose::Visit
+        | Purpose::Program
+        | Purpose::Resolve
+        | Purpose::Opening
+        | Purpose::Close
+        | Purpose::Other => false,
     }
 }
 

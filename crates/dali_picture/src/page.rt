@@ -29,16 +29,19 @@ fn push_pictures(alloc: Global, text: &mut String, picture: &Picture) -> Result<
     text.push_str(SAY)
 }
 
-/// The whole page.
-pub fn push_page(alloc: Global, text: &mut String, picture: &Picture) -> Result<(), AllocError> {
+/// The page up to the gear and the tables at the end, as `show` reports them.
+pub fn push_upper(alloc: Global, text: &mut String, picture: &Picture) -> Result<(), AllocError> {
     text.push_str(HEAD)?;
     push_summary(text, picture)?;
     push_pictures(alloc, text, picture)?;
     push_gear_table(text, picture)?;
     text.push_str(
         "<details><summary>Gear and tables, as <code>show</code> reports them</summary>\n<pre>\n",
-    )?;
-    text.push_str(picture.played.end.as_str())?;
+    )
+}
+
+/// The page after them.
+pub fn push_lower(text: &mut String, picture: &Picture) -> Result<(), AllocError> {
     text.push_str("</pre></details>\n")?;
     push_script(text, picture)?;
     text.push_str(LEGEND)?;

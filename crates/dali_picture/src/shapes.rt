@@ -110,7 +110,17 @@ pub fn push_end_name(text: &mut String, event: Event, x: u64, y: u64) -> Result<
     let (before, name) = match event {
         Event::Acted(_, _, Order::Done(end)) => ("", end.name()),
         Event::Acted(_, _, Order::Halt(fault)) => ("halt ", fault.name()),
-        _ => return Ok(()),
+        Event::Acted(_, _, Order::Put(..) | Order::Commit(_))
+        | Event::Offered(..)
+        | Event::Sent(..)
+        | Event::Destroyed(..)
+        | Event::Collided(..)
+        | Event::Lapsed
+        | Event::Quiet
+        | Event::Power(..)
+        | Event::Expired(_)
+        | Event::Down(_)
+        | Event::Up(..) => return Ok(()),
     };
     write!(
         text,
@@ -132,7 +142,15 @@ pub fn push_struck_answer(
         (Incident::Lost, None) => ("lost idle", "answer lost"),
         (Incident::Lost, Some(_)) => ("lost", "answer lost"),
         (Incident::Noise, _) => ("noise", "answer damaged"),
-        _ => return Ok(()),
+        (
+            Incident::Destroyed
+            | Incident::Collided
+            | Incident::Lapsed
+            | Incident::PowerOff
+            | Incident::Expired
+            | Incident::Down,
+            _,
+        ) => return Ok(()),
     };
     let at = happened.at;
     write!(

@@ -28,11 +28,11 @@ use Rattle.dali_controller.specs.declared.purpose.Purpose.{Purpose}
 use Rattle.dali_controller.specs.declared.purpose.Purpose.TheVariants.{Opening, Probing, Visiting, Resolving, Closing, Asking, Waking, Hunting}
 use Rattle.dali_controller.specs.declared.shorts.Shorts.{Shorts}
 use Rattle.dali_controller.specs.Shorts.{has_short, with_short, without_short}
-use Rattle.dali_controller.specs.Machine.{Machine, machine_told, machine_heard, machine_committed, heard_after, marked_at}
+use Rattle.dali_controller.specs.Machine.{Machine, machine_told, machine_heard, machine_committed, heard_after, marked_at, is_withheld, is_withheld_by}
 use Rattle.dali_controller.specs.declared.way.Way.{Way}
 use Rattle.dali_controller.specs.declared.way.Way.TheVariants.{Fresh, Surveying, Drawing}
 use Rattle.dali_controller.specs.Course.{Course, first_of, number_at, address_for, is_open, open_among, least_open, is_another, is_anothers}
-use Rattle.dali_controller.specs.Next.{course_by, next_course, beginning, is_withheld, is_withheld_by}
+use Rattle.dali_controller.specs.Next.{course_by, next_course, beginning}
 use Rattle.dali_frame.specs.Priority.{FIRST, LATER}
 use Rattle.dali_special.specs.Command.{frame_of}
 use Rattle.dali_controller.proofs.Courses.{found_number}

@@ -73,7 +73,7 @@ pub fn frames_are_bounded()
 /// no request waiting; or a request is next on the bus. It never halts.
 ///
 /// So `SiteState::act` adds one more event of a round, or `SiteState::pump` does, where the log has room, the queue
-/// takes one request, and the numbers are there that gear draw.
+/// takes one request, the numbers are there that gear draw, and no order would reserve an address that used gear have.
 pub fn commissioning_goes_on()
     ensures { (s : SiteState) (c : ℕ) (es : List Event) → StartsAlone s c → Rounds s c es → GoesOn (site_after s es) c }
 {}

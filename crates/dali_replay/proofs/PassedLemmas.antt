@@ -1,14 +1,13 @@
 use Rattle.std.proofs.Common.{ℕ, List, [], Bool, true, false, ◌∙◌, Option, Some, None, Result, Ok, Err}
-use Rattle.std.specs.Prelude.{IfSome}
 use Rattle.std.specs.Io.KnownBytes.{Appends, Keeps}
 use Rattle.dali_events.specs.Plan.{Plan}
 use Rattle.dali_grammar.specs.declared.fault.ReplayFault.{ReplayFault}
 use Rattle.dali_grammar.specs.declared.fault.ReplayFault.TheVariants.{BadLine, BadPlan, Memory, Read, Write}
+use Rattle.dali_replay.specs.declared.form.Form.{Form}
 use Rattle.dali_replay.specs.Bench.{start}
 use Rattle.dali_replay.specs.Installation.{Installation, installation_of}
 use Rattle.dali_grammar.specs.Setting.{NumberedLines, End, Setting}
-use Rattle.dali_replay.specs.Replay.{Output, Plays, PlaysSite, PlaysSetting, Replays, Tells, HavePlayed, played, nothing}
-use Rattle.dali_grammar.specs.Setting.{setting_of}
+use Rattle.dali_replay.specs.Replay.{Output, Plays, PlaysSite, PlaysSetting, Replays, HavePlayed, played, nothing}
 
 -- WHAT A RUN SAYS stays true where the bytes that were written are passed on.
 
@@ -18,13 +17,7 @@ appends_kept (Some us) None c xs first kept = absurd first
 appends_kept (Some us) (Some vs) None xs first kept = absurd kept
 appends_kept (Some us) (Some vs) (Some ws) xs first kept = kept ∙ first
 
-keeps_kept : (a b c : Option (List ℕ)) → Keeps a b → Keeps b c → Keeps a c
-keeps_kept None b c first kept = tt
-keeps_kept (Some us) None c first kept = absurd first
-keeps_kept (Some us) (Some vs) None first kept = absurd kept
-keeps_kept (Some us) (Some vs) (Some ws) first kept = kept ∙ first
-
-module _ (a b c : Option (List ℕ)) (kept : Keeps b c) where
+module _ (form : Form) (a b c : Option (List ℕ)) (kept : Keeps b c) where
   plays_kept : (o : Output) (r : Result (Unit {0}) ReplayFault) → Plays o a b r → Plays o a c r
   plays_kept o (Ok x) h = (h.0, appends_kept a b c o.text h.1 kept)
   plays_kept o (Err (BadLine n)) h = (h.0, appends_kept a b c o.text h.1 kept)
@@ -33,10 +26,10 @@ module _ (a b c : Option (List ℕ)) (kept : Keeps b c) where
   plays_kept o (Err Read) h = h
   plays_kept o (Err Write) h = tt
 
-  played_kept : (n : Installation) (lines more : NumberedLines) (m : Installation) → HavePlayed n lines more m a b → HavePlayed n lines more m a c
+  played_kept : (n : Installation) (lines more : NumberedLines) (m : Installation) → HavePlayed form n lines more m a b → HavePlayed form n lines more m a c
   played_kept n lines more m h = record { front = h.front; text = h.text; split = h.split; chain = h.chain; wrote = appends_kept a b c h.text h.wrote kept }
 
-  site_kept : (n : Installation) (lines : NumberedLines) (r : Result (Unit {0}) ReplayFault) → PlaysSite n lines a b r → PlaysSite n lines a c r
+  site_kept : (n : Installation) (lines : NumberedLines) (r : Result (Unit {0}) ReplayFault) → PlaysSite form n lines a b r → PlaysSite form n lines a c r
   site_kept n lines (Ok x) h = (h.0, played_kept n lines [] h.0 h.1)
   site_kept n lines (Err (BadLine k)) h = (h.0, h.1, h.2, played_kept n lines h.1 h.0 h.3)
   site_kept n lines (Err (BadPlan e)) h = h
@@ -44,24 +37,11 @@ module _ (a b c : Option (List ℕ)) (kept : Keeps b c) where
   site_kept n lines (Err Read) h = h
   site_kept n lines (Err Write) h = tt
 
-  setting_kept : (is_bench : Bool) (p : Plan) (lines : NumberedLines) (r : Result (Unit {0}) ReplayFault) → PlaysSetting is_bench p lines a b r
-      → PlaysSetting is_bench p lines a c r
-  setting_kept true p lines r h = plays_kept (played (start p) lines) r h
+  setting_kept : (is_bench : Bool) (p : Plan) (lines : NumberedLines) (r : Result (Unit {0}) ReplayFault) → PlaysSetting form is_bench p lines a b r
+      → PlaysSetting form is_bench p lines a c r
+  setting_kept true p lines r h = plays_kept (played form (start p) lines) r h
   setting_kept false p lines r h = site_kept (installation_of p) lines r h
 
-  replays_kept : (s : Result (Setting × NumberedLines) End) (r : Result (Unit {0}) ReplayFault) → Replays s a b r → Replays s a c r
+  pub replays_kept : (s : Result (Setting × NumberedLines) End) (r : Result (Unit {0}) ReplayFault) → Replays form s a b r → Replays form s a c r
   replays_kept (Err end) r h = plays_kept (nothing end) r h
   replays_kept (Ok s) r h = setting_kept s.0.0 s.0.1 s.1 r h
-
-  tells_kept : (s : Result (Setting × NumberedLines) End) (r : Result (Unit {0}) ReplayFault) → Tells s a b r → Tells s a c r
-  tells_kept s (Ok x) h = replays_kept s (Ok x) h
-  tells_kept s (Err (BadLine n)) h = replays_kept s (Err (BadLine n)) h
-  tells_kept s (Err (BadPlan e)) h = replays_kept s (Err (BadPlan e)) h
-  tells_kept s (Err Memory) h = replays_kept s (Err Memory) h
-  tells_kept s (Err Read) h = keeps_kept a b c h kept
-  tells_kept s (Err Write) h = tt
-
-  pub tells_passed : (left : Option (List ℕ)) (r : Result (Unit {0}) ReplayFault) → IfSome left (λ input. Tells (setting_of input) a b r)
-      → IfSome left (λ input. Tells (setting_of input) a c r)
-  tells_passed None r h = tt
-  tells_passed (Some input) r h = tells_kept (setting_of input) r h

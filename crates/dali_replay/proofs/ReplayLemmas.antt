@@ -13,13 +13,13 @@ use Rattle.dali_grammar.specs.declared.bench_line.BenchLine.{BenchLine}
 use Rattle.dali_grammar.specs.Lines.{words_of}
 use Rattle.dali_grammar.specs.BenchLine.{bench_line_of}
 use Rattle.dali_grammar.specs.SiteLine.{site_line_of}
+use Rattle.dali_replay.specs.declared.form.Form.{Form}
 use Rattle.dali_replay.specs.Bench.{BenchState, start, after}
-use Rattle.dali_replay.specs.BenchReport.{report}
 use Rattle.dali_replay.specs.Installation.{Installation, installation_of}
 use Rattle.dali_grammar.specs.Setting.{NumberedLines, End, Setting, PlansNot}
 use Rattle.dali_replay.specs.Replay.{Output, Plays, PlaysSite, PlaysSetting, Replays, Tells, HavePlayed, IsBadAt}
 use Rattle.dali_grammar.specs.Setting.{setting_of}
-use Rattle.dali_replay.specs.Replay.{played}
+use Rattle.dali_replay.specs.Replay.{wrote, played}
 
 -- ---------------------------------------------------------------- texts
 
@@ -48,21 +48,22 @@ plays_more a b c text more (Err Read) first second = absurd second
 plays_more a b c text more (Err Write) first second = tt
 
 -- one line was played
-pub plays_line : (w : BenchState) (lines rest : NumberedLines) (n : ℕ) (line : List ℕ) (asked : BenchLine) (a b c : Option (List ℕ))
+pub plays_line : (form : Form) (w : BenchState) (lines rest : NumberedLines) (n : ℕ) (line : List ℕ) (asked : BenchLine) (a b c : Option (List ℕ))
     (r : Result (Unit {0}) ReplayFault)
-    → lines ≡ (n, line) ∷ rest → bench_line_of (words_of line) ≡ Some asked → Appends a b (report w asked)
-    → Plays (played (after w asked) rest) b c r → Plays (played w lines) a c r
-plays_line w lines rest n line asked a b c r next reads wrote more =
-    rw (next, reads) (plays_more a b c (report w asked) (played (after w asked) rest) r wrote more)
+    → lines ≡ (n, line) ∷ rest → bench_line_of (words_of line) ≡ Some asked → Appends a b (wrote form (n, line) w asked)
+    → Plays (played form (after w asked) rest) b c r → Plays (played form w lines) a c r
+plays_line form w lines rest n line asked a b c r next reads is more =
+    rw (next, reads) (plays_more a b c (wrote form (n, line) w asked) (played form (after w asked) rest) r is more)
 
 -- the next line is a bad line
-pub plays_bad_line : (w : BenchState) (lines rest : NumberedLines) (n : ℕ) (line : List ℕ) (a : Option (List ℕ))
-    → lines ≡ (n, line) ∷ rest → bench_line_of (words_of line) ≡ None → Plays {A = Unit {0}} (played w lines) a a (Err (BadLine n))
-plays_bad_line w lines rest n line a next reads = rw (next, reads) (refl, appends_none a)
+pub plays_bad_line : (form : Form) (w : BenchState) (lines rest : NumberedLines) (n : ℕ) (line : List ℕ) (a : Option (List ℕ))
+    → lines ≡ (n, line) ∷ rest → bench_line_of (words_of line) ≡ None → Plays {A = Unit {0}} (played form w lines) a a (Err (BadLine n))
+plays_bad_line form w lines rest n line a next reads = rw (next, reads) (refl, appends_none a)
 
 -- no line is left
-pub plays_done : (w : BenchState) (lines : NumberedLines) (a : Option (List ℕ)) → lines ≡ [] → Plays {A = Unit {0}} (played w lines) a a (Ok tt)
-plays_done w lines a done = rw done (refl, appends_none a)
+pub plays_done : (form : Form) (w : BenchState) (lines : NumberedLines) (a : Option (List ℕ)) → lines ≡ []
+    → Plays {A = Unit {0}} (played form w lines) a a (Ok tt)
+plays_done form w lines a done = rw done (refl, appends_none a)
 
 -- memory ran out before the next text
 pub plays_memory : (a : Option (List ℕ)) (o : Output) (r : Result (Unit {0}) ReplayFault) → r ≡ Err Memory → Plays o a a r
@@ -71,21 +72,19 @@ plays_memory a o r is = subst (λ (s : Result (Unit {0}) ReplayFault). Plays o a
 -- ---------------------------------------------------------------- sites
 
 -- nothing was played yet
-pub have_played_none : (n : Installation) (lines : NumberedLines) (a : Option (List ℕ)) → HavePlayed n lines lines n a a
-have_played_none n lines a = record { front = []; text = []; split = refl; chain = (refl, refl); wrote = appends_none a }
+pub have_played_none : (form : Form) (n : Installation) (lines : NumberedLines) (a : Option (List ℕ)) → HavePlayed form n lines lines n a a
+have_played_none form n lines a = record { front = []; text = []; split = refl; chain = (refl, refl); wrote = appends_none a }
 
-pub site_bad_line : (n u : Installation) (lines left rest : NumberedLines) (k : ℕ) (line : List ℕ) (a b : Option (List ℕ))
-    → HavePlayed n lines left u a b → left ≡ (k, line) ∷ rest → site_line_of (words_of line) ≡ None → PlaysSite {A = Unit {0}} n lines a b (Err (BadLine k))
-site_bad_line n u lines left rest k line a b before next reads =
-    (u, left, subst (λ (xs : NumberedLines). IsBadAt k xs) (sym next) (refl, reads), before)
+module _ (form : Form) (n u : Installation) (lines left : NumberedLines) (a b : Option (List ℕ)) (before : HavePlayed form n lines left u a b) where
+  pub site_bad_line : (rest : NumberedLines) (k : ℕ) (line : List ℕ) → left ≡ (k, line) ∷ rest → site_line_of (words_of line) ≡ None
+      → PlaysSite {A = Unit {0}} form n lines a b (Err (BadLine k))
+  site_bad_line rest k line next reads = (u, left, subst (λ (xs : NumberedLines). IsBadAt k xs) (sym next) (refl, reads), before)
 
-pub site_done : (n u : Installation) (lines left : NumberedLines) (a b : Option (List ℕ)) → HavePlayed n lines left u a b → left ≡ []
-    → PlaysSite {A = Unit {0}} n lines a b (Ok tt)
-site_done n u lines left a b before done = (u, subst (λ (xs : NumberedLines). HavePlayed n lines xs u a b) done before)
+  pub site_done : left ≡ [] → PlaysSite {A = Unit {0}} form n lines a b (Ok tt)
+  site_done done = (u, subst (λ (xs : NumberedLines). HavePlayed form n lines xs u a b) done before)
 
-pub site_memory : (n u : Installation) (lines left : NumberedLines) (a b : Option (List ℕ)) (r : Result (Unit {0}) ReplayFault)
-    → HavePlayed n lines left u a b → r ≡ Err Memory → PlaysSite n lines a b r
-site_memory n u lines left a b r before is = subst (λ (s : Result (Unit {0}) ReplayFault). PlaysSite n lines a b s) (sym is) (u, left, before)
+  pub site_memory : (r : Result (Unit {0}) ReplayFault) → r ≡ Err Memory → PlaysSite form n lines a b r
+  site_memory r is = subst (λ (s : Result (Unit {0}) ReplayFault). PlaysSite form n lines a b s) (sym is) (u, left, before)
 
 -- ---------------------------------------------------------------- whole inputs
 
@@ -121,48 +120,51 @@ used_refused p us plan_error.RandomTooLarge is not = is
 used_refused p us plan_error.RandomTwice is not = is
 
 -- memory ran out before the first text
-setting_memory : (B : Type 0) (a : Option (List ℕ)) (is_bench : Bool) (p : Plan) (lines : NumberedLines)
-    → PlaysSetting {A = B} is_bench p lines a a (Err Memory)
-setting_memory B a true p lines = ([], (played (start p) lines).text, refl, appends_none a)
-setting_memory B a false p lines = (installation_of p, lines, have_played_none (installation_of p) lines a)
+setting_memory : (B : Type 0) (form : Form) (a : Option (List ℕ)) (is_bench : Bool) (p : Plan) (lines : NumberedLines)
+    → PlaysSetting {A = B} form is_bench p lines a a (Err Memory)
+setting_memory B form a true p lines = ([], (played form (start p) lines).text, refl, appends_none a)
+setting_memory B form a false p lines = (installation_of p, lines, have_played_none form (installation_of p) lines a)
 
-pub replays_memory : (B : Type 0) (a : Option (List ℕ)) (s : Result (Setting × NumberedLines) End) → Replays {A = B} s a a (Err Memory)
-replays_memory B a (Err end) = ([], [], refl, appends_none a)
-replays_memory B a (Ok s) = setting_memory B a s.0.0 s.0.1 s.1
+pub replays_memory : (B : Type 0) (form : Form) (a : Option (List ℕ)) (s : Result (Setting × NumberedLines) End) → Replays {A = B} form s a a (Err Memory)
+replays_memory B form a (Err end) = ([], [], refl, appends_none a)
+replays_memory B form a (Ok s) = setting_memory B form a s.0.0 s.0.1 s.1
 
 -- a plan that is not made
-pub replays_no_plan : (B : Type 0) (a : Option (List ℕ)) (s : Result (Setting × NumberedLines) End) (e : ReplayFault) → PlansNot s e
-    → Replays {A = B} s a a (Err e)
-replays_no_plan B a s (BadLine n) not = rw not (refl, appends_none a)
-replays_no_plan B a s (BadPlan e) not = rw not (refl, appends_none a)
-replays_no_plan B a s Memory not = replays_memory B a s
-replays_no_plan B a s Read not = absurd not
-replays_no_plan B a s Write not = absurd not
+pub replays_no_plan : (B : Type 0) (form : Form) (a : Option (List ℕ)) (s : Result (Setting × NumberedLines) End) (e : ReplayFault) → PlansNot s e
+    → Replays {A = B} form s a a (Err e)
+replays_no_plan B form a s (BadLine n) not = rw not (refl, appends_none a)
+replays_no_plan B form a s (BadPlan e) not = rw not (refl, appends_none a)
+replays_no_plan B form a s Memory not = replays_memory B form a s
+replays_no_plan B form a s Read not = absurd not
+replays_no_plan B form a s Write not = absurd not
 
 -- memory was wanting
-pub replays_want : (a : Option (List ℕ)) (s : Result (Setting × NumberedLines) End) (r : Result (Unit {0}) ReplayFault) → r ≡ Err Memory → Replays s a a r
-replays_want a s r is = subst (λ (x : Result (Unit {0}) ReplayFault). Replays s a a x) (sym is) (replays_memory (Unit {0}) a s)
+pub replays_want : (form : Form) (a : Option (List ℕ)) (s : Result (Setting × NumberedLines) End) (r : Result (Unit {0}) ReplayFault) → r ≡ Err Memory
+    → Replays form s a a r
+replays_want form a s r is = subst (λ (x : Result (Unit {0}) ReplayFault). Replays form s a a x) (sym is) (replays_memory (Unit {0}) form a s)
 
 -- what a run over the bytes says is what the whole run says
-replays_never_read : (s : Result (Setting × NumberedLines) End) (old new : Option (List ℕ)) → Replays {A = Unit {0}} s old new (Err Read) → ⊥
-replays_never_read (Err end) old new h = h
-replays_never_read (Ok s) old new h = go s.0.0 h where
-  go : (is_bench : Bool) → PlaysSetting {A = Unit {0}} is_bench s.0.1 s.1 old new (Err Read) → ⊥
+replays_never_read : (form : Form) (s : Result (Setting × NumberedLines) End) (old new : Option (List ℕ))
+    → Replays {A = Unit {0}} form s old new (Err Read) → ⊥
+replays_never_read form (Err end) old new h = h
+replays_never_read form (Ok s) old new h = go s.0.0 h where
+  go : (is_bench : Bool) → PlaysSetting {A = Unit {0}} form is_bench s.0.1 s.1 old new (Err Read) → ⊥
   go true h' = h'
   go false h' = h'
 
-pub never_read : (s : Result (Setting × NumberedLines) End) (old new : Option (List ℕ)) (r : Result (Unit {0}) ReplayFault) → Replays s old new r
-    → IsErrOf r Read → ⊥
-never_read s old new r h is = replays_never_read s old new (subst (λ (x : Result (Unit {0}) ReplayFault). Replays s old new x) is h)
+pub never_read : (form : Form) (s : Result (Setting × NumberedLines) End) (old new : Option (List ℕ)) (r : Result (Unit {0}) ReplayFault)
+    → Replays form s old new r → IsErrOf r Read → ⊥
+never_read form s old new r h is =
+    replays_never_read form s old new (subst (λ (x : Result (Unit {0}) ReplayFault). Replays form s old new x) is h)
 
-pub tells_of_replays : (s : Result (Setting × NumberedLines) End) (old new : Option (List ℕ)) (r : Result (Unit {0}) ReplayFault) → Replays s old new r
-    → Tells s old new r
-tells_of_replays s old new (Ok x) h = h
-tells_of_replays s old new (Err (BadLine n)) h = h
-tells_of_replays s old new (Err (BadPlan e)) h = h
-tells_of_replays s old new (Err Memory) h = h
-tells_of_replays s old new (Err Read) h = absurd (replays_never_read s old new h)
-tells_of_replays s old new (Err Write) h = tt
+pub tells_of_replays : (form : Form) (s : Result (Setting × NumberedLines) End) (old new : Option (List ℕ)) (r : Result (Unit {0}) ReplayFault)
+    → Replays form s old new r → Tells form s old new r
+tells_of_replays form s old new (Ok x) h = h
+tells_of_replays form s old new (Err (BadLine n)) h = h
+tells_of_replays form s old new (Err (BadPlan e)) h = h
+tells_of_replays form s old new (Err Memory) h = h
+tells_of_replays form s old new (Err Read) h = absurd (replays_never_read form s old new h)
+tells_of_replays form s old new (Err Write) h = tt
 
 -- what is told of the bytes that were read is told of the bytes that the reader tells
 pub tells_some : (left : Option (List ℕ)) (input : List ℕ) (Is : List ℕ → Type 0) → IfSome left (λ bytes. bytes ≡ input) → Is input → IfSome left Is
@@ -174,11 +176,12 @@ keeps_same : (a : Option (List ℕ)) → Keeps a a
 keeps_same None = tt
 keeps_same (Some xs) = refl
 
-tells_fault : (a : Option (List ℕ)) (input : List ℕ) (e : ReplayFault) → (e ≡ Memory) ⊎ (e ≡ Read) → Tells {A = Unit {0}} (setting_of input) a a (Err e)
-tells_fault a input e (inl is) = rw is (replays_memory (Unit {0}) a (setting_of input))
-tells_fault a input e (inr is) = rw is (keeps_same a)
+pub tells_fault : (form : Form) (a : Option (List ℕ)) (input : List ℕ) (e : ReplayFault) → (e ≡ Memory) ⊎ (e ≡ Read)
+    → Tells {A = Unit {0}} form (setting_of input) a a (Err e)
+tells_fault form a input e (inl is) = rw is (replays_memory (Unit {0}) form a (setting_of input))
+tells_fault form a input e (inr is) = rw is (keeps_same a)
 
-pub tells_unread : (left a : Option (List ℕ)) (e : ReplayFault) (r : Result (Unit {0}) ReplayFault) → r ≡ Err e → (e ≡ Memory) ⊎ (e ≡ Read)
-    → IfSome left (λ input. Tells (setting_of input) a a r)
-tells_unread None a e r is fault = tt
-tells_unread (Some input) a e r is fault = rw is (tells_fault a input e fault)
+pub tells_unread : (form : Form) (left a : Option (List ℕ)) (e : ReplayFault) (r : Result (Unit {0}) ReplayFault) → r ≡ Err e
+    → (e ≡ Memory) ⊎ (e ≡ Read) → IfSome left (λ input. Tells form (setting_of input) a a r)
+tells_unread form None a e r is fault = tt
+tells_unread form (Some input) a e r is fault = rw is (tells_fault form a input e fault)

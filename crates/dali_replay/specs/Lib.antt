@@ -1,10 +1,12 @@
 pub mod Bench
 pub mod Installation
+pub mod Json
 pub mod Text
 pub mod BenchReport
 pub mod Calls
 pub mod Rounds
 pub mod SiteReport
+pub mod Streams
 pub mod Replay
 pub mod Player
 pub mod Played

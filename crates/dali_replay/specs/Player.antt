@@ -6,6 +6,7 @@ use Rattle.dali_grammar.specs.declared.site_line.SiteLine.{SiteLine}
 use Rattle.dali_grammar.specs.declared.fault.ReplayFault.{ReplayFault}
 use Rattle.dali_grammar.specs.declared.fault.ReplayFault.TheVariants.{BadLine, BadPlan, Memory}
 use Rattle.dali_grammar.specs.declared.fault.ReplayFault.TheVariants.{Read, Write}
+use Rattle.dali_replay.specs.declared.form.Form.{Form}
 use Rattle.dali_replay.specs.declared.player.Player.{Player}
 use Rattle.dali_replay.specs.declared.player.Player.TheVariants as player
 use Rattle.dali_grammar.specs.Lines.{words_of}
@@ -50,7 +51,7 @@ Takes s n line old t new (Err Read) = ⊥
 Takes s n line old t new (Err Write) = ⊥
 
 -- WHAT AN ANSWER SAYS of all lines that are left, and of the writer's bytes before and after.
-abbrev pub PlaysOn : {A : Type 0} → Player → NumberedLines → Option (List ℕ) → Option (List ℕ)
-    → Result A ReplayFault → Type 0
-PlaysOn (player.Bench w) lines old new r = Plays (played w lines) old new r
-PlaysOn (player.Site n) lines old new r = PlaysSite n lines old new r
+abbrev pub PlaysOn : {A : Type 0} → Form → Player → NumberedLines → Option (List ℕ)
+    → Option (List ℕ) → Result A ReplayFault → Type 0
+PlaysOn form (player.Bench w) lines old new r = Plays (played form w lines) old new r
+PlaysOn form (player.Site n) lines old new r = PlaysSite form n lines old new r

@@ -1,79 +1,120 @@
 //! The state of all gear and the tables as JSON: what `show` writes for other programs.
+#![tactic(auto, using(std::proofs::lemmas::List::append_assoc))]
 
-ghost use Rattle.std.specs.Prelude.{◌+◌, ◌≤◌, length};
+ghost use Rattle.std.specs.Prelude.{◌≡◌, ◌++◌, OnOk, length, string_bytes};
+ghost use Rattle.dali_world.specs.Site.{world};
+ghost use Rattle.dali_replay.specs.Json.{comma, json_short, json_condition, json_addresses, json_gear, json_row};
+ghost use Rattle.dali_replay.specs.Json.{json_gear_before, json_entry, json_entries, json_table, json_tables};
+ghost use Rattle.dali_replay.specs.Json.{json_state, json_line};
 
 use crate::installation::Installation;
 use crate::player::Player;
 use crate::text::{power_name, state_name};
+use dali_frame::Short;
 use dali_gear::{Gear, Row};
-use dali_grammar::{ReplayFault, Script, plan};
 use dali_script::Pair;
 use dali_world::SiteState;
-use std::alloc::{AllocError, Global};
-use std::io::Write;
+use std::alloc::AllocError;
 
 /// A comma, but before the first item.
-pub fn push_comma(text: &mut String, number: usize) -> Result<(), AllocError> {
+pub fn push_comma(text: &mut String, number: usize) -> Result<(), AllocError>
+    ensures { OnOk result (string_bytes text.new ≡ string_bytes text.old ++ comma number) }
+{
     if number == 0 {
         return Ok(());
     }
     text.push_str(",")
 }
 
-/// The state of one gear, behind a comma if it is not the first.
-fn push_gear(text: &mut String, number: usize, gear: &Gear) -> Result<(), AllocError> {
-    let power = power_name(gear.is_powered());
-    let state = state_name(gear.state());
-    let random = gear.random();
-    let search = gear.search().value();
-    push_comma(text, number)?;
-    text.push_str("{\"gear\":")?;
-    write!(text, "{number},\"power\":\"{power}\",\"state\":\"{state}\"")?;
-    write!(
-        text,
-        ",\"random\":\"{random}\",\"search\":\"{search}\",\"short\":"
-    )?;
-    match gear.short() {
-        None => text.push_str("null}"),
+fn push_short(text: &mut String, short: Option<Short>) -> Result<(), AllocError>
+    ensures { OnOk result (string_bytes text.new ≡ string_bytes text.old ++ json_short short) }
+{
+    match short {
+        None => text.push_str("null"),
         Some(short) => {
-            let short = short.number();
-            write!(text, "{short}")?;
-            text.push_str("}")
+            let number = short.number();
+            write!(text, "{number}")
         }
     }
 }
 
+fn push_condition(text: &mut String, number: usize, gear: &Gear) -> Result<(), AllocError>
+    ensures { OnOk result (string_bytes text.new ≡ string_bytes text.old ++ json_condition number gear.now) }
+{
+    let power = power_name(gear.is_powered());
+    let state = state_name(gear.state());
+    text.push_str("{\"gear\":")?;
+    write!(text, "{number},\"power\":\"{power}\",\"state\":\"{state}\"")
+}
+
+fn push_addresses(text: &mut String, gear: &Gear) -> Result<(), AllocError>
+    ensures { OnOk result (string_bytes text.new ≡ string_bytes text.old ++ json_addresses gear.now) }
+{
+    let random = gear.random();
+    let search = gear.search().value();
+    write!(text, ",\"random\":\"{random}\",\"search\":\"{search}\",\"short\":")?;
+    push_short(text, gear.short())?;
+    text.push_str("}")
+}
+
+/// The state of one gear, behind a comma if it is not the first.
+fn push_gear(text: &mut String, number: usize, gear: &Gear) -> Result<(), AllocError>
+    ensures { OnOk result (string_bytes text.new ≡ string_bytes text.old ++ json_gear number gear.now) }
+{
+    push_comma(text, number)?;
+    push_condition(text, number, gear)?;
+    push_addresses(text, gear)
+}
+
 /// The states of a row of gear.
-fn push_row(text: &mut String, row: &Row) -> Result<(), AllocError> {
+fn push_row(text: &mut String, row: &Row) -> Result<(), AllocError>
+    ensures { OnOk result (string_bytes text.new ≡ string_bytes text.old ++ json_row 0 row.now) }
+{
     for number in 0..row.len() {
-        push_gear(text, number, &row.gear(number))?;
+        let gear = row.gear(number);
+        push_gear(text, number, &gear)?;
     }
     Ok(())
 }
 
 /// The states of all gear of a site, in order of their numbers, with commas between them.
-pub fn push_json_gear(text: &mut String, site: &SiteState) -> Result<(), AllocError> {
+pub fn push_json_gear(text: &mut String, site: &SiteState) -> Result<(), AllocError>
+    ensures { OnOk result (string_bytes text.new ≡ string_bytes text.old
+        ++ json_gear_before (world site.now) site.now.plan.gear) }
+{
     for number in 0..site.plan().gear() {
-        push_gear(text, number as usize, &site.gear(number))?;
+        let gear = site.gear(number);
+        push_gear(text, number as usize, &gear)?;
     }
     Ok(())
 }
 
+/// An entry of a table, behind a comma if it is not the first.
+fn push_entry(text: &mut String, number: usize, entry: Pair) -> Result<(), AllocError>
+    ensures { OnOk result (string_bytes text.new ≡ string_bytes text.old ++ json_entry number entry) }
+{
+    let short = entry.address();
+    let random = entry.random();
+    push_comma(text, number)?;
+    text.push_str("{\"short\":")?;
+    write!(text, "{short},\"random\":\"{random}\"")?;
+    text.push_str("}")
+}
+
 /// The entries of a table, with commas between them.
-fn push_entries(text: &mut String, entries: &[Pair]) -> Result<(), AllocError> {
+fn push_entries(text: &mut String, entries: &[Pair]) -> Result<(), AllocError>
+    ensures { OnOk result (string_bytes text.new ≡ string_bytes text.old ++ json_entries 0 entries.now) }
+{
     for number in 0..entries.len() {
-        let short = entries[number].address();
-        let random = entries[number].random();
-        push_comma(text, number)?;
-        text.push_str("{\"short\":")?;
-        write!(text, "{short},\"random\":\"{random}\"")?;
-        text.push_str("}")?;
+        push_entry(text, number, entries[number])?;
     }
     Ok(())
 }
 
 /// A controller's table.
-pub fn push_json_table(text: &mut String, c: u8, entries: &[Pair]) -> Result<(), AllocError> {
+pub fn push_json_table(text: &mut String, c: u8, entries: &[Pair]) -> Result<(), AllocError>
+    ensures { OnOk result (string_bytes text.new ≡ string_bytes text.old ++ json_table c entries.now) }
+{
     text.push_str("{\"controller\":")?;
     write!(text, "{c},\"entries\":[")?;
     push_entries(text, entries)?;
@@ -81,7 +122,10 @@ pub fn push_json_table(text: &mut String, c: u8, entries: &[Pair]) -> Result<(),
 }
 
 /// The tables of all controllers, in order of their numbers, with commas between them.
-fn push_tables(text: &mut String, installation: &Installation) -> Result<(), AllocError> {
+fn push_tables(text: &mut String, installation: &Installation) -> Result<(), AllocError>
+    ensures { OnOk result (string_bytes text.new ≡ string_bytes text.old
+        ++ json_tables (world installation.now.site) (length installation.now.site.plan.blocks)) }
+{
     for c in 0..installation.controllers() {
         push_comma(text, c as usize)?;
         push_json_table(text, c, installation.enrolled(c))?;
@@ -90,7 +134,9 @@ fn push_tables(text: &mut String, installation: &Installation) -> Result<(), All
 }
 
 /// The gear and the tables. A bench has no tables.
-fn push_state(text: &mut String, player: &Player) -> Result<(), AllocError> {
+fn push_state(text: &mut String, player: &Player) -> Result<(), AllocError>
+    ensures { OnOk result (string_bytes text.new ≡ string_bytes text.old ++ json_state player.now) }
+{
     match player {
         Player::Bench(bench) => {
             push_row(text, bench.gear())?;
@@ -105,47 +151,11 @@ fn push_state(text: &mut String, player: &Player) -> Result<(), AllocError> {
 }
 
 /// What a `show` shows, as one line: the number of the line in the script, the gear and the tables.
-fn push_shown(text: &mut String, number: u32, player: &Player) -> Result<(), AllocError> {
+pub fn push_shown(text: &mut String, number: u32, player: &Player) -> Result<(), AllocError>
+    ensures { OnOk result (string_bytes text.new ≡ string_bytes text.old ++ json_line number player.now) }
+{
     text.push_str("{\"line\":")?;
     write!(text, "{number},\"gear\":[")?;
     push_state(text, player)?;
     text.push_str("]}\n")
-}
-
-/// Plays the lines that are left, and writes what those show that are `show`.
-fn show_all<W: Write>(
-    alloc: Global,
-    player: &mut Player,
-    script: &mut Script,
-    writer: &mut W,
-) -> Result<(), ReplayFault>
-    requires { script.old.read + length script.old.rest.now ≤ 1048576 }
-{
-    let mut text = String::new(alloc);
-    while let Some(line) = script.next() {
-        let number = script.number();
-        text.clear();
-        player.play(number, line, &mut text)?;
-        text.clear();
-        if line == b"show".as_slice() {
-            push_shown(&mut text, number, player)?;
-        }
-        match writer.write_all(text.as_bytes()) {
-            Ok(()) => {}
-            Err(_) => return Err(ReplayFault::Write),
-        }
-    }
-    Ok(())
-}
-
-/// Plays a whole input, and writes what each of its lines `show` shows as one line of JSON, and no other report.
-///
-/// The faults are those of `run_replay`.
-pub fn show_json<W: Write>(alloc: Global, input: &[u8], writer: &mut W) -> Result<(), ReplayFault>
-    requires { length input.now ≤ 1048576 }
-{
-    let mut script = Script::new(input);
-    let (is_bench, plan) = plan(alloc, &mut script)?;
-    let mut player = Player::new(alloc, is_bench, plan)?;
-    show_all(alloc, &mut player, &mut script, writer)
 }

@@ -4,6 +4,7 @@
 
 mod bench;
 mod bench_report;
+mod form;
 mod installation;
 mod json;
 mod played;
@@ -18,9 +19,10 @@ pub use dali_grammar::{
     Excerpt, Explained, Hint, INPUT_LIMIT, Mistake, Place, Quote, Reason, ReplayFault, SiteLine,
     block_of, plan_limit, reason_of, site_line_of,
 };
-pub use json::{push_comma, push_json_gear, push_json_table, show_json};
+pub use form::Form;
+pub use json::{push_comma, push_json_gear, push_json_table};
 pub use played::{Played, PlayedLine};
 pub use replay::{read_input, run_replay};
 pub use site_report::push_gear_lines;
-pub use streams::{Form, replay_streams, replay_through};
+pub use streams::{replay_streams, replay_through};
 pub use text::push_table;

@@ -6,7 +6,9 @@ ghost use Rattle.dali_grammar.specs.Lines.{numbered_after};
 ghost use Rattle.dali_replay.specs.Player.{PlaysOn};
 ghost use Rattle.dali_grammar.specs.Setting.{setting_of};
 ghost use Rattle.dali_replay.specs.Replay.{Replays, Tells};
+ghost use Rattle.dali_replay.specs.declared.form.Form.TheVariants as form;
 
+use crate::form::{Form, put_in_form};
 use crate::player::Player;
 use dali_grammar::{INPUT_LIMIT, ReplayFault, Script, plan};
 use std::alloc::Global;
@@ -33,22 +35,24 @@ pub fn read_input<R: Read>(alloc: Global, reader: &mut R) -> Result<Vec<u8>, Rep
     Err(ReplayFault::Read)
 }
 
-/// Plays the lines that are left. Each report is written before the next line is taken.
+/// Plays the lines that are left. What is to be written of each is written before the next line is taken.
 fn play<W: Write>(
     alloc: Global,
+    form: Form,
     player: &mut Player,
     script: &mut Script,
     writer: &mut W,
 ) -> Result<(), ReplayFault>
     requires { script.old.read + length script.old.rest.now ≤ 1048576 }
-    ensures { PlaysOn player.old (numbered_after script.old.read script.old.rest.now) (W.contents writer.old)
+    ensures { PlaysOn form player.old (numbered_after script.old.read script.old.rest.now) (W.contents writer.old)
         (W.contents writer.new) result }
 {
-    let mut report = String::new(alloc);
+    let mut text = String::new(alloc);
     while let Some(line) = script.next() {
-        report.clear();
-        player.play(script.number(), line, &mut report)?;
-        match writer.write_all(report.as_bytes()) {
+        text.clear();
+        player.play(script.number(), line, &mut text)?;
+        put_in_form(&mut text, form, script.number(), line, player)?;
+        match writer.write_all(text.as_bytes()) {
             Ok(()) => {}
             Err(_) => return Err(ReplayFault::Write),
         }
@@ -59,16 +63,17 @@ fn play<W: Write>(
 /// Plays a whole input.
 pub(crate) fn replay<W: Write>(
     alloc: Global,
+    form: Form,
     input: &[u8],
     writer: &mut W,
 ) -> Result<(), ReplayFault>
     requires { length input.now ≤ 1048576 }
-    ensures { Replays (setting_of input.now) (W.contents writer.old) (W.contents writer.new) result }
+    ensures { Replays form (setting_of input.now) (W.contents writer.old) (W.contents writer.new) result }
 {
     let mut script = Script::new(input);
     let (is_bench, plan) = plan(alloc, &mut script)?;
     let mut player = Player::new(alloc, is_bench, plan)?;
-    play(alloc, &mut player, &mut script, writer)
+    play(alloc, form, &mut player, &mut script, writer)
 }
 
 /// Reads a script of a bench or a site, and writes the reports of its lines.
@@ -83,13 +88,13 @@ pub fn run_replay<R: Read, W: Write>(
     writer: &mut W,
 ) -> Result<(), ReplayFault>
     // Of a reader that does not tell its bytes, some input is told.
-    ensures some { (input : List ℕ) × Tells (setting_of input) (W.contents writer.old) (W.contents writer.new) result }
+    ensures some { (input : List ℕ) × Tells form.Text (setting_of input) (W.contents writer.old) (W.contents writer.new) result }
     ensures unread { IsErrOf result ReplayFault.Read → writer.new ≡ writer.old }
     ensures told { IfSome (R.remaining reader.old)
-        (λ input. Tells (setting_of input) (W.contents writer.old) (W.contents writer.new) result) }
+        (λ input. Tells form.Text (setting_of input) (W.contents writer.old) (W.contents writer.new) result) }
     ensures long { IfSome (R.remaining reader.old) (λ input. 1048576 < length input
         → IsErrAnd result (λ e. (e ≡ ReplayFault.Memory) ⊎ (e ≡ ReplayFault.Read))) }
 {
     let input = read_input(alloc, reader)?;
-    replay(alloc, &input, writer)
+    replay(alloc, Form::Text, &input, writer)
 }

@@ -1,60 +1,63 @@
-//! A run over standard input and output.
+//! A run over a reader and a writer behind a buffer, and over standard input and output.
 
-ghost use Rattle.std.specs.Prelude.{◌≡◌, [], OnOk, IfSome};
+ghost use Rattle.std.specs.Prelude.{◌≡◌, ◌≤◌, [], OnOk, IfSome, length};
 ghost use Rattle.std.specs.Io.Buffered.{writer_buffer, writer_contents};
 ghost use Rattle.dali_grammar.specs.Setting.{setting_of};
-ghost use Rattle.dali_replay.specs.Replay.{Tells};
+ghost use Rattle.dali_replay.specs.Replay.{Replays};
+ghost use Rattle.dali_replay.specs.Streams.{Explains};
 
-use crate::json::show_json;
-use crate::replay::{read_input, replay, run_replay};
+use crate::form::Form;
+use crate::replay::{read_input, replay};
 use dali_grammar::{Explained, ReplayFault};
 use std::alloc::Global;
 use std::io;
 use std::io::{BufWriter, Read, Write};
 
-/// As `run_replay`, and what was reported is passed on, before a fault too: after `Ok` nothing is left in the buffer.
-/// `Write` also where it cannot be passed on.
-pub fn replay_through<R: Read, W: Write + Drop>(
+/// Plays a whole input, and passes on what was written, before a fault too.
+fn replay_and_pass_on<W: Write + Drop>(
     alloc: Global,
-    reader: &mut R,
+    form: Form,
+    input: &[u8],
     writer: &mut BufWriter<W>,
 ) -> Result<(), ReplayFault>
-    ensures told { IfSome (R.remaining reader.old) (λ input. Tells (setting_of input)
-        (writer_contents W.contents writer.old) (writer_contents W.contents writer.new) result) }
+    requires { length input.now ≤ 1048576 }
+    ensures told { Replays form (setting_of input.now)
+        (writer_contents W.contents writer.old) (writer_contents W.contents writer.new) result }
     ensures passed { OnOk result (writer_buffer writer.new ≡ []) }
 {
-    let played = run_replay(alloc, reader, writer);
+    let played = replay(alloc, form, input, writer);
     match writer.flush() {
         Ok(()) => played,
         Err(_) => Err(ReplayFault::Write),
     }
 }
 
-/// What is written of a script.
-#[derive(Clone, Copy, PartialEq, Eq)]
-pub enum Form {
-    /// The report of each line.
-    Text,
-    /// What each `show` shows, as one line of JSON.
-    Json,
-}
-
-/// Plays standard input to standard output. A fault comes with its reason, for which the input is kept to the end.
-pub fn replay_streams<R: Input + Print + AllocGlobal>(rt: &R, form: Form) -> Result<(), Explained> {
-    let alloc = rt.alloc();
-    let input = read_input(alloc, &mut rt.reader())?;
-    let Ok(mut writer) = BufWriter::new(alloc, io::writer(rt)) else {
-        return Err(Explained::from(ReplayFault::Memory));
-    };
-    let mut played = match form {
-        Form::Text => replay(alloc, &input, &mut writer),
-        Form::Json => show_json(alloc, &input, &mut writer),
-    };
-    if writer.flush().is_err() {
-        played = Err(ReplayFault::Write);
-    }
-    match played {
+/// Reads a script, plays it, and writes what is to be written of its lines in this form, as `run_replay` does their
+/// reports. It is passed on, before a fault too: after `Ok` nothing is left in the buffer. A fault comes with its reason.
+///
+/// The faults are those of `run_replay`; `Write` also where what was written cannot be passed on.
+pub fn replay_through<R: Read, W: Write + Drop>(
+    alloc: Global,
+    form: Form,
+    reader: &mut R,
+    writer: &mut BufWriter<W>,
+) -> Result<(), Explained>
+    ensures told { IfSome (R.remaining reader.old) (λ input. Explains form input
+        (writer_contents W.contents writer.old) (writer_contents W.contents writer.new) result) }
+    ensures passed { OnOk result (writer_buffer writer.new ≡ []) }
+{
+    let input = read_input(alloc, reader)?;
+    match replay_and_pass_on(alloc, form, &input, writer) {
         Ok(()) => Ok(()),
         Err(fault) => Err(Explained::of(alloc, &input, fault)),
+    }
+}
+
+/// Plays standard input to standard output, by `replay_through`.
+pub fn replay_streams<R: Input + Print + AllocGlobal>(rt: &R, form: Form) -> Result<(), Explained> {
+    let alloc = rt.alloc();
+    match BufWriter::new(alloc, io::writer(rt)) {
+        Ok(mut writer) => replay_through(alloc, form, &mut rt.reader(), &mut writer),
+        Err(_) => Err(Explained::from(ReplayFault::Memory)),
     }
 }

@@ -15,8 +15,7 @@ use Rattle.dali_script.specs.declared.orders.Order.TheVariants.{Put, Commit, Don
 use Rattle.dali_controller.specs.declared.way.Way.{Way}
 use Rattle.dali_controller.specs.declared.way.Way.TheVariants.{Fresh, Surveying, Drawing}
 use Rattle.dali_controller.specs.Course.{Course, address_for, least_open}
-use Rattle.dali_controller.specs.Next.{is_withheld}
-use Rattle.dali_controller.specs.Machine.{Machine, machine_told}
+use Rattle.dali_controller.specs.Machine.{Machine, machine_told, is_withheld}
 use Rattle.dali_controller.specs.Orders.{AfterMask, AfterReserved, AfterMaskBy, AfterMaskSurveyed, AfterMaskOn, IsOrdered, IsAnswered}
 use Rattle.dali_events.specs.declared.event.Event.TheVariants as event
 use Rattle.dali_events.specs.declared.used.Used.{Used}

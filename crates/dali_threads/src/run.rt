@@ -45,7 +45,7 @@ fn works<B: Bus, R: Wait>(
     turns: u32,
     surveys: bool,
 ) -> (Outcome, B::Port)
-    ensures stopped { IsTrue (stops result.0) → B.is_stopped bus.now }
+    ensures stopped { IsTrue (stops result.0) → B.is_told_to_stop bus.now }
 {
     match (SqliteKeep::in_memory(alloc, block), directory.pass(alloc)) {
         (Ok(keep), Ok(pass)) => {
@@ -91,7 +91,7 @@ where
     B::Port: Send + Drop,
     B::Driver: Send + Drop,
     R: Threads + Wait + Sync,
-    ensures stopped { OnErr result (B.is_stopped bus.now) }
+    ensures stopped { OnErr result (B.is_told_to_stop bus.now) }
 {
     let Ok(directory) = Directory::new(alloc) else {
         bus.stop(rt);
@@ -102,7 +102,7 @@ where
         thread::scope_env(),
         rt,
         move |scope| -> Result<Left<B::Port, B::Driver>, AllocError>
-            ensures { OnErr result (B.is_stopped bus.entry.now) }
+            ensures { OnErr result (B.is_told_to_stop bus.entry.now) }
         {
             let mut workers = Vec::new(alloc);
             let mut refused = false;

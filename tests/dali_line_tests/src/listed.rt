@@ -65,6 +65,8 @@ impl<B: Bus> Bus for ListedBus<'_, B> {
 
     ghost refused = { B.refused };
 
+    ghost told = { B.told };
+
     ghost untold = { B.untold };
 
     ghost ordered = { B.ordered };
@@ -77,9 +79,13 @@ impl<B: Bus> Bus for ListedBus<'_, B> {
 
     ghost lapsed = { B.lapsed };
 
+    ghost is_stuck = { B.is_stuck };
+
     ghost is_over = { B.is_over };
 
     ghost is_stopped = { λ it. B.is_stopped it.bus.now };
+
+    ghost is_told_to_stop = { λ it. B.is_told_to_stop it.bus.now };
 
     fn controller(&self, port: &Listed<B::Port>) -> u8 {
         self.bus.controller(&port.inner)

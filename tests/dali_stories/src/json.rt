@@ -1,6 +1,8 @@
-//! What `replay --json` writes: a line for each `show`, and nothing for all other lines.
+//! What `replay --json` writes: a line for each `show`, and nothing for all other lines. A fault comes with its reason.
 
-use dali_replay::{INPUT_LIMIT, ReplayFault, show_json};
+use dali_replay::{Explained, Form, ReplayFault, replay_through};
+use dali_world::PlanError;
+use std::io::BufWriter;
 use std::process::Abort;
 use std::test::Fail;
 
@@ -37,16 +39,27 @@ const BAD: Shown = (
      ],\"tables\":[]}\n",
 );
 
-fn shows<R: Abort + AllocGlobal>(
+/// The fault of a run, and whether its reason is told.
+fn fault_of(ended: Result<(), Explained>) -> Result<(), (ReplayFault, bool)> {
+    match ended {
+        Ok(()) => Ok(()),
+        Err(explained) => Err((explained.fault, matches!(explained.reason, Ok(Some(_))))),
+    }
+}
+
+fn writes<R: Abort + AllocGlobal>(
     rt: &R,
+    form: Form,
     shown: Shown,
-    end: Result<(), ReplayFault>,
+    end: Result<(), (ReplayFault, bool)>,
 ) -> Result<(), Fail> {
-    let input = shown.0.as_bytes();
-    assert!(rt; input.len() <= INPUT_LIMIT);
-    let mut written = Vec::new(rt.alloc());
-    assert!(rt; show_json(rt.alloc(), input, &mut written) == end);
-    let text = std::str::from_utf8(&written)
+    let mut reader = shown.0.as_bytes();
+    let mut writer = BufWriter::new(rt.alloc(), Vec::new(rt.alloc()))
+        .ok()
+        .ok_or("a buffer")?;
+    let was = replay_through(rt.alloc(), form, &mut reader, &mut writer);
+    assert_eq!(rt; fault_of(was), end);
+    let text = std::str::from_utf8(writer.get_ref())
         .ok()
         .ok_or("what is written is text")?;
     assert_eq!(rt; text, shown.1);
@@ -55,8 +68,22 @@ fn shows<R: Abort + AllocGlobal>(
 
 #[test]
 fn each_show_is_a_line_of_json(rt: HostRuntime) -> Result<(), Fail> {
-    shows(&rt, BENCH, Ok(()))?;
-    shows(&rt, SITE, Ok(()))?;
-    shows(&rt, BAD, Err(ReplayFault::BadLine(4)))?;
-    shows(&rt, ("bench 1\n", ""), Err(ReplayFault::BadLine(2)))
+    let bad = |line: u32| Err((ReplayFault::BadLine(line), true));
+    writes(&rt, Form::Json, BENCH, Ok(()))?;
+    writes(&rt, Form::Json, SITE, Ok(()))?;
+    writes(&rt, Form::Json, BAD, bad(4))?;
+    writes(&rt, Form::Json, ("bench 1\n", ""), bad(2))
+}
+
+/// What is passed on before a fault, as texts.
+const TEXTS: Shown = (
+    "bench 1\ndraws\nshow\nshwo\nshow\n",
+    "gear 0 on disabled FFFFFF FFFFFF -\n",
+);
+
+#[test]
+fn what_was_reported_is_passed_on(rt: HostRuntime) -> Result<(), Fail> {
+    let plan = ReplayFault::BadPlan(PlanError::GearCount);
+    writes(&rt, Form::Text, TEXTS, Err((ReplayFault::BadLine(4), true)))?;
+    writes(&rt, Form::Text, ("bench 0\ndraws\n", ""), Err((plan, true)))
 }

@@ -111,7 +111,10 @@ fn page(alloc: Global, script: &str) -> Result<String, Fail> {
 fn ended(alloc: Global, script: &str) -> Result<(), ReplayFault> {
     let mut reader = script.as_bytes();
     let mut written = Vec::new(alloc);
-    draw_run(alloc, &mut reader, &mut written)
+    match draw_run(alloc, &mut reader, &mut written) {
+        Ok(()) => Ok(()),
+        Err(explained) => Err(explained.fault),
+    }
 }
 
 #[test]

@@ -1,9 +1,9 @@
 //! Plans of sites, and what each is refused for.
 
-use super::values::same;
+use super::values::{addresses, same};
 use dali_frame::Random24;
 use dali_script::Block;
-use dali_world::{Plan, PlanError};
+use dali_world::{Plan, PlanError, Used};
 use std::process::Abort;
 use std::test::Fail;
 
@@ -90,5 +90,45 @@ fn has<R: Abort>(rt: &R, plan: &Plan, blocks: [(u8, u8); 2], draws: [u32; 2]) {
 fn a_plan_has_what_it_was_made_of(rt: HostRuntime) -> Result<(), Fail> {
     let plan = Plan::new(rt.alloc(), 128, &[(0, 3), (4, 63)], &[0xFFFFFE, 0])?;
     has(&rt, &plan, [(0, 3), (4, 63)], [0xFFFFFE, 0]);
+    Ok(())
+}
+
+/// A used gear of these numbers.
+fn used(gear: u32, numbers: (u8, u32)) -> Result<Used, Fail> {
+    let (short, random) = addresses(numbers)?;
+    Ok(Used {
+        gear,
+        short,
+        random,
+    })
+}
+
+/// What a plan of two gear that draw `123456` answers of these used gear: how many it has then, or its refusal.
+fn with_used<R: AllocGlobal>(rt: &R, all: &[Used]) -> Result<Result<usize, PlanError>, Fail> {
+    let plan = Plan::new(rt.alloc(), 2, &[(0, 3)], &[0x123456])?;
+    match plan.with_used(rt.alloc(), all) {
+        Ok(plan) => Ok(Ok(plan.used().len())),
+        Err(error) => Ok(Err(error)),
+    }
+}
+
+#[test]
+fn a_plan_takes_used_gear_or_says_why_not(rt: HostRuntime) -> Result<(), Fail> {
+    let one = used(1, (9, 0x0ABCDE))?;
+    let other = used(0, (7, 0x0ABCDF))?;
+    same(&rt, &with_used(&rt, &[])?, &Ok(0));
+    same(&rt, &with_used(&rt, &[one])?, &Ok(1));
+    same(&rt, &with_used(&rt, &[one, other])?, &Ok(2));
+    let refused = [
+        (used(2, (7, 0x0ABCDF))?, PlanError::UnknownGear),
+        (used(1, (7, 0x0ABCDF))?, PlanError::GearTwice),
+        (used(0, (9, 0x0ABCDF))?, PlanError::ShortTwice),
+        (used(0, (7, 0xFFFFFF))?, PlanError::RandomTooLarge),
+        (used(0, (7, 0x0ABCDE))?, PlanError::RandomTwice),
+        (used(0, (7, 0x123456))?, PlanError::RandomTwice),
+    ];
+    for (bad, error) in refused {
+        same(&rt, &with_used(&rt, &[one, bad])?, &Err(error));
+    }
     Ok(())
 }

@@ -222,14 +222,24 @@ fn twice(cells: &[Cell]) -> Option<(Spot, Spot)> {
     None
 }
 
-/// What is wrong with numbers of a plan.
-fn cells_clue(cells: &[Cell], error: PlanError, gear: u32, heading: Spot) -> Option<Clue> {
+/// How many gear the first line names, if it names a number.
+fn gear_in(line: &[u8]) -> Option<u32> {
+    number_in(part_at(line, b' ', 1)?)
+}
+
+/// What is wrong with numbers of a plan of so many gear.
+fn cells_clue(
+    cells: &[Cell],
+    error: PlanError,
+    gear: Option<u32>,
+    heading: Spot,
+) -> Option<Clue> {
     let (at, beside) = match error {
         PlanError::DrawTooLarge | PlanError::RandomTooLarge => (
             first_from(cells, 0xFF_FFFF)?,
             None,
         ),
-        PlanError::UnknownGear => (first_from(cells, gear)?, Some(heading)),
+        PlanError::UnknownGear => (first_from(cells, gear?)?, Some(heading)),
         _ => {
             let (at, before) = twice(cells)?;
             (at, Some(before))
@@ -242,33 +252,34 @@ fn cells_clue(cells: &[Cell], error: PlanError, gear: u32, heading: Spot) -> Opt
     })
 }
 
-/// The words that the refusal of a plan speaks of.
-pub(super) fn plan_clue(alloc: Global, input: &[u8], error: PlanError) -> Option<Clue>
+/// The words that the refusal of a plan speaks of, if they are found.
+pub(super) fn plan_clue(
+    alloc: Global,
+    input: &[u8],
+    error: PlanError,
+) -> Result<Option<Clue>, AllocError>
     requires { length input.now ≤ 1048576 }
 {
     let mut script = Script::new(input);
-    let line = script.next()?;
+    let Some(line) = script.next() else {
+        return Ok(None);
+    };
     let number = script.number();
     let column = match error {
         PlanError::NoMemory
         | PlanError::GearCount
         | PlanError::ControllerCount
         | PlanError::BlockOrder
-        | PlanError::BlockOverlap => return heading_clue(line, number, error),
+        | PlanError::BlockOverlap => return Ok(heading_clue(line, number, error)),
         PlanError::DrawTooLarge | PlanError::DrawTwice => Column::Draw,
         PlanError::UnknownGear | PlanError::GearTwice => Column::Gear,
         PlanError::ShortTwice => Column::Short,
         PlanError::RandomTooLarge | PlanError::RandomTwice => Column::Random,
     };
-    let cells = cells_of(alloc, input, column).ok()?;
-    let gear = number_in(part_at(line, b' ', 1)?)?;
-    cells_clue(
-        &cells,
-        error,
-        gear,
-        Spot {
-            line: number,
-            word: 2,
-        },
-    )
+    let cells = cells_of(alloc, input, column)?;
+    let heading = Spot {
+        line: number,
+        word: 2,
+    };
+    Ok(cells_clue(&cells, error, gear_in(line), heading))
 }

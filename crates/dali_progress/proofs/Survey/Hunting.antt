@@ -35,10 +35,9 @@ use Rattle.dali_controller.specs.declared.way.Way.TheVariants.{Fresh, Surveying,
 use Rattle.dali_controller.specs.Course.{Course, is_yes, closing_of, address_for, least_open, is_open, is_anothers, drawing}
 use Rattle.dali_controller.specs.Course.{sought, byte_to_send, bytes_to_send, hunting, hunted, visiting}
 use Rattle.dali_controller.specs.Course.{closing as closing_by}
-use Rattle.dali_controller.specs.Machine.{Machine}
-use Rattle.dali_controller.specs.Next.{next_course, begins_at, beginning, course_by, draw_or_close, draws, draws_by, has_open, is_withheld}
+use Rattle.dali_controller.specs.Machine.{Machine, is_withheld, is_withheld_by}
+use Rattle.dali_controller.specs.Next.{next_course, begins_at, beginning, course_by, draw_or_close, draws, draws_by, has_open}
 use Rattle.dali_controller.specs.Next.{hunted_to, is_hunting, question, course_on}
-use Rattle.dali_controller.specs.Next.{is_withheld_by}
 use Rattle.dali_controller.specs.Orders.{machine_ordered, AfterFinding, AfterMaskBy, AfterReserved}
 use Rattle.dali_controller.specs.Whole.{IsWhole}
 use Rattle.dali_controller.proofs.Given as given

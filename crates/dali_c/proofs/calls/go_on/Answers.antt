@@ -13,7 +13,8 @@ returns-in-Some-step-clause-done c m i holds is due =
     let told : c.in-Some.told ≡ i = (let same : Some c.in-Some.told ≡ Some i = sym c.in-Some.is ∙ c.input_of.ensures ∙ is in cc) in
     let steps : Steps (machine_with c.args.state k) c.in-Some.told after c.of.result = record {
       ordered = c.in-Some-step.ordered;
-      spelled = c.of.ensures;
+      spelled = c.of.ensures.spelled;
+      more = c.of.ensures.more;
       given = c.in-Some-step.ensures.given;
       state = record {
         state = c.step.new.state;

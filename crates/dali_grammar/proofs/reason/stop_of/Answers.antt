@@ -1,25 +1,22 @@
-use Rattle.dali_grammar.proofs.ReasonLemmas.{setting_at, stops_heading, stops_plan, stops_line}
-use Rattle.dali_grammar.proofs.reason.stop_of.Goals.{in-Ok+in_ok-number-in-Ok+then-is_bench, in-Ok+in_ok-number-in-Ok+else-is_bench}
-use Rattle.dali_grammar.proofs.reason.stop_of.Goals.{in-Err-BadLine, in-Err-BadPlan, in-Err}
+use Rattle.dali_grammar.proofs.ReasonLemmas.{setting_at, stops_heading, stops_plan, stops_line, stops_nowhere}
 use Rattle.dali_grammar.proofs.reason.stop_of.Goals as goal
 
-pub returns : goal.returns
-returns c = elim c.match-plan.branch [
-  | in-Ok+in_ok-number-in-Ok+then-is_bench w ↦
-      rw w.result-is (stops_line _ _ _ _ _
-      (setting_at _ _ _ _ c.new-script.ensures.read c.new-script.ensures.rest w.in-Ok.ensures.planned)
-      (rw w.in_ok-number-in-Ok.was at w.first_bad.ensures))
-  | in-Ok+in_ok-number-in-Ok+else-is_bench w ↦
-      rw w.result-is (stops_line _ _ _ _ _
-      (setting_at _ _ _ _ c.new-script.ensures.read c.new-script.ensures.rest w.in-Ok.ensures.planned)
-      (rw w.in_ok-number-in-Ok.was at w.first_bad.ensures))
-  | in-Err-BadLine w ↦
-      rw (w.result-is, w.in-Err-BadLine.field-0-is) (stops_heading _ _
-      (setting_at _ _ _ _ c.new-script.ensures.read c.new-script.ensures.rest
-      (rw w.in-Err-BadLine.field-0-is at w.in-Err-BadLine.ensures.refused)))
-  | in-Err-BadPlan w ↦
-      rw (w.result-is, w.in-Err-BadPlan.field-0-is) (stops_plan _ _
-      (setting_at _ _ _ _ c.new-script.ensures.read c.new-script.ensures.rest
-      (rw w.in-Err-BadPlan.field-0-is at w.in-Err-BadPlan.ensures.refused)))
-  | in-Err w ↦ rw w.result-is tt
-]
+pub returns-in-Some : goal.returns-in-Some
+returns-in-Some c =
+    stops_line _ _ _ _ _ (setting_at _ _ _ _ c.new-script.ensures.read c.new-script.ensures.rest c.in-Ok.ensures.planned) c.in-Some.ensures
+
+pub returns-in-Ok : goal.returns-in-Ok
+returns-in-Ok c =
+    stops_nowhere _ _ _ _ (setting_at _ _ _ _ c.new-script.ensures.read c.new-script.ensures.rest c.in-Ok.ensures.planned) c.in-None.ensures
+
+pub returns-in-Err-BadLine : goal.returns-in-Err-BadLine
+returns-in-Err-BadLine c =
+    rw c.in-Err-BadLine.field-0-is (stops_heading _ _
+    (setting_at _ _ _ _ c.new-script.ensures.read c.new-script.ensures.rest
+    (rw c.in-Err-BadLine.field-0-is at c.in-Err-BadLine.ensures.refused)))
+
+pub returns-in-Err-BadPlan : goal.returns-in-Err-BadPlan
+returns-in-Err-BadPlan c =
+    rw c.in-Err-BadPlan.field-0-is (stops_plan _ _
+    (setting_at _ _ _ _ c.new-script.ensures.read c.new-script.ensures.rest
+    (rw c.in-Err-BadPlan.field-0-is at c.in-Err-BadPlan.ensures.refused)))

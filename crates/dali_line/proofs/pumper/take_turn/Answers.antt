@@ -5,5 +5,5 @@ use Rattle.dali_line.proofs.pumper.take_turn.Goals as goal
 
 pub returns-in-Ok-clause-drives : goal.returns-in-Ok-clause-drives
 returns-in-Ok-clause-drives g c =
-    subst (λ (n : ℕ). Drives g.B.Bus.pumped g.B.Bus.lapsed n (g.B.Bus.driven c.pump.new.driver) 1) c.in-Next.ensures.same
-    (drives_pump g.B.Bus.pumped g.B.Bus.lapsed _ _ c.in-Ok.field-0 c.in-Ok.ensures.pumped)
+    subst (λ (n : ℕ). Drives g.B.Bus.pumped g.B.Bus.is_stuck g.B.Bus.lapsed n (g.B.Bus.driven c.pump.new.driver) 1) c.in-Next.ensures.same
+    (drives_pump g.B.Bus.pumped g.B.Bus.is_stuck g.B.Bus.lapsed _ _ c.in-Ok.field-0 c.in-Ok.ensures.pumped)

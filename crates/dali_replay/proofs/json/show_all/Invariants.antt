@@ -1,9 +1,0 @@
-use Rattle.std.proofs.Common.{◌+◌, ◌≤◌, length}
-use Rattle.dali_grammar.specs.Lines.{numbered_after}
-use Rattle.dali_replay.proofs.json.show_all.Given as goal
-
-abbrev pub invariant-loop-line : goal.invariant-loop-line
-invariant-loop-line g l = l.script.read + length l.script.rest.now ≤ 1048576
-
-abbrev pub decreases-loop-line : goal.decreases-loop-line
-decreases-loop-line g l = length (numbered_after l.script.read l.script.rest.now)
