@@ -216,13 +216,23 @@ def kit(root):
             yield f"{named(root, file)}: the kit's name stands here, and in KIT"
 
 
+def handles(root):
+    """A program names no handle that the file HANDLES does not allow, and no way to a socket or to another program. Of libraries rt ci says
+    so; programs it is not given."""
+    allowed = set(re.findall(r"\w+", (root / "HANDLES").read_text().partition(":")[2]))
+    for file in code(root, "*/src/main.rt"):
+        words = re.findall(r"\b(Threads|Wait|Net|Processes|Abort|net|Command)\b", without_comments(file.read_text()))
+        for word in sorted(set(words) - allowed):
+            yield f"{named(root, file)}: {word}, which HANDLES does not allow"
+
+
 def spellings(root):
     """What cannot read the code spells each variant of an enum as the code has it: see spelled.py."""
     for place in spelled.PLACES:
         yield from spelled.missing(root, place)
 
 
-RULES = (widths, lengths, imports, docs, crates, links, paths, clauses, kit, spellings)
+RULES = (widths, lengths, imports, docs, crates, links, paths, clauses, kit, handles, spellings)
 
 
 def offences(root):

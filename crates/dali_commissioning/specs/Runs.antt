@@ -103,8 +103,8 @@ pub record IsRead {S : Type 0} (is_up is_sound : S → Type 0) (holds : S → Li
   pub stays : Stays is_up is_sound was keep
 
 -- WHAT CAME OF A BEGINNING, after a census of all 64 short addresses. Where a gear answers to one
--- that no record names, nothing is begun: the questions are all that was put, and the store has what
--- it had. Else machines run, each of which begins with Start.
+-- that no record names, nothing is begun: the questions are all that was put, and the store has
+-- what it had. Else machines run, each of which begins with Start.
 abbrev pub IsBegun : {S : Type 0} (is_up is_sound : S → Type 0)
     (holds : S → List Record → Type 0) → Block → List Block → ℕ → S → S → Talk → Talk → Begun
     → Type 0

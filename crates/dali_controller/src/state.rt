@@ -110,19 +110,15 @@ impl State {
             || is_passed_by (machine_with self.now kept.now) (stage_of self.now.trace)) self.now.tries }
     {
         // Of a transaction that was not lost before, it need not be known.
-        if self.tries == 0
-            || self.is_complete(kept)
-            || self.is_ended()
-            || self.is_passed_by(kept)
-        {
+        if self.tries == 0 || self.is_complete(kept) || self.is_ended() || self.is_passed_by(kept) {
             0
         } else {
             self.tries
         }
     }
 
-    /// Whether the running transaction is a visit that ends before PROGRAM SHORT ADDRESS, since what is reserved for the
-    /// gear that it found is another's.
+    /// Whether the running transaction is a visit that ends before PROGRAM SHORT ADDRESS: what is reserved for the gear
+    /// that it found is another's.
     fn is_passed_by(&self, kept: &Records<'_>) -> bool
         ensures { result ≡ is_passed_by (machine_with self.now kept.now) (stage_of self.now.trace) }
     {

@@ -2,7 +2,7 @@
 //!
 //! A run answers the number of the line alone. What is said here is read from the script once more.
 
-ghost use Rattle.std.specs.Prelude.{◌≡◌, ◌≤◌, ◌+◌, length, IfOk, IfSome};
+ghost use Rattle.std.specs.Prelude.{◌≡◌, ◌≤◌, ◌+◌, Ok, None, length, IfOk, IfSome};
 ghost use Rattle.dali_grammar.specs.Lines.{numbered_after};
 ghost use Rattle.dali_grammar.specs.Setting.{setting_of};
 ghost use Rattle.dali_grammar.specs.Reason.{Quotes, StopsAt, Finds, Gives, IsOfLine, first_bad, is_bad};
@@ -170,8 +170,8 @@ fn plan_reason(alloc: Global, input: &[u8], error: PlanError) -> Result<Reason, 
     })
 }
 
-/// Why a script ends so. `Ok(None)` where it does not end so, or is longer than 1,048,576 bytes; `Err` where there is too
-/// little memory to find it out.
+/// Why a script ends so. `Ok(None)` where it does not end so, or is longer than 1,048,576 bytes; `Err` where there is
+/// too little memory to find it out.
 pub fn reason_of(
     alloc: Global,
     input: &[u8],
@@ -222,14 +222,12 @@ impl Explained {
             reason: reason_of(alloc, input, fault),
         }
     }
-}
 
-impl From<ReplayFault> for Explained {
-    ghost use Rattle.std.specs.Prelude.{◌≡◌, Ok, None};
-
-    ghost from_gives = { λ fault e. (e.fault ≡ fault) × (e.reason ≡ Ok None) };
-
-    fn from(fault: ReplayFault) -> Explained {
+    /// A fault that has no reason: it is none of the script.
+    pub fn without_reason(fault: ReplayFault) -> Explained
+        ensures fault { result.fault ≡ fault }
+        ensures reason { result.reason ≡ Ok None }
+    {
         Explained {
             fault,
             reason: Ok(None),

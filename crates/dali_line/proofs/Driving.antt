@@ -11,7 +11,8 @@ use Rattle.dali_line.proofs.Counts.{few_events}
 -- TURNS OF A PUMPER that follow each other are one run.
 
 module _ (pumped : ℕ → Trouble → Report → ℕ → Type 0) (stuck : ℕ → Type 0) (lapsed : ℕ → ℕ → Type 0) where
-  driven_more : (from between to : ℕ) (xs ys : List (Option Report)) → AreDriven pumped stuck lapsed from xs between → AreDriven pumped stuck lapsed between ys to
+  driven_more : (from between to : ℕ) (xs ys : List (Option Report)) → AreDriven pumped stuck lapsed from xs between
+      → AreDriven pumped stuck lapsed between ys to
       → AreDriven pumped stuck lapsed from (xs ++ ys) to
   driven_more from between to [] ys one two = subst (λ (n : ℕ). AreDriven pumped stuck lapsed n ys to) one two
   driven_more from between to (Some r ∷ xs) ys one two = (one.0, one.1, driven_more one.0 between to xs ys one.2 two)

@@ -528,7 +528,7 @@ refused_other refusal.LogFull i = λ is. absurd (cc)
 refused_other refusal.NoMemory i = λ is. absurd (cc)
 refused_other refusal.AddressInUse i = λ is. absurd (cc)
 
-tells_other : (bus : Facts) (before after : Option Order) (p q : PortShare) (i : Input) (was is : Pass) (kept : Option Record) (end : Option Outcome)
+pub tells_other : (bus : Facts) (before after : Option Order) (p q : PortShare) (i : Input) (was is : Pass) (kept : Option Record) (end : Option Outcome)
     → Tells bus before after p q i was is kept end → IsOther end
 tells_other bus before after p q i was is kept end (inl (o, acted, last, learned, still, inl ends)) =
     subst IsOther (sym ends.0) (acted_other o)

@@ -7,16 +7,16 @@ use Rattle.dali_standing.specs.declared.refusal.Refusal.{Refusal}
 use Rattle.dali_line.specs.Shares.{PortShare}
 use Rattle.dali_line.specs.Steps.{given_of}
 
--- WHAT A CONTROLLER MAY BE GIVEN to act on: what became of its commit; or what the bus told it, with
--- Survey in place of Start where it begins by a survey.
+-- WHAT A CONTROLLER MAY BE GIVEN to act on: what became of its commit; or what the bus told it,
+-- with Survey in place of Start where it begins by a survey.
 abbrev pub IsGiven : (PortShare → Input → Type 0) → Bool → PortShare → Input → Type 0
 IsGiven told surveys p i =
     (i ≡ input.Committed) ⊎ (i ≡ input.CommitFailed)
     ⊎ ((t : Input) × told p t × (i ≡ given_of surveys t))
 
 -- WHAT A BUS SAYS OF ITS CALLS with a port: the relations of the trait `Bus`, which only its calls
--- give. By what the bus told a controller, and by whether that begins by a survey, `gives` says what
--- the controller may be given to act on.
+-- give. By what the bus told a controller, and by whether that begins by a survey, `gives` says
+-- what the controller may be given to act on.
 pub record Facts : Type 1 where
   pub acted : PortShare → Input → Order → PortShare → Type 0
   pub refused : PortShare → Input → Refusal → Type 0

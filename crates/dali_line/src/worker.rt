@@ -1,5 +1,5 @@
-ghost use Rattle.std.specs.Prelude.{◌≡◌, ◌⊎◌, false, List, [], ◌∷◌, ◌++◌, Bool, Option, None, Some, Err, IfSome, IfNone};
-ghost use Rattle.std.specs.Prelude.{IfOk, IfErr, OnErr, IsTrue, MatchOption};
+ghost use Rattle.std.specs.Prelude.{◌≡◌, ◌⊎◌, false, List, [], ◌∷◌, ◌++◌, Bool, Option, None, Some, Err, IfSome};
+ghost use Rattle.std.specs.Prelude.{IfNone, IfOk, IfErr, OnErr, IsTrue, MatchOption};
 ghost use Rattle.dali_script.specs.declared.orders.Input.TheVariants as input;
 ghost use Rattle.dali_script.specs.declared.orders.Order.{Order};
 ghost use Rattle.dali_script.specs.declared.orders.Order.TheVariants as order;
@@ -90,7 +90,8 @@ impl<P, K: Keep, G: Gate> Worker<P, K, G> {
         ensures known { Keeps pass result.3 }
         ensures posted { Posts K.is_up K.is_sound K.holds self.keep result.2 pass result.3 }
         ensures runs { (last : Option Order) × Runs K.is_up K.is_sound K.holds K.block
-            (facts_of B.acted B.refused B.told B.untold B.unordered B.ordered B.is_down (B.is_stopped bus.now) self.surveys)
+            (facts_of B.acted B.refused B.told B.untold B.unordered B.ordered B.is_down
+            (B.is_stopped bus.now) self.surveys)
             None last (B.share self.port) (B.share result.1) self.keep result.2 pass result.3 turns
             (Some result.0) }
         ensures stopped { IsTrue (stops result.0) → B.is_told_to_stop bus.now }
@@ -256,12 +257,7 @@ impl<P, K: Keep, G: Gate> Shift<P, K, G> {
     /// What its controller is given to act on: what the bus has told it, with Survey in place of Start where it begins
     /// by a survey; or what became of its commit, which is made now. None where nothing is due.
     #[tactic(auto, using(crate::proofs::Leaving::leaves_none))]
-    fn given<B: Bus<Port = P>, R: Wait>(
-        &mut self,
-        rt: &R,
-        bus: &B,
-        surveys: bool,
-    ) -> Option<Input>
+    fn given<B: Bus<Port = P>, R: Wait>(&mut self, rt: &R, bus: &B, surveys: bool) -> Option<Input>
         ensures keep { Leaves K.is_up K.is_sound K.holds self.old.keep self.new.keep }
         ensures block { K.block self.new.keep ≡ K.block self.old.keep }
         ensures none { result ≡ None → (self.new.keep ≡ self.old.keep) × IsIdle

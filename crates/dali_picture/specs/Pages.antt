@@ -15,8 +15,10 @@ abbrev pub IsPageOf : Played → List ℕ → Type 0
 IsPageOf x page = (upper lower : List ℕ) × (page ≡ upper ++ (string_bytes x.end ++ lower))
 
 -- such a page was written, of what these lines lead to
-abbrev pub Shows : Result (Setting × NumberedLines) End → Option (List ℕ) → Option (List ℕ) → Type 0
-Shows s old new = (x : Played) × (page : List ℕ) × IsPlayedBy s x × IsPageOf x page × Appends old new page
+abbrev pub Shows : Result (Setting × NumberedLines) End → Option (List ℕ) → Option (List ℕ)
+    → Type 0
+Shows s old new =
+    (x : Played) × (page : List ℕ) × IsPlayedBy s x × IsPageOf x page × Appends old new page
 
 -- WHY NO PAGE IS DRAWN, with nothing written but where the output cannot be written
 abbrev pub DrawsNot : Result (Setting × NumberedLines) End → Option (List ℕ) → Option (List ℕ)
@@ -28,7 +30,8 @@ DrawsNot s old new Read = Keeps old new
 DrawsNot s old new Write = Unit {0}
 
 -- WHAT A RUN OVER A READER SAYS, whose fault comes with a reason where there is one.
-abbrev pub Draws : List ℕ → Option (List ℕ) → Option (List ℕ) → Result (Unit {0}) Explained → Type 0
+abbrev pub Draws : List ℕ → Option (List ℕ) → Option (List ℕ) → Result (Unit {0}) Explained
+    → Type 0
 Draws input old new (Ok x) = Shows (setting_of input) old new
 Draws input old new (Err e) =
     DrawsNot (setting_of input) old new e.fault × Gives input e.fault e.reason

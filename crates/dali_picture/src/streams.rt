@@ -1,7 +1,6 @@
 //! A page from the bytes of a script.
 
-ghost use Rattle.std.specs.Prelude.{◌≡◌, ◌≤◌, ◌++◌, List, ℕ, length, IfOk, IfErr, IfSome, string_bytes};
-ghost use Rattle.std.specs.Io.KnownBytes.{Appends};
+ghost use Rattle.std.specs.Prelude.{◌≤◌, length, IfOk, IfErr, IfSome, string_bytes};
 ghost use Rattle.dali_grammar.specs.Setting.{setting_of};
 ghost use Rattle.dali_picture.specs.Pages.{IsPageOf, Draws, DrawsNot, Shows};
 
@@ -51,7 +50,10 @@ pub fn draw_run<R: Read, W: Write>(
     ensures { IfSome (R.remaining reader.old)
         (λ input. Draws input (W.contents writer.old) (W.contents writer.new) result) }
 {
-    let input = read_input(alloc, reader)?;
+    let input = match read_input(alloc, reader) {
+        Ok(input) => input,
+        Err(fault) => return Err(Explained::without_reason(fault)),
+    };
     match draw(alloc, &input, writer) {
         Ok(()) => Ok(()),
         Err(fault) => Err(Explained::of(alloc, &input, fault)),

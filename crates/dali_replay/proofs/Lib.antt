@@ -7,3 +7,4 @@ pub mod ReplayLemmas
 pub mod PlayerLemmas
 pub mod PlayedLemmas
 pub mod PassedLemmas
+pub mod StreamLemmas

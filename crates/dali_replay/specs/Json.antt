@@ -31,13 +31,15 @@ json_condition k g =
     ++ (codes ",\"power\":\""
     ++ (power_text g.powered ++ (codes "\",\"state\":\"" ++ (state_text g.state ++ codes "\"")))))
 
-abbrev pub json_addresses : Gear → List ℕ
-json_addresses g =
+abbrev pub json_numbers : Gear → List ℕ
+json_numbers g =
     codes ",\"random\":\""
     ++ (random_text g.random
     ++ (codes "\",\"search\":\""
-    ++ (random_text (value_of g.search)
-    ++ (codes "\",\"short\":" ++ (json_short g.short ++ codes "}")))))
+    ++ (random_text (value_of g.search) ++ codes "\",\"short\":")))
+
+abbrev pub json_addresses : Gear → List ℕ
+json_addresses g = json_numbers g ++ (json_short g.short ++ codes "}")
 
 abbrev pub json_gear : ℕ → Gear → List ℕ
 json_gear k g = comma k ++ (json_condition k g ++ json_addresses g)
@@ -62,16 +64,20 @@ abbrev pub json_entries : ℕ → List Assignment → List ℕ
 json_entries k [] = []
 json_entries k (x ∷ xs) = json_entry k x ++ json_entries (k + 1) xs
 
+abbrev pub json_controller : ℕ → List ℕ
+json_controller c = codes "{\"controller\":" ++ (decimal c ++ codes ",\"entries\":[")
+
 abbrev pub json_table : ℕ → List Assignment → List ℕ
-json_table c entries =
-    codes "{\"controller\":"
-    ++ (decimal c ++ (codes ",\"entries\":[" ++ (json_entries 0 entries ++ codes "]}")))
+json_table c entries = json_controller c ++ (json_entries 0 entries ++ codes "]}")
 
 -- the tables of the controllers before number c
+abbrev pub json_table_at : ℕ → List Assignment → List ℕ
+json_table_at c entries = comma c ++ json_table c entries
+
 abbrev pub json_tables : World → ℕ → List ℕ
 json_tables w zero = []
 json_tables w (suc c) =
-    json_tables w c ++ (comma c ++ json_table c (controller_at w c).records.enrolled)
+    json_tables w c ++ json_table_at c (controller_at w c).records.enrolled
 
 -- ---------------------------------------------------------------- a line of a script
 
@@ -83,9 +89,11 @@ json_state (player.Site n) =
     ++ (codes "],\"tables\":[" ++ json_tables (world n.site) (length n.site.plan.blocks))
 
 -- with the number of the line
+abbrev pub json_number : ℕ → List ℕ
+json_number n = codes "{\"line\":" ++ (decimal n ++ codes ",\"gear\":[")
+
 abbrev pub json_line : ℕ → Player → List ℕ
-json_line n s =
-    codes "{\"line\":" ++ (decimal n ++ (codes ",\"gear\":[" ++ (json_state s ++ codes "]}\n")))
+json_line n s = json_number n ++ (json_state s ++ codes "]}\n")
 
 -- WHAT IS WRITTEN of a line, by what stands after it and by its report: the report itself; or as
 -- JSON what `show` shows, and nothing of any other line.

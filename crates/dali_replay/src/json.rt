@@ -4,7 +4,8 @@
 ghost use Rattle.std.specs.Prelude.{◌≡◌, ◌++◌, OnOk, length, string_bytes};
 ghost use Rattle.dali_world.specs.Site.{world};
 ghost use Rattle.dali_replay.specs.Json.{comma, json_short, json_condition, json_addresses, json_gear, json_row};
-ghost use Rattle.dali_replay.specs.Json.{json_gear_before, json_entry, json_entries, json_table, json_tables};
+ghost use Rattle.dali_replay.specs.Json.{json_gear_before, json_entry, json_entries, json_table, json_table_at};
+ghost use Rattle.dali_replay.specs.Json.{json_tables};
 ghost use Rattle.dali_replay.specs.Json.{json_state, json_line};
 
 use crate::installation::Installation;
@@ -43,8 +44,10 @@ fn push_condition(text: &mut String, number: usize, gear: &Gear) -> Result<(), A
 {
     let power = power_name(gear.is_powered());
     let state = state_name(gear.state());
-    text.push_str("{\"gear\":")?;
-    write!(text, "{number},\"power\":\"{power}\",\"state\":\"{state}\"")
+    write!(
+        text,
+        "{{\"gear\":{number},\"power\":\"{power}\",\"state\":\"{state}\""
+    )
 }
 
 fn push_addresses(text: &mut String, gear: &Gear) -> Result<(), AllocError>
@@ -52,9 +55,13 @@ fn push_addresses(text: &mut String, gear: &Gear) -> Result<(), AllocError>
 {
     let random = gear.random();
     let search = gear.search().value();
-    write!(text, ",\"random\":\"{random}\",\"search\":\"{search}\",\"short\":")?;
+    write!(
+        text,
+        ",\"random\":\"{random}\",\"search\":\"{search}\",\"short\":"
+    )?;
     push_short(text, gear.short())?;
-    text.push_str("}")
+    text.push_str("}")?;
+    Ok(())
 }
 
 /// The state of one gear, behind a comma if it is not the first.
@@ -96,9 +103,7 @@ fn push_entry(text: &mut String, number: usize, entry: Pair) -> Result<(), Alloc
     let short = entry.address();
     let random = entry.random();
     push_comma(text, number)?;
-    text.push_str("{\"short\":")?;
-    write!(text, "{short},\"random\":\"{random}\"")?;
-    text.push_str("}")
+    write!(text, "{{\"short\":{short},\"random\":\"{random}\"}}")
 }
 
 /// The entries of a table, with commas between them.
@@ -115,10 +120,18 @@ fn push_entries(text: &mut String, entries: &[Pair]) -> Result<(), AllocError>
 pub fn push_json_table(text: &mut String, c: u8, entries: &[Pair]) -> Result<(), AllocError>
     ensures { OnOk result (string_bytes text.new ≡ string_bytes text.old ++ json_table c entries.now) }
 {
-    text.push_str("{\"controller\":")?;
-    write!(text, "{c},\"entries\":[")?;
+    write!(text, "{{\"controller\":{c},\"entries\":[")?;
     push_entries(text, entries)?;
-    text.push_str("]}")
+    text.push_str("]}")?;
+    Ok(())
+}
+
+/// A controller's table, behind a comma if it is not the first.
+fn push_table_at(text: &mut String, c: u8, entries: &[Pair]) -> Result<(), AllocError>
+    ensures { OnOk result (string_bytes text.new ≡ string_bytes text.old ++ json_table_at c entries.now) }
+{
+    push_comma(text, c as usize)?;
+    push_json_table(text, c, entries)
 }
 
 /// The tables of all controllers, in order of their numbers, with commas between them.
@@ -127,8 +140,7 @@ fn push_tables(text: &mut String, installation: &Installation) -> Result<(), All
         ++ json_tables (world installation.now.site) (length installation.now.site.plan.blocks)) }
 {
     for c in 0..installation.controllers() {
-        push_comma(text, c as usize)?;
-        push_json_table(text, c, installation.enrolled(c))?;
+        push_table_at(text, c, installation.enrolled(c))?;
     }
     Ok(())
 }
@@ -145,7 +157,8 @@ fn push_state(text: &mut String, player: &Player) -> Result<(), AllocError>
         Player::Site(installation) => {
             push_json_gear(text, installation.site())?;
             text.push_str("],\"tables\":[")?;
-            push_tables(text, installation)
+            push_tables(text, installation)?;
+            Ok(())
         }
     }
 }
@@ -154,8 +167,8 @@ fn push_state(text: &mut String, player: &Player) -> Result<(), AllocError>
 pub fn push_shown(text: &mut String, number: u32, player: &Player) -> Result<(), AllocError>
     ensures { OnOk result (string_bytes text.new ≡ string_bytes text.old ++ json_line number player.now) }
 {
-    text.push_str("{\"line\":")?;
-    write!(text, "{number},\"gear\":[")?;
+    write!(text, "{{\"line\":{number},\"gear\":[")?;
     push_state(text, player)?;
-    text.push_str("]}\n")
+    text.push_str("]}\n")?;
+    Ok(())
 }

@@ -88,7 +88,8 @@ pub fn run_replay<R: Read, W: Write>(
     writer: &mut W,
 ) -> Result<(), ReplayFault>
     // Of a reader that does not tell its bytes, some input is told.
-    ensures some { (input : List ℕ) × Tells form.Text (setting_of input) (W.contents writer.old) (W.contents writer.new) result }
+    ensures some { (input : List ℕ) × Tells form.Text (setting_of input) (W.contents writer.old)
+        (W.contents writer.new) result }
     ensures unread { IsErrOf result ReplayFault.Read → writer.new ≡ writer.old }
     ensures told { IfSome (R.remaining reader.old)
         (λ input. Tells form.Text (setting_of input) (W.contents writer.old) (W.contents writer.new) result) }

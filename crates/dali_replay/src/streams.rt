@@ -33,7 +33,8 @@ fn replay_and_pass_on<W: Write + Drop>(
 }
 
 /// Reads a script, plays it, and writes what is to be written of its lines in this form, as `run_replay` does their
-/// reports. It is passed on, before a fault too: after `Ok` nothing is left in the buffer. A fault comes with its reason.
+/// reports. It is passed on, before a fault too: after `Ok` nothing is left in the buffer. A fault comes with its
+/// reason.
 ///
 /// The faults are those of `run_replay`; `Write` also where what was written cannot be passed on.
 pub fn replay_through<R: Read, W: Write + Drop>(
@@ -46,7 +47,10 @@ pub fn replay_through<R: Read, W: Write + Drop>(
         (writer_contents W.contents writer.old) (writer_contents W.contents writer.new) result) }
     ensures passed { OnOk result (writer_buffer writer.new ≡ []) }
 {
-    let input = read_input(alloc, reader)?;
+    let input = match read_input(alloc, reader) {
+        Ok(input) => input,
+        Err(fault) => return Err(Explained::without_reason(fault)),
+    };
     match replay_and_pass_on(alloc, form, &input, writer) {
         Ok(()) => Ok(()),
         Err(fault) => Err(Explained::of(alloc, &input, fault)),
@@ -58,6 +62,6 @@ pub fn replay_streams<R: Input + Print + AllocGlobal>(rt: &R, form: Form) -> Res
     let alloc = rt.alloc();
     match BufWriter::new(alloc, io::writer(rt)) {
         Ok(mut writer) => replay_through(alloc, form, &mut rt.reader(), &mut writer),
-        Err(_) => Err(Explained::from(ReplayFault::Memory)),
+        Err(_) => Err(Explained::without_reason(ReplayFault::Memory)),
     }
 }

@@ -228,12 +228,7 @@ fn gear_in(line: &[u8]) -> Option<u32> {
 }
 
 /// What is wrong with numbers of a plan of so many gear.
-fn cells_clue(
-    cells: &[Cell],
-    error: PlanError,
-    gear: Option<u32>,
-    heading: Spot,
-) -> Option<Clue> {
+fn cells_clue(cells: &[Cell], error: PlanError, gear: Option<u32>, heading: Spot) -> Option<Clue> {
     let (at, beside) = match error {
         PlanError::DrawTooLarge | PlanError::RandomTooLarge => (
             first_from(cells, 0xFF_FFFF)?,

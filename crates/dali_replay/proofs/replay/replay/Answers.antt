@@ -7,16 +7,16 @@ use Rattle.dali_replay.proofs.replay.replay.Goals as goal
 pub returns-in_err-is_bench : goal.returns-in_err-is_bench
 returns-in_err-is_bench g c =
     let is : c.from_residual.result ≡ Err c.in_err-is_bench.field-0.0 = search rules in
-    rw is (replays_no_plan (Unit {0}) _ _ c.in_err-is_bench.field-0.0
+    rw is (replays_no_plan (Unit {0}) _ _ _ c.in_err-is_bench.field-0.0
     (rw (c.new-script.ensures.read, c.new-script.ensures.rest, zero-add) at c.in_err-is_bench.ensures.refused))
 
 pub returns-in_err-player : goal.returns-in_err-player
 returns-in_err-player g c =
     let is : c.from_residual-in_err-player.result ≡ Err Memory = search rules in
-    replays_want _ _ _ is
+    replays_want _ _ _ _ is
 
 pub returns : goal.returns
 returns g c =
-    replays_all _ c.in_ok-is_bench.is_bench c.in_ok-is_bench.plan _ c.in_ok-player.player _ _ c.play.result
+    replays_all _ _ c.in_ok-is_bench.is_bench c.in_ok-is_bench.plan _ c.in_ok-player.player _ _ c.play.result
     (rw (c.new-script.ensures.read, c.new-script.ensures.rest, zero-add) at c.in_ok-is_bench.ensures.planned)
     c.in_ok-player.ensures c.play.ensures

@@ -1,5 +1,15 @@
-use Rattle.dali_replay.proofs.PassedLemmas.{tells_passed}
+use Rattle.dali_replay.proofs.ReplayLemmas.{tells_some}
+use Rattle.dali_replay.proofs.StreamLemmas.{explains_unread, explains_fault}
 use Rattle.dali_replay.proofs.streams.replay_through.Goals as goal
 
-pub returns-in-Ok-clause-told : goal.returns-in-Ok-clause-told
-returns-in-Ok-clause-told g c = tells_passed _ _ _ c.flush.ensures.bytes (g.R.Read.remaining c.args.reader.now) _ c.run_replay-played.ensures.told
+pub returns-in-Err-clause-told : goal.returns-in-Err-clause-told
+returns-in-Err-clause-told g c =
+    explains_unread _ (g.R.Read.remaining c.args.reader.now) _ c.in-Err.fault c.without_reason.result c.without_reason.ensures.fault
+    c.without_reason.ensures.reason c.in-Err.ensures.faults
+
+pub returns-clause-told : goal.returns-clause-told
+returns-clause-told g c =
+    tells_some (g.R.Read.remaining c.args.reader.now) c.in-Ok.input.items _ c.in-Ok.ensures.whole
+    (explains_fault _ c.in-Ok.input.items _ _ c.in-Err-replay_and_pass_on.fault c.of.result
+    (rw c.deref.ensures.value at c.in-Err-replay_and_pass_on.ensures.told) c.of.ensures.fault
+    (rw c.deref-in-Err-replay_and_pass_on.ensures.value at c.of.ensures.given))

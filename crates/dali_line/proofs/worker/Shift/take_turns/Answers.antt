@@ -26,10 +26,12 @@ pub returns-in-Some-clause-runs : goal.returns-in-Some-clause-runs
 returns-in-Some-clause-runs g c =
     let wide : c.loop.counter + 1 ≤ c.args.turns = search rules in
     runs_wider g.K.Keep.is_up g.K.Keep.is_sound g.K.Keep.holds g.K.Keep.block
-    (facts_of g.B.Bus.acted g.B.Bus.refused g.B.Bus.told g.B.Bus.untold g.B.Bus.unordered g.B.Bus.ordered g.B.Bus.is_down (g.B.Bus.is_stopped c.args.bus.now) c.args.surveys)
+    (facts_of g.B.Bus.acted g.B.Bus.refused g.B.Bus.told g.B.Bus.untold g.B.Bus.unordered g.B.Bus.ordered g.B.Bus.is_down
+    (g.B.Bus.is_stopped c.args.bus.now) c.args.surveys)
     _ _ _ _ _ _ _ _ (c.loop.counter + 1) _ c.in-Some.end c.in-Some.ensures.unspent wide
     (runs_more g.K.Keep.is_up g.K.Keep.is_sound g.K.Keep.holds g.K.Keep.block
-    (facts_of g.B.Bus.acted g.B.Bus.refused g.B.Bus.told g.B.Bus.untold g.B.Bus.unordered g.B.Bus.ordered g.B.Bus.is_down (g.B.Bus.is_stopped c.args.bus.now) c.args.surveys)
+    (facts_of g.B.Bus.acted g.B.Bus.refused g.B.Bus.told g.B.Bus.untold g.B.Bus.unordered g.B.Bus.ordered g.B.Bus.is_down
+    (g.B.Bus.is_stopped c.args.bus.now) c.args.surveys)
     _ _ _ _ _ _ _ _ _ _ _ _ c.loop.counter 1 _ c.loop.invariant.keep c.in-Some.ensures.keep c.loop.invariant.runs c.in-Some.ensures.runs)
 
 pub loop-preserved : goal.loop-preserved
@@ -48,10 +50,12 @@ loop-preserved g c =
       known = keeps_more c.args.pass.now c.loop.pass c.take_turn.new.pass inside.known turn.known;
       posted = posts_more g.K.Keep.is_up g.K.Keep.is_sound g.K.Keep.holds _ _ _ _ _ _ inside.keep turn.keep inside.posted turn.posted;
       runs = runs_more g.K.Keep.is_up g.K.Keep.is_sound g.K.Keep.holds g.K.Keep.block
-          (facts_of g.B.Bus.acted g.B.Bus.refused g.B.Bus.told g.B.Bus.untold g.B.Bus.unordered g.B.Bus.ordered g.B.Bus.is_down (g.B.Bus.is_stopped c.args.bus.now) c.args.surveys)
+          (facts_of g.B.Bus.acted g.B.Bus.refused g.B.Bus.told g.B.Bus.untold g.B.Bus.unordered g.B.Bus.ordered g.B.Bus.is_down
+          (g.B.Bus.is_stopped c.args.bus.now) c.args.surveys)
           _ _ _ _ _ _ _ _ _ _ _ _ c.loop.counter 1 _ inside.keep turn.keep inside.runs
           (subst (λ (end : Option Outcome). Runs g.K.Keep.is_up g.K.Keep.is_sound g.K.Keep.holds g.K.Keep.block
-          (facts_of g.B.Bus.acted g.B.Bus.refused g.B.Bus.told g.B.Bus.untold g.B.Bus.unordered g.B.Bus.ordered g.B.Bus.is_down (g.B.Bus.is_stopped c.args.bus.now) c.args.surveys)
+          (facts_of g.B.Bus.acted g.B.Bus.refused g.B.Bus.told g.B.Bus.untold g.B.Bus.unordered g.B.Bus.ordered g.B.Bus.is_down
+          (g.B.Bus.is_stopped c.args.bus.now) c.args.surveys)
           c.loop.self.last c.take_turn.new.self.last (g.B.Bus.share c.loop.self.port) (g.B.Bus.share c.take_turn.new.self.port)
           c.loop.self.keep c.take_turn.new.self.keep c.loop.pass c.take_turn.new.pass 1 end) none turn.runs);
     }

@@ -15,6 +15,7 @@ invariant-loop g l = record {
   known : Keeps l.fn.pass l.pass;
   posted : Posts g.K.Keep.is_up g.K.Keep.is_sound g.K.Keep.holds l.fn.self.keep l.self.keep l.fn.pass l.pass;
   runs : Runs g.K.Keep.is_up g.K.Keep.is_sound g.K.Keep.holds g.K.Keep.block
-      (facts_of g.B.Bus.acted g.B.Bus.refused g.B.Bus.told g.B.Bus.untold g.B.Bus.unordered g.B.Bus.ordered g.B.Bus.is_down (g.B.Bus.is_stopped l.bus) l.surveys)
+      (facts_of g.B.Bus.acted g.B.Bus.refused g.B.Bus.told g.B.Bus.untold g.B.Bus.unordered g.B.Bus.ordered g.B.Bus.is_down
+      (g.B.Bus.is_stopped l.bus) l.surveys)
       l.fn.self.last l.self.last (g.B.Bus.share l.fn.self.port) (g.B.Bus.share l.self.port) l.fn.self.keep l.self.keep l.fn.pass l.pass l.counter None;
 }

@@ -1,0 +1,38 @@
+use Rattle.std.proofs.Common.{◌≡◌, ℕ, List, ◌⊎◌, inl, inr, Bool, true, false, Option, Some, None, Result, Ok, Err}
+use Rattle.std.specs.Prelude.{IfSome}
+use Rattle.std.specs.declared.alloc.AllocError.{AllocError}
+use Rattle.dali_events.specs.Plan.{Plan}
+use Rattle.dali_grammar.specs.declared.fault.ReplayFault.{ReplayFault}
+use Rattle.dali_grammar.specs.declared.fault.ReplayFault.TheVariants.{BadLine, BadPlan, Memory, Read, Write}
+use Rattle.dali_grammar.specs.declared.reason.Explained.{Explained}
+use Rattle.dali_grammar.specs.declared.reason.Reason.{Reason}
+use Rattle.dali_grammar.specs.Reason.{Gives}
+use Rattle.dali_grammar.specs.Setting.{NumberedLines, End, Setting, setting_of}
+use Rattle.dali_replay.specs.declared.form.Form.{Form}
+use Rattle.dali_replay.specs.Replay.{PlaysSetting, Replays, Tells}
+use Rattle.dali_replay.specs.Streams.{Explains}
+use Rattle.dali_replay.proofs.ReplayLemmas.{tells_of_replays, tells_fault}
+
+-- nothing is said of what was written where it cannot be
+pub replays_write : (form : Form) (s : Result (Setting × NumberedLines) End) (a b : Option (List ℕ)) → Replays {A = Unit {0}} form s a b (Err Write)
+replays_write form (Err end) a b = tt
+replays_write form (Ok s) a b = go s.0.0 where
+  go : (is_bench : Bool) → PlaysSetting {A = Unit {0}} form is_bench s.0.1 s.1 a b (Err Write)
+  go true = tt
+  go false = tt
+
+-- the input was not read: then there is no reason
+unread_gives : (input : List ℕ) (e : ReplayFault) (r : Result (Option Reason) AllocError) → r ≡ Ok None → (e ≡ Memory) ⊎ (e ≡ Read) → Gives input e r
+unread_gives input e r none (inl is) = rw (none, is) (λ h. absurd h)
+unread_gives input e r none (inr is) = rw (none, is) (λ h. absurd h)
+
+pub explains_unread : (form : Form) (left a : Option (List ℕ)) (e : ReplayFault) (x : Explained) → x.fault ≡ e → x.reason ≡ Ok None
+    → (e ≡ Memory) ⊎ (e ≡ Read) → IfSome left (λ input. Explains form input a a (Err x))
+explains_unread form None a e x fault reason cause = tt
+explains_unread form (Some input) a e x fault reason cause =
+    (rw fault (tells_fault form a input e cause), unread_gives input x.fault x.reason reason (rw fault cause))
+
+-- what a run over bytes says, with the reason of its fault
+pub explains_fault : (form : Form) (input : List ℕ) (a b : Option (List ℕ)) (e : ReplayFault) (x : Explained)
+    → Replays {A = Unit {0}} form (setting_of input) a b (Err e) → x.fault ≡ e → Gives input e x.reason → Explains form input a b (Err x)
+explains_fault form input a b e x told fault gives = (rw fault (tells_of_replays form (setting_of input) a b (Err e) told), rw fault gives)
