@@ -1,4 +1,4 @@
-use Rattle.std.proofs.Common.{◌≡◌, ℕ, ◌<◌, ◌≤◌, Bool, true, false, List, [], ◌∷◌, refl, sym, subst, arith, length}
+use Rattle.std.proofs.Common.{◌≡◌, ℕ, ◌≤◌, Bool, true, false, List, [], ◌∷◌, refl, sym, subst, arith, length}
 use Rattle.std.specs.Prelude.{zero, suc, nat_lt, map, IfSome, if◌then◌else◌}
 use Rattle.std.proofs.lemmas.Bool.Decides.{nat_tests}
 use Rattle.std.specs.declared.option.Option.{Option}
@@ -9,7 +9,6 @@ use Rattle.dali_script.specs.declared.orders.Input.TheVariants as input
 use Rattle.dali_script.proofs.Members.{Each, each_changed}
 use Rattle.dali_events.specs.declared.event.Event.{Event}
 use Rattle.dali_events.specs.declared.event.Event.TheVariants as event
-use Rattle.dali_events.specs.Plan.{Plan}
 use Rattle.dali_events.specs.World.{World, Controller, controller_at, controller_begun, nobody, start}
 use Rattle.dali_events.specs.Happens.{happens, told_sent, told_destroyed, told_lapsed, owner_told, trace_running, controller_acted, gone_down, come_up}
 use Rattle.dali_events.specs.Runs.{after_all}

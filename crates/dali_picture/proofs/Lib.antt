@@ -1,2 +1,3 @@
 mod FoldLemmas
 mod TransactionLemmas
+mod PageLemmas

@@ -1,15 +1,14 @@
 use Rattle.std.proofs.Common.{◌≡◌, ℕ, List, ◌⊎◌, inl, inr, Bool, true, false, Option, Some, None, Result, Ok, Err}
 use Rattle.std.specs.Prelude.{IfSome}
 use Rattle.std.specs.declared.alloc.AllocError.{AllocError}
-use Rattle.dali_events.specs.Plan.{Plan}
 use Rattle.dali_grammar.specs.declared.fault.ReplayFault.{ReplayFault}
-use Rattle.dali_grammar.specs.declared.fault.ReplayFault.TheVariants.{BadLine, BadPlan, Memory, Read, Write}
+use Rattle.dali_grammar.specs.declared.fault.ReplayFault.TheVariants.{Memory, Read, Write}
 use Rattle.dali_grammar.specs.declared.reason.Explained.{Explained}
 use Rattle.dali_grammar.specs.declared.reason.Reason.{Reason}
 use Rattle.dali_grammar.specs.Reason.{Gives}
 use Rattle.dali_grammar.specs.Setting.{NumberedLines, End, Setting, setting_of}
 use Rattle.dali_replay.specs.declared.form.Form.{Form}
-use Rattle.dali_replay.specs.Replay.{PlaysSetting, Replays, Tells}
+use Rattle.dali_replay.specs.Replay.{PlaysSetting, Replays}
 use Rattle.dali_replay.specs.Streams.{Explains}
 use Rattle.dali_replay.proofs.ReplayLemmas.{tells_of_replays, tells_fault}
 

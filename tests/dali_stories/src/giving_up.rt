@@ -68,7 +68,7 @@ const UNHEARD_SEARCH: &str = "run 103 > ran 103
                               pump lost > 0: sent BB00 silence";
 
 /// Stories in parts, each of which is played so many times.
-const IN_PARTS: [(&str, &[(&str, u32)]); 4] = [
+const IN_PARTS: [(&str, &[(&str, u32)]); 5] = [
     (
         "the sixteenth silent search gives up",
         &[
@@ -167,6 +167,36 @@ const IN_PARTS: [(&str, &[(&str, u32)]); 4] = [
                  > ran 116",
                 1,
             ),
+        ],
+    ),
+    // A survey hears noise under address 0, which is reserved for 123456. It visits that gear twice, since the first
+    // query is destroyed, hears that it has no address, and closes: the address may be another's. Was the lost visit
+    // counted, the close would end at its seventh loss.
+    (
+        "tries are counted anew after a visit that is passed by",
+        &[
+            (
+                "site 1 0-0
+                 draws 123456
+                 run 110 > 0: commit reserve 0 123456
+                 > ran 109
+                 store 0 > ok
+                 down 0 > ok
+                 up 0 > ok
+                 survey 0 > 0: put 3 01C2
+                 pump noise > 0: sent 01C2 damaged
+                 run 264 > ran 264
+                 go 0 > 0: put 1 BB00
+                 pump destroyed - > 0: destroyed BB00
+                 run 4 > ran 4",
+                1,
+            ),
+            (
+                "go 0 > 0: put 3 A100
+                 pump destroyed - > 0: destroyed A100",
+                8,
+            ),
+            ("go 0 > 0: done gave-up", 1),
         ],
     ),
 ];
