@@ -374,11 +374,14 @@ def prove(title, programs, is_measured):
 
 
 def build(title, programs, is_measured=False):
-    """Proves and builds programs while no other build of this checkout runs, and returns an exit status."""
+    """Proves and builds programs while no other build of this checkout runs, and returns an exit status. Where nothing is to be built, it
+    waits for nobody."""
 
     def interrupt(*_):
         raise Interrupted
 
+    if not wanted(programs):
+        return 0
     for it in (signal.SIGINT, signal.SIGTERM, signal.SIGHUP):
         signal.signal(it, interrupt)
     try:
