@@ -1,5 +1,5 @@
 //! A bus of one's own: it drives itself, so that a worker runs alone. Where its controller has nothing due, or waits
-//! for room, the bus has a turn before.
+//! for room, the bus has a turn before. It tells nothing to who looks first, so that a worker takes a turn in vain.
 
 ghost use Rattle.std.specs.Prelude.{◌≡◌};
 
@@ -20,6 +20,8 @@ pub struct DrivenBus<'a, B: Bus> {
     pub driver: &'a Mutex<B::Driver>,
     /// Whether a worker has waited for room.
     pub has_waited: &'a AtomicBool,
+    /// Whether a worker has looked what it is told.
+    pub has_looked: &'a AtomicBool,
 }
 
 impl<B: Bus> DrivenBus<'_, B> {
@@ -55,7 +57,7 @@ impl<B: Bus> Bus for DrivenBus<'_, B> {
 
     ghost told = { B.told };
 
-    ghost untold = { B.untold };
+    ghost untold = { λ _. Unit {0} };
 
     ghost ordered = { B.ordered };
 
@@ -84,7 +86,12 @@ impl<B: Bus> Bus for DrivenBus<'_, B> {
     }
 
     fn next<R: Wait>(&self, rt: &R, port: &mut B::Port) -> Option<Input> {
-        self.bus.next(rt, port)
+        if self.has_looked.load(SeqCst) {
+            self.bus.next(rt, port)
+        } else {
+            self.has_looked.store(true, SeqCst);
+            None
+        }
     }
 
     fn due<R: Wait>(&self, rt: &R, port: &mut B::Port) -> Due {

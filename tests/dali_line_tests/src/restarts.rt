@@ -365,16 +365,18 @@ where
     let driver = Mutex::new(driver);
     let other = Mutex::new(other);
     let has_waited = AtomicBool::new(false);
+    let has_looked = AtomicBool::new(false);
     let bus = DrivenBus {
         bus: line,
         driver: &driver,
         has_waited: &has_waited,
+        has_looked: &has_looked,
     };
     let (port, keep) = match story {
         Story::Restart(commit) => restarted(rt, alloc, &bus, port, keep, records, commit),
         Story::Full => flooded(rt, alloc, &bus, (port, &other), keep, 3, FOUND),
         Story::Untold => flooded(rt, alloc, &bus, (port, &other), keep, 0, Outcome::Stopped),
-        Story::Unmade => runs(rt, alloc, &bus, port, keep, 110, Outcome::TurnsSpent),
+        Story::Unmade => runs(rt, alloc, &bus, port, keep, 111, Outcome::TurnsSpent),
         Story::Rest | Story::Lapse => runs(rt, alloc, &bus, port, keep, TURNS, FOUND),
     };
     ((port, other.into_inner()), driver.into_inner(), keep)
