@@ -1,4 +1,8 @@
-"""Simulated control gear on a bus. They behave as docs/RULES.md says; a file keeps what gear keep over a loss of power."""
+"""Simulated control gear on a bus. They behave as docs/RULES.md says; a file keeps what gear keep over a loss of power.
+
+Three commands more are theirs, by which a tool brings used gear back: DTR0, SET SHORT ADDRESS (DTR0) and RESET
+(IEC 62386-102:2014). The program never sends them.
+"""
 
 import argparse
 import fcntl
@@ -19,6 +23,9 @@ DISABLED, ENABLED, WITHDRAWN = "disabled", "enabled", "withdrawn"
 INITIALISE, RANDOMISE, COMPARE, VERIFY, QUERY_SHORT = 0xA5, 0xA7, 0xA9, 0xB9, 0xBB
 # QUERY RANDOM ADDRESS (H), (M) and (L), with the place of the byte that they ask for.
 RANDOM_BYTES = {0xC2: 16, 0xC3: 8, 0xC4: 0}
+# The address bytes of commands to all gear, and to those without short address.
+ALL, UNADDRESSED = 0xFF, 0xFD
+RESET, SET_SHORT = 0x20, 0x80
 
 
 def short_of(byte):
@@ -30,6 +37,8 @@ def is_send_twice(frame):
     address_byte, data = frame
     if address_byte == INITIALISE:
         return data in (0, MASK) or short_of(data) is not None
+    if address_byte in (ALL, UNADDRESSED) or short_of(address_byte) is not None:
+        return data in (RESET, SET_SHORT)
     return address_byte == RANDOMISE and data == 0
 
 
@@ -48,7 +57,7 @@ class Gear:
 
     def __init__(self, short, random_address, level):
         self.short, self.random, self.level = short, random_address, level
-        self.state, self.search, self.half = DISABLED, MASK24, None
+        self.state, self.search, self.half, self.dtr0 = DISABLED, MASK24, None, 0
 
     def kept(self):
         return self.short, self.random, self.level
@@ -76,9 +85,17 @@ class Gear:
             return self.take_level(address_byte, data)
         if address_byte in COMMANDS:
             return COMMANDS[address_byte](self, data, draw)
-        if self.short is not None and short_of(address_byte) == self.short and data in RANDOM_BYTES:
-            return self.random >> RANDOM_BYTES[data] & 0xFF
-        return None
+        is_own = self.short is not None and short_of(address_byte) == self.short
+        if is_own or address_byte == ALL or address_byte == UNADDRESSED and self.short is None:
+            self.obey(data)
+        return self.random >> RANDOM_BYTES[data] & 0xFF if is_own and data in RANDOM_BYTES else None
+
+    def obey(self, opcode):
+        """Does what a command that is addressed to this gear asks for. RESET leaves the short address, and the initialisation."""
+        if opcode == RESET:
+            self.random, self.search, self.level = MASK24, MASK24, FULL
+        if opcode == SET_SHORT and (self.dtr0 == MASK or short_of(self.dtr0) is not None):
+            self.short = short_of(self.dtr0)
 
     def take_level(self, address_byte, level):
         """Direct arc power, to one short address, to all (`FE`) or to those without short address (`FC`)."""
@@ -89,6 +106,9 @@ class Gear:
     def terminate(self, data, _draw):
         if data == 0:
             self.state = DISABLED
+
+    def set_dtr0(self, data, _draw):
+        self.dtr0 = data
 
     def initialise(self, data, _draw):
         if data in (0, self.short_byte()):
@@ -131,6 +151,7 @@ class Gear:
 
 COMMANDS = {
     0xA1: Gear.terminate,
+    0xA3: Gear.set_dtr0,
     INITIALISE: Gear.initialise,
     RANDOMISE: Gear.randomise,
     COMPARE: Gear.compare,
