@@ -1,4 +1,4 @@
-"""Joins a program and its driver: starts both, relays their lines, passes signals on, and ends the driver. tools/drive says how."""
+"""Joins a program and its driver: starts both, passes lines and signals on, and ends the driver. tools/drive says how."""
 
 import contextlib
 import math

@@ -217,7 +217,7 @@ class Relay:
             raise Fault(f"the driver wrote a line that was not asked for, {when}: {shown(line if feed else text)}")
 
     def look_for_rest(self):
-        """What the driver, which has ended, wrote after its last answer. The one that nobody waited for any more is none of it."""
+        """What the driver, which has ended, wrote after its last answer. One that nobody waited for any more is none of it."""
         os.set_blocking(self.driver.stdout.fileno(), False)
         try:
             text = self.told + (os.read(self.driver.stdout.fileno(), MUCH) or b"")
