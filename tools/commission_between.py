@@ -12,7 +12,8 @@ PLAN is JSON:
                 (null: with any): `before` the driver has the frame, `unheard`, before the program is told of it, or `after`,
                 so many seconds later. Where it is_cut, the driver is killed with it
     fault       {at, kind, text}: at this line, `text` is told in hexadecimal digits, and then no more where `kind` is `ends`.
-                `mute` tells nothing and waits, `closed` reads no more
+                `mute` tells nothing and waits, `stalls` does until its input ends, `closed` reads no more. Where `kind` is
+                `ahead` or `beside`, the driver has the frame, and `text` is told before its answer, or together with it
 """
 
 import json
@@ -77,10 +78,21 @@ class Between:
         if self.fault["kind"] == "closed":
             os.close(0)
         os.write(1, bytes.fromhex(self.fault["text"]))
+        if self.fault["kind"] == "stalls":
+            sys.stdin.buffer.read()
         if self.fault["kind"] in ("mute", "closed"):
             time.sleep(3600 if self.fault["kind"] == "mute" else 1)
         if self.fault["kind"] != "goes on":
             raise End
+
+    def tell_too_much(self, line):
+        """Tells a line that was not asked for, and the driver's answer."""
+        text = bytes.fromhex(self.fault["text"])
+        if self.fault["kind"] == "ahead":
+            os.write(1, text)
+            os.write(1, self.put(line))
+        else:
+            os.write(1, self.put(line) + text)
 
     def take(self, line):
         """Passes a line of the program, and the answer to it."""
@@ -91,7 +103,10 @@ class Between:
         if address_byte == PROGRAM_SHORT and self.plan.get("watch"):
             self.copy(opcode_byte)
         if self.fault and self.fault["at"] == self.lines:
-            self.do_fault()
+            if self.fault["kind"] in ("ahead", "beside"):
+                self.tell_too_much(line)
+            else:
+                self.do_fault()
             return
         moment = self.kill["moment"] if self.is_time(address_byte) else None
         if moment == "before":

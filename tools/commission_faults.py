@@ -294,6 +294,65 @@ def slow(place, _chance):
     check_sound(place)
 
 
+# The launcher's relay.
+
+
+# A run of few frames over one gear.
+SHORT = {"words": ("--others", "4-63", "--quiet-runs", "1"), "block": "0-3"}
+
+
+def short_run(place, **more):
+    """A run of few frames through the relay, over a new gear, with new records."""
+    for file in place.folder.glob("records.db*"):
+        file.unlink()
+    place.write_gear([(None, 0xFFFFFF)])
+    words = run_words(place, *SHORT["words"], block=SHORT["block"])
+    return place.joined(words, place.simulated(), **more)
+
+
+def check_relay(place, name, ran, said):
+    """The launcher ended a run since the driver was at fault, and said how. The next run goes on."""
+    last = (ran.said.splitlines() or [""])[-1]
+    is_right = ran.status == DRIVER and re.search(f": {said}$", last)
+    place.check(f"{name} ends with status 4, and the last line says so", is_right, ran)
+    check_sound(place, (0, 3))
+
+
+def too_many(place, kind, where, text):
+    """A driver that writes a line too many at each frame of a short run, beside the answer or ahead of it."""
+    count = short_run(place).lines
+    for at in range(1, count + 1):
+        ran = short_run(place, fault={"at": at, "kind": kind, "text": text.hex()})
+        said = f"the driver wrote a line that was not asked for, after frame {where or at}: '.*'"
+        check_relay(place, f"a line too many {kind} an answer", ran, said)
+        place.checks.count(f"frames at which a line too many came {kind} the answer")
+    check_goes_on(place, "lines too many")
+
+
+def lines_beside(place, chance):
+    too_many(place, "beside", None, chance.choice([b"silence\n", b"byte FF\n", b"\n", b"damaged"]))
+
+
+def silence_ahead(place, _chance):
+    """The line is taken for the answer, and each answer for that of the next frame, until one is left over."""
+    too_many(place, "ahead", r"\d+", b"silence\n")
+
+
+def byte_ahead(place, _chance):
+    too_many(place, "ahead", r"\d+", b"byte FF\n")
+
+
+def stalls(place, chance):
+    """A driver that does not answer, at any frame of a short run."""
+    count = short_run(place).lines
+    for at in (1, *sorted(chance.sample(range(2, count + 1), 7))):
+        for text in (b"", b"sil"):
+            ran = short_run(place, seconds=1, fault={"at": at, "kind": "stalls", "text": text.hex()})
+            begun = ", and has begun a line: 'sil'" if text else ""
+            check_relay(place, "a driver that stalls", ran, f"the driver did not answer frame {at} in 1 second{begun}")
+    check_goes_on(place, "drivers that stalled")
+
+
 def gives_up(place, _chance):
     """A bus on which nothing is sent, or all is destroyed."""
     for trouble in ("--lapse", "--destroy"):
@@ -332,6 +391,6 @@ def no_output(place, _chance):
 
 
 FAULTS = (
-    full_disk, bad_lines, longest_file, opening, signals, dies, spoilt, closes, locked, missing, blocks, slow, gives_up,
-    no_output,
+    full_disk, lines_beside, silence_ahead, byte_ahead, bad_lines, longest_file, opening, signals, dies, spoilt, closes, locked,
+    stalls, missing, blocks, slow, gives_up, no_output,
 )

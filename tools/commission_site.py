@@ -18,6 +18,8 @@ from record_kinds import ENROL, KINDS, RELEASE, RESERVE
 
 ROOT = pathlib.Path(__file__).resolve().parent.parent
 BETWEEN = ROOT / "tools/commission_between.py"
+# What joins a program and a driver as tools/drive does it, and builds nothing.
+JOIN = "import json, sys; import joining; sys.exit(joining.join(*json.loads(sys.argv[1])))"
 MASK24 = 0xFFFFFF
 # The exit statuses of the program.
 DONE, NOT_SO, DRIVER, STORE, BLOCK_FULL, GAVE_UP, KILLED = 0, 1, 4, 5, 6, 7, -signal.SIGKILL
@@ -145,6 +147,18 @@ class Place:
 
     def run(self, words, driver, **plan):
         return self.ended(*self.begin(words, driver, **plan))
+
+    def joined(self, words, driver, seconds=10, **plan):
+        """Runs the program by the launcher's relay, which gives the driver so many seconds for an answer."""
+        report = self.folder / "report.json"
+        report.unlink(missing_ok=True)
+        plan |= {"driver": driver, "report": str(report)}
+        both = [[str(self.program), *map(str, words)], [sys.executable, "-S", str(BETWEEN), json.dumps(plan)], seconds]
+        how = {"cwd": ROOT / "tools", "stdin": subprocess.DEVNULL, "capture_output": True, "text": True, "timeout": PATIENCE}
+        done = subprocess.run([sys.executable, "-S", "-c", JOIN, json.dumps(both)], **how)
+        frames = json.loads(report.read_text())["lines"]
+        self.checks.count("frames", frames)
+        return Ran(done.returncode, done.stdout, done.stderr, frames)
 
     def alone(self, *words):
         """Runs the program without a driver."""

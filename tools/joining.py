@@ -5,7 +5,6 @@ import math
 import os
 import signal
 import subprocess
-import sys
 import time
 
 import relay
@@ -23,7 +22,7 @@ UNWRITTEN, AT_FAULT, NOT_STARTED = 3, 4, 127
 def say(text):
     """Says something on standard error. Where that is gone, as with a closed terminal, the run goes on all the same."""
     with contextlib.suppress(OSError):
-        os.write(sys.stderr.fileno(), os.fsencode(f"{text}\n"))
+        os.write(2, os.fsencode(f"{text}\n"))
 
 
 class Signals:

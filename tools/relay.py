@@ -112,7 +112,8 @@ class Relay:
         now = time.monotonic()
         if now >= self.until:
             begun = f", and has begun a line: {shown(self.told)}" if self.told else ""
-            raise Fault(f"the driver did not answer frame {self.frames} in {self.seconds:g} seconds{begun}")
+            seconds = f"{self.seconds:g} second{'' if self.seconds == 1 else 's'}"
+            raise Fault(f"the driver did not answer frame {self.frames} in {seconds}{begun}")
         if not self.is_awaited() and self.signals.is_to_end():
             self.close_input()
         if now >= self.patient_until():
