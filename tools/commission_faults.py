@@ -322,24 +322,24 @@ def too_many(place, kind, where, text):
     """A driver that writes a line too many at each frame of a short run, beside the answer or ahead of it."""
     count = short_run(place).lines
     for at in range(1, count + 1):
-        ran = short_run(place, fault={"at": at, "kind": kind, "text": text.hex()})
+        ran = short_run(place, fault={"at": at, "kind": kind.split()[0], "text": text.hex()})
         said = f"the driver wrote a line that was not asked for, after frame {where or at}: '.*'"
-        check_relay(place, f"a line too many {kind} an answer", ran, said)
-        place.checks.count(f"frames at which a line too many came {kind} the answer")
+        check_relay(place, f"a line too many, {kind}", ran, said)
+        place.checks.count(f"frames at which a line too many came, {kind}")
     check_goes_on(place, "lines too many")
 
 
 def lines_beside(place, chance):
-    too_many(place, "beside", None, chance.choice([b"silence\n", b"byte FF\n", b"\n", b"damaged"]))
+    too_many(place, "beside an answer", None, chance.choice([b"silence\n", b"byte FF\n", b"\n", b"damaged"]))
 
 
 def silence_ahead(place, _chance):
     """The line is taken for the answer, and each answer for that of the next frame, until one is left over."""
-    too_many(place, "ahead", r"\d+", b"silence\n")
+    too_many(place, "ahead of an answer", r"\d+", b"silence\n")
 
 
 def byte_ahead(place, _chance):
-    too_many(place, "ahead", r"\d+", b"byte FF\n")
+    too_many(place, "ahead of an answer", r"\d+", b"byte FF\n")
 
 
 def stalls(place, chance):

@@ -13,6 +13,8 @@ import relay
 PASSED = (signal.SIGTERM, signal.SIGHUP, signal.SIGINT)
 # How many seconds a driver has after the end of its input, and how many more after it was terminated.
 PATIENCE = 2
+# Within how many seconds two equal signals are one: `timeout` sends each twice, to a process and to its group.
+SAME = 0.3
 # How many seconds a driver has for an answer, if nothing else is said.
 ANSWERS = 10
 # The exit statuses that are not the program's.
@@ -32,7 +34,7 @@ class Signals:
     """
 
     def __init__(self, is_gentle):
-        self.program, self.is_gentle, self.came, self.first = None, is_gentle, [], None
+        self.program, self.is_gentle, self.came, self.moments = None, is_gentle, [], []
         # What is written when a signal comes, so that whoever waits for files sees it.
         woken, waker = os.pipe()
         os.set_blocking(waker, False)
@@ -43,8 +45,13 @@ class Signals:
                 signal.signal(number, self.take)
 
     def take(self, number, _frame):
-        self.first = self.first or time.monotonic()
+        now = time.monotonic()
+        if not self.is_gentle or self.came[-1:] != [number] or now - self.moments[-1] > SAME:
+            self.add(number, now)
+
+    def add(self, number, now):
         self.came.append(number)
+        self.moments.append(now)
         if self.program and (not self.is_gentle or self.is_urgent()):
             self.program.send_signal(number)
 
@@ -67,11 +74,11 @@ class Signals:
 
     def patient_until(self):
         """Until when a program has time to end by itself."""
-        return self.first + PATIENCE if self.is_to_end() and not self.is_urgent() else math.inf
+        return self.moments[0] + PATIENCE if self.is_to_end() and not self.is_urgent() else math.inf
 
     def pass_on(self):
         """Passes on the first signal, since the program has not ended by itself."""
-        self.take(self.came[0], None)
+        self.add(self.came[0], time.monotonic())
 
 
 def started(title, what, words):
