@@ -26,6 +26,15 @@ def late(*words):
     return starts(*words)
 joining.started = late
 """)
+# The same, slow to pass an answer on, so that the driver writes more before the next frame.
+JOIN_SLOW = JOIN.replace("import joining\n", """
+import joining, relay
+passes = relay.Relay.answer
+def slow(self, line):
+    passes(self, line)
+    time.sleep(0.5)
+relay.Relay.answer = slow
+""")
 # A program that waits for a signal, and a driver that waits for the end of its input.
 WAITS = """
 import signal, sys, time
