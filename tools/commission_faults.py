@@ -1,6 +1,7 @@
 """What may go wrong around the program `dali_commission`: with its records, its driver, its disk, and by signals."""
 
 import contextlib
+import json
 import os
 import pathlib
 import re
@@ -353,6 +354,18 @@ def stalls(place, chance):
     check_goes_on(place, "drivers that stalled")
 
 
+def shows(place, chance):
+    """A luminaire that is shown is bright in the end, whenever that is stopped."""
+    place.write_gear([(5, 0x123456)])
+    for number in (signal.SIGINT, signal.SIGTERM, signal.SIGHUP) * 2:
+        for slow in (0, 0.3):
+            driver = place.simulated("--slow", slow)
+            ran = place.shown(["identify", 5], driver, chance.uniform(0.5, 8), number)
+            (gear,) = json.loads(place.gear_file.read_text())["gear"]
+            is_right = ran.status == 128 + number and gear["level"] == 254
+            place.check("a luminaire that was shown is bright in the end", is_right, f"{ran} {gear}")
+
+
 def gives_up(place, _chance):
     """A bus on which nothing is sent, or all is destroyed."""
     for trouble in ("--lapse", "--destroy"):
@@ -392,5 +405,5 @@ def no_output(place, _chance):
 
 FAULTS = (
     full_disk, lines_beside, silence_ahead, byte_ahead, bad_lines, longest_file, opening, signals, dies, spoilt, closes, locked,
-    stalls, missing, blocks, slow, gives_up, no_output,
+    shows, stalls, missing, blocks, slow, gives_up, no_output,
 )

@@ -12,6 +12,7 @@ import subprocess
 import sys
 import tempfile
 import threading
+import time
 import typing
 
 from record_kinds import ENROL, KINDS, RELEASE, RESERVE
@@ -147,6 +148,18 @@ class Place:
 
     def run(self, words, driver, **plan):
         return self.ended(*self.begin(words, driver, **plan))
+
+    def shown(self, words, driver, after, number):
+        """Runs the program by the launcher's relay, gently, and sends a signal after so many seconds."""
+        both = [[str(self.program), *map(str, words)], driver, 10, True]
+        call = [sys.executable, "-S", "-c", JOIN, json.dumps(both)]
+        pipes = {"stdout": subprocess.PIPE, "stderr": subprocess.PIPE, "text": True}
+        joined = self.started(call, cwd=ROOT / "tools", stdin=subprocess.DEVNULL, **pipes)
+        time.sleep(after)
+        joined.send_signal(number)
+        wrote, said = joined.communicate(timeout=PATIENCE)
+        self.left.remove(joined)
+        return Ran(joined.returncode, wrote, said, 0)
 
     def joined(self, words, driver, seconds=10, **plan):
         """Runs the program by the launcher's relay, which gives the driver so many seconds for an answer."""
