@@ -1,28 +1,106 @@
-use Rattle.std.specs.Prelude.{◌≡◌, ℕ, List, ◌∷◌}
+use Rattle.std.specs.Prelude.{◌≡◌, ℕ, true, List, [], ◌∷◌, Some, None}
+use Rattle.dali_frame.specs.declared.frames.Answer.TheVariants.{Silence}
+use Rattle.dali_special.specs.declared.command.Command.TheVariants.{RandomByte}
+use Rattle.dali_special.specs.declared.command.Part.TheVariants.{High}
+use Rattle.dali_special.specs.Command.{command_of}
+use Rattle.dali_gear.specs.declared.row.Reach.TheVariants.{Everyone}
+use Rattle.dali_gear.specs.Row.{answers_of, heard_of}
 use Rattle.dali_script.specs.Records.{Has}
-use Rattle.dali_script.specs.declared.records.Record.TheVariants.{Reserve}
-use Rattle.dali_script.specs.declared.orders.Input.{Input}
-use Rattle.dali_script.specs.declared.orders.Order.TheVariants.{Commit}
-use Rattle.dali_controller.specs.Machine.{Machine}
+use Rattle.dali_script.specs.declared.orders.Input.TheVariants as input
+use Rattle.dali_controller.specs.Machine.{Machine, at_first}
 use Rattle.dali_events.specs.declared.event.Event.{Event}
 use Rattle.dali_events.specs.declared.event.Event.TheVariants as event
 use Rattle.dali_events.specs.declared.used.Used.{Used}
 use Rattle.dali_events.specs.Used.{used_shorts}
-use Rattle.dali_progress.specs.Surveyed.{Step, IsCourse, ArePlain, HasSurveyed, WasHeard}
+use Rattle.dali_events.specs.World.{gear_at, controller_at}
+use Rattle.dali_events.specs.Allowed.{Allowed}
+use Rattle.dali_standing.specs.Seats.{Waits, MayAnswer, LeavesWhole}
+use Rattle.dali_world.specs.Site.{SiteState, world, machine_at, site_logged, WasOrdered}
 
--- THE ORDER OF A SURVEY THAT HEARD THE USED GEAR: the newest step of a course of a machine that
--- surveyed, which heard somebody under each short address that used gear have.
-pub record IsBySurvey (us : List Used) (a r : ℕ) : Type 0 where
-  pub step : Step
-  pub earlier : List Step
-  pub machine : Machine
-  pub course : IsCourse (step ∷ earlier) machine
-  pub plain : ArePlain (step ∷ earlier)
-  pub order : step.order ≡ Commit (Reserve a r)
-  pub surveyed : HasSurveyed machine
-  pub heard : (short : ℕ) → Has (used_shorts us) short → WasHeard (step ∷ earlier) short
+-- USED GEAR ARE LEFT ALONE by controllers that survey, and hear them.
 
--- an event in which nobody reserves an address but by such a survey
-abbrev pub ReservesBySurvey : List Used → Event → Type 0
-ReservesBySurvey us e =
-    (c : ℕ) (i : Input) (a r : ℕ) → e ≡ event.Acted c i (Commit (Reserve a r)) → IsBySurvey us a r
+-- ---------------------------------------------------------------- what calls add to a log
+
+-- WHAT IS SO OF EACH EVENT that a call of a site adds to its log, by the contracts of `act` and
+-- `pump`. A controller that acts waits for its input; its machine gives the order, and is whole
+-- afterwards. A frame that is sent is what its sender ordered last, or direct arc power.
+abbrev pub IsOfCall : SiteState → Event → Type 0
+IsOfCall s (event.Acted c i o) =
+    Waits (machine_at s c) i × MayAnswer (machine_at s c) i o × LeavesWhole (machine_at s c) i o
+IsOfCall s (event.Sent c f h) = WasOrdered s c f
+IsOfCall s (event.Offered c f) = Unit {0}
+IsOfCall s (event.Destroyed c f set) = Unit {0}
+IsOfCall s (event.Collided c f d g) = Unit {0}
+IsOfCall s event.Lapsed = Unit {0}
+IsOfCall s event.Quiet = Unit {0}
+IsOfCall s (event.Power g on) = Unit {0}
+IsOfCall s (event.Expired g) = Unit {0}
+IsOfCall s (event.Down c) = Unit {0}
+IsOfCall s (event.Up c kept) = Unit {0}
+
+-- events that calls add, one after the other
+abbrev pub AreOfCalls : SiteState → List Event → Type 0
+AreOfCalls s [] = Unit {0}
+AreOfCalls s (e ∷ es) = Allowed (world s) e × IsOfCall s e × AreOfCalls (site_logged s e) es
+
+-- A CONTROLLER THAT HAS JUST BEGUN, as at the start of the site and where it comes up again: it is
+-- to start, and its machine knows its records alone.
+pub record HasJustBegun (s : SiteState) (c : ℕ) : Type 0 where
+  pub told : (controller_at (world s) c).told ≡ Some input.Start
+  pub last : (controller_at (world s) c).last ≡ None
+  pub machine : machine_at s c ≡ Some (at_first c (controller_at (world s) c).records)
+
+-- ---------------------------------------------------------------- who hears the used gear
+
+-- WHO HEARS THE USED GEAR: where controller c begins, it does so by a survey, and not by Start.
+-- Where it asks a short address that used gear have for the first byte of its random address, it
+-- hears an answer, be it a damaged one.
+abbrev pub HearsUsed : List Used → ℕ → Event → Type 0
+HearsUsed us c (event.Acted d i o) = d ≡ c → i ≡ input.Start → ⊥
+HearsUsed us c (event.Sent d f h) =
+    (a : ℕ) → d ≡ c → Has (used_shorts us) a → command_of f ≡ RandomByte a High → h ≡ Silence → ⊥
+HearsUsed us c (event.Offered d f) = Unit {0}
+HearsUsed us c (event.Destroyed d f set) = Unit {0}
+HearsUsed us c (event.Collided d f e g) = Unit {0}
+HearsUsed us c event.Lapsed = Unit {0}
+HearsUsed us c event.Quiet = Unit {0}
+HearsUsed us c (event.Power g on) = Unit {0}
+HearsUsed us c (event.Expired g) = Unit {0}
+HearsUsed us c (event.Down d) = Unit {0}
+HearsUsed us c (event.Up d kept) = Unit {0}
+
+-- ITS QUESTIONS ARE OVER, where it has gone on to the gear that have no short address; and it does
+-- not begin anew.
+abbrev pub HasAsked : SiteState → ℕ → Type 0
+HasAsked s c = (m : Machine) × (machine_at s c ≡ Some m) × (m.opened ≡ true)
+
+abbrev pub StaysBegun : ℕ → Event → Type 0
+StaysBegun c (event.Up d kept) = d ≡ c → ⊥
+StaysBegun c _ = Unit {0}
+
+-- WHY IT HEARS THEM: each used gear that it asks so has power then, and nothing disturbs its
+-- answer.
+abbrev pub AsksInPeace : SiteState → ℕ → Event → Type 0
+AsksInPeace s c (event.Acted d i o) = d ≡ c → i ≡ input.Start → ⊥
+AsksInPeace s c (event.Sent d f h) =
+    (u : Used) → d ≡ c → Has s.plan.used u → command_of f ≡ RandomByte u.short High
+    → ((gear_at (world s) u.gear).powered ≡ true)
+    × (h ≡ heard_of (answers_of Everyone (command_of f) 0 (world s).gear))
+AsksInPeace s c (event.Offered d f) = Unit {0}
+AsksInPeace s c (event.Destroyed d f set) = Unit {0}
+AsksInPeace s c (event.Collided d f e g) = Unit {0}
+AsksInPeace s c event.Lapsed = Unit {0}
+AsksInPeace s c event.Quiet = Unit {0}
+AsksInPeace s c (event.Power g on) = Unit {0}
+AsksInPeace s c (event.Expired g) = Unit {0}
+AsksInPeace s c (event.Down d) = Unit {0}
+AsksInPeace s c (event.Up d kept) = Unit {0}
+
+-- all used gear have power
+abbrev pub HavePower : SiteState → Type 0
+HavePower s =
+    (u : Used) → Has s.plan.used u → (gear_at (world s) u.gear).powered ≡ true
+
+abbrev pub AllAskInPeace : SiteState → ℕ → List Event → Type 0
+AllAskInPeace s c [] = Unit {0}
+AllAskInPeace s c (e ∷ es) = AsksInPeace s c e × AllAskInPeace (site_logged s e) c es
