@@ -5,13 +5,14 @@ use Rattle.dali_special.specs.declared.command.Part.TheVariants.{High}
 use Rattle.dali_special.specs.Command.{command_of}
 use Rattle.dali_gear.specs.declared.row.Reach.TheVariants.{Everyone}
 use Rattle.dali_gear.specs.Row.{answers_of, heard_of}
-use Rattle.dali_script.specs.Records.{Has}
+use Rattle.dali_script.specs.Records.{Has, InBlock}
 use Rattle.dali_script.specs.declared.orders.Input.TheVariants as input
 use Rattle.dali_controller.specs.Machine.{Machine, at_first}
 use Rattle.dali_events.specs.declared.event.Event.{Event}
 use Rattle.dali_events.specs.declared.event.Event.TheVariants as event
 use Rattle.dali_events.specs.declared.used.Used.{Used}
 use Rattle.dali_events.specs.Used.{used_shorts}
+use Rattle.dali_events.specs.Plan.{Plan, block_at}
 use Rattle.dali_events.specs.World.{gear_at, controller_at}
 use Rattle.dali_events.specs.Allowed.{Allowed}
 use Rattle.dali_standing.specs.Seats.{Waits, MayAnswer, LeavesWhole}
@@ -44,30 +45,35 @@ AreOfCalls s [] = Unit {0}
 AreOfCalls s (e ∷ es) = Allowed (world s) e × IsOfCall s e × AreOfCalls (site_logged s e) es
 
 -- A CONTROLLER THAT HAS JUST BEGUN, as at the start of the site and where it comes up again: it is
--- to start, and its machine knows its records alone.
+-- to start, and its machine knows its records alone, which are of its block.
 pub record HasJustBegun (s : SiteState) (c : ℕ) : Type 0 where
   pub told : (controller_at (world s) c).told ≡ Some input.Start
   pub last : (controller_at (world s) c).last ≡ None
   pub machine : machine_at s c ≡ Some (at_first c (controller_at (world s) c).records)
+  pub block : (controller_at (world s) c).records.block ≡ block_at s.plan c
 
 -- ---------------------------------------------------------------- who hears the used gear
 
--- WHO HEARS THE USED GEAR: where controller c begins, it does so by a survey, and not by Start.
--- Where it asks a short address that used gear have for the first byte of its random address, it
+-- the short addresses of the block of controller c that used gear have
+abbrev pub IsUsedOf : Plan → ℕ → ℕ → Type 0
+IsUsedOf p c a = InBlock (block_at p c) a × Has (used_shorts p.used) a
+
+-- WHO HEARS THE USED GEAR of its block: where controller c begins, it does so by a survey, and not
+-- by Start. Where it asks one of these short addresses for the first byte of its random address, it
 -- hears an answer, be it a damaged one.
-abbrev pub HearsUsed : List Used → ℕ → Event → Type 0
-HearsUsed us c (event.Acted d i o) = d ≡ c → i ≡ input.Start → ⊥
-HearsUsed us c (event.Sent d f h) =
-    (a : ℕ) → d ≡ c → Has (used_shorts us) a → command_of f ≡ RandomByte a High → h ≡ Silence → ⊥
-HearsUsed us c (event.Offered d f) = Unit {0}
-HearsUsed us c (event.Destroyed d f set) = Unit {0}
-HearsUsed us c (event.Collided d f e g) = Unit {0}
-HearsUsed us c event.Lapsed = Unit {0}
-HearsUsed us c event.Quiet = Unit {0}
-HearsUsed us c (event.Power g on) = Unit {0}
-HearsUsed us c (event.Expired g) = Unit {0}
-HearsUsed us c (event.Down d) = Unit {0}
-HearsUsed us c (event.Up d kept) = Unit {0}
+abbrev pub HearsUsed : Plan → ℕ → Event → Type 0
+HearsUsed p c (event.Acted d i o) = d ≡ c → i ≡ input.Start → ⊥
+HearsUsed p c (event.Sent d f h) =
+    (a : ℕ) → d ≡ c → IsUsedOf p c a → command_of f ≡ RandomByte a High → h ≡ Silence → ⊥
+HearsUsed p c (event.Offered d f) = Unit {0}
+HearsUsed p c (event.Destroyed d f set) = Unit {0}
+HearsUsed p c (event.Collided d f e g) = Unit {0}
+HearsUsed p c event.Lapsed = Unit {0}
+HearsUsed p c event.Quiet = Unit {0}
+HearsUsed p c (event.Power g on) = Unit {0}
+HearsUsed p c (event.Expired g) = Unit {0}
+HearsUsed p c (event.Down d) = Unit {0}
+HearsUsed p c (event.Up d kept) = Unit {0}
 
 -- ITS QUESTIONS ARE OVER, where it has gone on to the gear that have no short address; and it does
 -- not begin anew.
@@ -78,12 +84,13 @@ abbrev pub StaysBegun : ℕ → Event → Type 0
 StaysBegun c (event.Up d kept) = d ≡ c → ⊥
 StaysBegun c _ = Unit {0}
 
--- WHY IT HEARS THEM: each used gear that it asks so has power then, and nothing disturbs its
--- answer.
+-- WHY IT HEARS THEM: each used gear of its block that it asks so has power then, and nothing
+-- disturbs the answer.
 abbrev pub AsksInPeace : SiteState → ℕ → Event → Type 0
 AsksInPeace s c (event.Acted d i o) = d ≡ c → i ≡ input.Start → ⊥
 AsksInPeace s c (event.Sent d f h) =
-    (u : Used) → d ≡ c → Has s.plan.used u → command_of f ≡ RandomByte u.short High
+    (u : Used) → d ≡ c → Has s.plan.used u → InBlock (block_at s.plan c) u.short
+    → command_of f ≡ RandomByte u.short High
     → ((gear_at (world s) u.gear).powered ≡ true)
     × (h ≡ heard_of (answers_of Everyone (command_of f) 0 (world s).gear))
 AsksInPeace s c (event.Offered d f) = Unit {0}

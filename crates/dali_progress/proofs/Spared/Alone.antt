@@ -28,6 +28,7 @@ use Rattle.dali_standing.specs.Seats.{IsTold, Waits}
 use Rattle.dali_world.specs.Site.{SiteState, world, site_logged, WasOrdered}
 use Rattle.dali_progress.specs.Surveys.{SurveysAlone, Surveys, IsOfSurvey, SurveyRounds, IsSettledAt}
 use Rattle.dali_progress.specs.Spared.{IsOfCall, AreOfCalls, HasJustBegun, AsksInPeace, HavePower, AllAskInPeace}
+use Rattle.dali_world.proofs.Logs.{records_now}
 use Rattle.dali_progress.proofs.Lone.{Moment, lone_next}
 use Rattle.dali_progress.proofs.Bounded.{world_logged}
 use Rattle.dali_progress.proofs.Sweep.Course.{started}
@@ -116,7 +117,7 @@ call_of start s c left _ u here of = absurd of
 
 peace_of : (s : SiteState) (c : ℕ) (e : Event) → HavePower s → IsOfSurvey s c e → AsksInPeace s c e
 peace_of s c (event.Acted d i o) power of = λ same start. subst Surveys start of.1
-peace_of s c (event.Sent d f h) power of = λ u same has asks. (power u has, of.4)
+peace_of s c (event.Sent d f h) power of = λ u same has within asks. (power u has, of.4)
 peace_of s c _ power of = absurd of
 
 all_in_peace : (start : Begun) (s : SiteState) (c left : ℕ) (es : List Event) → Runs start s c left → HavePower s → SurveyRounds s c es
@@ -134,7 +135,7 @@ pub alone_in_peace : (s : SiteState) (c : ℕ) (es : List Event) → SurveysAlon
     → HasJustBegun s c × AreOfCalls s es × AllAskInPeace s c es
 alone_in_peace s c es a power rounds =
     let all = all_in_peace (began_at true s) s c (106 * count_by is_bare (world s).gear + 219 + spare true) es (starts true s c a unsettled) power rounds in
-    (record { told = a.told; last = a.last; machine = a.machine }, all.0, all.1)
+    (record { told = a.told; last = a.last; machine = a.machine; block = (records_now s.plan s.queue s.log a.run).block c a.up.known }, all.0, all.1)
   where
     unsettled : true ≡ false → IsSettledAt s c
     unsettled never = absurd (cc)

@@ -27,7 +27,7 @@ use Rattle.dali_standing.specs.Seats.{Waits}
 use Rattle.dali_standing.specs.Standing.{machine_in, machines_after}
 use Rattle.dali_world.specs.Site.{SiteState, world, machines, machine_at, site_logged, IsActRefused}
 use Rattle.dali_progress.specs.Rounds.{site_after}
-use Rattle.dali_progress.specs.Spared.{IsOfCall, AreOfCalls, HasJustBegun, HearsUsed, HasAsked, StaysBegun}
+use Rattle.dali_progress.specs.Spared.{IsOfCall, AreOfCalls, HasJustBegun, IsUsedOf, HearsUsed, HasAsked, StaysBegun}
 use Rattle.dali_progress.proofs.Bounded.{machines_logged, some_within}
 use Rattle.dali_progress.proofs.Spared.Lives.{IsFair}
 use Rattle.dali_progress.proofs.Spared.Calls.{IsLivedAt, Heeds, heeded_on, just_lived, lived_all, unrefused_now, none_set, some_same, by_place}
@@ -123,8 +123,8 @@ opened_heeds s c (event.Acted d i o) here l wide of = λ same start. go same sta
       let there : machine_at s c ≡ Some m = subst (λ n. machine_at s n ≡ Some m) same has in
       let k : Controller = controller_at (world s) c in
       let told : k.told ≡ Some input.Start = due same start here in
-      let none : k.last ≡ None = subst (λ t. IsFair s.plan.used m.opened k.last t) told (l m there).told in
-      unstarted_unopened m ((l m there).last ∙ none) (l m there).whole (wide m there)
+      let none : k.last ≡ None = subst (λ t. IsFair (IsUsedOf s.plan c) m.opened k.last t) told (l.lives m there).told in
+      unstarted_unopened m ((l.lives m there).last ∙ none) (l.lives m there).whole (wide m there)
 opened_heeds s c (event.Sent d f h) here l wide of = λ m there same early. absurd (let never : true ≡ false = sym (wide m there) ∙ early in cc)
 opened_heeds s c _ here l wide of = tt
 
@@ -137,7 +137,7 @@ unrefused_on s c (e ∷ es) i plan l wide are stay refused =
 
 -- NOR IS ANY LATER ACT REFUSED SO
 pub unrefused_later : (s : SiteState) (c : ℕ) (es more : List Event) (i : Input) → IsPlan s.plan → HasJustBegun s c → AreOfCalls s es
-    → AllByRecursion (HearsUsed s.plan.used c) es → HasAsked (site_after s es) c → AreOfCalls (site_after s es) more → AllByRecursion (StaysBegun c) more
+    → AllByRecursion (HearsUsed s.plan c) es → HasAsked (site_after s es) c → AreOfCalls (site_after s es) more → AllByRecursion (StaysBegun c) more
     → IsActRefused (site_after (site_after s es) more) c i refusal.AddressInUse → ⊥
 unrefused_later s c es more i plan begun are hear =
     lived_all s c es plan (just_lived s c begun) are hear

@@ -9,28 +9,29 @@ use Rattle.dali_frame.specs.declared.frames.Forward.{Forward}
 use Rattle.dali_special.specs.declared.command.Command.{Command}
 use Rattle.dali_special.specs.Command.{command_of}
 use Rattle.dali_script.specs.declared.block.Block.{Block}
-use Rattle.dali_script.specs.Records.{without_records}
+use Rattle.dali_script.proofs.Lists.{block_stays}
+use Rattle.dali_script.specs.declared.records.Record.{Record}
+use Rattle.dali_script.specs.Records.{Kept, without_records}
 use Rattle.dali_script.specs.declared.orders.Input.{Input}
 use Rattle.dali_script.specs.declared.orders.Input.TheVariants as input
 use Rattle.dali_script.specs.declared.orders.Order.{Order}
 use Rattle.dali_script.specs.Due.{frame_put}
 use Rattle.dali_controller.specs.Machine.{Machine, at_first}
-use Rattle.dali_controller.specs.Orders.{machine_after}
+use Rattle.dali_controller.specs.Orders.{IsGiven, machine_after}
 use Rattle.dali_events.specs.declared.event.Event.{Event}
 use Rattle.dali_events.specs.declared.event.Event.TheVariants as event
-use Rattle.dali_events.specs.declared.used.Used.{Used}
-use Rattle.dali_events.specs.Plan.{Plan, IsPlan}
+use Rattle.dali_events.specs.Plan.{Plan, IsPlan, block_at, no_block}
 use Rattle.dali_events.specs.World.{World, Controller, controller_at, controllers_changed, controller_begun, nobody}
 use Rattle.dali_events.specs.Happens.{happens, controller_acted, told_of, told_sent, told_destroyed, told_lapsed, owner_told, trace_running, is_arc}
-use Rattle.dali_events.specs.Happens.{gone_down, come_up}
-use Rattle.dali_events.specs.Allowed.{Allowed, IsActed, IsSent, IsDown, IsArc}
+use Rattle.dali_events.specs.Happens.{gone_down, come_up, kept_after, with_outstanding}
+use Rattle.dali_events.specs.Allowed.{Allowed, IsActed, IsSent, IsDown, IsArc, IsDue}
 use Rattle.dali_events.proofs.Invariant.Drawn.{are_drawn, draws_after}
 use Rattle.dali_standing.specs.declared.refusal.Refusal.TheVariants as refusal
 use Rattle.dali_standing.specs.Seats.{Waits, MayAnswer, LeavesWhole, ReservesUsed}
 use Rattle.dali_standing.specs.Standing.{machine_in, machines_at, machines_after}
 use Rattle.dali_world.specs.Site.{SiteState, opened_site, world, machines, machine_at, site_logged, IsActRefused}
 use Rattle.dali_progress.specs.Rounds.{site_after}
-use Rattle.dali_progress.specs.Spared.{IsOfCall, AreOfCalls, HasJustBegun, HearsUsed}
+use Rattle.dali_progress.specs.Spared.{IsOfCall, AreOfCalls, HasJustBegun, IsUsedOf, HearsUsed}
 use Rattle.dali_progress.proofs.Lone.{acted_there}
 use Rattle.dali_progress.proofs.Bounded.{world_logged, machines_logged, some_within}
 use Rattle.dali_progress.proofs.Spared.Bytes.{AreSmall, drawn_small, byte_heard_of}
@@ -39,8 +40,8 @@ use Rattle.dali_progress.proofs.Spared.Lives.{IsAnswered, IsWellHeard, IsFair, L
 -- EACH EVENT THAT CALLS ADD goes on with the life of a controller that surveys and hears the used gear.
 
 -- the life of controller c, while it is up
-abbrev pub IsLived : List Used → World → List (Option Machine) → ℕ → Type 0
-IsLived us w ms c = (m : Machine) → machine_in ms c ≡ Some m → Lives us (controller_at w c) m
+abbrev pub IsLived : (ℕ → Type 0) → Block → World → List (Option Machine) → ℕ → Type 0
+IsLived U z w ms c = (m : Machine) → machine_in ms c ≡ Some m → Lives U z (controller_at w c) m
 
 -- ---------------------------------------------------------------- lists with a change at one place
 
@@ -67,9 +68,9 @@ some_same n m e = cc
 
 -- ---------------------------------------------------------------- somebody else's event
 
-elsewhere : (us : List Used) (w w' : World) (ms ms' : List (Option Machine)) (c : ℕ) → controller_at w' c ≡ controller_at w c
-    → machine_in ms' c ≡ machine_in ms c → IsLived us w ms c → IsLived us w' ms' c
-elsewhere us w w' ms ms' c controller machine l m there = subst (λ (k : Controller). Lives us k m) (sym controller) (l m (sym machine ∙ there))
+elsewhere : (U : ℕ → Type 0) (z : Block) (w w' : World) (ms ms' : List (Option Machine)) (c : ℕ) → controller_at w' c ≡ controller_at w c
+    → machine_in ms' c ≡ machine_in ms c → IsLived U z w ms c → IsLived U z w' ms' c
+elsewhere U z w w' ms ms' c controller machine l m there = subst (λ (k : Controller). Lives U z k m) (sym controller) (l m (sym machine ∙ there))
 
 -- an event of controller d, by whether it is c
 pub by_place : (P : Type 0) (d c : ℕ) → (d ≡ c → P) → ((c ≡ d → ⊥) → P) → P
@@ -80,108 +81,159 @@ by_place P d c here there = go (nat_eq d c) refl where
 
 -- ---------------------------------------------------------------- it acts
 
-acted_here : (us : List Used) (w : World) (ms : List (Option Machine)) (c : ℕ) (i : Input) (o : Order) → IsActed w c i o
-    → (i ≡ input.Start → ⊥) → Waits (machine_in ms c) i × MayAnswer (machine_in ms c) i o × LeavesWhole (machine_in ms c) i o → IsLived us w ms c
-    → IsLived us (happens w (event.Acted c i o)) (machines_after w ms (event.Acted c i o)) c
-acted_here us w ms c i o here unstarted of l n there = go (machine_in ms c) refl of where
+acted_here : (U : ℕ → Type 0) (z : Block) (w : World) (ms : List (Option Machine)) (c : ℕ) (i : Input) (o : Order) → IsActed w c i o
+    → (i ≡ input.Start → ⊥) → Waits (machine_in ms c) i × MayAnswer (machine_in ms c) i o × LeavesWhole (machine_in ms c) i o → IsLived U z w ms c
+    → IsLived U z (happens w (event.Acted c i o)) (machines_after w ms (event.Acted c i o)) c
+acted_here U z w ms c i o here unstarted of l n there = go (machine_in ms c) refl of where
   go : (x : Option Machine) → machine_in ms c ≡ x → Waits x i × MayAnswer x i o × LeavesWhole x i o
-      → Lives us (controller_at (happens w (event.Acted c i o)) c) n
+      → Lives U z (controller_at (happens w (event.Acted c i o)) c) n
   go None has of = elim of.1 [ ]
   go (Some m) has of =
       let next : machine_in (machines_after w ms (event.Acted c i o)) c ≡ Some (machine_after m i o) =
       get_or-set_same ms c (option_map (λ x. machine_after x i o) (machine_in ms c)) None (some_within ms c m has)
       ∙ ap (option_map (λ x. machine_after x i o)) has in
       let is : machine_after m i o ≡ n = some_same (machine_after m i o) n (sym next ∙ there) in
-      subst (λ (x : Machine). Lives us (controller_at (happens w (event.Acted c i o)) c) x) is
-      (subst (λ (k : Controller). Lives us k (machine_after m i o)) (sym (acted_there w c i o here.up))
-      (lives_acted us (controller_at w c) m i o (l m has) here.due unstarted of.0 of.1 of.2))
+      subst (λ (x : Machine). Lives U z (controller_at (happens w (event.Acted c i o)) c) x) is
+      (subst (λ (k : Controller). Lives U z k (machine_after m i o)) (sym (acted_there w c i o here.up))
+      (lives_acted U z (controller_at w c) m i o (l m has) here.due unstarted of.0 of.1 of.2))
 
-acted_lived : (us : List Used) (w : World) (ms : List (Option Machine)) (c d : ℕ) (i : Input) (o : Order) → IsActed w d i o → (d ≡ c → i ≡ input.Start → ⊥)
-    → Waits (machine_in ms d) i × MayAnswer (machine_in ms d) i o × LeavesWhole (machine_in ms d) i o → IsLived us w ms c
-    → IsLived us (happens w (event.Acted d i o)) (machines_after w ms (event.Acted d i o)) c
-acted_lived us w ms c d i o here unstarted of l =
+acted_lived : (U : ℕ → Type 0) (z : Block) (w : World) (ms : List (Option Machine)) (c d : ℕ) (i : Input) (o : Order) → IsActed w d i o → (d ≡ c
+    → i ≡ input.Start → ⊥)
+    → Waits (machine_in ms d) i × MayAnswer (machine_in ms d) i o × LeavesWhole (machine_in ms d) i o → IsLived U z w ms c
+    → IsLived U z (happens w (event.Acted d i o)) (machines_after w ms (event.Acted d i o)) c
+acted_lived U z w ms c d i o here unstarted of l =
     by_place _ d c
-    (λ same. subst (λ n. IsLived us w ms n → IsLived us (happens w (event.Acted d i o)) (machines_after w ms (event.Acted d i o)) n) same
-    (acted_here us w ms d i o here (unstarted same) of) l)
-    (λ other. elsewhere us w (happens w (event.Acted d i o)) ms (machines_after w ms (event.Acted d i o)) c
+    (λ same. subst (λ n. IsLived U z w ms n → IsLived U z (happens w (event.Acted d i o)) (machines_after w ms (event.Acted d i o)) n) same
+    (acted_here U z w ms d i o here (unstarted same) of) l)
+    (λ other. elsewhere U z w (happens w (event.Acted d i o)) ms (machines_after w ms (event.Acted d i o)) c
     (get_or-set_other w.controllers d c (controller_acted (controller_at w d) i o) nobody other)
     (get_or-set_other ms d c (option_map (λ x. machine_after x i o) (machine_in ms d)) None other) l)
 
 -- ---------------------------------------------------------------- it is told something
 
 -- told of a frame that was put
-fair_heard : (us : List Used) (opened : Bool) (f : Forward) (h : Answer) (last : Option Order) (was : Option Input) → IsArc f ⊎ (frame_put last ≡ Some f)
-    → IsWellHeard us opened f h → IsFair us opened last was → IsFair us opened last (told_of (command_of f) (input.Heard h) was)
-fair_heard us opened f h last was (inl arc) well fair = subst (λ c. IsFair us opened last (told_of c (input.Heard h) was)) (sym arc) fair
-fair_heard us opened f h last was (inr put) well fair = go (is_arc (command_of f)) where
-  go : (b : Bool) → IsFair us opened last (if b then was else Some (input.Heard h))
+fair_heard : (U : ℕ → Type 0) (opened : Bool) (f : Forward) (h : Answer) (last : Option Order) (was : Option Input) → IsArc f ⊎ (frame_put last ≡ Some f)
+    → IsWellHeard U opened f h → IsFair U opened last was → IsFair U opened last (told_of (command_of f) (input.Heard h) was)
+fair_heard U opened f h last was (inl arc) well fair = subst (λ c. IsFair U opened last (told_of c (input.Heard h) was)) (sym arc) fair
+fair_heard U opened f h last was (inr put) well fair = go (is_arc (command_of f)) where
+  go : (b : Bool) → IsFair U opened last (if b then was else Some (input.Heard h))
   go true = fair
   go false = (f, put, well)
 
-fair_destroyed : (us : List Used) (opened : Bool) (c : Command) (last : Option Order) (was : Option Input) → IsFair us opened last was
-    → IsFair us opened last (told_of c input.Destroyed was)
-fair_destroyed us opened c last was fair = go (is_arc c) where
-  go : (b : Bool) → IsFair us opened last (if b then was else Some input.Destroyed)
+fair_destroyed : (U : ℕ → Type 0) (opened : Bool) (c : Command) (last : Option Order) (was : Option Input) → IsFair U opened last was
+    → IsFair U opened last (told_of c input.Destroyed was)
+fair_destroyed U opened c last was fair = go (is_arc c) where
+  go : (b : Bool) → IsFair U opened last (if b then was else Some input.Destroyed)
   go true = fair
   go false = tt
 
-sent_lived : (us : List Used) (w : World) (ms : List (Option Machine)) (c d : ℕ) (f : Forward) (h : Answer) → IsSent w d f h → AreSmall w.gear
+sent_lived : (U : ℕ → Type 0) (z : Block) (w : World) (ms : List (Option Machine)) (c d : ℕ) (f : Forward) (h : Answer) → IsSent w d f h → AreSmall w.gear
     → IsArc f ⊎ (frame_put (controller_at w d).last ≡ Some f)
-    → ((m : Machine) → machine_in ms c ≡ Some m → d ≡ c → IsAnswered us m.opened f h) → IsLived us w ms c
-    → IsLived us (happens w (event.Sent d f h)) ms c
-sent_lived us w ms c d f h here small ordered hears l m there =
-    changed_at (λ k. Lives us k m) w.controllers d c (told_sent (trace_running w d) f h) (l m there)
-    (λ same k. lives_told us (controller_at w c) (told_sent (trace_running w d) f h (controller_at w c)) m k refl
-    (fair_heard us m.opened f h (controller_at w c).last (controller_at w c).told
+    → ((m : Machine) → machine_in ms c ≡ Some m → d ≡ c → IsAnswered U m.opened f h) → IsLived U z w ms c
+    → IsLived U z (happens w (event.Sent d f h)) ms c
+sent_lived U z w ms c d f h here small ordered hears l m there =
+    changed_at (λ k. Lives U z k m) w.controllers d c (told_sent (trace_running w d) f h) (l m there)
+    (λ same k. lives_told U z (controller_at w c) (told_sent (trace_running w d) f h (controller_at w c)) m k refl
+    (fair_heard U m.opened f h (controller_at w c).last (controller_at w c).told
     (subst (λ n. IsArc f ⊎ (frame_put (controller_at w n).last ≡ Some f)) same ordered)
     (hears m there same, byte_heard_of (command_of f) h w.gear small here.heard) k.told))
 
-lost_at : (us : List Used) (cs : List Controller) (c d : ℕ) (f : Forward) (m : Machine) → Lives us (get_or cs c nobody) m
-    → Lives us (get_or (controllers_changed cs d (told_destroyed f)) c nobody) m
-lost_at us cs c d f m l =
-    changed_at (λ k. Lives us k m) cs d c (told_destroyed f) l
-    (λ same k. lives_told us (get_or cs c nobody) (told_destroyed f (get_or cs c nobody)) m k refl
-    (fair_destroyed us m.opened (command_of f) (get_or cs c nobody).last (get_or cs c nobody).told k.told))
+lost_at : (U : ℕ → Type 0) (z : Block) (cs : List Controller) (c d : ℕ) (f : Forward) (m : Machine) → Lives U z (get_or cs c nobody) m
+    → Lives U z (get_or (controllers_changed cs d (told_destroyed f)) c nobody) m
+lost_at U z cs c d f m l =
+    changed_at (λ k. Lives U z k m) cs d c (told_destroyed f) l
+    (λ same k. lives_told U z (get_or cs c nobody) (told_destroyed f (get_or cs c nobody)) m k refl
+    (fair_destroyed U m.opened (command_of f) (get_or cs c nobody).last (get_or cs c nobody).told k.told))
 
-lapsed_at : (us : List Used) (cs : List Controller) (c : ℕ) (owner : Option ℕ) (m : Machine) → Lives us (get_or cs c nobody) m
-    → Lives us (get_or (owner_told cs owner) c nobody) m
-lapsed_at us cs c None m l = l
-lapsed_at us cs c (Some d) m l =
-    changed_at (λ k. Lives us k m) cs d c told_lapsed l (λ same k. lives_told us (get_or cs c nobody) (told_lapsed (get_or cs c nobody)) m k refl tt)
+lapsed_at : (U : ℕ → Type 0) (z : Block) (cs : List Controller) (c : ℕ) (owner : Option ℕ) (m : Machine) → Lives U z (get_or cs c nobody) m
+    → Lives U z (get_or (owner_told cs owner) c nobody) m
+lapsed_at U z cs c None m l = l
+lapsed_at U z cs c (Some d) m l =
+    changed_at (λ k. Lives U z k m) cs d c told_lapsed l (λ same k. lives_told U z (get_or cs c nobody) (told_lapsed (get_or cs c nobody)) m k refl tt)
+
+-- ---------------------------------------------------------------- its records are of one block
+
+outstanding_block : (k : Kept) (x : Option Record) → (with_outstanding k x).block ≡ k.block
+outstanding_block k None = refl
+outstanding_block k (Some x) = block_stays k x
+
+acted_block : (k : Controller) (i : Input) → (kept_after k i).block ≡ k.records.block
+acted_block k input.Committed = outstanding_block k.records k.outstanding
+acted_block k input.Start = refl
+acted_block k input.Survey = refl
+acted_block k (input.Heard h) = refl
+acted_block k input.Destroyed = refl
+acted_block k input.Lapsed = refl
+acted_block k input.CommitFailed = refl
+
+up_block : (kept : Bool) (k : Controller) → (come_up kept k).records.block ≡ k.records.block
+up_block true k = outstanding_block k.records k.outstanding
+up_block false k = refl
+
+abbrev IsOf : Block → Controller → Type 0
+IsOf z k = k.records.block ≡ z
+
+lapsed_block : (z : Block) (cs : List Controller) (c : ℕ) (owner : Option ℕ) → IsOf z (get_or cs c nobody) → IsOf z (get_or (owner_told cs owner) c nobody)
+lapsed_block z cs c None b = b
+lapsed_block z cs c (Some d) b = changed_at (IsOf z) cs d c told_lapsed b (λ same k. k)
+
+block_moved : (z : Block) (w : World) (c : ℕ) (e : Event) → IsOf z (controller_at w c) → IsOf z (controller_at (happens w e) c)
+block_moved z w c (event.Acted d i o) b =
+    changed_at (IsOf z) w.controllers d c (λ k. controller_acted k i o) b (λ same k. acted_block (controller_at w c) i ∙ k)
+block_moved z w c (event.Sent d f h) b = changed_at (IsOf z) w.controllers d c (told_sent (trace_running w d) f h) b (λ same k. k)
+block_moved z w c (event.Destroyed d f some) b = changed_at (IsOf z) w.controllers d c (told_destroyed f) b (λ same k. k)
+block_moved z w c (event.Collided d f e g) b =
+    changed_at (IsOf z) (controllers_changed w.controllers d (told_destroyed f)) e c (told_destroyed g)
+    (changed_at (IsOf z) w.controllers d c (told_destroyed f) b (λ same k. k)) (λ same k. k)
+block_moved z w c event.Lapsed b = lapsed_block z w.controllers c w.bus.owner b
+block_moved z w c (event.Down d) b = changed_at (IsOf z) w.controllers d c gone_down b (λ same k. k)
+block_moved z w c (event.Up d kept) b = changed_at (IsOf z) w.controllers d c (come_up kept) b (λ same k. up_block kept (controller_at w c) ∙ k)
+block_moved z w c (event.Offered d f) b = b
+block_moved z w c event.Quiet b = b
+block_moved z w c (event.Power g on) b = b
+block_moved z w c (event.Expired g) b = b
 
 -- ---------------------------------------------------------------- it goes down, and comes up
 
-down_lived : (us : List Used) (w : World) (ms : List (Option Machine)) (c d : ℕ) → IsLived us w ms c
-    → IsLived us (happens w (event.Down d)) (machines_after w ms (event.Down d)) c
-down_lived us w ms c d l =
+down_lived : (U : ℕ → Type 0) (z : Block) (w : World) (ms : List (Option Machine)) (c d : ℕ) → IsLived U z w ms c
+    → IsLived U z (happens w (event.Down d)) (machines_after w ms (event.Down d)) c
+down_lived U z w ms c d l =
     by_place _ d c
-    (λ same. subst (λ n. IsLived us (happens w (event.Down d)) (machines_after w ms (event.Down d)) n) same
+    (λ same. subst (λ n. IsLived U z (happens w (event.Down d)) (machines_after w ms (event.Down d)) n) same
     (λ m there. absurd (let never : None ≡ Some m = sym (none_set ms d) ∙ there in cc)))
-    (λ other. elsewhere us w (happens w (event.Down d)) ms (machines_after w ms (event.Down d)) c
+    (λ other. elsewhere U z w (happens w (event.Down d)) ms (machines_after w ms (event.Down d)) c
     (get_or-set_other w.controllers d c (gone_down (controller_at w d)) nobody other) (get_or-set_other ms d c None None other) l)
 
-up_lived : (us : List Used) (w : World) (ms : List (Option Machine)) (c d : ℕ) (kept : Bool) → IsDown w d → IsLived us w ms c
-    → IsLived us (happens w (event.Up d kept)) (machines_after w ms (event.Up d kept)) c
-up_lived us w ms c d kept down l =
-    by_place _ d c (λ same. subst (λ n. IsLived us (happens w (event.Up d kept)) (machines_after w ms (event.Up d kept)) n) same begins)
-    (λ other. elsewhere us w (happens w (event.Up d kept)) ms (machines_after w ms (event.Up d kept)) c
+up_lived : (U : ℕ → Type 0) (z : Block) (w : World) (ms : List (Option Machine)) (c d : ℕ) (kept : Bool) → IsDown w d
+    → (controller_at w c).records.block ≡ z → IsLived U z w ms c
+    → IsLived U z (happens w (event.Up d kept)) (machines_after w ms (event.Up d kept)) c
+up_lived U z w ms c d kept down block l =
+    by_place _ d c
+    (λ same. subst (λ n. IsLived U z (happens w (event.Up d kept)) (machines_after w ms (event.Up d kept)) n) same
+    (begins (subst (λ n. (controller_at w n).records.block ≡ z) (sym same) block)))
+    (λ other. elsewhere U z w (happens w (event.Up d kept)) ms (machines_after w ms (event.Up d kept)) c
     (get_or-set_other w.controllers d c (come_up kept (controller_at w d)) nobody other)
     (get_or-set_other ms d c (Some (at_first d (come_up kept (controller_at w d)).records)) None other) l)
   where
     up : controller_at (happens w (event.Up d kept)) d ≡ come_up kept (controller_at w d)
     up = get_or-set_same w.controllers d (come_up kept (controller_at w d)) nobody down.known
 
-    begins : IsLived us (happens w (event.Up d kept)) (machines_after w ms (event.Up d kept)) d
-    begins m there =
-        subst (λ (x : Machine). Lives us (controller_at (happens w (event.Up d kept)) d) x)
+    begins : (controller_at w d).records.block ≡ z → IsLived U z (happens w (event.Up d kept)) (machines_after w ms (event.Up d kept)) d
+    begins here m there =
+        subst (λ (x : Machine). Lives U z (controller_at (happens w (event.Up d kept)) d) x)
         (some_set ms d (at_first d (come_up kept (controller_at w d)).records) m there)
-        (lives_first us (controller_at (happens w (event.Up d kept)) d) d (come_up kept (controller_at w d)).records
-        (ap (λ (k : Controller). k.told) up) (ap (λ (k : Controller). k.last) up))
+        (lives_first U z (controller_at (happens w (event.Up d kept)) d) d (come_up kept (controller_at w d)).records
+        (up_block kept (controller_at w d) ∙ here) (ap (λ (k : Controller). k.told) up) (ap (λ (k : Controller). k.last) up))
 
 -- ---------------------------------------------------------------- one event of a site
 
-abbrev pub IsLivedAt : SiteState → ℕ → Type 0
-IsLivedAt s c = IsLived s.plan.used (world s) (machines s) c
+-- the same of controller c of a site, and of the short addresses of its block that used gear have
+abbrev pub Goes : SiteState → World → List (Option Machine) → ℕ → Type 0
+Goes s w ms c = IsLived (IsUsedOf s.plan c) (block_at s.plan c) w ms c
+
+pub record IsLivedAt (s : SiteState) (c : ℕ) : Type 0 where
+  pub block : IsOf (block_at s.plan c) (controller_at (world s) c)
+  pub lives : Goes s (world s) (machines s) c
 
 small_now : (s : SiteState) → IsPlan s.plan → AreSmall (world s).gear
 small_now s plan = drawn_small (world s) (are_drawn s.plan (world s) plan (draws_after s.plan s.queue s.log))
@@ -189,91 +241,119 @@ small_now s plan = drawn_small (world s) (are_drawn s.plan (world s) plan (draws
 -- what is supposed of it: it begins by surveys, and hears the used gear until gear were woken
 abbrev pub Heeds : SiteState → ℕ → Event → Type 0
 Heeds s c (event.Acted d i o) = d ≡ c → i ≡ input.Start → ⊥
-Heeds s c (event.Sent d f h) = (m : Machine) → machine_at s c ≡ Some m → d ≡ c → IsAnswered s.plan.used m.opened f h
+Heeds s c (event.Sent d f h) = (m : Machine) → machine_at s c ≡ Some m → d ≡ c → IsAnswered (IsUsedOf s.plan c) m.opened f h
 Heeds s c _ = Unit {0}
 
-hears_heeds : (s : SiteState) (c : ℕ) (e : Event) → HearsUsed s.plan.used c e → Heeds s c e
+hears_heeds : (s : SiteState) (c : ℕ) (e : Event) → HearsUsed s.plan c e → Heeds s c e
 hears_heeds s c (event.Acted d i o) hears = hears
 hears_heeds s c (event.Sent d f h) hears = λ m there same early a used asks silent. hears a same used asks silent
 hears_heeds s c _ hears = tt
 
 lived_moved : (s : SiteState) (c : ℕ) (e : Event) → IsPlan s.plan → Allowed (world s) e → IsOfCall s e → Heeds s c e → IsLivedAt s c
-    → IsLived s.plan.used (happens (world s) e) (machines_after (world s) (machines s) e) c
-lived_moved s c (event.Acted d i o) plan here of hears l = acted_lived s.plan.used (world s) (machines s) c d i o here hears of l
-lived_moved s c (event.Sent d f h) plan here of hears l =
-    sent_lived s.plan.used (world s) (machines s) c d f h here (small_now s plan) of hears l
-lived_moved s c (event.Offered d f) plan here of hears l = l
-lived_moved s c (event.Destroyed d f some) plan here of hears l = λ m there. lost_at s.plan.used (world s).controllers c d f m (l m there)
-lived_moved s c (event.Collided d f e g) plan here of hears l =
-    λ m there. lost_at s.plan.used (controllers_changed (world s).controllers d (told_destroyed f)) c e g m
-    (lost_at s.plan.used (world s).controllers c d f m (l m there))
-lived_moved s c event.Lapsed plan here of hears l = λ m there. lapsed_at s.plan.used (world s).controllers c (world s).bus.owner m (l m there)
-lived_moved s c event.Quiet plan here of hears l = l
-lived_moved s c (event.Power g on) plan here of hears l = l
-lived_moved s c (event.Expired g) plan here of hears l = l
-lived_moved s c (event.Down d) plan here of hears l = down_lived s.plan.used (world s) (machines s) c d l
-lived_moved s c (event.Up d kept) plan here of hears l = up_lived s.plan.used (world s) (machines s) c d kept here.0 l
+    → Goes s (happens (world s) e) (machines_after (world s) (machines s) e) c
+lived_moved s c e plan here of heeds l = go e here of heeds where
+  U : ℕ → Type 0
+  U = IsUsedOf s.plan c
+
+  z : Block
+  z = block_at s.plan c
+
+  w : World
+  w = world s
+
+  go : (e : Event) → Allowed (world s) e → IsOfCall s e → Heeds s c e → Goes s (happens (world s) e) (machines_after (world s) (machines s) e) c
+  go (event.Acted d i o) here of heeds = acted_lived U z w (machines s) c d i o here heeds of l.lives
+  go (event.Sent d f h) here of heeds = sent_lived U z w (machines s) c d f h here (small_now s plan) of heeds l.lives
+  go (event.Offered d f) here of heeds = l.lives
+  go (event.Destroyed d f some) here of heeds = λ m there. lost_at U z w.controllers c d f m (l.lives m there)
+  go (event.Collided d f e g) here of heeds =
+      λ m there. lost_at U z (controllers_changed w.controllers d (told_destroyed f)) c e g m (lost_at U z w.controllers c d f m (l.lives m there))
+  go event.Lapsed here of heeds = λ m there. lapsed_at U z w.controllers c w.bus.owner m (l.lives m there)
+  go event.Quiet here of heeds = l.lives
+  go (event.Power g on) here of heeds = l.lives
+  go (event.Expired g) here of heeds = l.lives
+  go (event.Down d) here of heeds = down_lived U z w (machines s) c d l.lives
+  go (event.Up d kept) here of heeds = up_lived U z w (machines s) c d kept here.0 l.block l.lives
 
 pub heeded_on : (s : SiteState) (c : ℕ) (e : Event) → IsPlan s.plan → Allowed (world s) e → IsOfCall s e → Heeds s c e → IsLivedAt s c
     → IsLivedAt (site_logged s e) c
-heeded_on s c e plan here of heeds l =
-    subst (λ w. IsLived s.plan.used w (machines (site_logged s e)) c) (sym (world_logged s e))
-    (subst (λ ms. IsLived s.plan.used (happens (world s) e) ms c) (sym (machines_logged s e)) (lived_moved s c e plan here of heeds l))
+heeded_on s c e plan here of heeds l = record {
+  block = subst (λ (w : World). IsOf (block_at s.plan c) (controller_at w c)) (sym (world_logged s e)) (block_moved (block_at s.plan c) (world s) c e l.block);
+  lives = subst (λ w. Goes s w (machines (site_logged s e)) c) (sym (world_logged s e))
+      (subst (λ ms. Goes s (happens (world s) e) ms c) (sym (machines_logged s e)) (lived_moved s c e plan here of heeds l));
+}
 
-pub lived_on : (s : SiteState) (c : ℕ) (e : Event) → IsPlan s.plan → Allowed (world s) e → IsOfCall s e → HearsUsed s.plan.used c e → IsLivedAt s c
+pub lived_on : (s : SiteState) (c : ℕ) (e : Event) → IsPlan s.plan → Allowed (world s) e → IsOfCall s e → HearsUsed s.plan c e → IsLivedAt s c
     → IsLivedAt (site_logged s e) c
 lived_on s c e plan here of hears l = heeded_on s c e plan here of (hears_heeds s c e hears) l
 
 -- ---------------------------------------------------------------- the start
 
 pub just_lived : (s : SiteState) (c : ℕ) → HasJustBegun s c → IsLivedAt s c
-just_lived s c b m there =
-    subst (λ (x : Machine). Lives s.plan.used (controller_at (world s) c) x)
-    (some_same (at_first c (controller_at (world s) c).records) m (sym b.machine ∙ there))
-    (lives_first s.plan.used (controller_at (world s) c) c (controller_at (world s) c).records b.told b.last)
+just_lived s c b = record { block = b.block; lives = λ m there. first m there } where
+  k : Controller
+  k = controller_at (world s) c
 
-start_lived : (us : List Used) (bs : List Block) (d c : ℕ) (m : Machine) → get_or (machines_at d bs) c None ≡ Some m
-    → Lives us (get_or (map controller_begun bs) c nobody) m
-start_lived us [] d c m there = absurd (cc)
-start_lived us (b ∷ bs) d zero m there =
-    subst (λ (x : Machine). Lives us (controller_begun b) x) (some_same (at_first d (without_records b)) m there)
-    (lives_first us (controller_begun b) d (without_records b) refl refl)
-start_lived us (b ∷ bs) d (suc c) m there = start_lived us bs (d + 1) c m there
+  first : (m : Machine) → machine_at s c ≡ Some m → Lives (IsUsedOf s.plan c) (block_at s.plan c) (controller_at (world s) c) m
+  first m there =
+      subst (λ (x : Machine). Lives (IsUsedOf s.plan c) (block_at s.plan c) (controller_at (world s) c) x)
+      (some_same (at_first c k.records) m (sym b.machine ∙ there))
+      (lives_first (IsUsedOf s.plan c) (block_at s.plan c) k c k.records b.block b.told b.last)
+
+start_lived : (U : ℕ → Type 0) (bs : List Block) (d c : ℕ) (m : Machine) → get_or (machines_at d bs) c None ≡ Some m
+    → Lives U (get_or bs c no_block) (get_or (map controller_begun bs) c nobody) m
+start_lived U [] d c m there = absurd (cc)
+start_lived U (b ∷ bs) d zero m there =
+    subst (λ (x : Machine). Lives U b (controller_begun b) x) (some_same (at_first d (without_records b)) m there)
+    (lives_first U b (controller_begun b) d (without_records b) refl refl refl)
+start_lived U (b ∷ bs) d (suc c) m there = start_lived U bs (d + 1) c m there
+
+pub start_block : (bs : List Block) (c : ℕ) → IsOf (get_or bs c no_block) (get_or (map controller_begun bs) c nobody)
+start_block [] c = refl
+start_block (b ∷ bs) zero = refl
+start_block (b ∷ bs) (suc c) = start_block bs c
 
 pub opened_lived : (p : Plan) (queue room c : ℕ) → IsLivedAt (opened_site p queue room) c
-opened_lived p queue room c m there = start_lived p.used p.blocks 0 c m there
+opened_lived p queue room c = record { block = start_block p.blocks c; lives = λ m there. start_lived (IsUsedOf p c) p.blocks 0 c m there }
 
 -- ---------------------------------------------------------------- its acts
 
 -- what it would order reserves no address of used gear
+leaves_now : (s : SiteState) (c : ℕ) (m : Machine) (i : Input) (o : Order) → IsPlan s.plan
+    → Lives (IsUsedOf s.plan c) (block_at s.plan c) (controller_at (world s) c) m → IsDue (controller_at (world s) c) i → IsGiven m i o
+    → ReservesUsed s.plan.used o → ⊥
+leaves_now s c m i o plan l due given used =
+    leaves_used (IsUsedOf s.plan c) (block_at s.plan c) s.plan.used (controller_at (world s) c) m i o (λ a its. plan.used.short a its.1)
+    (λ a within has. (within, has)) l due given used
+
 pub lived_leaves : (s : SiteState) (c : ℕ) (i : Input) (o : Order) → IsPlan s.plan → IsLivedAt s c → IsActed (world s) c i o → MayAnswer (machine_at s c) i o
     → ReservesUsed s.plan.used o → ⊥
 lived_leaves s c i o plan l acts answer used = go (machine_at s c) refl answer where
   go : (x : Option Machine) → machine_at s c ≡ x → MayAnswer x i o → ⊥
   go None has answer = elim answer [ ]
-  go (Some m) has answer = leaves_used s.plan.used (controller_at (world s) c) m i o plan.used.short (l m has) acts.due answer used
+  go (Some m) has answer = leaves_now s c m i o plan (l.lives m has) acts.due answer used
 
 pub unrefused_now : (s : SiteState) (c : ℕ) (i : Input) → IsPlan s.plan → IsLivedAt s c → IsActRefused s c i refusal.AddressInUse → ⊥
 unrefused_now s c i plan l refused = go (machine_at s c) refl refused.4.0 (refused.4.1, refused.4.2) where
   go : (x : Option Machine) → machine_at s c ≡ x → (o : Order) → MayAnswer (machine_at s c) i o × ReservesUsed s.plan.used o → ⊥
   go None has o of = elim (subst (λ x. MayAnswer x i o) has of.0) [ ]
   go (Some m) has o of =
-      leaves_used s.plan.used (controller_at (world s) c) m i o plan.used.short (l m has) refused.1 (subst (λ x. MayAnswer x i o) has of.0) of.1
+      leaves_now s c m i o plan (l.lives m has) refused.1 (subst (λ x. MayAnswer x i o) has of.0) of.1
 
 -- the life of a controller that surveys and hears the used gear goes on
-pub lived_all : (s : SiteState) (c : ℕ) (es : List Event) → IsPlan s.plan → IsLivedAt s c → AreOfCalls s es → AllByRecursion (HearsUsed s.plan.used c) es
+pub lived_all : (s : SiteState) (c : ℕ) (es : List Event) → IsPlan s.plan → IsLivedAt s c → AreOfCalls s es → AllByRecursion (HearsUsed s.plan c) es
     → (P : SiteState → Type 0) → ((t : SiteState) → IsPlan t.plan → IsLivedAt t c → P t) → P (site_after s es)
 lived_all s c [] plan l are hear P known = known s plan l
 lived_all s c (e ∷ es) plan l are hear P known =
     lived_all (site_logged s e) c es plan (lived_on s c e plan are.0 are.1 hear.0 l) are.2 hear.1 P known
 
 pub unrefused_lived : (s : SiteState) (c : ℕ) (es : List Event) (i : Input) → IsPlan s.plan → IsLivedAt s c → AreOfCalls s es
-    → AllByRecursion (HearsUsed s.plan.used c) es → IsActRefused (site_after s es) c i refusal.AddressInUse → ⊥
+    → AllByRecursion (HearsUsed s.plan c) es → IsActRefused (site_after s es) c i refusal.AddressInUse → ⊥
 unrefused_lived s c [] i plan l are hear refused = unrefused_now s c i plan l refused
 unrefused_lived s c (e ∷ es) i plan l are hear refused =
     unrefused_lived (site_logged s e) c es i plan (lived_on s c e plan are.0 are.1 hear.0 l) are.2 hear.1 refused
 
 -- NO ACT OF A CONTROLLER THAT HAS JUST BEGUN, and surveys and hears the used gear, is refused as AddressInUse
 pub unrefused : (s : SiteState) (c : ℕ) (es : List Event) (i : Input) → IsPlan s.plan → HasJustBegun s c → AreOfCalls s es
-    → AllByRecursion (HearsUsed s.plan.used c) es → IsActRefused (site_after s es) c i refusal.AddressInUse → ⊥
+    → AllByRecursion (HearsUsed s.plan c) es → IsActRefused (site_after s es) c i refusal.AddressInUse → ⊥
 unrefused s c es i plan begun are hear = unrefused_lived s c es i plan (just_lived s c begun) are hear

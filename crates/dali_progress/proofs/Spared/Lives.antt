@@ -8,11 +8,13 @@ use Rattle.dali_special.specs.declared.command.Command.TheVariants.{RandomByte}
 use Rattle.dali_special.specs.declared.command.Part.TheVariants.{High}
 use Rattle.dali_special.specs.Command.{command_of}
 use Rattle.dali_special.proofs.Table.{read_spelled}
+use Rattle.dali_script.specs.declared.block.Block.{Block}
 use Rattle.dali_script.specs.declared.records.Record.{Record}
 use Rattle.dali_script.specs.declared.records.Record.TheVariants.{Reserve, Enrol, Release}
 use Rattle.dali_script.specs.declared.stage.Stage.TheVariants as stage
-use Rattle.dali_script.specs.Records.{Kept, Has}
+use Rattle.dali_script.specs.Records.{Kept, Has, InBlock}
 use Rattle.dali_script.specs.Stages.{stage_of, next_stage}
+use Rattle.dali_script.proofs.Lists.{block_stays}
 use Rattle.dali_script.proofs.Transactions.{stage_more, stage_none}
 use Rattle.dali_script.specs.declared.orders.Input.{Input}
 use Rattle.dali_script.specs.declared.orders.Input.TheVariants as input
@@ -44,25 +46,25 @@ use Rattle.dali_progress.proofs.Spared.Bytes.{IsByteOf, IsRead, read_plain, next
 -- THE LIFE OF A CONTROLLER since it began, by what its machine was told and ordered.
 
 -- what is heard of a frame: no silence of a used gear that is asked, until gear were woken; and bytes of random addresses
-abbrev pub IsAnswered : List Used → Bool → Forward → Answer → Type 0
-IsAnswered us opened f h =
-    opened ≡ false → (a : ℕ) → Has (used_shorts us) a → command_of f ≡ RandomByte a High → h ≡ Silence → ⊥
+abbrev pub IsAnswered : (ℕ → Type 0) → Bool → Forward → Answer → Type 0
+IsAnswered U opened f h =
+    opened ≡ false → (a : ℕ) → U a → command_of f ≡ RandomByte a High → h ≡ Silence → ⊥
 
-abbrev pub IsWellHeard : List Used → Bool → Forward → Answer → Type 0
-IsWellHeard us opened f h = IsAnswered us opened f h × IsByteOf (command_of f) h
+abbrev pub IsWellHeard : (ℕ → Type 0) → Bool → Forward → Answer → Type 0
+IsWellHeard U opened f h = IsAnswered U opened f h × IsByteOf (command_of f) h
 
 -- what it was told is of the frame that it put, and it is told to start where it has ordered nothing
-abbrev pub IsFair : List Used → Bool → Option Order → Option Input → Type 0
-IsFair us opened last (Some (input.Heard h)) = (f : Forward) × (frame_put last ≡ Some f) × IsWellHeard us opened f h
-IsFair us opened last (Some input.Start) = last ≡ None
-IsFair us opened last _ = Unit {0}
+abbrev pub IsFair : (ℕ → Type 0) → Bool → Option Order → Option Input → Type 0
+IsFair U opened last (Some (input.Heard h)) = (f : Forward) × (frame_put last ≡ Some f) × IsWellHeard U opened f h
+IsFair U opened last (Some input.Start) = last ≡ None
+IsFair U opened last _ = Unit {0}
 
 -- it began by a survey, if it has begun
 abbrev pub HasBegun : List Step → Machine → Type 0
 HasBegun [] m = (id : ℕ) × (k : Kept) × (m ≡ at_first id k)
 HasBegun (s ∷ earlier) m = BeginsBySurvey (s ∷ earlier) × (m.course.way ≡ Fresh → ⊥)
 
-pub record Lives (us : List Used) (k : Controller) (m : Machine) : Type 0 where
+pub record Lives (U : ℕ → Type 0) (z : Block) (k : Controller) (m : Machine) : Type 0 where
   pub steps : List Step
   pub course : IsCourse steps m
   pub plain : ArePlain steps
@@ -70,9 +72,10 @@ pub record Lives (us : List Used) (k : Controller) (m : Machine) : Type 0 where
   pub whole : IsWhole m
   pub begun : HasBegun steps m
   pub read : IsRead (stage_of m.trace)
-  pub unsilent : (a : ℕ) → Has (used_shorts us) a → WasSilent steps a → ⊥
+  pub unsilent : (a : ℕ) → U a → WasSilent steps a → ⊥
+  pub block : m.kept.block ≡ z
   pub last : m.last ≡ k.last
-  pub told : IsFair us m.opened k.last k.told
+  pub told : IsFair U m.opened k.last k.told
 
 -- ---------------------------------------------------------------- it begins, and it is told something
 
@@ -87,8 +90,9 @@ first_whole id kept = record {
   fresh = refl;
 }
 
-pub lives_first : (us : List Used) (k : Controller) (id : ℕ) (kept : Kept) → k.told ≡ Some input.Start → k.last ≡ None → Lives us k (at_first id kept)
-lives_first us k id kept told last = record {
+pub lives_first : (U : ℕ → Type 0) (z : Block) (k : Controller) (id : ℕ) (kept : Kept) → kept.block ≡ z → k.told ≡ Some input.Start → k.last ≡ None
+    → Lives U z k (at_first id kept)
+lives_first U z k id kept block told last = record {
   steps = [];
   course = tt;
   plain = tt;
@@ -97,12 +101,14 @@ lives_first us k id kept told last = record {
   begun = (id, kept, refl);
   read = free_read;
   unsilent = λ a used silent. silent;
+  block = block;
   last = sym last;
-  told = subst (λ t. IsFair us false k.last t) (sym told) last;
+  told = subst (λ t. IsFair U false k.last t) (sym told) last;
 }
 
-pub lives_told : (us : List Used) (k k' : Controller) (m : Machine) → Lives us k m → k'.last ≡ k.last → IsFair us m.opened k.last k'.told → Lives us k' m
-lives_told us k k' m l last told = record {
+pub lives_told : (U : ℕ → Type 0) (z : Block) (k k' : Controller) (m : Machine) → Lives U z k m → k'.last ≡ k.last → IsFair U m.opened k.last k'.told
+    → Lives U z k' m
+lives_told U z k k' m l last told = record {
   steps = l.steps;
   course = l.course;
   plain = l.plain;
@@ -111,17 +117,18 @@ lives_told us k k' m l last told = record {
   begun = l.begun;
   read = l.read;
   unsilent = l.unsilent;
+  block = l.block;
   last = l.last ∙ sym last;
-  told = subst (λ o. IsFair us m.opened o k'.told) (sym last) told;
+  told = subst (λ o. IsFair U m.opened o k'.told) (sym last) told;
 }
 
 -- ---------------------------------------------------------------- what was told and put
 
 -- what was heard, where that is due
-heard_of : (us : List Used) (k : Controller) (m : Machine) (h : Answer) → Lives us k m → k.told ≡ Some (input.Heard h)
-    → (f : Forward) × (frame_put m.last ≡ Some f) × IsWellHeard us m.opened f h
-heard_of us k m h l due =
-    let fair : IsFair us m.opened k.last (Some (input.Heard h)) = subst (λ t. IsFair us m.opened k.last t) due l.told in
+heard_of : (U : ℕ → Type 0) (z : Block) (k : Controller) (m : Machine) (h : Answer) → Lives U z k m → k.told ≡ Some (input.Heard h)
+    → (f : Forward) × (frame_put m.last ≡ Some f) × IsWellHeard U m.opened f h
+heard_of U z k m h l due =
+    let fair : IsFair U m.opened k.last (Some (input.Heard h)) = subst (λ t. IsFair U m.opened k.last t) due l.told in
     (fair.0, ap frame_put l.last ∙ fair.1, fair.2)
 
 put_of_frame : (last : Option Order) (f : Forward) → frame_put last ≡ Some f → (p : ℕ) × (last ≡ Some (Put p f))
@@ -139,20 +146,20 @@ stage_heard : (m : Machine) (h : Answer) (f : Forward) → frame_put m.last ≡ 
 stage_heard m h f put = ap (λ (t : Machine). stage_of t.trace) (heard_is m h f put) ∙ stage_more m.trace (entry f h)
 
 -- all that was read is bytes
-told_read : (us : List Used) (k : Controller) (m : Machine) (i : Input) → Lives us k m → IsDue k i → IsRead (stage_of (machine_told m i).trace)
-told_read us k m (input.Heard h) l due =
-    let heard = heard_of us k m h l due in
+told_read : (U : ℕ → Type 0) (z : Block) (k : Controller) (m : Machine) (i : Input) → Lives U z k m → IsDue k i → IsRead (stage_of (machine_told m i).trace)
+told_read U z k m (input.Heard h) l due =
+    let heard = heard_of U z k m h l due in
     subst IsRead (sym (stage_heard m h heard.0 heard.1))
     (next_read (stage_of m.trace) (command_of heard.0) h (read_spelled heard.0) heard.2.1 l.read)
-told_read us k m input.Start l due = l.read
-told_read us k m input.Survey l due = l.read
-told_read us k m input.Destroyed l due = free_read
-told_read us k m input.Lapsed l due = free_read
-told_read us k m input.Committed l due = go (record_ordered m.last) where
+told_read U z k m input.Start l due = l.read
+told_read U z k m input.Survey l due = l.read
+told_read U z k m input.Destroyed l due = free_read
+told_read U z k m input.Lapsed l due = free_read
+told_read U z k m input.Committed l due = go (record_ordered m.last) where
   go : (x : Option Record) → IsRead (stage_of (machine_committed m x).trace)
   go None = l.read
   go (Some x) = l.read
-told_read us k m input.CommitFailed l due = l.read
+told_read U z k m input.CommitFailed l due = l.read
 
 ordered_read : (t : Machine) (o : Order) → IsRead (stage_of t.trace) → IsRead (stage_of (machine_ordered t o).trace)
 ordered_read t (Put p f) read = go (p == LATER) where
@@ -217,11 +224,11 @@ begun_on m i o (r ∷ earlier) b unstarted waits = (b.0, ordered_surveyed (machi
 -- ---------------------------------------------------------------- it acts
 
 -- no used gear falls silent
-asked_silent : (us : List Used) (k : Controller) (m : Machine) (i : Input) (o : Order) (a : ℕ) → Lives us k m → IsDue k i → Has (used_shorts us) a
+asked_silent : (U : ℕ → Type 0) (z : Block) (k : Controller) (m : Machine) (i : Input) (o : Order) (a : ℕ) → Lives U z k m → IsDue k i → U a
     → FallsSilent (record { before = m; told = i; order = o }) a → ⊥
-asked_silent us k m i o a l due used falls = asked (asks_of m.kept m.course.number a (stage_of m.trace) (command_of heard.0) sends) where
-  heard : (f : Forward) × (frame_put m.last ≡ Some f) × IsWellHeard us m.opened f Silence
-  heard = heard_of us k m Silence l (subst (λ j. IsDue k j) falls.told due)
+asked_silent U z k m i o a l due used falls = asked (asks_of m.kept m.course.number a (stage_of m.trace) (command_of heard.0) sends) where
+  heard : (f : Forward) × (frame_put m.last ≡ Some f) × IsWellHeard U m.opened f Silence
+  heard = heard_of U z k m Silence l (subst (λ j. IsDue k j) falls.told due)
 
   put : (p : ℕ) × (m.last ≡ Some (Put p heard.0))
   put = put_of_frame m.last heard.0 heard.1
@@ -241,22 +248,39 @@ asked_silent us k m i o a l due used falls = asked (asks_of m.kept m.course.numb
       let next : next_stage (stage_of m.trace) (command_of heard.0) Silence ≡ stage.Spelled b None = rw (same, low, self b) refl in
       let never : stage.Spelled b None ≡ stage.HighAsked a None = sym next ∙ at in cc
 
-pub lives_acted : (us : List Used) (k : Controller) (m : Machine) (i : Input) (o : Order) → Lives us k m → IsDue k i → (i ≡ input.Start → ⊥)
-    → accepts (due_after m.last) i ≡ true → IsGiven m i o → IsWhole (machine_after m i o) → Lives us (controller_acted k i o) (machine_after m i o)
-lives_acted us k m i o l due unstarted waits given whole = record {
+-- its records are of one block
+told_block : (m : Machine) (i : Input) → (machine_told m i).kept.block ≡ m.kept.block
+told_block m (input.Heard h) = go (frame_put m.last) where
+  go : (f : Option Forward) → (machine_heard m f h).kept.block ≡ m.kept.block
+  go None = refl
+  go (Some f) = refl
+told_block m input.Committed = go (record_ordered m.last) where
+  go : (x : Option Record) → (machine_committed m x).kept.block ≡ m.kept.block
+  go None = refl
+  go (Some x) = block_stays m.kept x
+told_block m input.Start = refl
+told_block m input.Survey = refl
+told_block m input.Destroyed = refl
+told_block m input.Lapsed = refl
+told_block m input.CommitFailed = refl
+
+pub lives_acted : (U : ℕ → Type 0) (z : Block) (k : Controller) (m : Machine) (i : Input) (o : Order) → Lives U z k m → IsDue k i → (i ≡ input.Start → ⊥)
+    → accepts (due_after m.last) i ≡ true → IsGiven m i o → IsWhole (machine_after m i o) → Lives U z (controller_acted k i o) (machine_after m i o)
+lives_acted U z k m i o l due unstarted waits given whole = record {
   steps = (record { before = m; told = i; order = o }) ∷ l.steps;
   course = (l.course, record { due = waits; given = given; after = refl });
-  plain = (read_plain (stage_of (machine_told m i).trace) (told_read us k m i l due), l.plain);
+  plain = (read_plain (stage_of (machine_told m i).trace) (told_read U z k m i l due), l.plain);
   were = (l.whole, l.were);
   whole = whole;
   begun = begun_on m i o l.steps l.begun unstarted waits;
-  read = ordered_read (machine_told m i) o (told_read us k m i l due);
+  read = ordered_read (machine_told m i) o (told_read U z k m i l due);
   unsilent = λ a used silent. go a used silent;
+  block = told_block m i ∙ l.block;
   last = refl;
   told = tt;
 } where
-  go : (a : ℕ) → Has (used_shorts us) a → FallsSilent (record { before = m; told = i; order = o }) a ⊎ WasSilent l.steps a → ⊥
-  go a used (inl falls) = asked_silent us k m i o a l due used falls
+  go : (a : ℕ) → U a → FallsSilent (record { before = m; told = i; order = o }) a ⊎ WasSilent l.steps a → ⊥
+  go a used (inl falls) = asked_silent U z k m i o a l due used falls
   go a used (inr before) = l.unsilent a used before
 
 -- ---------------------------------------------------------------- it would reserve none of their addresses
@@ -279,14 +303,20 @@ commit_free m last is commit whole = go last commit (subst (Pending m) is whole)
 free_reserves : (t : Machine) (a r : ℕ) → stage_of t.trace ≡ stage.Free → MayCommit t (Reserve a r) → ⊥
 free_reserves t a r free may = no_reservation t stage.Free a r free (λ n e. cc) may
 
-heard_reserves : (us : List Used) (k : Controller) (m : Machine) (h : Answer) (a r : ℕ) → Lives us k m → k.told ≡ Some (input.Heard h) → a < 64
-    → Has (used_shorts us) a → IsGiven m (input.Heard h) (Commit (Reserve a r)) → ⊥
-heard_reserves us k m h a r l due small used given = by l.steps l.course l.plain l.were l.begun l.unsilent where
-  heard : (f : Forward) × (frame_put m.last ≡ Some f) × IsWellHeard us m.opened f h
-  heard = heard_of us k m h l due
+heard_reserves : (U : ℕ → Type 0) (z : Block) (k : Controller) (m : Machine) (h : Answer) (a r : ℕ) → Lives U z k m → k.told ≡ Some (input.Heard h)
+    → ((b : ℕ) → U b → b < 64) → (InBlock z a → U a) → IsGiven m (input.Heard h) (Commit (Reserve a r)) → ⊥
+heard_reserves U z k m h a r l due below its given = by l.steps l.course l.plain l.were l.begun l.unsilent where
+  heard : (f : Forward) × (frame_put m.last ≡ Some f) × IsWellHeard U m.opened f h
+  heard = heard_of U z k m h l due
 
   put : (p : ℕ) × (m.last ≡ Some (Put p heard.0))
   put = put_of_frame m.last heard.0 heard.1
+
+  used : U a
+  used = its (subst (λ b. InBlock b a) (told_block m (input.Heard h) ∙ l.block) given.answered.allowed.fits.0)
+
+  small : a < 64
+  small = below a used
 
   waits : accepts (due_after m.last) (input.Heard h) ≡ true
   waits = ap (λ o. accepts (due_after o) (input.Heard h)) put.1
@@ -298,7 +328,7 @@ heard_reserves us k m h a r l due small used given = by l.steps l.course l.plain
   next = machine_after m (input.Heard h) (Commit (Reserve a r))
 
   by : (steps : List Step) → IsCourse steps m → ArePlain steps → AreWhole steps → HasBegun steps m
-      → ((b : ℕ) → Has (used_shorts us) b → WasSilent steps b → ⊥) → ⊥
+      → ((b : ℕ) → U b → WasSilent steps b → ⊥) → ⊥
   by [] course plain were begun unsilent =
       let none : m.last ≡ None = ap (λ (x : Machine). x.last) begun.2 in
       let never : None ≡ Some (Put put.0 heard.0) = sym none ∙ put.1 in cc
@@ -320,33 +350,33 @@ heard_reserves us k m h a r l due small used given = by l.steps l.course l.plain
     go (inr (inl (inl silent))) = unsilent a used silent
     go (inr (inl (inr counts))) =
         unreserved step next a r taken refl surveyed
-        (accounted_stays step next a small taken (read_plain (stage_told step) (told_read us k m (input.Heard h) l due)) counts)
+        (accounted_stays step next a small taken (read_plain (stage_told step) (told_read U z k m (input.Heard h) l due)) counts)
     go (inr (inr comes)) = unreserved_on m (input.Heard h) comes.0 a r w.running waits given l.whole w.alone (purpose comes.0 comes.1)
 
-reserves_none : (us : List Used) (k : Controller) (m : Machine) (i : Input) (a r : ℕ) → Lives us k m → IsDue k i → a < 64 → Has (used_shorts us) a
-    → IsGiven m i (Commit (Reserve a r)) → ⊥
-reserves_none us k m (input.Heard h) a r l due small used given = heard_reserves us k m h a r l due small used given
-reserves_none us k m input.Start a r l due small used given =
-    let none : k.last ≡ None = subst (λ t. IsFair us m.opened k.last t) due l.told in
+reserves_none : (U : ℕ → Type 0) (z : Block) (k : Controller) (m : Machine) (i : Input) (a r : ℕ) → Lives U z k m → IsDue k i
+    → ((b : ℕ) → U b → b < 64) → (InBlock z a → U a) → IsGiven m i (Commit (Reserve a r)) → ⊥
+reserves_none U z k m (input.Heard h) a r l due below its given = heard_reserves U z k m h a r l due below its given
+reserves_none U z k m input.Start a r l due below its given =
+    let none : k.last ≡ None = subst (λ t. IsFair U m.opened k.last t) due l.told in
     free_reserves m a r (start_free m (l.last ∙ none) l.whole) given.answered.allowed
-reserves_none us k m input.Survey a r l due small used given =
-    let none : k.last ≡ None = subst (λ t. IsFair us m.opened k.last t) due l.told in
+reserves_none U z k m input.Survey a r l due below its given =
+    let none : k.last ≡ None = subst (λ t. IsFair U m.opened k.last t) due l.told in
     free_reserves (machine_told m input.Survey) a r (start_free m (l.last ∙ none) l.whole) given.answered.allowed
-reserves_none us k m input.Destroyed a r l due small used given = free_reserves (machine_told m input.Destroyed) a r stage_none given.answered.allowed
-reserves_none us k m input.Lapsed a r l due small used given = free_reserves (machine_told m input.Lapsed) a r stage_none given.answered.allowed
-reserves_none us k m input.Committed a r l due small used given =
+reserves_none U z k m input.Destroyed a r l due below its given = free_reserves (machine_told m input.Destroyed) a r stage_none given.answered.allowed
+reserves_none U z k m input.Lapsed a r l due below its given = free_reserves (machine_told m input.Lapsed) a r stage_none given.answered.allowed
+reserves_none U z k m input.Committed a r l due below its given =
     free_reserves (machine_told m input.Committed) a r (go (record_ordered m.last)) given.answered.allowed
   where
     go : (x : Option Record) → stage_of (machine_committed m x).trace ≡ stage.Free
     go None = commit_free m k.last l.last due l.whole
     go (Some x) = commit_free m k.last l.last due l.whole
-reserves_none us k m input.CommitFailed a r l due small used given = let other = given.answered in cc
+reserves_none U z k m input.CommitFailed a r l due below its given = let other = given.answered in cc
 
-pub leaves_used : (us : List Used) (k : Controller) (m : Machine) (i : Input) (o : Order) → ((a : ℕ) → Has (used_shorts us) a → a < 64) → Lives us k m
-    → IsDue k i → IsGiven m i o → ReservesUsed us o → ⊥
-leaves_used us k m i (Commit (Reserve a r)) small l due given used = reserves_none us k m i a r l due (small a used) used given
-leaves_used us k m i (Commit (Enrol a r)) small l due given used = used
-leaves_used us k m i (Commit (Release a r)) small l due given used = used
-leaves_used us k m i (Put p f) small l due given used = used
-leaves_used us k m i (Done e) small l due given used = used
-leaves_used us k m i (Halt w) small l due given used = used
+pub leaves_used : (U : ℕ → Type 0) (z : Block) (us : List Used) (k : Controller) (m : Machine) (i : Input) (o : Order) → ((a : ℕ) → U a → a < 64)
+    → ((a : ℕ) → InBlock z a → Has (used_shorts us) a → U a) → Lives U z k m → IsDue k i → IsGiven m i o → ReservesUsed us o → ⊥
+leaves_used U z us k m i (Commit (Reserve a r)) below its l due given used = reserves_none U z k m i a r l due below (λ within. its a within used) given
+leaves_used U z us k m i (Commit (Enrol a r)) below its l due given used = used
+leaves_used U z us k m i (Commit (Release a r)) below its l due given used = used
+leaves_used U z us k m i (Put p f) below its l due given used = used
+leaves_used U z us k m i (Done e) below its l due given used = used
+leaves_used U z us k m i (Halt w) below its l due given used = used

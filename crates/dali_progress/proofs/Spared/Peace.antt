@@ -10,15 +10,14 @@ use Rattle.dali_special.specs.Command.{command_of}
 use Rattle.dali_gear.specs.declared.row.Reach.TheVariants.{Everyone}
 use Rattle.dali_gear.specs.Row.{answers_of, heard_of}
 use Rattle.dali_script.specs.declared.block.Block.{Block}
-use Rattle.dali_script.specs.Records.{Has, without_records}
+use Rattle.dali_script.specs.Records.{InBlock, without_records}
 use Rattle.dali_script.proofs.Members.{mapped_from}
 use Rattle.dali_script.specs.declared.orders.Input.{Input}
 use Rattle.dali_script.specs.declared.orders.Input.TheVariants as input
 use Rattle.dali_controller.specs.Machine.{at_first}
 use Rattle.dali_events.specs.declared.event.Event.{Event}
 use Rattle.dali_events.specs.declared.event.Event.TheVariants as event
-use Rattle.dali_events.specs.Used.{used_shorts}
-use Rattle.dali_events.specs.Plan.{Plan, IsPlan}
+use Rattle.dali_events.specs.Plan.{Plan, IsPlan, block_at}
 use Rattle.dali_events.specs.World.{controller_begun, nobody}
 use Rattle.dali_events.specs.Allowed.{Allowed}
 use Rattle.dali_events.specs.Runs.{IsRun, LeavesUsed}
@@ -31,9 +30,9 @@ use Rattle.dali_standing.specs.Standing.{machines_at}
 use Rattle.dali_standing.proofs.InUse.{leaves_acted}
 use Rattle.dali_world.specs.Site.{SiteState, opened_site, world, site_logged, IsActRefused}
 use Rattle.dali_progress.specs.Rounds.{site_after}
-use Rattle.dali_progress.specs.Spared.{IsOfCall, AreOfCalls, HasJustBegun, HearsUsed, AsksInPeace, AllAskInPeace}
+use Rattle.dali_progress.specs.Spared.{IsOfCall, AreOfCalls, HasJustBegun, IsUsedOf, HearsUsed, AsksInPeace, AllAskInPeace}
 use Rattle.dali_progress.proofs.Bounded.{run_logged}
-use Rattle.dali_progress.proofs.Spared.Calls.{IsLivedAt, lived_on, opened_lived, lived_leaves, unrefused}
+use Rattle.dali_progress.proofs.Spared.Calls.{IsLivedAt, lived_on, opened_lived, start_block, lived_leaves, unrefused}
 
 -- WHO IS ASKED IN PEACE IS HEARD: a used gear that has power answers, and nothing disturbs its answer.
 
@@ -44,11 +43,12 @@ no_answer (x ∷ (y ∷ more)) e = absurd (cc)
 
 -- at each moment of a run used gear have their addresses
 asked_hears : (s : SiteState) (c d : ℕ) (f : Forward) (h : Answer) (rest : List Event) → IsRun s.plan s.queue (s.log ++ rest)
-    → AsksInPeace s c (event.Sent d f h) → (a : ℕ) → d ≡ c → Has (used_shorts s.plan.used) a → command_of f ≡ RandomByte a High → h ≡ Silence → ⊥
+    → AsksInPeace s c (event.Sent d f h) → (a : ℕ) → d ≡ c → IsUsedOf s.plan c a → command_of f ≡ RandomByte a High → h ≡ Silence → ⊥
 asked_hears s c d f h rest run peace a same used asks silent =
-    let whose = mapped_from (λ u. u.short) s.plan.used a used in
+    let whose = mapped_from (λ u. u.short) s.plan.used a used.1 in
     let asked : command_of f ≡ RandomByte whose.0.short High = asks ∙ ap (λ b. RandomByte b High) (sym whose.2) in
-    let on = peace whose.0 same whose.1 asked in
+    let within : InBlock (block_at s.plan c) whose.0.short = subst (InBlock (block_at s.plan c)) (sym whose.2) used.0 in
+    let on = peace whose.0 same whose.1 within asked in
     let kept = used_kept s.plan s.queue s.log rest whose.0 run whose.1 in
     let nobody_heard : answers_of Everyone (command_of f) 0 (world s).gear ≡ [] =
     no_answer (answers_of Everyone (command_of f) 0 (world s).gear) (sym on.1 ∙ silent) in
@@ -57,7 +57,7 @@ asked_hears s c d f h rest run peace a same used asks silent =
     nobody_answers (world s) whose.0.short High none whose.0.gear kept.0.0 on.0 kept.0.1
 
 peace_hears : (s : SiteState) (c : ℕ) (e : Event) (rest : List Event) → IsRun s.plan s.queue (s.log ++ rest) → AsksInPeace s c e
-    → HearsUsed s.plan.used c e
+    → HearsUsed s.plan c e
 peace_hears s c (event.Acted d i o) rest run peace = peace
 peace_hears s c (event.Sent d f h) rest run peace = λ a same used asks silent. asked_hears s c d f h rest run peace a same used asks silent
 peace_hears s c (event.Offered d f) rest run peace = tt
@@ -70,7 +70,7 @@ peace_hears s c (event.Expired g) rest run peace = tt
 peace_hears s c (event.Down d) rest run peace = tt
 peace_hears s c (event.Up d kept) rest run peace = tt
 
-all_heard : (s : SiteState) (c : ℕ) (es : List Event) → IsRun s.plan s.queue (s.log ++ es) → AllAskInPeace s c es → AllByRecursion (HearsUsed s.plan.used c) es
+all_heard : (s : SiteState) (c : ℕ) (es : List Event) → IsRun s.plan s.queue (s.log ++ es) → AllAskInPeace s c es → AllByRecursion (HearsUsed s.plan c) es
 all_heard s c [] run peace = tt
 all_heard s c (e ∷ es) run peace = (
   peace_hears s c e (e ∷ es) run peace.0,
@@ -143,4 +143,5 @@ begins_at_start p queue room c there = record {
   last = (told_begun p.blocks c there).1;
   machine = machine_begun p.blocks 0 c there
       ∙ ap (λ n. Some (at_first n (get_or (map controller_begun p.blocks) c nobody).records)) (let same : 0 + c ≡ c = omega arith in same);
+  block = start_block p.blocks c;
 }
