@@ -1,5 +1,9 @@
-use Rattle.std.specs.Prelude.{◌≡◌, ℕ, true, List, [], ◌∷◌, Some, None}
+use Rattle.std.specs.Prelude.{◌≡◌, ℕ, ◌+◌, ◌<◌, ◌==◌, ◌&&◌, Bool, true, false, List, [], ◌∷◌, Some}
+use Rattle.std.specs.Prelude.{None, if◌then◌else◌}
+use Rattle.std.specs.List.{AllByRecursion}
+use Rattle.dali_frame.specs.declared.frames.Answer.{Answer}
 use Rattle.dali_frame.specs.declared.frames.Answer.TheVariants.{Silence}
+use Rattle.dali_special.specs.declared.command.Command.{Command}
 use Rattle.dali_special.specs.declared.command.Command.TheVariants.{RandomByte}
 use Rattle.dali_special.specs.declared.command.Part.TheVariants.{High}
 use Rattle.dali_special.specs.Command.{command_of}
@@ -58,22 +62,40 @@ pub record HasJustBegun (s : SiteState) (c : ℕ) : Type 0 where
 abbrev pub IsUsedOf : Plan → ℕ → ℕ → Type 0
 IsUsedOf p c a = InBlock (block_at p c) a × Has (used_shorts p.used) a
 
--- WHO HEARS THE USED GEAR of its block: where controller c begins, it does so by a survey, and not
--- by Start. Where it asks one of these short addresses for the first byte of its random address, it
--- hears an answer, be it a damaged one.
-abbrev pub HearsUsed : Plan → ℕ → Event → Type 0
-HearsUsed p c (event.Acted d i o) = d ≡ c → i ≡ input.Start → ⊥
-HearsUsed p c (event.Sent d f h) =
-    (a : ℕ) → d ≡ c → IsUsedOf p c a → command_of f ≡ RandomByte a High → h ≡ Silence → ⊥
-HearsUsed p c (event.Offered d f) = Unit {0}
-HearsUsed p c (event.Destroyed d f set) = Unit {0}
-HearsUsed p c (event.Collided d f e g) = Unit {0}
-HearsUsed p c event.Lapsed = Unit {0}
-HearsUsed p c event.Quiet = Unit {0}
-HearsUsed p c (event.Power g on) = Unit {0}
-HearsUsed p c (event.Expired g) = Unit {0}
-HearsUsed p c (event.Down d) = Unit {0}
-HearsUsed p c (event.Up d kept) = Unit {0}
+-- IT SURVEYS each time that it begins, and never acts on Start.
+abbrev pub BeginsBySurveys : ℕ → Event → Type 0
+BeginsBySurveys c (event.Acted d i o) = d ≡ c → i ≡ input.Start → ⊥
+BeginsBySurveys c _ = Unit {0}
+
+-- a query of the first byte of a random address, of the gear with this short address
+abbrev pub asks_first : ℕ → Command → Bool
+asks_first a (RandomByte b High) = b == a
+asks_first a _ = false
+
+abbrev pub is_silence : Answer → Bool
+is_silence Silence = true
+is_silence h = false
+
+-- HOW OFTEN controller c heard silence after such a query since it came up, by one event more
+abbrev pub silences_after : ℕ → ℕ → ℕ → Event → ℕ
+silences_after c a n (event.Sent d f h) =
+    if (d == c) && (asks_first a (command_of f) && is_silence h) then n + 1 else n
+silences_after c a n (event.Up d kept) = if d == c then 0 else n
+silences_after c a n _ = n
+
+-- it is never so three times
+abbrev pub IsHeardInTime : ℕ → ℕ → ℕ → List Event → Type 0
+IsHeardInTime c a n [] = Unit {0}
+IsHeardInTime c a n (e ∷ es) =
+    (silences_after c a n e < 3) × IsHeardInTime c a (silences_after c a n e) es
+
+-- WHO HEARS THE USED GEAR of its block: where controller c begins, it does so by a survey; and of
+-- its questions to each of their short addresses it hears silence at most twice before it begins
+-- anew. A damaged answer is heard.
+abbrev pub HearsUsed : Plan → ℕ → List Event → Type 0
+HearsUsed p c es =
+    AllByRecursion (BeginsBySurveys c) es
+    × ((a : ℕ) → IsUsedOf p c a → IsHeardInTime c a 0 es)
 
 -- ITS QUESTIONS ARE OVER, where it has gone on to the gear that have no short address; and it does
 -- not begin anew.
@@ -84,8 +106,8 @@ abbrev pub StaysBegun : ℕ → Event → Type 0
 StaysBegun c (event.Up d kept) = d ≡ c → ⊥
 StaysBegun c _ = Unit {0}
 
--- WHY IT HEARS THEM: each used gear of its block that it asks so has power then, and nothing
--- disturbs the answer.
+-- WHY IT HEARS THEM: it surveys each time that it begins; each used gear of its block that it asks
+-- so has power then, and nothing disturbs the answer.
 abbrev pub AsksInPeace : SiteState → ℕ → Event → Type 0
 AsksInPeace s c (event.Acted d i o) = d ≡ c → i ≡ input.Start → ⊥
 AsksInPeace s c (event.Sent d f h) =
@@ -93,15 +115,7 @@ AsksInPeace s c (event.Sent d f h) =
     → command_of f ≡ RandomByte u.short High
     → ((gear_at (world s) u.gear).powered ≡ true)
     × (h ≡ heard_of (answers_of Everyone (command_of f) 0 (world s).gear))
-AsksInPeace s c (event.Offered d f) = Unit {0}
-AsksInPeace s c (event.Destroyed d f set) = Unit {0}
-AsksInPeace s c (event.Collided d f e g) = Unit {0}
-AsksInPeace s c event.Lapsed = Unit {0}
-AsksInPeace s c event.Quiet = Unit {0}
-AsksInPeace s c (event.Power g on) = Unit {0}
-AsksInPeace s c (event.Expired g) = Unit {0}
-AsksInPeace s c (event.Down d) = Unit {0}
-AsksInPeace s c (event.Up d kept) = Unit {0}
+AsksInPeace s c _ = Unit {0}
 
 -- all used gear have power
 abbrev pub HavePower : SiteState → Type 0

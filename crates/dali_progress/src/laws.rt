@@ -322,13 +322,14 @@ pub fn who_tells_its_number_is_enrolled()
 {}
 
 /// USED GEAR THAT WERE HEARD ARE LEFT ALONE. Of a controller that has just begun, and of all that calls of the site add
-/// to its log from then on: where it surveys each time that it begins, and hears an answer each time that it asks a
-/// short address that used gear have in its block for the first byte of its random address, none of its acts is refused
-/// because an address is in use (`heard`). Once its questions are over, it is so whatever is heard, until it begins
-/// anew (`later`).
+/// to its log from then on: where it surveys each time that it begins, and of each short address that used gear have in
+/// its block hears silence at most twice before it begins anew, where it asks for the first byte of the random address,
+/// none of its acts is refused because an address is in use (`heard`). Once its questions are over, it is so whatever
+/// is heard, until it begins anew (`later`).
 ///
-/// It hears an answer where each used gear of its block that it asks so has power then, and nothing disturbs the answer
-/// (`powered`).
+/// It hears no silence where each used gear of its block that it asks so has power then, and nothing disturbs the
+/// answer (`powered`).
+///
 /// All else may be disturbed: frames may be destroyed, the bus may lapse, other controllers may do what they want, and
 /// what is heard of other gear may be lost. So controllers need not survey one after the other. A survey of one
 /// controller alone that nothing disturbs, while all used gear have power, is such a one (`undisturbed`).
@@ -341,10 +342,10 @@ pub fn who_tells_its_number_is_enrolled()
 /// `dali_events` show what then becomes of the promise.
 pub fn used_gear_that_were_heard_are_left_alone()
     ensures heard { (s : SiteState) (c : ℕ) (es : List Event) (i : Input) → IsPlan s.plan → HasJustBegun s c
-        → AreOfCalls s es → AllByRecursion (HearsUsed s.plan c) es
+        → AreOfCalls s es → HearsUsed s.plan c es
         → IsActRefused (site_after s es) c i refusal.AddressInUse → ⊥ }
     ensures later { (s : SiteState) (c : ℕ) (es more : List Event) (i : Input) → IsPlan s.plan → HasJustBegun s c
-        → AreOfCalls s es → AllByRecursion (HearsUsed s.plan c) es → HasAsked (site_after s es) c
+        → AreOfCalls s es → HearsUsed s.plan c es → HasAsked (site_after s es) c
         → AreOfCalls (site_after s es) more → AllByRecursion (StaysBegun c) more
         → IsActRefused (site_after (site_after s es) more) c i refusal.AddressInUse → ⊥ }
     ensures powered { (s : SiteState) (c : ℕ) (es : List Event) (i : Input) → HasJustBegun s c → AreOfCalls s es

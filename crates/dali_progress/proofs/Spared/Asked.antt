@@ -2,18 +2,11 @@ use Rattle.std.proofs.Common.{◌≡◌, ℕ, true, false, List, [], ◌∷◌, 
 use Rattle.std.proofs.Common.{set, get_or-set_same, get_or-set_other}
 use Rattle.std.specs.Option.{option_map}
 use Rattle.std.specs.List.{AllByRecursion}
-use Rattle.dali_frame.specs.declared.frames.Forward.{Forward}
-use Rattle.dali_script.specs.declared.records.Record.{Record}
-use Rattle.dali_script.specs.declared.stage.Stage.{Stage}
-use Rattle.dali_script.specs.declared.stage.Stage.TheVariants as stage
-use Rattle.dali_script.specs.Stages.{stage_of}
 use Rattle.dali_script.specs.declared.orders.Input.{Input}
 use Rattle.dali_script.specs.declared.orders.Input.TheVariants as input
 use Rattle.dali_script.specs.declared.orders.Order.{Order}
-use Rattle.dali_script.specs.Due.{frame_put, record_ordered}
-use Rattle.dali_controller.specs.declared.purpose.Purpose.{Purpose}
-use Rattle.dali_controller.specs.declared.purpose.Purpose.TheVariants.{Opening, Waking}
-use Rattle.dali_controller.specs.Machine.{Machine, at_first, machine_told, machine_heard, machine_committed, opened_after, woken_after}
+use Rattle.dali_controller.specs.declared.purpose.Purpose.TheVariants.{Opening}
+use Rattle.dali_controller.specs.Machine.{Machine, at_first}
 use Rattle.dali_controller.specs.Orders.{machine_after}
 use Rattle.dali_controller.specs.Whole.{IsWhole, IsUnstarted, Pending, IsEarly, Knows}
 use Rattle.dali_events.specs.declared.event.Event.{Event}
@@ -29,39 +22,14 @@ use Rattle.dali_world.specs.Site.{SiteState, world, machines, machine_at, site_l
 use Rattle.dali_progress.specs.Rounds.{site_after}
 use Rattle.dali_progress.specs.Spared.{IsOfCall, AreOfCalls, HasJustBegun, IsUsedOf, HearsUsed, HasAsked, StaysBegun}
 use Rattle.dali_progress.proofs.Bounded.{machines_logged, some_within}
-use Rattle.dali_progress.proofs.Spared.Lives.{IsFair}
-use Rattle.dali_progress.proofs.Spared.Calls.{IsLivedAt, Heeds, heeded_on, just_lived, lived_all, unrefused_now, none_set, some_same, by_place}
+use Rattle.dali_progress.proofs.Spared.Lives.{IsFair, told_opened}
+use Rattle.dali_progress.proofs.Spared.Calls.{IsLivedAt, Heeds, counts_after, heeded_on, none_yet, just_lived, lived_all, unrefused_now, none_set, some_same}
+use Rattle.dali_progress.proofs.Spared.Calls.{by_place}
 
 -- ONCE ITS QUESTIONS ARE OVER a controller asks no short address any more, until it begins anew.
 
 abbrev AreOpened : List (Option Machine) → ℕ → Type 0
 AreOpened ms c = (m : Machine) → machine_in ms c ≡ Some m → m.opened ≡ true
-
-woken_stays : (s : Stage) (p : Purpose) → woken_after s p true ≡ true
-woken_stays stage.Initialised Waking = refl
-woken_stays _ _ = refl
-
-opened_stays : (s : Stage) → opened_after s true ≡ true
-opened_stays stage.Opened = refl
-opened_stays _ = refl
-
-told_opened : (m : Machine) (i : Input) → m.opened ≡ true → (machine_told m i).opened ≡ true
-told_opened m (input.Heard h) opened = go (frame_put m.last) where
-  go : (f : Option Forward) → (machine_heard m f h).opened ≡ true
-  go None = opened
-  go (Some f) =
-      let s : Stage = stage_of (machine_heard m (Some f) h).trace in
-      ap (λ b. woken_after s m.course.purpose (opened_after s b)) opened ∙ ap (woken_after s m.course.purpose) (opened_stays s)
-      ∙ woken_stays s m.course.purpose
-told_opened m input.Start opened = opened
-told_opened m input.Survey opened = opened
-told_opened m input.Destroyed opened = opened
-told_opened m input.Lapsed opened = opened
-told_opened m input.Committed opened = go (record_ordered m.last) where
-  go : (x : Option Record) → (machine_committed m x).opened ≡ true
-  go None = opened
-  go (Some x) = opened
-told_opened m input.CommitFailed opened = opened
 
 acted_opened : (ms : List (Option Machine)) (c : ℕ) (i : Input) (o : Order) (w : World) → AreOpened ms c → AreOpened (machines_after w ms (event.Acted c i o)) c
 acted_opened ms c i o w wide n there = go (machine_in ms c) refl where
@@ -110,12 +78,11 @@ unstarted_unopened m = go m.last where
   go (Some o) e w opened = cc
 
 -- so it heeds what is supposed of it, whatever it hears
-opened_heeds : (s : SiteState) (c : ℕ) (e : Event) → Allowed (world s) e → IsLivedAt s c → AreOpened (machines s) c → IsOfCall s e → Heeds s c e
-opened_heeds s c (event.Acted d i o) here l wide of = λ same start. go same start (machine_at s d) refl of where
+opened_heeds : (s : SiteState) (c : ℕ) (v : ℕ → ℕ) (e : Event) → Allowed (world s) e → IsLivedAt s c v → AreOpened (machines s) c → IsOfCall s e → Heeds s c v e
+opened_heeds s c v (event.Acted d i o) here l wide of = λ same start. go same start (machine_at s d) refl of where
   due : d ≡ c → i ≡ input.Start → IsActed (world s) d i o → (controller_at (world s) c).told ≡ Some input.Start
   due same start acts =
-      subst (λ n. (controller_at (world s) n).told ≡ Some input.Start) same
-      (subst (λ j. IsDue (controller_at (world s) d) j) start acts.due)
+      subst (λ n. (controller_at (world s) n).told ≡ Some input.Start) same (subst (λ j. IsDue (controller_at (world s) d) j) start acts.due)
 
   go : d ≡ c → i ≡ input.Start → (x : Option Machine) → machine_at s d ≡ x → IsOfCall s (event.Acted d i o) → ⊥
   go same start None has of = elim (subst (λ x. Waits x i) has of.0) [ ]
@@ -123,24 +90,24 @@ opened_heeds s c (event.Acted d i o) here l wide of = λ same start. go same sta
       let there : machine_at s c ≡ Some m = subst (λ n. machine_at s n ≡ Some m) same has in
       let k : Controller = controller_at (world s) c in
       let told : k.told ≡ Some input.Start = due same start here in
-      let none : k.last ≡ None = subst (λ t. IsFair (IsUsedOf s.plan c) m.opened k.last t) told (l.lives m there).told in
+      let none : k.last ≡ None = subst (λ t. IsFair (IsUsedOf s.plan c) v m.opened m.asked k.last t) told (l.lives m there).told in
       unstarted_unopened m ((l.lives m there).last ∙ none) (l.lives m there).whole (wide m there)
-opened_heeds s c (event.Sent d f h) here l wide of = λ m there same early. absurd (let never : true ≡ false = sym (wide m there) ∙ early in cc)
-opened_heeds s c _ here l wide of = tt
+opened_heeds s c v (event.Sent d f h) here l wide of = λ m there early a used. absurd (let never : true ≡ false = sym (wide m there) ∙ early in cc)
+opened_heeds s c v _ here l wide of = tt
 
-unrefused_on : (s : SiteState) (c : ℕ) (es : List Event) (i : Input) → IsPlan s.plan → IsLivedAt s c → AreOpened (machines s) c → AreOfCalls s es
+unrefused_on : (s : SiteState) (c : ℕ) (v : ℕ → ℕ) (es : List Event) (i : Input) → IsPlan s.plan → IsLivedAt s c v → AreOpened (machines s) c → AreOfCalls s es
     → AllByRecursion (StaysBegun c) es → IsActRefused (site_after s es) c i refusal.AddressInUse → ⊥
-unrefused_on s c [] i plan l wide are stay refused = unrefused_now s c i plan l refused
-unrefused_on s c (e ∷ es) i plan l wide are stay refused =
-    unrefused_on (site_logged s e) c es i plan (heeded_on s c e plan are.0 are.1 (opened_heeds s c e are.0 l wide are.1) l)
+unrefused_on s c v [] i plan l wide are stay refused = unrefused_now s c v i plan l refused
+unrefused_on s c v (e ∷ es) i plan l wide are stay refused =
+    unrefused_on (site_logged s e) c (counts_after c v e) es i plan (heeded_on s c v e plan are.0 are.1 (opened_heeds s c v e are.0 l wide are.1) l)
     (subst (λ ms. AreOpened ms c) (sym (machines_logged s e)) (opened_moved (world s) (machines s) c e stay.0 wide)) are.2 stay.1 refused
 
 -- NOR IS ANY LATER ACT REFUSED SO
-pub unrefused_later : (s : SiteState) (c : ℕ) (es more : List Event) (i : Input) → IsPlan s.plan → HasJustBegun s c → AreOfCalls s es
-    → AllByRecursion (HearsUsed s.plan c) es → HasAsked (site_after s es) c → AreOfCalls (site_after s es) more → AllByRecursion (StaysBegun c) more
+pub unrefused_later : (s : SiteState) (c : ℕ) (es more : List Event) (i : Input) → IsPlan s.plan → HasJustBegun s c → AreOfCalls s es → HearsUsed s.plan c es
+    → HasAsked (site_after s es) c → AreOfCalls (site_after s es) more → AllByRecursion (StaysBegun c) more
     → IsActRefused (site_after (site_after s es) more) c i refusal.AddressInUse → ⊥
 unrefused_later s c es more i plan begun are hear =
-    lived_all s c es plan (just_lived s c begun) are hear
+    lived_all s c none_yet es plan (just_lived s c begun) are hear.0 hear.1
     (λ t. HasAsked t c → AreOfCalls t more → AllByRecursion (StaysBegun c) more → IsActRefused (site_after t more) c i refusal.AddressInUse → ⊥)
-    (λ t plan l asked on stay. unrefused_on t c more i plan l
+    (λ t u plan l asked on stay. unrefused_on t c u more i plan l
     (λ m there. subst (λ (x : Machine). x.opened ≡ true) (some_same asked.0 m (sym asked.1 ∙ there)) asked.2) on stay)

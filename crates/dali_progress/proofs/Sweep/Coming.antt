@@ -124,7 +124,7 @@ pub none_found : finding_of [] ≡ None
 none_found = refl
 
 -- where nothing is found, and no gear answered MASK, no record is ordered
-no_record : (t : Machine) (s : Stage) (x : Record) → stage_of t.trace ≡ s → ((n : _) → s ≡ stage.Unnamed n → ⊥) → finding_of t.trace ≡ None
+pub no_record : (t : Machine) (s : Stage) (x : Record) → stage_of t.trace ≡ s → ((n : _) → s ≡ stage.Unnamed n → ⊥) → finding_of t.trace ≡ None
     → ((b n : ℕ) → t.last ≡ Some (Commit (Enrol b n)) → ⊥) → MayCommit t x → ⊥
 no_record t s x at named none last may = unwarranted t x (λ n e. named n (sym at ∙ e)) none last may.warranted
 
