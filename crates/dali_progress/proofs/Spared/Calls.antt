@@ -410,7 +410,8 @@ pub lived_all : (s : SiteState) (c : ℕ) (v : ℕ → ℕ) (es : List Event) �
     → (P : SiteState → Type 0) → ((t : SiteState) (u : ℕ → ℕ) → IsPlan t.plan → IsLivedAt t c u → P t) → P (site_after s es)
 lived_all s c v [] plan l are begin hear P known = known s v plan l
 lived_all s c v (e ∷ es) plan l are begin hear P known =
-    lived_all (site_logged s e) c (counts_after c v e) es plan (lived_on s c v e plan are.0 are.1 begin.0 (λ a used. (hear a used).0) l) are.2 begin.1
+    lived_all (site_logged s e) c (counts_after c v e) es plan
+    (lived_on s c v e plan are.0 are.1 begin.0 (λ a used. let few = (hear a used).0 in omega (arith, few)) l) are.2 begin.1
     (λ a used. (hear a used).1) P known
 
 pub unrefused_lived : (s : SiteState) (c : ℕ) (v : ℕ → ℕ) (es : List Event) (i : Input) → IsPlan s.plan → IsLivedAt s c v → AreOfCalls s es
