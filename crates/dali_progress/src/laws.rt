@@ -334,9 +334,9 @@ pub fn who_tells_its_number_is_enrolled()
 /// what is heard of other gear may be lost. So controllers need not survey one after the other. A survey of one
 /// controller alone that nothing disturbs, while all used gear have power, is such a one (`undisturbed`).
 ///
-/// Where this is so of each controller of a new site, no order reserves an address that used gear have, whether or not
-/// a site would refuse it (`run`). So the promise holds on a real bus too, where nobody refuses it (`promise`). On a
-/// new site each controller has just begun (`start`).
+/// Where each controller of a new site hears them so, no order reserves an address that used gear have, whether or not
+/// a site would refuse it (`run`); and so it is where each asks in peace (`peaceful`). So the promise holds on a real
+/// bus too, where nobody refuses the order (`promise`). On a new site each controller has just begun (`start`).
 ///
 /// A gear without power is not heard, and one whose address nobody asks is not either: two short histories of
 /// `dali_events` show what then becomes of the promise.
@@ -354,9 +354,11 @@ pub fn used_gear_that_were_heard_are_left_alone()
     ensures undisturbed { (s : SiteState) (c : ℕ) (es : List Event) → SurveysAlone s c → HavePower s
         → SurveyRounds s c es → HasJustBegun s c × AreOfCalls s es × AllAskInPeace s c es }
     ensures run { (p : Plan) (queue room : ℕ) (es : List Event) → IsPlan p → AreOfCalls (opened_site p queue room) es
-        → ((c : ℕ) → AllAskInPeace (opened_site p queue room) c es) → IsRun p queue es }
+        → ((c : ℕ) → HearsUsed p c es) → IsRun p queue es }
     ensures promise { (p : Plan) (queue room : ℕ) (es : List Event) → IsPlan p
+        → AreOfCalls (opened_site p queue room) es → ((c : ℕ) → HearsUsed p c es) → KeepsPromise p queue es }
+    ensures peaceful { (p : Plan) (queue room : ℕ) (es : List Event) → IsPlan p
         → AreOfCalls (opened_site p queue room) es
-        → ((c : ℕ) → AllAskInPeace (opened_site p queue room) c es) → KeepsPromise p queue es }
+        → ((c : ℕ) → AllAskInPeace (opened_site p queue room) c es) → IsRun p queue es }
     ensures start { (p : Plan) (queue room c : ℕ) → c < length p.blocks → HasJustBegun (opened_site p queue room) c }
 {}

@@ -34,7 +34,8 @@ use Rattle.dali_standing.specs.Standing.{machines_at}
 use Rattle.dali_standing.proofs.InUse.{leaves_acted}
 use Rattle.dali_world.specs.Site.{SiteState, opened_site, world, site_logged, IsActRefused}
 use Rattle.dali_progress.specs.Rounds.{site_after}
-use Rattle.dali_progress.specs.Spared.{IsOfCall, AreOfCalls, HasJustBegun, IsUsedOf, BeginsBySurveys, asks_first, is_silence, silences_after, IsHeardInTime}
+use Rattle.dali_progress.specs.Spared.{HearsUsed, IsOfCall, AreOfCalls, HasJustBegun, IsUsedOf, BeginsBySurveys, asks_first, is_silence, silences_after}
+use Rattle.dali_progress.specs.Spared.{IsHeardInTime}
 use Rattle.dali_progress.specs.Spared.{AsksInPeace, AllAskInPeace}
 use Rattle.dali_progress.proofs.Bounded.{run_logged}
 use Rattle.dali_progress.proofs.Spared.Lives.{lives_more}
@@ -125,19 +126,20 @@ lived_again s c v none l = record {
       (λ a used. let is : v a ≡ 0 = none a used in omega (arith, is)) (λ early a used. omega arith) (l.lives m there);
 }
 
-event_leaves : (s : SiteState) (e : Event) → IsPlan s.plan → ((c : ℕ) → IsLivedAt s c none_yet) → Allowed (world s) e → IsOfCall s e → LeavesUsed s.plan.used e
-event_leaves s (event.Acted c i o) plan l here of =
-    leaves_acted s.plan.used c i o (λ used. lived_leaves s c none_yet i o plan (l c) here of.1 used)
-event_leaves s (event.Sent d f h) plan l here of = λ c i a r is used. cc
-event_leaves s (event.Offered d f) plan l here of = λ c i a r is used. cc
-event_leaves s (event.Destroyed d f set) plan l here of = λ c i a r is used. cc
-event_leaves s (event.Collided d f e g) plan l here of = λ c i a r is used. cc
-event_leaves s event.Lapsed plan l here of = λ c i a r is used. cc
-event_leaves s event.Quiet plan l here of = λ c i a r is used. cc
-event_leaves s (event.Power g on) plan l here of = λ c i a r is used. cc
-event_leaves s (event.Expired g) plan l here of = λ c i a r is used. cc
-event_leaves s (event.Down d) plan l here of = λ c i a r is used. cc
-event_leaves s (event.Up d kept) plan l here of = λ c i a r is used. cc
+event_leaves : (s : SiteState) (e : Event) (v : ℕ → ℕ → ℕ) → IsPlan s.plan → ((c : ℕ) → IsLivedAt s c (v c)) → Allowed (world s) e → IsOfCall s e
+    → LeavesUsed s.plan.used e
+event_leaves s (event.Acted c i o) v plan l here of =
+    leaves_acted s.plan.used c i o (λ used. lived_leaves s c (v c) i o plan (l c) here of.1 used)
+event_leaves s (event.Sent d f h) v plan l here of = λ c i a r is used. cc
+event_leaves s (event.Offered d f) v plan l here of = λ c i a r is used. cc
+event_leaves s (event.Destroyed d f set) v plan l here of = λ c i a r is used. cc
+event_leaves s (event.Collided d f e g) v plan l here of = λ c i a r is used. cc
+event_leaves s event.Lapsed v plan l here of = λ c i a r is used. cc
+event_leaves s event.Quiet v plan l here of = λ c i a r is used. cc
+event_leaves s (event.Power g on) v plan l here of = λ c i a r is used. cc
+event_leaves s (event.Expired g) v plan l here of = λ c i a r is used. cc
+event_leaves s (event.Down d) v plan l here of = λ c i a r is used. cc
+event_leaves s (event.Up d kept) v plan l here of = λ c i a r is used. cc
 
 peaceful : (s : SiteState) (c : ℕ) (e : Event) → IsPlan s.plan → IsRun s.plan s.queue (s.log ++ []) → Allowed (world s) e → IsOfCall s e → AsksInPeace s c e
     → IsLivedAt s c none_yet → IsLivedAt (site_logged s e) c none_yet
@@ -150,7 +152,7 @@ runs_in_peace : (s : SiteState) (es : List Event) → IsRun s.plan s.queue s.log
     → ((c : ℕ) → AllAskInPeace s c es) → IsRun s.plan s.queue (s.log ++ es)
 runs_in_peace s [] run l are peace = subst (IsRun s.plan s.queue) (sym (append-nil s.log)) run
 runs_in_peace s (e ∷ es) run l are peace =
-    let on : IsRun s.plan s.queue (site_logged s e).log = run_logged s e run are.0 (event_leaves s e run.plan l are.0 are.1) in
+    let on : IsRun s.plan s.queue (site_logged s e).log = run_logged s e run are.0 (event_leaves s e (λ c. none_yet) run.plan l are.0 are.1) in
     let whole : IsRun s.plan s.queue (s.log ++ []) = subst (IsRun s.plan s.queue) (sym (append-nil s.log)) run in
     subst (IsRun s.plan s.queue) (append_assoc s.log (e ∷ []) es)
     (runs_in_peace (site_logged s e) es on
@@ -161,9 +163,26 @@ pub run_in_peace : (p : Plan) (queue room : ℕ) (es : List Event) → IsPlan p 
 run_in_peace p queue room es plan are peace =
     runs_in_peace (opened_site p queue room) es (record { plan = plan; allowed = tt; leaves = tt }) (opened_lived p queue room) are peace
 
-pub promise_in_peace : (p : Plan) (queue room : ℕ) (es : List Event) → IsPlan p → AreOfCalls (opened_site p queue room) es
-    → ((c : ℕ) → AllAskInPeace (opened_site p queue room) c es) → KeepsPromise p queue es
-promise_in_peace p queue room es plan are peace = keeps_promise p queue es (run_in_peace p queue room es plan are peace)
+runs_heard : (s : SiteState) (es : List Event) (v : ℕ → ℕ → ℕ) → IsRun s.plan s.queue s.log → ((c : ℕ) → IsLivedAt s c (v c)) → AreOfCalls s es
+    → ((c : ℕ) → AllByRecursion (BeginsBySurveys c) es) → ((c a : ℕ) → IsUsedOf s.plan c a → IsHeardInTime c a (v c a) es)
+    → IsRun s.plan s.queue (s.log ++ es)
+runs_heard s [] v run l are begin hear = subst (IsRun s.plan s.queue) (sym (append-nil s.log)) run
+runs_heard s (e ∷ es) v run l are begin hear =
+    let on : IsRun s.plan s.queue (site_logged s e).log = run_logged s e run are.0 (event_leaves s e v run.plan l are.0 are.1) in
+    subst (IsRun s.plan s.queue) (append_assoc s.log (e ∷ []) es)
+    (runs_heard (site_logged s e) es (λ c. counts_after c (v c) e) on
+    (λ c. lived_on s c (v c) e run.plan are.0 are.1 (begin c).0 (λ a used. let few = (hear c a used).0 in omega (arith, few)) (l c)) are.2
+    (λ c. (begin c).1) (λ c a used. (hear c a used).1))
+
+pub run_heard : (p : Plan) (queue room : ℕ) (es : List Event) → IsPlan p → AreOfCalls (opened_site p queue room) es → ((c : ℕ) → HearsUsed p c es)
+    → IsRun p queue es
+run_heard p queue room es plan are hear =
+    runs_heard (opened_site p queue room) es (λ c. none_yet) (record { plan = plan; allowed = tt; leaves = tt }) (opened_lived p queue room) are
+    (λ c. (hear c).0) (λ c a used. (hear c).1 a used)
+
+pub promise_heard : (p : Plan) (queue room : ℕ) (es : List Event) → IsPlan p → AreOfCalls (opened_site p queue room) es → ((c : ℕ) → HearsUsed p c es)
+    → KeepsPromise p queue es
+promise_heard p queue room es plan are hear = keeps_promise p queue es (run_heard p queue room es plan are hear)
 
 -- ---------------------------------------------------------------- who has just begun
 

@@ -1,7 +1,7 @@
 use Rattle.dali_progress.proofs.Spared.Calls.{unrefused}
 use Rattle.dali_progress.proofs.Spared.Alone.{alone_in_peace}
 use Rattle.dali_progress.proofs.Spared.Asked.{unrefused_later}
-use Rattle.dali_progress.proofs.Spared.Peace.{unrefused_in_peace, run_in_peace, promise_in_peace, begins_at_start}
+use Rattle.dali_progress.proofs.Spared.Peace.{unrefused_in_peace, run_in_peace, run_heard, promise_heard, begins_at_start}
 use Rattle.dali_progress.proofs.laws.used_gear_that_were_heard_are_left_alone.Goals as goal
 
 pub returns : goal.returns
@@ -10,7 +10,8 @@ returns c = record {
   later = unrefused_later;
   powered = unrefused_in_peace;
   undisturbed = alone_in_peace;
-  run = run_in_peace;
-  promise = promise_in_peace;
+  run = run_heard;
+  promise = promise_heard;
+  peaceful = run_in_peace;
   start = begins_at_start;
 }
